@@ -1,0 +1,9 @@
+pub mod Medias
+pub mod Terms
+pub mod Policy
+pub mod Due
+pub mod Calendars
+pub mod Fees
+pub mod Order
+pub mod Values
+pub mod Reading

@@ -1,0 +1,47 @@
+//! The days on which a library is open.
+
+ghost use Rattle.std.specs.Prelude.{◌≡◌, ◌≤◌, ◌<◌, ◌+◌, true, not, length};
+ghost use Rattle.std.specs.List.{list_any};
+
+use crate::loan_days::LoanDays;
+use sip_reader::Day;
+use std::collections::BTreeSet;
+
+/// The days on which a library is closed. Some weekday is open and few dates are closed, so of 401 weeks some day is open.
+#[derive(Drop)]
+pub(crate) struct Calendar {
+    /// From Monday on.
+    pub closed_weekdays: [bool; 7],
+    /// By their numbers.
+    pub closed_dates: BTreeSet<u32>,
+    pub ghost some_open: { list_any not closed_weekdays ≡ true },
+    pub ghost few_closed: { length closed_dates.keys ≤ 400 },
+}
+
+impl Calendar {
+    ghost use Rattle.circ_policy.specs.Calendars.{closed_of};
+    ghost use Rattle.circ_policy.specs.Due.{IsLeastOpen, is_open, next_open};
+
+    /// Whether the library is open on the day of a number.
+    fn is_open(&self, number: u32) -> bool
+        ensures { result ≡ is_open (closed_of self.now) number }
+    {
+        !self.closed_weekdays[(number % 7) as usize] && !self.closed_dates.contains(&number)
+    }
+
+    /// The first open day so many days after a day, or later.
+    pub fn due(&self, day: Day, days: LoanDays) -> Day
+        requires { day ≤ 7_268_324 }
+        ensures least { IsLeastOpen (closed_of self.now) (day + days) result }
+        ensures soon { result < day + days + 2807 }
+        ensures early { result < 7_304_119 }
+    {
+        let first = day.number() + u32::from(days.count());
+        for number in first..first + 2807 {
+            if self.is_open(number) {
+                return Day::numbered(number).unwrap();
+            }
+        }
+        unreachable!()
+    }
+}

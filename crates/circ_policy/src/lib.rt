@@ -1,0 +1,35 @@
+//! The room of the library's rules: the policy file, the days on which the library is open, and late fees.
+//!
+//! `Policy::read` makes a policy of the bytes of a TOML file, or names the first rule that the file breaks. What a
+//! policy says of a class of patrons or of a type of media is lent by `class` and `media`. `Policy::due` and
+//! `late_fee` work out days and money. Money is in hundredths, days are `sip_reader`'s.
+#![tactic(auto)]
+
+mod calendar;
+mod class;
+mod closed;
+mod document;
+mod due_form;
+mod entry;
+mod error;
+mod fee;
+mod loan_days;
+mod media;
+mod media_type;
+mod policy;
+mod read;
+mod sections;
+mod unknown;
+mod values;
+
+pub use class::Class;
+pub use due_form::DueForm;
+pub use error::PolicyError;
+pub use fee::late_fee;
+pub use loan_days::LoanDays;
+pub use media::Media;
+pub use media_type::MediaType;
+pub use policy::Policy;
+
+#[cfg(test)]
+mod tests;

@@ -1,0 +1,73 @@
+//! The types of media.
+
+ghost use Rattle.std.specs.Prelude.{◌≡◌};
+ghost use Rattle.circ_policy.specs.Medias.{media_code, media_index, media_of_code};
+
+/// A type of media, of those that SIP 2.00 has.
+#[derive(Clone, Copy, Debug, PartialEq, Eq)]
+pub enum MediaType {
+    Other,
+    Book,
+    Magazine,
+    BoundJournal,
+    AudioTape,
+    VideoTape,
+    Cd,
+    Diskette,
+    BookWithDiskette,
+    BookWithCd,
+    BookWithTape,
+}
+
+impl MediaType {
+    /// The three digits that stand for the type in messages, tables and policies.
+    pub fn code(self) -> [u8; 3]
+        ensures { result ≡ media_code self }
+    {
+        match self {
+            MediaType::Other => *b"000",
+            MediaType::Book => *b"001",
+            MediaType::Magazine => *b"002",
+            MediaType::BoundJournal => *b"003",
+            MediaType::AudioTape => *b"004",
+            MediaType::VideoTape => *b"005",
+            MediaType::Cd => *b"006",
+            MediaType::Diskette => *b"007",
+            MediaType::BookWithDiskette => *b"008",
+            MediaType::BookWithCd => *b"009",
+            MediaType::BookWithTape => *b"010",
+        }
+    }
+
+    /// The type for which these bytes stand.
+    #[tactic(auto, unfolding(crate::specs::Medias::media_of_code))]
+    pub fn of_code(code: &[u8]) -> Option<MediaType>
+        ensures { result ≡ media_of_code code.now }
+    {
+        ALL.iter()
+            .copied()
+            .find(|media| media.code().as_slice() == code)
+    }
+
+    /// Its place among all types.
+    pub(crate) fn index(self) -> usize
+        ensures { result ≡ media_index self }
+    {
+        self as usize
+    }
+}
+
+/// All types, in the order of their codes.
+const ALL: [MediaType; 11] = [
+    MediaType::Other,
+    MediaType::Book,
+    MediaType::Magazine,
+    MediaType::BoundJournal,
+    MediaType::AudioTape,
+    MediaType::VideoTape,
+    MediaType::Cd,
+    MediaType::Diskette,
+    MediaType::BookWithDiskette,
+    MediaType::BookWithCd,
+    MediaType::BookWithTape,
+];

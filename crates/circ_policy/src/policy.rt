@@ -1,0 +1,88 @@
+//! The policy of a library.
+
+ghost use Rattle.std.specs.Prelude.{◌≡◌, ◌≤◌, ◌<◌, ◌+◌};
+
+use crate::calendar::Calendar;
+use crate::class::Class;
+use crate::due_form::DueForm;
+use crate::media::Media;
+use crate::media_type::MediaType;
+use sip_reader::{Day, Id};
+use std::collections::BTreeMap;
+use std::marker::Model;
+
+/// What a library grants its patrons, and what it asks for it.
+#[derive(Drop)]
+pub struct Policy {
+    pub(crate) institution: Id,
+    pub(crate) currency: [u8; 3],
+    pub(crate) due_form: DueForm,
+    pub(crate) calendar: Calendar,
+    pub(crate) classes: BTreeMap<Id, Class>,
+    pub(crate) media: Vec<(MediaType, Media)>,
+}
+
+impl Model for Policy {
+    ghost use Rattle.circ_policy.specs.Calendars.{closed_of};
+    ghost use Rattle.circ_policy.specs.Terms.{Terms};
+
+    ghost Value = { Terms };
+
+    ghost view = { λ p. record { institution = p.institution; currency = p.currency; due_form = p.due_form; closed = closed_of p.calendar; classes = p.classes.entries; media = p.media.items } };
+}
+
+impl Policy {
+    ghost use Rattle.circ_policy.specs.Due.{IsLeastOpen, due_day};
+    ghost use Rattle.circ_policy.specs.Policy.{class_of, media_of};
+
+    /// The library's id.
+    pub fn institution(&self) -> Id
+        ensures { result ≡ self.now.institution }
+    {
+        self.institution
+    }
+
+    /// The currency of all amounts, three letters.
+    pub fn currency(&self) -> [u8; 3]
+        ensures { result ≡ self.now.currency }
+    {
+        self.currency
+    }
+
+    /// How due dates are written.
+    pub fn due_form(&self) -> DueForm
+        ensures { result ≡ self.now.due_form }
+    {
+        self.due_form
+    }
+
+    /// The limits of the class of this name.
+    #[tactic(auto, unfolding(crate::specs::Policy::class_of))]
+    pub fn class(&self, name: &Id) -> Option<Class>
+        ensures { result ≡ class_of self.now name.now }
+    {
+        self.classes.get(name).copied()
+    }
+
+    /// The terms of this type of media.
+    #[tactic(auto, unfolding(crate::specs::Policy::media_of))]
+    pub fn media(&self, media: MediaType) -> Option<Media>
+        ensures { result ≡ media_of self.now media }
+    {
+        self.media
+            .iter()
+            .find(|entry| entry.0.index() == media.index())
+            .map(|entry| entry.1)
+    }
+
+    /// The due day of a loan of that day: the first open day at or after the day and the days of the media type. It
+    /// stays before the year 9999.
+    pub fn due(&self, day: Day, media: &Media) -> Day
+        requires { day ≤ 7_268_324 }
+        ensures least { IsLeastOpen self.now.closed (day + media.now.days) result }
+        ensures value { result ≡ due_day self.now day media.now }
+        ensures early { result < 7_304_119 }
+    {
+        self.calendar.due(day, media.days)
+    }
+}

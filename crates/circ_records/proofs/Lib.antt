@@ -1,0 +1,5 @@
+pub mod Broken
+pub mod Faults
+pub mod Fresh
+pub mod Lookups
+pub mod Telling

@@ -1,0 +1,78 @@
+-- Look-ups among rows.
+use Rattle.std.proofs.Common.{◌≡◌, ℕ, zero, suc, ◌+◌, ◌<◌, List, [], ◌∷◌, ◌++◌, Bool, true, false, cond, Option, Some, None, length, get_or, map, arith, refl, sym, ap, ◌∙◌}
+use Rattle.std.specs.Prelude.{is_some, option_map, ◌==◌}
+use Rattle.std.specs.Option.{option_or}
+use Rattle.std.specs.List.{find}
+use Rattle.std.specs.Cmp.Lexicographic.{nat_list_eq_equiv, pointwise, slice_cmp}
+use Rattle.std.specs.FinMap.{nat_cmp-IsAntisymmetric, slice_cmp-IsAntisymmetric}
+use Rattle.std.specs.Ordering.{is_eq, nat_cmp}
+use Rattle.std.specs.declared.cmp.Ordering.{Ordering}
+use Rattle.std.specs.declared.cmp.Ordering.TheVariants.{Less, Equal, Greater}
+use Rattle.std.proofs.lemmas.Map.Text.{is_eq-slice_cmp}
+use Rattle.circ_records.specs.Rules.{has_row}
+use Rattle.circ_records.specs.Tables.{Row, field}
+use Rattle.circ_records.specs.Told.{row_with}
+
+pub is_some-map : {A B : Type 0} (f : A → B) (o : Option A) → is_some (option_map f o) ≡ is_some o
+is_some-map f None = refl
+is_some-map f (Some x) = refl
+
+pub none-of : {A : Type 0} (o : Option A) → is_some o ≡ false → o ≡ None
+none-of None e = refl
+none-of (Some x) e = cc
+
+-- the first test of a chain that gives nothing isn't met
+pub not-first : {A : Type 0} (b : Bool) (x : A) (o : Option A) → cond b (Some x) o ≡ None → (b ≡ false) × (o ≡ None)
+not-first true x o e = cc
+not-first false x o e = (refl, e)
+
+pub map-cond : {A B : Type 0} (f : A → B) (b : Bool) (x : A) (o : Option A) → option_map f (cond b (Some x) o) ≡ cond b (Some (f x)) (option_map f o)
+map-cond f true x o = refl
+map-cond f false x o = refl
+
+tie : (r : Ordering) → is_eq r ≡ true → r ≡ Equal
+tie Less e = cc
+tie Equal e = refl
+tie Greater e = cc
+
+-- texts of the same bytes are one
+pub same-text : (a b : List ℕ) → pointwise ◌==◌ a b ≡ true → a ≡ b
+same-text a b e = slice_cmp-IsAntisymmetric nat_cmp-IsAntisymmetric a b (tie _ (is_eq-slice_cmp a b ∙ e))
+
+-- whether ids tie, and whether they are one text
+pub tie-text : (a b : List ℕ) → is_eq (slice_cmp nat_cmp a b) ≡ pointwise ◌==◌ b a
+tie-text a b = is_eq-slice_cmp a b ∙ nat_list_eq_equiv.symm a b
+
+or-cond : {A : Type 0} (b : Bool) (x : A) (o p : Option A) → option_or (cond b (Some x) o) p ≡ cond b (Some x) (option_or o p)
+or-cond true x o p = refl
+or-cond false x o p = refl
+
+-- the first that passes among these and those
+pub find-append : {A : Type 0} (test : A → Bool) (xs ys : List A) → find test (xs ++ ys) ≡ option_or (find test xs) (find test ys)
+find-append test [] ys = refl
+find-append test (x ∷ xs) ys = ap (cond (test x) (Some x)) (find-append test xs ys) ∙ sym (or-cond (test x) x (find test xs) (find test ys))
+
+or-new : {A : Type 0} (b : Bool) (x : A) (o : Option A) → (b ≡ true → o ≡ None) → option_or o (cond b (Some x) None) ≡ cond b (Some x) o
+or-new true x o h = ap (λ p. option_or p (Some x)) (h refl)
+or-new false x None h = refl
+or-new false x (Some y) h = refl
+
+-- the row of a text among rows to which one of a new text was added
+pub row_with-new : (column : ℕ) (q : List ℕ) (rows : List Row) (row : Row) → has_row column (field column row) rows ≡ false
+    → row_with column q (rows ++ row ∷ []) ≡ cond (pointwise ◌==◌ q (field column row)) (Some row) (row_with column q rows)
+row_with-new column q rows row new =
+    find-append (λ (r : Row). pointwise ◌==◌ q (field column r)) rows (row ∷ [])
+    ∙ or-new (pointwise ◌==◌ q (field column row)) row (row_with column q rows)
+    (λ e. ap (λ t. row_with column t rows) (same-text q (field column row) e) ∙ none-of _ new)
+
+-- an item of a list as its view stands in the list of views
+pub item-at : {X : Type 0} (view : X → Row) (xs : List X) (i : ℕ) (x : X) → i < length xs → x ≡ get_or xs i x
+    → (i < length (map view xs)) × (view x ≡ get_or (map view xs) i [])
+item-at view [] i x h e = absurd (omega arith)
+item-at view (y ∷ ys) zero x h e = (omega arith, ap view e)
+item-at view (y ∷ ys) (suc i) x h e = let p = item-at view ys i x (omega arith) e in (let a = p.0 in omega arith, p.1)
+
+-- the same where the list goes by another name
+pub item-among : {X : Type 0} (view : X → Row) (xs ys : List X) (i : ℕ) (x : X) → ys ≡ xs → i < length ys → x ≡ get_or ys i x
+    → (i < length (map view xs)) × (view x ≡ get_or (map view xs) i [])
+item-among view xs ys i x same h e = let n : length ys ≡ length xs = ap length same in item-at view xs i x (omega arith) (e ∙ ap (λ l. get_or l i x) same)

@@ -1,0 +1,18 @@
+use Rattle.std.proofs.Common.{map, take}
+use Rattle.std.specs.BTreeMap.{IsOrdered}
+use Rattle.csv.specs.Records.{fields_of}
+use Rattle.circ_records.specs.Base.{only_items}
+use Rattle.circ_records.specs.Keys.{key_cmp}
+use Rattle.circ_records.specs.Read.{Tells, rows_in}
+use Rattle.circ_records.specs.Rules.{item_rule}
+use Rattle.circ_records.specs.declared.tables.TableName.TheVariants as table
+use Rattle.circ_records.proofs.Broken.{KeepsUpTo}
+use Rattle.circ_records.proofs.items.add_items.Given as goal
+
+-- no row so far breaks a rule, and the map has the records that they tell
+abbrev pub invariant-loop-i : goal.invariant-loop-i
+invariant-loop-i l = record {
+  keeps : KeepsUpTo table.Items (item_rule l.policy) (rows_in l.rows).items l.i;
+  rising : IsOrdered key_cmp l.records;
+  tells : Tells (only_items (take l.i (rows_in l.rows).items)) l.records;
+}

@@ -1,0 +1,10 @@
+pub mod Base
+pub mod FeeTypes
+pub mod Keys
+pub mod Records
+pub mod Rules
+pub mod Tables
+pub mod Told
+pub mod Words
+pub mod Written
+pub mod Read

@@ -1,0 +1,103 @@
+ghost use Rattle.std.specs.Prelude.{◌≡◌, ◌++◌, ◌∷◌, [], IfOk, OnOk, OnErr, length, IsTrue, ◌↔◌};
+
+use sip_reader::{Id, Text};
+use std::alloc::{AllocError, Global};
+use std::marker::Model;
+
+/// A patron's place in the queue of an item.
+#[derive(Drop)]
+pub struct Hold {
+    pub patron: Id,
+    /// Where the patron wants to have it, empty where nothing was said.
+    pub pickup: Text,
+}
+
+impl Hold {
+    /// The same hold.
+    pub fn copy(&self, alloc: Global) -> Result<Hold, AllocError>
+        ensures { IfOk result (λ h. h ≡ self.now) }
+    {
+        Ok(Hold {
+            patron: self.patron,
+            pickup: self.pickup.copy(alloc)?,
+        })
+    }
+}
+
+/// The queue of an item: who waits for it, in order.
+#[derive(Drop)]
+pub struct Holds {
+    holds: Vec<Hold>,
+}
+
+impl Model for Holds {
+    ghost use Rattle.std.specs.Prelude.{List};
+    ghost use Rattle.circ_records.specs.declared.holds.Hold.{Hold};
+
+    ghost Value = { List Hold };
+
+    ghost view = { λ h. h.holds.items };
+}
+
+impl Holds {
+    /// The empty queue.
+    pub fn new(alloc: Global) -> Holds
+        ensures { result ≡ [] }
+    {
+        Holds {
+            holds: Vec::new(alloc),
+        }
+    }
+
+    /// The queue of these holds.
+    pub fn from_vec(holds: Vec<Hold>) -> Holds
+        ensures { result ≡ holds.items }
+    {
+        Holds { holds }
+    }
+
+    /// One more hold at the end.
+    pub fn push(&mut self, hold: Hold) -> Result<(), AllocError>
+        ensures ok { OnOk result (self.new ≡ self.old ++ hold ∷ []) }
+        ensures err { OnErr result (self.new ≡ self.old) }
+    {
+        self.holds.push(hold)?;
+        Ok(())
+    }
+
+    /// The same queue.
+    pub fn copy(&self, alloc: Global) -> Result<Holds, AllocError>
+        ensures { IfOk result (λ h. h ≡ self.now) }
+    {
+        let holds = copy_holds(alloc, self.holds.as_slice())?;
+        Ok(Holds { holds })
+    }
+
+    pub fn len(&self) -> usize
+        ensures { result ≡ length self.now }
+    {
+        self.holds.len()
+    }
+
+    pub fn is_empty(&self) -> bool
+        ensures { IsTrue result ↔ (self.now ≡ []) }
+    {
+        self.holds.is_empty()
+    }
+
+    pub fn as_slice(&self) -> &[Hold]
+        ensures { result.now ≡ self.now }
+    {
+        self.holds.as_slice()
+    }
+}
+
+fn copy_holds(alloc: Global, holds: &[Hold]) -> Result<Vec<Hold>, AllocError>
+    ensures { IfOk result (λ v. v.items ≡ holds.now) }
+{
+    let mut copies = Vec::new(alloc);
+    for hold in holds {
+        copies.push(hold.copy(alloc)?)?;
+    }
+    Ok(copies)
+}

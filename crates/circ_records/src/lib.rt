@@ -1,0 +1,30 @@
+//! The room of the library's records: the patrons, items and fees that a run begins with.
+//!
+//! `Base::read` makes a base of six tables, or names the first rule that they break. `Records` are
+//! what a run ends with, and `write_records` writes the tables that tell them. A record goes by its
+//! `Key`.
+#![tactic(auto)]
+
+mod base;
+mod fault;
+mod holds;
+mod ids;
+mod items;
+mod key;
+mod known;
+mod record;
+mod records;
+mod rows;
+mod tables;
+mod texts;
+mod written;
+
+pub use base::Base;
+pub use fault::{BaseError, BaseRule};
+pub use holds::{Hold, Holds};
+pub use ids::Ids;
+pub use key::Key;
+pub use record::{Fee, FeeType, Item, Loan, Patron, Record};
+pub use records::Records;
+pub use tables::{TableName, Tables};
+pub use written::write_records;

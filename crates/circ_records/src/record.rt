@@ -1,0 +1,136 @@
+ghost use Rattle.std.specs.Prelude.{◌≡◌, IfOk};
+ghost use Rattle.circ_records.specs.FeeTypes.{fee_type_code};
+
+use crate::holds::Holds;
+use crate::ids::Ids;
+use circ_policy::MediaType;
+use sip_reader::{Amount, Day, Id, Text};
+use std::alloc::{AllocError, Global};
+
+/// What stands under a key.
+#[derive(Drop)]
+pub enum Record {
+    Patron(Patron),
+    Item(Item),
+    Fee(Fee),
+}
+
+/// A member of the library.
+#[derive(Drop)]
+pub struct Patron {
+    pub name: Text,
+    pub class: Id,
+    pub blocked: bool,
+    /// The items that the patron has on loan, the oldest loan first.
+    pub loans: Ids,
+    /// The fees that aren't paid in full, the oldest first.
+    pub fees: Ids,
+}
+
+/// A thing that the library lends.
+#[derive(Drop)]
+pub struct Item {
+    pub title: Text,
+    pub media: MediaType,
+    /// Where it stands when nobody has it.
+    pub location: Text,
+    pub properties: Text,
+    pub loan: Option<Loan>,
+    /// Who waits for it, in order.
+    pub holds: Holds,
+}
+
+/// Who has an item, and until when.
+#[derive(Clone, Copy)]
+pub struct Loan {
+    pub patron: Id,
+    pub due: Day,
+    /// How often it was renewed.
+    pub renewals: u32,
+}
+
+/// What a patron was charged, in hundredths.
+#[derive(Clone, Copy)]
+pub struct Fee {
+    pub patron: Id,
+    pub kind: FeeType,
+    pub amount: Amount,
+    pub paid: Amount,
+}
+
+/// What a fee is for: the fee types of SIP2, 01 to 09.
+#[derive(Clone, Copy, Debug, PartialEq, Eq)]
+pub enum FeeType {
+    Other,
+    Administrative,
+    Damage,
+    Overdue,
+    Processing,
+    Rental,
+    Replacement,
+    ComputerAccess,
+    HoldFee,
+}
+
+impl FeeType {
+    /// The two digits of SIP2.
+    pub fn code(self) -> &'static [u8]
+        ensures { result.now ≡ fee_type_code self }
+    {
+        match self {
+            FeeType::Other => b"01",
+            FeeType::Administrative => b"02",
+            FeeType::Damage => b"03",
+            FeeType::Overdue => b"04",
+            FeeType::Processing => b"05",
+            FeeType::Rental => b"06",
+            FeeType::Replacement => b"07",
+            FeeType::ComputerAccess => b"08",
+            FeeType::HoldFee => b"09",
+        }
+    }
+}
+
+impl Record {
+    /// The same record.
+    pub fn copy(&self, alloc: Global) -> Result<Record, AllocError>
+        ensures { IfOk result (λ r. r ≡ self.now) }
+    {
+        match self {
+            Record::Patron(patron) => Ok(Record::Patron(patron.copy(alloc)?)),
+            Record::Item(item) => Ok(Record::Item(item.copy(alloc)?)),
+            Record::Fee(fee) => Ok(Record::Fee(*fee)),
+        }
+    }
+}
+
+impl Patron {
+    /// The same patron.
+    pub fn copy(&self, alloc: Global) -> Result<Patron, AllocError>
+        ensures { IfOk result (λ p. p ≡ self.now) }
+    {
+        Ok(Patron {
+            name: self.name.copy(alloc)?,
+            class: self.class,
+            blocked: self.blocked,
+            loans: self.loans.copy(alloc)?,
+            fees: self.fees.copy(alloc)?,
+        })
+    }
+}
+
+impl Item {
+    /// The same item.
+    pub fn copy(&self, alloc: Global) -> Result<Item, AllocError>
+        ensures { IfOk result (λ i. i ≡ self.now) }
+    {
+        Ok(Item {
+            title: self.title.copy(alloc)?,
+            media: self.media,
+            location: self.location.copy(alloc)?,
+            properties: self.properties.copy(alloc)?,
+            loan: self.loan,
+            holds: self.holds.copy(alloc)?,
+        })
+    }
+}

@@ -1,0 +1,4 @@
+pub mod Columns
+pub mod Records
+pub mod Steps
+pub mod Written

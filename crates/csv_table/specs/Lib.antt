@@ -1,0 +1,4 @@
+pub mod Reach
+pub mod Rows
+pub mod Text
+pub mod Unread

@@ -1,0 +1,85 @@
+//! The text of a table as it is written.
+
+ghost use Rattle.std.specs.Prelude.{◌≡◌, ℕ, List, ◌∷◌, [], Some, None, length, IfOk, IfSome, OnOk, OnErr, option_map};
+ghost use Rattle.std.specs.List.{AllByRecursion};
+ghost use Rattle.csv_table.specs.Rows.{rows_under};
+ghost use Rattle.csv_table.specs.Text.{IsPlainHeader, bytes_of, table_text, text_of, with_row, written};
+
+use csv::{Writer, WriterBuilder};
+use std::alloc::{AllocError, Global};
+use std::marker::Model;
+
+/// The text of a table, written row by row under its header. After a failure there is no text.
+#[derive(Drop)]
+pub struct TableText {
+    writer: Writer<Vec<u8>>,
+    width: usize,
+    failed: bool,
+}
+
+impl Model for TableText {
+    ghost use Rattle.std.specs.Prelude.{Option, Some, None, IfSome, ◌++◌, ◌≡◌, false, if◌then◌else◌};
+    ghost use Rattle.csv.specs.Writing as Spec;
+    ghost use Rattle.csv_table.specs.Text.{Written};
+
+    ghost Value = { Option Written };
+
+    ghost view = { λ t. if t.failed then None else Some (record { width = t.width; text = (Spec.writer_under t.writer).items ++ Spec.writer_pending t.writer }) };
+
+    ghost invariant = { λ t. t.failed ≡ false → (Spec.writer_setup t.writer ≡ Spec.default_writer) × (Spec.fields_written t.writer ≡ 0) × (Spec.has_written t.writer ≡ false) × IfSome (Spec.first_length t.writer) (λ n. n ≡ t.width) };
+}
+
+impl TableText {
+    /// The text of a table that has its header and no other row.
+    pub fn under(alloc: Global, header: &[&str]) -> Result<TableText, AllocError>
+        ensures { IfOk result (λ t. t ≡ Some (written (bytes_of header.now) [])) }
+    {
+        let names = names_of(alloc, header)?;
+        let mut writer = WriterBuilder::new().from_writer(Vec::new(alloc));
+        match writer.write_fields(&names) {
+            Ok(()) => Ok(TableText {
+                writer,
+                width: names.len(),
+                failed: false,
+            }),
+            Err(_) => Err(AllocError),
+        }
+    }
+
+    /// Writes a row at the end. It has as many fields as the header.
+    pub fn row(&mut self, fields: &[&[u8]]) -> Result<(), AllocError>
+        requires { IfSome self.old (λ t. length fields.now ≡ t.width) }
+        ensures ok { OnOk result (self.new ≡ option_map (with_row (bytes_of fields.now)) self.old) }
+        ensures err { OnErr result (self.new ≡ None) }
+    {
+        self.failed = self.failed || self.writer.write_fields(fields).is_err();
+        if self.failed { Err(AllocError) } else { Ok(()) }
+    }
+
+    /// The text.
+    pub fn finish(self) -> Result<Vec<u8>, AllocError>
+        ensures { IfOk result (λ v. option_map text_of self ≡ Some v.items) }
+    {
+        if self.failed {
+            return Err(AllocError);
+        }
+        self.writer.into_inner().map_err(|_| AllocError)
+    }
+}
+
+/// The bytes of names.
+fn names_of<'a>(alloc: Global, names: &[&'a str]) -> Result<Vec<&'a [u8]>, AllocError>
+    ensures { IfOk result (λ v. bytes_of v.items ≡ bytes_of names.now) }
+{
+    let mut texts = Vec::with_capacity(alloc, names.len())?;
+    for name in names {
+        texts.push(name.as_bytes())?;
+    }
+    Ok(texts)
+}
+
+/// What is written under a header reads back.
+pub fn reads_back()
+    ensures { (header : List (List ℕ)) (rows : List (List (List ℕ))) → IsPlainHeader header → AllByRecursion (λ row. length row ≡ length header) rows
+        → rows_under header (table_text (header ∷ rows)) ≡ Some rows }
+{}

@@ -1,0 +1,23 @@
+-- The lines of a journal, without where they lie in memory.
+use Rattle.std.specs.Prelude.{◌≡◌, ◌+◌, ℕ, List, [], ◌∷◌, Option, Some, None}
+
+-- a line: its number, the connection that it came over, the request, and the response that was recorded
+pub record Entry : Type 0 where
+  pub number : ℕ
+  pub connection : List ℕ
+  pub request : List ℕ
+  pub response : List ℕ
+
+-- each number is the one before plus one
+abbrev pub NumberedFrom : ℕ → List Entry → Type 0
+NumberedFrom n [] = Unit {0}
+NumberedFrom n (line ∷ rest) = (line.number ≡ n) × NumberedFrom (n + 1) rest
+
+-- the numbers rise by one, from whatever the first is
+abbrev pub Numbered : List Entry → Type 0
+Numbered [] = Unit {0}
+Numbered (line ∷ rest) = NumberedFrom (line.number + 1) rest
+
+abbrev pub first_number : List Entry → Option ℕ
+first_number [] = None
+first_number (line ∷ rest) = Some line.number

@@ -1,0 +1,35 @@
+-- The readings of a journal's requests.
+use Rattle.std.specs.Prelude.{◌≡◌, ◌+◌, ℕ, List, [], ◌∷◌, Option, Some, None, map}
+use Rattle.sip_reader.specs.Reading.{reading}
+use Rattle.sip_reader.specs.declared.request.Reading.{Reading}
+use Rattle.journal_table.specs.Entry.{Entry}
+
+-- the number of a line, and what its request is
+pub record NumberedReading : Type 0 where
+  pub number : ℕ
+  pub reading : Reading
+
+-- of each line, in order
+abbrev pub readings_of : List Entry → List NumberedReading
+readings_of = map (λ line. record { number = line.number; reading = reading line.request })
+
+-- readings with the numbers from this one on
+abbrev pub numbered_from : ℕ → List Reading → List NumberedReading
+numbered_from n [] = []
+numbered_from n (r ∷ rest) = record { number = n; reading = r } ∷ numbered_from (n + 1) rest
+
+abbrev pub reading_at : NumberedReading → Reading
+reading_at r = r.reading
+
+abbrev pub first_read : List NumberedReading → Option ℕ
+first_read [] = None
+first_read (r ∷ rest) = Some r.number
+
+-- each number is the one before plus one
+abbrev pub RisesFrom : ℕ → List NumberedReading → Type 0
+RisesFrom n [] = Unit {0}
+RisesFrom n (r ∷ rest) = (r.number ≡ n) × RisesFrom (n + 1) rest
+
+abbrev pub Rises : List NumberedReading → Type 0
+Rises [] = Unit {0}
+Rises (r ∷ rest) = RisesFrom (r.number + 1) rest

@@ -1,0 +1,93 @@
+//! The lines of the journal, read row by row.
+
+ghost use Rattle.std.specs.Prelude.{◌≡◌, Ok, None, IfOk, IfErr, OnOk, IsSome};
+ghost use Rattle.csv_table.specs.declared.TableError.TheVariants as table;
+ghost use Rattle.journal_table.specs.Entry.{Numbered, first_number};
+ghost use Rattle.journal_table.specs.Journal.{Gives, journal_of, lines_of};
+ghost use Rattle.journal_table.specs.Stops.{Stops};
+
+use crate::error::JournalError;
+use crate::line::{Line, read_line};
+use csv::ByteRecord;
+use csv_table::{RowReader, TableError};
+use std::alloc::Global;
+use std::marker::Model;
+
+const HEADER: [&str; 4] = ["line", "connection", "request", "response"];
+
+/// The lines of a journal, their numbers rising by one.
+#[derive(Debug, Drop)]
+pub struct Journal {
+    lines: Vec<Line>,
+}
+
+impl Model for Journal {
+    ghost use Rattle.std.specs.Prelude.{List};
+    ghost use Rattle.journal_table.specs.Entry.{Entry, Numbered};
+
+    ghost Value = { List Entry };
+
+    ghost view = { λ j. j.lines.items };
+
+    ghost invariant = { λ j. Numbered j.lines.items };
+}
+
+impl Journal {
+    /// The journal that a text spells, or why it is refused: as no table, by the first rule that
+    /// a row breaks, or for want of memory. Lines are made as rows come, and a broken rule is
+    /// told only after the last row, since a text that is no table comes before any rule.
+    pub fn read(alloc: Global, bytes: &[u8]) -> Result<Journal, JournalError>
+        ensures { Gives result (journal_of bytes.now) }
+    {
+        let mut rows = RowReader::under(alloc, &HEADER, bytes)?;
+        match read_lines(alloc, &mut rows) {
+            Ok(lines) => Ok(Journal { lines }),
+            Err(JournalError::Rule { row, rule }) => {
+                read_to_end(alloc, &mut rows)?;
+                Err(JournalError::Rule { row, rule })
+            }
+            Err(e) => Err(e),
+        }
+    }
+
+    /// The number of the first line, if there is one.
+    pub fn first(&self) -> Option<u64>
+        ensures { result ≡ first_number self.now }
+    {
+        self.lines.first().map(|line| line.number())
+    }
+
+    /// The lines in order.
+    pub fn lines(&self) -> &[Line]
+        ensures lines { result.now ≡ self.now }
+        ensures numbered { Numbered self.now }
+    {
+        &self.lines
+    }
+}
+
+/// The lines of all rows, or the first rule that one breaks, behind which the rows stand still.
+fn read_lines(alloc: Global, rows: &mut RowReader) -> Result<Vec<Line>, JournalError>
+    ensures ok { IfOk result (λ lines. lines_of rows.old.rows ≡ Ok lines.items) }
+    ensures err { IfErr result (λ e. Stops e rows.old.rows rows.new.rows) }
+{
+    let mut lines = Vec::new(alloc);
+    let mut before = None;
+    let mut row = ByteRecord::new(alloc);
+    while rows.next(&mut row)? {
+        let line = read_line(alloc, lines.len() + 1, before, &row)?;
+        before = Some(line.number());
+        lines.push(line)?;
+    }
+    Ok(lines)
+}
+
+/// Reads on to the end of the text, for what is left may be no table.
+fn read_to_end(alloc: Global, rows: &mut RowReader) -> Result<(), TableError>
+    ensures ok { OnOk result (IsSome rows.old.rows) }
+    ensures table { IfErr result (λ e. e ≡ table.Table → rows.old.rows ≡ None) }
+{
+    let mut row = ByteRecord::new(alloc);
+    while rows.next(&mut row)? {}
+    Ok(())
+}

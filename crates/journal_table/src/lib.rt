@@ -1,0 +1,23 @@
+//! The journal, the room where a recording of a library's SIP2 traffic comes in: numbered lines,
+//! each with the connection that it came over, a request, and the response that was recorded.
+#![tactic(auto)]
+
+mod error;
+mod journal;
+mod line;
+mod number;
+mod readings;
+#[cfg(test)]
+mod tests;
+
+pub use error::{JournalError, JournalRule};
+pub use journal::Journal;
+pub use line::Line;
+pub use number::{number_of, spells_decimal};
+pub use readings::{Readings, read_all};
+
+/// The most lines that a journal has.
+pub const LINE_LIMIT: usize = 1_000_000;
+
+/// The most bytes that the name of a connection has.
+pub const CONNECTION_LIMIT: usize = 64;

@@ -1,0 +1,4 @@
+pub mod Owing
+pub mod Turning
+pub mod Walking
+pub mod Whole

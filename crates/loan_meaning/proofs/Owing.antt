@@ -1,0 +1,32 @@
+use Rattle.std.proofs.Common.{◌≡◌, ℕ, ◌+◌, ◌*◌, ◌^◌, ◌<◌, ◌≤◌, List, ◌∷◌, length, get_or, drop, Option, arith}
+use Rattle.read_set.specs.Asks.{Asks, Give, Done, follow}
+use Rattle.loan_meaning.specs.Owing.{owed_from}
+use Rattle.read_set.specs.Fees.{rest_of}
+use Rattle.circ_records.specs.Records.{Entries}
+use Rattle.read_set.specs.Known.{as_fee}
+use Rattle.read_set.specs.Stops.{StopsAt}
+use Rattle.loan_meaning.specs.Lookups.{ask_after}
+use Rattle.circ_records.specs.declared.key.Key.{Key}
+use Rattle.circ_records.specs.declared.key.Key.TheVariants as keys
+use Rattle.circ_records.specs.declared.record.Record.{Record}
+use Rattle.read_set.specs.declared.source.Stop.{Stop}
+use Rattle.read_set.proofs.Following.{follow_done, stop_then}
+use Rattle.loan_meaning.proofs.Walking.{cut}
+
+-- one fee of the walk
+pub step : (has : Key → Option (Option Record)) (w : Entries) (fees : List (List ℕ)) (i : ℕ) (d : List ℕ) (sum : ℕ) (found : Option Record)
+    → i < length fees → d ≡ get_or fees i d → follow has (ask_after w (keys.Fee d)) ≡ Done found
+    → follow has (owed_from w sum (drop i fees)) ≡ follow has (owed_from w (sum + rest_of (as_fee found)) (drop (i + 1) fees))
+step has w fees i d sum found within e h =
+    rw (cut fees i d within e) (follow_done has (ask_after w (keys.Fee d)) (λ r. owed_from w (sum + rest_of (as_fee r)) (drop (i + 1) fees)) found h)
+
+-- a walk that stops at a fee
+pub stop_step : (has : Key → Option (Option Record)) (w : Entries) (fees : List (List ℕ)) (i : ℕ) (d : List ℕ) (sum : ℕ) (stop : Stop)
+    → i < length fees → d ≡ get_or fees i d → StopsAt stop (follow has (ask_after w (keys.Fee d)))
+    → StopsAt stop (follow has (owed_from w sum (drop i fees)))
+stop_step has w fees i d sum stop within e h =
+    rw (cut fees i d within e) (stop_then has (ask_after w (keys.Fee d)) (λ r. owed_from w (sum + rest_of (as_fee r)) (drop (i + 1) fees)) stop h)
+
+-- the sum stays in its type
+pub small_step : (sum i rest : ℕ) → sum ≤ i * (2 ^ 64) → rest < 2 ^ 64 → sum + rest ≤ (i + 1) * (2 ^ 64)
+small_step sum i rest h r = omega arith

@@ -1,0 +1,27 @@
+use Rattle.std.proofs.Common.{◌≡◌, ℕ, ◌+◌, ◌<◌, List, ◌∷◌, length, get_or, drop, Option}
+use Rattle.circ_policy.specs.Terms.{Terms}
+use Rattle.circ_records.specs.declared.key.Key.{Key}
+use Rattle.circ_records.specs.declared.record.Record.{Record}
+use Rattle.sip_reader.specs.declared.request.RenewAll.{RenewAll}
+use Rattle.loan_meaning.specs.RenewingAll.{turn_rule, turns_rule}
+use Rattle.read_set.specs.Asks.{Asks, Done, follow}
+use Rattle.read_set.specs.RenewAlls.{by_renew_all}
+use Rattle.read_set.specs.Stops.{StopsAt}
+use Rattle.read_set.specs.declared.progress.Renewals.{Renewals}
+use Rattle.read_set.specs.declared.source.Stop.{Stop}
+use Rattle.read_set.proofs.Following.{follow_done, stop_then}
+use Rattle.loan_meaning.proofs.Walking.{cut}
+
+-- one turn of the walk
+pub step : (has : Key → Option (Option Record)) (p : Terms) (n : ℕ) (q : RenewAll) (date : List ℕ) (items : List (List ℕ)) (i : ℕ) (d : List ℕ) (done next : Renewals)
+    → i < length items → d ≡ get_or items i d → follow has (turn_rule p n (by_renew_all q d) date done) ≡ Done next
+    → follow has (turns_rule p n q date (drop i items) done) ≡ follow has (turns_rule p n q date (drop (i + 1) items) next)
+step has p n q date items i d done next within e h =
+    rw (cut items i d within e) (follow_done has (turn_rule p n (by_renew_all q d) date done) (λ x. turns_rule p n q date (drop (i + 1) items) x) next h)
+
+-- a walk that stops at an item
+pub stop_step : (has : Key → Option (Option Record)) (p : Terms) (n : ℕ) (q : RenewAll) (date : List ℕ) (items : List (List ℕ)) (i : ℕ) (d : List ℕ) (done : Renewals) (stop : Stop)
+    → i < length items → d ≡ get_or items i d → StopsAt stop (follow has (turn_rule p n (by_renew_all q d) date done))
+    → StopsAt stop (follow has (turns_rule p n q date (drop i items) done))
+stop_step has p n q date items i d done stop within e h =
+    rw (cut items i d within e) (stop_then has (turn_rule p n (by_renew_all q d) date done) (λ x. turns_rule p n q date (drop (i + 1) items) x) stop h)

@@ -1,0 +1,5 @@
+pub mod Lending
+pub mod Lookups
+pub mod Owing
+pub mod RenewingAll
+pub mod Returning

@@ -1,0 +1,89 @@
+//! The loan or the renewal for which a request asks, and what the item says of it.
+
+ghost use Rattle.std.specs.Prelude.{◌≡◌};
+ghost use Rattle.read_set.specs.Loans.{by_checkout, by_renew, due_for, charge_for, is_lent, lent_to};
+
+use crate::fees::nothing;
+use crate::lists::is_same;
+use circ_policy::{Media, Policy};
+use circ_records::Loan;
+use read_set::{Article, LoanRequest};
+use sip_reader::{Amount, Checkout, Day, Id, Renew, Stamp};
+
+pub fn ask_checkout(request: &Checkout) -> LoanRequest
+    ensures { result ≡ by_checkout request.now }
+{
+    LoanRequest {
+        patron: request.patron,
+        item: request.item,
+        third_party: false,
+        forced: request.no_block || request.cancel,
+        given: request.due,
+        agreed: request.agreed,
+        free: request.cancel,
+        checkout: true,
+    }
+}
+
+pub fn ask_renew(request: &Renew) -> LoanRequest
+    ensures { result ≡ by_renew request.now }
+{
+    LoanRequest {
+        patron: request.patron,
+        item: request.item,
+        third_party: request.third_party,
+        forced: request.no_block,
+        given: request.due,
+        agreed: request.agreed,
+        free: false,
+        checkout: false,
+    }
+}
+
+/// The due day of the loan or renewal.
+#[tactic(auto, unfolding(read_set::specs::Loans::due_for))]
+pub fn due_of(policy: &Policy, a: &LoanRequest, date: Stamp, media: &Media) -> Day
+    ensures { result ≡ due_for policy.now a.now date media.now }
+{
+    let due = policy.due(date.day(), media);
+    match a.given {
+        Some(given) => { if a.forced { given } else { due } }
+        None => due,
+    }
+}
+
+/// What is charged for it.
+pub fn charge_of(a: &LoanRequest, media: &Media) -> Amount
+    ensures { result ≡ charge_for a.now media.now }
+{
+    if a.free { nothing() } else { media.rental }
+}
+
+/// Whether there is a loan.
+pub fn has_loan(loan: Option<Loan>) -> bool
+    ensures { result ≡ is_lent loan }
+{
+    loan.is_some()
+}
+
+/// Whether there is a loan of this patron.
+pub fn has_lent_to(patron: &Id, loan: Option<Loan>) -> bool
+    ensures { result ≡ lent_to patron.now loan }
+{
+    match loan {
+        Some(loan) => is_same(&loan.patron, patron),
+        None => false,
+    }
+}
+
+pub fn loan_in(article: &Article) -> Option<Loan>
+    ensures { result ≡ article.now.item.loan }
+{
+    article.item.loan
+}
+
+pub fn rental_in(article: &Article) -> Amount
+    ensures { result ≡ article.now.media.rental }
+{
+    article.media.rental
+}

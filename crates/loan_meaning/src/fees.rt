@@ -1,0 +1,123 @@
+//! What is owed, and what is charged.
+
+ghost use Rattle.std.specs.Prelude.{◌≡◌, nat_lt, OnOk};
+ghost use Rattle.loan_meaning.specs.Owing.{owed_at, owed_from, owing_tests};
+ghost use Rattle.read_set.specs.Asks.{follow};
+ghost use Rattle.read_set.specs.Effects.{written};
+ghost use Rattle.read_set.specs.Fees.{rest_of, fee_made, with_fee, owing_verdict};
+ghost use Rattle.read_set.specs.Stops.{Follows};
+
+use crate::lookup::read_after;
+use circ_records::{Fee, FeeType, Ids, Key, Record};
+use read_set::{Article, Draft, Member, Source, Stop, Verdict, known_fee};
+use sip_reader::{Amount, Id};
+use std::alloc::{AllocError, Global};
+
+#[tactic(auto, unfolding(read_set::specs::Fees::rest_of))]
+fn rest(fee: Option<Fee>) -> u64
+    ensures { result ≡ rest_of fee }
+{
+    match fee {
+        Some(fee) => fee
+            .amount
+            .hundredths()
+            .saturating_sub(fee.paid.hundredths()),
+        None => 0,
+    }
+}
+
+/// What is owed over a list of fees, in hundredths, after the writes so far.
+#[tactic(auto, unfolding(crate::specs::Owing::owed_at))]
+pub fn owed_of<S: Source>(
+    alloc: Global,
+    source: &mut S,
+    writes: &Draft,
+    fees: &[Id],
+) -> Result<u128, Stop>
+    ensures gives { Follows result (follow (S.has source.old) (owed_at writes.now fees.now)) }
+    ensures keeps { S.has source.new ≡ S.has source.old }
+{
+    let mut sum: u128 = 0;
+    for id in fees {
+        let found = read_after(alloc, source, writes, &Key::Fee(*id))?;
+        sum += u128::from(rest(known_fee(&found)));
+    }
+    Ok(sum)
+}
+
+/// Whether an amount is above 0.
+pub fn has_amount(amount: Amount) -> bool
+    ensures { result ≡ nat_lt 0 amount }
+{
+    amount.hundredths() > 0
+}
+
+/// A fee above 0 is written: the k-th of its line, counted from 0.
+pub fn make_fee(
+    line: u64,
+    k: u64,
+    patron: Id,
+    kind: FeeType,
+    amount: Amount,
+    writes: &mut Draft,
+) -> Result<(), AllocError>
+    ensures { OnOk result (writes.new ≡ written writes.old (fee_made line k patron kind amount)) }
+{
+    if has_amount(amount) {
+        let fee = Fee {
+            patron,
+            kind,
+            amount,
+            paid: nothing(),
+        };
+        writes.put(Key::Fee(Id::of_fee(line, k)), Record::Fee(fee))?;
+    }
+    Ok(())
+}
+
+/// An amount of 0.
+pub fn nothing() -> Amount
+    ensures { result ≡ 0 }
+{
+    Amount::new(0).unwrap()
+}
+
+/// It goes last in the patron's list.
+pub fn list_fee(line: u64, k: u64, amount: Amount, fees: &mut Ids) -> Result<(), AllocError>
+    ensures { OnOk result (fees.new ≡ with_fee line k amount fees.old) }
+{
+    if has_amount(amount) {
+        fees.push(Id::of_fee(line, k))?;
+    }
+    Ok(())
+}
+
+#[tactic(auto, unfolding(read_set::specs::Fees::owing_verdict))]
+fn owing(owes: u128, agreed: bool, member: &Member, article: &Article) -> Verdict
+    ensures { result ≡ owing_verdict owes agreed member.now article.now }
+{
+    if owes > u128::from(member.class.max_fees.hundredths()) {
+        Verdict::Refused
+    } else if has_amount(article.media.rental) && !agreed {
+        Verdict::Unpaid
+    } else {
+        Verdict::Made
+    }
+}
+
+/// The last tests of a loan and of a renewal.
+#[tactic(auto, unfolding(crate::specs::Owing::owing_tests), using(read_set::proofs::Following::follow_wants))]
+pub fn test_owing<S: Source>(
+    alloc: Global,
+    source: &mut S,
+    writes: &Draft,
+    agreed: bool,
+    member: &Member,
+    article: &Article,
+) -> Result<Verdict, Stop>
+    ensures gives { Follows result (follow (S.has source.old) (owing_tests writes.now agreed member.now article.now)) }
+    ensures keeps { S.has source.new ≡ S.has source.old }
+{
+    let owes = owed_of(alloc, source, writes, member.patron.fees.as_slice())?;
+    Ok(owing(owes, agreed, member, article))
+}

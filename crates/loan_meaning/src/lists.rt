@@ -1,0 +1,157 @@
+//! Lists of ids and queues of holds.
+
+ghost use Rattle.std.specs.Prelude.{◌≡◌, IfOk};
+ghost use Rattle.read_set.specs.Ids.{same, has_id, without, without_all};
+ghost use Rattle.read_set.specs.Queues.{place_from, waits, has_queue, first_is_another, without_hold, with_pickup};
+
+use circ_records::{Hold, Holds, Ids};
+use sip_reader::{Id, Text};
+use std::alloc::{AllocError, Global};
+
+/// Whether two ids are one.
+pub fn is_same(a: &Id, b: &Id) -> bool
+    ensures { result ≡ same a.now b.now }
+{
+    a == b
+}
+
+/// The list without an id, at each of its places.
+pub fn without(alloc: Global, ids: &Ids, id: &Id) -> Result<Ids, AllocError>
+    ensures { IfOk result (λ left. left ≡ without id.now ids.now) }
+{
+    let kept = kept(alloc, ids.as_slice(), id)?;
+    Ok(Ids::from_vec(kept))
+}
+
+fn kept(alloc: Global, ids: &[Id], id: &Id) -> Result<Vec<Id>, AllocError>
+    ensures { IfOk result (λ v. v.items ≡ without id.now ids.now) }
+{
+    let mut kept = Vec::new(alloc);
+    for other in ids {
+        if !is_same(other, id) {
+            kept.push(*other)?;
+        }
+    }
+    Ok(kept)
+}
+
+/// Whether an id stands in a list.
+pub fn has_id(ids: &[Id], id: &Id) -> bool
+    ensures { result ≡ has_id id.now ids.now }
+{
+    ids.iter().any(|other| is_same(other, id))
+}
+
+/// The list without each id of another.
+pub fn without_all(alloc: Global, ids: &Ids, gone: &[Id]) -> Result<Ids, AllocError>
+    ensures { IfOk result (λ left. left ≡ without_all gone.now ids.now) }
+{
+    let kept = kept_all(alloc, ids.as_slice(), gone)?;
+    Ok(Ids::from_vec(kept))
+}
+
+fn kept_all(alloc: Global, ids: &[Id], gone: &[Id]) -> Result<Vec<Id>, AllocError>
+    ensures { IfOk result (λ v. v.items ≡ without_all gone.now ids.now) }
+{
+    let mut kept = Vec::new(alloc);
+    for other in ids {
+        if !has_id(gone, other) {
+            kept.push(*other)?;
+        }
+    }
+    Ok(kept)
+}
+
+/// Whether somebody waits.
+pub fn has_queue(holds: &[Hold]) -> bool
+    ensures { result ≡ has_queue holds.now }
+{
+    !holds.is_empty()
+}
+
+/// Whether the first entry is another's.
+pub fn is_first_another(holds: &[Hold], patron: &Id) -> bool
+    ensures { result ≡ first_is_another patron.now holds.now }
+{
+    if holds.is_empty() {
+        false
+    } else {
+        !is_same(&holds[0].patron, patron)
+    }
+}
+
+/// Whether a patron waits.
+pub fn waits(holds: &[Hold], patron: &Id) -> bool
+    ensures { result ≡ waits patron.now holds.now }
+{
+    holds.iter().any(|hold| is_same(&hold.patron, patron))
+}
+
+/// A patron's place in the queue, counted from 1.
+pub fn place(holds: &[Hold], patron: &Id) -> Option<usize>
+    ensures { result ≡ place_from 1 patron.now holds.now }
+{
+    for (i, hold) in holds.iter().enumerate() {
+        if is_same(&hold.patron, patron) {
+            return Some(i + 1);
+        }
+    }
+    None
+}
+
+/// The queue without a patron's entry.
+pub fn without_hold(alloc: Global, holds: &Holds, patron: &Id) -> Result<Holds, AllocError>
+    ensures { IfOk result (λ h. h ≡ without_hold patron.now holds.now) }
+{
+    let kept = holds_without(alloc, holds.as_slice(), patron)?;
+    Ok(Holds::from_vec(kept))
+}
+
+fn holds_without(alloc: Global, holds: &[Hold], patron: &Id) -> Result<Vec<Hold>, AllocError>
+    ensures { IfOk result (λ v. v.items ≡ without_hold patron.now holds.now) }
+{
+    let mut kept = Vec::new(alloc);
+    let mut found = false;
+    for hold in holds {
+        if !found && is_same(&hold.patron, patron) {
+            found = true;
+        } else {
+            kept.push(hold.copy(alloc)?)?;
+        }
+    }
+    Ok(kept)
+}
+
+/// The queue with another pickup in a patron's entry.
+pub fn with_pickup(
+    alloc: Global,
+    holds: &Holds,
+    patron: &Id,
+    pickup: &Text,
+) -> Result<Holds, AllocError>
+    ensures { IfOk result (λ h. h ≡ with_pickup patron.now pickup.now holds.now) }
+{
+    let kept = holds_with(alloc, holds.as_slice(), patron, pickup)?;
+    Ok(Holds::from_vec(kept))
+}
+
+fn holds_with(
+    alloc: Global,
+    holds: &[Hold],
+    patron: &Id,
+    pickup: &Text,
+) -> Result<Vec<Hold>, AllocError>
+    ensures { IfOk result (λ v. v.items ≡ with_pickup patron.now pickup.now holds.now) }
+{
+    let mut kept = Vec::new(alloc);
+    let mut found = false;
+    for hold in holds {
+        let mut hold = hold.copy(alloc)?;
+        if !found && is_same(&hold.patron, patron) {
+            found = true;
+            hold.pickup = pickup.copy(alloc)?;
+        }
+        kept.push(hold)?;
+    }
+    Ok(kept)
+}

@@ -1,0 +1,86 @@
+//! Reading the records of ids.
+
+ghost use Rattle.std.specs.Prelude.{◌≡◌};
+ghost use Rattle.loan_meaning.specs.Lookups.{patron_at, item_at, fee_at, borrower_at, ask_after};
+ghost use Rattle.read_set.specs.Asks.{follow};
+ghost use Rattle.read_set.specs.Stops.{Follows};
+
+use circ_policy::Policy;
+use circ_records::{Fee, Key, Loan, Record};
+use read_set::{Article, Draft, Member, Source, Stop, known_fee, known_item, known_patron};
+use sip_reader::Id;
+use std::alloc::Global;
+
+/// The patron of an id, where it is known.
+#[tactic(auto, unfolding(crate::specs::Lookups::patron_at))]
+pub fn patron_of<S: Source>(
+    alloc: Global,
+    policy: &Policy,
+    source: &mut S,
+    id: &Id,
+) -> Result<Option<Member>, Stop>
+    ensures gives { Follows result (follow (S.has source.old) (patron_at policy.now id.now)) }
+    ensures keeps { S.has source.new ≡ S.has source.old }
+{
+    let found = source.read(alloc, &Key::Patron(*id))?;
+    Ok(known_patron(policy, found))
+}
+
+/// The item of an id, where it is known.
+#[tactic(auto, unfolding(crate::specs::Lookups::item_at))]
+pub fn item_of<S: Source>(
+    alloc: Global,
+    policy: &Policy,
+    source: &mut S,
+    id: &Id,
+) -> Result<Option<Article>, Stop>
+    ensures gives { Follows result (follow (S.has source.old) (item_at policy.now id.now)) }
+    ensures keeps { S.has source.new ≡ S.has source.old }
+{
+    let found = source.read(alloc, &Key::Item(*id))?;
+    Ok(known_item(policy, found))
+}
+
+/// The fee of an id, where it has a record.
+#[tactic(auto, unfolding(crate::specs::Lookups::fee_at))]
+pub fn fee_of<S: Source>(alloc: Global, source: &mut S, id: &Id) -> Result<Option<Fee>, Stop>
+    ensures gives { Follows result (follow (S.has source.old) (fee_at id.now)) }
+    ensures keeps { S.has source.new ≡ S.has source.old }
+{
+    let found = source.read(alloc, &Key::Fee(*id))?;
+    Ok(known_fee(&found))
+}
+
+/// Whoever has a loan, where the patron is known.
+#[tactic(auto, unfolding(crate::specs::Lookups::borrower_at))]
+pub fn borrower_of<S: Source>(
+    alloc: Global,
+    policy: &Policy,
+    source: &mut S,
+    loan: Option<Loan>,
+) -> Result<Option<Member>, Stop>
+    ensures gives { Follows result (follow (S.has source.old) (borrower_at policy.now loan)) }
+    ensures keeps { S.has source.new ≡ S.has source.old }
+{
+    match loan {
+        Some(loan) => patron_of(alloc, policy, source, &loan.patron),
+        None => Ok(None),
+    }
+}
+
+/// The record at a key after the writes so far.
+#[tactic(auto, unfolding(crate::specs::Lookups::ask_after))]
+pub fn read_after<S: Source>(
+    alloc: Global,
+    source: &mut S,
+    writes: &Draft,
+    key: &Key,
+) -> Result<Option<Record>, Stop>
+    ensures gives { Follows result (follow (S.has source.old) (ask_after writes.now key.now)) }
+    ensures keeps { S.has source.new ≡ S.has source.old }
+{
+    match writes.get(key) {
+        Some(found) => Ok(Some(found.copy(alloc)?)),
+        None => source.read(alloc, key),
+    }
+}

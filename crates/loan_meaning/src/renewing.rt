@@ -1,0 +1,266 @@
+//! Renewal.
+
+ghost use Rattle.std.specs.Prelude.{◌≡◌, IfOk, OnOk, Some};
+ghost use Rattle.loan_meaning.specs.Lending.{renewal_tests, renewal_rule, renew_rule_known, renew_rule};
+ghost use Rattle.read_set.specs.Asks.{follow};
+ghost use Rattle.read_set.specs.Effects.{written};
+ghost use Rattle.read_set.specs.Loans.{may_renew, renewals_of, renewed_loan, renewed, charged, renewal_writes, renewal_made, renewal_by};
+ghost use Rattle.read_set.specs.Fees.{with_fee};
+ghost use Rattle.read_set.specs.Stops.{Follows};
+
+use crate::asking::{ask_renew, charge_of, due_of, rental_in};
+use crate::fees::{has_amount, list_fee, make_fee, test_owing};
+use crate::lists::{has_queue, is_same};
+use crate::lookup::{item_of, patron_of};
+use crate::telling::{refuse, refuse_for, tell_made};
+use circ_policy::Policy;
+use circ_records::{FeeType, Item, Key, Loan, Patron, Record};
+use read_set::{Article, Draft, Effect, LoanRequest, Member, Source, Stop, Verdict};
+use sip_reader::{Amount, Day, Id, Renew, Stamp};
+use std::alloc::{AllocError, Global};
+
+fn is_renewable(a: &LoanRequest, loan: Option<Loan>) -> bool
+    ensures { result ≡ may_renew a.now loan }
+{
+    match loan {
+        Some(loan) => is_same(&loan.patron, &a.patron) || a.third_party,
+        None => false,
+    }
+}
+
+fn renewals(loan: Option<Loan>) -> u32
+    ensures { result ≡ renewals_of loan }
+{
+    match loan {
+        Some(loan) => loan.renewals,
+        None => 0,
+    }
+}
+
+/// The tests of a renewal, after the writes so far.
+#[tactic(auto, unfolding(crate::specs::Lending::renewal_tests))]
+pub fn test_renewal<S: Source>(
+    alloc: Global,
+    writes: &Draft,
+    a: &LoanRequest,
+    member: &Member,
+    article: &Article,
+    source: &mut S,
+) -> Result<Verdict, Stop>
+    ensures gives { Follows result (follow (S.has source.old) (renewal_tests writes.now a.now member.now article.now)) }
+    ensures keeps { S.has source.new ≡ S.has source.old }
+{
+    if !is_renewable(a, article.item.loan) {
+        return Ok(Verdict::Refused);
+    }
+    if a.forced {
+        return Ok(Verdict::Made);
+    }
+    if member.patron.blocked {
+        return Ok(Verdict::Refused);
+    }
+    if has_queue(article.item.holds.as_slice()) {
+        return Ok(Verdict::Refused);
+    }
+    if member.class.max_renewals <= renewals(article.item.loan) {
+        return Ok(Verdict::Refused);
+    }
+    test_owing(alloc, source, writes, a.agreed, member, article)
+}
+
+fn renew_loan(due: Day, loan: Option<Loan>) -> Option<Loan>
+    ensures { result ≡ renewed_loan due loan }
+{
+    match loan {
+        Some(loan) => Some(Loan {
+            patron: loan.patron,
+            due,
+            renewals: if loan.renewals < u32::MAX {
+                loan.renewals + 1
+            } else {
+                loan.renewals
+            },
+        }),
+        None => None,
+    }
+}
+
+/// The item with its loan renewed.
+pub fn renew_loan_of(due: Day, article: Article) -> Item
+    ensures { result ≡ renewed due article.item }
+{
+    let Article { item, media: _ } = article;
+    let Item {
+        title,
+        media,
+        location,
+        properties,
+        loan,
+        holds,
+    } = item;
+    Item {
+        title,
+        media,
+        location,
+        properties,
+        loan: renew_loan(due, loan),
+        holds,
+    }
+}
+
+fn add_fee(n: u64, charge: Amount, member: Member) -> Result<Patron, AllocError>
+    ensures { IfOk result (λ p. p ≡ record member.patron { fees = with_fee n 0 charge member.patron.fees }) }
+{
+    let Member { patron, class: _ } = member;
+    let Patron {
+        name,
+        class,
+        blocked,
+        loans,
+        mut fees,
+    } = patron;
+    list_fee(n, 0, charge, &mut fees)?;
+    Ok(Patron {
+        name,
+        class,
+        blocked,
+        loans,
+        fees,
+    })
+}
+
+fn charge_patron(
+    n: u64,
+    id: Id,
+    charge: Amount,
+    member: Member,
+    writes: &mut Draft,
+) -> Result<(), AllocError>
+    ensures { OnOk result (writes.new ≡ written writes.old (charged n id charge member.patron)) }
+{
+    let patron = add_fee(n, charge, member)?;
+    if has_amount(charge) {
+        writes.put(Key::Patron(id), Record::Patron(patron))?;
+    }
+    Ok(())
+}
+
+#[tactic(auto, unfolding(read_set::specs::Loans::renewal_made))]
+fn make_renewal(
+    alloc: Global,
+    policy: &Policy,
+    n: u64,
+    a: &LoanRequest,
+    date: Stamp,
+    member: Member,
+    article: Article,
+) -> Result<Effect, AllocError>
+    ensures { IfOk result (λ e. e ≡ renewal_made policy.now n a.now date member article) }
+{
+    let due = due_of(policy, a, date, &article.media);
+    let charge = charge_of(a, &article.media);
+    let answer = tell_made(alloc, policy, a, date, &article, due, true, charge)?;
+    let writes = write_renewal(alloc, n, a, due, charge, member, article)?;
+    Ok(Effect {
+        writes: writes.finish(alloc)?,
+        answer: Some(answer),
+    })
+}
+
+fn write_renewal(
+    alloc: Global,
+    n: u64,
+    a: &LoanRequest,
+    due: Day,
+    charge: Amount,
+    member: Member,
+    article: Article,
+) -> Result<Draft, AllocError>
+    ensures { IfOk result (λ w. w ≡ renewal_writes n a.now due charge member article) }
+{
+    let mut writes = Draft::new(alloc);
+    charge_patron(n, a.patron, charge, member, &mut writes)?;
+    writes.put(Key::Item(a.item), Record::Item(renew_loan_of(due, article)))?;
+    make_fee(n, 0, a.patron, FeeType::Rental, charge, &mut writes)?;
+    Ok(writes)
+}
+
+fn renew_by(
+    alloc: Global,
+    policy: &Policy,
+    n: u64,
+    a: &LoanRequest,
+    date: Stamp,
+    member: Member,
+    article: Article,
+    verdict: Verdict,
+) -> Result<Effect, AllocError>
+    ensures { IfOk result (λ e. e ≡ renewal_by policy.now n a.now date member article verdict) }
+{
+    let rental = rental_in(&article);
+    match verdict {
+        Verdict::Refused => refuse(alloc, policy, a, date, Some(article)),
+        Verdict::Unpaid => refuse_for(alloc, policy, a, date, Some(article), rental),
+        Verdict::Made => make_renewal(alloc, policy, n, a, date, member, article),
+    }
+}
+
+/// A renewal of a known item by a known patron.
+#[tactic(auto, unfolding(crate::specs::Lending::renewal_rule), using(read_set::proofs::Following::follow_wants))]
+pub fn renew_one<S: Source>(
+    alloc: Global,
+    policy: &Policy,
+    n: u64,
+    a: &LoanRequest,
+    date: Stamp,
+    member: Member,
+    article: Article,
+    source: &mut S,
+) -> Result<Effect, Stop>
+    ensures gives { Follows result (follow (S.has source.old) (renewal_rule policy.now n a.now date member article)) }
+    ensures keeps { S.has source.new ≡ S.has source.old }
+{
+    let verdict = test_renewal(alloc, &Draft::new(alloc), a, &member, &article, source)?;
+    Ok(renew_by(alloc, policy, n, a, date, member, article, verdict)?)
+}
+
+fn renew_both<S: Source>(
+    alloc: Global,
+    policy: &Policy,
+    n: u64,
+    a: &LoanRequest,
+    date: Stamp,
+    member: Option<Member>,
+    article: Option<Article>,
+    source: &mut S,
+) -> Result<Effect, Stop>
+    ensures gives { Follows result (follow (S.has source.old) (renew_rule_known policy.now n a.now date member article)) }
+    ensures keeps { S.has source.new ≡ S.has source.old }
+{
+    let Some(member) = member else {
+        return Ok(refuse(alloc, policy, a, date, article)?);
+    };
+    let Some(article) = article else {
+        return Ok(refuse(alloc, policy, a, date, None)?);
+    };
+    renew_one(alloc, policy, n, a, date, member, article, source)
+}
+
+/// A renewal (message 29) on line n.
+#[tactic(auto, unfolding(crate::specs::Lending::renew_rule), using(read_set::proofs::Following::follow_wants))]
+pub fn renew_item<S: Source>(
+    alloc: Global,
+    policy: &Policy,
+    n: u64,
+    request: &Renew,
+    date: Stamp,
+    source: &mut S,
+) -> Result<Effect, Stop>
+    ensures gives { Follows result (follow (S.has source.old) (renew_rule policy.now n request.now date)) }
+    ensures keeps { S.has source.new ≡ S.has source.old }
+{
+    let member = patron_of(alloc, policy, source, &request.patron)?;
+    let article = item_of(alloc, policy, source, &request.item)?;
+    let a = ask_renew(request);
+    renew_both(alloc, policy, n, &a, date, member, article, source)
+}

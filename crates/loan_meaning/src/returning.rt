@@ -1,0 +1,259 @@
+//! Checkin.
+
+ghost use Rattle.std.specs.Prelude.{◌≡◌, IfOk, OnOk, Some, None};
+ghost use Rattle.loan_meaning.specs.Returning.{checkin_rule};
+ghost use Rattle.read_set.specs.Asks.{follow};
+ghost use Rattle.read_set.specs.Effects.{written};
+ghost use Rattle.read_set.specs.Returns.{returned_item, checkin_answer, day_back, lateness, returner, returned_by, returned_writes, returned, checked_in, loan_of};
+ghost use Rattle.read_set.specs.Stops.{Follows};
+
+use crate::asking::loan_in;
+use crate::fees::{list_fee, make_fee, nothing};
+use crate::lists::{has_queue, without};
+use crate::lookup::{borrower_of, item_of};
+use circ_policy::{Media, Policy, late_fee};
+use circ_records::{FeeType, Item, Key, Loan, Patron, Record};
+use read_set::{Article, Draft, Effect, Member, Source, Stop};
+use sip_answer::{Answer, CheckinAnswer, ReturnedItem};
+use sip_reader::{Amount, Checkin, Day, Id, Stamp};
+use std::alloc::{AllocError, Global};
+
+fn tell_unknown(policy: &Policy, request: &Checkin, date: Stamp) -> Answer
+    ensures { result ≡ checkin_answer policy.now request.now date None None }
+{
+    Answer::Checkin(CheckinAnswer {
+        date,
+        institution: policy.institution(),
+        item: request.item,
+        known: None,
+        borrower: None,
+        alert: false,
+    })
+}
+
+fn show(alloc: Global, item: &Item) -> Result<ReturnedItem, AllocError>
+    ensures { IfOk result (λ s. s ≡ returned_item item.now) }
+{
+    Ok(ReturnedItem {
+        location: item.location.copy(alloc)?,
+        title: item.title.copy(alloc)?,
+        media: item.media,
+        properties: item.properties.copy(alloc)?,
+    })
+}
+
+fn tell(
+    alloc: Global,
+    policy: &Policy,
+    request: &Checkin,
+    date: Stamp,
+    article: &Article,
+    borrower: Option<Id>,
+) -> Result<Answer, AllocError>
+    ensures { IfOk result (λ a. a ≡ checkin_answer policy.now request.now date (Some article.now.item) borrower) }
+{
+    Ok(Answer::Checkin(CheckinAnswer {
+        date,
+        institution: policy.institution(),
+        item: request.item,
+        known: Some(show(alloc, &article.item)?),
+        borrower,
+        alert: has_queue(article.item.holds.as_slice()),
+    }))
+}
+
+fn back(request: &Checkin, date: Stamp) -> Day
+    ensures { result ≡ day_back request.now date }
+{
+    match request.back {
+        Some(day) => day,
+        None => date.day(),
+    }
+}
+
+fn lateness_of(request: &Checkin, date: Stamp, loan: &Loan, media: &Media) -> Amount
+    ensures { result ≡ lateness request.now date loan.now media.now }
+{
+    if request.cancel {
+        nothing()
+    } else {
+        late_fee(loan.due, back(request, date), media)
+    }
+}
+
+fn return_from(
+    alloc: Global,
+    n: u64,
+    item: &Id,
+    fee: Amount,
+    member: Member,
+) -> Result<Patron, AllocError>
+    ensures { IfOk result (λ p. p ≡ returner n item.now fee member.patron) }
+{
+    let Member { patron, class: _ } = member;
+    let Patron {
+        name,
+        class,
+        blocked,
+        loans,
+        mut fees,
+    } = patron;
+    let loans = without(alloc, &loans, item)?;
+    list_fee(n, 0, fee, &mut fees)?;
+    Ok(Patron {
+        name,
+        class,
+        blocked,
+        loans,
+        fees,
+    })
+}
+
+/// The borrower's record without the loan and with its late fee, and that fee.
+fn return_by(
+    alloc: Global,
+    n: u64,
+    item: &Id,
+    borrower: Id,
+    fee: Amount,
+    member: Option<Member>,
+    writes: &mut Draft,
+) -> Result<(), AllocError>
+    ensures { OnOk result (writes.new ≡ written writes.old (returned_by n item.now borrower fee member)) }
+{
+    let Some(member) = member else {
+        return Ok(());
+    };
+    let patron = return_from(alloc, n, item, fee, member)?;
+    writes.put(Key::Patron(borrower), Record::Patron(patron))?;
+    make_fee(n, 0, borrower, FeeType::Overdue, fee, writes)
+}
+
+fn unlent(article: Article) -> Item
+    ensures { result ≡ record article.item { loan = None } }
+{
+    let Article { item, media: _ } = article;
+    let Item {
+        title,
+        media,
+        location,
+        properties,
+        loan: _,
+        holds,
+    } = item;
+    Item {
+        title,
+        media,
+        location,
+        properties,
+        loan: None,
+        holds,
+    }
+}
+
+fn write_return(
+    alloc: Global,
+    n: u64,
+    item: &Id,
+    fee: Amount,
+    article: Article,
+    member: Option<Member>,
+    loan: &Loan,
+) -> Result<Draft, AllocError>
+    ensures { IfOk result (λ w. w ≡ returned_writes n item.now fee article member loan.now) }
+{
+    let mut writes = Draft::new(alloc);
+    return_by(alloc, n, item, loan.patron, fee, member, &mut writes)?;
+    writes.put(Key::Item(*item), Record::Item(unlent(article)))?;
+    Ok(writes)
+}
+
+fn end_loan(
+    alloc: Global,
+    policy: &Policy,
+    n: u64,
+    request: &Checkin,
+    date: Stamp,
+    article: Article,
+    loan: &Loan,
+    member: Option<Member>,
+) -> Result<Effect, AllocError>
+    ensures { IfOk result (λ e. e ≡ returned policy.now n request.now date article member (Some loan.now)) }
+{
+    let answer = tell(alloc, policy, request, date, &article, Some(loan.patron))?;
+    let fee = lateness_of(request, date, loan, &article.media);
+    let writes = write_return(alloc, n, &request.item, fee, article, member, loan)?;
+    Ok(Effect {
+        writes: writes.finish(alloc)?,
+        answer: Some(answer),
+    })
+}
+
+fn end_any(
+    alloc: Global,
+    policy: &Policy,
+    n: u64,
+    request: &Checkin,
+    date: Stamp,
+    article: Article,
+    loan: Option<Loan>,
+    member: Option<Member>,
+) -> Result<Effect, AllocError>
+    ensures { IfOk result (λ e. e ≡ returned policy.now n request.now date article member loan) }
+{
+    match loan {
+        Some(loan) => end_loan(alloc, policy, n, request, date, article, &loan, member),
+        None => {
+            let answer = tell(alloc, policy, request, date, &article, None)?;
+            Ok(Effect::unwritten(alloc, Some(answer)))
+        }
+    }
+}
+
+#[tactic(auto, unfolding(read_set::specs::Returns::checked_in))]
+fn end(
+    alloc: Global,
+    policy: &Policy,
+    n: u64,
+    request: &Checkin,
+    date: Stamp,
+    article: Option<Article>,
+    member: Option<Member>,
+) -> Result<Effect, AllocError>
+    ensures { IfOk result (λ e. e ≡ checked_in policy.now n request.now date article member) }
+{
+    let Some(article) = article else {
+        let answer = tell_unknown(policy, request, date);
+        return Ok(Effect::unwritten(alloc, Some(answer)));
+    };
+    let loan = loan_in(&article);
+    end_any(alloc, policy, n, request, date, article, loan, member)
+}
+
+fn any_loan(article: &Option<Article>) -> Option<Loan>
+    ensures { result ≡ loan_of article.now }
+{
+    match article {
+        Some(article) => article.item.loan,
+        None => None,
+    }
+}
+
+/// A checkin (message 09) on line n.
+#[tactic(auto, unfolding(crate::specs::Returning::checkin_rule), using(read_set::proofs::Following::follow_wants))]
+pub fn check_in<S: Source>(
+    alloc: Global,
+    policy: &Policy,
+    n: u64,
+    request: &Checkin,
+    date: Stamp,
+    source: &mut S,
+) -> Result<Effect, Stop>
+    ensures gives { Follows result (follow (S.has source.old) (checkin_rule policy.now n request.now date)) }
+    ensures keeps { S.has source.new ≡ S.has source.old }
+{
+    let article = item_of(alloc, policy, source, &request.item)?;
+    let loan = any_loan(&article);
+    let member = borrower_of(alloc, policy, source, loan)?;
+    Ok(end(alloc, policy, n, request, date, article, member)?)
+}

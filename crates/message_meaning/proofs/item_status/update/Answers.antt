@@ -1,0 +1,13 @@
+use Rattle.std.proofs.Common.{ap, sym}
+use Rattle.loan_meaning.specs.Lookups.{item_at}
+use Rattle.message_meaning.specs.Rules.{item_status_rule}
+use Rattle.read_set.specs.Asks.{Give, Done}
+use Rattle.read_set.specs.ItemStatuses.{updated}
+use Rattle.read_set.proofs.Following.{follow_then}
+use Rattle.message_meaning.proofs.item_status.update.Goals as goal
+
+pub returns-clause-gives : goal.returns-clause-gives
+unfolding item_status_rule
+returns-clause-gives g c =
+    follow_then _ (item_at c.args.policy.now c.args.request.now.item) (λ item. Give (updated c.args.request.now c.args.date item)) _ _
+    c.in_ok-found.ensures.gives (ap Done (sym c.in_ok-update_found.ensures))

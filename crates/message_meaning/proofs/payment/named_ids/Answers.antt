@@ -1,0 +1,11 @@
+use Rattle.std.proofs.Common.{ap, sym, true}
+use Rattle.read_set.specs.Asks.{Give, Done}
+use Rattle.loan_meaning.specs.Lookups.{fee_at}
+use Rattle.read_set.specs.Payments.{only_known}
+use Rattle.read_set.proofs.Following.{follow_then}
+use Rattle.message_meaning.proofs.payment.named_ids.Goals as goal
+
+pub returns-clause-gives : goal.returns-clause-gives
+returns-clause-gives g c =
+    follow_then _ (fee_at c.args.id.now) (λ fee. Give (only_known c.args.id.now c.args.fees.now fee)) _ _
+    c.in_ok-fee.ensures.gives (ap Done (sym c.in_ok-only.ensures))

@@ -1,0 +1,4 @@
+pub mod Blocking
+pub mod Paying
+pub mod Queueing
+pub mod Rules

@@ -1,0 +1,74 @@
+ghost use Rattle.std.specs.Prelude.{◌≡◌, IfOk};
+ghost use Rattle.message_meaning.specs.Rules.{item_status_rule};
+ghost use Rattle.read_set.specs.Asks.{follow};
+ghost use Rattle.read_set.specs.ItemStatuses.{updated, status_answer};
+ghost use Rattle.read_set.specs.Stops.{Follows};
+
+use circ_policy::Policy;
+use circ_records::{Item, Key, Record};
+use loan_meaning::item_of;
+use read_set::{Article, Effect, Source, Stop, Writes};
+use sip_answer::{Answer, ItemStatusAnswer, TitledItem};
+use sip_reader::{ItemStatus, Stamp};
+use std::alloc::{AllocError, Global};
+
+/// An item status update (message 19).
+#[tactic(auto, unfolding(crate::specs::Rules::item_status_rule), using(read_set::proofs::Following::follow_wants))]
+pub fn update<S: Source>(
+    alloc: Global,
+    policy: &Policy,
+    request: &ItemStatus,
+    date: Stamp,
+    source: &mut S,
+) -> Result<Effect, Stop>
+    ensures gives { Follows result (follow (S.has source.old) (item_status_rule policy.now request.now date)) }
+    ensures keeps { S.has source.new ≡ S.has source.old }
+{
+    let found = item_of(alloc, policy, source, &request.item)?;
+    Ok(update_found(alloc, request, date, found)?)
+}
+
+/// The request's properties replace those of the item, where both are there.
+#[tactic(auto, unfolding(read_set::specs::ItemStatuses::updated))]
+fn update_found(
+    alloc: Global,
+    request: &ItemStatus,
+    date: Stamp,
+    found: Option<Article>,
+) -> Result<Effect, AllocError>
+    ensures { IfOk result (λ e. e ≡ updated request.now date found) }
+{
+    let Some(Article { item, media: _ }) = found else {
+        return Ok(Effect::unwritten(alloc, Some(answer(request, date, None))));
+    };
+    let Some(given) = &request.properties else {
+        let Item {
+            title,
+            properties,
+            ..
+        } = item;
+        let known = Some(TitledItem { title, properties });
+        return Ok(Effect::unwritten(alloc, Some(answer(request, date, known))));
+    };
+    let known = Some(TitledItem {
+        title: item.title.copy(alloc)?,
+        properties: given.copy(alloc)?,
+    });
+    let properties = given.copy(alloc)?;
+    let item = Item { properties, ..item };
+    let writes = Writes::one(alloc, Key::Item(request.item), Record::Item(item))?;
+    Ok(Effect {
+        writes,
+        answer: Some(answer(request, date, known)),
+    })
+}
+
+fn answer(request: &ItemStatus, date: Stamp, known: Option<TitledItem>) -> Answer
+    ensures { result ≡ status_answer request.now date known }
+{
+    Answer::ItemStatus(ItemStatusAnswer {
+        date,
+        item: request.item,
+        known,
+    })
+}

@@ -1,0 +1,12 @@
+//! What each line of a plan does: the meaning of a line, worked out over any source of records.
+//! It stands on `read_set`, which says what a line means over the whole map of records; the replay, by one thread or
+//! by many, stands on it.
+#![tactic(auto)]
+
+mod blocking;
+mod holding;
+mod item_status;
+mod lines;
+mod payment;
+
+pub use lines::perform;

@@ -1,0 +1,97 @@
+ghost use Rattle.std.specs.Prelude.{◌≡◌, IfOk, IfErr};
+ghost use Rattle.message_meaning.specs.Rules.{rule, rule_of, rule_at};
+ghost use Rattle.read_set.specs.Asks.{follow};
+ghost use Rattle.read_set.specs.Maps.{Map, Agrees};
+ghost use Rattle.read_set.specs.Replay.{GivesAt};
+ghost use Rattle.read_set.specs.Stops.{Follows, LacksAt};
+
+use crate::blocking::block;
+use crate::holding::hold;
+use crate::item_status::update;
+use crate::payment::take_payment;
+use circ_policy::Policy;
+use loan_meaning::{check_in, check_out, renew_all, renew_item};
+use read_set::{Effect, Plan, Source, Stop};
+use sip_answer::Answer;
+use sip_reader::{Act, Reading, Request};
+use std::alloc::Global;
+
+/// What a line of a plan does, by the records that the source has. It stops only where the source does, or for want of
+/// memory. A line that the plan doesn't have does nothing.
+pub fn perform<S: Source>(
+    alloc: Global,
+    plan: &Plan,
+    line: u64,
+    source: &mut S,
+) -> Result<Effect, Stop>
+    ensures gives { IfOk result (λ e. (M : Map) → Agrees (S.has source.old) M → GivesAt plan.now line M e) }
+    ensures lacks { IfErr result (LacksAt (S.has source.old)) }
+    ensures keeps { S.has source.new ≡ S.has source.old }
+{
+    follow_line(alloc, plan, line, source)
+}
+
+#[tactic(auto, unfolding(crate::specs::Rules::rule_at))]
+fn follow_line<S: Source>(
+    alloc: Global,
+    plan: &Plan,
+    line: u64,
+    source: &mut S,
+) -> Result<Effect, Stop>
+    ensures gives { Follows result (follow (S.has source.old) (rule_at plan.now line)) }
+    ensures keeps { S.has source.new ≡ S.has source.old }
+{
+    match plan.reading(line) {
+        Some(reading) => follow_reading(alloc, plan.policy(), line, reading, source),
+        None => Ok(Effect::unwritten(alloc, None)),
+    }
+}
+
+#[tactic(auto, unfolding(crate::specs::Rules::rule))]
+fn follow_reading<S: Source>(
+    alloc: Global,
+    policy: &Policy,
+    line: u64,
+    reading: &Reading,
+    source: &mut S,
+) -> Result<Effect, Stop>
+    ensures gives { Follows result (follow (S.has source.old) (rule policy.now line reading.now)) }
+    ensures keeps { S.has source.new ≡ S.has source.old }
+{
+    match reading {
+        Reading::Asked(request) => follow_request(alloc, policy, line, request, source),
+        Reading::BadSum => Ok(Effect::unwritten(alloc, Some(Answer::Resend))),
+        Reading::Passed(_) | Reading::Unread(_) => Ok(Effect::unwritten(alloc, None)),
+    }
+}
+
+#[tactic(auto, unfolding(crate::specs::Rules::rule_of))]
+fn follow_request<S: Source>(
+    alloc: Global,
+    policy: &Policy,
+    line: u64,
+    request: &Request,
+    source: &mut S,
+) -> Result<Effect, Stop>
+    ensures gives { Follows result (follow (S.has source.old) (rule_of policy.now line request.now.date request.now.act)) }
+    ensures keeps { S.has source.new ≡ S.has source.old }
+{
+    match &request.act {
+        Act::BlockPatron(asked) => block(alloc, policy, true, &asked.patron, request.date, source),
+        Act::Checkin(asked) => check_in(alloc, policy, line, asked, request.date, source),
+        Act::Checkout(asked) => check_out(alloc, policy, line, asked, request.date, source),
+        Act::Hold(asked) => hold(alloc, policy, asked, request.date, source),
+        Act::ItemStatus(asked) => update(alloc, policy, asked, request.date, source),
+        Act::PatronEnable(asked) => block(
+            alloc,
+            policy,
+            false,
+            &asked.patron,
+            request.date,
+            source,
+        ),
+        Act::Renew(asked) => renew_item(alloc, policy, line, asked, request.date, source),
+        Act::FeePaid(asked) => take_payment(alloc, policy, asked, request.date, source),
+        Act::RenewAll(asked) => renew_all(alloc, policy, line, asked, request.date, source),
+    }
+}

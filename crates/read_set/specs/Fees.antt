@@ -1,0 +1,40 @@
+-- Fees: what is owed, and what is charged (circulation rules, due days and money).
+use Rattle.std.specs.Prelude.{ℕ, Bool, not, ◌&&◌, nat_lt, ◌-◌, List, [], ◌∷◌, ◌++◌, map, sum, Option, Some, None, if◌then◌else◌}
+use Rattle.std.specs.Option.{option_map_or}
+use Rattle.circ_records.specs.Records.{Entries}
+use Rattle.circ_records.specs.declared.key.Key.TheVariants as keys
+use Rattle.circ_records.specs.declared.record.Record.TheVariants as records
+use Rattle.circ_records.specs.declared.record.Fee.{Fee}
+use Rattle.circ_records.specs.declared.record.FeeType.{FeeType}
+use Rattle.sip_reader.specs.Texts.{fee_id}
+use Rattle.read_set.specs.Known.{fee_in}
+use Rattle.read_set.specs.Maps.{Map}
+use Rattle.read_set.specs.declared.known.Article.{Article}
+use Rattle.read_set.specs.declared.known.Member.{Member}
+use Rattle.read_set.specs.declared.verdict.Verdict.{Verdict}
+use Rattle.read_set.specs.declared.verdict.Verdict.TheVariants as verdicts
+
+-- what is left to pay of a fee, never below 0; a fee without a record counts as nothing
+unfoldable pub rest_of : Option Fee → ℕ
+rest_of fee = option_map_or (λ f. f.amount - f.paid) fee 0
+
+-- Owed: the sum of what is left to pay, at each place of the list
+abbrev pub owed : Map → List (List ℕ) → ℕ
+owed M fees = sum (map (λ id. rest_of (fee_in M id)) fees)
+
+-- The fee that line n makes, the k-th of that line from 0, has the id R<n>-<k>. An amount of 0 makes none.
+abbrev pub fee_made : ℕ → ℕ → List ℕ → FeeType → ℕ → Entries
+fee_made n k patron kind amount =
+    if nat_lt 0 amount then (keys.Fee (fee_id n k), records.Fee (record { patron = patron; kind = kind; amount = amount; paid = 0 })) ∷ [] else []
+
+-- it goes last in the patron's list
+abbrev pub with_fee : ℕ → ℕ → ℕ → List (List ℕ) → List (List ℕ)
+with_fee n k amount fees = if nat_lt 0 amount then fees ++ fee_id n k ∷ [] else fees
+
+-- the last tests of a loan and of a renewal: refused where the patron owes more than the class allows; then where there
+-- is a rental to which the user didn't agree, and then the refusal tells the rental
+unfoldable pub owing_verdict : ℕ → Bool → Member → Article → Verdict
+owing_verdict owes agreed member article =
+    if nat_lt member.class.max_fees owes then verdicts.Refused
+    else if nat_lt 0 article.media.rental && not agreed then verdicts.Unpaid
+    else verdicts.Made

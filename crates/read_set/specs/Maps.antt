@@ -1,0 +1,22 @@
+-- The records as they stand at a moment, as a whole map.
+use Rattle.std.specs.Prelude.{◌≡◌, List, Option, Some, None}
+use Rattle.std.specs.Option.{option_or}
+use Rattle.circ_records.specs.Records.{Entries, record_at}
+use Rattle.circ_records.specs.declared.key.Key.{Key}
+use Rattle.circ_records.specs.declared.record.Record.{Record}
+
+-- each key has a record or none
+abbrev pub Map : Type 0
+Map = Key → Option Record
+
+-- a map with writes put over it
+abbrev pub put : Entries → Map → Map
+put writes M k = option_or (record_at writes k) (M k)
+
+-- what is had of a map: at a key nothing, or the record there, or that there is none
+abbrev pub Part : Type 0
+Part = Key → Option (Option Record)
+
+-- a map has what is had
+abbrev pub Agrees : Part → Map → Type 0
+Agrees has M = (k : Key) (r : Option Record) → has k ≡ Some r → M k ≡ r

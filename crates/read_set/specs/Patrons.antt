@@ -1,0 +1,58 @@
+-- Block Patron (SIP 2.00, message 01) and Patron Enable (message 25), by the circulation rules: block, enable, patron status.
+use Rattle.std.specs.Prelude.{ℕ, Bool, true, false, ◌||◌, nat_lt, nat_le, List, [], ◌∷◌, length, Option, Some, None}
+use Rattle.circ_policy.specs.Terms.{Terms}
+use Rattle.circ_policy.specs.declared.class.Class.{Class}
+use Rattle.circ_records.specs.declared.key.Key.TheVariants as keys
+use Rattle.circ_records.specs.declared.record.Patron.{Patron}
+use Rattle.circ_records.specs.declared.record.Record.TheVariants as records
+use Rattle.sip_answer.specs.declared.answer.Answer.{Answer}
+use Rattle.sip_answer.specs.declared.answer.Answer.TheVariants as answers
+use Rattle.sip_answer.specs.declared.answer.KnownPatron.{KnownPatron}
+use Rattle.sip_answer.specs.declared.answer.PatronAnswer.{PatronAnswer}
+use Rattle.sip_answer.specs.declared.answer.PatronStatus.{PatronStatus}
+use Rattle.read_set.specs.Effects.{unwritten, writing}
+use Rattle.read_set.specs.Fees.{owed}
+use Rattle.read_set.specs.Known.{patron_in}
+use Rattle.read_set.specs.Maps.{Map}
+use Rattle.read_set.specs.declared.effect.Effect.{Effect}
+use Rattle.read_set.specs.declared.known.Member.{Member}
+
+-- Patron status: position 0 is set by position 5, by 11 or by a block; 1 by position 11 or by a block; 3 by a block
+abbrev pub status_of : Bool → Bool → Bool → PatronStatus
+status_of blocked many_loans many_fees = record {
+  charge_denied = many_loans || many_fees || blocked;
+  renewal_denied = many_fees || blocked;
+  hold_denied = blocked;
+  too_many_items = many_loans;
+  excessive_fees = many_fees;
+}
+
+-- position 5: loans at least max_loans; position 11: owed above max_fees
+abbrev pub member_status : Bool → Member → ℕ → PatronStatus
+member_status blocked member owes = status_of blocked (nat_le member.class.max_loans (length member.patron.loans)) (nat_lt member.class.max_fees owes)
+
+-- of an unknown patron, positions 0, 1 and 3
+abbrev pub no_status : PatronStatus
+no_status = record { charge_denied = true; renewal_denied = true; hold_denied = true; too_many_items = false; excessive_fees = false }
+
+abbrev pub patron_answer : Terms → List ℕ → List ℕ → PatronStatus → Option KnownPatron → PatronAnswer
+patron_answer p id date status known = record { date = date; institution = p.institution; patron = id; status = status; currency = p.currency; known = known }
+
+-- the answer to a block, and to an enable
+abbrev pub told : Bool → PatronAnswer → Answer
+told true a = answers.BlockPatron a
+told false a = answers.PatronEnable a
+
+-- the block is set or cleared, and the status is that after the change; a known patron is written also where the block
+-- stood so
+unfoldable pub blocked_by : Terms → Bool → List ℕ → List ℕ → Member → ℕ → Effect
+blocked_by p blocks id date member owes = writing
+    ((keys.Patron id, records.Patron (record member.patron { blocked = blocks })) ∷ [])
+    (told blocks (patron_answer p id date (member_status blocks member owes) (Some (record { name = member.patron.name; owed = owes }))))
+
+abbrev pub block_known : Terms → Bool → List ℕ → List ℕ → Map → Option Member → Effect
+block_known p blocks id date M None = unwritten (Some (told blocks (patron_answer p id date no_status None)))
+block_known p blocks id date M (Some member) = blocked_by p blocks id date member (owed M member.patron.fees)
+
+abbrev pub block : Terms → Bool → List ℕ → List ℕ → Map → Effect
+block p blocks id date M = block_known p blocks id date M (patron_in p M id)

@@ -1,0 +1,28 @@
+-- A plan: the policy, the records before the first line, and what each line is read as.
+use Rattle.std.specs.Prelude.{ℕ, ◌-◌, nat_lt, List, map, slice_get, unwrap_or, Option, None, if◌then◌else◌}
+use Rattle.circ_policy.specs.Terms.{Terms}
+use Rattle.circ_records.specs.Records.{Entries}
+use Rattle.journal_table.specs.Entry.{Entry, first_number}
+use Rattle.sip_reader.specs.Reading.{reading}
+use Rattle.sip_reader.specs.declared.request.Reading.{Reading}
+
+pub record Planned : Type 0 where
+  pub policy : Terms
+  pub base : Entries
+  pub first : ℕ
+  pub readings : List Reading
+
+-- the number of a journal's first line; one without lines begins behind the last number that a line can have
+abbrev pub beginning : List Entry → ℕ
+beginning lines = unwrap_or (first_number lines) 10000000000
+
+-- the readings of a journal's requests
+abbrev pub readings_of : List Entry → List Reading
+readings_of lines = map (λ e. reading e.request) lines
+
+abbrev pub plan_of : Terms → Entries → List Entry → Planned
+plan_of policy base lines = record { policy = policy; base = base; first = beginning lines; readings = readings_of lines }
+
+-- what the line of a number is read as
+abbrev pub reading_at : Planned → ℕ → Option Reading
+reading_at plan line = if nat_lt line plan.first then None else slice_get plan.readings (line - plan.first)

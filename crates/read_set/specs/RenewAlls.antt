@@ -1,0 +1,76 @@
+-- Renew All (SIP 2.00, message 65), by the circulation rules: renew all.
+use Rattle.std.specs.Prelude.{ℕ, Bool, true, false, nat_lt, ◌+◌, List, [], ◌∷◌, ◌++◌, Option, Some, None, if◌then◌else◌}
+use Rattle.circ_policy.specs.Terms.{Terms}
+use Rattle.circ_records.specs.Records.{Entries}
+use Rattle.circ_records.specs.declared.key.Key.TheVariants as keys
+use Rattle.circ_records.specs.declared.record.FeeType.TheVariants as fee_types
+use Rattle.circ_records.specs.declared.record.Record.TheVariants as records
+use Rattle.sip_answer.specs.declared.answer.Answer.{Answer}
+use Rattle.sip_answer.specs.declared.answer.Answer.TheVariants as answers
+use Rattle.sip_reader.specs.declared.request.RenewAll.{RenewAll}
+use Rattle.read_set.specs.Effects.{unwritten, ◌⊕◌}
+use Rattle.read_set.specs.Fees.{fee_made, with_fee}
+use Rattle.read_set.specs.Known.{item_in, patron_in}
+use Rattle.read_set.specs.Loans.{renewal_verdict, renewed, due_for}
+use Rattle.read_set.specs.Maps.{Map, put}
+use Rattle.read_set.specs.declared.effect.Effect.{Effect}
+use Rattle.read_set.specs.declared.known.Article.{Article}
+use Rattle.read_set.specs.declared.known.Member.{Member}
+use Rattle.read_set.specs.declared.progress.Renewals.{Renewals}
+use Rattle.read_set.specs.declared.verdict.LoanRequest.{LoanRequest}
+use Rattle.read_set.specs.declared.verdict.Verdict.{Verdict}
+use Rattle.read_set.specs.declared.verdict.Verdict.TheVariants as verdicts
+
+-- each item is asked for without a third party, and never forced
+abbrev pub by_renew_all : RenewAll → List ℕ → LoanRequest
+by_renew_all q item = record { patron = q.patron; item = item; third_party = false; forced = false; given = None; agreed = q.agreed; free = false; checkout = false }
+
+-- an item's turn, after the ones before it: the item is renewed, and a rental charged under the next number
+abbrev pub one_renewed : Terms → ℕ → LoanRequest → List ℕ → Article → Renewals → Renewals
+one_renewed p n a date article done = record done {
+  writes = done.writes ⊕ ((keys.Item a.item, records.Item (renewed (due_for p a date article.media) article.item)) ∷ [])
+      ⊕ fee_made n done.made a.patron fee_types.Rental article.media.rental;
+  member = record done.member { patron = record done.member.patron { fees = with_fee n done.made article.media.rental done.member.patron.fees } };
+  made = if nat_lt 0 article.media.rental then done.made + 1 else done.made;
+  renewed = done.renewed ++ a.item ∷ [];
+}
+
+abbrev pub one_left : List ℕ → Renewals → Renewals
+one_left item done = record done { others = done.others ++ item ∷ [] }
+
+unfoldable pub turn_by : Terms → ℕ → LoanRequest → List ℕ → Article → Renewals → Verdict → Renewals
+turn_by p n a date article done verdicts.Made = one_renewed p n a date article done
+turn_by p n a date article done _ = one_left a.item done
+
+abbrev pub turn_known : Terms → ℕ → LoanRequest → List ℕ → Map → Renewals → Option Article → Renewals
+turn_known p n a date M done None = one_left a.item done
+turn_known p n a date M done (Some article) = turn_by p n a date article done (renewal_verdict (put done.writes M) a done.member article)
+
+abbrev pub turn : Terms → ℕ → LoanRequest → List ℕ → Map → Renewals → Renewals
+turn p n a date M done = turn_known p n a date M done (item_in p (put done.writes M) a.item)
+
+-- the items of a list, each on the records as the ones before it left them
+abbrev pub turns : Terms → ℕ → RenewAll → List ℕ → Map → List (List ℕ) → Renewals → Renewals
+turns p n q date M [] done = done
+turns p n q date M (id ∷ more) done = turns p n q date M more (turn p n (by_renew_all q id) date M done)
+
+abbrev pub none_renewed : Member → Renewals
+none_renewed member = record { writes = []; member = member; made = 0; renewed = []; others = [] }
+
+abbrev pub renew_all_answer : Terms → List ℕ → Bool → List (List ℕ) → List (List ℕ) → Answer
+renew_all_answer p date ok renewed others = answers.RenewAll (record { date = date; institution = p.institution; ok = ok; renewed = renewed; unrenewed = others })
+
+-- the patron is written only where a rental was charged
+unfoldable pub all_renewed : Terms → RenewAll → List ℕ → Renewals → Effect
+all_renewed p q date done = record {
+  writes = if nat_lt 0 done.made then done.writes ⊕ ((keys.Patron q.patron, records.Patron done.member.patron) ∷ []) else done.writes;
+  answer = Some (renew_all_answer p date true done.renewed done.others);
+}
+
+-- ok is 1 where the patron is known; then each item of the patron's list, as it stood at entry
+abbrev pub renew_all_known : Terms → ℕ → RenewAll → List ℕ → Map → Option Member → Effect
+renew_all_known p n q date M None = unwritten (Some (renew_all_answer p date false [] []))
+renew_all_known p n q date M (Some member) = all_renewed p q date (turns p n q date M member.patron.loans (none_renewed member))
+
+abbrev pub renew_all : Terms → ℕ → RenewAll → List ℕ → Map → Effect
+renew_all p n q date M = renew_all_known p n q date M (patron_in p M q.patron)

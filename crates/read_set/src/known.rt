@@ -1,0 +1,60 @@
+//! Records that count as known.
+
+ghost use Rattle.std.specs.Prelude.{◌≡◌};
+ghost use Rattle.read_set.specs.Known.{as_article, as_member, as_fee};
+
+use circ_policy::{Class, Media, Policy};
+use circ_records::{Fee, Item, Patron, Record};
+
+/// An item with the terms of its media type.
+#[derive(Drop)]
+pub struct Article {
+    pub item: Item,
+    pub media: Media,
+}
+
+/// A patron with the limits of its class.
+#[derive(Drop)]
+pub struct Member {
+    pub patron: Patron,
+    pub class: Class,
+}
+
+/// The item that a record is: a record of another kind, and an item whose media type the policy lacks, count as unknown.
+#[tactic(auto, unfolding(crate::specs::Known::as_article))]
+pub fn known_item(policy: &Policy, found: Option<Record>) -> Option<Article>
+    ensures { result ≡ as_article policy.now found }
+{
+    match found {
+        Some(Record::Item(item)) => match policy.media(item.media) {
+            Some(media) => Some(Article { item, media }),
+            None => None,
+        },
+        _ => None,
+    }
+}
+
+/// The patron that a record is: a record of another kind, and a patron whose class the policy lacks, count as unknown.
+#[tactic(auto, unfolding(crate::specs::Known::as_member))]
+pub fn known_patron(policy: &Policy, found: Option<Record>) -> Option<Member>
+    ensures { result ≡ as_member policy.now found }
+{
+    match found {
+        Some(Record::Patron(patron)) => match policy.class(&patron.class) {
+            Some(class) => Some(Member { patron, class }),
+            None => None,
+        },
+        _ => None,
+    }
+}
+
+/// The fee that a record is.
+#[tactic(auto, unfolding(crate::specs::Known::as_fee))]
+pub fn known_fee(found: &Option<Record>) -> Option<Fee>
+    ensures { result ≡ as_fee found.now }
+{
+    match found {
+        Some(Record::Fee(fee)) => Some(*fee),
+        _ => None,
+    }
+}

@@ -1,0 +1,19 @@
+//! The plan of a replay, and what each line of it means: the records before the first line, the reading of each line,
+//! where the meaning of a line reads records, and what it writes and answers.
+//! It stands on the crates that read (messages, policy, records, journal) and on the answers; the meanings of the
+//! kinds of messages stand on it.
+#![tactic(auto)]
+
+mod effect;
+mod known;
+mod plan;
+mod progress;
+mod source;
+mod verdict;
+
+pub use effect::{Draft, Effect, Writes};
+pub use known::{Article, Member, known_fee, known_item, known_patron};
+pub use plan::{Plan, PlanName};
+pub use progress::{Payments, Renewals};
+pub use source::{Source, Stop};
+pub use verdict::{LoanRequest, Verdict};

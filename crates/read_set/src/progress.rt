@@ -1,0 +1,28 @@
+//! How far a request came that goes along a list, each place after the ones before it.
+
+use crate::effect::Draft;
+use crate::known::Member;
+use circ_records::Ids;
+use sip_answer::ItemIds;
+
+/// How far a renewal of all items came.
+#[derive(Drop)]
+pub struct Renewals {
+    pub writes: Draft,
+    /// The patron, with the fees so far.
+    pub member: Member,
+    /// How many fees were made.
+    pub made: u64,
+    pub renewed: ItemIds,
+    pub others: ItemIds,
+}
+
+/// How far a payment came.
+#[derive(Drop)]
+pub struct Payments {
+    /// What is left of the money, in hundredths.
+    pub left: u64,
+    pub writes: Draft,
+    /// The fees that were paid in full.
+    pub closed: Ids,
+}

@@ -1,0 +1,39 @@
+ghost use Rattle.std.specs.Prelude.{◌≡◌, Option};
+ghost use Rattle.circ_records.specs.declared.key.Key.{Key};
+ghost use Rattle.circ_records.specs.declared.record.Record.{Record};
+ghost use Rattle.read_set.specs.Asks.{follow, Ask, Give};
+ghost use Rattle.read_set.specs.Stops.{Follows};
+
+use circ_records::{Key, Record};
+use std::alloc::{AllocError, Global};
+
+/// Why the meaning of a line stopped before its end.
+#[derive(Drop)]
+pub enum Stop {
+    /// The source has nothing at this key, neither a record nor that there is none.
+    Unnoted(Key),
+    /// There was no memory.
+    Memory,
+}
+
+impl From<AllocError> for Stop {
+    ghost use Rattle.std.specs.Prelude.{◌≡◌};
+    ghost use Rattle.read_set.specs.declared.source.Stop.TheVariants.{Memory};
+
+    ghost from_gives = { λ _ e. e ≡ Memory };
+
+    fn from(_e: AllocError) -> Stop {
+        Stop::Memory
+    }
+}
+
+/// Where the meaning of a line reads the records that it asks for.
+pub trait Source {
+    /// What it has at each key: nothing, or the record there, or that there is none.
+    ghost has: { Self → Key → Option (Option Record) };
+
+    /// The record at a key, or that there is none; a stop where the source has nothing there.
+    fn read(&mut self, alloc: Global, key: &Key) -> Result<Option<Record>, Stop>
+        ensures gives { Follows result (follow (has self.old) (Ask key.now Give)) }
+        ensures keeps { has self.new ≡ has self.old };
+}

@@ -1,0 +1,31 @@
+//! A loan or a renewal that is asked for, and how its tests end.
+
+use sip_reader::{Day, Id};
+
+/// A loan or a renewal that is asked for.
+#[derive(Clone, Copy)]
+pub struct LoanRequest {
+    pub patron: Id,
+    pub item: Id,
+    /// Whether another than the borrower may renew.
+    pub third_party: bool,
+    /// Whether it is made in any case.
+    pub forced: bool,
+    /// The due day of one that is.
+    pub given: Option<Day>,
+    /// Whether the user agreed to a rental.
+    pub agreed: bool,
+    /// Whether no rental is charged.
+    pub free: bool,
+    /// Whether a checkout asks, and not a renewal.
+    pub checkout: bool,
+}
+
+/// How the tests of a loan or a renewal end.
+#[derive(Clone, Copy)]
+pub enum Verdict {
+    Refused,
+    /// Refused for a rental to which the user didn't agree.
+    Unpaid,
+    Made,
+}

@@ -1,0 +1,4 @@
+mod Puts
+mod Filled
+mod Replayed
+mod Fitting

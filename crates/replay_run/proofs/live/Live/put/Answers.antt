@@ -1,0 +1,18 @@
+use Rattle.std.proofs.Common.{rules, ◌≡◌, ◌∙◌, ◌∷◌, [], ◌++◌, sym, ap}
+use Rattle.std.specs.Option.{option_or}
+use Rattle.circ_records.specs.Records.{record_at}
+use Rattle.circ_records.specs.declared.key.Key.{Key}
+use Rattle.circ_records.specs.declared.record.Record.{Record}
+use Rattle.read_set.specs.Maps.{put}
+use Rattle.replay_run.proofs.Puts.{put-last}
+use Rattle.replay_run.specs.Live.{standing}
+use Rattle.replay_run.proofs.live.Live.put.Goals as goal
+
+pub loop-key-preserved : goal.loop-key-preserved
+loop-key-preserved c =
+    let last : Key × Record = (c.in-Some.key, c.in-Some.written) in
+    let all : c.loop-key.left.items ≡ c.pop.new.self.items ++ (c.in-Some.key, c.in-Some.written) ∷ [] = search rules in
+    λ k. ap (λ found. option_or (record_at c.pop.new.self.items k) found) (c.in_ok-write.ensures.put k)
+    ∙ sym (put-last c.pop.new.self.items last (standing c.loop-key.self) k)
+    ∙ ap (λ writes. put writes (standing c.loop-key.self) k) (sym all)
+    ∙ c.loop-key.invariant k

@@ -1,0 +1,14 @@
+use Rattle.std.proofs.Common.{◌≡◌, ◌+◌, ◌++◌, ◌∷◌, [], ap, sym, subst}
+use Rattle.read_set.specs.Replay.{after}
+use Rattle.replay_run.proofs.Replayed.{Replayed, replayed-next}
+use Rattle.replay_run.specs.Live.{standing}
+use Rattle.replay_run.proofs.replay.replay.Goals as goal
+
+pub loop-i-preserved : goal.loop-i-preserved
+loop-i-preserved c =
+    let so = c.loop-i.invariant in
+    let before = after c.args.plan.now c.loop-i.i in
+    let line = ap (λ first. first + c.loop-i.i) c.first-first.ensures in
+    subst (λ answers. Replayed c.args.plan.now (c.loop-i.i + 1) (standing c.take_line.new.live) answers) (sym c.in_ok-push.ensures.items)
+    (replayed-next c.args.plan.now c.loop-i.i _ (standing c.loop-i.live) (standing c.take_line.new.live) c.loop-i.answers.items c.in_ok-take_line.field-0 line so
+    (c.in_ok-take_line.ensures.answer before so.records) (c.in_ok-take_line.ensures.records before so.records))

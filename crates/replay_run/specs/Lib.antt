@@ -1,0 +1,7 @@
+pub mod Live
+pub mod Entries
+pub mod Answers
+pub mod Faults
+pub mod Judged
+pub mod Judging
+pub mod OneThread

@@ -1,0 +1,47 @@
+-- The output of one thread: the first fault of the inputs, or what the replay of the lines in the order of the journal
+-- comes to.
+use Rattle.std.specs.Prelude.{◌≡◌, ◌∷◌, List, length, replicate, Result, Ok, Err}
+use Rattle.circ_records.specs.Records.{Entries}
+use Rattle.circ_records.specs.Tables.{Texts, texts_of}
+use Rattle.circ_records.specs.Written.{tables_of}
+use Rattle.csv_table.specs.Text.{table_text}
+use Rattle.journal_table.specs.Entry.{Entry}
+use Rattle.read_set.specs.Maps.{Map}
+use Rattle.read_set.specs.Plans.{Planned}
+use Rattle.read_set.specs.Replay.{last}
+use Rattle.result_report.specs.Report.{Told, told, answers_header, answers_rows, passed_header, passed_rows, report_header, report_rows}
+use Rattle.result_report.specs.Tables.{sizes_of}
+use Rattle.replay_run.specs.Answers.{answers_of}
+use Rattle.replay_run.specs.Entries.{AreEntries}
+use Rattle.replay_run.specs.Judged.{Judgement, Refused, Fails, judged}
+use Rattle.replay_run.specs.declared.fault.Fault.{Fault}
+use Rattle.replay_run.specs.declared.inputs.Inputs.{Inputs}
+use Rattle.replay_run.specs.declared.inputs.Output.{Output}
+
+-- texts are the tables that tell a map
+abbrev pub TellsMap : Map → Texts → Type 0
+TellsMap M texts = (entries : Entries) × AreEntries M entries × (texts ≡ tables_of entries)
+
+-- the lines of the journal, each with its reading and its answer in the replay by one thread
+abbrev pub told_lines : Planned → List Entry → List Told
+told_lines plan lines = told lines plan.readings (answers_of plan)
+
+pub record IsOutput (plan : Planned) (lines : List Entry) (o : Output) : Type 0 where
+  pub tables : TellsMap (last plan) (texts_of o.tables)
+  pub answers : o.answers.items ≡ table_text (answers_header ∷ answers_rows (told_lines plan lines))
+  pub report : o.report.items ≡ table_text (report_header ∷ report_rows (told_lines plan lines))
+  pub passed : o.passed.items ≡ table_text (passed_header ∷ passed_rows (told_lines plan lines))
+  pub sizes : o.sizes ≡ sizes_of (told_lines plan lines)
+  pub attempts : o.attempts.items ≡ replicate (length plan.readings) 0
+
+abbrev pub IsOutputOf : Result Judgement Refused → Output → Type 0
+IsOutputOf (Ok j) o = IsOutput j.plan j.lines o
+IsOutputOf (Err refused) o = ⊥
+
+-- what inputs are judged as
+abbrev pub judgement : Inputs → Result Judgement Refused
+judgement i = judged i.policy.items (texts_of i.tables) i.journal.items
+
+abbrev pub IsOneThread : Inputs → Result Output Fault → Type 0
+IsOneThread i (Ok o) = IsOutputOf (judgement i) o
+IsOneThread i (Err fault) = Fails fault (judgement i)

@@ -1,0 +1,24 @@
+//! What a run is given, and what it gives.
+
+use circ_records::Tables;
+use result_report::Sizes;
+
+/// What a run is given, as the bytes of its files.
+#[derive(Drop)]
+pub struct Inputs {
+    pub policy: Vec<u8>,
+    pub tables: Tables,
+    pub journal: Vec<u8>,
+}
+
+/// What a run gives: the tables after the last line and the result tables, as the bytes of their files, the numbers of
+/// rows, and of each line the number of the attempt whose answer counts, from 0.
+#[derive(Drop)]
+pub struct Output {
+    pub tables: Tables,
+    pub answers: Vec<u8>,
+    pub report: Vec<u8>,
+    pub passed: Vec<u8>,
+    pub sizes: Sizes,
+    pub attempts: Vec<u32>,
+}

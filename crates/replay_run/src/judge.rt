@@ -1,0 +1,73 @@
+//! The inputs of a run, judged: the first fault of policy, tables and journal, in this order.
+
+ghost use Rattle.std.specs.Prelude.{◌≡◌, Ok, Err, None};
+ghost use Rattle.circ_policy.specs.Reading.{policy_of};
+ghost use Rattle.circ_records.specs.Base.{base_of};
+ghost use Rattle.circ_records.specs.Tables.{texts_of};
+ghost use Rattle.journal_table.specs.Entry.{first_number};
+ghost use Rattle.journal_table.specs.Journal.{journal_of};
+ghost use Rattle.replay_run.specs.Judged.{Fails, first_read, judged, with_base, with_policy};
+ghost use Rattle.replay_run.specs.Judging.{Judges};
+
+use crate::fault::Fault;
+use crate::judged::Judged;
+use circ_policy::Policy;
+use circ_records::{Base, Tables};
+use journal_table::{Journal, JournalError};
+use read_set::Plan;
+use std::alloc::Global;
+
+/// The plan and the journal that the inputs make, or their first fault.
+#[tactic(auto, unfolding(crate::specs::Judged::judged))]
+pub fn judge(alloc: Global, policy: &[u8], tables: &Tables, journal: &[u8]) -> Result<Judged, Fault>
+    ensures { Judges result (judged policy.now (texts_of tables.now) journal.now) }
+{
+    match Policy::read(alloc, policy) {
+        Ok(policy) => judge_journal(alloc, policy, tables, journal),
+        Err(error) => Err(Fault::from(error)),
+    }
+}
+
+/// The journal is read before the base, which asks for its first number, but its fault is told after the base's.
+fn judge_journal(
+    alloc: Global,
+    policy: Policy,
+    tables: &Tables,
+    journal: &[u8],
+) -> Result<Judged, Fault>
+    ensures { Judges result (with_base policy (journal_of journal.now) (base_of policy (texts_of tables.now) (first_read (journal_of journal.now)))) }
+{
+    match Journal::read(alloc, journal) {
+        Ok(journal) => judge_base(alloc, policy, tables, journal),
+        Err(JournalError::Memory) => Err(Fault::Memory),
+        Err(error) => Err(refuse_journal(alloc, &policy, tables, error)),
+    }
+}
+
+/// The base before the lines of a journal.
+fn judge_base(
+    alloc: Global,
+    policy: Policy,
+    tables: &Tables,
+    journal: Journal,
+) -> Result<Judged, Fault>
+    ensures { Judges result (with_base policy (Ok journal) (base_of policy (texts_of tables.now) (first_number journal))) }
+{
+    match Base::read(alloc, &policy, tables, journal.first()) {
+        Ok(base) => {
+            let plan = Plan::new(alloc, policy, base, &journal)?;
+            Ok(Judged { plan, journal })
+        }
+        Err(error) => Err(Fault::from(error)),
+    }
+}
+
+/// The fault of the base beside a refused journal, or that of the journal.
+fn refuse_journal(alloc: Global, policy: &Policy, tables: &Tables, refused: JournalError) -> Fault
+    ensures { Fails result (with_base policy.now (Err refused) (base_of policy.now (texts_of tables.now) None)) }
+{
+    match Base::read(alloc, policy, tables, None) {
+        Ok(_) => Fault::from(refused),
+        Err(error) => Fault::from(error),
+    }
+}

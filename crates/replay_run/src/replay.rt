@@ -1,0 +1,55 @@
+//! The replay by one thread: the lines in the order of the journal, each on the records that the lines before it left.
+
+ghost use Rattle.std.specs.Prelude.{◌≡◌, IfOk, OnOk, length, replicate};
+ghost use Rattle.circ_records.specs.declared.key.Key.{Key};
+ghost use Rattle.read_set.specs.Maps.{Map};
+ghost use Rattle.read_set.specs.Replay.{last, one_at};
+ghost use Rattle.replay_run.specs.Answers.{answers_of};
+ghost use Rattle.replay_run.specs.Entries.{AreEntries};
+ghost use Rattle.replay_run.specs.Live.{standing};
+
+use crate::live::Live;
+use message_meaning::perform;
+use read_set::{Effect, Plan, Stop};
+use result_report::Outcome;
+use sip_answer::Answer;
+use std::alloc::{AllocError, Global};
+
+/// What the lines of a plan come to, taken in order by one thread. Each line is attempted once, by the number 0.
+pub fn replay(alloc: Global, plan: &Plan) -> Result<Outcome, AllocError>
+    ensures answers { IfOk result (λ o. o.answers.items ≡ answers_of plan.now) }
+    ensures records { IfOk result (λ o. AreEntries (last plan.now) o.records) }
+    ensures attempts { IfOk result (λ o. o.attempts.items ≡ replicate (length plan.now.readings) 0) }
+{
+    let count = plan.readings().len();
+    let first = plan.first();
+    let mut live = Live::new(alloc, plan);
+    let mut answers = Vec::with_capacity(alloc, count)?;
+    for i in 0..count {
+        answers.push(take_line(alloc, plan, first + i as u64, &mut live)?)?;
+    }
+    Ok(Outcome {
+        records: live.into_records(alloc)?,
+        answers,
+        attempts: vec![in alloc; 0; count]?,
+    })
+}
+
+/// Takes the line of a number on the records as they stand, and gives its answer, where it has one.
+fn take_line(
+    alloc: Global,
+    plan: &Plan,
+    line: u64,
+    live: &mut Live<'_>,
+) -> Result<Option<Answer>, AllocError>
+    ensures answer { IfOk result (λ a. (M : Map) → ((k : Key) → standing live.old k ≡ M k) → a ≡ (one_at plan.now line M).1) }
+    ensures records { OnOk result ((M : Map) → ((k : Key) → standing live.old k ≡ M k) → (k : Key) → standing live.new k ≡ (one_at plan.now line M).0 k) }
+{
+    let Effect { writes, answer } = match perform(alloc, plan, line, live) {
+        Ok(effect) => effect,
+        Err(Stop::Unnoted(_)) => unreachable!(),
+        Err(Stop::Memory) => return Err(AllocError),
+    };
+    live.put(writes)?;
+    Ok(answer)
+}

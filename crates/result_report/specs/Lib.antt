@@ -1,0 +1,4 @@
+pub mod Report
+pub mod Listings
+pub mod Tellings
+pub mod Tables

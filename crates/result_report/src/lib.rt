@@ -1,0 +1,12 @@
+//! The room of results: what a run comes to, and the tables that tell it line by line: answers, the report of recorded
+//! responses that differ, and the lines that are passed over. It stands on the journal, the plan and the answers.
+#![tactic(auto)]
+
+mod listing;
+mod outcome;
+mod telling;
+mod texts;
+mod words;
+
+pub use outcome::Outcome;
+pub use texts::{Sizes, Texts, report};

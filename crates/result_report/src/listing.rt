@@ -1,0 +1,42 @@
+//! A result table while it is written.
+
+ghost use Rattle.std.specs.Prelude.{[], Some, IfOk, OnOk};
+ghost use Rattle.csv_table.specs.Text.{bytes_of};
+
+use csv_table::TableText;
+use journal_table::Line;
+use std::alloc::{AllocError, Global};
+
+/// A result table, and how many rows stand under its header.
+#[derive(Drop)]
+pub struct Listing {
+    pub table: TableText,
+    pub rows: u64,
+}
+
+impl Listing {
+    ghost use Rattle.result_report.specs.Listings.{Gains, HasRoomFor, Lists};
+    ghost use Rattle.result_report.specs.Report.{row_of};
+
+    /// A table with its header alone.
+    pub fn under(alloc: Global, header: &[&str]) -> Result<Listing, AllocError>
+        ensures { IfOk result (Lists (bytes_of header.now) []) }
+    {
+        Ok(Listing {
+            table: TableText::under(alloc, header)?,
+            rows: 0,
+        })
+    }
+
+    /// Writes the row of a line at the end: its number, its connection, and what is told of it.
+    pub fn row(&mut self, alloc: Global, line: &Line, told: &[u8]) -> Result<(), AllocError>
+        requires { HasRoomFor self.old }
+        ensures { OnOk result (Gains (Some (row_of line.now told.now)) self.old self.new) }
+    {
+        let number = format!(in alloc; "{}", line.number())?;
+        self.table
+            .row(&[number.as_bytes(), line.connection(), told])?;
+        self.rows += 1;
+        Ok(())
+    }
+}

@@ -1,0 +1,13 @@
+//! What a run comes to.
+
+use circ_records::Records;
+use sip_answer::Answer;
+
+/// What a run comes to: the records after the last line, and of each line, in the order of the journal, its answer,
+/// where it has one, and the number of the attempt whose answer that is, counted from 0.
+#[derive(Drop)]
+pub struct Outcome {
+    pub records: Records,
+    pub answers: Vec<Option<Answer>>,
+    pub attempts: Vec<u32>,
+}

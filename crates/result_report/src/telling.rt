@@ -1,0 +1,111 @@
+//! The three result tables, told line by line.
+
+ghost use Rattle.std.specs.Prelude.{[], Some, None, IfOk, OnOk};
+ghost use Rattle.result_report.specs.Report.{answer_row, difference_row, passed_row};
+ghost use Rattle.result_report.specs.Listings.{Gains, HasRoomFor};
+ghost use Rattle.sip_answer.specs.Differ.{differ};
+
+use crate::listing::Listing;
+use crate::words::{reason_of, sequence_of, words_of};
+use journal_table::Line;
+use sip_answer::{Answer, differences, write_answer};
+use sip_reader::Reading;
+use std::alloc::{AllocError, Global};
+
+const ANSWERS_HEADER: [&str; 3] = ["line", "connection", "response"];
+
+const REPORT_HEADER: [&str; 3] = ["line", "connection", "fields"];
+
+const PASSED_HEADER: [&str; 3] = ["line", "connection", "why"];
+
+/// The result tables while they are written.
+#[derive(Drop)]
+pub struct Telling {
+    pub answers: Listing,
+    pub report: Listing,
+    pub passed: Listing,
+}
+
+impl Telling {
+    ghost use Rattle.result_report.specs.Tellings.{Gained, HasRoom, Tells};
+
+    /// The headers alone.
+    pub fn new(alloc: Global) -> Result<Telling, AllocError>
+        ensures { IfOk result (Tells []) }
+    {
+        Ok(Telling {
+            answers: Listing::under(alloc, &ANSWERS_HEADER)?,
+            report: Listing::under(alloc, &REPORT_HEADER)?,
+            passed: Listing::under(alloc, &PASSED_HEADER)?,
+        })
+    }
+
+    /// Tells one line.
+    pub fn line(
+        &mut self,
+        alloc: Global,
+        line: &Line,
+        reading: &Reading,
+        answer: &Option<Answer>,
+    ) -> Result<(), AllocError>
+        requires { HasRoom self.old }
+        ensures { OnOk result (Gained (line.now, reading.now, answer.now) self.old self.new) }
+    {
+        match answer {
+            Some(answer) => {
+                tell_answer(alloc, &mut self.answers, line, reading, answer)?;
+                tell_differences(alloc, &mut self.report, line, answer)
+            }
+            None => tell_reason(alloc, &mut self.passed, line, reading),
+        }
+    }
+}
+
+/// An answered line, with the text of its answer.
+fn tell_answer(
+    alloc: Global,
+    answers: &mut Listing,
+    line: &Line,
+    reading: &Reading,
+    answer: &Answer,
+) -> Result<(), AllocError>
+    requires { HasRoomFor answers.old }
+    ensures { OnOk result (Gains (answer_row (line.now, reading.now, Some answer.now)) answers.old answers.new) }
+{
+    let text = write_answer(alloc, answer, sequence_of(reading))?;
+    answers.row(alloc, line, text.as_slice())
+}
+
+/// An answered line whose recorded response differs, with the words of what differs.
+fn tell_differences(
+    alloc: Global,
+    report: &mut Listing,
+    line: &Line,
+    answer: &Answer,
+) -> Result<(), AllocError>
+    requires { HasRoomFor report.old }
+    ensures { OnOk result (Gains (difference_row line.now (differ answer.now line.now.response)) report.old report.new) }
+{
+    let fields = differences(alloc, answer, line.response())?;
+    if fields.is_empty() {
+        return Ok(());
+    }
+    let words = words_of(alloc, fields.as_slice())?;
+    report.row(alloc, line, words.as_bytes())
+}
+
+/// A line without an answer, with the reason.
+fn tell_reason(
+    alloc: Global,
+    passed: &mut Listing,
+    line: &Line,
+    reading: &Reading,
+) -> Result<(), AllocError>
+    requires { HasRoomFor passed.old }
+    ensures { OnOk result (Gains (passed_row (line.now, reading.now, None)) passed.old passed.new) }
+{
+    let Some(reason) = reason_of(reading) else {
+        return Ok(());
+    };
+    passed.row(alloc, line, reason.as_bytes())
+}

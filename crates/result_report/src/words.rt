@@ -1,0 +1,45 @@
+//! What is told of a line, in the words of the tables.
+
+ghost use Rattle.std.specs.Prelude.{◌≡◌, IfOk, map, option_map, string_bytes};
+ghost use Rattle.sip_answer.specs.Words.{word_of};
+ghost use Rattle.result_report.specs.Report.{reason_of, sequence_of, words_of};
+
+use sip_answer::Field;
+use sip_reader::Reading;
+use std::alloc::{AllocError, Global};
+
+/// The sequence digit of a request.
+pub fn sequence_of(reading: &Reading) -> Option<u8>
+    ensures { result ≡ sequence_of reading.now }
+{
+    match reading {
+        Reading::Asked(request) => request.sequence,
+        Reading::Passed(_) | Reading::BadSum | Reading::Unread(_) => None,
+    }
+}
+
+/// Why a line has no answer.
+pub fn reason_of(reading: &Reading) -> Option<&'static str>
+    ensures { option_map (λ word. word.now) result ≡ reason_of reading.now }
+{
+    match reading {
+        Reading::Asked(request) => Some(request.act.kind().digits()),
+        Reading::Passed(passed) => Some(passed.word()),
+        Reading::BadSum => None,
+        Reading::Unread(why) => Some(why.word()),
+    }
+}
+
+/// The words of what differs, joined by one blank.
+pub fn words_of(alloc: Global, fields: &[Field]) -> Result<String, AllocError>
+    ensures { IfOk result (λ s. string_bytes s ≡ words_of fields.now) }
+{
+    let words = each_word(alloc, fields)?;
+    words.join(alloc, " ")
+}
+
+fn each_word(alloc: Global, fields: &[Field]) -> Result<Vec<&'static str>, AllocError>
+    ensures { IfOk result (λ words. map (λ word. word.now) words.items ≡ map word_of fields.now) }
+{
+    fields.iter().map(|field| field.word()).collect(alloc)
+}

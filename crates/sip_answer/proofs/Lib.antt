@@ -1,0 +1,3 @@
+pub mod Calendar
+pub mod Forms
+pub mod ItemLists

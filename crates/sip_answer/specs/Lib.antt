@@ -1,0 +1,6 @@
+pub mod Differ
+pub mod DueDates
+pub mod Parts
+pub mod Recorded
+pub mod Texts
+pub mod Words

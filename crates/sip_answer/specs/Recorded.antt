@@ -1,0 +1,77 @@
+-- What can be read in a recorded response.
+use Rattle.std.specs.Prelude.{ℕ, Bool, true, false, ◌+◌, ◌*◌, ◌&&◌, ◌==◌, nat_le, List, [], ◌∷◌, length, drop, slice_index, Option, Some, None, unwrap_or, if◌then◌else◌}
+use Rattle.std.specs.Char.{is_ascii_digit}
+use Rattle.std.specs.List.{filter_map}
+use Rattle.std.specs.Option.{option_and_then}
+use Rattle.sip_reader.specs.Amounts.{amount_of}
+use Rattle.sip_reader.specs.Dates.{two_at, year_at}
+use Rattle.sip_reader.specs.Days.{day_at}
+use Rattle.sip_reader.specs.Fields.{field, pieces, text_after}
+
+-- what can't be read lets nothing behind it be read
+infixl 10 ◌>>=◌
+abbrev pub ◌>>=◌ : {A B : Type 0} → Option A → (A → Option B) → Option B
+None >>= f = None
+(Some x) >>= f = f x
+
+-- ok (SIP 2.00): 1 or 0
+abbrev pub ok_of : ℕ → Option Bool
+ok_of b = if b == 49 then Some true else if b == 48 then Some false else None
+
+-- a yes or no field (SIP 2.00): Y or N
+abbrev pub flag_of : ℕ → Option Bool
+flag_of b = if b == 89 then Some true else if b == 78 then Some false else None
+
+-- two digits stand there
+abbrev pub are_digits : ℕ → List ℕ → Bool
+are_digits i m = is_ascii_digit (slice_index m i) && is_ascii_digit (slice_index m (i + 1))
+
+-- a count (SIP 2.00): four digits
+abbrev pub count_at : ℕ → List ℕ → Option ℕ
+count_at i m = if are_digits i m && are_digits (i + 2) m then Some (two_at i m * 100 + two_at (i + 2) m) else None
+
+-- The forms of a due date at the front of a text, whatever follows (the profile of this project): eight digits,
+-- YYYY-MM-DD or MM/DD/YYYY.
+unfoldable pub is_plain : List ℕ → Bool
+is_plain t = nat_le 8 (length t) && (are_digits 0 t && (are_digits 2 t && (are_digits 4 t && are_digits 6 t)))
+
+unfoldable pub is_iso : List ℕ → Bool
+is_iso t = nat_le 10 (length t) && (are_digits 0 t && (are_digits 2 t && ((slice_index t 4 == 45) && (are_digits 5 t && ((slice_index t 7 == 45) && are_digits 8 t)))))
+
+unfoldable pub is_us : List ℕ → Bool
+is_us t = nat_le 10 (length t) && (are_digits 0 t && ((slice_index t 2 == 47) && (are_digits 3 t && ((slice_index t 5 == 47) && (are_digits 6 t && are_digits 8 t)))))
+
+-- its day, where it is a real one of the years 1900 to 9999
+unfoldable pub day_in : List ℕ → Option ℕ
+day_in t =
+    if is_plain t then day_at (year_at t) (two_at 4 t) (two_at 6 t)
+    else if is_iso t then day_at (year_at t) (two_at 5 t) (two_at 8 t)
+    else if is_us t then day_at (two_at 6 t * 100 + two_at 8 t) (two_at 0 t) (two_at 3 t)
+    else None
+
+-- Due date (AH) of the variable fields.
+unfoldable pub due_in : List ℕ → Option ℕ
+due_in rest = option_and_then day_in (field 65 72 (pieces rest))
+
+-- an empty text is no amount and counts as 0, any other has to be an amount
+abbrev pub fee_of : Option (List ℕ) → Option ℕ
+fee_of None = Some 0
+fee_of (Some []) = Some 0
+fee_of (Some (x ∷ text)) = amount_of (x ∷ text)
+
+-- Fee amount (BV) of the variable fields, 0 where it is missing.
+unfoldable pub fee_in : List ℕ → Option ℕ
+fee_in rest = fee_of (field 66 86 (pieces rest))
+
+-- the text is Y
+abbrev pub is_yes : Option (List ℕ) → Bool
+is_yes None = false
+is_yes (Some text) = (length text == 1) && (slice_index text 0 == 89)
+
+-- Valid patron (BL) of the variable fields.
+unfoldable pub valid_in : List ℕ → Bool
+valid_in rest = is_yes (field 66 76 (pieces rest))
+
+-- all the items of the variable fields with an identifier, in their order
+unfoldable pub items_in : ℕ → ℕ → List ℕ → List (List ℕ)
+items_in a b rest = filter_map (text_after a b) (pieces rest)

@@ -1,0 +1,188 @@
+//! What is answered: for each kind of response all that is written of it.
+
+use crate::item_ids::ItemIds;
+use circ_policy::{DueForm, MediaType};
+use sip_reader::{Amount, Day, Id, Stamp, Text};
+
+/// What is answered to a request.
+#[derive(Drop)]
+pub enum Answer {
+    /// Response 24, to a block patron.
+    BlockPatron(PatronAnswer),
+    /// Response 10.
+    Checkin(CheckinAnswer),
+    /// Response 12.
+    Checkout(LoanAnswer),
+    /// Response 16.
+    Hold(HoldAnswer),
+    /// Response 20.
+    ItemStatus(ItemStatusAnswer),
+    /// Response 26.
+    PatronEnable(PatronAnswer),
+    /// Response 30.
+    Renew(LoanAnswer),
+    /// Response 38.
+    FeePaid(FeePaidAnswer),
+    /// Response 66.
+    RenewAll(RenewAllAnswer),
+    /// Response 96, to a message whose sum is wrong: send it again.
+    Resend,
+}
+
+/// The answer to a block patron or a patron enable.
+#[derive(Drop)]
+pub struct PatronAnswer {
+    /// The request's transaction date.
+    pub date: Stamp,
+    pub institution: Id,
+    pub patron: Id,
+    /// The status after the change.
+    pub status: PatronStatus,
+    /// The currency of what is owed, three letters.
+    pub currency: [u8; 3],
+    /// Where the patron is known.
+    pub known: Option<KnownPatron>,
+}
+
+/// The positions of a patron status that can be set here.
+#[derive(Clone, Copy, Debug, PartialEq, Eq)]
+pub struct PatronStatus {
+    /// Position 0.
+    pub charge_denied: bool,
+    /// Position 1.
+    pub renewal_denied: bool,
+    /// Position 3.
+    pub hold_denied: bool,
+    /// Position 5.
+    pub too_many_items: bool,
+    /// Position 11.
+    pub excessive_fees: bool,
+}
+
+/// What an answer shows of a patron that is known.
+#[derive(Drop)]
+pub struct KnownPatron {
+    pub name: Text,
+    /// What is owed, in hundredths.
+    pub owed: u128,
+}
+
+/// The answer to a checkin. Its ok is 1 where the item is known.
+#[derive(Drop)]
+pub struct CheckinAnswer {
+    /// The request's transaction date.
+    pub date: Stamp,
+    pub institution: Id,
+    pub item: Id,
+    /// Where the item is known.
+    pub known: Option<ReturnedItem>,
+    /// Whose loan ended, where one did.
+    pub borrower: Option<Id>,
+    /// Whether somebody waits for the item.
+    pub alert: bool,
+}
+
+/// What the answer to a checkin shows of an item that is known.
+#[derive(Drop)]
+pub struct ReturnedItem {
+    pub location: Text,
+    pub title: Text,
+    pub media: MediaType,
+    pub properties: Text,
+}
+
+/// The answer to a checkout or a renewal. Its ok is 1 where there is a due day.
+#[derive(Drop)]
+pub struct LoanAnswer {
+    /// The request's transaction date.
+    pub date: Stamp,
+    pub institution: Id,
+    pub patron: Id,
+    pub item: Id,
+    /// Where the item is known.
+    pub known: Option<KnownItem>,
+    /// The due day, where a loan or a renewal was made.
+    pub due: Option<Day>,
+    /// How that day is written.
+    pub due_form: DueForm,
+    /// Whether a renewal was made.
+    pub renewed: bool,
+    /// The rental that was charged, or for which the request is refused.
+    pub rental: Option<Amount>,
+    /// The currency of the rental, three letters.
+    pub currency: [u8; 3],
+}
+
+/// What the answer to a checkout or a renewal shows of an item that is known.
+#[derive(Drop)]
+pub struct KnownItem {
+    pub title: Text,
+    pub media: MediaType,
+    pub properties: Text,
+}
+
+/// The answer to an item status update. Its ok is 1 where the item is known.
+#[derive(Drop)]
+pub struct ItemStatusAnswer {
+    /// The request's transaction date.
+    pub date: Stamp,
+    pub item: Id,
+    /// Where the item is known.
+    pub known: Option<TitledItem>,
+}
+
+/// What the answer to an item status update shows of an item that is known.
+#[derive(Drop)]
+pub struct TitledItem {
+    pub title: Text,
+    /// The properties after the change.
+    pub properties: Text,
+}
+
+/// The answer to a payment.
+#[derive(Drop)]
+pub struct FeePaidAnswer {
+    /// The request's transaction date.
+    pub date: Stamp,
+    pub institution: Id,
+    pub patron: Id,
+    pub accepted: bool,
+}
+
+/// The answer to a renewal of all items.
+#[derive(Drop)]
+pub struct RenewAllAnswer {
+    /// The request's transaction date.
+    pub date: Stamp,
+    pub institution: Id,
+    pub ok: bool,
+    /// The items that were renewed, in the order of the patron's list.
+    pub renewed: ItemIds,
+    /// The items that weren't, in that order.
+    pub unrenewed: ItemIds,
+}
+
+/// The answer to a hold.
+#[derive(Drop)]
+pub struct HoldAnswer {
+    /// The request's transaction date.
+    pub date: Stamp,
+    pub institution: Id,
+    pub patron: Id,
+    pub item: Id,
+    pub ok: bool,
+    /// Whether the item waits for this patron.
+    pub available: bool,
+    /// The patron's place in the queue, where a hold was added or changed.
+    pub place: Option<HoldPlace>,
+    /// Where the item is known.
+    pub title: Option<Text>,
+}
+
+/// A place in an item's queue.
+#[derive(Drop)]
+pub struct HoldPlace {
+    /// Counted from 1.
+    pub number: usize,
+    pub pickup: Text,
+}

@@ -1,0 +1,106 @@
+//! Lists of items, compared whatever their order.
+
+ghost use Rattle.std.specs.Prelude.{◌≡◌, ◌&&◌, ◌==◌, ◌≤◌, ◌++◌, ℕ, List, IfOk, length, map, count_by, unwrap_or};
+ghost use Rattle.std.specs.BTreeMap.{get_by};
+ghost use Rattle.std.specs.Cmp.Lexicographic.{slice_cmp};
+ghost use Rattle.std.specs.List.{list_all};
+ghost use Rattle.std.specs.Ordering.{nat_cmp};
+ghost use Rattle.std.specs.Str.{bytes_eq};
+ghost use Rattle.sip_answer.specs.Differ.{are_same_items, times_in};
+ghost use Rattle.sip_answer.specs.Recorded.{items_in};
+
+use super::recorded::text_of;
+use sip_reader::Id;
+use std::alloc::{AllocError, Global};
+use std::collections::BTreeMap;
+
+/// Whether the items behind a fixed part, all of this identifier, are these, in whatever order.
+pub fn is_same_as_recorded(
+    alloc: Global,
+    ids: &[Id],
+    rest: &[u8],
+    a: u8,
+    b: u8,
+) -> Result<bool, AllocError>
+    ensures { IfOk result (λ r. r ≡ are_same_items ids.now (items_in a b rest.now)) }
+{
+    let ids = texts_of(alloc, ids)?;
+    let items = items_in(alloc, rest, a, b)?;
+    are_same_items(alloc, ids.as_slice(), items.as_slice())
+}
+
+fn texts_of<'a>(alloc: Global, ids: &'a [Id]) -> Result<Vec<&'a [u8]>, AllocError>
+    ensures { IfOk result (λ v. map (λ x. x.now) v.items ≡ ids.now) }
+{
+    let mut texts = Vec::new(alloc);
+    for id in ids {
+        texts.push(id.as_bytes())?;
+    }
+    Ok(texts)
+}
+
+/// The texts of all fields with this identifier, in their order.
+#[tactic(auto, unfolding(crate::specs::Recorded::items_in))]
+fn items_in<'a>(alloc: Global, rest: &'a [u8], a: u8, b: u8) -> Result<Vec<&'a [u8]>, AllocError>
+    ensures { IfOk result (λ v. map (λ x. x.now) v.items ≡ items_in a b rest.now) }
+{
+    let mut items = Vec::new(alloc);
+    for piece in rest.split(|b| *b == b'|') {
+        match text_of(piece, a, b) {
+            Some(text) => items.push(text)?,
+            None => {}
+        }
+    }
+    Ok(items)
+}
+
+fn are_same_items(alloc: Global, xs: &[&[u8]], ys: &[&[u8]]) -> Result<bool, AllocError>
+    ensures { IfOk result (λ r. r ≡ are_same_items (map (λ x. x.now) xs.now) (map (λ y. y.now) ys.now)) }
+{
+    let in_xs = tally(alloc, xs)?;
+    let in_ys = tally(alloc, ys)?;
+    let first = stand_alike(xs, &in_xs, &in_ys);
+    let second = stand_alike(ys, &in_xs, &in_ys);
+    Ok(both(first, second))
+}
+
+/// How often each item stands in a list.
+fn tally<'a>(alloc: Global, items: &[&'a [u8]]) -> Result<BTreeMap<&'a [u8], usize>, AllocError>
+    ensures { IfOk result (λ m. (q : List ℕ) → unwrap_or (get_by (λ k. slice_cmp nat_cmp q k.now) m) 0 ≡ count_by (λ x. bytes_eq q x.now) items.now) }
+{
+    let mut times = BTreeMap::new(alloc);
+    for item in items {
+        let before = times_of(&times, item);
+        times.insert(*item, before + 1)?;
+    }
+    Ok(times)
+}
+
+fn times_of(times: &BTreeMap<&[u8], usize>, item: &[u8]) -> usize
+    ensures { result ≡ unwrap_or (get_by (λ k. slice_cmp nat_cmp item.now k.now) times.now) 0 }
+{
+    match times.get(item) {
+        Some(n) => *n,
+        None => 0,
+    }
+}
+
+fn both(first: bool, second: bool) -> bool
+    ensures { result ≡ (first && second) }
+{
+    first && second
+}
+
+/// Whether each of the items stands as often in the one as in the other.
+fn stand_alike(
+    items: &[&[u8]],
+    in_xs: &BTreeMap<&[u8], usize>,
+    in_ys: &BTreeMap<&[u8], usize>,
+) -> bool
+    ensures { result ≡ list_all (λ item. unwrap_or (get_by (λ k. slice_cmp nat_cmp item.now k.now) in_xs.now) 0
+        == unwrap_or (get_by (λ k. slice_cmp nat_cmp item.now k.now) in_ys.now) 0) items.now }
+{
+    items
+        .iter()
+        .all(|item| times_of(in_xs, item) == times_of(in_ys, item))
+}

@@ -1,0 +1,45 @@
+ghost use Rattle.std.specs.Prelude.{◌≡◌, ◌++◌, ◌∷◌, [], OnOk};
+
+use sip_reader::Id;
+use std::alloc::{AllocError, Global};
+use std::marker::Model;
+
+/// The ids of items, in order.
+#[derive(Drop)]
+pub struct ItemIds {
+    ids: Vec<Id>,
+}
+
+impl Model for ItemIds {
+    ghost use Rattle.std.specs.Prelude.{ℕ, List};
+
+    ghost Value = { List (List ℕ) };
+
+    ghost view = { λ i. i.ids.items };
+}
+
+impl ItemIds {
+    /// No ids.
+    pub fn new(alloc: Global) -> ItemIds
+        ensures { result ≡ [] }
+    {
+        ItemIds {
+            ids: Vec::new(alloc),
+        }
+    }
+
+    /// Adds an id at the end.
+    pub fn push(&mut self, id: Id) -> Result<(), AllocError>
+        ensures { OnOk result (self.new ≡ self.old ++ id ∷ []) }
+    {
+        self.ids.push(id)?;
+        Ok(())
+    }
+
+    /// The ids.
+    pub fn as_slice(&self) -> &[Id]
+        ensures { result.now ≡ self.now }
+    {
+        self.ids.as_slice()
+    }
+}

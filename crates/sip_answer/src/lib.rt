@@ -1,0 +1,20 @@
+//! The room of answers: what is answered to a request, its bytes, and in which words a recorded response differs from it.
+#![tactic(auto)]
+
+mod answer;
+mod comparing;
+mod field;
+mod item_ids;
+mod writing;
+
+pub use answer::{
+    Answer, CheckinAnswer, FeePaidAnswer, HoldAnswer, HoldPlace, ItemStatusAnswer, KnownItem,
+    KnownPatron, LoanAnswer, PatronAnswer, PatronStatus, RenewAllAnswer, ReturnedItem, TitledItem,
+};
+pub use comparing::differences;
+pub use field::Field;
+pub use item_ids::ItemIds;
+pub use writing::write_answer;
+
+#[cfg(test)]
+mod tests;

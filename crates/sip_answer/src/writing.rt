@@ -1,0 +1,46 @@
+//! Answers as bytes.
+
+ghost use Rattle.std.specs.Prelude.{◌≡◌, ◌++◌, IfOk, OnOk};
+ghost use Rattle.sip_answer.specs.Texts.{answer_text};
+
+mod dates;
+mod items;
+mod loans;
+mod parts;
+mod patrons;
+
+use crate::answer::Answer;
+use parts::put_detection;
+use std::alloc::{AllocError, Global};
+
+/// An answer's bytes, as they stand in a table: without the carriage return. Where the request had a sequence digit, they
+/// end in the error detection of SIP 2.00 with that digit; the request to send again never does.
+#[tactic(auto, unfolding(crate::specs::Texts::answer_text))]
+pub fn write_answer(
+    alloc: Global,
+    answer: &Answer,
+    sequence: Option<u8>,
+) -> Result<Vec<u8>, AllocError>
+    ensures { IfOk result (λ v. v.items ≡ answer_text answer.now sequence) }
+{
+    let mut out = Vec::new(alloc);
+    match answer {
+        Answer::BlockPatron(a) => patrons::put_block_patron(&mut out, a)?,
+        Answer::Checkin(a) => items::put_checkin(&mut out, a)?,
+        Answer::Checkout(a) => loans::put_loan(&mut out, b"12", a)?,
+        Answer::Hold(a) => items::put_hold(&mut out, a)?,
+        Answer::ItemStatus(a) => items::put_item_status(&mut out, a)?,
+        Answer::PatronEnable(a) => patrons::put_patron(&mut out, b"26", a)?,
+        Answer::Renew(a) => loans::put_loan(&mut out, b"30", a)?,
+        Answer::FeePaid(a) => patrons::put_fee_paid(&mut out, a)?,
+        Answer::RenewAll(a) => loans::put_renew_all(&mut out, a)?,
+        Answer::Resend => {
+            out.extend_from_slice(b"96AZFEF6")?;
+            return Ok(out);
+        }
+    }
+    if let Some(digit) = sequence {
+        put_detection(&mut out, digit)?;
+    }
+    Ok(out)
+}

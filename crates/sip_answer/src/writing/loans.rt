@@ -1,0 +1,127 @@
+//! Answers about loans: checkout, renew, renew all.
+
+ghost use Rattle.std.specs.Prelude.{◌≡◌, ◌++◌, OnOk, [], is_some, codes};
+ghost use Rattle.std.specs.Option.{option_map, option_map_or};
+ghost use Rattle.circ_policy.specs.Medias.{media_code};
+ghost use Rattle.sip_answer.specs.DueDates.{due_text};
+ghost use Rattle.sip_answer.specs.Parts.{count, digit, each, field, filled, flag, given};
+ghost use Rattle.sip_answer.specs.Texts.{loan_text, money, renew_all_text};
+
+use super::dates::{put_due, put_four};
+use super::parts::{put_digit, put_field, put_filled, put_flag, put_money};
+use crate::answer::{KnownItem, LoanAnswer, RenewAllAnswer};
+use sip_reader::{Amount, Id};
+use std::alloc::AllocError;
+
+/// A checkout response or a renew response, by its identifier.
+pub fn put_loan(out: &mut Vec<u8>, id: &[u8], answer: &LoanAnswer) -> Result<(), AllocError>
+    ensures { OnOk result (out.new.items ≡ out.old.items ++ loan_text id.now answer.now) }
+{
+    put_loan_head(out, id, answer)?;
+    put_loan_names(out, answer)?;
+    put_due(out, answer.due_form, answer.due)?;
+    put_rental(out, &answer.currency, answer.rental)?;
+    put_media_and_properties(out, &answer.known)?;
+    Ok(())
+}
+
+fn put_loan_head(out: &mut Vec<u8>, id: &[u8], answer: &LoanAnswer) -> Result<(), AllocError>
+    ensures { OnOk result (out.new.items ≡ out.old.items
+        ++ id.now ++ digit (is_some answer.now.due) ++ flag answer.now.renewed
+        ++ codes "U" ++ flag (is_some answer.now.due) ++ answer.now.date) }
+{
+    out.extend_from_slice(id)?;
+    put_digit(out, answer.due.is_some())?;
+    put_flag(out, answer.renewed)?;
+    out.push(b'U')?;
+    put_flag(out, answer.due.is_some())?;
+    out.extend_from_slice(answer.date.as_bytes())
+}
+
+fn put_loan_names(out: &mut Vec<u8>, answer: &LoanAnswer) -> Result<(), AllocError>
+    ensures { OnOk result (out.new.items ≡ out.old.items
+        ++ field (codes "AO") answer.now.institution ++ field (codes "AA") answer.now.patron
+        ++ field (codes "AB") answer.now.item
+        ++ field (codes "AJ") (option_map_or (λ i. i.title) answer.now.known [])) }
+{
+    put_field(out, b"AO", answer.institution.as_bytes())?;
+    put_field(out, b"AA", answer.patron.as_bytes())?;
+    put_field(out, b"AB", answer.item.as_bytes())?;
+    put_title(out, &answer.known)
+}
+
+fn put_title(out: &mut Vec<u8>, known: &Option<KnownItem>) -> Result<(), AllocError>
+    ensures { OnOk result (out.new.items ≡ out.old.items ++ field (codes "AJ") (option_map_or (λ i. i.title) known.now [])) }
+{
+    match known {
+        Some(item) => put_field(out, b"AJ", item.title.as_bytes()),
+        None => put_field(out, b"AJ", b""),
+    }
+}
+
+/// The fee type of a rental, and the rental.
+fn put_rental(out: &mut Vec<u8>, currency: &[u8], rental: Option<Amount>) -> Result<(), AllocError>
+    ensures { OnOk result (out.new.items ≡ out.old.items
+        ++ option_map_or (λ rental. field (codes "BT") (codes "06") ++ money currency.now rental) rental []) }
+{
+    match rental {
+        Some(rental) => {
+            put_field(out, b"BT", b"06")?;
+            put_money(out, currency, u128::from(rental.hundredths()))
+        }
+        None => Ok(()),
+    }
+}
+
+#[tactic(auto, unfolding(crate::specs::Parts::given, crate::specs::Parts::filled))]
+fn put_media_and_properties(out: &mut Vec<u8>, known: &Option<KnownItem>) -> Result<(), AllocError>
+    ensures { OnOk result (out.new.items ≡ out.old.items
+        ++ given (codes "CK") (option_map (λ i. media_code i.media) known.now)
+        ++ filled (codes "CH") (option_map_or (λ i. i.properties) known.now [])) }
+{
+    match known {
+        Some(item) => {
+            put_field(out, b"CK", &item.media.code())?;
+            put_filled(out, b"CH", item.properties.as_bytes())
+        }
+        None => Ok(()),
+    }
+}
+
+/// A renew all response.
+pub fn put_renew_all(out: &mut Vec<u8>, answer: &RenewAllAnswer) -> Result<(), AllocError>
+    ensures { OnOk result (out.new.items ≡ out.old.items ++ renew_all_text answer.now) }
+{
+    let renewed = answer.renewed.as_slice();
+    let unrenewed = answer.unrenewed.as_slice();
+    out.extend_from_slice(b"66")?;
+    put_digit(out, answer.ok)?;
+    put_count(out, renewed.len())?;
+    put_count(out, unrenewed.len())?;
+    out.extend_from_slice(answer.date.as_bytes())?;
+    put_field(out, b"AO", answer.institution.as_bytes())?;
+    put_each(out, b"BM", renewed)?;
+    put_each(out, b"BN", unrenewed)
+}
+
+/// A count of four digits.
+#[tactic(auto, unfolding(crate::specs::Parts::count))]
+fn put_count(out: &mut Vec<u8>, n: usize) -> Result<(), AllocError>
+    ensures { OnOk result (out.new.items ≡ out.old.items ++ count n) }
+{
+    if n > 9999 {
+        out.extend_from_slice(b"9999")
+    } else {
+        put_four(out, n as u16)
+    }
+}
+
+#[tactic(auto, unfolding(crate::specs::Parts::each))]
+fn put_each(out: &mut Vec<u8>, id: &[u8], items: &[Id]) -> Result<(), AllocError>
+    ensures { OnOk result (out.new.items ≡ out.old.items ++ each id.now items.now) }
+{
+    for item in items {
+        put_field(out, id, item.as_bytes())?;
+    }
+    Ok(())
+}

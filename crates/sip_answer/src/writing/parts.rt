@@ -1,0 +1,101 @@
+//! The parts of which a response is made, each appended to what is written before.
+
+ghost use Rattle.std.specs.Prelude.{◌≡◌, ◌++◌, ◌<◌, OnOk, Some, decimal};
+ghost use Rattle.sip_answer.specs.Texts.{money};
+ghost use Rattle.sip_answer.specs.Parts.{field, filled, digit, flag, hex_digit, hex_digits, with_sequence};
+
+use itoa::Buffer;
+use sip_reader::{push_amount, sum_of};
+use std::alloc::AllocError;
+
+/// A field: its identifier, its text and a bar.
+#[tactic(auto, unfolding(crate::specs::Parts::field))]
+pub fn put_field(out: &mut Vec<u8>, id: &[u8], text: &[u8]) -> Result<(), AllocError>
+    ensures { OnOk result (out.new.items ≡ out.old.items ++ field id.now text.now) }
+{
+    out.extend_from_slice(id)?;
+    out.extend_from_slice(text)?;
+    out.extend_from_slice(b"|")?;
+    Ok(())
+}
+
+/// A field that is left out where its text is empty.
+#[tactic(auto, unfolding(crate::specs::Parts::filled))]
+pub fn put_filled(out: &mut Vec<u8>, id: &[u8], text: &[u8]) -> Result<(), AllocError>
+    ensures { OnOk result (out.new.items ≡ out.old.items ++ filled id.now text.now) }
+{
+    if text.is_empty() {
+        Ok(())
+    } else {
+        put_field(out, id, text)
+    }
+}
+
+/// 1 or 0.
+#[tactic(auto, unfolding(crate::specs::Parts::digit))]
+pub fn put_digit(out: &mut Vec<u8>, yes: bool) -> Result<(), AllocError>
+    ensures { OnOk result (out.new.items ≡ out.old.items ++ digit yes) }
+{
+    out.push(if yes { b'1' } else { b'0' })?;
+    Ok(())
+}
+
+/// Y or N.
+#[tactic(auto, unfolding(crate::specs::Parts::flag))]
+pub fn put_flag(out: &mut Vec<u8>, yes: bool) -> Result<(), AllocError>
+    ensures { OnOk result (out.new.items ≡ out.old.items ++ flag yes) }
+{
+    out.push(if yes { b'Y' } else { b'N' })?;
+    Ok(())
+}
+
+/// A field that holds a number.
+pub fn put_number(out: &mut Vec<u8>, id: &[u8], n: usize) -> Result<(), AllocError>
+    ensures { OnOk result (out.new.items ≡ out.old.items ++ field id.now (decimal n)) }
+{
+    put_field(out, id, Buffer::new().format(n).as_bytes())
+}
+
+/// A currency and an amount in hundredths.
+#[tactic(auto, unfolding(crate::specs::Parts::field))]
+pub fn put_money(out: &mut Vec<u8>, currency: &[u8], hundredths: u128) -> Result<(), AllocError>
+    ensures { OnOk result (out.new.items ≡ out.old.items ++ money currency.now hundredths) }
+{
+    put_field(out, b"BH", currency)?;
+    out.extend_from_slice(b"BV")?;
+    push_amount(out, hundredths)?;
+    out.extend_from_slice(b"|")
+}
+
+fn hex(n: u16) -> u8
+    requires { n < 16 }
+    ensures { result ≡ hex_digit n }
+{
+    if n < 10 {
+        b'0' + n as u8
+    } else {
+        b'A' - 10 + n as u8
+    }
+}
+
+#[tactic(auto, unfolding(crate::specs::Parts::hex_digits))]
+fn put_hex(out: &mut Vec<u8>, n: u16) -> Result<(), AllocError>
+    ensures { OnOk result (out.new.items ≡ out.old.items ++ hex_digits n) }
+{
+    out.push(hex(n / 4096))?;
+    out.push(hex(n / 256 % 16))?;
+    out.push(hex(n / 16 % 16))?;
+    out.push(hex(n % 16))?;
+    Ok(())
+}
+
+/// Error detection: AY, the sequence digit, AZ, and the sum of all bytes up to there.
+pub fn put_detection(out: &mut Vec<u8>, sequence: u8) -> Result<(), AllocError>
+    ensures { OnOk result (out.new.items ≡ with_sequence out.old.items (Some sequence)) }
+{
+    out.extend_from_slice(b"AY")?;
+    out.push(sequence)?;
+    out.extend_from_slice(b"AZ")?;
+    let sum = sum_of(out.as_slice());
+    put_hex(out, sum)
+}

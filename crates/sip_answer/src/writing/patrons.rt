@@ -1,0 +1,70 @@
+//! Answers about patrons: block patron, patron enable, fee paid.
+
+ghost use Rattle.std.specs.Prelude.{◌≡◌, ◌++◌, OnOk, [], is_some, codes};
+ghost use Rattle.std.specs.Option.{option_map_or};
+ghost use Rattle.sip_answer.specs.Parts.{field, flag};
+ghost use Rattle.sip_answer.specs.Texts.{fee_paid_text, owed_text, patron_text, status_text};
+
+use super::parts::{put_field, put_flag, put_money};
+use crate::answer::{FeePaidAnswer, KnownPatron, PatronAnswer, PatronStatus};
+use std::alloc::AllocError;
+
+/// A patron status response, with what is owed.
+pub fn put_block_patron(out: &mut Vec<u8>, answer: &PatronAnswer) -> Result<(), AllocError>
+    ensures { OnOk result (out.new.items ≡ out.old.items ++ (patron_text (codes "24") answer.now ++ owed_text answer.now)) }
+{
+    put_patron(out, b"24", answer)?;
+    match &answer.known {
+        Some(patron) => put_money(out, &answer.currency, patron.owed),
+        None => Ok(()),
+    }
+}
+
+/// A patron enable response, or the same under another identifier.
+#[tactic(auto, unfolding(crate::specs::Parts::flag))]
+pub fn put_patron(out: &mut Vec<u8>, id: &[u8], answer: &PatronAnswer) -> Result<(), AllocError>
+    ensures { OnOk result (out.new.items ≡ out.old.items ++ patron_text id.now answer.now) }
+{
+    out.extend_from_slice(id)?;
+    put_status(out, answer.status)?;
+    out.extend_from_slice(b"000")?;
+    out.extend_from_slice(answer.date.as_bytes())?;
+    put_field(out, b"AO", answer.institution.as_bytes())?;
+    put_field(out, b"AA", answer.patron.as_bytes())?;
+    put_name(out, &answer.known)?;
+    put_field(out, b"BL", if answer.known.is_some() { b"Y" } else { b"N" })
+}
+
+fn put_name(out: &mut Vec<u8>, known: &Option<KnownPatron>) -> Result<(), AllocError>
+    ensures { OnOk result (out.new.items ≡ out.old.items ++ field (codes "AE") (option_map_or (λ p. p.name) known.now [])) }
+{
+    match known {
+        Some(patron) => put_field(out, b"AE", patron.name.as_bytes()),
+        None => put_field(out, b"AE", b""),
+    }
+}
+
+#[tactic(auto, unfolding(crate::specs::Parts::mark))]
+fn put_status(out: &mut Vec<u8>, status: PatronStatus) -> Result<(), AllocError>
+    ensures { OnOk result (out.new.items ≡ out.old.items ++ status_text status) }
+{
+    let mark = |set: bool| if set { b'Y' } else { b' ' };
+    let mut positions = [b' '; 14];
+    positions[0] = mark(status.charge_denied);
+    positions[1] = mark(status.renewal_denied);
+    positions[3] = mark(status.hold_denied);
+    positions[5] = mark(status.too_many_items);
+    positions[11] = mark(status.excessive_fees);
+    out.extend_from_slice(&positions)
+}
+
+/// A fee paid response.
+pub fn put_fee_paid(out: &mut Vec<u8>, answer: &FeePaidAnswer) -> Result<(), AllocError>
+    ensures { OnOk result (out.new.items ≡ out.old.items ++ fee_paid_text answer.now) }
+{
+    out.extend_from_slice(b"38")?;
+    put_flag(out, answer.accepted)?;
+    out.extend_from_slice(answer.date.as_bytes())?;
+    put_field(out, b"AO", answer.institution.as_bytes())?;
+    put_field(out, b"AA", answer.patron.as_bytes())
+}

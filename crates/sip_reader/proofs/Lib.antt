@@ -1,0 +1,12 @@
+pub mod AmountTexts
+pub mod Barless
+pub mod Clean
+pub mod Digits
+pub mod FeeIds
+pub mod Numbers
+pub mod Pieces
+pub mod Real
+pub mod Shorts
+pub mod Stamps
+pub mod Sums
+pub mod Written

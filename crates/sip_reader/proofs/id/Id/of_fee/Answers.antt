@@ -1,0 +1,10 @@
+use Rattle.std.proofs.Common.{rules, ◌≡◌}
+use Rattle.sip_reader.specs.Texts.{fee_id}
+use Rattle.sip_reader.proofs.FeeIds.{is_id-fee}
+use Rattle.sip_reader.proofs.id.Id.of_fee.Goals as goal
+
+pub invariant_of-result : goal.invariant_of-result
+unfolding fee_id
+invariant_of-result c =
+    let same : c.with-2.result ≡ fee_id c.args.line c.args.k = search rules in
+    rw same (is_id-fee c.args.line c.args.k c.ranges.line.fits c.ranges.k.fits)

@@ -1,0 +1,13 @@
+pub mod Amounts
+pub mod Dates
+pub mod Days
+pub mod Fields
+pub mod Fits
+pub mod Kinds
+pub mod Laws
+pub mod Padding
+pub mod Reading
+pub mod Sum
+pub mod Texts
+pub mod Views
+pub mod Words

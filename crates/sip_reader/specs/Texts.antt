@@ -1,0 +1,22 @@
+use Rattle.std.specs.Prelude.{ℕ, Bool, ◌||◌, ◌&&◌, ◌==◌, ◌++◌, not, nat_le, List, length, codes, decimal}
+use Rattle.std.specs.List.{list_any}
+
+-- a byte that ends a line: CR or LF
+abbrev pub is_line_end : ℕ → Bool
+is_line_end b = (b == 13) || (b == 10)
+
+-- a byte that no id and no text has: a bar, CR or LF
+abbrev pub is_barred : ℕ → Bool
+is_barred b = (b == 124) || is_line_end b
+
+-- 1 to 64 bytes without a bar, CR or LF
+unfoldable pub is_id : List ℕ → Bool
+is_id bytes = nat_le 1 (length bytes) && (nat_le (length bytes) 64 && not (list_any is_barred bytes))
+
+-- at most 1,024 bytes without a bar, CR or LF
+unfoldable pub is_text : List ℕ → Bool
+is_text bytes = nat_le (length bytes) 1024 && not (list_any is_barred bytes)
+
+-- the id of a fee that a line of the journal makes: R, the number of the line, and how many fees the line made before (the profile of this project)
+unfoldable pub fee_id : ℕ → ℕ → List ℕ
+fee_id line k = codes "R" ++ decimal line ++ codes "-" ++ decimal k

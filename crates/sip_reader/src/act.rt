@@ -1,0 +1,217 @@
+//! What a request asks, by its fixed part and its fields.
+
+ghost use Rattle.std.specs.Prelude.{◌≡◌, ◌≤◌, [], IfOk, true, false, length, unwrap_or, slice_range};
+ghost use Rattle.std.specs.Option.{is_none, option_and_then, option_copied};
+ghost use Rattle.sip_reader.specs.Amounts.{amount_of};
+ghost use Rattle.sip_reader.specs.Dates.{given_day};
+ghost use Rattle.sip_reader.specs.Fits.{Fits};
+ghost use Rattle.sip_reader.specs.Kinds.{layout_of};
+ghost use Rattle.sip_reader.specs.Reading.{act_of, fixed_len, given_id, mode_of, says_yes};
+ghost use Rattle.sip_reader.specs.Texts.{is_id, is_text};
+ghost use Rattle.sip_reader.specs.Views.{lent};
+ghost use Rattle.sip_reader.specs.declared.request.Kind.TheVariants as kinds;
+
+use crate::checks::amount_in;
+use crate::fields::Fields;
+use crate::{
+    Act, Amount, BlockPatron, Checkin, Checkout, Day, FeePaid, HoldMode, HoldRequest, Id,
+    ItemStatus, Kind, PatronEnable, Renew, RenewAll, Stamp, Text,
+};
+use std::alloc::{AllocError, Global};
+
+/// What a request of a kind asks, once it has passed the tests.
+pub fn asked_act(
+    alloc: Global,
+    kind: Kind,
+    message: &[u8],
+    fields: Fields<'_>,
+) -> Result<Act, AllocError>
+    requires long { fixed_len (layout_of kind) ≤ length message.now }
+    requires fits { Fits (layout_of kind) (lent fields) }
+    ensures { IfOk result (λ act. act ≡ act_of kind message.now (lent fields.entry)) }
+{
+    match kind {
+        Kind::BlockPatron => Ok(block_patron(fields)),
+        Kind::Checkin => Ok(checkin(message, fields)),
+        Kind::Checkout => Ok(checkout(message, fields)),
+        Kind::Hold => hold(alloc, message, fields),
+        Kind::ItemStatus => item_status(alloc, fields),
+        Kind::PatronEnable => Ok(patron_enable(fields)),
+        Kind::Renew => Ok(renew(message, fields)),
+        Kind::FeePaid => Ok(fee_paid(message, fields)),
+        Kind::RenewAll => Ok(renew_all(fields)),
+    }
+}
+
+fn block_patron(fields: Fields<'_>) -> Act
+    requires { is_id (unwrap_or (lent fields).patron []) ≡ true }
+    ensures { result ≡ act_of kinds.BlockPatron [] (lent fields.entry) }
+{
+    Act::BlockPatron(BlockPatron {
+        patron: id_of(fields.patron),
+    })
+}
+
+fn checkin(message: &[u8], fields: Fields<'_>) -> Act
+    requires long { 39 ≤ length message.now }
+    requires item { is_id (unwrap_or (lent fields).item []) ≡ true }
+    ensures { result ≡ act_of kinds.Checkin message.now (lent fields.entry) }
+{
+    Act::Checkin(Checkin {
+        back: day_in(&message[21..39]),
+        item: id_of(fields.item),
+        cancel: is_yes(fields.cancel),
+    })
+}
+
+fn checkout(message: &[u8], fields: Fields<'_>) -> Act
+    requires long { 40 ≤ length message.now }
+    requires patron { is_id (unwrap_or (lent fields).patron []) ≡ true }
+    requires item { is_id (unwrap_or (lent fields).item []) ≡ true }
+    ensures { result ≡ act_of kinds.Checkout message.now (lent fields.entry) }
+{
+    Act::Checkout(Checkout {
+        renewal: message[2] == b'Y',
+        no_block: message[3] == b'Y',
+        due: day_in(&message[22..40]),
+        patron: id_of(fields.patron),
+        item: id_of(fields.item),
+        cancel: is_yes(fields.cancel),
+        agreed: is_yes(fields.agreed),
+    })
+}
+
+fn hold(alloc: Global, message: &[u8], fields: Fields<'_>) -> Result<Act, AllocError>
+    requires long { 3 ≤ length message.now }
+    requires patron { is_id (unwrap_or (lent fields).patron []) ≡ true }
+    requires item { is_id (unwrap_or (lent fields).item []) ≡ true }
+    requires pickup { is_text (unwrap_or (lent fields).pickup []) ≡ true }
+    ensures { IfOk result (λ act. act ≡ act_of kinds.Hold message.now (lent fields.entry)) }
+{
+    let pickup = Text::new(alloc, fields.pickup.unwrap_or(&[]))?;
+    Ok(Act::Hold(HoldRequest {
+        mode: hold_mode(message[2]),
+        patron: id_of(fields.patron),
+        item: id_of(fields.item),
+        pickup,
+    }))
+}
+
+fn item_status(alloc: Global, fields: Fields<'_>) -> Result<Act, AllocError>
+    requires item { is_id (unwrap_or (lent fields).item []) ≡ true }
+    requires properties { is_text (unwrap_or (lent fields).properties []) ≡ true }
+    ensures { IfOk result (λ act. act ≡ act_of kinds.ItemStatus [] (lent fields.entry)) }
+{
+    let properties = match fields.properties {
+        Some(text) => Some(Text::new(alloc, text)?),
+        None => None,
+    };
+    Ok(Act::ItemStatus(ItemStatus {
+        item: id_of(fields.item),
+        properties,
+    }))
+}
+
+fn patron_enable(fields: Fields<'_>) -> Act
+    requires { is_id (unwrap_or (lent fields).patron []) ≡ true }
+    ensures { result ≡ act_of kinds.PatronEnable [] (lent fields.entry) }
+{
+    Act::PatronEnable(PatronEnable {
+        patron: id_of(fields.patron),
+    })
+}
+
+fn renew(message: &[u8], fields: Fields<'_>) -> Act
+    requires long { 40 ≤ length message.now }
+    requires patron { is_id (unwrap_or (lent fields).patron []) ≡ true }
+    requires item { is_id (unwrap_or (lent fields).item []) ≡ true }
+    ensures { result ≡ act_of kinds.Renew message.now (lent fields.entry) }
+{
+    Act::Renew(Renew {
+        third_party: message[2] == b'Y',
+        no_block: message[3] == b'Y',
+        due: day_in(&message[22..40]),
+        patron: id_of(fields.patron),
+        item: id_of(fields.item),
+        agreed: is_yes(fields.agreed),
+    })
+}
+
+fn fee_paid(message: &[u8], fields: Fields<'_>) -> Act
+    requires long { 27 ≤ length message.now }
+    requires patron { is_id (unwrap_or (lent fields).patron []) ≡ true }
+    requires amount { is_none (option_and_then amount_of (lent fields).amount) ≡ false }
+    ensures { result ≡ act_of kinds.FeePaid message.now (lent fields.entry) }
+{
+    Act::FeePaid(FeePaid {
+        patron: id_of(fields.patron),
+        currency: [message[24], message[25], message[26]],
+        amount: tested_amount(fields.amount),
+        fee: given_fee(fields.fee),
+    })
+}
+
+fn renew_all(fields: Fields<'_>) -> Act
+    requires { is_id (unwrap_or (lent fields).patron []) ≡ true }
+    ensures { result ≡ act_of kinds.RenewAll [] (lent fields.entry) }
+{
+    Act::RenewAll(RenewAll {
+        patron: id_of(fields.patron),
+        agreed: is_yes(fields.agreed),
+    })
+}
+
+/// The id that a tested field holds.
+fn id_of(text: Option<&[u8]>) -> Id
+    requires { is_id (unwrap_or (option_copied text) []) ≡ true }
+    ensures { result ≡ unwrap_or (option_copied text.entry) [] }
+{
+    Id::new(text.unwrap_or(&[])).unwrap()
+}
+
+/// The amount that a tested field holds.
+fn tested_amount(text: Option<&[u8]>) -> Amount
+    requires { is_none (option_and_then amount_of (option_copied text)) ≡ false }
+    ensures { result ≡ unwrap_or (option_and_then amount_of (option_copied text.entry)) 0 }
+{
+    amount_in(text).unwrap()
+}
+
+/// The fee that is meant, where its identifier has the length of an id.
+fn given_fee(text: Option<&[u8]>) -> Option<Id>
+    ensures { result ≡ given_id (option_copied text.entry) }
+{
+    match text {
+        Some(text) => Id::new(text),
+        None => None,
+    }
+}
+
+/// The day of a further date, where it is one.
+fn day_in(bytes: &[u8]) -> Option<Day>
+    ensures { result ≡ given_day bytes.now }
+{
+    match Stamp::new(bytes) {
+        Some(stamp) => Some(stamp.day()),
+        None => None,
+    }
+}
+
+fn is_yes(text: Option<&[u8]>) -> bool
+    ensures { result ≡ says_yes (option_copied text.entry) }
+{
+    match text {
+        Some(text) => text.len() == 1 && text[0] == b'Y',
+        None => false,
+    }
+}
+
+fn hold_mode(b: u8) -> HoldMode
+    ensures { result ≡ mode_of b }
+{
+    match b {
+        b'+' => HoldMode::Add,
+        b'-' => HoldMode::Delete,
+        _ => HoldMode::Change,
+    }
+}

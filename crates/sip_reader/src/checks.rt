@@ -1,0 +1,108 @@
+//! The tests that a request of a layout has to pass.
+
+ghost use Rattle.std.specs.Prelude.{◌≡◌, [], length, unwrap_or};
+ghost use Rattle.std.specs.List.{list_all, list_any};
+ghost use Rattle.std.specs.Option.{option_and_then, option_copied};
+ghost use Rattle.sip_reader.specs.Amounts.{amount_of};
+ghost use Rattle.sip_reader.specs.Reading.{has_bad_amount, has_bad_field, has_bad_flag, is_blank, is_hold_mode, is_yes_or_no, lacks_field, names_title};
+ghost use Rattle.sip_reader.specs.Texts.{is_line_end};
+ghost use Rattle.sip_reader.specs.Views.{lent};
+
+use crate::fields::Fields;
+use crate::kind::Layout;
+use crate::{Amount, ID_MAX, TEXT_MAX};
+
+/// Whether a flag isn't one.
+#[tactic(auto, unfolding(crate::specs::Reading::has_bad_flag))]
+pub fn is_bad_flag(layout: Layout, flags: &[u8]) -> bool
+    ensures { result ≡ has_bad_flag layout flags.now }
+{
+    if layout.hold_mode {
+        !are_hold_modes(flags)
+    } else {
+        !are_yes_or_no(flags)
+    }
+}
+
+fn are_yes_or_no(flags: &[u8]) -> bool
+    ensures { result ≡ list_all is_yes_or_no flags.now }
+{
+    flags.iter().all(|b| *b == b'Y' || *b == b'N')
+}
+
+fn are_hold_modes(flags: &[u8]) -> bool
+    ensures { result ≡ list_all is_hold_mode flags.now }
+{
+    flags.iter().all(|b| *b == b'+' || *b == b'-' || *b == b'*')
+}
+
+/// Whether a CR or LF stands behind the fixed part, or a piece of one byte, or a field that is used and too long.
+#[tactic(auto, unfolding(crate::specs::Reading::has_bad_field))]
+pub fn is_bad_field(layout: Layout, rest: &[u8], fields: Fields<'_>) -> bool
+    ensures { result ≡ has_bad_field layout rest.now (lent fields.entry) }
+{
+    has_line_end(rest)
+        || fields.short
+        || layout.patron && len_of(fields.patron) > ID_MAX
+        || layout.item && len_of(fields.item) > ID_MAX
+        || layout.properties && len_of(fields.properties) > TEXT_MAX
+        || layout.pickup && len_of(fields.pickup) > TEXT_MAX
+}
+
+fn has_line_end(rest: &[u8]) -> bool
+    ensures { result ≡ list_any is_line_end rest.now }
+{
+    rest.iter().any(|b| *b == b'\r' || *b == b'\n')
+}
+
+/// The length of a text, where it is there.
+fn len_of(text: Option<&[u8]>) -> usize
+    ensures { result ≡ length (unwrap_or (option_copied text.entry) []) }
+{
+    match text {
+        Some(text) => text.len(),
+        None => 0,
+    }
+}
+
+fn is_missing_or_empty(text: Option<&[u8]>) -> bool
+    ensures { result ≡ is_blank (option_copied text.entry) }
+{
+    len_of(text) == 0
+}
+
+/// Whether a title stands where the item's id should be.
+#[tactic(auto, unfolding(crate::specs::Reading::names_title))]
+pub fn is_by_title(layout: Layout, fields: Fields<'_>) -> bool
+    ensures { result ≡ names_title layout (lent fields.entry) }
+{
+    layout.title && is_missing_or_empty(fields.item) && !is_missing_or_empty(fields.title)
+}
+
+/// Whether a required id is missing or empty, or a required amount is missing.
+#[tactic(auto, unfolding(crate::specs::Reading::lacks_field))]
+pub fn is_lacking(layout: Layout, fields: Fields<'_>) -> bool
+    ensures { result ≡ lacks_field layout (lent fields.entry) }
+{
+    layout.patron && is_missing_or_empty(fields.patron)
+        || layout.item && is_missing_or_empty(fields.item)
+        || layout.amount && fields.amount.is_none()
+}
+
+/// Whether a required amount isn't one.
+#[tactic(auto, unfolding(crate::specs::Reading::has_bad_amount))]
+pub fn is_bad_amount(layout: Layout, fields: Fields<'_>) -> bool
+    ensures { result ≡ has_bad_amount layout (lent fields.entry) }
+{
+    layout.amount && amount_in(fields.amount).is_none()
+}
+
+/// The amount that a text spells.
+pub fn amount_in(text: Option<&[u8]>) -> Option<Amount>
+    ensures { result ≡ option_and_then amount_of (option_copied text.entry) }
+{
+    match text {
+        Some(text) => Amount::read(text),
+        None => None,
+    }
+}

@@ -1,0 +1,145 @@
+//! Days by their number.
+
+ghost use Rattle.std.specs.Prelude.{◌≡◌, ◌↔◌, ◌≤◌, ℕ, Some, IsSome, IfSome};
+ghost use Rattle.std.specs.Cmp.{partial_order_from_own_ties};
+ghost use Rattle.std.specs.Cmp.Rules.{comparing};
+ghost use Rattle.std.specs.Int.{IsInRange};
+ghost use Rattle.std.specs.Ordering.{nat_cmp, as_partial_cmp, eq_by_cmp};
+ghost use Rattle.std.proofs.Common.{rules};
+ghost use Rattle.sip_reader.specs.Days.{date_of, day_at, IsReal, IsNumberOf};
+
+use jiff::civil::Date;
+use std::cmp::Ordering;
+use std::marker::Model;
+
+/// A day from 1 January 1900 to 31 December 9999. Its number counts the days from 1 January of the year -9999 on, as
+/// `jiff` does, so the number modulo 7 is the weekday, with Monday as 0.
+#[derive(Clone, Copy)]
+pub struct Day {
+    days: u32,
+}
+
+impl Model for Day {
+    ghost use Rattle.std.specs.Prelude.{ℕ};
+    ghost use Rattle.std.specs.Int.{IsInRange};
+
+    ghost Value = { ℕ };
+
+    ghost view = { λ d. d.days };
+
+    ghost invariant = { λ d. IsInRange 4_346_020 7_304_483 d.days };
+
+    ghost inverse = { λ n. record { days = n } };
+}
+
+impl Day {
+    /// The day with these parts, where the calendar has it, in the years 1900 to 9999.
+    pub fn of(year: u16, month: u8, day: u8) -> Option<Day>
+        ensures value { result ≡ day_at year month day }
+        ensures early { IfSome result (λ d. year ≤ 9900 → d ≤ 7_268_324) }
+    {
+        Day::spelt(u32::from(year), u32::from(month), u32::from(day))
+    }
+
+    /// The same of parts that were read from digits.
+    pub(crate) fn spelt(year: u32, month: u32, day: u32) -> Option<Day>
+        ensures value { result ≡ day_at year month day }
+        ensures early { IfSome result (λ d. year ≤ 9900 → d ≤ 7_268_324) }
+    {
+        match number_of(year, month, day) {
+            Some(days) => Some(Day { days }),
+            None => None,
+        }
+    }
+
+    /// The day with this number, where it lies in the years 1900 to 9999.
+    pub fn numbered(number: u32) -> Option<Day>
+        ensures real { IsSome result ↔ IsInRange 4_346_020 7_304_483 number }
+        ensures value { IfSome result (λ d. d ≡ number) }
+    {
+        if number < 4_346_020 || number > 7_304_483 {
+            return None;
+        }
+        Some(Day { days: number })
+    }
+
+    /// Its number.
+    pub fn number(self) -> u32
+        ensures value { result ≡ self }
+        ensures range { IsInRange 4_346_020 7_304_483 result }
+    {
+        self.days
+    }
+
+    /// The year, the month and the day of the month.
+    pub fn parts(self) -> (u16, u8, u8)
+        ensures date { result ≡ date_of self }
+        ensures value { day_at result.0 result.1 result.2 ≡ Some self }
+        ensures only { (y m d : ℕ) → day_at y m d ≡ Some self → (result.0 ≡ y) × (result.1 ≡ m) × (result.2 ≡ d) }
+    {
+        parts_of(self.number())
+    }
+}
+
+/// The number of the day with these parts, where the calendar has it, in the years 1900 to 9999.
+fn number_of(year: u32, month: u32, day: u32) -> Option<u32>
+    ensures real { IsSome result ↔ IsReal year month day }
+    ensures number { IfSome result (λ n. IsNumberOf n year month day) }
+    ensures range { IfSome result (λ n. IsInRange 4_346_020 7_304_483 n) }
+    ensures early { IfSome result (λ n. year ≤ 9900 → n ≤ 7_268_324) }
+{
+    if year < 1900 || year > 9999 || month > 12 || day > 31 {
+        return None;
+    }
+    let date = Date::new(year as i16, month as i8, day as i8).ok()?;
+    Some(date.to_plain().days_since_min())
+}
+
+/// The year, the month and the day of the month of a number.
+fn parts_of(number: u32) -> (u16, u8, u8)
+    requires { IsInRange 4_346_020 7_304_483 number }
+    ensures real { IsReal result.0 result.1 result.2 }
+    ensures number { IsNumberOf number result.0 result.1 result.2 }
+    ensures only { (y m d : ℕ) → IsReal y m d → IsNumberOf number y m d → (result.0 ≡ y) × (result.1 ≡ m) × (result.2 ≡ d) }
+{
+    let date = jiff_core::civil::Date::from_days_since_min(number);
+    (date.year as u16, date.month, date.day)
+}
+
+impl PartialEq for Day {
+    ghost eq = { eq_by_cmp nat_cmp };
+
+    ghost laws = { Prim.search (comparing, rules) };
+
+    fn eq(&self, other: &Day) -> bool {
+        self.cmp(other).is_eq()
+    }
+}
+
+impl Eq for Day {
+    ghost laws = { Prim.search (comparing, rules) };
+}
+
+impl Ord for Day {
+    ghost cmp = { nat_cmp };
+
+    ghost total = { Prim.search (comparing, rules) };
+
+    ghost matches_partial_cmp = { Prim.search (comparing, rules) };
+
+    ghost matches_eq = { Prim.search (comparing, rules) };
+
+    fn cmp(&self, other: &Day) -> Ordering {
+        self.number().cmp(&other.number())
+    }
+}
+
+impl PartialOrd for Day {
+    ghost partial_cmp = { as_partial_cmp nat_cmp };
+
+    ghost laws = { partial_order_from_own_ties (Prim.search (comparing, rules)) (Prim.search (comparing, rules)) };
+
+    fn partial_cmp(&self, other: &Day) -> Option<Ordering> {
+        Some(self.cmp(other))
+    }
+}

@@ -1,0 +1,83 @@
+//! The variable fields of a request.
+
+ghost use Rattle.std.specs.Prelude.{◌≡◌};
+ghost use Rattle.std.specs.Option.{option_copied};
+ghost use Rattle.sip_reader.specs.Fields.{text_after, or_else, pieces, texts};
+ghost use Rattle.sip_reader.specs.Views.{lent, with_piece};
+
+/// The texts of the variable fields that the rules use, each of the first piece with its identifier.
+#[derive(Clone, Copy)]
+pub struct Fields<'a> {
+    /// Of AA.
+    pub patron: Option<&'a [u8]>,
+    /// Of AB.
+    pub item: Option<&'a [u8]>,
+    /// Of AJ.
+    pub title: Option<&'a [u8]>,
+    /// Of BI.
+    pub cancel: Option<&'a [u8]>,
+    /// Of BO.
+    pub agreed: Option<&'a [u8]>,
+    /// Of BS.
+    pub pickup: Option<&'a [u8]>,
+    /// Of BV.
+    pub amount: Option<&'a [u8]>,
+    /// Of CG.
+    pub fee: Option<&'a [u8]>,
+    /// Of CH.
+    pub properties: Option<&'a [u8]>,
+    /// Whether a piece has one byte.
+    pub short: bool,
+}
+
+impl<'a> Fields<'a> {
+    /// The fields of what stands after the fixed part.
+    pub fn read(rest: &'a [u8]) -> Fields<'a>
+        ensures { lent result ≡ texts (pieces rest.now) }
+    {
+        let mut fields = Fields {
+            patron: None,
+            item: None,
+            title: None,
+            cancel: None,
+            agreed: None,
+            pickup: None,
+            amount: None,
+            fee: None,
+            properties: None,
+            short: false,
+        };
+        for piece in rest.split(|b| *b == b'|') {
+            fields = fields.with(piece);
+        }
+        fields
+    }
+
+    fn with(self, piece: &'a [u8]) -> Fields<'a>
+        ensures { lent result ≡ with_piece (lent self.entry) piece.now }
+    {
+        Fields {
+            patron: first(self.patron, b'A', b'A', piece),
+            item: first(self.item, b'A', b'B', piece),
+            title: first(self.title, b'A', b'J', piece),
+            cancel: first(self.cancel, b'B', b'I', piece),
+            agreed: first(self.agreed, b'B', b'O', piece),
+            pickup: first(self.pickup, b'B', b'S', piece),
+            amount: first(self.amount, b'B', b'V', piece),
+            fee: first(self.fee, b'C', b'G', piece),
+            properties: first(self.properties, b'C', b'H', piece),
+            short: self.short || piece.len() == 1,
+        }
+    }
+}
+
+/// The text that was found before, or else that of this piece where it has the identifier.
+fn first<'a>(found: Option<&'a [u8]>, a: u8, b: u8, piece: &'a [u8]) -> Option<&'a [u8]>
+    ensures { option_copied result ≡ or_else (option_copied found.entry) (text_after a b piece.now) }
+{
+    match found {
+        Some(text) => Some(text),
+        None if piece.len() >= 2 && piece[0] == a && piece[1] == b => Some(&piece[2..]),
+        None => None,
+    }
+}

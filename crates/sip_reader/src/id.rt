@@ -1,0 +1,126 @@
+//! Ids of patrons, items and fees.
+
+ghost use Rattle.std.specs.Prelude.{◌≡◌, ◌≤◌, if◌then◌else◌, Some, None, length, IsTrue};
+ghost use Rattle.std.specs.Cmp.{partial_order_from_own_ties};
+ghost use Rattle.std.specs.Cmp.Lexicographic.{slice_cmp};
+ghost use Rattle.std.specs.Cmp.Rules.{comparing};
+ghost use Rattle.std.specs.List.{list_any};
+ghost use Rattle.std.specs.Ordering.{nat_cmp, as_partial_cmp, eq_by_cmp};
+ghost use Rattle.std.proofs.Common.{rules};
+ghost use Rattle.sip_reader.specs.Texts.{fee_id, is_barred, is_id};
+
+use crate::short::Short;
+use itoa::Buffer;
+use std::cmp::Ordering;
+use std::marker::Model;
+
+/// The longest id, in bytes.
+pub const ID_MAX: usize = 64;
+
+/// The id of a patron, an item or a fee: 1 to 64 bytes without a bar, CR or LF. Ids go in the order of their bytes.
+#[derive(Clone, Copy)]
+pub struct Id {
+    bytes: Short,
+}
+
+impl Model for Id {
+    ghost use Rattle.std.specs.Prelude.{ℕ, List, ◌≡◌, true};
+    ghost use Rattle.sip_reader.specs.Texts.{is_id};
+
+    ghost Value = { List ℕ };
+
+    ghost view = { λ i. i.bytes };
+
+    ghost invariant = { λ i. is_id i.bytes ≡ true };
+
+    ghost inverse = { λ v. record { bytes = v } };
+}
+
+impl Id {
+    /// The id of these bytes.
+    pub fn new(bytes: &[u8]) -> Option<Id>
+        ensures { result ≡ (if is_id bytes.now then Some bytes.now else None) }
+    {
+        if is_valid(bytes) {
+            Some(Id {
+                bytes: Short::of(bytes),
+            })
+        } else {
+            None
+        }
+    }
+
+    /// The id of a fee that a line of the journal makes, by the line's number and the count of fees that it made before.
+    #[tactic(auto, unfolding(crate::specs::Texts::fee_id))]
+    pub fn of_fee(line: u64, k: u64) -> Id
+        ensures { result ≡ fee_id line k }
+    {
+        let (mut first, mut second) = (Buffer::new(), Buffer::new());
+        let front = Short::of(b"R").with(first.format(line).as_bytes());
+        Id {
+            bytes: front.with(b"-").with(second.format(k).as_bytes()),
+        }
+    }
+
+    /// Its bytes.
+    pub fn as_bytes(&self) -> &[u8]
+        ensures { result.now ≡ self.now }
+    {
+        self.bytes.as_bytes()
+    }
+}
+
+#[tactic(auto, unfolding(crate::specs::Texts::is_id))]
+fn is_valid(bytes: &[u8]) -> bool
+    ensures value { result ≡ is_id bytes.now }
+    ensures short { IsTrue result → length bytes.now ≤ 64 }
+{
+    !bytes.is_empty() && bytes.len() <= ID_MAX && !has_barred(bytes)
+}
+
+/// Whether a bar, CR or LF stands among the bytes.
+pub(crate) fn has_barred(bytes: &[u8]) -> bool
+    ensures { result ≡ list_any is_barred bytes.now }
+{
+    bytes
+        .iter()
+        .any(|b| *b == b'|' || *b == b'\r' || *b == b'\n')
+}
+
+impl PartialEq for Id {
+    ghost eq = { eq_by_cmp (slice_cmp nat_cmp) };
+
+    ghost laws = { Prim.search (comparing, rules) };
+
+    fn eq(&self, other: &Id) -> bool {
+        self.cmp(other).is_eq()
+    }
+}
+
+impl Eq for Id {
+    ghost laws = { Prim.search (comparing, rules) };
+}
+
+impl Ord for Id {
+    ghost cmp = { slice_cmp nat_cmp };
+
+    ghost total = { Prim.search (comparing, rules) };
+
+    ghost matches_partial_cmp = { Prim.search (comparing, rules) };
+
+    ghost matches_eq = { Prim.search (comparing, rules) };
+
+    fn cmp(&self, other: &Id) -> Ordering {
+        self.as_bytes().cmp(other.as_bytes())
+    }
+}
+
+impl PartialOrd for Id {
+    ghost partial_cmp = { as_partial_cmp (slice_cmp nat_cmp) };
+
+    ghost laws = { partial_order_from_own_ties (Prim.search (comparing, rules)) (Prim.search (comparing, rules)) };
+
+    fn partial_cmp(&self, other: &Id) -> Option<Ordering> {
+        Some(self.cmp(other))
+    }
+}

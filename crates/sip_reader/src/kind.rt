@@ -1,0 +1,154 @@
+//! Identifiers of messages, and the layouts of requests.
+
+ghost use Rattle.std.specs.Prelude.{◌≡◌};
+ghost use Rattle.sip_reader.specs.Kinds.{command_numbered, command_at, layout_of};
+
+use crate::{Kind, Passed};
+
+/// What the identifier of a message says.
+#[derive(Clone, Copy)]
+pub enum Command {
+    Request(Kind),
+    Passed(Passed),
+}
+
+impl Command {
+    /// The command that the two digits of an identifier number.
+    #[tactic(auto, unfolding(crate::specs::Kinds::command_numbered))]
+    pub fn numbered(number: u8) -> Option<Command>
+        ensures { result ≡ command_numbered number }
+    {
+        Some(match number {
+            1 => Command::Request(Kind::BlockPatron),
+            9 => Command::Request(Kind::Checkin),
+            11 => Command::Request(Kind::Checkout),
+            15 => Command::Request(Kind::Hold),
+            17 => Command::Passed(Passed::ItemInformation),
+            19 => Command::Request(Kind::ItemStatus),
+            23 => Command::Passed(Passed::PatronStatus),
+            25 => Command::Request(Kind::PatronEnable),
+            29 => Command::Request(Kind::Renew),
+            35 => Command::Passed(Passed::EndSession),
+            37 => Command::Request(Kind::FeePaid),
+            63 => Command::Passed(Passed::PatronInformation),
+            65 => Command::Request(Kind::RenewAll),
+            93 => Command::Passed(Passed::Login),
+            97 => Command::Passed(Passed::Resend),
+            99 => Command::Passed(Passed::TerminalStatus),
+            _ => return None,
+        })
+    }
+
+    /// The command of a message that begins with these two bytes.
+    #[tactic(auto, unfolding(crate::specs::Kinds::command_at))]
+    pub fn spelt(a: u8, b: u8) -> Option<Command>
+        ensures { result ≡ command_at a b }
+    {
+        if a.is_ascii_digit() && b.is_ascii_digit() {
+            Command::numbered((a - b'0') * 10 + (b - b'0'))
+        } else {
+            None
+        }
+    }
+}
+
+/// The fixed part of a request behind its identifier, and which variable fields the rules use.
+#[derive(Clone, Copy)]
+pub struct Layout {
+    /// How many flags stand before the date.
+    pub flags: usize,
+    /// Whether the flag is a hold mode; others are yes or no.
+    pub hold_mode: bool,
+    /// How many bytes stand after the date.
+    pub after: usize,
+    /// Whether AA is used, and so required.
+    pub patron: bool,
+    /// Whether AB is used, and so required.
+    pub item: bool,
+    /// Whether BV is used, and so required.
+    pub amount: bool,
+    /// Whether CH is used.
+    pub properties: bool,
+    /// Whether BS is used.
+    pub pickup: bool,
+    /// Whether AJ may name the item.
+    pub title: bool,
+}
+
+/// A transaction date behind the identifier and nothing else.
+const DATE_ALONE: Layout = Layout {
+    flags: 0,
+    hold_mode: false,
+    after: 0,
+    patron: false,
+    item: false,
+    amount: false,
+    properties: false,
+    pickup: false,
+    title: false,
+};
+
+impl Kind {
+    /// The layout of its requests.
+    pub fn layout(self) -> Layout
+        ensures { result ≡ layout_of self }
+    {
+        let date = DATE_ALONE;
+        match self {
+            Kind::BlockPatron => Layout {
+                flags: 1,
+                patron: true,
+                ..date
+            },
+            Kind::Checkin => Layout {
+                flags: 1,
+                after: 18,
+                item: true,
+                ..date
+            },
+            Kind::Checkout => Layout {
+                flags: 2,
+                after: 18,
+                patron: true,
+                item: true,
+                ..date
+            },
+            Kind::Hold => Layout {
+                flags: 1,
+                hold_mode: true,
+                patron: true,
+                item: true,
+                pickup: true,
+                title: true,
+                ..date
+            },
+            Kind::ItemStatus => Layout {
+                item: true,
+                properties: true,
+                ..date
+            },
+            Kind::PatronEnable => Layout {
+                patron: true,
+                ..date
+            },
+            Kind::Renew => Layout {
+                flags: 2,
+                after: 18,
+                patron: true,
+                item: true,
+                title: true,
+                ..date
+            },
+            Kind::FeePaid => Layout {
+                after: 7,
+                patron: true,
+                amount: true,
+                ..date
+            },
+            Kind::RenewAll => Layout {
+                patron: true,
+                ..date
+            },
+        }
+    }
+}

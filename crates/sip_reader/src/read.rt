@@ -1,0 +1,105 @@
+//! The reading of a message.
+
+ghost use Rattle.std.specs.Prelude.{◌≡◌, IfOk};
+ghost use Rattle.sip_reader.specs.Reading.{reading, reading_trimmed, reading_of, reading_as, trimmed};
+
+use crate::act::asked_act;
+use crate::checks::{is_bad_amount, is_bad_field, is_bad_flag, is_by_title, is_lacking};
+use crate::fields::Fields;
+use crate::kind::Command;
+use crate::sum::{is_right, is_summed, unsummed};
+use crate::{Kind, Passed, Reading, Request, STAMP_LEN, Stamp, Why};
+use std::alloc::{AllocError, Global};
+
+/// The longest message without the end of its line, in bytes.
+pub const MESSAGE_MAX: usize = 4096;
+
+/// What a message is. Memory is taken for the texts of a request alone.
+pub fn read_request(alloc: Global, message: &[u8]) -> Result<Reading, AllocError>
+    ensures { IfOk result (λ r. r ≡ reading message.now) }
+{
+    read_trimmed(alloc, without_line_end(message))
+}
+
+/// The message without the CR and LF bytes at its end.
+#[tactic(auto, unfolding(crate::specs::Reading::trimmed))]
+pub fn without_line_end(message: &[u8]) -> &[u8]
+    ensures { result.now ≡ trimmed message.now }
+{
+    let mut n = message.len();
+    while n > 0 && (message[n - 1] == b'\r' || message[n - 1] == b'\n') {
+        n -= 1;
+    }
+    &message[..n]
+}
+
+#[tactic(auto, unfolding(crate::specs::Reading::reading_trimmed))]
+fn read_trimmed(alloc: Global, message: &[u8]) -> Result<Reading, AllocError>
+    ensures { IfOk result (λ r. r ≡ reading_trimmed message.now) }
+{
+    if message.len() > MESSAGE_MAX {
+        return Ok(Reading::Unread(Why::TooLong));
+    }
+    if is_summed(message) && !is_right(message) {
+        return Ok(Reading::BadSum);
+    }
+    let (body, sequence) = unsummed(message);
+    read_body(alloc, sequence, body)
+}
+
+#[tactic(auto, unfolding(crate::specs::Reading::reading_of))]
+fn read_body(alloc: Global, sequence: Option<u8>, message: &[u8]) -> Result<Reading, AllocError>
+    ensures { IfOk result (λ r. r ≡ reading_of sequence message.now) }
+{
+    if message.len() < 2 {
+        return Ok(Reading::Unread(Why::TooShort));
+    }
+    match Command::spelt(message[0], message[1]) {
+        None => Ok(Reading::Unread(Why::UnknownKind)),
+        Some(Command::Passed(passed)) => Ok(Reading::Passed(passed)),
+        Some(Command::Request(kind)) => read_kind(alloc, sequence, kind, message),
+    }
+}
+
+#[tactic(auto, unfolding(crate::specs::Reading::reading_by))]
+fn read_kind(
+    alloc: Global,
+    sequence: Option<u8>,
+    kind: Kind,
+    message: &[u8],
+) -> Result<Reading, AllocError>
+    ensures { IfOk result (λ r. r ≡ reading_as sequence message.now kind) }
+{
+    let layout = kind.layout();
+    let at = 2 + layout.flags;
+    let fixed = at + STAMP_LEN + layout.after;
+    if message.len() < fixed {
+        return Ok(Reading::Unread(Why::TooShort));
+    }
+    let Some(date) = Stamp::new(&message[at..at + STAMP_LEN]) else {
+        return Ok(Reading::Unread(Why::BadDate));
+    };
+    if is_bad_flag(layout, &message[2..at]) {
+        return Ok(Reading::Unread(Why::BadFlag));
+    }
+    let rest = &message[fixed..];
+    let fields = Fields::read(rest);
+    if is_bad_field(layout, rest, fields) {
+        return Ok(Reading::Unread(Why::BadField));
+    }
+    if is_by_title(layout, fields) {
+        return Ok(Reading::Passed(Passed::Title));
+    }
+    if is_lacking(layout, fields) {
+        return Ok(Reading::Unread(Why::MissingField));
+    }
+    if is_bad_amount(layout, fields) {
+        return Ok(Reading::Unread(Why::BadAmount));
+    }
+    let act = asked_act(alloc, kind, message, fields)?;
+    Ok(Reading::Asked(Request {
+        sequence,
+        date,
+        act,
+    }))
+}

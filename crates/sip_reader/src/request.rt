@@ -1,0 +1,265 @@
+//! What a message asks.
+
+ghost use Rattle.std.specs.Prelude.{◌≡◌};
+
+use crate::{Amount, Day, Id, Stamp, Text};
+
+/// A kind of request that the rules know.
+#[derive(Clone, Copy, Debug, PartialEq, Eq)]
+pub enum Kind {
+    BlockPatron,
+    Checkin,
+    Checkout,
+    Hold,
+    ItemStatus,
+    PatronEnable,
+    Renew,
+    FeePaid,
+    RenewAll,
+}
+
+impl Kind {
+    ghost use Rattle.sip_reader.specs.Words.{kind_digits};
+
+    /// The two digits of its identifier.
+    pub fn digits(self) -> &'static str
+        ensures { result.now ≡ kind_digits self }
+    {
+        match self {
+            Kind::BlockPatron => "01",
+            Kind::Checkin => "09",
+            Kind::Checkout => "11",
+            Kind::Hold => "15",
+            Kind::ItemStatus => "19",
+            Kind::PatronEnable => "25",
+            Kind::Renew => "29",
+            Kind::FeePaid => "37",
+            Kind::RenewAll => "65",
+        }
+    }
+}
+
+/// Why a message is passed over: its identifier, or its title.
+#[derive(Clone, Copy, Debug, PartialEq, Eq)]
+pub enum Passed {
+    ItemInformation,
+    PatronStatus,
+    EndSession,
+    PatronInformation,
+    Login,
+    Resend,
+    TerminalStatus,
+    /// It names its item by a title alone.
+    Title,
+}
+
+impl Passed {
+    ghost use Rattle.sip_reader.specs.Words.{passed_word};
+
+    /// The two digits of its identifier, or `title`.
+    pub fn word(self) -> &'static str
+        ensures { result.now ≡ passed_word self }
+    {
+        match self {
+            Passed::ItemInformation => "17",
+            Passed::PatronStatus => "23",
+            Passed::EndSession => "35",
+            Passed::PatronInformation => "63",
+            Passed::Login => "93",
+            Passed::Resend => "97",
+            Passed::TerminalStatus => "99",
+            Passed::Title => "title",
+        }
+    }
+}
+
+/// Why a message can't be read: the first test that it fails.
+#[derive(Clone, Copy, Debug, PartialEq, Eq)]
+pub enum Why {
+    TooShort,
+    TooLong,
+    UnknownKind,
+    BadDate,
+    BadFlag,
+    BadField,
+    MissingField,
+    BadAmount,
+}
+
+impl Why {
+    ghost use Rattle.sip_reader.specs.Words.{why_word};
+
+    /// Its word in tables.
+    pub fn word(self) -> &'static str
+        ensures { result.now ≡ why_word self }
+    {
+        match self {
+            Why::TooShort => "too_short",
+            Why::TooLong => "too_long",
+            Why::UnknownKind => "unknown_kind",
+            Why::BadDate => "bad_date",
+            Why::BadFlag => "bad_flag",
+            Why::BadField => "bad_field",
+            Why::MissingField => "missing_field",
+            Why::BadAmount => "bad_amount",
+        }
+    }
+}
+
+/// What a message is.
+#[derive(Drop)]
+pub enum Reading {
+    /// A request of a kind that the rules know.
+    Asked(Request),
+    /// A message that is passed over.
+    Passed(Passed),
+    /// A message whose error detection doesn't have the sum of its bytes.
+    BadSum,
+    /// A message that can't be read.
+    Unread(Why),
+}
+
+/// A request.
+#[derive(Drop)]
+pub struct Request {
+    /// The digit of its error detection, in ASCII.
+    pub sequence: Option<u8>,
+    /// The transaction date.
+    pub date: Stamp,
+    pub act: Act,
+}
+
+/// What is asked.
+#[derive(Drop)]
+pub enum Act {
+    BlockPatron(BlockPatron),
+    Checkin(Checkin),
+    Checkout(Checkout),
+    Hold(HoldRequest),
+    ItemStatus(ItemStatus),
+    PatronEnable(PatronEnable),
+    Renew(Renew),
+    FeePaid(FeePaid),
+    RenewAll(RenewAll),
+}
+
+impl Act {
+    ghost use Rattle.sip_reader.specs.Words.{kind_of};
+
+    /// The kind of request that asks it.
+    pub fn kind(&self) -> Kind
+        ensures { result ≡ kind_of self.now }
+    {
+        match self {
+            Act::BlockPatron(_) => Kind::BlockPatron,
+            Act::Checkin(_) => Kind::Checkin,
+            Act::Checkout(_) => Kind::Checkout,
+            Act::Hold(_) => Kind::Hold,
+            Act::ItemStatus(_) => Kind::ItemStatus,
+            Act::PatronEnable(_) => Kind::PatronEnable,
+            Act::Renew(_) => Kind::Renew,
+            Act::FeePaid(_) => Kind::FeePaid,
+            Act::RenewAll(_) => Kind::RenewAll,
+        }
+    }
+}
+
+/// A patron is blocked, as after a card was retained (SIP 2.00, Block Patron).
+#[derive(Clone, Copy)]
+pub struct BlockPatron {
+    pub patron: Id,
+}
+
+/// An item comes back (SIP 2.00, Checkin).
+#[derive(Clone, Copy)]
+pub struct Checkin {
+    /// The day of the return date, where it is a date.
+    pub back: Option<Day>,
+    pub item: Id,
+    /// Whether an earlier checkout is cancelled.
+    pub cancel: bool,
+}
+
+/// An item goes out (SIP 2.00, Checkout).
+#[derive(Clone, Copy)]
+pub struct Checkout {
+    /// Whether the terminal's policy allows a renewal.
+    pub renewal: bool,
+    /// Whether it was done off line.
+    pub no_block: bool,
+    /// The due day that was given then.
+    pub due: Option<Day>,
+    pub patron: Id,
+    pub item: Id,
+    /// Whether an earlier checkin is cancelled.
+    pub cancel: bool,
+    /// Whether the user agreed to the fee.
+    pub agreed: bool,
+}
+
+/// What is done to a queue of holds (SIP 2.00, hold mode).
+#[derive(Clone, Copy, Debug, PartialEq, Eq)]
+pub enum HoldMode {
+    Add,
+    Delete,
+    Change,
+}
+
+/// A patron's place in an item's queue is made, taken away or changed (SIP 2.00, Hold).
+#[derive(Drop)]
+pub struct HoldRequest {
+    pub mode: HoldMode,
+    pub patron: Id,
+    pub item: Id,
+    /// Where the item is to be picked up; empty where the request doesn't say.
+    pub pickup: Text,
+}
+
+/// An item's properties are set (SIP 2.00, Item Status Update).
+#[derive(Drop)]
+pub struct ItemStatus {
+    pub item: Id,
+    /// The properties that replace the item's.
+    pub properties: Option<Text>,
+}
+
+/// A patron's block is taken away (SIP 2.00, Patron Enable).
+#[derive(Clone, Copy)]
+pub struct PatronEnable {
+    pub patron: Id,
+}
+
+/// A loan is renewed (SIP 2.00, Renew).
+#[derive(Clone, Copy)]
+pub struct Renew {
+    /// Whether another than the borrower may renew.
+    pub third_party: bool,
+    /// Whether it was done off line.
+    pub no_block: bool,
+    /// The due day that was given then.
+    pub due: Option<Day>,
+    pub patron: Id,
+    pub item: Id,
+    /// Whether the user agreed to the fee.
+    pub agreed: bool,
+}
+
+/// A patron pays (SIP 2.00, Fee Paid).
+#[derive(Clone, Copy)]
+pub struct FeePaid {
+    pub patron: Id,
+    /// Three bytes, for a currency as USD.
+    pub currency: [u8; 3],
+    /// What is paid.
+    pub amount: Amount,
+    /// The fee that is meant.
+    pub fee: Option<Id>,
+}
+
+/// All loans of a patron are renewed (SIP 2.00, Renew All).
+#[derive(Clone, Copy)]
+pub struct RenewAll {
+    pub patron: Id,
+    /// Whether the user agreed to the fees.
+    pub agreed: bool,
+}

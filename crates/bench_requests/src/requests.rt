@@ -17,7 +17,7 @@ const REQUESTS: [&str; 6] = [
 ];
 
 /// Prints what so many requests cost.
-pub fn measure<R: Clock + Print + AllocGlobal>(rt: &R, count: usize) -> Result<()> {
+pub(crate) fn measure<R: Clock + Print + AllocGlobal>(rt: &R, count: usize) -> Result<()> {
     let mut bytes = 0u64;
     let mut asked = 0u64;
     let start = Instant::now(rt)?;

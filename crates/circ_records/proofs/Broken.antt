@@ -1,12 +1,11 @@
 -- The first broken rule, as a loop over the rows finds it.
-use Rattle.std.proofs.Common.{◌≡◌, ℕ, suc, zero, ◌+◌, ◌≤◌, ◌<◌, List, [], ◌∷◌, ◌++◌, Some, None, Option, length, get_or, drop, take, refl, sym, ap, ◌∙◌, arith, add-one}
+use Rattle.std.proofs.Common.{◌≡◌, ℕ, suc, ◌+◌, ◌≤◌, ◌<◌, List, [], Some, None, Option, length, get_or, drop, take, refl, sym, ap, ◌∙◌, arith, add-one}
 use Rattle.std.specs.Prelude.{option_map}
 use Rattle.std.specs.Option.{option_or}
 use Rattle.std.proofs.lemmas.List.{drop_all}
 use Rattle.std.proofs.Math.Seq.{drop-cons, take-suc}
 use Rattle.circ_records.specs.Rules.{broken, broken_from}
 use Rattle.circ_records.specs.Tables.{Row}
-use Rattle.circ_records.specs.declared.fault.BaseError.{BaseError}
 use Rattle.circ_records.specs.declared.fault.BaseError.TheVariants as error
 use Rattle.circ_records.specs.declared.fault.BaseRule.{BaseRule}
 use Rattle.circ_records.specs.declared.tables.TableName.{TableName}

@@ -1,5 +1,5 @@
 -- Faults that are passed on.
-use Rattle.std.proofs.Common.{◌≡◌, Option, Some, None, Result, Ok, Err, ap, ◌∙◌}
+use Rattle.std.proofs.Common.{◌≡◌, Option, Result, Ok, Err, ap, ◌∙◌}
 use Rattle.std.specs.Result.{IsErrAnd}
 use Rattle.circ_records.specs.Base.{◌>>=◌, Breaks, Fails, Gives, unless_broken}
 use Rattle.circ_records.specs.Records.{Entries}

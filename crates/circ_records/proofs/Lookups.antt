@@ -1,6 +1,6 @@
 -- Look-ups among rows.
-use Rattle.std.proofs.Common.{◌≡◌, ℕ, zero, suc, ◌+◌, ◌<◌, List, [], ◌∷◌, ◌++◌, Bool, true, false, cond, Option, Some, None, length, get_or, map, arith, refl, sym, ap, ◌∙◌}
-use Rattle.std.specs.Prelude.{is_some, option_map, ◌==◌}
+use Rattle.std.proofs.Common.{◌≡◌, ℕ, zero, suc, ◌<◌, List, [], ◌∷◌, ◌++◌, Bool, true, false, cond, Option, Some, None, length, get_or, map, arith, refl, sym, ap, ◌∙◌}
+use Rattle.std.specs.Prelude.{is_some, option_map, ◌==◌, ◌||◌}
 use Rattle.std.specs.Option.{option_or}
 use Rattle.std.specs.List.{find}
 use Rattle.std.specs.Cmp.Lexicographic.{nat_list_eq_equiv, pointwise, slice_cmp}
@@ -11,11 +11,17 @@ use Rattle.std.specs.declared.cmp.Ordering.TheVariants.{Less, Equal, Greater}
 use Rattle.std.proofs.lemmas.Map.Text.{is_eq-slice_cmp}
 use Rattle.circ_records.specs.Rules.{has_row}
 use Rattle.circ_records.specs.Tables.{Row, field}
-use Rattle.circ_records.specs.Told.{row_with}
+use Rattle.circ_records.specs.Told.{row_with, rows_with}
+use Rattle.circ_records.specs.Values.{is_same}
 
 pub is_some-map : {A B : Type 0} (f : A → B) (o : Option A) → is_some (option_map f o) ≡ is_some o
 is_some-map f None = refl
 is_some-map f (Some x) = refl
+
+-- whether one of two is there
+pub is_some-either : {A B : Type 0} (f g : A → B) (a b : Option A) → is_some (option_or (option_map f a) (option_map g b)) ≡ (is_some a || is_some b)
+is_some-either f g None b = is_some-map g b
+is_some-either f g (Some x) b = refl
 
 pub none-of : {A : Type 0} (o : Option A) → is_some o ≡ false → o ≡ None
 none-of None e = refl
@@ -30,7 +36,7 @@ pub map-cond : {A B : Type 0} (f : A → B) (b : Bool) (x : A) (o : Option A) �
 map-cond f true x o = refl
 map-cond f false x o = refl
 
-tie : (r : Ordering) → is_eq r ≡ true → r ≡ Equal
+pub tie : (r : Ordering) → is_eq r ≡ true → r ≡ Equal
 tie Less e = cc
 tie Equal e = refl
 tie Greater e = cc
@@ -43,7 +49,7 @@ same-text a b e = slice_cmp-IsAntisymmetric nat_cmp-IsAntisymmetric a b (tie _ (
 pub tie-text : (a b : List ℕ) → is_eq (slice_cmp nat_cmp a b) ≡ pointwise ◌==◌ b a
 tie-text a b = is_eq-slice_cmp a b ∙ nat_list_eq_equiv.symm a b
 
-or-cond : {A : Type 0} (b : Bool) (x : A) (o p : Option A) → option_or (cond b (Some x) o) p ≡ cond b (Some x) (option_or o p)
+pub or-cond : {A : Type 0} (b : Bool) (x : A) (o p : Option A) → option_or (cond b (Some x) o) p ≡ cond b (Some x) (option_or o p)
 or-cond true x o p = refl
 or-cond false x o p = refl
 
@@ -64,6 +70,31 @@ row_with-new column q rows row new =
     find-append (λ (r : Row). pointwise ◌==◌ q (field column r)) rows (row ∷ [])
     ∙ or-new (pointwise ◌==◌ q (field column row)) row (row_with column q rows)
     (λ e. ap (λ t. row_with column t rows) (same-text q (field column row) e) ∙ none-of _ new)
+
+pub or-none : {A : Type 0} (o : Option A) → option_or o None ≡ o
+or-none None = refl
+or-none (Some x) = refl
+
+pub or-false : (a b : Bool) → (a || b) ≡ false → (a ≡ false) × (b ≡ false)
+or-false true b e = cc e
+or-false false b e = (refl, e)
+
+-- what is listed from the rows of a text, as a row is added
+pub listed-more : {X : Type 0} (f : Row → X) (column : ℕ) (q : List ℕ) (rows : List Row) (row : Row)
+    → map f (rows_with column q (rows ++ row ∷ [])) ≡ cond (is_same q (field column row)) (map f (rows_with column q rows) ++ f row ∷ []) (map f (rows_with column q rows))
+listed-more f column q [] row = by (is_same q (field column row))
+  where
+    by : (b : Bool) → map f (cond b (row ∷ []) []) ≡ cond b (f row ∷ []) []
+    by true = refl
+    by false = refl
+listed-more {X} f column q (x ∷ xs) row = by (is_same q (field column x)) (is_same q (field column row)) (listed-more f column q xs row)
+  where
+    by : (a b : Bool) → map f (rows_with column q (xs ++ row ∷ [])) ≡ cond b (map f (rows_with column q xs) ++ f row ∷ []) (map f (rows_with column q xs))
+        → map f (cond a (x ∷ rows_with column q (xs ++ row ∷ [])) (rows_with column q (xs ++ row ∷ [])))
+        ≡ cond b (map f (cond a (x ∷ rows_with column q xs) (rows_with column q xs)) ++ f row ∷ []) (map f (cond a (x ∷ rows_with column q xs) (rows_with column q xs)))
+    by true true e = ap (λ (l : List X). f x ∷ l) e
+    by true false e = ap (λ (l : List X). f x ∷ l) e
+    by false b e = e
 
 -- an item of a list as its view stands in the list of views
 pub item-at : {X : Type 0} (view : X → Row) (xs : List X) (i : ℕ) (x : X) → i < length xs → x ≡ get_or xs i x

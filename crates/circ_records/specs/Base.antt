@@ -1,10 +1,11 @@
 -- The base that tables tell, or why they tell none.
-use Rattle.std.specs.Prelude.{◌≡◌, ℕ, List, [], Option, Some, None, Result, Ok, Err}
+use Rattle.std.specs.Prelude.{◌≡◌, ℕ, List, [], ◌∷◌, Option, Some, None, Result, Ok, Err}
+use Rattle.std.specs.Option.{option_or}
 use Rattle.csv_table.specs.Rows.{rows_under}
 use Rattle.circ_policy.specs.Terms.{Terms}
 use Rattle.circ_records.specs.Records.{Entries}
-use Rattle.circ_records.specs.Rules.{broken, item_rule}
-use Rattle.circ_records.specs.Tables.{Row, Rows, Texts, items_header}
+use Rattle.circ_records.specs.Rules.{broken, closed_rule, fee_rule, hold_rule, item_rule, loan_rule, patron_rule}
+use Rattle.circ_records.specs.Tables.{Row, Rows, Texts, closed_header, fees_header, holds_header, items_header, loans_header, patrons_header}
 use Rattle.circ_records.specs.Told.{entries_told}
 use Rattle.circ_records.specs.declared.fault.BaseError.{BaseError}
 use Rattle.circ_records.specs.declared.fault.BaseError.TheVariants as error
@@ -21,19 +22,50 @@ abbrev pub table_rows : TableName → Option (List Row) → Result (List Row) Ba
 table_rows name None = Err (error.Table name)
 table_rows name (Some rows) = Ok rows
 
--- the rows of a table of items and of no other
-abbrev pub only_items : List Row → Rows
-only_items items = record { patrons = []; items = items; loans = []; fees = []; closed = []; holds = [] }
+-- the rows of a table of holds: no bytes at all count as the header alone
+abbrev pub holds_rows_of : List ℕ → Option (List Row)
+holds_rows_of [] = Some []
+holds_rows_of (b ∷ text) = rows_under holds_header (b ∷ text)
 
--- the rows of the tables, or the first table that has none
-abbrev pub rows_of : Texts → Result Rows BaseError
+-- the rows of the six tables, or the first table that has none
+unfoldable pub rows_of : Texts → Result Rows BaseError
 rows_of texts = do
+  patrons ← table_rows table.Patrons (rows_under patrons_header texts.patrons)
   items ← table_rows table.Items (rows_under items_header texts.items)
-  Ok (only_items items)
+  loans ← table_rows table.Loans (rows_under loans_header texts.loans)
+  fees ← table_rows table.Fees (rows_under fees_header texts.fees)
+  closed ← table_rows table.Closed (rows_under closed_header texts.closed)
+  holds ← table_rows table.Holds (holds_rows_of texts.holds)
+  Ok (record { patrons = patrons; items = items; loans = loans; fees = fees; closed = closed; holds = holds })
 
--- the first rule that the rows break, table by table and row by row
-abbrev pub first_broken : Terms → Option ℕ → Rows → Option BaseError
-first_broken policy first rows = broken table.Items (item_rule policy) rows.items
+-- the first rule that the rows of each table break
+abbrev pub broken_patrons : Terms → Rows → Option BaseError
+broken_patrons policy rows = broken table.Patrons (patron_rule policy) rows.patrons
+
+abbrev pub broken_items : Terms → Rows → Option BaseError
+broken_items policy rows = broken table.Items (item_rule policy) rows.items
+
+abbrev pub broken_loans : Rows → Option BaseError
+broken_loans rows = broken table.Loans (loan_rule rows.patrons rows.items) rows.loans
+
+abbrev pub broken_fees : Option ℕ → Rows → Option BaseError
+broken_fees first rows = broken table.Fees (fee_rule first rows.patrons) rows.fees
+
+abbrev pub broken_closed : Option ℕ → Rows → Option BaseError
+broken_closed first rows = broken table.Closed (closed_rule first rows.patrons rows.fees) rows.closed
+
+abbrev pub broken_holds : Rows → Option BaseError
+broken_holds rows = broken table.Holds (hold_rule rows.patrons rows.items rows.loans) rows.holds
+
+-- the first rule that the rows break, table by table and row by row, before a journal that begins with a number
+unfoldable pub first_broken : Terms → Option ℕ → Rows → Option BaseError
+first_broken policy first rows =
+    option_or (broken_patrons policy rows)
+    (option_or (broken_items policy rows)
+    (option_or (broken_loans rows)
+    (option_or (broken_fees first rows)
+    (option_or (broken_closed first rows)
+    (broken_holds rows)))))
 
 abbrev pub unless_broken : Option BaseError → Entries → Result Entries BaseError
 unless_broken (Some e) entries = Err e

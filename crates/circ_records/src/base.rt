@@ -1,15 +1,23 @@
 //! The records that a run begins with.
 
-ghost use Rattle.std.specs.Prelude.{◌≡◌, map, option_copied};
+ghost use Rattle.std.specs.Prelude.{◌≡◌, None, map, option_copied, IfOk, IfErr};
 ghost use Rattle.std.specs.List.Sorted.{IsStrictlySortedBy};
-ghost use Rattle.circ_records.specs.Base.{Gives, base_of};
+ghost use Rattle.circ_records.specs.Base.{Breaks, Gives, base_of, first_broken};
+ghost use Rattle.circ_records.specs.Coherent.{Coherent, number_before};
 ghost use Rattle.circ_records.specs.Keys.{key_cmp};
+ghost use Rattle.circ_records.specs.Read.{rows_in};
 ghost use Rattle.circ_records.specs.Records.{record_at};
 ghost use Rattle.circ_records.specs.Tables.{texts_of};
+ghost use Rattle.circ_records.specs.Told.{entries_told};
 
+use crate::closed::add_closed;
 use crate::fault::BaseError;
+use crate::fees::add_fees;
 use crate::items::add_items;
 use crate::key::Key;
+use crate::loans::add_loans;
+use crate::patrons::add_patrons;
+use crate::queues::add_holds;
 use crate::record::Record;
 use crate::rows::TableRows;
 use crate::tables::Tables;
@@ -44,11 +52,11 @@ impl Base {
         tables: &Tables,
         first: Option<u64>,
     ) -> Result<Base, BaseError>
-        ensures { Gives result (base_of policy.now (texts_of tables.now) first) }
+        ensures told { Gives result (base_of policy.now (texts_of tables.now) first) }
+        ensures coherent { IfOk result (λ b. Coherent policy.now (number_before first) b) }
     {
         let rows = TableRows::read(alloc, tables)?;
-        let mut records = BTreeMap::new(alloc);
-        add_items(alloc, policy, &rows, &mut records)?;
+        let records = records_of(alloc, policy, &rows, first)?;
         Ok(Base { records })
     }
 
@@ -66,4 +74,26 @@ impl Base {
     {
         self.records.keys()
     }
+}
+
+/// The records that the rows of the tables tell, table by table, or the first rule that a row breaks.
+fn records_of(
+    alloc: Global,
+    policy: &Policy,
+    rows: &TableRows,
+    first: Option<u64>,
+) -> Result<BTreeMap<Key, Record>, BaseError>
+    ensures ok { IfOk result (λ m. first_broken policy.now first (rows_in rows.now) ≡ None) }
+    ensures told { IfOk result (λ m. m.entries ≡ entries_told (rows_in rows.now)) }
+    ensures coherent { IfOk result (λ m. Coherent policy.now (number_before first) m.entries) }
+    ensures err { IfErr result (λ e. Breaks e (first_broken policy.now first (rows_in rows.now))) }
+{
+    let mut records = BTreeMap::new(alloc);
+    add_patrons(alloc, policy, rows, &mut records)?;
+    add_items(alloc, policy, rows, &mut records)?;
+    add_loans(rows, &mut records)?;
+    add_fees(first, rows, &mut records)?;
+    add_closed(first, rows, &mut records)?;
+    add_holds(alloc, rows, &mut records)?;
+    Ok(records)
 }

@@ -1,17 +1,17 @@
 //! The table of items.
 
-ghost use Rattle.std.specs.Prelude.{◌≡◌, [], true, Bool, None, Some, map, IsSome, IfOk, IfErr, OnOk, option_and_then};
+ghost use Rattle.std.specs.Prelude.{◌≡◌, ◌++◌, ◌∷◌, [], List, true, false, None, IsSome, IfOk, IfErr, OnOk, IsTrue};
 ghost use Rattle.std.specs.BTreeMap.{IsOrdered};
 ghost use Rattle.csv.specs.Records.{fields_of};
 ghost use Rattle.circ_policy.specs.Medias.{media_of_code};
-ghost use Rattle.circ_policy.specs.Policy.{media_of};
-ghost use Rattle.circ_records.specs.Base.{Breaks};
+ghost use Rattle.sip_reader.specs.Texts.{is_id};
+ghost use Rattle.circ_records.specs.Base.{Breaks, broken_items};
 ghost use Rattle.circ_records.specs.Keys.{key_cmp};
-ghost use Rattle.circ_records.specs.Read.{Tells, rows_in};
-ghost use Rattle.circ_records.specs.Rules.{broken, has_item_texts, has_media, item_rule};
-ghost use Rattle.circ_records.specs.Tables.{Rows, field};
-ghost use Rattle.circ_records.specs.Told.{item_in};
-ghost use Rattle.circ_records.specs.declared.tables.TableName.TheVariants as table;
+ghost use Rattle.circ_records.specs.Read.{Tells, no_rows, rows_in, to_items, to_patrons};
+ghost use Rattle.circ_records.specs.Rules as Rules;
+ghost use Rattle.circ_records.specs.Tables.{Row, Rows, field};
+ghost use Rattle.circ_records.specs.Told.{item_told};
+ghost use Rattle.circ_records.specs.declared.record.Record.TheVariants as record_of;
 
 use crate::fault::{BaseError, BaseRule};
 use crate::holds::Holds;
@@ -35,12 +35,12 @@ pub(crate) fn add_items(
     rows: &TableRows,
     records: &mut BTreeMap<Key, Record>,
 ) -> Result<(), BaseError>
-    requires empty { records.old.entries ≡ [] }
+    requires told { Tells (to_patrons (rows_in rows.now) (rows_in rows.now).patrons) records.old }
     requires rising { IsOrdered key_cmp records.old }
-    ensures ok { OnOk result (broken table.Items (item_rule policy.now) (rows_in rows.now).items ≡ None) }
-    ensures told { OnOk result (Tells (rows_in rows.now) records.new) }
+    ensures ok { OnOk result (broken_items policy.now (rows_in rows.now) ≡ None) }
+    ensures told { OnOk result (Tells (to_items (rows_in rows.now) (rows_in rows.now).items) records.new) }
     ensures rising { OnOk result (IsOrdered key_cmp records.new) }
-    ensures err { IfErr result (λ e. Breaks e (broken table.Items (item_rule policy.now) (rows_in rows.now).items)) }
+    ensures err { IfErr result (λ e. Breaks e (broken_items policy.now (rows_in rows.now))) }
 {
     for (i, row) in rows.items.iter().enumerate() {
         match broken_rule(policy, records, row) {
@@ -51,11 +51,7 @@ pub(crate) fn add_items(
                     rule,
                 });
             }
-            None => {
-                let id = id_at(row, 0);
-                let item = item_of(alloc, row)?;
-                records.insert(Key::Item(id), Record::Item(item))?;
-            }
+            None => add_item(alloc, row, records)?,
         }
     }
     Ok(())
@@ -68,8 +64,8 @@ fn broken_rule(
     records: &BTreeMap<Key, Record>,
     row: &ByteRecord,
 ) -> Option<BaseRule>
-    ensures rule { (r : Rows) → Tells r records.now → result ≡ item_rule policy.now r.items (fields_of row.now) }
-    ensures texts { result ≡ None → has_item_texts (fields_of row.now) ≡ true }
+    ensures rule { (r : Rows) → Tells r records.now → result ≡ Rules.item_rule policy.now r.items (fields_of row.now) }
+    ensures texts { result ≡ None → Rules.has_item_texts (fields_of row.now) ≡ true }
     ensures media { result ≡ None → IsSome (media_of_code (field 2 (fields_of row.now))) }
 {
     if !has_texts(row) {
@@ -83,8 +79,10 @@ fn broken_rule(
     }
 }
 
+#[tactic(auto, unfolding(crate::specs::Rules::has_item_texts))]
 fn has_texts(row: &ByteRecord) -> bool
-    ensures { result ≡ has_item_texts (fields_of row.now) }
+    ensures value { result ≡ Rules.has_item_texts (fields_of row.now) }
+    ensures id { IsTrue result → is_id (field 0 (fields_of row.now)) ≡ true }
 {
     Id::new(column(row, 0)).is_some()
         && is_text(column(row, 1))
@@ -94,8 +92,9 @@ fn has_texts(row: &ByteRecord) -> bool
 }
 
 /// Whether the policy has the media type of a row.
+#[tactic(auto, unfolding(crate::specs::Rules::has_media))]
 fn is_lent_by(policy: &Policy, row: &ByteRecord) -> bool
-    ensures value { result ≡ has_media policy.now (field 2 (fields_of row.now)) }
+    ensures value { result ≡ Rules.has_media policy.now (field 2 (fields_of row.now)) }
     ensures known { result ≡ true → IsSome (media_of_code (field 2 (fields_of row.now))) }
 {
     match MediaType::of_code(column(row, 2)) {
@@ -104,11 +103,37 @@ fn is_lent_by(policy: &Policy, row: &ByteRecord) -> bool
     }
 }
 
-/// The item of a row, which nobody has and nobody waits for.
-fn item_of(alloc: Global, row: &ByteRecord) -> Result<Item, AllocError>
-    requires texts { has_item_texts (fields_of row.now) ≡ true }
+/// Puts the item of a row among the records.
+fn add_item(
+    alloc: Global,
+    row: &ByteRecord,
+    records: &mut BTreeMap<Key, Record>,
+) -> Result<(), AllocError>
+    requires texts { Rules.has_item_texts (fields_of row.now) ≡ true }
     requires media { IsSome (media_of_code (field 2 (fields_of row.now))) }
-    ensures { IfOk result (λ item. item ≡ item_in (fields_of row.now)) }
+    ensures told { OnOk result ((r : Rows) (before : List Row) → Tells (to_items r before) records.old → Rules.has_row 0 (field 0 (fields_of row.now)) before ≡ false → Tells (to_items r (before ++ fields_of row.now ∷ [])) records.new) }
+    ensures rising { OnOk result (IsOrdered key_cmp records.new) }
+{
+    let item = item_of(alloc, row)?;
+    records.insert(Key::Item(row_id(row)), Record::Item(item))?;
+    Ok(())
+}
+
+/// The id of a row whose texts are such.
+#[tactic(auto, unfolding(crate::specs::Rules::has_item_texts))]
+fn row_id(row: &ByteRecord) -> Id
+    requires { Rules.has_item_texts (fields_of row.now) ≡ true }
+    ensures { result ≡ field 0 (fields_of row.now) }
+{
+    id_at(row, 0)
+}
+
+/// The item of a row, which nobody has and nobody waits for.
+#[tactic(auto, unfolding(crate::specs::Rules::has_item_texts))]
+fn item_of(alloc: Global, row: &ByteRecord) -> Result<Item, AllocError>
+    requires texts { Rules.has_item_texts (fields_of row.now) ≡ true }
+    requires media { IsSome (media_of_code (field 2 (fields_of row.now))) }
+    ensures { IfOk result (λ item. record_of.Item item ≡ item_told no_rows (field 0 (fields_of row.now)) (fields_of row.now)) }
 {
     Ok(Item {
         title: Text::new(alloc, column(row, 1))?,

@@ -6,17 +6,33 @@
 #![tactic(auto)]
 
 mod base;
+mod changes;
+mod closed;
 mod fault;
+mod fee_rows;
+mod fees;
 mod holds;
 mod ids;
+mod item_rows;
 mod items;
 mod key;
 mod known;
+mod laws;
+mod loans;
+mod made_fees;
+mod patron_rows;
+mod patrons;
+mod queues;
 mod record;
 mod records;
+mod row_texts;
 mod rows;
+mod table_texts;
 mod tables;
+#[cfg(test)]
+mod tests;
 mod texts;
+mod values;
 mod written;
 
 pub use base::Base;
@@ -24,6 +40,7 @@ pub use fault::{BaseError, BaseRule};
 pub use holds::{Hold, Holds};
 pub use ids::Ids;
 pub use key::Key;
+pub use laws::{written_is_told, written_reads_back};
 pub use record::{Fee, FeeType, Item, Loan, Patron, Record};
 pub use records::Records;
 pub use tables::{TableName, Tables};

@@ -1,5 +1,6 @@
 ghost use Rattle.std.specs.Prelude.{◌≡◌, IfOk};
 ghost use Rattle.circ_records.specs.FeeTypes.{fee_type_code};
+ghost use Rattle.circ_records.specs.Values.{fee_type_of};
 
 use crate::holds::Holds;
 use crate::ids::Ids;
@@ -74,22 +75,46 @@ pub enum FeeType {
 
 impl FeeType {
     /// The two digits of SIP2.
-    pub fn code(self) -> &'static [u8]
-        ensures { result.now ≡ fee_type_code self }
+    pub fn code(self) -> [u8; 2]
+        ensures { result ≡ fee_type_code self }
     {
         match self {
-            FeeType::Other => b"01",
-            FeeType::Administrative => b"02",
-            FeeType::Damage => b"03",
-            FeeType::Overdue => b"04",
-            FeeType::Processing => b"05",
-            FeeType::Rental => b"06",
-            FeeType::Replacement => b"07",
-            FeeType::ComputerAccess => b"08",
-            FeeType::HoldFee => b"09",
+            FeeType::Other => *b"01",
+            FeeType::Administrative => *b"02",
+            FeeType::Damage => *b"03",
+            FeeType::Overdue => *b"04",
+            FeeType::Processing => *b"05",
+            FeeType::Rental => *b"06",
+            FeeType::Replacement => *b"07",
+            FeeType::ComputerAccess => *b"08",
+            FeeType::HoldFee => *b"09",
         }
     }
+
+    /// The fee type of two digits.
+    #[tactic(auto, unfolding(crate::specs::Values::fee_type_of))]
+    pub fn of_code(code: &[u8]) -> Option<FeeType>
+        ensures { result ≡ fee_type_of code.now }
+    {
+        FEE_TYPES
+            .iter()
+            .copied()
+            .find(|kind| kind.code().as_slice() == code)
+    }
 }
+
+/// All fee types, in the order of their codes.
+const FEE_TYPES: [FeeType; 9] = [
+    FeeType::Other,
+    FeeType::Administrative,
+    FeeType::Damage,
+    FeeType::Overdue,
+    FeeType::Processing,
+    FeeType::Rental,
+    FeeType::Replacement,
+    FeeType::ComputerAccess,
+    FeeType::HoldFee,
+];
 
 impl Record {
     /// The same record.

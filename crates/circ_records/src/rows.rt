@@ -3,9 +3,10 @@
 ghost use Rattle.std.specs.Prelude.{◌≡◌, Some, Ok, map, IfOk, IfErr};
 ghost use Rattle.csv.specs.Records.{fields_of};
 ghost use Rattle.csv_table.specs.Rows.{rows_under};
-ghost use Rattle.circ_records.specs.Base.{Fails, rows_of, table_rows};
+ghost use Rattle.circ_records.specs.Base.{Fails, holds_rows_of, rows_of, table_rows};
 ghost use Rattle.circ_records.specs.Read.{rows_in};
 ghost use Rattle.circ_records.specs.Tables.{texts_of};
+ghost use Rattle.circ_records.specs.declared.tables.TableName.TheVariants as table;
 
 use crate::fault::BaseError;
 use crate::tables::{TableName, Tables};
@@ -28,17 +29,35 @@ pub(crate) const HOLDS: [&str; 3] = ["item", "patron", "pickup"];
 /// The rows of the tables, without their headers.
 #[derive(Drop)]
 pub(crate) struct TableRows {
+    pub(crate) patrons: Vec<ByteRecord>,
     pub(crate) items: Vec<ByteRecord>,
+    pub(crate) loans: Vec<ByteRecord>,
+    pub(crate) fees: Vec<ByteRecord>,
+    pub(crate) closed: Vec<ByteRecord>,
+    pub(crate) holds: Vec<ByteRecord>,
 }
 
 impl TableRows {
     /// The rows of the tables, or the first table that has none.
+    #[tactic(auto, unfolding(crate::specs::Base::rows_of))]
     pub(crate) fn read(alloc: Global, tables: &Tables) -> Result<TableRows, BaseError>
         ensures ok { IfOk result (λ rows. rows_of (texts_of tables.now) ≡ Ok (rows_in rows)) }
         ensures err { IfErr result (λ e. Fails e (rows_of (texts_of tables.now))) }
     {
+        let patrons = rows_of_table(alloc, TableName::Patrons, &PATRONS, &tables.patrons)?;
         let items = rows_of_table(alloc, TableName::Items, &ITEMS, &tables.items)?;
-        Ok(TableRows { items })
+        let loans = rows_of_table(alloc, TableName::Loans, &LOANS, &tables.loans)?;
+        let fees = rows_of_table(alloc, TableName::Fees, &FEES, &tables.fees)?;
+        let closed = rows_of_table(alloc, TableName::Closed, &CLOSED, &tables.closed)?;
+        let holds = rows_of_holds(alloc, &tables.holds)?;
+        Ok(TableRows {
+            patrons,
+            items,
+            loans,
+            fees,
+            closed,
+            holds,
+        })
     }
 }
 
@@ -57,4 +76,15 @@ fn rows_of_table(
         Err(TableError::Table) => Err(BaseError::Table { table }),
         Err(TableError::Memory) => Err(BaseError::Memory),
     }
+}
+
+/// The rows of the table of holds: no bytes at all count as its header alone.
+fn rows_of_holds(alloc: Global, text: &[u8]) -> Result<Vec<ByteRecord>, BaseError>
+    ensures ok { IfOk result (λ v. holds_rows_of text.now ≡ Some (map fields_of v.items)) }
+    ensures err { IfErr result (λ e. Fails e (table_rows table.Holds (holds_rows_of text.now))) }
+{
+    if text.is_empty() {
+        return Ok(Vec::new(alloc));
+    }
+    rows_of_table(alloc, TableName::Holds, &HOLDS, text)
 }

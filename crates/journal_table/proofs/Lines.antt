@@ -1,13 +1,12 @@
 -- Reading the rows one after the other, as a loop does.
-use Rattle.std.proofs.Common.{◌≡◌, ℕ, suc, ◌+◌, List, [], ◌∷◌, ◌++◌, Option, Some, Result, Ok, Err, None, Bool, true, false, cond, length, get_or, refl, subst, sym, ap, ◌∙◌, append_assoc, arith}
+use Rattle.std.proofs.Common.{◌≡◌, ℕ, suc, ◌+◌, ◌≤◌, List, [], ◌∷◌, ◌++◌, Option, Some, Result, Ok, Err, None, Bool, true, false, cond, length, get_or, refl, subst, sym, ap, ◌∙◌, append_assoc, arith}
 use Rattle.std.proofs.lemmas.List.{append-nil, length-append}
-use Rattle.std.proofs.lemmas.Bool.{eqb-true}
-use Rattle.std.specs.Prelude.{◌==◌, nat_lt, not, option_map, is_some, IfErr}
-use Rattle.std.specs.Result.{IsErrAnd}
+use Rattle.std.proofs.lemmas.Bool.{eqb-true, ltb-false}
+use Rattle.std.specs.Prelude.{◌==◌, nat_lt, not, option_map, is_some}
 use Rattle.csv_table.specs.declared.TableError.{TableError}
 use Rattle.csv_table.specs.declared.TableError.TheVariants as table
 use Rattle.journal_table.specs.Entry.{Entry, Numbered, NumberedFrom}
-use Rattle.journal_table.specs.Journal.{◌>>=◌, Fails, Gives, line_at, lines_from, lines_of, numbered_line}
+use Rattle.journal_table.specs.Journal.{◌>>=◌, Fails, line_at, lines_from, lines_of, numbered_line}
 use Rattle.journal_table.specs.Number.{number_of}
 use Rattle.journal_table.specs.Refusal.{table_refusal}
 use Rattle.journal_table.specs.Stops.{Stops, unless_no_table}
@@ -154,3 +153,20 @@ numbered (fields ∷ rows) lines h =
 pub numbered-lines : (rows : Option (List (List (List ℕ)))) (lines : List Entry) → lines_of rows ≡ Ok lines → Numbered lines
 numbered-lines None lines h = cc h
 numbered-lines (Some rows) lines h = numbered rows lines h
+
+-- each row that gives a line is within the limit
+few-from : (rows : List (List (List ℕ))) (row : ℕ) (before : Option ℕ) (lines : List Entry) → row ≤ LINE_LIMIT + 1 → lines_from row before rows ≡ Ok lines → row + length lines ≤ LINE_LIMIT + 1
+few-from [] row before lines start h = let none : lines ≡ [] = cc h in rw none (omega arith)
+few-from (fields ∷ rows) row before lines start h =
+    let (line, at, more) = bind-ok (line_at row before fields) _ lines h in
+    let (rest, below, is) = bind-ok (lines_from (suc row) (Some line.number) rows) _ lines more in
+    let whole : line ∷ rest ≡ lines = cc is in
+    let within = guard-ok (nat_lt LINE_LIMIT row) _ _ line at in
+    let row_fits : row ≤ LINE_LIMIT = ltb-false LINE_LIMIT row within.0 in
+    let so_many = few-from rows (suc row) (Some line.number) rest (omega arith) below in
+    rw (← whole) (omega arith)
+
+-- a journal has at most so many lines
+pub few-lines : (rows : Option (List (List (List ℕ)))) (lines : List Entry) → lines_of rows ≡ Ok lines → length lines ≤ LINE_LIMIT
+few-lines None lines h = cc h
+few-lines (Some rows) lines h = let all = few-from rows 1 None lines (omega arith) h in omega arith

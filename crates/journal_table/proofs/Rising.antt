@@ -1,11 +1,12 @@
 -- Readings with their numbers, and what the threads read.
-use Rattle.std.proofs.Common.{◌≡◌, ◌≢◌, ◌+◌, ◌<◌, ℕ, List, [], ◌∷◌, length, map, Option, Some, None, Result, Ok, Err, refl, sym, ap, ◌∙◌, arith}
-use Rattle.std.specs.Prelude.{IfOk, unwrap_or}
+use Rattle.std.proofs.Common.{◌≡◌, ◌≢◌, ◌+◌, ◌-◌, ◌≤◌, ◌^◌, ℕ, zero, suc, List, [], ◌∷◌, length, map, Some, None, Result, Ok, refl, sym, ap, arith}
+use Rattle.std.specs.Prelude.{IfOk, Vec, slice_get, unwrap_or}
 use Rattle.std.specs.List.{AllZip}
 use Rattle.sip_reader.specs.Reading.{reading}
 use Rattle.sip_reader.specs.declared.request.Reading.{Reading}
 use Rattle.journal_table.specs.Entry.{Entry, Numbered, NumberedFrom, first_number}
-use Rattle.journal_table.specs.Readings.{NumberedReading, Rises, RisesFrom, first_read, numbered_from, reading_at, readings_of}
+use Rattle.journal_table.specs.Readings.{NumberedReading, Rises, RisesFrom, first_read, numbered_from, reading_at, readings_of, requests_read}
+use Rattle.journal_table.specs.Stretches.{stretches_of}
 
 -- the readings of what is numbered
 pub numbered-readings : (n : ℕ) (rs : List Reading) → rs ≡ map reading_at (numbered_from n rs)
@@ -20,22 +21,45 @@ pub numbered-rises : (n : ℕ) (rs : List Reading) → Rises (numbered_from n rs
 numbered-rises n [] = tt
 numbered-rises n (r ∷ rs) = rises-from (n + 1) rs
 
-pub numbered-first : (n : ℕ) (rs : List Reading) → 0 < length rs → Some n ≡ first_read (numbered_from n rs)
-numbered-first n [] h = absurd (omega arith)
+pub length-numbered : (n : ℕ) (rs : List Reading) → length (numbered_from n rs) ≡ length rs
+length-numbered n [] = refl
+length-numbered n (r ∷ rs) = ap suc (length-numbered (n + 1) rs)
+
+pub numbered-first : (n : ℕ) (rs : List Reading) → length rs ≢ 0 → Some n ≡ first_read (numbered_from n rs)
+numbered-first n [] h = absurd (h refl)
 numbered-first n (r ∷ rs) h = refl
+
+pub numbered-none : (n : ℕ) (rs : List Reading) → length rs ≡ 0 → None ≡ first_read (numbered_from n rs)
+numbered-none n [] h = refl
+numbered-none n (r ∷ rs) h = absurd (omega arith)
+
+pub numbered-within : (n : ℕ) (rs : List Reading) → n + length rs ≤ 2 ^ 64 → unwrap_or (first_read (numbered_from n rs)) 0 + length (numbered_from n rs) ≤ 2 ^ 64
+numbered-within n [] h = omega arith
+numbered-within n (r ∷ rs) h = rw (length-numbered (n + 1) rs) (omega arith)
 
 -- readings that rise are their readings, numbered from the first: what a caller gets back who keeps only both
 pub rises-numbered : (n : ℕ) (rs : List NumberedReading) → RisesFrom n rs → numbered_from n (map reading_at rs) ≡ rs
 rises-numbered n [] h = refl
 rises-numbered n (r ∷ rs) h = rw (sym h.0) (ap (λ (rest : List NumberedReading). r ∷ rest) (rw h.0 (rises-numbered (n + 1) rs h.1)))
 
--- what each thread read of each line
-pub each-read : (lines : List Entry) (ys : List Reading) (E : Type 0) → AllZip (λ (line : Entry) (r : Result Reading E). IfOk r (λ x. x ≡ reading line.request)) lines (map Ok ys)
-    → ys ≡ map (λ line. reading line.request) lines
-each-read [] [] E h = refl
-each-read [] (y ∷ ys) E h = absurd h
-each-read (line ∷ lines) [] E h = absurd h
-each-read (line ∷ lines) (y ∷ ys) E h = rw (h.0, each-read lines ys E h.1) refl
+-- what each thread read of each stretch of lines
+pub each-stretch : {A : Type 0} (chunks : List (List Entry)) (ys : List (Vec Reading A)) (E : Type 0) → AllZip (λ (lines : List Entry) (r : Result (Vec Reading A) E). IfOk r (λ v. v.items ≡ requests_read lines)) chunks (map Ok ys)
+    → stretches_of ys ≡ map requests_read chunks
+each-stretch [] [] E h = refl
+each-stretch [] (y ∷ ys) E h = absurd h
+each-stretch (lines ∷ chunks) [] E h = absurd h
+each-stretch (lines ∷ chunks) (y ∷ ys) E h = rw (h.0, each-stretch chunks ys E h.1) refl
+
+number_at : (n : ℕ) (lines : List Entry) (i : ℕ) (e : Entry) → NumberedFrom n lines → slice_get lines i ≡ Some e → e.number ≡ n + i
+number_at n [] zero e h s = cc
+number_at n [] (suc i) e h s = cc
+number_at n (l ∷ more) zero e h s = let same : l ≡ e = cc in let at : l.number ≡ e.number = ap (λ (x : Entry). x.number) same in let first : l.number ≡ n = h.0 in omega arith
+number_at n (l ∷ more) (suc i) e h s = let at : e.number ≡ (n + 1) + i = number_at (n + 1) more i e h.1 s in omega arith
+
+-- the last line's number is so many behind the first as there are other lines
+pub last_number : (lines : List Entry) (e : Entry) → Numbered lines → slice_get lines (length lines - 1) ≡ Some e → e.number ≡ unwrap_or (first_number lines) 0 + (length lines - 1)
+last_number [] e h s = cc
+last_number (l ∷ more) e h s = number_at l.number (l ∷ more) (length (l ∷ more) - 1) e (refl, h) s
 
 readings-from : (n : ℕ) (lines : List Entry) → NumberedFrom n lines → numbered_from n (map (λ line. reading line.request) lines) ≡ readings_of lines
 readings-from n [] h = refl

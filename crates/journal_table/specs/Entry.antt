@@ -1,5 +1,6 @@
 -- The lines of a journal, without where they lie in memory.
-use Rattle.std.specs.Prelude.{◌≡◌, ◌+◌, ℕ, List, [], ◌∷◌, Option, Some, None}
+use Rattle.std.specs.Prelude.{◌≡◌, ◌≤◌, ◌+◌, ℕ, List, [], ◌∷◌, length, Option, Some, None}
+use Rattle.journal_table.specs.declared.TheConstants.{LINE_LIMIT}
 
 -- a line: its number, the connection that it came over, the request, and the response that was recorded
 pub record Entry : Type 0 where
@@ -17,6 +18,11 @@ NumberedFrom n (line ∷ rest) = (line.number ≡ n) × NumberedFrom (n + 1) res
 abbrev pub Numbered : List Entry → Type 0
 Numbered [] = Unit {0}
 Numbered (line ∷ rest) = NumberedFrom (line.number + 1) rest
+
+-- the lines of a journal: their numbers rise by one, and there are at most 1,000,000
+pub record AreLines (lines : List Entry) : Type 0 where
+  pub numbered : Numbered lines
+  pub few : length lines ≤ LINE_LIMIT
 
 abbrev pub first_number : List Entry → Option ℕ
 first_number [] = None

@@ -1,5 +1,5 @@
 -- How a line lies in memory: its three texts one behind the other.
-use Rattle.std.specs.Prelude.{◌≤◌, ◌-◌, ℕ, length, take, drop}
+use Rattle.std.specs.Prelude.{◌≤◌, ◌-◌, length, take, drop}
 use Rattle.journal_table.specs.Entry.{Entry}
 use Rattle.journal_table.specs.declared.line.Line.TheInside.{Inside}
 

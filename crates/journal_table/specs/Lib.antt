@@ -5,4 +5,5 @@ pub mod Number
 pub mod Readings
 pub mod Refusal
 pub mod Stops
+pub mod Stretches
 pub mod Words

@@ -9,6 +9,10 @@ pub record NumberedReading : Type 0 where
   pub number : ℕ
   pub reading : Reading
 
+-- what the requests of lines are read as
+abbrev pub requests_read : List Entry → List Reading
+requests_read = map (λ line. reading line.request)
+
 -- of each line, in order
 abbrev pub readings_of : List Entry → List NumberedReading
 readings_of = map (λ line. record { number = line.number; reading = reading line.request })

@@ -1,5 +1,5 @@
 -- How a reading of lines stops before its rows are at their end.
-use Rattle.std.specs.Prelude.{◌≡◌, ℕ, List, Option, Some, None, Result, Ok, Err}
+use Rattle.std.specs.Prelude.{◌≡◌, ℕ, List, Option, Some, None, Result, Err}
 use Rattle.journal_table.specs.Entry.{Entry}
 use Rattle.journal_table.specs.Journal.{lines_of}
 use Rattle.journal_table.specs.declared.error.JournalError.{JournalError}

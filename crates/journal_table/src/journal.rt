@@ -1,8 +1,9 @@
 //! The lines of the journal, read row by row.
 
-ghost use Rattle.std.specs.Prelude.{◌≡◌, Ok, None, IfOk, IfErr, OnOk, IsSome};
+ghost use Rattle.std.specs.Prelude.{◌≡◌, ◌≤◌, Ok, None, IfOk, IfErr, OnOk, IsSome, length};
 ghost use Rattle.csv_table.specs.declared.TableError.TheVariants as table;
 ghost use Rattle.journal_table.specs.Entry.{Numbered, first_number};
+ghost use Rattle.journal_table.specs.declared.TheConstants.{LINE_LIMIT};
 ghost use Rattle.journal_table.specs.Journal.{Gives, journal_of, lines_of};
 ghost use Rattle.journal_table.specs.Stops.{Stops};
 
@@ -15,7 +16,7 @@ use std::marker::Model;
 
 const HEADER: [&str; 4] = ["line", "connection", "request", "response"];
 
-/// The lines of a journal, their numbers rising by one.
+/// The lines of a journal, their numbers rising by one, at most 1,000,000.
 #[derive(Debug, Drop)]
 pub struct Journal {
     lines: Vec<Line>,
@@ -23,13 +24,13 @@ pub struct Journal {
 
 impl Model for Journal {
     ghost use Rattle.std.specs.Prelude.{List};
-    ghost use Rattle.journal_table.specs.Entry.{Entry, Numbered};
+    ghost use Rattle.journal_table.specs.Entry.{AreLines, Entry};
 
     ghost Value = { List Entry };
 
     ghost view = { λ j. j.lines.items };
 
-    ghost invariant = { λ j. Numbered j.lines.items };
+    ghost invariant = { λ j. AreLines j.lines.items };
 }
 
 impl Journal {
@@ -61,6 +62,7 @@ impl Journal {
     pub fn lines(&self) -> &[Line]
         ensures lines { result.now ≡ self.now }
         ensures numbered { Numbered self.now }
+        ensures few { length self.now ≤ LINE_LIMIT }
     {
         &self.lines
     }

@@ -1,8 +1,10 @@
-//! The requests of a journal, read by all cores.
+//! The requests of a journal, read one after the other or by all cores.
 
-ghost use Rattle.std.specs.Prelude.{◌≡◌, IfOk, map};
-ghost use Rattle.sip_reader.specs.Reading.{reading};
-ghost use Rattle.journal_table.specs.Readings.{Rises, first_read, reading_at, readings_of};
+ghost use Rattle.std.specs.Prelude.{◌≡◌, ◌+◌, ◌≤◌, ◌^◌, IfOk, length, map, option_copied, slice_get, unwrap_or};
+ghost use Rattle.journal_table.specs.Entry.{AreLines, Numbered, first_number};
+ghost use Rattle.journal_table.specs.declared.TheConstants.{LINE_LIMIT};
+ghost use Rattle.journal_table.specs.Readings.{Rises, first_read, reading_at, readings_of, requests_read};
+ghost use Rattle.journal_table.specs.Stretches.{AreStretchesOf, stretches_of};
 
 use crate::journal::Journal;
 use crate::line::Line;
@@ -12,49 +14,81 @@ use std::alloc::{AllocError, Global};
 use std::marker::Model;
 use std::thread::Threads;
 
+/// How many readings a stretch has. The last one may have fewer.
+const STRETCH: usize = 4096;
+
 /// What the request of each line is. The numbers of the lines rise by one from the first.
+///
+/// The readings stay in the stretches in which they were read, so that none of them moves again.
 #[derive(Drop)]
 pub struct Readings {
     first: u64,
-    readings: Vec<Reading>,
+    count: usize,
+    stretches: Vec<Vec<Reading>>,
 }
 
 impl Model for Readings {
     ghost use Rattle.std.specs.Prelude.{List};
     ghost use Rattle.journal_table.specs.Readings.{NumberedReading, numbered_from};
+    ghost use Rattle.journal_table.specs.Stretches.{IsKept, joined, stretches_of};
 
     ghost Value = { List NumberedReading };
 
-    ghost view = { λ r. numbered_from r.first r.readings.items };
+    ghost view = { λ r. numbered_from r.first (joined (stretches_of r.stretches.items)) };
+
+    ghost invariant = { IsKept };
 }
 
 impl Readings {
+    /// The readings of lines, from the stretches of them.
+    fn of(lines: &[Line], stretches: Vec<Vec<Reading>>) -> Readings
+        requires lines { AreLines lines.now }
+        requires read { AreStretchesOf (requests_read lines.now) (stretches_of stretches.items) }
+        ensures { result ≡ readings_of lines.now }
+    {
+        Readings {
+            first: first_of(lines),
+            count: lines.len(),
+            stretches,
+        }
+    }
+
     /// The number of the first line, if there is one.
     pub fn first(&self) -> Option<u64>
-        ensures { result ≡ first_read self.now }
+        ensures value { result ≡ first_read self.now }
+        ensures numbered { Rises self.now }
+        ensures within { unwrap_or (first_read self.now) 0 + length self.now ≤ 2 ^ 64 }
     {
-        if self.readings.is_empty() {
+        if self.count == 0 {
             None
         } else {
             Some(self.first)
         }
     }
 
-    /// The readings in the order of the lines.
-    pub fn readings(&self) -> &[Reading]
-        ensures readings { result.now ≡ map reading_at self.now }
-        ensures numbered { Rises self.now }
+    /// How many lines were read, at most 1,000,000.
+    pub fn len(&self) -> usize
+        ensures len { result ≡ length self.now }
+        ensures few { length self.now ≤ LINE_LIMIT }
     {
-        &self.readings
+        self.count
     }
 
-    /// The readings by themselves, given up to the caller.
-    pub fn into_readings(self) -> Vec<Reading>
-        ensures readings { result.items ≡ map reading_at self }
-        ensures numbered { Rises self }
+    /// What the line at a place is read as. Places count from 0.
+    pub fn get(&self, place: usize) -> Option<&Reading>
+        ensures { option_copied result ≡ slice_get (map reading_at self.now) place }
     {
-        self.readings
+        let stretch = self.stretches.get(place / STRETCH)?;
+        stretch.get(place % STRETCH)
     }
+}
+
+/// Reads every request of a journal, one after the other.
+pub fn read_in_turn(alloc: Global, journal: &Journal) -> Result<Readings, AllocError>
+    ensures { IfOk result (λ readings. readings ≡ readings_of journal.now) }
+{
+    let lines = journal.lines();
+    Ok(Readings::of(lines, read_stretches(alloc, lines)?))
 }
 
 /// Reads every request of a journal, on as many threads as there are processors. What comes is
@@ -66,17 +100,51 @@ pub fn read_all(
 ) -> Result<Readings, AllocError>
     ensures { IfOk result (λ readings. readings ≡ readings_of journal.now) }
 {
-    let readings: Result<Vec<Reading>, AllocError> = journal
-        .lines()
-        .par_iter()
+    let lines = journal.lines();
+    let stretches: Result<Vec<Vec<Reading>>, AllocError> = lines
+        .par_chunks(STRETCH)
         .map(
-            |line: &Line| -> Result<Reading, AllocError>
-                ensures { IfOk result (λ r. r ≡ reading line.now.request) }
-            { read_request(alloc, line.request()) },
+            |stretch: &[Line]| -> Result<Vec<Reading>, AllocError>
+                ensures { IfOk result (λ v. v.items ≡ requests_read stretch.now) }
+            { read_stretch(alloc, stretch) },
         )
         .collect(rt, alloc)?;
-    Ok(Readings {
-        first: journal.first().unwrap_or(0),
-        readings: readings?,
-    })
+    Ok(Readings::of(lines, stretches?))
+}
+
+/// Stretch after stretch.
+fn read_stretches(alloc: Global, lines: &[Line]) -> Result<Vec<Vec<Reading>>, AllocError>
+    ensures { IfOk result (λ v. AreStretchesOf (requests_read lines.now) (stretches_of v.items)) }
+{
+    let mut stretches = Vec::with_capacity(alloc, lines.len() / STRETCH + 1)?;
+    let mut rest = lines;
+    while !rest.is_empty() {
+        let (stretch, behind) = rest.split_at(rest.len().min(STRETCH));
+        stretches.push(read_stretch(alloc, stretch)?)?;
+        rest = behind;
+    }
+    Ok(stretches)
+}
+
+/// One stretch.
+fn read_stretch(alloc: Global, lines: &[Line]) -> Result<Vec<Reading>, AllocError>
+    ensures { IfOk result (λ v. v.items ≡ requests_read lines.now) }
+{
+    let mut readings = Vec::with_capacity(alloc, lines.len())?;
+    for line in lines {
+        readings.push(read_request(alloc, line.request())?)?;
+    }
+    Ok(readings)
+}
+
+/// The number of the first line, 0 where there is none.
+fn first_of(lines: &[Line]) -> u64
+    requires { Numbered lines.now }
+    ensures value { result ≡ unwrap_or (first_number lines.now) 0 }
+    ensures within { result + length lines.now ≤ 2 ^ 64 }
+{
+    match lines.last() {
+        Some(last) => last.number() - (lines.len() as u64 - 1),
+        None => 0,
+    }
 }

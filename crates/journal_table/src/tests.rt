@@ -1,6 +1,6 @@
 //! Journals as recorders write them, and why others are refused.
 
-use crate::{Journal, JournalError, JournalRule, read_all};
+use crate::{Journal, JournalError, JournalRule, read_all, read_in_turn};
 use sip_reader::{Reading, Why};
 use std::alloc::{AllocError, Global};
 
@@ -143,33 +143,68 @@ fn reads_a_million_lines_and_no_more(rt: HostRuntime) {
     assert!(rt; fault == Some((1_000_001, JournalRule::Lines)));
 }
 
+/// Which of the requests of `many_lines` a reading is of, or 4.
+fn kind_of(reading: Option<&Reading>) -> usize {
+    match reading {
+        Some(Reading::Asked(_)) => 0,
+        Some(Reading::Passed(_)) => 1,
+        Some(Reading::BadSum) => 2,
+        Some(Reading::Unread(Why::UnknownKind)) => 3,
+        _ => 4,
+    }
+}
+
+/// The text of a journal of this many lines from line 7 on, four requests in turn.
+fn many_lines(alloc: Global, count: usize) -> Result<String, AllocError> {
+    let requests = [
+        "1920260302    101500AOL1|ABI1|ACx|CHtorn|",
+        "9900302.00AY1AZFCA5",
+        "9900302.00AY1AZFCA6",
+        "88",
+    ];
+    let mut text = String::from_str(alloc, HEADER)?;
+    for i in 0..count {
+        let number = i % 1_000_000 + 7;
+        let request = requests[i % 4];
+        text.push_str(format!(in alloc; "{number},C1,{request},\n")?.as_str())?;
+    }
+    Ok(text)
+}
+
 #[test]
 fn reads_every_request_in_order(rt: HostRuntime) {
-    let text = "line,connection,request,response
-7,C1,1920260302    101500AOL1|ABI1|ACx|CHtorn|,
-8,C1,9900302.00AY1AZFCA5,
-9,C1,9900302.00AY1AZFCA6,
-10,C1,88,
-";
-    let Ok(journal) = Journal::read(rt.alloc(), text.as_bytes()) else {
-        assert!(rt; false, "the journal is right");
-        return;
-    };
-    let Ok(readings) = read_all(&rt, rt.alloc(), &journal) else {
-        assert!(rt; false, "memory");
-        return;
-    };
-    assert_eq!(rt; readings.first(), Some(7));
-    match readings.readings() {
-        [
-            Reading::Asked(_),
-            Reading::Passed(_),
-            Reading::BadSum,
-            Reading::Unread(Why::UnknownKind),
-        ] => {}
-        _ => assert!(rt; false, "another reading"),
+    for count in [0usize, 1, 4, 4_095, 4_096, 4_097, 20_481] {
+        let Ok(text) = many_lines(rt.alloc(), count) else {
+            assert!(rt; false, "memory");
+            return;
+        };
+        let Ok(journal) = Journal::read(rt.alloc(), text.as_bytes()) else {
+            assert!(rt; false, "the journal is right");
+            return;
+        };
+        let by_all = read_all(&rt, rt.alloc(), &journal);
+        let (Ok(by_all), Ok(in_turn)) = (by_all, read_in_turn(rt.alloc(), &journal)) else {
+            assert!(rt; false, "memory");
+            return;
+        };
+        assert_eq!(rt; by_all.first(), if count == 0 { None } else { Some(7) });
+        assert_eq!(rt; in_turn.first(), by_all.first());
+        assert_eq!(rt; by_all.len(), count);
+        assert_eq!(rt; in_turn.len(), count);
+        for place in 0..count + 2 {
+            let kind = if place < count { place % 4 } else { 4 };
+            assert_eq!(rt;
+                kind_of(by_all.get(place)),
+                kind,
+                "by all at {place} of {count}"
+            );
+            assert_eq!(rt;
+                kind_of(in_turn.get(place)),
+                kind,
+                "in turn at {place} of {count}"
+            );
+        }
     }
-    assert_eq!(rt; readings.into_readings().len(), 4);
 }
 
 #[test]

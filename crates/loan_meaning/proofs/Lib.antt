@@ -1,4 +1,5 @@
 pub mod Owing
+pub mod Sums
 pub mod Turning
 pub mod Walking
 pub mod Whole

@@ -1,5 +1,5 @@
-use Rattle.std.proofs.Common.{◌≡◌, ℕ, ◌+◌, ◌*◌, ◌^◌, ◌<◌, ◌≤◌, List, ◌∷◌, length, get_or, drop, Option, arith}
-use Rattle.read_set.specs.Asks.{Asks, Give, Done, follow}
+use Rattle.std.proofs.Common.{◌≡◌, ℕ, ◌+◌, ◌*◌, ◌^◌, ◌<◌, ◌≤◌, List, length, get_or, drop, Option, arith}
+use Rattle.read_set.specs.Asks.{Done, follow}
 use Rattle.loan_meaning.specs.Owing.{owed_from}
 use Rattle.read_set.specs.Fees.{rest_of}
 use Rattle.circ_records.specs.Records.{Entries}

@@ -1,10 +1,10 @@
-use Rattle.std.proofs.Common.{◌≡◌, ℕ, ◌+◌, ◌<◌, List, ◌∷◌, length, get_or, drop, Option}
+use Rattle.std.proofs.Common.{◌≡◌, ℕ, ◌+◌, ◌<◌, List, length, get_or, drop, Option}
 use Rattle.circ_policy.specs.Terms.{Terms}
 use Rattle.circ_records.specs.declared.key.Key.{Key}
 use Rattle.circ_records.specs.declared.record.Record.{Record}
 use Rattle.sip_reader.specs.declared.request.RenewAll.{RenewAll}
 use Rattle.loan_meaning.specs.RenewingAll.{turn_rule, turns_rule}
-use Rattle.read_set.specs.Asks.{Asks, Done, follow}
+use Rattle.read_set.specs.Asks.{Done, follow}
 use Rattle.read_set.specs.RenewAlls.{by_renew_all}
 use Rattle.read_set.specs.Stops.{StopsAt}
 use Rattle.read_set.specs.declared.progress.Renewals.{Renewals}

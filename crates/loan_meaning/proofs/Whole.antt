@@ -1,6 +1,6 @@
 -- Over a whole map, the program of a request is the request's meaning.
-use Rattle.std.proofs.Common.{◌≡◌, ℕ, ◌+◌, Bool, true, false, cond, not, ◌&&◌, ◌||◌, List, [], ◌∷◌, map, length, Option, Some, None, refl, ap, sym, ◌∙◌}
-use Rattle.std.specs.Prelude.{nat_le, nat_lt}
+use Rattle.std.proofs.Common.{◌≡◌, ℕ, ◌+◌, Bool, true, false, cond, not, ◌&&◌, List, [], ◌∷◌, map, length, Option, Some, None, Result, Ok, Err, IfOk, refl, ap, sym, ◌∙◌}
+use Rattle.std.specs.Prelude.{nat_le}
 use Rattle.std.specs.List.{fold}
 use Rattle.std.specs.Option.{option_or, option_map_or}
 use Rattle.circ_policy.specs.Terms.{Terms}
@@ -14,27 +14,28 @@ use Rattle.sip_reader.specs.declared.request.Checkout.{Checkout}
 use Rattle.sip_reader.specs.declared.request.Renew.{Renew}
 use Rattle.sip_reader.specs.declared.request.RenewAll.{RenewAll}
 use Rattle.loan_meaning.specs.Lending.{lending_tests, other_at, lending_of, lending_rule_by, lending_rule, renewal_tests, renewal_rule, renew_rule_known, renew_rule, checkout_rule_known, checkout_rule}
-use Rattle.loan_meaning.specs.Lookups.{patron_at, item_at, fee_at, borrower_at, ask_after}
+use Rattle.loan_meaning.specs.Lookups.{patron_at, item_at, borrower_at, ask_after}
 use Rattle.loan_meaning.specs.Owing.{owed_from, owed_at, owing_tests}
 use Rattle.loan_meaning.specs.RenewingAll.{turn_rule_known, turn_rule, turns_rule, renew_all_rule_known, renew_all_rule}
 use Rattle.loan_meaning.specs.Returning.{checkin_rule}
-use Rattle.read_set.specs.Asks.{Asks, Give, Ask, over, ◌>>=◌}
+use Rattle.read_set.specs.Asks.{Asks, Give, Ask, over, follow}
 use Rattle.read_set.specs.Fees.{rest_of, owed, owing_verdict}
 use Rattle.read_set.specs.Ids.{same}
 use Rattle.read_set.specs.Known.{as_fee, as_article, patron_in, item_in, fee_in, borrower_in}
-use Rattle.read_set.specs.Loans.{by_checkout, by_renew, is_lent, lent_to, may_renew, renewals_of, refused, lending_verdict, lending_made, lending_by, lending, other_in, renewal_verdict, renewal_by, renewal, renew_known, renew, checkout_known, checkout}
-use Rattle.read_set.specs.Maps.{Map, put}
+use Rattle.read_set.specs.Loans.{by_checkout, by_renew, is_lent, lent_to, may_renew, renewals_of, lending_verdict, lending_made, lending_by, lending, other_in, renewal_verdict, renewal_by, renewal, renew_known, renew, checkout_known, checkout}
+use Rattle.read_set.specs.Maps.{Map, Part, Agrees, put}
+use Rattle.read_set.specs.Stops.{Follows}
+use Rattle.read_set.specs.declared.source.Stop.{Stop}
 use Rattle.read_set.specs.Queues.{has_queue, first_is_another}
 use Rattle.read_set.specs.RenewAlls.{by_renew_all, turn_by, turn_known, turn, turns, none_renewed, all_renewed, renew_all_known, renew_all}
 use Rattle.read_set.specs.Returns.{checked_in, loan_of, checkin}
-use Rattle.read_set.specs.declared.effect.Effect.{Effect}
 use Rattle.read_set.specs.declared.known.Article.{Article}
 use Rattle.read_set.specs.declared.known.Member.{Member}
 use Rattle.read_set.specs.declared.progress.Renewals.{Renewals}
 use Rattle.read_set.specs.declared.verdict.LoanRequest.{LoanRequest}
 use Rattle.read_set.specs.declared.verdict.Verdict.{Verdict}
 use Rattle.read_set.specs.declared.verdict.Verdict.TheVariants as verdicts
-use Rattle.read_set.proofs.Following.{over_then}
+use Rattle.read_set.proofs.Following.{over_then, settles}
 
 after_writes : (M : Map) (k : Key) (o : Option Record) → over M (option_map_or (λ r. Give (Some r)) o (Ask k Give)) ≡ option_or o (M k)
 after_writes M k None = refl
@@ -203,3 +204,9 @@ all_known M p n q date (Some member) =
 pub renew_all_whole : (M : Map) (p : Terms) (n : ℕ) (q : RenewAll) (date : List ℕ) → over M (renew_all_rule p n q date) ≡ renew_all p n q date M
 unfolding renew_all_rule patron_at
 renew_all_whole M p n q date = all_known M p n q date (patron_in p M q.patron)
+
+-- what a call returned that followed a program is what the program means, over every map that has what is had
+pub meant : {A : Type 0} (has : Part) (m : Asks A) (f : Map → A) (r : Result A Stop) → ((M : Map) → over M m ≡ f M) → Follows r (follow has m)
+    → IfOk r (λ x. (M : Map) → Agrees has M → x ≡ f M)
+meant has m f (Ok x) whole h = λ M a. sym (settles has M m x a h) ∙ whole M
+meant has m f (Err stop) whole h = tt

@@ -1,6 +1,6 @@
--- Checkout and renewal, record by record: the patron, then the item, then the fees where they matter, then the other
--- patron whose loan ends.
-use Rattle.std.specs.Prelude.{ℕ, Bool, not, ◌&&◌, nat_le, List, [], length, Option, Some, None, if◌then◌else◌}
+-- A device of proofs: checkout and renewal as programs that ask record by record: the patron, then the item, then the fees
+-- where they matter, then the other patron whose loan ends. What they mean stands in read_set.
+use Rattle.std.specs.Prelude.{ℕ, not, ◌&&◌, nat_le, List, [], length, Option, Some, None, if◌then◌else◌}
 use Rattle.circ_policy.specs.Terms.{Terms}
 use Rattle.circ_records.specs.Records.{Entries}
 use Rattle.circ_records.specs.declared.record.Loan.{Loan}

@@ -3,3 +3,4 @@ pub mod Lookups
 pub mod Owing
 pub mod RenewingAll
 pub mod Returning
+pub mod Sums

@@ -2,6 +2,7 @@
 
 ghost use Rattle.std.specs.Prelude.{◌≡◌, nat_lt, OnOk};
 ghost use Rattle.loan_meaning.specs.Owing.{owed_at, owed_from, owing_tests};
+ghost use Rattle.loan_meaning.specs.Sums.{IsKnown};
 ghost use Rattle.read_set.specs.Asks.{follow};
 ghost use Rattle.read_set.specs.Effects.{written};
 ghost use Rattle.read_set.specs.Fees.{rest_of, fee_made, with_fee, owing_verdict};
@@ -43,6 +44,27 @@ pub fn owed_of<S: Source>(
         sum += u128::from(rest(known_fee(&found)));
     }
     Ok(sum)
+}
+
+/// What is owed over a list of fees after the writes so far, where it is known already; else it is summed, and known.
+pub fn owed_once<S: Source>(
+    alloc: Global,
+    source: &mut S,
+    writes: &Draft,
+    fees: &[Id],
+    sum: &mut Option<u128>,
+) -> Result<u128, Stop>
+    requires { IsKnown (S.has source.old) writes.now fees.now sum.old }
+    ensures gives { Follows result (follow (S.has source.old) (owed_at writes.now fees.now)) }
+    ensures keeps { S.has source.new ≡ S.has source.old }
+    ensures known { OnOk result (IsKnown (S.has source.old) writes.now fees.now sum.new) }
+{
+    if let Some(known) = *sum {
+        return Ok(known);
+    }
+    let owed = owed_of(alloc, source, writes, fees)?;
+    *sum = Some(owed);
+    Ok(owed)
 }
 
 /// Whether an amount is above 0.
@@ -105,7 +127,7 @@ fn owing(owes: u128, agreed: bool, member: &Member, article: &Article) -> Verdic
     }
 }
 
-/// The last tests of a loan and of a renewal.
+/// The last tests of a loan and of a renewal. `sum` is what is known of the sum that is owed.
 #[tactic(auto, unfolding(crate::specs::Owing::owing_tests), using(read_set::proofs::Following::follow_wants))]
 pub fn test_owing<S: Source>(
     alloc: Global,
@@ -114,10 +136,13 @@ pub fn test_owing<S: Source>(
     agreed: bool,
     member: &Member,
     article: &Article,
+    sum: &mut Option<u128>,
 ) -> Result<Verdict, Stop>
+    requires { IsKnown (S.has source.old) writes.now member.now.patron.fees sum.old }
     ensures gives { Follows result (follow (S.has source.old) (owing_tests writes.now agreed member.now article.now)) }
     ensures keeps { S.has source.new ≡ S.has source.old }
+    ensures known { OnOk result (IsKnown (S.has source.old) writes.now member.now.patron.fees sum.new) }
 {
-    let owes = owed_of(alloc, source, writes, member.patron.fees.as_slice())?;
+    let owes = owed_once(alloc, source, writes, member.patron.fees.as_slice(), sum)?;
     Ok(owing(owes, agreed, member, article))
 }

@@ -5,7 +5,8 @@ ghost use Rattle.loan_meaning.specs.Lending.{lending_tests, other_at, lending_of
 ghost use Rattle.read_set.specs.Asks.{follow};
 ghost use Rattle.read_set.specs.Effects.{written};
 ghost use Rattle.read_set.specs.Ids.{without};
-ghost use Rattle.read_set.specs.Loans.{lent_to, freed, freed_by, lent, lent_list, lending_patron, lending_records, lending_writes, lending_made};
+ghost use Rattle.read_set.specs.Loans.{lent_to, freed, freed_by, lent, lent_list, lending_patron, lending_records, lending_writes, lending_made, checkout};
+ghost use Rattle.read_set.specs.Maps.{Map, Agrees};
 ghost use Rattle.read_set.specs.Stops.{Follows};
 
 use crate::asking::{ask_checkout, charge_of, due_of, has_lent_to, has_loan, loan_in, rental_in};
@@ -49,7 +50,15 @@ fn test_lending<S: Source>(
     if member.class.max_loans as usize <= member.patron.loans.len() {
         return Ok(Verdict::Refused);
     }
-    test_owing(alloc, source, &Draft::new(alloc), a.agreed, member, article)
+    test_owing(
+        alloc,
+        source,
+        &Draft::new(alloc),
+        a.agreed,
+        member,
+        article,
+        &mut None,
+    )
 }
 
 fn other_of<S: Source>(
@@ -380,6 +389,7 @@ pub fn check_out<S: Source>(
     source: &mut S,
 ) -> Result<Effect, Stop>
     ensures gives { Follows result (follow (S.has source.old) (checkout_rule policy.now n request.now date)) }
+    ensures means { IfOk result (λ e. (M : Map) → Agrees (S.has source.old) M → e ≡ checkout policy.now n request.now date M) }
     ensures keeps { S.has source.new ≡ S.has source.old }
 {
     let member = patron_of(alloc, policy, source, &request.patron)?;

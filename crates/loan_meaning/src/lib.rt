@@ -11,6 +11,7 @@ mod lookup;
 mod renewing;
 mod renewing_all;
 mod returning;
+mod running;
 mod telling;
 
 pub use asking::{has_lent_to, has_loan};

@@ -1,12 +1,16 @@
 //! Lists of ids and queues of holds.
 
-ghost use Rattle.std.specs.Prelude.{◌≡◌, IfOk};
+ghost use Rattle.std.specs.Prelude.{◌≡◌, ℕ, List, IfOk};
+ghost use Rattle.std.specs.BTreeSet.{contains};
+ghost use Rattle.std.specs.Cmp.Lexicographic.{slice_cmp};
+ghost use Rattle.std.specs.Ordering.{nat_cmp};
 ghost use Rattle.read_set.specs.Ids.{same, has_id, without, without_all};
 ghost use Rattle.read_set.specs.Queues.{place_from, waits, has_queue, first_is_another, without_hold, with_pickup};
 
 use circ_records::{Hold, Holds, Ids};
 use sip_reader::{Id, Text};
 use std::alloc::{AllocError, Global};
+use std::collections::BTreeSet;
 
 /// Whether two ids are one.
 pub fn is_same(a: &Id, b: &Id) -> bool
@@ -46,16 +50,34 @@ pub fn has_id(ids: &[Id], id: &Id) -> bool
 pub fn without_all(alloc: Global, ids: &Ids, gone: &[Id]) -> Result<Ids, AllocError>
     ensures { IfOk result (λ left. left ≡ without_all gone.now ids.now) }
 {
-    let kept = kept_all(alloc, ids.as_slice(), gone)?;
+    let all = set_of(alloc, gone)?;
+    let kept = kept_all(alloc, ids.as_slice(), gone, &all)?;
     Ok(Ids::from_vec(kept))
 }
 
-fn kept_all(alloc: Global, ids: &[Id], gone: &[Id]) -> Result<Vec<Id>, AllocError>
-    ensures { IfOk result (λ v. v.items ≡ without_all gone.now ids.now) }
+fn set_of(alloc: Global, ids: &[Id]) -> Result<BTreeSet<Id>, AllocError>
+    ensures { IfOk result (λ s. (q : List ℕ) → contains (slice_cmp nat_cmp) s q ≡ has_id q ids.now) }
+{
+    let mut set = BTreeSet::new(alloc);
+    for id in ids {
+        set.insert(*id)?;
+    }
+    Ok(set)
+}
+
+/// The ids that aren't gone; the gone ones are lent as a list and as a set.
+fn kept_all(
+    alloc: Global,
+    ids: &[Id],
+    _gone: &[Id],
+    all: &BTreeSet<Id>,
+) -> Result<Vec<Id>, AllocError>
+    requires { (q : List ℕ) → contains (slice_cmp nat_cmp) all.now q ≡ has_id q _gone.now }
+    ensures { IfOk result (λ v. v.items ≡ without_all _gone.now ids.now) }
 {
     let mut kept = Vec::new(alloc);
     for other in ids {
-        if !has_id(gone, other) {
+        if !all.contains(other) {
             kept.push(*other)?;
         }
     }

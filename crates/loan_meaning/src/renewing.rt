@@ -2,10 +2,12 @@
 
 ghost use Rattle.std.specs.Prelude.{◌≡◌, IfOk, OnOk, Some};
 ghost use Rattle.loan_meaning.specs.Lending.{renewal_tests, renewal_rule, renew_rule_known, renew_rule};
+ghost use Rattle.loan_meaning.specs.Sums.{IsKnown};
 ghost use Rattle.read_set.specs.Asks.{follow};
 ghost use Rattle.read_set.specs.Effects.{written};
-ghost use Rattle.read_set.specs.Loans.{may_renew, renewals_of, renewed_loan, renewed, charged, renewal_writes, renewal_made, renewal_by};
+ghost use Rattle.read_set.specs.Loans.{may_renew, renewals_of, renewed_loan, renewed, charged, renewal_writes, renewal_made, renewal_by, renew};
 ghost use Rattle.read_set.specs.Fees.{with_fee};
+ghost use Rattle.read_set.specs.Maps.{Map, Agrees};
 ghost use Rattle.read_set.specs.Stops.{Follows};
 
 use crate::asking::{ask_renew, charge_of, due_of, rental_in};
@@ -37,7 +39,7 @@ fn renewals(loan: Option<Loan>) -> u32
     }
 }
 
-/// The tests of a renewal, after the writes so far.
+/// The tests of a renewal, after the writes so far. `sum` is what is known of the sum that is owed.
 #[tactic(auto, unfolding(crate::specs::Lending::renewal_tests))]
 pub fn test_renewal<S: Source>(
     alloc: Global,
@@ -45,10 +47,13 @@ pub fn test_renewal<S: Source>(
     a: &LoanRequest,
     member: &Member,
     article: &Article,
+    sum: &mut Option<u128>,
     source: &mut S,
 ) -> Result<Verdict, Stop>
+    requires { IsKnown (S.has source.old) writes.now member.now.patron.fees sum.old }
     ensures gives { Follows result (follow (S.has source.old) (renewal_tests writes.now a.now member.now article.now)) }
     ensures keeps { S.has source.new ≡ S.has source.old }
+    ensures known { OnOk result (IsKnown (S.has source.old) writes.now member.now.patron.fees sum.new) }
 {
     if !is_renewable(a, article.item.loan) {
         return Ok(Verdict::Refused);
@@ -65,7 +70,7 @@ pub fn test_renewal<S: Source>(
     if member.class.max_renewals <= renewals(article.item.loan) {
         return Ok(Verdict::Refused);
     }
-    test_owing(alloc, source, writes, a.agreed, member, article)
+    test_owing(alloc, source, writes, a.agreed, member, article, sum)
 }
 
 fn renew_loan(due: Day, loan: Option<Loan>) -> Option<Loan>
@@ -220,7 +225,8 @@ pub fn renew_one<S: Source>(
     ensures gives { Follows result (follow (S.has source.old) (renewal_rule policy.now n a.now date member article)) }
     ensures keeps { S.has source.new ≡ S.has source.old }
 {
-    let verdict = test_renewal(alloc, &Draft::new(alloc), a, &member, &article, source)?;
+    let writes = Draft::new(alloc);
+    let verdict = test_renewal(alloc, &writes, a, &member, &article, &mut None, source)?;
     Ok(renew_by(alloc, policy, n, a, date, member, article, verdict)?)
 }
 
@@ -257,6 +263,7 @@ pub fn renew_item<S: Source>(
     source: &mut S,
 ) -> Result<Effect, Stop>
     ensures gives { Follows result (follow (S.has source.old) (renew_rule policy.now n request.now date)) }
+    ensures means { IfOk result (λ e. (M : Map) → Agrees (S.has source.old) M → e ≡ renew policy.now n request.now date M) }
     ensures keeps { S.has source.new ≡ S.has source.old }
 {
     let member = patron_of(alloc, policy, source, &request.patron)?;

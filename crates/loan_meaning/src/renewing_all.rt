@@ -5,17 +5,20 @@ ghost use Rattle.circ_records.specs.declared.key.Key.TheVariants as keys;
 ghost use Rattle.circ_records.specs.declared.record.FeeType.TheVariants as fee_types;
 ghost use Rattle.circ_records.specs.declared.record.Record.TheVariants as records;
 ghost use Rattle.loan_meaning.specs.RenewingAll.{turn_rule_known, turn_rule, turns_rule, renew_all_rule_known, renew_all_rule};
+ghost use Rattle.loan_meaning.specs.Sums.{Runs};
 ghost use Rattle.read_set.specs.Asks.{follow};
 ghost use Rattle.read_set.specs.Effects.{written};
 ghost use Rattle.read_set.specs.Fees.{fee_made, with_fee};
 ghost use Rattle.read_set.specs.Loans.{renewed};
-ghost use Rattle.read_set.specs.RenewAlls.{by_renew_all, one_renewed, one_left, turn_by, none_renewed, renew_all_answer, all_renewed};
+ghost use Rattle.read_set.specs.Maps.{Map, Agrees};
+ghost use Rattle.read_set.specs.RenewAlls.{by_renew_all, one_renewed, one_left, turn_by, none_renewed, renew_all_answer, all_renewed, renew_all};
 ghost use Rattle.read_set.specs.Stops.{Follows};
 
 use crate::asking::{due_of, rental_in};
 use crate::fees::{has_amount, list_fee, make_fee};
 use crate::lookup::{patron_of, read_after};
 use crate::renewing::{renew_loan_of, test_renewal};
+use crate::running::{are_new, charge_by, owed_with};
 use circ_policy::Policy;
 use circ_records::{FeeType, Key, Patron, Record};
 use read_set::{
@@ -168,14 +171,20 @@ fn turn_known<S: Source>(
     date: Stamp,
     done: Renewals,
     article: Article,
+    fresh: bool,
+    sum: &mut Option<u128>,
     source: &mut S,
 ) -> Result<Renewals, Stop>
-    requires { done.made + 1 < 2 ^ 64 }
+    requires small { done.made + 1 < 2 ^ 64 }
+    requires runs { Runs (S.has source.old) n fresh done sum.old }
     ensures gives { Follows result (follow (S.has source.old) (turn_rule_known policy.now n a.now date done (Some article))) }
     ensures keeps { S.has source.new ≡ S.has source.old }
     ensures few { IfOk result (λ next. next.made ≤ done.made + 1) }
+    ensures runs { IfOk result (λ next. Runs (S.has source.old) n fresh next sum.new) }
 {
-    let verdict = test_renewal(alloc, &done.writes, a, &done.member, &article, source)?;
+    let verdict = test_renewal(alloc, &done.writes, a, &done.member, &article, sum, source)?;
+    let charge = charge_by(verdict, rental_in(&article));
+    *sum = owed_with(fresh, charge, *sum);
     Ok(end_turn(policy, n, a, date, article, done, verdict)?)
 }
 
@@ -187,15 +196,19 @@ fn turn_any<S: Source>(
     date: Stamp,
     done: Renewals,
     article: Option<Article>,
+    fresh: bool,
+    sum: &mut Option<u128>,
     source: &mut S,
 ) -> Result<Renewals, Stop>
-    requires { done.made + 1 < 2 ^ 64 }
+    requires small { done.made + 1 < 2 ^ 64 }
+    requires runs { Runs (S.has source.old) n fresh done sum.old }
     ensures gives { Follows result (follow (S.has source.old) (turn_rule_known policy.now n a.now date done article)) }
     ensures keeps { S.has source.new ≡ S.has source.old }
     ensures few { IfOk result (λ next. next.made ≤ done.made + 1) }
+    ensures runs { IfOk result (λ next. Runs (S.has source.old) n fresh next sum.new) }
 {
     match article {
-        Some(article) => turn_known(alloc, policy, n, a, date, done, article, source),
+        Some(article) => turn_known(alloc, policy, n, a, date, done, article, fresh, sum, source),
         None => Ok(leave(a.item, done)?),
     }
 }
@@ -209,16 +222,20 @@ fn take_turn<S: Source>(
     a: &LoanRequest,
     date: Stamp,
     done: Renewals,
+    fresh: bool,
+    sum: &mut Option<u128>,
     source: &mut S,
 ) -> Result<Renewals, Stop>
-    requires { done.made + 1 < 2 ^ 64 }
+    requires small { done.made + 1 < 2 ^ 64 }
+    requires runs { Runs (S.has source.old) n fresh done sum.old }
     ensures gives { Follows result (follow (S.has source.old) (turn_rule policy.now n a.now date done)) }
     ensures keeps { S.has source.new ≡ S.has source.old }
     ensures few { IfOk result (λ next. next.made ≤ done.made + 1) }
+    ensures runs { IfOk result (λ next. Runs (S.has source.old) n fresh next sum.new) }
 {
     let found = read_after(alloc, source, &done.writes, &Key::Item(a.item))?;
     let article = known_item(policy, found);
-    turn_any(alloc, policy, n, a, date, done, article, source)
+    turn_any(alloc, policy, n, a, date, done, article, fresh, sum, source)
 }
 
 fn begin(alloc: Global, member: Member) -> Renewals
@@ -247,10 +264,12 @@ fn take_turns<S: Source>(
     ensures gives { Follows result (follow (S.has source.old) (turns_rule policy.now n request.now date items.now (none_renewed member))) }
     ensures keeps { S.has source.new ≡ S.has source.old }
 {
+    let fresh = are_new(n, member.patron.fees.as_slice());
+    let mut sum = None;
     let mut done = begin(alloc, member);
     for item in items {
         let a = ask_for(request, *item);
-        done = take_turn(alloc, policy, n, &a, date, done, source)?;
+        done = take_turn(alloc, policy, n, &a, date, done, fresh, &mut sum, source)?;
     }
     Ok(done)
 }
@@ -359,6 +378,7 @@ pub fn renew_all<S: Source>(
     source: &mut S,
 ) -> Result<Effect, Stop>
     ensures gives { Follows result (follow (S.has source.old) (renew_all_rule policy.now n request.now date)) }
+    ensures means { IfOk result (λ e. (M : Map) → Agrees (S.has source.old) M → e ≡ renew_all policy.now n request.now date M) }
     ensures keeps { S.has source.new ≡ S.has source.old }
 {
     let member = patron_of(alloc, policy, source, &request.patron)?;

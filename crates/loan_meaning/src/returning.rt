@@ -4,7 +4,8 @@ ghost use Rattle.std.specs.Prelude.{◌≡◌, IfOk, OnOk, Some, None};
 ghost use Rattle.loan_meaning.specs.Returning.{checkin_rule};
 ghost use Rattle.read_set.specs.Asks.{follow};
 ghost use Rattle.read_set.specs.Effects.{written};
-ghost use Rattle.read_set.specs.Returns.{returned_item, checkin_answer, day_back, lateness, returner, returned_by, returned_writes, returned, checked_in, loan_of};
+ghost use Rattle.read_set.specs.Maps.{Map, Agrees};
+ghost use Rattle.read_set.specs.Returns.{returned_item, checkin_answer, day_back, lateness, returner, returned_by, returned_writes, returned, checked_in, loan_of, checkin};
 ghost use Rattle.read_set.specs.Stops.{Follows};
 
 use crate::asking::loan_in;
@@ -250,6 +251,7 @@ pub fn check_in<S: Source>(
     source: &mut S,
 ) -> Result<Effect, Stop>
     ensures gives { Follows result (follow (S.has source.old) (checkin_rule policy.now n request.now date)) }
+    ensures means { IfOk result (λ e. (M : Map) → Agrees (S.has source.old) M → e ≡ checkin policy.now n request.now date M) }
     ensures keeps { S.has source.new ≡ S.has source.old }
 {
     let article = item_of(alloc, policy, source, &request.item)?;

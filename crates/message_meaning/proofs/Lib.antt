@@ -1,2 +1,6 @@
+pub mod LineReach
+pub mod LoanReach
 pub mod Paying
+pub mod Reach
+pub mod Wanting
 pub mod Whole

@@ -1,6 +1,6 @@
-use Rattle.std.proofs.Common.{◌≡◌, ℕ, ◌+◌, ◌<◌, List, [], ◌∷◌, length, get_or, drop, Option, Bool, true, false, cond, refl, ap}
+use Rattle.std.proofs.Common.{◌≡◌, ℕ, ◌+◌, ◌<◌, List, length, get_or, drop, Option, true, false, refl}
 use Rattle.std.specs.Prelude.{◌==◌}
-use Rattle.read_set.specs.Asks.{Asks, Give, Done, follow, ◌>>=◌}
+use Rattle.read_set.specs.Asks.{Done, follow}
 use Rattle.message_meaning.specs.Paying.{pay_rule_each}
 use Rattle.read_set.specs.Payments.{pay_one}
 use Rattle.read_set.specs.Known.{as_fee}

@@ -1,6 +1,6 @@
 -- Over a whole map, the program of a line is the line's meaning.
 use Rattle.std.proofs.Common.{◌≡◌, ℕ, Bool, true, false, cond, not, List, [], ◌∷◌, Option, Some, None, refl, ap, sym, ◌∙◌, Result, Ok, Err, IfOk}
-use Rattle.std.specs.Prelude.{◌==◌, min}
+use Rattle.std.specs.Prelude.{◌==◌}
 use Rattle.std.proofs.Math.Nat.{zero-min}
 use Rattle.std.proofs.lemmas.Bool.{eqb-true}
 use Rattle.circ_policy.specs.Terms.{Terms}
@@ -33,7 +33,7 @@ use Rattle.read_set.specs.Meaning.{effect, effect_of}
 use Rattle.read_set.specs.Patrons.{block, block_known, blocked_by}
 use Rattle.read_set.specs.Payments.{part_of, part_paid, pay_one, pay_each, only_known, meant, payment, payment_answer, all_paid, fee_paid, fee_paid_known}
 use Rattle.read_set.specs.Plans.{Planned, reading_at}
-use Rattle.read_set.specs.Replay.{one_by, one_at, GivesAt}
+use Rattle.read_set.specs.Replay.{one_by, GivesAt}
 use Rattle.read_set.specs.Stops.{Follows}
 use Rattle.read_set.specs.declared.effect.Effect.{Effect}
 use Rattle.read_set.specs.declared.known.Member.{Member}

@@ -7,6 +7,8 @@ mod blocking;
 mod holding;
 mod item_status;
 mod lines;
+mod needs;
 mod payment;
 
 pub use lines::perform;
+pub use needs::need;

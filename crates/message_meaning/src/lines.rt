@@ -4,6 +4,7 @@ ghost use Rattle.read_set.specs.Asks.{follow};
 ghost use Rattle.read_set.specs.Maps.{Map, Agrees};
 ghost use Rattle.read_set.specs.Replay.{GivesAt};
 ghost use Rattle.read_set.specs.Stops.{Follows, LacksAt};
+ghost use Rattle.read_set.specs.Wanted.{WantsAt};
 
 use crate::blocking::block;
 use crate::holding::hold;
@@ -26,6 +27,7 @@ pub fn perform<S: Source>(
 ) -> Result<Effect, Stop>
     ensures gives { IfOk result (λ e. (M : Map) → Agrees (S.has source.old) M → GivesAt plan.now line M e) }
     ensures lacks { IfErr result (LacksAt (S.has source.old)) }
+    ensures wanted { IfErr result (WantsAt plan.now line (S.has source.old)) }
     ensures keeps { S.has source.new ≡ S.has source.old }
 {
     follow_line(alloc, plan, line, source)

@@ -1,7 +1,7 @@
 use Rattle.std.proofs.Common.{◌≡◌, Option, Some, None, refl, ap, ◌∙◌, Result, Ok, Err, IfOk, sym}
 use Rattle.std.specs.Prelude.{IfErr}
 use Rattle.std.specs.Option.{option_map_or}
-use Rattle.read_set.specs.Asks.{Asks, Give, Ask, ◌>>=◌, Reached, Done, Wants, follow, over}
+use Rattle.read_set.specs.Asks.{Asks, Give, Ask, ◌>>=◌, Done, Wants, follow, over}
 use Rattle.read_set.specs.Stops.{StopsAt, Follows, LacksAt}
 use Rattle.read_set.specs.Maps.{Agrees}
 use Rattle.read_set.specs.declared.source.Stop.{Stop}

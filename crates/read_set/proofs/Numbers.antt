@@ -1,15 +1,28 @@
--- The numbers of a journal's lines.
-use Rattle.std.proofs.Common.{◌≡◌, ℕ, zero, suc, ◌+◌, ◌-◌, ◌≤◌, List, [], ◌∷◌, length, slice_get, Option, Some, None, refl, ap, sym, ◌∙◌, arith}
-use Rattle.journal_table.specs.Entry.{Entry, Numbered, NumberedFrom}
-use Rattle.read_set.specs.Plans.{beginning}
+-- The plan of a journal's readings.
+use Rattle.std.proofs.Common.{◌≡◌, ◌∙◌, ℕ, List, [], ◌∷◌, map, refl, ap}
+use Rattle.std.specs.Prelude.{unwrap_or}
+use Rattle.circ_policy.specs.Terms.{Terms}
+use Rattle.circ_records.specs.Records.{Entries}
+use Rattle.journal_table.specs.Entry.{Entry, first_number}
+use Rattle.journal_table.specs.Readings.{first_read, readings_of, requests_read, reading_at}
+use Rattle.read_set.specs.Plans.{Planned, plan_of, plan_read}
+use Rattle.sip_reader.specs.Reading.{reading}
+use Rattle.sip_reader.specs.declared.request.Reading.{Reading}
 
-number_at : (n : ℕ) (lines : List Entry) (i : ℕ) (e : Entry) → NumberedFrom n lines → slice_get lines i ≡ Some e → e.number ≡ n + i
-number_at n [] zero e h s = cc
-number_at n [] (suc i) e h s = cc
-number_at n (l ∷ more) zero e h s = let same : l ≡ e = cc in let at : l.number ≡ e.number = ap (λ (x : Entry). x.number) same in let first : l.number ≡ n = h.0 in omega arith
-number_at n (l ∷ more) (suc i) e h s = let at : e.number ≡ (n + 1) + i = number_at (n + 1) more i e h.1 s in omega arith
+first-same : (lines : List Entry) → first_read (readings_of lines) ≡ first_number lines
+first-same [] = refl
+first-same (line ∷ rest) = refl
 
--- the last line's number is so many behind the first as there are other lines
-pub last_number : (lines : List Entry) (e : Entry) → Numbered lines → slice_get lines (length lines - 1) ≡ Some e → e.number ≡ beginning lines + (length lines - 1)
-last_number [] e h s = cc
-last_number (l ∷ more) e h s = number_at l.number (l ∷ more) (length (l ∷ more) - 1) e (refl, h) s
+readings-same : (lines : List Entry) → map reading_at (readings_of lines) ≡ requests_read lines
+readings-same [] = refl
+readings-same (line ∷ rest) = ap (λ rs. reading_at (record { number = line.number; reading = reading line.request }) ∷ rs) (readings-same rest)
+
+planned : Terms → Entries → ℕ → List Reading → Planned
+planned policy base first readings = record { policy = policy; base = base; first = first; readings = readings }
+
+-- of a journal's readings the plan is the journal's
+pub plan-same : (policy : Terms) (base : Entries) (lines : List Entry) → plan_read policy base (readings_of lines) ≡ plan_of policy base lines
+unfolding planned
+plan-same policy base lines =
+    ap (λ first. planned policy base (unwrap_or first 10000000000) (map reading_at (readings_of lines))) (first-same lines)
+    ∙ ap (planned policy base (unwrap_or (first_number lines) 10000000000)) (readings-same lines)

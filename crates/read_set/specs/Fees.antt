@@ -1,5 +1,5 @@
 -- Fees: what is owed, and what is charged (circulation rules, due days and money).
-use Rattle.std.specs.Prelude.{ℕ, Bool, not, ◌&&◌, nat_lt, ◌-◌, List, [], ◌∷◌, ◌++◌, map, sum, Option, Some, None, if◌then◌else◌}
+use Rattle.std.specs.Prelude.{ℕ, Bool, not, ◌&&◌, nat_lt, ◌-◌, List, [], ◌∷◌, ◌++◌, map, sum, Option, if◌then◌else◌}
 use Rattle.std.specs.Option.{option_map_or}
 use Rattle.circ_records.specs.Records.{Entries}
 use Rattle.circ_records.specs.declared.key.Key.TheVariants as keys

@@ -8,11 +8,16 @@ pub mod Known
 pub mod Loans
 pub mod Maps
 pub mod Meaning
+pub mod Needs
+pub mod Notes
 pub mod Patrons
 pub mod Payments
+pub mod Places
 pub mod Plans
 pub mod Queues
 pub mod RenewAlls
 pub mod Replay
 pub mod Returns
+pub mod Settling
 pub mod Stops
+pub mod Wanted

@@ -1,5 +1,5 @@
 -- The records as they stand at a moment, as a whole map.
-use Rattle.std.specs.Prelude.{◌≡◌, List, Option, Some, None}
+use Rattle.std.specs.Prelude.{◌≡◌, Option, Some}
 use Rattle.std.specs.Option.{option_or}
 use Rattle.circ_records.specs.Records.{Entries, record_at}
 use Rattle.circ_records.specs.declared.key.Key.{Key}

@@ -1,9 +1,7 @@
 -- Block Patron (SIP 2.00, message 01) and Patron Enable (message 25), by the circulation rules: block, enable, patron status.
 use Rattle.std.specs.Prelude.{ℕ, Bool, true, false, ◌||◌, nat_lt, nat_le, List, [], ◌∷◌, length, Option, Some, None}
 use Rattle.circ_policy.specs.Terms.{Terms}
-use Rattle.circ_policy.specs.declared.class.Class.{Class}
 use Rattle.circ_records.specs.declared.key.Key.TheVariants as keys
-use Rattle.circ_records.specs.declared.record.Patron.{Patron}
 use Rattle.circ_records.specs.declared.record.Record.TheVariants as records
 use Rattle.sip_answer.specs.declared.answer.Answer.{Answer}
 use Rattle.sip_answer.specs.declared.answer.Answer.TheVariants as answers

@@ -1,6 +1,5 @@
 -- Fee Paid (SIP 2.00, message 37), by the circulation rules: fee paid.
 use Rattle.std.specs.Prelude.{ℕ, Bool, true, false, not, ◌==◌, min, ◌+◌, ◌-◌, List, [], ◌∷◌, ◌++◌, Option, Some, None, if◌then◌else◌}
-use Rattle.std.specs.Option.{option_map_or}
 use Rattle.circ_policy.specs.Terms.{Terms}
 use Rattle.circ_records.specs.declared.key.Key.TheVariants as keys
 use Rattle.circ_records.specs.declared.record.Fee.{Fee}

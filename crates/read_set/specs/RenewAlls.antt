@@ -1,7 +1,6 @@
 -- Renew All (SIP 2.00, message 65), by the circulation rules: renew all.
 use Rattle.std.specs.Prelude.{ℕ, Bool, true, false, nat_lt, ◌+◌, List, [], ◌∷◌, ◌++◌, Option, Some, None, if◌then◌else◌}
 use Rattle.circ_policy.specs.Terms.{Terms}
-use Rattle.circ_records.specs.Records.{Entries}
 use Rattle.circ_records.specs.declared.key.Key.TheVariants as keys
 use Rattle.circ_records.specs.declared.record.FeeType.TheVariants as fee_types
 use Rattle.circ_records.specs.declared.record.Record.TheVariants as records

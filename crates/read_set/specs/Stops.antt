@@ -1,5 +1,4 @@
-use Rattle.std.specs.Prelude.{◌≡◌, Option, Some, None, Result, Ok, Err}
-use Rattle.circ_records.specs.declared.key.Key.{Key}
+use Rattle.std.specs.Prelude.{◌≡◌, None, Result, Ok, Err}
 use Rattle.read_set.specs.Asks.{Reached, Done, Wants}
 use Rattle.read_set.specs.Maps.{Part}
 use Rattle.read_set.specs.declared.source.Stop.{Stop}

@@ -1,7 +1,8 @@
 //! What a line does.
 
-ghost use Rattle.std.specs.Prelude.{◌≡◌, ◌∷◌, [], IfOk, OnOk};
+ghost use Rattle.std.specs.Prelude.{◌≡◌, ◌∷◌, [], map, IfOk, OnOk};
 ghost use Rattle.std.specs.BTreeMap.{insert_entry};
+ghost use Rattle.std.specs.List.Sorted.{IsStrictlySortedBy};
 ghost use Rattle.std.specs.Option.{option_copied};
 ghost use Rattle.circ_records.specs.Keys.{key_cmp};
 ghost use Rattle.circ_records.specs.Records.{record_at};
@@ -77,7 +78,13 @@ impl Model for Writes {
 
     ghost Value = { Entries };
 
+    ghost use Rattle.std.specs.Prelude.{map};
+    ghost use Rattle.std.specs.List.Sorted.{IsStrictlySortedBy};
+    ghost use Rattle.circ_records.specs.Keys.{key_cmp};
+
     ghost view = { λ w. w.entries.items };
+
+    ghost invariant = { λ w. IsStrictlySortedBy key_cmp (map (λ e. e.0) w.entries.items) };
 }
 
 impl Writes {
@@ -101,7 +108,8 @@ impl Writes {
 
     /// The records with their keys, rising.
     pub fn as_slice(&self) -> &[(Key, Record)]
-        ensures { result.now ≡ self.now }
+        ensures writes { result.now ≡ self.now }
+        ensures rising { IsStrictlySortedBy key_cmp (map (λ e. e.0) self.now) }
     {
         self.entries.as_slice()
     }

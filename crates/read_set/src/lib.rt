@@ -6,14 +6,18 @@
 
 mod effect;
 mod known;
+mod notes;
 mod plan;
 mod progress;
 mod source;
 mod verdict;
+mod version;
 
 pub use effect::{Draft, Effect, Writes};
 pub use known::{Article, Member, known_fee, known_item, known_patron};
+pub use notes::{Name, Note, Notes, NotesSource};
 pub use plan::{Plan, PlanName};
 pub use progress::{Payments, Renewals};
 pub use source::{Source, Stop};
 pub use verdict::{LoanRequest, Verdict};
+pub use version::{Need, Version};

@@ -1,19 +1,24 @@
 //! What a replay begins with.
 
-ghost use Rattle.std.specs.Prelude.{◌≡◌, ◌+◌, ◌≤◌, ◌^◌, IfOk, length, map, option_copied};
+ghost use Rattle.std.specs.Prelude.{◌≡◌, ◌+◌, ◌≤◌, ◌^◌, List, IfOk, length, map, option_copied};
 ghost use Rattle.std.specs.List.Sorted.{IsStrictlySortedBy};
 ghost use Rattle.circ_records.specs.Keys.{key_cmp};
 ghost use Rattle.circ_records.specs.Records.{record_at};
-ghost use Rattle.journal_table.specs.Entry.{Numbered};
-ghost use Rattle.read_set.specs.Plans.{plan_of, readings_of, beginning, reading_at};
+ghost use Rattle.journal_table.specs.Entry.{Entry};
+ghost use Rattle.journal_table.specs.Readings.{reading_at as reading_in, readings_of as all_read};
+ghost use Rattle.journal_table.specs.declared.TheConstants.{LINE_LIMIT};
+ghost use Rattle.read_set.specs.Plans.{plan_of, plan_read, reading_at};
 
 use circ_policy::Policy;
 use circ_records::{Base, Key, Record};
-use journal_table::{Journal, Line};
-use sip_reader::{Reading, read_request};
+use journal_table::{Journal, Readings, read_in_turn};
+use sip_reader::Reading;
 use std::alloc::{AllocError, Global};
 use std::collections::btree_map::Keys;
-use std::marker::Model;
+use std::marker::{Brand, Model};
+
+/// The number at which the plan of a journal without lines begins, one behind the last that a line can have.
+const BEHIND_LAST: u64 = 10_000_000_000;
 
 /// The policy, the records before the first line, and the reading of each line.
 #[derive(Drop)]
@@ -21,18 +26,20 @@ pub struct Plan {
     policy: Policy,
     base: Base,
     first: u64,
-    readings: Vec<Reading>,
+    readings: Readings,
 }
 
 impl Model for Plan {
-    ghost use Rattle.std.specs.Prelude.{◌+◌, ◌≤◌, ◌^◌, length};
+    ghost use Rattle.std.specs.Prelude.{◌+◌, ◌≤◌, ◌^◌, length, map};
+    ghost use Rattle.journal_table.specs.Readings.{reading_at};
+    ghost use Rattle.journal_table.specs.declared.TheConstants.{LINE_LIMIT};
     ghost use Rattle.read_set.specs.Plans.{Planned};
 
     ghost Value = { Planned };
 
-    ghost view = { λ p. record { policy = p.policy; base = p.base; first = p.first; readings = p.readings.items } };
+    ghost view = { λ p. record { policy = p.policy; base = p.base; first = p.first; readings = map reading_at p.readings } };
 
-    ghost invariant = { λ p. p.first + length p.readings.items ≤ 2 ^ 64 };
+    ghost invariant = { λ p. (p.first + length p.readings ≤ 2 ^ 64) × (length p.readings ≤ LINE_LIMIT) };
 }
 
 impl Plan {
@@ -45,14 +52,24 @@ impl Plan {
     ) -> Result<Plan, AllocError>
         ensures { IfOk result (λ p. p ≡ plan_of policy base journal.now) }
     {
-        let first = first_of(journal.lines());
-        let readings = read_lines(alloc, journal.lines())?;
-        Ok(Plan {
+        let readings = read_in_turn(alloc, journal)?;
+        Ok(Plan::from_readings(policy, base, readings))
+    }
+
+    /// The plan of what the requests of a journal were read as.
+    pub fn from_readings(policy: Policy, base: Base, readings: Readings) -> Plan
+        ensures value { result ≡ plan_read policy base readings }
+        ensures journal { (lines : List Entry) → readings ≡ all_read lines → result ≡ plan_of policy base lines }
+    {
+        let first = readings.first().unwrap_or(BEHIND_LAST);
+        // Its contract says that they are few.
+        let _count = readings.len();
+        Plan {
             policy,
             base,
             first,
             readings,
-        })
+        }
     }
 
     /// The policy.
@@ -70,11 +87,12 @@ impl Plan {
     }
 
     /// What the lines are read as, in their order.
-    pub fn readings(&self) -> &[Reading]
-        ensures readings { result.now ≡ self.now.readings }
+    pub fn readings(&self) -> &Readings
+        ensures readings { map reading_in result.now ≡ self.now.readings }
         ensures numbered { self.now.first + length self.now.readings ≤ 2 ^ 64 }
+        ensures few { length self.now.readings ≤ LINE_LIMIT }
     {
-        self.readings.as_slice()
+        &self.readings
     }
 
     /// What the line of a number is read as.
@@ -103,32 +121,15 @@ impl Plan {
     }
 }
 
-/// The number of the first line.
-fn first_of(lines: &[Line]) -> u64
-    requires { Numbered lines.now }
-    ensures value { result ≡ beginning lines.now }
-    ensures numbered { result + length lines.now ≤ 2 ^ 64 }
-{
-    match lines.last() {
-        Some(last) => last.number() - (lines.len() as u64 - 1),
-        None => 10_000_000_000,
-    }
-}
-
-fn read_lines(alloc: Global, lines: &[Line]) -> Result<Vec<Reading>, AllocError>
-    ensures read { IfOk result (λ v. v.items ≡ readings_of lines.now) }
-    ensures all { IfOk result (λ v. length v.items ≡ length lines.now) }
-{
-    let mut readings = Vec::with_capacity(alloc, lines.len())?;
-    for line in lines {
-        readings.push(read_request(alloc, line.request())?)?;
-    }
-    Ok(readings)
-}
-
 /// Which plan it is. Each run picks it.
 pub trait PlanName {
     ghost use Rattle.read_set.specs.Plans.{Planned};
 
     ghost plan: { Planned };
+}
+
+impl PlanName for Brand {
+    ghost use Rattle.read_set.specs.Plans.{no_plan};
+
+    ghost plan = { no_plan };
 }

@@ -1,6 +1,7 @@
 //! The texts of the result tables.
 
-ghost use Rattle.std.specs.Prelude.{◌≡◌, IfOk, length};
+ghost use Rattle.std.specs.Prelude.{◌≡◌, ◌<◌, IfOk, length, map, slice_index_or};
+ghost use Rattle.journal_table.specs.Readings.{reading_at};
 ghost use Rattle.read_set.specs.Plans.{readings_of};
 ghost use Rattle.result_report.specs.Report.{told};
 ghost use Rattle.result_report.specs.Tables.{AreTexts};
@@ -8,7 +9,7 @@ ghost use Rattle.result_report.specs.Tellings.{Tells};
 
 use crate::outcome::Outcome;
 use crate::telling::Telling;
-use journal_table::{Journal, Line};
+use journal_table::{Journal, Line, Readings};
 use read_set::Plan;
 use sip_answer::Answer;
 use sip_reader::Reading;
@@ -69,16 +70,27 @@ pub fn report(
 fn tell(
     alloc: Global,
     lines: &[Line],
-    readings: &[Reading],
+    readings: &Readings,
     answers: &[Option<Answer>],
 ) -> Result<Telling, AllocError>
-    requires read { length readings.now ≡ length lines.now }
+    requires read { length (map reading_at readings.now) ≡ length lines.now }
     requires answered { length answers.now ≡ length lines.now }
-    ensures { IfOk result (Tells (told lines.now readings.now answers.now)) }
+    ensures { IfOk result (Tells (told lines.now (map reading_at readings.now) answers.now)) }
 {
     let mut telling = Telling::new(alloc)?;
     for (i, line) in lines.iter().enumerate() {
-        telling.line(alloc, line, &readings[i], &answers[i])?;
+        telling.line(alloc, line, reading_of(readings, i), &answers[i])?;
     }
     Ok(telling)
+}
+
+/// What the line at a place is read as.
+fn reading_of(readings: &Readings, i: usize) -> &Reading
+    requires { i < length (map reading_at readings.now) }
+    ensures is { result.now ≡ slice_index_or (map reading_at readings.now) i result.now }
+{
+    match readings.get(i) {
+        Some(reading) => reading,
+        None => unreachable!(),
+    }
 }

@@ -1,3 +1,11 @@
 pub mod Calendar
+pub mod DueTexts
+pub mod FirstFields
 pub mod Forms
+pub mod Framing
 pub mod ItemLists
+pub mod OwnLoans
+pub mod OwnPatrons
+pub mod OwnRenewals
+pub mod OwnText
+pub mod Written

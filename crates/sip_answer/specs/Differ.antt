@@ -2,7 +2,6 @@
 use Rattle.std.specs.Prelude.{◌≡◌, ◌+◌, ℕ, Bool, true, false, ◌&&◌, ◌==◌, not, nat_lt, List, [], ◌∷◌, ◌++◌, length, drop, slice_index, Option, Some, None, unwrap_or, is_some, count_by, if◌then◌else◌, codes}
 use Rattle.std.specs.List.{list_all}
 use Rattle.std.specs.Str.{bytes_eq}
-use Rattle.std.specs.Option.{option_map}
 use Rattle.sip_reader.specs.Reading.{trimmed}
 use Rattle.sip_reader.specs.Sum.{body}
 use Rattle.sip_answer.specs.Recorded.{◌>>=◌, ok_of, flag_of, count_at, due_in, fee_in, valid_in, items_in}

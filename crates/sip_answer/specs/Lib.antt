@@ -1,5 +1,6 @@
 pub mod Differ
 pub mod DueDates
+pub mod Laws
 pub mod Parts
 pub mod Recorded
 pub mod Texts

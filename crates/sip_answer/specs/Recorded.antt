@@ -1,5 +1,5 @@
 -- What can be read in a recorded response.
-use Rattle.std.specs.Prelude.{ℕ, Bool, true, false, ◌+◌, ◌*◌, ◌&&◌, ◌==◌, nat_le, List, [], ◌∷◌, length, drop, slice_index, Option, Some, None, unwrap_or, if◌then◌else◌}
+use Rattle.std.specs.Prelude.{ℕ, Bool, true, false, ◌+◌, ◌*◌, ◌&&◌, ◌==◌, nat_le, List, [], ◌∷◌, length, slice_index, Option, Some, None, if◌then◌else◌}
 use Rattle.std.specs.Char.{is_ascii_digit}
 use Rattle.std.specs.List.{filter_map}
 use Rattle.std.specs.Option.{option_and_then}
@@ -7,6 +7,7 @@ use Rattle.sip_reader.specs.Amounts.{amount_of}
 use Rattle.sip_reader.specs.Dates.{two_at, year_at}
 use Rattle.sip_reader.specs.Days.{day_at}
 use Rattle.sip_reader.specs.Fields.{field, pieces, text_after}
+use Rattle.sip_reader.specs.Reading.{says_yes}
 
 -- what can't be read lets nothing behind it be read
 infixl 10 ◌>>=◌
@@ -63,14 +64,9 @@ fee_of (Some (x ∷ text)) = amount_of (x ∷ text)
 unfoldable pub fee_in : List ℕ → Option ℕ
 fee_in rest = fee_of (field 66 86 (pieces rest))
 
--- the text is Y
-abbrev pub is_yes : Option (List ℕ) → Bool
-is_yes None = false
-is_yes (Some text) = (length text == 1) && (slice_index text 0 == 89)
-
--- Valid patron (BL) of the variable fields.
+-- Valid patron (BL) of the variable fields: a yes is Y, all else no.
 unfoldable pub valid_in : List ℕ → Bool
-valid_in rest = is_yes (field 66 76 (pieces rest))
+valid_in rest = says_yes (field 66 76 (pieces rest))
 
 -- all the items of the variable fields with an identifier, in their order
 unfoldable pub items_in : ℕ → ℕ → List ℕ → List (List ℕ)

@@ -1,5 +1,5 @@
 -- The bytes of an answer: which fixed parts and fields each response has, in their order.
-use Rattle.std.specs.Prelude.{ℕ, Bool, List, [], ◌++◌, length, Option, Some, None, is_some, codes, decimal}
+use Rattle.std.specs.Prelude.{ℕ, List, [], ◌++◌, length, Option, is_some, codes, decimal}
 use Rattle.std.specs.Option.{option_map, option_map_or}
 use Rattle.sip_reader.specs.Amounts.{amount_text}
 use Rattle.circ_policy.specs.Medias.{media_code}

@@ -107,7 +107,7 @@ pub struct LoanAnswer {
     pub due_form: DueForm,
     /// Whether a renewal was made.
     pub renewed: bool,
-    /// The rental that was charged, or for which the request is refused.
+    /// The rental that was charged, or for which the request is refused, in hundredths.
     pub rental: Option<Amount>,
     /// The currency of the rental, three letters.
     pub currency: [u8; 3],

@@ -5,6 +5,7 @@ mod answer;
 mod comparing;
 mod field;
 mod item_ids;
+mod laws;
 mod writing;
 
 pub use answer::{
@@ -14,6 +15,7 @@ pub use answer::{
 pub use comparing::differences;
 pub use field::Field;
 pub use item_ids::ItemIds;
+pub use laws::own_text_agrees;
 pub use writing::write_answer;
 
 #[cfg(test)]

@@ -1,5 +1,8 @@
 //! The whole run: words, files, the replay, one line and the status.
 
+ghost use Rattle.std.specs.Prelude.{◌≡◌};
+ghost use Rattle.sip_replay.specs.Statuses.{ended_status};
+
 use crate::chosen::Options;
 use crate::command_line::options;
 use crate::files::{read_inputs, write_output};
@@ -35,15 +38,18 @@ pub fn run<R: Files + AllocGlobal, S: AsStr, W: Write, E: Write>(
 ) -> u8 {
     match options(rt.alloc(), words) {
         Ok(options) => match replay(rt, &options, out) {
-            Ok(sizes) => if sizes.differences == 0 {
-                SAME
-            } else {
-                DIFFERENT
-            },
+            Ok(sizes) => status_of_end(sizes.differences),
             Err(stop) => stop.tell(err),
         },
         Err(error) => refuse(&error, out, err),
     }
+}
+
+/// The status of a run that came to its end, by the number of recorded responses that differ.
+fn status_of_end(differences: u64) -> u8
+    ensures { result ≡ ended_status differences }
+{
+    if differences == 0 { SAME } else { DIFFERENT }
 }
 
 /// Prints what clap says of the words: help to `out`, a refusal to `err`.

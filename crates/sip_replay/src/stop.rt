@@ -1,5 +1,8 @@
 //! What ends a run before its last line is printed, and the status that tells it.
 
+ghost use Rattle.std.specs.Prelude.{◌≡◌};
+ghost use Rattle.sip_replay.specs.Statuses.{status_of};
+
 use replay_run::Fault;
 use std::alloc::{AllocError, Global};
 use std::io;
@@ -50,7 +53,9 @@ impl Stop {
     }
 
     /// Prints what stopped the run, and gives its status. A failed write to `err` changes no status.
-    pub fn tell<E: Write>(&self, err: &mut E) -> u8 {
+    pub fn tell<E: Write>(&self, err: &mut E) -> u8
+        ensures { result ≡ status_of self.now }
+    {
         let _ = match self {
             Stop::Fault(fault) => writeln!(err, "fault {}: {fault}", fault.number()),
             Stop::File(path) => writeln!(err, "file: {path}"),
@@ -59,7 +64,9 @@ impl Stop {
         self.status()
     }
 
-    fn status(&self) -> u8 {
+    fn status(&self) -> u8
+        ensures { result ≡ status_of self.now }
+    {
         match self {
             Stop::Fault(fault) if fault.number() <= LAST_REFUSAL => REFUSED,
             _ => FAILED,

@@ -5,7 +5,8 @@ ghost use Rattle.std.specs.Option.{option_copied};
 ghost use Rattle.sip_reader.specs.Amounts.{amount_of};
 ghost use Rattle.sip_reader.specs.Dates.{two_at};
 ghost use Rattle.sip_reader.specs.Fields.{field, or_else, pieces, text_after};
-ghost use Rattle.sip_answer.specs.Recorded.{are_digits, count_at, due_in, fee_in, fee_of, flag_of, is_yes, ok_of, valid_in};
+ghost use Rattle.sip_reader.specs.Reading.{says_yes};
+ghost use Rattle.sip_answer.specs.Recorded.{are_digits, count_at, due_in, fee_in, fee_of, flag_of, ok_of, valid_in};
 
 use super::due_dates::day_in;
 use sip_reader::{Amount, Day};
@@ -136,11 +137,11 @@ fn hundredths_of(text: &[u8]) -> Option<u64>
 pub fn valid_in(rest: &[u8]) -> bool
     ensures { result ≡ valid_in rest.now }
 {
-    is_yes(first_field(rest, b'B', b'L'))
+    says_yes(first_field(rest, b'B', b'L'))
 }
 
-fn is_yes(text: Option<&[u8]>) -> bool
-    ensures { result ≡ is_yes (option_copied text.entry) }
+fn says_yes(text: Option<&[u8]>) -> bool
+    ensures { result ≡ says_yes (option_copied text.entry) }
 {
     match text {
         Some(text) => text.len() == 1 && text[0] == b'Y',

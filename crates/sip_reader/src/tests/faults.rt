@@ -8,6 +8,7 @@ const TOO_SHORT: &str = "
 1 => too_short
 1\r => too_short
 19 => too_short
+192026 => too_short
 1920260302    10150 => too_short
 19\r20260302    10150 => bad_date
 11NN2026 => too_short

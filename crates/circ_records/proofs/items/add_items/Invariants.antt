@@ -1,9 +1,7 @@
-use Rattle.std.proofs.Common.{map, take}
+use Rattle.std.proofs.Common.{take}
 use Rattle.std.specs.BTreeMap.{IsOrdered}
-use Rattle.csv.specs.Records.{fields_of}
-use Rattle.circ_records.specs.Base.{only_items}
 use Rattle.circ_records.specs.Keys.{key_cmp}
-use Rattle.circ_records.specs.Read.{Tells, rows_in}
+use Rattle.circ_records.specs.Read.{Tells, rows_in, to_items}
 use Rattle.circ_records.specs.Rules.{item_rule}
 use Rattle.circ_records.specs.declared.tables.TableName.TheVariants as table
 use Rattle.circ_records.proofs.Broken.{KeepsUpTo}
@@ -14,5 +12,5 @@ abbrev pub invariant-loop-i : goal.invariant-loop-i
 invariant-loop-i l = record {
   keeps : KeepsUpTo table.Items (item_rule l.policy) (rows_in l.rows).items l.i;
   rising : IsOrdered key_cmp l.records;
-  tells : Tells (only_items (take l.i (rows_in l.rows).items)) l.records;
+  tells : Tells (to_items (rows_in l.rows) (take l.i (rows_in l.rows).items)) l.records;
 }

@@ -3,6 +3,8 @@ use Rattle.loan_meaning.specs.Lookups.{patron_at, item_at}
 use Rattle.loan_meaning.specs.Lending.{renew_rule_known, renew_rule}
 use Rattle.read_set.specs.Loans.{by_renew}
 use Rattle.read_set.proofs.Following.{goes_on, stop_next, stop_then}
+use Rattle.read_set.specs.Loans.{renew}
+use Rattle.loan_meaning.proofs.Whole.{meant, renew_whole}
 use Rattle.loan_meaning.proofs.renewing.renew_item.Goals as goal
 
 pub returns-in_err-article-clause-gives : goal.returns-in_err-article-clause-gives
@@ -22,3 +24,8 @@ returns-clause-gives g c =
     let third = rw (c.in_ok-article.ensures.keeps, c.in_ok-member.ensures.keeps, c.ask_renew-a.ensures) at c.renew_both.ensures.gives in
     goes_on had (patron_at c.args.policy.now c.args.request.now.patron) _ c.in_ok-member.member _ c.in_ok-member.ensures.gives
     (goes_on had (item_at c.args.policy.now c.args.request.now.item) (λ item. renew_rule_known c.args.policy.now c.args.n (by_renew c.args.request.now) c.args.date c.in_ok-member.member item) c.in_ok-article.article _ second third)
+
+pub returns-clause-means : goal.returns-clause-means
+returns-clause-means g c =
+    meant (g.S.Source.has c.args.source.now) (renew_rule c.args.policy.now c.args.n c.args.request.now c.args.date) (renew c.args.policy.now c.args.n c.args.request.now c.args.date) c.renew_both.result
+    (λ M. renew_whole M c.args.policy.now c.args.n c.args.request.now c.args.date) (returns-clause-gives g c)

@@ -1,7 +1,6 @@
-use Rattle.std.proofs.Common.{ap, sym, ◌∙◌, ◌+◌, drop, arith}
+use Rattle.std.proofs.Common.{refl, sym, ◌∙◌, arith}
 use Rattle.std.proofs.lemmas.Result.{err_from_is_err_and}
-use Rattle.loan_meaning.specs.RenewingAll.{turns_rule}
-use Rattle.read_set.specs.Asks.{follow}
+use Rattle.loan_meaning.proofs.Sums.{run_none}
 use Rattle.loan_meaning.proofs.Turning.{step, stop_step}
 use Rattle.loan_meaning.proofs.renewing_all.take_turns.Goals as goal
 
@@ -20,7 +19,15 @@ loop-item-preserved g c =
     record {
       keeps = c.in_ok-done.ensures.keeps ∙ c.loop-item.invariant.keeps;
       few = omega (arith, c.in_ok-done.ensures.few, c.loop-item.invariant.few);
+      runs = rw (← c.loop-item.invariant.keeps) c.in_ok-done.ensures.runs;
       same =
           sym (step had c.args.policy.now c.args.n c.args.request.now c.args.date c.args.items.now c.loop-item.item-index c.item-item.result c.loop-item.done c.in_ok-done.done c.loop-item-test.true c.item-item.is next)
           ∙ c.loop-item.invariant.same;
     }
+
+pub loop-item-init : goal.loop-item-init
+loop-item-init g c =
+    let had = g.S.Source.has c.args.source.now in
+    let new = rw c.as_slice.ensures at c.are_new-fresh.ensures in
+    rw c.begin-done.ensures
+    (record { keeps = refl; few = omega arith; runs = run_none had c.args.n c.args.member c.are_new-fresh.result new; same = refl })

@@ -1,4 +1,4 @@
-use Rattle.std.proofs.Common.{ap, sym, true}
+use Rattle.std.proofs.Common.{ap, sym}
 use Rattle.read_set.specs.Asks.{Give, Done}
 use Rattle.loan_meaning.specs.Lookups.{fee_at}
 use Rattle.read_set.specs.Payments.{only_known}

@@ -1,8 +1,7 @@
-use Rattle.std.proofs.Common.{◌≡◌, ℕ, ap, sym, ◌∙◌, ◌+◌, drop, arith, rules, false}
+use Rattle.std.proofs.Common.{◌≡◌, ap, sym, ◌∙◌, ◌+◌, drop, rules, false}
 use Rattle.std.specs.Prelude.{◌==◌}
 use Rattle.std.proofs.lemmas.Result.{err_from_is_err_and}
 use Rattle.read_set.specs.Asks.{follow}
-use Rattle.read_set.specs.Known.{as_fee}
 use Rattle.message_meaning.specs.Paying.{pay_rule_each}
 use Rattle.read_set.specs.Payments.{pay_one}
 use Rattle.message_meaning.proofs.Paying.{step, stop_step}

@@ -1,6 +1,6 @@
 use Rattle.std.proofs.Common.{ap, sym, []}
 use Rattle.std.proofs.lemmas.Result.{err_from_is_err_and}
-use Rattle.read_set.specs.Asks.{Give, Done, ◌>>=◌}
+use Rattle.read_set.specs.Asks.{Give, Done}
 use Rattle.message_meaning.specs.Paying.{meant_at, pay_rule_each, payment_rule}
 use Rattle.read_set.specs.Payments.{all_paid}
 use Rattle.read_set.proofs.Following.{follow_then, stop_next, stop_then}

@@ -4,25 +4,24 @@ use Rattle.circ_records.specs.Read.{rows_in}
 use Rattle.circ_records.specs.Tables.{Rows, texts_of}
 use Rattle.circ_records.specs.Told.{entries_told}
 use Rattle.circ_records.proofs.Faults.{breaks-fails, fails-first, fails-then, passed-on}
-use Rattle.circ_records.proofs.Telling.{entries-told}
 use Rattle.circ_records.proofs.base.Base.read.Goals as goal
 
-pub returns-in_err-rows : goal.returns-in_err-rows
+pub returns-in_err-rows-clause-told : goal.returns-in_err-rows-clause-told
 unfolding base_of
-returns-in_err-rows c = passed-on _ _ _ c.from_residual.ensures.1
+returns-in_err-rows-clause-told c = passed-on _ _ _ c.from_residual.ensures.1
     (fails-first _ (rows_of (texts_of c.args.tables.now)) (λ rows. unless_broken (first_broken c.args.policy.now c.args.first rows) (entries_told rows)) c.in_err-rows.ensures.err)
 
-pub returns-in_err-add_items : goal.returns-in_err-add_items
+pub returns-in_err-records-clause-told : goal.returns-in_err-records-clause-told
 unfolding base_of
-returns-in_err-add_items c = passed-on _ _ _ c.from_residual-in_err-add_items.ensures.1
+returns-in_err-records-clause-told c = passed-on _ _ _ c.from_residual-in_err-records.ensures.1
     (fails-then _ (rows_of (texts_of c.args.tables.now)) (rows_in c.in_ok-rows.rows) (λ rows. unless_broken (first_broken c.args.policy.now c.args.first rows) (entries_told rows))
     c.in_ok-rows.ensures.ok
-    (breaks-fails _ (first_broken c.args.policy.now c.args.first (rows_in c.in_ok-rows.rows)) (entries_told (rows_in c.in_ok-rows.rows)) c.in_err-add_items.ensures.err))
+    (breaks-fails _ (first_broken c.args.policy.now c.args.first (rows_in c.in_ok-rows.rows)) (entries_told (rows_in c.in_ok-rows.rows)) c.in_err-records.ensures.err))
 
-pub returns : goal.returns
+pub returns-clause-told : goal.returns-clause-told
 unfolding base_of
-returns c =
+returns-clause-told c =
     let rows = rows_in c.in_ok-rows.rows in
     ap (λ r. r >>= λ (rows : Rows). unless_broken (first_broken c.args.policy.now c.args.first rows) (entries_told rows)) c.in_ok-rows.ensures.ok
-    ∙ ap (λ o. unless_broken o (entries_told rows)) c.in_ok-add_items.ensures.ok
-    ∙ ap Ok (sym (entries-told rows c.add_items.new.records c.in_ok-add_items.ensures.rising c.in_ok-add_items.ensures.told))
+    ∙ ap (λ o. unless_broken o (entries_told rows)) c.in_ok-records.ensures.ok
+    ∙ ap Ok (sym c.in_ok-records.ensures.told)

@@ -1,4 +1,4 @@
-use Rattle.std.proofs.Common.{[], ℕ, List, ◌+◌, Some, arith, get_or, take, length, length-take, unwrap_or}
+use Rattle.std.proofs.Common.{[], ℕ, List, ◌+◌, Some, arith, get_or, take, length-take}
 use Rattle.std.specs.Borrow.{Bor}
 use Rattle.std.specs.BTreeMap.{get_by}
 use Rattle.std.specs.Cmp.Lexicographic.{slice_cmp}

@@ -1,0 +1,16 @@
+//! The room of attempts: where each line of a journal stands, which attempts of it were begun, and how often lines were
+//! taken, sent back and committed.
+//!
+//! An attempt's number is used once: each take of a line gives it the next one. The counts balance in every table, as
+//! its type says. It knows nothing of records, keys or versions; the board moves the lines and says when.
+#![tactic(auto)]
+
+mod counts;
+mod state;
+mod table;
+#[cfg(test)]
+mod tests;
+
+pub use counts::Counts;
+pub use state::LineState;
+pub use table::AttemptTable;

@@ -1,0 +1,179 @@
+//! The states of all lines.
+
+ghost use Rattle.std.specs.Prelude.{◌≡◌, ◌^◌, IfOk, IfSome, IfNone, IsSomeAnd, Some, true, length};
+ghost use Rattle.attempts.specs.States.{Balanced, IsNumbered, all_waiting, is_live, newest_at, next_at, row_at, state_at};
+ghost use Rattle.attempts.specs.Moves.{committed, failed, moved, stopped, taken};
+ghost use Rattle.attempts.specs.declared.state.LineState.TheVariants as states;
+
+use crate::counts::Counts;
+use crate::state::LineState;
+use std::alloc::{AllocError, Global};
+use std::marker::Model;
+
+/// How many attempts a line can have: their numbers are those of a u32.
+const ATTEMPTS: u64 = 1 << 32;
+
+/// A line: where it stands, and the number of its next attempt.
+#[derive(Clone, Copy)]
+pub struct Row {
+    pub state: LineState,
+    pub next: u64,
+}
+
+/// Where each line of a journal stands, and the counts. Lines go by their numbers.
+#[derive(Drop)]
+pub struct AttemptTable {
+    first: u64,
+    rows: Vec<Row>,
+    counts: Counts,
+}
+
+impl Model for AttemptTable {
+    ghost use Rattle.attempts.specs.States.{States, IsCounted};
+
+    ghost Value = { States };
+
+    ghost view = { λ t. record { first = t.first; rows = t.rows.items; counts = t.counts } };
+
+    ghost invariant = { λ t. IsCounted t.rows.items t.counts };
+}
+
+impl AttemptTable {
+    /// The lines from the first number on, all waiting, the next attempt of each being this one.
+    pub fn new(
+        alloc: Global,
+        first: u64,
+        lines: u32,
+        attempt: u32,
+    ) -> Result<AttemptTable, AllocError>
+        ensures { IfOk result (λ t. t ≡ all_waiting first lines attempt) }
+    {
+        let row = Row {
+            state: LineState::Waiting,
+            next: attempt as u64,
+        };
+        Ok(AttemptTable {
+            first,
+            rows: vec![in alloc; row; lines as usize]?,
+            counts: Counts {
+                takes: 0,
+                failed: 0,
+                stops: 0,
+                commits: 0,
+                live: 0,
+            },
+        })
+    }
+
+    /// Where the line of a number stands; None where there is no such line.
+    pub fn state(&self, line: u64) -> Option<LineState>
+        ensures { result ≡ state_at self.now line }
+    {
+        match self.row(line) {
+            Some(row) => Some(row.state),
+            None => None,
+        }
+    }
+
+    /// The number of the newest attempt of a line that doesn't wait; None where it waits, or there is no such line.
+    pub fn newest(&self, line: u64) -> Option<u32>
+        ensures { result ≡ newest_at self.now line }
+    {
+        let row = self.row(line)?;
+        match row.state {
+            LineState::Waiting => None,
+            _ => Some((row.next - 1) as u32),
+        }
+    }
+
+    /// The counts. They balance.
+    pub fn counts(&self) -> Counts
+        ensures value { result ≡ self.now.counts }
+        ensures balance { Balanced result }
+    {
+        let AttemptTable { counts, .. } = self;
+        *counts
+    }
+
+    /// How many lines there are.
+    pub fn lines(&self) -> usize
+        ensures { result ≡ length self.now.rows }
+    {
+        self.rows.len()
+    }
+
+    /// A worker takes a line that waits: the number of the attempt, which no other take of this line gives. None, and
+    /// nothing changes, where the greatest number, 4,294,967,295, was given.
+    pub fn take(&mut self, line: u64, worker: u32) -> Option<u32>
+        requires { state_at self.old line ≡ Some states.Waiting }
+        ensures some { IfSome result (λ attempt. (next_at self.old line ≡ Some attempt) × (self.new ≡ taken self.old line worker)) }
+        ensures none { IfNone result ((next_at self.old line ≡ Some (2 ^ 32)) × (self.new ≡ self.old)) }
+    {
+        let place = (line - self.first) as usize;
+        let row = self.rows[place];
+        if row.next == ATTEMPTS {
+            return None;
+        }
+        self.rows[place] = Row {
+            state: LineState::Running { worker },
+            next: row.next + 1,
+        };
+        self.counts.takes += 1;
+        self.counts.live += 1;
+        Some(row.next as u32)
+    }
+
+    /// A line of which an attempt goes on comes to another state of the same attempt.
+    pub fn go_on(&mut self, line: u64, state: LineState)
+        requires old { IsSomeAnd (state_at self.old line) (λ s. is_live s ≡ true) }
+        requires new { is_live state ≡ true }
+        ensures { self.new ≡ moved self.old line state }
+    {
+        let place = (line - self.first) as usize;
+        self.rows[place].state = state;
+    }
+
+    /// A look met a suspect entry: the attempt ends, and the line waits again.
+    pub fn stop(&mut self, line: u64)
+        requires { IsSomeAnd (state_at self.old line) (λ s. is_live s ≡ true) }
+        ensures { self.new ≡ stopped self.old line }
+    {
+        let place = (line - self.first) as usize;
+        self.rows[place].state = LineState::Waiting;
+        self.counts.stops += 1;
+        self.counts.live -= 1;
+    }
+
+    /// A check found that a noted name had changed: the attempt ends, and the line waits again.
+    pub fn fail(&mut self, line: u64)
+        requires { IsSomeAnd (state_at self.old line) (λ s. is_live s ≡ true) }
+        ensures { self.new ≡ failed self.old line }
+    {
+        let place = (line - self.first) as usize;
+        self.rows[place].state = LineState::Waiting;
+        self.counts.failed += 1;
+        self.counts.live -= 1;
+    }
+
+    /// The line's answer and its records stand.
+    pub fn commit(&mut self, line: u64)
+        requires { IsSomeAnd (state_at self.old line) (λ s. is_live s ≡ true) }
+        ensures { self.new ≡ committed self.old line }
+    {
+        let place = (line - self.first) as usize;
+        self.rows[place].state = LineState::Committed;
+        self.counts.commits += 1;
+        self.counts.live -= 1;
+    }
+
+    /// The row of a line.
+    fn row(&self, line: u64) -> Option<Row>
+        ensures row { result ≡ row_at self.now line }
+        ensures numbered { IfSome result IsNumbered }
+    {
+        if line < self.first {
+            return None;
+        }
+        self.rows.get((line - self.first) as usize).copied()
+    }
+}

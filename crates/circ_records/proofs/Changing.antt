@@ -1,0 +1,37 @@
+-- A map in which one record was changed.
+use Rattle.std.proofs.Common.{◌≡◌, Bool, true, false, cond, Option, Some, None, refl, sym, ap, ◌∙◌}
+use Rattle.std.specs.Prelude.{IsSome, option_map}
+use Rattle.std.specs.BTreeMap.{BTreeMap, get}
+use Rattle.std.specs.Ordering.{eq_by_cmp}
+use Rattle.circ_records.specs.Changes.{IsChanged, changed}
+use Rattle.circ_records.specs.Keys.{key_cmp, key_cmp-IsAntisymmetric}
+use Rattle.circ_records.specs.declared.changes.Change.{Change}
+use Rattle.circ_records.specs.declared.key.Key.{Key}
+use Rattle.circ_records.specs.declared.record.Record.{Record}
+use Rattle.circ_records.proofs.Lookups.{tie}
+
+-- keys that tie are one
+pub same-key : (k q : Key) → eq_by_cmp key_cmp k q ≡ true → k ≡ q
+same-key k q e = key_cmp-IsAntisymmetric k q (tie (key_cmp k q) e)
+
+-- the record that was there is put back changed
+pub changed-there : (old new : BTreeMap Key Record) (k : Key) (c : Change) (was is : Record) → Some was ≡ get key_cmp old k → is ≡ changed c was
+    → ((q : Key) → get key_cmp new q ≡ cond (eq_by_cmp key_cmp k q) (Some is) (get key_cmp old q)) → IsChanged k c old new
+changed-there old new k c was is there value updates q = updates q ∙ by (eq_by_cmp key_cmp k q) refl
+  where
+    by : (b : Bool) → eq_by_cmp key_cmp k q ≡ b → cond b (Some is) (get key_cmp old q) ≡ cond b (option_map (changed c) (get key_cmp old q)) (get key_cmp old q)
+    by true e = ap Some value ∙ ap (option_map (changed c)) (there ∙ ap (get key_cmp old) (same-key k q e))
+    by false e = refl
+
+-- where there is none the map stays
+pub unchanged-there : (old : BTreeMap Key Record) (k : Key) (c : Change) → None ≡ get key_cmp old k → IsChanged k c old old
+unchanged-there old k c there q = by (eq_by_cmp key_cmp k q) refl
+  where
+    by : (b : Bool) → eq_by_cmp key_cmp k q ≡ b → get key_cmp old q ≡ cond b (option_map (changed c) (get key_cmp old q)) (get key_cmp old q)
+    by true e =
+        let none : None ≡ get key_cmp old q = there ∙ ap (get key_cmp old) (same-key k q e) in
+        sym none ∙ ap (option_map (changed c)) none
+    by false e = refl
+
+pub some-is : {A : Type 0} (o : Option A) (x : A) → o ≡ Some x → IsSome o
+some-is o x e = rw e refl

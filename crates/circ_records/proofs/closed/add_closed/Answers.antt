@@ -1,0 +1,34 @@
+use Rattle.std.proofs.Common.{◌≡◌, ◌++◌, ◌∷◌, [], ◌+◌, List, None, map, take, sym, refl, subst, add-one}
+use Rattle.std.proofs.Math.Seq.{take-suc}
+use Rattle.csv.specs.Records.{fields_of}
+use Rattle.circ_records.specs.Read.{Tells, rows_in, to_closed}
+use Rattle.circ_records.specs.Rules.{closed_rule}
+use Rattle.circ_records.specs.Tables.{Row}
+use Rattle.circ_records.specs.declared.tables.TableName.TheVariants as table
+use Rattle.circ_records.proofs.Broken.{breaks-here, keeps-more}
+use Rattle.circ_records.proofs.Kept.{kept-closed}
+use Rattle.circ_records.proofs.Lookups.{item-among}
+use Rattle.circ_records.proofs.closed.add_closed.Goals as goal
+
+pub returns-in-Some-clause-err : goal.returns-in-Some-clause-err
+returns-in-Some-clause-err c =
+    let inv = c.loop-i.invariant in
+    let rows = map fields_of c.args.rows.now.closed.items in
+    let (below, at) = item-among fields_of c.args.rows.now.closed.items c.deref-row-items.result.now c.loop-i.i c.row-item.result c.deref-row-items.ensures.value c.loop-i-test.true c.row-item.is in
+    breaks-here table.Closed (closed_rule c.args.first (rows_in c.args.rows.now).patrons (rows_in c.args.rows.now).fees) rows c.loop-i.i (fields_of c.row-item.result) c.in-Some.rule below at
+    (sym (c.in-Some.ensures.rule (to_closed (rows_in c.args.rows.now) (take c.loop-i.i rows)) inv.tells)) inv.keeps
+
+pub loop-i-preserved : goal.loop-i-preserved
+loop-i-preserved c =
+    let inv = c.loop-i.invariant in
+    let rows = map fields_of c.args.rows.now.closed.items in
+    let row = fields_of c.row-item.result in
+    let before = take c.loop-i.i rows in
+    let (below, at) = item-among fields_of c.args.rows.now.closed.items c.deref-row-items.result.now c.loop-i.i c.row-item.result c.deref-row-items.ensures.value c.loop-i-test.true c.row-item.is in
+    let none : closed_rule c.args.first (rows_in c.args.rows.now).patrons (rows_in c.args.rows.now).fees before row ≡ None = sym (c.in-None.ensures.rule (to_closed (rows_in c.args.rows.now) before) inv.tells) in
+    let more : take (c.loop-i.i + 1) rows ≡ before ++ row ∷ [] = rw (add-one, take-suc rows c.loop-i.i [] below, at) refl in
+    record {
+      keeps = keeps-more table.Closed (closed_rule c.args.first (rows_in c.args.rows.now).patrons (rows_in c.args.rows.now).fees) rows c.loop-i.i row below at none inv.keeps;
+      rising = c.in_ok-add_fee-in-None.ensures.rising;
+      tells = subst (λ (xs : List Row). Tells (to_closed (rows_in c.args.rows.now) xs) c.add_fee.new.records) (sym more) (c.in_ok-add_fee-in-None.ensures.told (rows_in c.args.rows.now) before inv.tells (kept-closed c.args.first (rows_in c.args.rows.now).patrons (rows_in c.args.rows.now).fees before row none).fresh);
+    }

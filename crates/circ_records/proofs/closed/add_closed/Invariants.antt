@@ -1,0 +1,16 @@
+use Rattle.std.proofs.Common.{take}
+use Rattle.std.specs.BTreeMap.{IsOrdered}
+use Rattle.circ_records.specs.Keys.{key_cmp}
+use Rattle.circ_records.specs.Read.{Tells, rows_in, to_closed}
+use Rattle.circ_records.specs.Rules.{closed_rule}
+use Rattle.circ_records.specs.declared.tables.TableName.TheVariants as table
+use Rattle.circ_records.proofs.Broken.{KeepsUpTo}
+use Rattle.circ_records.proofs.closed.add_closed.Given as goal
+
+-- no row so far breaks a rule, and the map has the records that they tell
+abbrev pub invariant-loop-i : goal.invariant-loop-i
+invariant-loop-i l = record {
+  keeps : KeepsUpTo table.Closed (closed_rule l.first (rows_in l.rows).patrons (rows_in l.rows).fees) (rows_in l.rows).closed l.i;
+  rising : IsOrdered key_cmp l.records;
+  tells : Tells (to_closed (rows_in l.rows) (take l.i (rows_in l.rows).closed)) l.records;
+}

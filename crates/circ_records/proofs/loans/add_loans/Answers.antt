@@ -1,0 +1,34 @@
+use Rattle.std.proofs.Common.{◌≡◌, ◌++◌, ◌∷◌, [], ◌+◌, List, None, map, take, sym, refl, subst, add-one}
+use Rattle.std.proofs.Math.Seq.{take-suc}
+use Rattle.csv.specs.Records.{fields_of}
+use Rattle.circ_records.specs.Read.{Tells, rows_in, to_loans}
+use Rattle.circ_records.specs.Rules.{loan_rule}
+use Rattle.circ_records.specs.Tables.{Row}
+use Rattle.circ_records.specs.declared.tables.TableName.TheVariants as table
+use Rattle.circ_records.proofs.Broken.{breaks-here, keeps-more}
+use Rattle.circ_records.proofs.Kept.{kept-loan}
+use Rattle.circ_records.proofs.Lookups.{item-among}
+use Rattle.circ_records.proofs.loans.add_loans.Goals as goal
+
+pub returns-in-Some-clause-err : goal.returns-in-Some-clause-err
+returns-in-Some-clause-err c =
+    let inv = c.loop-i.invariant in
+    let rows = map fields_of c.args.rows.now.loans.items in
+    let (below, at) = item-among fields_of c.args.rows.now.loans.items c.deref-row-items.result.now c.loop-i.i c.row-item.result c.deref-row-items.ensures.value c.loop-i-test.true c.row-item.is in
+    breaks-here table.Loans (loan_rule (rows_in c.args.rows.now).patrons (rows_in c.args.rows.now).items) rows c.loop-i.i (fields_of c.row-item.result) c.in-Some.rule below at
+    (sym (c.in-Some.ensures.rule (to_loans (rows_in c.args.rows.now) (take c.loop-i.i rows)) inv.tells)) inv.keeps
+
+pub loop-i-preserved : goal.loop-i-preserved
+loop-i-preserved c =
+    let inv = c.loop-i.invariant in
+    let rows = map fields_of c.args.rows.now.loans.items in
+    let row = fields_of c.row-item.result in
+    let before = take c.loop-i.i rows in
+    let (below, at) = item-among fields_of c.args.rows.now.loans.items c.deref-row-items.result.now c.loop-i.i c.row-item.result c.deref-row-items.ensures.value c.loop-i-test.true c.row-item.is in
+    let none : loan_rule (rows_in c.args.rows.now).patrons (rows_in c.args.rows.now).items before row ≡ None = sym (c.in-None.ensures.rule (to_loans (rows_in c.args.rows.now) before) inv.tells) in
+    let more : take (c.loop-i.i + 1) rows ≡ before ++ row ∷ [] = rw (add-one, take-suc rows c.loop-i.i [] below, at) refl in
+    record {
+      keeps = keeps-more table.Loans (loan_rule (rows_in c.args.rows.now).patrons (rows_in c.args.rows.now).items) rows c.loop-i.i row below at none inv.keeps;
+      rising = c.in_ok-add_loan-in-None.ensures.rising;
+      tells = subst (λ (xs : List Row). Tells (to_loans (rows_in c.args.rows.now) xs) c.add_loan.new.records) (sym more) (c.in_ok-add_loan-in-None.ensures.told (rows_in c.args.rows.now) before inv.tells (kept-loan (rows_in c.args.rows.now).patrons (rows_in c.args.rows.now).items before row none).fresh);
+    }

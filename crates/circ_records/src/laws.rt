@@ -1,0 +1,13 @@
+//! Laws of the definitions: functions without code, whose contracts are proved of every value.
+
+ghost use Rattle.circ_records.specs.Laws.{WrittenIsTold, WrittenReadsBack};
+
+/// What is written of coherent records tells these records: at each key the rows have the record that is there.
+pub fn written_is_told()
+    ensures { WrittenIsTold }
+{}
+
+/// Coherent records that were written are read again as they were.
+pub fn written_reads_back()
+    ensures { WrittenReadsBack }
+{}

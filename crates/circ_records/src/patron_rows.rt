@@ -1,0 +1,78 @@
+//! The rows of patrons and of their loans.
+
+ghost use Rattle.std.specs.Prelude.{◌≡◌, ◌∷◌, [], OnOk, option_map};
+ghost use Rattle.std.specs.List.{cons_option};
+ghost use Rattle.circ_records.specs.Writing.{HasWidth, with_rows};
+ghost use Rattle.circ_records.specs.Written.{listed_loans, loan_at, loan_row, patron_row};
+
+use crate::key::Key;
+use crate::record::{Loan, Patron, Record};
+use crate::records::Records;
+use crate::row_texts::{day_text, flag_text};
+use csv_table::TableText;
+use itoa::Buffer;
+use sip_reader::Id;
+use std::alloc::AllocError;
+
+/// A patron.
+pub(crate) fn write_patron(text: &mut TableText, id: &Id, patron: &Patron) -> Result<(), AllocError>
+    requires { HasWidth 4 text.old }
+    ensures { OnOk result (text.new ≡ with_rows (patron_row id.now patron.now ∷ []) text.old) }
+{
+    text.row(&[
+        id.as_bytes(),
+        patron.name.as_bytes(),
+        patron.class.as_bytes(),
+        flag_text(patron.blocked).as_slice(),
+    ])
+}
+
+/// The loans of a patron, in the order of the patron's list.
+pub(crate) fn write_loans(
+    text: &mut TableText,
+    records: &Records,
+    patron: &Id,
+    items: &[Id],
+) -> Result<(), AllocError>
+    requires { HasWidth 4 text.old }
+    ensures { OnOk result (text.new ≡ with_rows (listed_loans records.now patron.now items.now) text.old) }
+{
+    for item in items {
+        write_loan(text, records, patron, item)?;
+    }
+    Ok(())
+}
+
+/// The loan of an item that a patron's list names.
+fn write_loan(
+    text: &mut TableText,
+    records: &Records,
+    patron: &Id,
+    item: &Id,
+) -> Result<(), AllocError>
+    requires { HasWidth 4 text.old }
+    ensures { OnOk result (text.new ≡ with_rows (cons_option (option_map (loan_row patron.now item.now) (loan_at records.now item.now)) []) text.old) }
+{
+    match loan_of(records, item) {
+        Some(loan) => text.row(&[
+            patron.as_bytes(),
+            item.as_bytes(),
+            day_text(loan.due).as_slice(),
+            Buffer::new().format(loan.renewals).as_bytes(),
+        ]),
+        None => Ok(()),
+    }
+}
+
+/// The loan of an item.
+fn loan_of(records: &Records, item: &Id) -> Option<Loan>
+    ensures { result ≡ loan_at records.now item.now }
+{
+    match records.get(&Key::Item(*item)) {
+        Some(record) => match record {
+            Record::Item(item) => item.loan,
+            Record::Patron(_) | Record::Fee(_) => None,
+        },
+        None => None,
+    }
+}

@@ -1,0 +1,147 @@
+//! The table of patrons.
+
+ghost use Rattle.std.specs.Prelude.{◌≡◌, ◌++◌, ◌∷◌, [], List, true, false, None, is_some, IfOk, IfErr, OnOk, IsTrue};
+ghost use Rattle.std.specs.BTreeMap.{IsOrdered};
+ghost use Rattle.csv.specs.Records.{fields_of};
+ghost use Rattle.sip_reader.specs.Texts.{is_id};
+ghost use Rattle.circ_records.specs.Base.{Breaks, broken_patrons};
+ghost use Rattle.circ_records.specs.Keys.{key_cmp};
+ghost use Rattle.circ_records.specs.Read.{Tells, no_rows, rows_in, to_patrons};
+ghost use Rattle.circ_records.specs.Rules as Rules;
+ghost use Rattle.circ_records.specs.Tables.{Row, Rows, field};
+ghost use Rattle.circ_records.specs.Told.{patron_told};
+ghost use Rattle.circ_records.specs.Values.{flag_of};
+ghost use Rattle.circ_records.specs.declared.record.Record.TheVariants as record_of;
+
+use crate::fault::{BaseError, BaseRule};
+use crate::ids::Ids;
+use crate::key::Key;
+use crate::known::has_patron;
+use crate::record::{Patron, Record};
+use crate::rows::TableRows;
+use crate::tables::TableName;
+use crate::texts::{id_at, is_text};
+use crate::values::flag_of;
+use circ_policy::Policy;
+use csv::ByteRecord;
+use csv_table::column;
+use sip_reader::{Id, Text};
+use std::alloc::{AllocError, Global};
+use std::collections::BTreeMap;
+
+/// Puts the patrons of the table among the records, or tells the first rule that a row breaks.
+pub(crate) fn add_patrons(
+    alloc: Global,
+    policy: &Policy,
+    rows: &TableRows,
+    records: &mut BTreeMap<Key, Record>,
+) -> Result<(), BaseError>
+    requires told { Tells no_rows records.old }
+    requires rising { IsOrdered key_cmp records.old }
+    ensures ok { OnOk result (broken_patrons policy.now (rows_in rows.now) ≡ None) }
+    ensures told { OnOk result (Tells (to_patrons (rows_in rows.now) (rows_in rows.now).patrons) records.new) }
+    ensures rising { OnOk result (IsOrdered key_cmp records.new) }
+    ensures err { IfErr result (λ e. Breaks e (broken_patrons policy.now (rows_in rows.now))) }
+{
+    for (i, row) in rows.patrons.iter().enumerate() {
+        match broken_rule(policy, records, row) {
+            Some(rule) => {
+                return Err(BaseError::Rule {
+                    table: TableName::Patrons,
+                    row: i + 1,
+                    rule,
+                });
+            }
+            None => add_patron(alloc, row, records)?,
+        }
+    }
+    Ok(())
+}
+
+/// The first rule that a row breaks, behind those whose records these are.
+#[tactic(auto, unfolding(crate::specs::Rules::patron_rule))]
+fn broken_rule(
+    policy: &Policy,
+    records: &BTreeMap<Key, Record>,
+    row: &ByteRecord,
+) -> Option<BaseRule>
+    ensures rule { (r : Rows) → Tells r records.now → result ≡ Rules.patron_rule policy.now r.patrons (fields_of row.now) }
+    ensures texts { result ≡ None → Rules.has_patron_texts (fields_of row.now) ≡ true }
+    ensures value { result ≡ None → is_some (flag_of (field 3 (fields_of row.now))) ≡ true }
+    ensures class { result ≡ None → is_id (field 2 (fields_of row.now)) ≡ true }
+{
+    if !has_texts(row) {
+        Some(BaseRule::Text)
+    } else if flag_of(column(row, 3)).is_none() {
+        Some(BaseRule::Value)
+    } else if has_patron(records, id_at(row, 0)) {
+        Some(BaseRule::Double)
+    } else if !has_class(policy, column(row, 2)) {
+        Some(BaseRule::Class)
+    } else {
+        None
+    }
+}
+
+#[tactic(auto, unfolding(crate::specs::Rules::has_patron_texts))]
+fn has_texts(row: &ByteRecord) -> bool
+    ensures value { result ≡ Rules.has_patron_texts (fields_of row.now) }
+    ensures id { IsTrue result → is_id (field 0 (fields_of row.now)) ≡ true }
+{
+    Id::new(column(row, 0)).is_some() && is_text(column(row, 1)) && is_text(column(row, 2))
+}
+
+/// Whether the policy has a class of this name.
+#[tactic(auto, unfolding(crate::specs::Rules::has_class))]
+fn has_class(policy: &Policy, name: &[u8]) -> bool
+    ensures value { result ≡ Rules.has_class policy.now name.now }
+    ensures id { IsTrue result → is_id name.now ≡ true }
+{
+    match Id::new(name) {
+        Some(name) => policy.class(&name).is_some(),
+        None => false,
+    }
+}
+
+/// Puts the patron of a row among the records.
+fn add_patron(
+    alloc: Global,
+    row: &ByteRecord,
+    records: &mut BTreeMap<Key, Record>,
+) -> Result<(), AllocError>
+    requires texts { Rules.has_patron_texts (fields_of row.now) ≡ true }
+    requires value { is_some (flag_of (field 3 (fields_of row.now))) ≡ true }
+    requires class { is_id (field 2 (fields_of row.now)) ≡ true }
+    ensures told { OnOk result ((r : Rows) (before : List Row) → Tells (to_patrons r before) records.old → Rules.has_row 0 (field 0 (fields_of row.now)) before ≡ false → Tells (to_patrons r (before ++ fields_of row.now ∷ [])) records.new) }
+    ensures rising { OnOk result (IsOrdered key_cmp records.new) }
+{
+    let patron = patron_of(alloc, row)?;
+    records.insert(Key::Patron(row_id(row)), Record::Patron(patron))?;
+    Ok(())
+}
+
+/// The id of a row whose texts are such.
+#[tactic(auto, unfolding(crate::specs::Rules::has_patron_texts))]
+fn row_id(row: &ByteRecord) -> Id
+    requires { Rules.has_patron_texts (fields_of row.now) ≡ true }
+    ensures { result ≡ field 0 (fields_of row.now) }
+{
+    id_at(row, 0)
+}
+
+/// The patron of a row, who has nothing and owes nothing.
+#[tactic(auto, unfolding(crate::specs::Rules::has_patron_texts))]
+fn patron_of(alloc: Global, row: &ByteRecord) -> Result<Patron, AllocError>
+    requires texts { Rules.has_patron_texts (fields_of row.now) ≡ true }
+    requires value { is_some (flag_of (field 3 (fields_of row.now))) ≡ true }
+    requires class { is_id (field 2 (fields_of row.now)) ≡ true }
+    ensures { IfOk result (λ p. record_of.Patron p ≡ patron_told no_rows (field 0 (fields_of row.now)) (fields_of row.now)) }
+{
+    Ok(Patron {
+        name: Text::new(alloc, column(row, 1))?,
+        class: id_at(row, 2),
+        blocked: flag_of(column(row, 3)).unwrap(),
+        loans: Ids::new(alloc),
+        fees: Ids::new(alloc),
+    })
+}

@@ -1,0 +1,123 @@
+//! The six tables while they are written.
+
+ghost use Rattle.std.specs.Prelude.{◌≡◌, [], IfOk, OnOk};
+ghost use Rattle.circ_records.specs.Records.{Entries};
+ghost use Rattle.circ_records.specs.Tables.{texts_of};
+ghost use Rattle.circ_records.specs.Written.{printed};
+ghost use Rattle.circ_records.specs.declared.key.Key.TheVariants as key_of;
+ghost use Rattle.circ_records.specs.declared.record.Record.TheVariants as record_of;
+
+use crate::fee_rows::{write_closed, write_fees};
+use crate::item_rows::{write_holds, write_item};
+use crate::key::Key;
+use crate::patron_rows::{write_loans, write_patron};
+use crate::record::{Fee, Item, Patron, Record};
+use crate::records::Records;
+use crate::rows::{CLOSED, FEES, HOLDS, ITEMS, LOANS, PATRONS};
+use crate::tables::Tables;
+use csv_table::TableText;
+use sip_reader::Id;
+use std::alloc::{AllocError, Global};
+
+/// The texts of the tables while they are written.
+#[derive(Drop)]
+pub(crate) struct TableTexts {
+    pub(crate) patrons: TableText,
+    pub(crate) items: TableText,
+    pub(crate) loans: TableText,
+    pub(crate) fees: TableText,
+    pub(crate) closed: TableText,
+    pub(crate) holds: TableText,
+}
+
+impl TableTexts {
+    ghost use Rattle.circ_records.specs.Writing.{AreOf, Gains, HasWidths, Holds};
+
+    /// The headers alone.
+    pub(crate) fn new(alloc: Global) -> Result<TableTexts, AllocError>
+        ensures { IfOk result (λ texts. (all : Entries) → Holds all [] texts) }
+    {
+        Ok(TableTexts {
+            patrons: TableText::under(alloc, &PATRONS)?,
+            items: TableText::under(alloc, &ITEMS)?,
+            loans: TableText::under(alloc, &LOANS)?,
+            fees: TableText::under(alloc, &FEES)?,
+            closed: TableText::under(alloc, &CLOSED)?,
+            holds: TableText::under(alloc, &HOLDS)?,
+        })
+    }
+
+    /// Writes what an entry of the records has in each table.
+    pub(crate) fn entry(
+        &mut self,
+        alloc: Global,
+        records: &Records,
+        key: &Key,
+        record: &Record,
+    ) -> Result<(), AllocError>
+        requires { HasWidths self.old }
+        ensures { OnOk result (Gains records.now (key.now, «record».now) self.old self.new) }
+    {
+        match key {
+            Key::Patron(id) => match record {
+                Record::Patron(patron) => self.patron(alloc, records, id, patron),
+                Record::Item(_) | Record::Fee(_) => Ok(()),
+            },
+            Key::Item(id) => match record {
+                Record::Item(item) => self.item(id, item),
+                Record::Patron(_) | Record::Fee(_) => Ok(()),
+            },
+            Key::Fee(id) => match record {
+                Record::Fee(fee) => self.fee(alloc, id, fee),
+                Record::Patron(_) | Record::Item(_) => Ok(()),
+            },
+        }
+    }
+
+    /// A patron, and what the lists of loans and open fees name.
+    fn patron(
+        &mut self,
+        alloc: Global,
+        records: &Records,
+        id: &Id,
+        patron: &Patron,
+    ) -> Result<(), AllocError>
+        requires { HasWidths self.old }
+        ensures { OnOk result (Gains records.now (key_of.Patron id.now, record_of.Patron patron.now) self.old self.new) }
+    {
+        write_patron(&mut self.patrons, id, patron)?;
+        write_loans(&mut self.loans, records, id, patron.loans.as_slice())?;
+        write_fees(alloc, &mut self.fees, records, id, patron.fees.as_slice())
+    }
+
+    /// An item and its queue.
+    fn item(&mut self, id: &Id, item: &Item) -> Result<(), AllocError>
+        requires { HasWidths self.old }
+        ensures { OnOk result ((all : Entries) → Gains all (key_of.Item id.now, record_of.Item item.now) self.old self.new) }
+    {
+        write_item(&mut self.items, id, item)?;
+        write_holds(&mut self.holds, id, item.holds.as_slice())
+    }
+
+    /// A fee, where it is paid in full.
+    fn fee(&mut self, alloc: Global, id: &Id, fee: &Fee) -> Result<(), AllocError>
+        requires { HasWidths self.old }
+        ensures { OnOk result ((all : Entries) → Gains all (key_of.Fee id.now, record_of.Fee fee.now) self.old self.new) }
+    {
+        write_closed(alloc, &mut self.closed, id, fee)
+    }
+
+    /// The texts.
+    pub(crate) fn finish(self) -> Result<Tables, AllocError>
+        ensures { IfOk result (λ tables. AreOf self (texts_of tables)) }
+    {
+        Ok(Tables {
+            patrons: self.patrons.finish()?,
+            items: self.items.finish()?,
+            loans: self.loans.finish()?,
+            fees: self.fees.finish()?,
+            closed: self.closed.finish()?,
+            holds: self.holds.finish()?,
+        })
+    }
+}

@@ -1,0 +1,29 @@
+-- How readings lie in memory: in stretches of one length, of which the last may be shorter.
+use Rattle.std.specs.Prelude.{◌≡◌, ◌+◌, ◌<◌, ◌≤◌, ◌^◌, ℕ, List, [], ◌∷◌, length, flat_map, map, Vec}
+use Rattle.sip_reader.specs.declared.request.Reading.{Reading}
+use Rattle.journal_table.specs.declared.TheConstants.{LINE_LIMIT}
+use Rattle.journal_table.specs.declared.readings.Readings.TheInside.{Inside}
+use Rattle.journal_table.specs.declared.readings.TheConstants.{STRETCH}
+
+-- no stretch is longer than size, and each behind which one stands is as long
+abbrev pub AreFull : {X : Type 0} → ℕ → List (List X) → Type 0
+AreFull size [] = Unit {0}
+AreFull size (s ∷ rest) = (length s ≤ size) × (0 < length rest → length s ≡ size) × AreFull size rest
+
+abbrev pub joined : List (List Reading) → List Reading
+joined stretches = flat_map (λ s. s) stretches
+
+-- these readings, in stretches
+pub record AreStretchesOf (readings : List Reading) (stretches : List (List Reading)) : Type 0 where
+  pub whole : joined stretches ≡ readings
+  pub full : AreFull STRETCH stretches
+
+abbrev pub stretches_of : {A : Type 0} → List (Vec Reading A) → List (List Reading)
+stretches_of stretches = map (λ s. s.items) stretches
+
+-- as many readings as are counted, no more than a journal has lines, of which the last has a number of 64 bits
+pub record IsKept (r : Inside) : Type 0 where
+  pub full : AreFull STRETCH (stretches_of r.stretches.items)
+  pub count : length (joined (stretches_of r.stretches.items)) ≡ r.count
+  pub few : r.count ≤ LINE_LIMIT
+  pub within : r.first + r.count ≤ 2 ^ 64

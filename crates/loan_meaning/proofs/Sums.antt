@@ -1,0 +1,240 @@
+-- The running sum of what is owed is what asking fee by fee gives.
+use Rattle.std.proofs.Common.{◌≡◌, inl, inr, ℕ, ◌+◌, ◌-◌, ◌<◌, ◌≤◌, ◌^◌, Bool, true, false, cond, List, [], ◌∷◌, ◌++◌, length, take, Option, Some, None, add-one, refl, ap, sym, ◌∙◌, subst, arith}
+use Rattle.std.specs.Prelude.{nat_eq, nat_lt, Contains, codes, decimal, get_or}
+use Rattle.std.specs.Cmp.Lexicographic.{nat_list_eq_equiv, pointwise}
+use Rattle.std.proofs.Math.ListN.{length-append}
+use Rattle.std.proofs.Math.Seq.{take-append_seam, take-suc}
+use Rattle.std.specs.BTreeMap.{is_at}
+use Rattle.std.specs.List.{starts_with}
+use Rattle.std.specs.Option.{option_map_or}
+use Rattle.std.specs.Ordering.{is_eq}
+use Rattle.std.specs.declared.cmp.Ordering.{Ordering}
+use Rattle.std.specs.declared.cmp.Ordering.TheVariants.{Less, Equal, Greater}
+use Rattle.std.proofs.lemmas.Fmt.{decimal_digit, decimal_injective}
+use Rattle.std.proofs.lemmas.Bool.Decides.{nat_tests}
+use Rattle.std.proofs.lemmas.List.{append_cancel_left, take_all}
+use Rattle.std.proofs.lemmas.List.Elements.{Contains-append_right, Contains-push_cases}
+use Rattle.circ_policy.specs.Terms.{Terms}
+use Rattle.circ_records.specs.Keys.{key_cmp, key_cmp-IsAntisymmetric}
+use Rattle.circ_records.specs.Records.{Entries, record_at}
+use Rattle.circ_records.specs.declared.key.Key.{Key}
+use Rattle.circ_records.specs.declared.key.Key.TheVariants as keys
+use Rattle.circ_records.specs.declared.record.Fee.{Fee}
+use Rattle.circ_records.specs.declared.record.FeeType.TheVariants as fee_types
+use Rattle.circ_records.specs.declared.record.Record.{Record}
+use Rattle.circ_records.specs.declared.record.Record.TheVariants as records
+use Rattle.sip_reader.specs.Texts.{fee_id}
+use Rattle.loan_meaning.specs.Lookups.{ask_after}
+use Rattle.loan_meaning.specs.Owing.{owed_from, owed_at}
+use Rattle.loan_meaning.specs.Sums.{IsKnown, AreNew, Runs, IsMore, charged_by}
+use Rattle.read_set.specs.Asks.{Asks, Give, Ask, ◌>>=◌, Reached, Done, Wants, follow}
+use Rattle.read_set.specs.Effects.{written}
+use Rattle.read_set.specs.Fees.{rest_of}
+use Rattle.read_set.specs.Known.{as_fee}
+use Rattle.read_set.specs.Loans.{renewed, due_for}
+use Rattle.read_set.specs.Maps.{Part}
+use Rattle.read_set.specs.RenewAlls.{one_left, turn_by, none_renewed}
+use Rattle.read_set.specs.declared.known.Article.{Article}
+use Rattle.read_set.specs.declared.known.Member.{Member}
+use Rattle.read_set.specs.declared.progress.Renewals.{Renewals}
+use Rattle.read_set.specs.declared.verdict.LoanRequest.{LoanRequest}
+use Rattle.read_set.specs.declared.verdict.Verdict.{Verdict}
+use Rattle.read_set.specs.declared.verdict.Verdict.TheVariants as verdicts
+use Rattle.read_set.proofs.Following.{follow_done, follow_wants}
+use Rattle.read_set.proofs.Putting.{put-at, put-there}
+
+-- programs that go on alike come as far
+alike_met : {A B : Type 0} (has : Part) (o : Option (Option Record)) (k : Key) (rule : Option Record → Asks A) (f g : A → Asks B)
+    → ((r : Option Record) → follow has (rule r >>= f) ≡ follow has (rule r >>= g))
+    → option_map_or (λ r. follow has (rule r >>= f)) o (Wants k) ≡ option_map_or (λ r. follow has (rule r >>= g)) o (Wants k)
+alike_met has None k rule f g h = refl
+alike_met has (Some r) k rule f g h = h r
+
+alike : {A B : Type 0} (has : Part) (m : Asks A) (f g : A → Asks B) → ((x : A) → follow has (f x) ≡ follow has (g x)) → follow has (m >>= f) ≡ follow has (m >>= g)
+alike has (Give x) f g h = h x
+alike has (Ask k rule) f g h = alike_met has (has k) k rule f g (λ r. alike has (rule r) f g h)
+
+-- what is owed after writes that have the same fees
+same_owed : (has : Part) (w v : Entries) (sum : ℕ) (fees : List (List ℕ)) → ((id : List ℕ) → Contains fees id → record_at v (keys.Fee id) ≡ record_at w (keys.Fee id))
+    → follow has (owed_from v sum fees) ≡ follow has (owed_from w sum fees)
+unfolding ask_after
+same_owed has w v sum [] h = refl
+same_owed has w v sum (id ∷ more) h =
+    ap (λ o. follow has (option_map_or (λ r. Give (Some r)) o (Ask (keys.Fee id) Give) >>= λ found. owed_from v (sum + rest_of (as_fee found)) more)) (h id (0, omega arith, refl))
+    ∙ alike has (ask_after w (keys.Fee id)) (λ found. owed_from v (sum + rest_of (as_fee found)) more) (λ found. owed_from w (sum + rest_of (as_fee found)) more)
+    (λ found. same_owed has w v (sum + rest_of (as_fee found)) more (λ j c. h j (Contains-append_right (id ∷ []) more j c)))
+
+-- a program that comes to its end came to the end of its first part
+parts_by : {A B : Type 0} (has : Part) (m : Asks A) (f : A → Asks B) (y : B) (reached : Reached A) → follow has m ≡ reached → follow has (m >>= f) ≡ Done y → (x : A) × (follow has m ≡ Done x) × (follow has (f x) ≡ Done y)
+parts_by has m f y (Done x) s e = (x, s, sym (follow_done has m f x s) ∙ e)
+parts_by has m f y (Wants k) s e = let w : Wants k ≡ Done y = sym (follow_wants has m f k s) ∙ e in cc
+
+-- one more fee, which is among the writes
+more_owed : (has : Part) (w : Entries) (sum total : ℕ) (fees : List (List ℕ)) (id : List ℕ) (fee : Fee) → record_at w (keys.Fee id) ≡ Some (records.Fee fee)
+    → follow has (owed_from w sum fees) ≡ Done total → follow has (owed_from w sum (fees ++ id ∷ [])) ≡ Done (total + rest_of (Some fee))
+unfolding ask_after as_fee
+more_owed has w sum total [] id fee there e =
+    let same : sum ≡ total = cc in
+    ap (λ o. follow has (option_map_or (λ r. Give (Some r)) o (Ask (keys.Fee id) Give) >>= λ found. Give (sum + rest_of (as_fee found)))) there
+    ∙ ap (λ s. Done (s + rest_of (Some fee))) same
+more_owed has w sum total (j ∷ more) id fee there e =
+    let p = parts_by has (ask_after w (keys.Fee j)) (λ found. owed_from w (sum + rest_of (as_fee found)) more) total (follow has (ask_after w (keys.Fee j))) refl e in
+    follow_done has (ask_after w (keys.Fee j)) (λ found. owed_from w (sum + rest_of (as_fee found)) (more ++ id ∷ [])) p.0 p.1
+    ∙ more_owed has w (sum + rest_of (as_fee p.0)) total more id fee there p.2
+
+-- an item's record is no fee's
+item_apart : (w : Entries) (item id : List ℕ) (r : Record) → record_at (written w ((keys.Item item, r) ∷ [])) (keys.Fee id) ≡ record_at w (keys.Fee id)
+item_apart w item id r = put-at w (keys.Item item) r (keys.Fee id)
+
+other : (b : Bool) (r : Record) (o : Option Record) → b ≡ false → cond b (Some r) o ≡ o
+other b r o e = ap (λ c. cond c (Some r) o) e
+
+tie : (o : Ordering) → is_eq o ≡ true → o ≡ Equal
+tie Less e = cc
+tie Equal e = refl
+tie Greater e = cc
+
+unequal : (b : Bool) → (b ≡ true → ⊥) → b ≡ false
+unequal true h = absurd (h refl)
+unequal false h = refl
+
+fee_of : Key → List ℕ
+fee_of (keys.Patron id) = []
+fee_of (keys.Item id) = []
+fee_of (keys.Fee id) = id
+
+-- a fee's record is no other fee's
+fee_apart : (w : Entries) (f id : List ℕ) (r : Record) → (id ≡ f → ⊥) → record_at (written w ((keys.Fee f, r) ∷ [])) (keys.Fee id) ≡ record_at w (keys.Fee id)
+unfolding fee_of
+fee_apart w f id r h =
+    put-at w (keys.Fee f) r (keys.Fee id)
+    ∙ other (is_at (key_cmp (keys.Fee id)) (keys.Fee f)) r (record_at w (keys.Fee id))
+    (unequal (is_at (key_cmp (keys.Fee id)) (keys.Fee f)) (λ e. h (ap fee_of (key_cmp-IsAntisymmetric (keys.Fee id) (keys.Fee f) (tie (key_cmp (keys.Fee id) (keys.Fee f)) e)))))
+
+none-above : (a : ℕ) → nat_lt 0 a ≡ false → a ≡ 0
+none-above a e = grind (arith, nat_tests)
+
+some-above : (a : ℕ) → nat_lt 0 a ≡ true → a ≡ 0 → ⊥
+some-above a e z = absurd (grind (arith, nat_tests))
+
+-- WHAT IS OWED AFTER A TURN
+
+unchanged : (has : Part) (w v : Entries) (fees : List (List ℕ)) (sum : ℕ) → ((id : List ℕ) → Contains fees id → record_at v (keys.Fee id) ≡ record_at w (keys.Fee id))
+    → follow has (owed_at w fees) ≡ Done sum → follow has (owed_at v fees) ≡ Done sum
+unfolding owed_at
+unchanged has w v fees sum h e = same_owed has w v 0 fees h ∙ e
+
+one_more : (has : Part) (w : Entries) (fees : List (List ℕ)) (sum : ℕ) (id : List ℕ) (fee : Fee) → record_at w (keys.Fee id) ≡ Some (records.Fee fee)
+    → follow has (owed_at w fees) ≡ Done sum → follow has (owed_at w (fees ++ id ∷ [])) ≡ Done (sum + rest_of (Some fee))
+unfolding owed_at
+one_more has w fees sum id fee there e = more_owed has w 0 sum fees id fee there e
+
+-- where the fee that is made is new
+new_owed : (has : Part) (w : Entries) (item : List ℕ) (r : Record) (f : List ℕ) (fee : Fee) (fees : List (List ℕ)) (sum amount : ℕ) → rest_of (Some fee) ≡ amount
+    → (Contains fees f → ⊥) → follow has (owed_at w fees) ≡ Done sum
+    → follow has (owed_at (written (written w ((keys.Item item, r) ∷ [])) ((keys.Fee f, records.Fee fee) ∷ [])) (fees ++ f ∷ [])) ≡ Done (sum + amount)
+new_owed has w item r f fee fees sum amount rest new e =
+    one_more has (written (written w ((keys.Item item, r) ∷ [])) ((keys.Fee f, records.Fee fee) ∷ [])) fees sum f fee
+    (put-there (written w ((keys.Item item, r) ∷ [])) (keys.Fee f) (records.Fee fee))
+    (unchanged has w (written (written w ((keys.Item item, r) ∷ [])) ((keys.Fee f, records.Fee fee) ∷ [])) fees sum
+    (λ id c. fee_apart (written w ((keys.Item item, r) ∷ [])) f id (records.Fee fee) (λ same. new (subst (Contains fees) same c)) ∙ item_apart w item id r) e)
+    ∙ ap (λ a. Done (sum + a)) rest
+
+made_known : (has : Part) (b fresh : Bool) (w : Entries) (item : List ℕ) (r : Record) (f : List ℕ) (fee : Fee) (fees : List (List ℕ)) (sum more : Option ℕ) (amount : ℕ) → nat_lt 0 amount ≡ b
+    → rest_of (Some fee) ≡ amount → (fresh ≡ true → Contains fees f → ⊥) → IsMore fresh amount sum more → IsKnown has w fees sum
+    → IsKnown has (written (written w ((keys.Item item, r) ∷ [])) (cond b ((keys.Fee f, records.Fee fee) ∷ []) [])) (cond b (fees ++ f ∷ []) fees) more
+made_known has b fresh w item r f fee fees sum None amount above rest new m e = tt
+made_known has b fresh w item r f fee fees None (Some more) amount above rest new m e = absurd m
+made_known has false fresh w item r f fee fees (Some sum) (Some more) amount above rest new m e =
+    let none : amount ≡ 0 = none-above amount above in
+    let same : more ≡ sum = let a = m.0 in omega arith in
+    unchanged has w (written w ((keys.Item item, r) ∷ [])) fees sum (λ id c. item_apart w item id r) e ∙ ap Done (sym same)
+made_known has true fresh w item r f fee fees (Some sum) (Some more) amount above rest new m e =
+    elim m.1 [
+      | inl z ↦ absurd (some-above amount above z)
+      | inr is ↦ new_owed has w item r f fee fees sum amount rest (new is) e ∙ ap Done (sym m.0)
+    ]
+
+less_known : (has : Part) (fresh : Bool) (w : Entries) (fees : List (List ℕ)) (sum more : Option ℕ) → IsMore fresh 0 sum more → IsKnown has w fees sum → IsKnown has w fees more
+less_known has fresh w fees sum None m e = tt
+less_known has fresh w fees None (Some more) m e = absurd m
+less_known has fresh w fees (Some sum) (Some more) m e = e ∙ ap Done (let same : more ≡ sum = let a = m.0 in omega arith in sym same)
+
+-- THE FEES THAT A LINE MAKES
+
+one_fee : (n j k : ℕ) → j < 2 ^ 64 → k < 2 ^ 64 → fee_id n j ≡ fee_id n k → j ≡ k
+unfolding fee_id
+one_fee n j k a b e = decimal_injective j k a b (append_cancel_left (codes "R" ++ decimal n ++ codes "-") (decimal j) (decimal k) e)
+
+new_after : (b : Bool) (n made : ℕ) (fees : List (List ℕ)) → AreNew n made fees → AreNew n (cond b (made + 1) made) (cond b (fees ++ fee_id n made ∷ []) fees)
+new_after false n made fees h k l s c = h k l s c
+new_after true n made fees h k l s c =
+    elim (Contains-push_cases fees (fee_id n made) (fee_id n k) c) [
+      | inl a ↦ h k (omega arith) s a
+      | inr e ↦ let same : made ≡ k = one_fee n made k (omega arith) s e in absurd (omega arith)
+    ]
+
+-- a turn, and the sum after it
+pub run_turn : (has : Part) (p : Terms) (n : ℕ) (a : LoanRequest) (date : List ℕ) (article : Article) (done : Renewals) (v : Verdict) (fresh : Bool) (sum more : Option ℕ) → done.made < 2 ^ 64
+    → Runs has n fresh done sum → IsMore fresh (charged_by v article.media.rental) sum more → Runs has n fresh (turn_by p n a date article done v) more
+unfolding turn_by rest_of
+run_turn has p n a date article done verdicts.Refused fresh sum more s h m = record { known = less_known has fresh done.writes done.member.patron.fees sum more m h.known; new = h.new }
+run_turn has p n a date article done verdicts.Unpaid fresh sum more s h m = record { known = less_known has fresh done.writes done.member.patron.fees sum more m h.known; new = h.new }
+run_turn has p n a date article done verdicts.Made fresh sum more s h m = record {
+  known = made_known has (nat_lt 0 article.media.rental) fresh done.writes a.item (records.Item (renewed (due_for p a date article.media) article.item)) (fee_id n done.made)
+      (record { patron = a.patron; kind = fee_types.Rental; amount = article.media.rental; paid = 0 }) done.member.patron.fees sum more article.media.rental refl (omega arith)
+      (λ is c. h.new is done.made (omega arith) s c) m h.known;
+  new = λ is. new_after (nat_lt 0 article.media.rental) n done.made done.member.patron.fees (h.new is);
+}
+
+-- before the first turn
+pub run_none : (has : Part) (n : ℕ) (member : Member) (fresh : Bool) → (fresh ≡ true → AreNew n 0 member.patron.fees) → Runs has n fresh (none_renewed member) None
+run_none has n member fresh h = record { known = tt; new = h }
+
+-- HOW THE IDS OF A LINE'S FEES BEGIN
+
+front : ℕ → List ℕ
+front n = codes "R" ++ decimal n ++ codes "-"
+
+fee-front : (n k : ℕ) → fee_id n k ≡ front n ++ decimal k
+unfolding fee_id front
+fee-front n k = refl
+
+first-fee : (n : ℕ) → fee_id n 0 ≡ front n ++ 48 ∷ []
+first-fee n = fee-front n 0 ∙ ap (λ d. front n ++ d) (decimal_digit 0 (omega arith))
+
+pub first-some : (n : ℕ) → 1 ≤ length (fee_id n 0)
+first-some n =
+    let len : length (fee_id n 0) ≡ length (front n) + 1 = ap length (first-fee n) ∙ length-append (front n) (48 ∷ []) in
+    omega arith
+
+cut-front : (n : ℕ) → take (length (fee_id n 0) - 1) (fee_id n 0) ≡ front n
+cut-front n =
+    let len : length (fee_id n 0) ≡ length (front n) + 1 = ap length (first-fee n) ∙ length-append (front n) (48 ∷ []) in
+    let upto : length (fee_id n 0) - 1 ≡ length (front n) = omega arith in
+    ap (λ m. take m (fee_id n 0)) upto ∙ ap (λ ids. take (length (front n)) ids) (first-fee n) ∙ take-append_seam (front n) (48 ∷ [])
+
+-- each begins as the first does
+pub begins : (n k : ℕ) (id : List ℕ) → id ≡ fee_id n k → starts_with nat_eq id (take (length (fee_id n 0) - 1) (fee_id n 0)) ≡ true
+begins n k id e =
+    ap (λ p. starts_with nat_eq id p) (cut-front n)
+    ∙ ap (λ i. pointwise nat_eq (front n) (take (length (front n)) i)) (e ∙ fee-front n k)
+    ∙ ap (pointwise nat_eq (front n)) (take-append_seam (front n) (decimal k))
+    ∙ nat_list_eq_equiv.refl (front n)
+
+-- an id that is none of them
+pub still_new : (n i : ℕ) (fees : List (List ℕ)) (d : List ℕ) → i < length fees → d ≡ get_or fees i d → ((k : ℕ) → d ≡ fee_id n k → ⊥)
+    → AreNew n 0 (take i fees) → AreNew n 0 (take (i + 1) fees)
+still_new n i fees d within at other h k l s c =
+    let cut : take (i + 1) fees ≡ take i fees ++ get_or fees i d ∷ [] = rw add-one (take-suc fees i d within) in
+    elim (Contains-push_cases (take i fees) (get_or fees i d) (fee_id n k) (subst (λ (ids : List (List ℕ)). Contains ids (fee_id n k)) cut c)) [
+      | inl a ↦ h k l s a
+      | inr e ↦ other k (at ∙ e)
+    ]
+
+pub all_new : (n i : ℕ) (fees : List (List ℕ)) → length fees ≤ i → AreNew n 0 (take i fees) → AreNew n 0 fees
+all_new n i fees end h = subst (AreNew n 0) (take_all i fees end) h
+
+-- an item that is left
+pub run_left : (has : Part) (n : ℕ) (item : List ℕ) (done : Renewals) (fresh : Bool) (sum : Option ℕ) → Runs has n fresh done sum → Runs has n fresh (one_left item done) sum
+run_left has n item done fresh sum h = record { known = h.known; new = h.new }

@@ -1,0 +1,251 @@
+-- Which keys checkin, checkout, renewal and renewal of all items want.
+use Rattle.std.proofs.Common.{◌≡◌, inl, inr, ℕ, ◌+◌, Bool, true, false, cond, not, List, [], ◌∷◌, ◌++◌, length, Option, Some, None, refl, ap, sym, ◌∙◌}
+use Rattle.std.specs.Prelude.{◌&&◌, nat_le, nat_lt, Contains}
+use Rattle.std.proofs.lemmas.List.Elements.{Contains-append_right, Contains-push_cases}
+use Rattle.circ_policy.specs.Terms.{Terms}
+use Rattle.circ_records.specs.Records.{Entries, record_at}
+use Rattle.circ_records.specs.declared.key.Key.{Key}
+use Rattle.circ_records.specs.declared.key.Key.TheVariants as keys
+use Rattle.circ_records.specs.declared.record.FeeType.TheVariants as fee_types
+use Rattle.circ_records.specs.declared.record.Loan.{Loan}
+use Rattle.circ_records.specs.declared.record.Record.{Record}
+use Rattle.circ_records.specs.declared.record.Record.TheVariants as records
+use Rattle.sip_reader.specs.Texts.{fee_id}
+use Rattle.sip_reader.specs.declared.request.Checkin.{Checkin}
+use Rattle.sip_reader.specs.declared.request.Checkout.{Checkout}
+use Rattle.sip_reader.specs.declared.request.Renew.{Renew}
+use Rattle.sip_reader.specs.declared.request.RenewAll.{RenewAll}
+use Rattle.loan_meaning.specs.Lending.{lending_tests, other_at, lending_of, lending_rule_by, lending_rule, renewal_tests, renewal_rule, renew_rule_known, renew_rule, checkout_rule_known, checkout_rule}
+use Rattle.loan_meaning.specs.Lookups.{patron_at, item_at, borrower_at, ask_after}
+use Rattle.loan_meaning.specs.Owing.{owed_from, owed_at, owing_tests}
+use Rattle.loan_meaning.specs.RenewingAll.{turn_rule_known, turn_rule, turns_rule, renew_all_rule_known, renew_all_rule}
+use Rattle.loan_meaning.specs.Returning.{checkin_rule}
+use Rattle.read_set.specs.Asks.{Give, ◌>>=◌}
+use Rattle.read_set.specs.Effects.{written}
+use Rattle.read_set.specs.Fees.{rest_of, owing_verdict}
+use Rattle.read_set.specs.Ids.{same}
+use Rattle.read_set.specs.Known.{as_article, as_fee}
+use Rattle.read_set.specs.Loans.{by_checkout, by_renew, is_lent, lent_to, may_renew, renewals_of, refused, renewed, due_for, lending_made, renewal_by}
+use Rattle.read_set.specs.Maps.{Part}
+use Rattle.read_set.specs.Queues.{has_queue, first_is_another}
+use Rattle.read_set.specs.RenewAlls.{by_renew_all, one_left, turn_by, none_renewed, all_renewed}
+use Rattle.read_set.specs.Returns.{checked_in, loan_of}
+use Rattle.read_set.specs.declared.known.Article.{Article}
+use Rattle.read_set.specs.declared.known.Member.{Member}
+use Rattle.read_set.specs.declared.progress.Renewals.{Renewals}
+use Rattle.read_set.specs.declared.verdict.LoanRequest.{LoanRequest}
+use Rattle.read_set.specs.declared.verdict.Verdict.{Verdict}
+use Rattle.read_set.specs.declared.verdict.Verdict.TheVariants as verdicts
+use Rattle.read_set.proofs.Putting.{put-there, written-lacks}
+use Rattle.message_meaning.proofs.Reach.{Reaches, reach_give, reach_any, reach_then, reach_if}
+use Rattle.message_meaning.proofs.Wanting.{IsClosed, Lists, ListsAll, Lent, LentAll, patron_reach, item_reach, ask_reach, first-of}
+
+-- anything may be given
+abbrev Any : {A : Type 0} → A → Type 0
+Any x = Unit {0}
+
+-- CHECKIN
+
+borrower_reach : (has : Part) (near : Key → Type 0) → IsClosed has near → (p : Terms) (loan : Option Loan) → Lent near loan → Reaches has near (borrower_at p loan) (ListsAll near)
+unfolding borrower_at
+borrower_reach has near closed p None h = reach_give has near None (ListsAll near) tt
+borrower_reach has near closed p (Some loan) h = patron_reach has near closed p loan.patron (h (keys.Patron loan.patron) refl)
+
+loan_near : (near : Key → Type 0) (item : Option Article) → LentAll near item → Lent near (loan_of item)
+loan_near near None h = λ k e. absurd e
+loan_near near (Some article) h = h
+
+pub checkin_reach : (has : Part) (near : Key → Type 0) → IsClosed has near → (p : Terms) (n : ℕ) (q : Checkin) (date : List ℕ) → near (keys.Item q.item)
+    → Reaches has near (checkin_rule p n q date) Any
+unfolding checkin_rule
+checkin_reach has near closed p n q date i =
+    reach_then has near (item_at p q.item) (λ item. borrower_at p (loan_of item) >>= λ borrower. Give (checked_in p n q date item borrower)) (LentAll near) Any (item_reach has near closed p q.item i)
+    (λ item h. reach_then has near (borrower_at p (loan_of item)) (λ borrower. Give (checked_in p n q date item borrower)) (ListsAll near) Any (borrower_reach has near closed p (loan_of item) (loan_near near item h))
+    (λ borrower b. reach_any has near (checked_in p n q date item borrower)))
+
+-- WHAT IS OWED
+
+-- the fees of a list that aren't among the writes so far are near
+abbrev Owes : (Key → Type 0) → Entries → List (List ℕ) → Type 0
+Owes near w fees = (id : List ℕ) → Contains fees id → record_at w (keys.Fee id) ≡ None → near (keys.Fee id)
+
+owed_from_reach : (has : Part) (near : Key → Type 0) (w : Entries) (sum : ℕ) (fees : List (List ℕ)) → Owes near w fees → Reaches has near (owed_from w sum fees) Any
+owed_from_reach has near w sum [] h = reach_any has near sum
+owed_from_reach has near w sum (id ∷ more) h =
+    reach_then has near (ask_after w (keys.Fee id)) (λ found. owed_from w (sum + rest_of (as_fee found)) more) Any Any
+    (ask_reach has near w (keys.Fee id) (h id (first-of id more)))
+    (λ found u. owed_from_reach has near w (sum + rest_of (as_fee found)) more (λ j c. h j (Contains-append_right (id ∷ []) more j c)))
+
+pub owed_reach : (has : Part) (near : Key → Type 0) (w : Entries) (fees : List (List ℕ)) → Owes near w fees → Reaches has near (owed_at w fees) Any
+unfolding owed_at
+owed_reach has near w fees h = owed_from_reach has near w 0 fees h
+
+owing_reach : (has : Part) (near : Key → Type 0) (w : Entries) (agreed : Bool) (member : Member) (article : Article) → Owes near w member.patron.fees
+    → Reaches has near (owing_tests w agreed member article) Any
+unfolding owing_tests
+owing_reach has near w agreed member article h =
+    reach_then has near (owed_at w member.patron.fees) (λ owes. Give (owing_verdict owes agreed member article)) Any Any (owed_reach has near w member.patron.fees h)
+    (λ owes u. reach_any has near (owing_verdict owes agreed member article))
+
+-- CHECKOUT AND RENEWAL
+
+lending_tests_reach : (has : Part) (near : Key → Type 0) (a : LoanRequest) (member : Member) (article : Article) → Lists near member.patron
+    → Reaches has near (lending_tests a member article) Any
+unfolding lending_tests
+lending_tests_reach has near a member article h =
+    reach_if has near a.forced (Give verdicts.Made) _ Any (λ e. reach_any has near verdicts.Made)
+    (λ e. reach_if has near (lent_to a.patron article.item.loan) (Give verdicts.Refused) _ Any (λ e. reach_any has near verdicts.Refused)
+    (λ e. reach_if has near (is_lent article.item.loan) (Give verdicts.Refused) _ Any (λ e. reach_any has near verdicts.Refused)
+    (λ e. reach_if has near (first_is_another a.patron article.item.holds) (Give verdicts.Refused) _ Any (λ e. reach_any has near verdicts.Refused)
+    (λ e. reach_if has near member.patron.blocked (Give verdicts.Refused) _ Any (λ e. reach_any has near verdicts.Refused)
+    (λ e. reach_if has near (nat_le member.class.max_loans (length member.patron.loans)) (Give verdicts.Refused) (owing_tests [] a.agreed member article) Any (λ e. reach_any has near verdicts.Refused)
+    (λ e. owing_reach has near [] a.agreed member article (λ id c u. h.fees id c)))))))
+
+other_reach : (has : Part) (near : Key → Type 0) → IsClosed has near → (p : Terms) (patron : List ℕ) (loan : Option Loan) → Lent near loan
+    → Reaches has near (other_at p patron loan) (ListsAll near)
+other_reach has near closed p patron None h = reach_give has near None (ListsAll near) tt
+other_reach has near closed p patron (Some loan) h =
+    reach_if has near (same loan.patron patron) (Give None) (patron_at p loan.patron) (ListsAll near) (λ e. reach_give has near None (ListsAll near) tt)
+    (λ e. patron_reach has near closed p loan.patron (h (keys.Patron loan.patron) refl))
+
+lending_of_reach : (has : Part) (near : Key → Type 0) → IsClosed has near → (p : Terms) (n : ℕ) (a : LoanRequest) (date : List ℕ) (member : Member) (article : Article) → Lent near article.item.loan
+    → Reaches has near (lending_of p n a date member article) Any
+unfolding lending_of
+lending_of_reach has near closed p n a date member article h =
+    reach_then has near (other_at p a.patron article.item.loan) (λ other. Give (lending_made p n a date member article other)) (ListsAll near) Any
+    (other_reach has near closed p a.patron article.item.loan h)
+    (λ other u. reach_any has near (lending_made p n a date member article other))
+
+lending_by_reach : (has : Part) (near : Key → Type 0) → IsClosed has near → (p : Terms) (n : ℕ) (a : LoanRequest) (date : List ℕ) (member : Member) (article : Article) (v : Verdict) → Lent near article.item.loan
+    → Reaches has near (lending_rule_by p n a date member article v) Any
+lending_by_reach has near closed p n a date member article verdicts.Refused h = reach_any has near (refused p a date (Some article) 0)
+lending_by_reach has near closed p n a date member article verdicts.Unpaid h = reach_any has near (refused p a date (Some article) article.media.rental)
+lending_by_reach has near closed p n a date member article verdicts.Made h = lending_of_reach has near closed p n a date member article h
+
+lending_reach : (has : Part) (near : Key → Type 0) → IsClosed has near → (p : Terms) (n : ℕ) (a : LoanRequest) (date : List ℕ) (member : Member) (article : Article) → Lists near member.patron → Lent near article.item.loan
+    → Reaches has near (lending_rule p n a date member article) Any
+unfolding lending_rule
+lending_reach has near closed p n a date member article h l =
+    reach_then has near (lending_tests a member article) (λ v. lending_rule_by p n a date member article v) Any Any (lending_tests_reach has near a member article h)
+    (λ v u. lending_by_reach has near closed p n a date member article v l)
+
+-- after the writes so far
+renewal_tests_reach : (has : Part) (near : Key → Type 0) (w : Entries) (a : LoanRequest) (member : Member) (article : Article) → Owes near w member.patron.fees
+    → Reaches has near (renewal_tests w a member article) Any
+unfolding renewal_tests
+renewal_tests_reach has near w a member article h =
+    reach_if has near (not (may_renew a article.item.loan)) (Give verdicts.Refused) _ Any (λ e. reach_any has near verdicts.Refused)
+    (λ e. reach_if has near a.forced (Give verdicts.Made) _ Any (λ e. reach_any has near verdicts.Made)
+    (λ e. reach_if has near member.patron.blocked (Give verdicts.Refused) _ Any (λ e. reach_any has near verdicts.Refused)
+    (λ e. reach_if has near (has_queue article.item.holds) (Give verdicts.Refused) _ Any (λ e. reach_any has near verdicts.Refused)
+    (λ e. reach_if has near (nat_le member.class.max_renewals (renewals_of article.item.loan)) (Give verdicts.Refused) (owing_tests w a.agreed member article) Any (λ e. reach_any has near verdicts.Refused)
+    (λ e. owing_reach has near w a.agreed member article h)))))
+
+renewal_reach : (has : Part) (near : Key → Type 0) (p : Terms) (n : ℕ) (a : LoanRequest) (date : List ℕ) (member : Member) (article : Article) → Lists near member.patron
+    → Reaches has near (renewal_rule p n a date member article) Any
+unfolding renewal_rule
+renewal_reach has near p n a date member article h =
+    reach_then has near (renewal_tests [] a member article) (λ v. Give (renewal_by p n a date member article v)) Any Any
+    (renewal_tests_reach has near [] a member article (λ id c u. h.fees id c))
+    (λ v u. reach_any has near (renewal_by p n a date member article v))
+
+renew_known_reach : (has : Part) (near : Key → Type 0) (p : Terms) (n : ℕ) (a : LoanRequest) (date : List ℕ) (member : Option Member) (article : Option Article) → ListsAll near member
+    → Reaches has near (renew_rule_known p n a date member article) Any
+renew_known_reach has near p n a date None article h = reach_any has near (refused p a date article 0)
+renew_known_reach has near p n a date (Some member) None h = reach_any has near (refused p a date None 0)
+renew_known_reach has near p n a date (Some member) (Some article) h = renewal_reach has near p n a date member article h
+
+pub renew_reach : (has : Part) (near : Key → Type 0) → IsClosed has near → (p : Terms) (n : ℕ) (q : Renew) (date : List ℕ) → near (keys.Patron q.patron) → near (keys.Item q.item)
+    → Reaches has near (renew_rule p n q date) Any
+unfolding renew_rule
+renew_reach has near closed p n q date a b =
+    reach_then has near (patron_at p q.patron) (λ patron. item_at p q.item >>= λ item. renew_rule_known p n (by_renew q) date patron item) (ListsAll near) Any (patron_reach has near closed p q.patron a)
+    (λ patron h. reach_then has near (item_at p q.item) (λ item. renew_rule_known p n (by_renew q) date patron item) (LentAll near) Any (item_reach has near closed p q.item b)
+    (λ item u. renew_known_reach has near p n (by_renew q) date patron item h))
+
+checkout_known_reach : (has : Part) (near : Key → Type 0) → IsClosed has near → (p : Terms) (n : ℕ) (q : Checkout) (date : List ℕ) (member : Option Member) (article : Option Article) → ListsAll near member → LentAll near article
+    → Reaches has near (checkout_rule_known p n q date member article) Any
+checkout_known_reach has near closed p n q date None article h l = reach_any has near (refused p (by_checkout q) date article 0)
+checkout_known_reach has near closed p n q date (Some member) None h l = reach_any has near (refused p (by_checkout q) date None 0)
+checkout_known_reach has near closed p n q date (Some member) (Some article) h l =
+    reach_if has near (q.renewal && lent_to q.patron article.item.loan) (renewal_rule p n (by_checkout q) date member article) (lending_rule p n (by_checkout q) date member article) Any
+    (λ e. renewal_reach has near p n (by_checkout q) date member article h)
+    (λ e. lending_reach has near closed p n (by_checkout q) date member article h l)
+
+pub checkout_reach : (has : Part) (near : Key → Type 0) → IsClosed has near → (p : Terms) (n : ℕ) (q : Checkout) (date : List ℕ) → near (keys.Patron q.patron) → near (keys.Item q.item)
+    → Reaches has near (checkout_rule p n q date) Any
+unfolding checkout_rule
+checkout_reach has near closed p n q date a b =
+    reach_then has near (patron_at p q.patron) (λ patron. item_at p q.item >>= λ item. checkout_rule_known p n q date patron item) (ListsAll near) Any (patron_reach has near closed p q.patron a)
+    (λ patron h. reach_then has near (item_at p q.item) (λ item. checkout_rule_known p n q date patron item) (LentAll near) Any (item_reach has near closed p q.item b)
+    (λ item l. checkout_known_reach has near closed p n q date patron item h l))
+
+-- RENEWAL OF ALL ITEMS
+
+-- the patron's fees so far are near, or were made by the line
+abbrev Held : (Key → Type 0) → Renewals → Type 0
+Held near done = Owes near done.writes done.member.patron.fees
+
+own_fee : (near : Key → Type 0) (w : Entries) (id j : List ℕ) (fee : Record) → id ≡ j → record_at (written w ((keys.Fee id, fee) ∷ [])) (keys.Fee j) ≡ None → near (keys.Fee j)
+own_fee near w id j fee e u =
+    let there : record_at (written w ((keys.Fee id, fee) ∷ [])) (keys.Fee id) ≡ Some fee = put-there w (keys.Fee id) fee in
+    let none : record_at (written w ((keys.Fee id, fee) ∷ [])) (keys.Fee id) ≡ None = ap (λ i. record_at (written w ((keys.Fee id, fee) ∷ [])) (keys.Fee i)) e ∙ u in
+    let clash : Some fee ≡ None = sym there ∙ none in
+    cc
+
+-- one more item, and the fee that is made
+made_by : (near : Key → Type 0) (b : Bool) (w : Entries) (item : Key × Record) (id : List ℕ) (fee : Record) (fees : List (List ℕ)) → Owes near w fees
+    → Owes near (written (written w (item ∷ [])) (cond b ((keys.Fee id, fee) ∷ []) [])) (cond b (fees ++ id ∷ []) fees)
+made_by near false w item id fee fees h j c u = h j c (written-lacks w (item ∷ []) (keys.Fee j) u)
+made_by near true w item id fee fees h j c u =
+    elim (Contains-push_cases fees id j c) [
+      | inl a ↦ h j a (written-lacks w (item ∷ []) (keys.Fee j) (written-lacks (written w (item ∷ [])) ((keys.Fee id, fee) ∷ []) (keys.Fee j) u))
+      | inr e ↦ own_fee near (written w (item ∷ [])) id j fee e u
+    ]
+
+held_by : (near : Key → Type 0) (p : Terms) (n : ℕ) (a : LoanRequest) (date : List ℕ) (article : Article) (done : Renewals) (v : Verdict) → Held near done → Held near (turn_by p n a date article done v)
+unfolding turn_by
+held_by near p n a date article done verdicts.Refused h = h
+held_by near p n a date article done verdicts.Unpaid h = h
+held_by near p n a date article done verdicts.Made h =
+    made_by near (nat_lt 0 article.media.rental) done.writes (keys.Item a.item, records.Item (renewed (due_for p a date article.media) article.item)) (fee_id n done.made)
+    (records.Fee (record { patron = a.patron; kind = fee_types.Rental; amount = article.media.rental; paid = 0 })) done.member.patron.fees h
+
+turn_known_reach : (has : Part) (near : Key → Type 0) (p : Terms) (n : ℕ) (a : LoanRequest) (date : List ℕ) (done : Renewals) (article : Option Article) → Held near done
+    → Reaches has near (turn_rule_known p n a date done article) (Held near)
+turn_known_reach has near p n a date done None h = reach_give has near (one_left a.item done) (Held near) h
+turn_known_reach has near p n a date done (Some article) h =
+    reach_then has near (renewal_tests done.writes a done.member article) (λ v. Give (turn_by p n a date article done v)) Any (Held near)
+    (renewal_tests_reach has near done.writes a done.member article h)
+    (λ v u. reach_give has near (turn_by p n a date article done v) (Held near) (held_by near p n a date article done v h))
+
+turn_reach : (has : Part) (near : Key → Type 0) (p : Terms) (n : ℕ) (a : LoanRequest) (date : List ℕ) (done : Renewals) → near (keys.Item a.item) → Held near done
+    → Reaches has near (turn_rule p n a date done) (Held near)
+unfolding turn_rule
+turn_reach has near p n a date done i h =
+    reach_then has near (ask_after done.writes (keys.Item a.item)) (λ found. turn_rule_known p n a date done (as_article p found)) Any (Held near)
+    (ask_reach has near done.writes (keys.Item a.item) (λ u. i))
+    (λ found u. turn_known_reach has near p n a date done (as_article p found) h)
+
+turns_reach : (has : Part) (near : Key → Type 0) (p : Terms) (n : ℕ) (q : RenewAll) (date : List ℕ) (items : List (List ℕ)) (done : Renewals) → ((id : List ℕ) → Contains items id → near (keys.Item id)) → Held near done
+    → Reaches has near (turns_rule p n q date items done) (Held near)
+turns_reach has near p n q date [] done i h = reach_give has near done (Held near) h
+turns_reach has near p n q date (id ∷ more) done i h =
+    reach_then has near (turn_rule p n (by_renew_all q id) date done) (λ next. turns_rule p n q date more next) (Held near) (Held near)
+    (turn_reach has near p n (by_renew_all q id) date done (i id (first-of id more)) h)
+    (λ next k. turns_reach has near p n q date more next (λ j c. i j (Contains-append_right (id ∷ []) more j c)) k)
+
+renew_all_known_reach : (has : Part) (near : Key → Type 0) (p : Terms) (n : ℕ) (q : RenewAll) (date : List ℕ) (member : Option Member) → ListsAll near member
+    → Reaches has near (renew_all_rule_known p n q date member) Any
+renew_all_known_reach has near p n q date None h = reach_any has near _
+renew_all_known_reach has near p n q date (Some member) h =
+    reach_then has near (turns_rule p n q date member.patron.loans (none_renewed member)) (λ done. Give (all_renewed p q date done)) (Held near) Any
+    (turns_reach has near p n q date member.patron.loans (none_renewed member) h.loans (λ id c u. h.fees id c))
+    (λ done k. reach_any has near (all_renewed p q date done))
+
+pub renew_all_reach : (has : Part) (near : Key → Type 0) → IsClosed has near → (p : Terms) (n : ℕ) (q : RenewAll) (date : List ℕ) → near (keys.Patron q.patron)
+    → Reaches has near (renew_all_rule p n q date) Any
+unfolding renew_all_rule
+renew_all_reach has near closed p n q date a =
+    reach_then has near (patron_at p q.patron) (λ patron. renew_all_rule_known p n q date patron) (ListsAll near) Any (patron_reach has near closed p q.patron a)
+    (λ patron h. renew_all_known_reach has near p n q date patron h)

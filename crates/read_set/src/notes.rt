@@ -1,0 +1,156 @@
+//! What a line has read.
+
+ghost use Rattle.std.specs.Prelude.{◌≡◌, ◌++◌, ◌∷◌, [], None, IfOk, OnOk, OnErr};
+ghost use Rattle.std.specs.Option.{option_copied};
+ghost use Rattle.read_set.specs.Asks.{follow, Ask, Give};
+ghost use Rattle.read_set.specs.Notes.{note_of, IsOnceEach};
+ghost use Rattle.read_set.specs.Stops.{Follows};
+
+use crate::source::{Source, Stop};
+use circ_records::{Key, Record};
+use std::alloc::{AllocError, Global};
+use std::collections::BTreeMap;
+use std::marker::Model;
+
+/// Whose record it is: the base's, or that of an attempt at a line.
+#[derive(Clone, Copy, Debug, PartialEq, Eq)]
+pub enum Name {
+    Base,
+    Made { line: u64, attempt: u32 },
+}
+
+/// What was found at a key, a record or none, under its name.
+#[derive(Drop)]
+pub struct Note {
+    pub key: Key,
+    pub name: Name,
+    pub found: Option<Record>,
+}
+
+impl Note {
+    /// The same note.
+    pub fn copy(&self, alloc: Global) -> Result<Note, AllocError>
+        ensures { IfOk result (λ n. n ≡ self.now) }
+    {
+        Ok(Note {
+            key: self.key,
+            name: self.name,
+            found: copy_found(alloc, &self.found)?,
+        })
+    }
+}
+
+fn copy_found(alloc: Global, found: &Option<Record>) -> Result<Option<Record>, AllocError>
+    ensures { IfOk result (λ r. r ≡ found.now) }
+{
+    match found {
+        Some(found) => Ok(Some(found.copy(alloc)?)),
+        None => Ok(None),
+    }
+}
+
+/// What a line has read, in the order of reading. No key is noted twice.
+#[derive(Drop)]
+pub struct Notes {
+    entries: Vec<Note>,
+    /// Where the note of each key stands.
+    places: BTreeMap<Key, usize>,
+}
+
+impl Model for Notes {
+    ghost use Rattle.std.specs.Prelude.{List};
+    ghost use Rattle.read_set.specs.declared.notes.Note.{Note};
+
+    ghost Value = { List Note };
+
+    ghost use Rattle.read_set.specs.Places.{AreKept};
+
+    ghost view = { λ n. n.entries.items };
+
+    ghost invariant = { λ n. AreKept n.entries.items n.places.entries };
+}
+
+impl Notes {
+    /// No notes.
+    pub fn new(alloc: Global) -> Notes
+        ensures { result ≡ [] }
+    {
+        Notes {
+            entries: Vec::new(alloc),
+            places: BTreeMap::new(alloc),
+        }
+    }
+
+    /// One more note, of a key that isn't noted. Without memory nothing changes.
+    pub fn add(&mut self, note: Note) -> Result<(), AllocError>
+        requires { note_of self.old note.key ≡ None }
+        ensures ok { OnOk result (self.new ≡ self.old ++ note ∷ []) }
+        ensures err { OnErr result (self.new ≡ self.old) }
+    {
+        let key = note.key;
+        let place = self.entries.len();
+        self.entries.push(note)?;
+        match self.places.insert(key, place) {
+            Ok(_) => Ok(()),
+            Err(_) => {
+                self.entries.pop();
+                Err(AllocError)
+            }
+        }
+    }
+
+    /// The note of a key.
+    pub fn get(&self, key: &Key) -> Option<&Note>
+        ensures { option_copied result ≡ note_of self.now key.now }
+    {
+        match self.places.get(key) {
+            Some(place) => self.entries.get(*place),
+            None => None,
+        }
+    }
+
+    /// The notes in the order of reading.
+    pub fn as_slice(&self) -> &[Note]
+        ensures notes { result.now ≡ self.now }
+        ensures once { IsOnceEach self.now }
+    {
+        self.entries.as_slice()
+    }
+
+    /// The same notes.
+    pub fn copy(&self, alloc: Global) -> Result<Notes, AllocError>
+        ensures { IfOk result (λ n. n ≡ self.now) }
+    {
+        copy_notes(alloc, self.as_slice())
+    }
+}
+
+fn copy_notes(alloc: Global, notes: &[Note]) -> Result<Notes, AllocError>
+    requires { IsOnceEach notes.now }
+    ensures { IfOk result (λ n. n ≡ notes.now) }
+{
+    let mut copies = Notes::new(alloc);
+    for note in notes {
+        copies.add(note.copy(alloc)?)?;
+    }
+    Ok(copies)
+}
+
+/// Notes as a source of records: it stops at a key that isn't noted.
+#[derive(Clone, Copy)]
+pub struct NotesSource<'n> {
+    pub notes: &'n Notes,
+}
+
+impl Source for NotesSource<'_> {
+    ghost use Rattle.read_set.specs.Notes.{noted};
+
+    ghost has = { λ s. noted s.notes.now };
+
+    fn read(&mut self, alloc: Global, key: &Key) -> Result<Option<Record>, Stop> {
+        match self.notes.get(key) {
+            Some(note) => Ok(copy_found(alloc, &note.found)?),
+            None => Err(Stop::Unnoted(*key)),
+        }
+    }
+}

@@ -1,0 +1,103 @@
+//! What a line writes and answers on what it has read.
+
+ghost use Rattle.std.specs.Prelude.{◌≡◌, map};
+ghost use Rattle.std.specs.List.Sorted.{IsStrictlySortedBy};
+ghost use Rattle.circ_records.specs.Keys.{key_cmp};
+ghost use Rattle.read_set.specs.Settling.{Settles};
+
+use crate::effect::Writes;
+use crate::notes::Notes;
+use crate::plan::PlanName;
+use circ_records::{Key, Record};
+use sip_answer::Answer;
+use std::marker::{Model, PhantomData};
+
+/// What a line of a plan writes and answers, and the notes that settle it.
+#[derive(Drop)]
+pub struct Version<J: PlanName> {
+    line: u64,
+    attempt: u32,
+    reads: Notes,
+    writes: Writes,
+    answer: Option<Answer>,
+    of: PhantomData<J>,
+}
+
+impl<J: PlanName> Model for Version<J> {
+    ghost use Rattle.read_set.specs.Settling.{Told, Settles};
+
+    ghost Value = { Told };
+
+    ghost view = { λ v. record { line = v.line; attempt = v.attempt; reads = v.reads; writes = v.writes; answer = v.answer } };
+
+    ghost invariant = { λ v. Settles J.plan v.line v.reads v.writes v.answer };
+}
+
+impl<J: PlanName> Version<J> {
+    /// The version of an attempt at a line: what the line writes and answers where these notes are true.
+    pub fn new(
+        line: u64,
+        attempt: u32,
+        reads: Notes,
+        writes: Writes,
+        answer: Option<Answer>,
+    ) -> Version<J>
+        requires { Settles J.plan line reads writes answer }
+        ensures { result ≡ record { line = line; attempt = attempt; reads = reads; writes = writes; answer = answer } }
+    {
+        Version {
+            line,
+            attempt,
+            reads,
+            writes,
+            answer,
+            of: PhantomData,
+        }
+    }
+
+    /// The number of its line.
+    pub fn line(&self) -> u64
+        ensures { result ≡ self.now.line }
+    {
+        self.line
+    }
+
+    /// Which attempt at the line it is of, counted from 0.
+    pub fn attempt(&self) -> u32
+        ensures { result ≡ self.now.attempt }
+    {
+        self.attempt
+    }
+
+    /// What it has read. This settles what it writes and answers.
+    pub fn reads(&self) -> &Notes
+        ensures reads { result.now ≡ self.now.reads }
+        ensures settles { Settles J.plan self.now.line self.now.reads self.now.writes self.now.answer }
+    {
+        &self.reads
+    }
+
+    /// The records that it writes with their keys, rising.
+    pub fn writes(&self) -> &[(Key, Record)]
+        ensures writes { result.now ≡ self.now.writes }
+        ensures rising { IsStrictlySortedBy key_cmp (map (λ e. e.0) self.now.writes) }
+    {
+        self.writes.as_slice()
+    }
+
+    /// Its answer, where the line has one.
+    pub fn answer(&self) -> &Option<Answer>
+        ensures { result.now ≡ self.now.answer }
+    {
+        &self.answer
+    }
+}
+
+/// What a line needs on what it has read.
+#[derive(Drop)]
+pub enum Need<J: PlanName> {
+    /// The record at a key that isn't noted.
+    Key(Key),
+    /// Nothing any more.
+    Done(Version<J>),
+}

@@ -1,0 +1,4 @@
+pub mod Columns
+pub mod Views
+pub mod Sights
+pub mod Changes

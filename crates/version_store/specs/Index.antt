@@ -1,0 +1,25 @@
+-- Which lines have an entry at a key, as the index has it.
+use Rattle.std.specs.Prelude.{◌≡◌, ℕ, ◌<◌, Bool, true, false, Option, Some, None, cond}
+use Rattle.std.specs.BTreeMap.{get}
+use Rattle.std.specs.BTreeSet.{BTreeSet, contains}
+use Rattle.std.specs.Ordering.{nat_cmp, eq_by_cmp}
+use Rattle.circ_records.specs.Keys.{key_cmp}
+use Rattle.circ_records.specs.declared.key.Key.{Key}
+use Rattle.version_store.specs.declared.index.KeyIndex.{KeyIndex}
+
+abbrev pub in_column : Option (BTreeSet ℕ) → ℕ → Bool
+in_column None n = false
+in_column (Some column) n = contains nat_cmp column n
+
+-- whether a line has an entry at a key
+abbrev pub at : KeyIndex → Key → ℕ → Bool
+at index k n = in_column (get key_cmp index.columns k) n
+
+-- f, but w at the key and the line
+abbrev pub with_at : Key → ℕ → Bool → (Key → ℕ → Bool) → Key → ℕ → Bool
+with_at k n w f q m = cond (eq_by_cmp key_cmp k q) (cond (eq_by_cmp nat_cmp n m) w (f q m)) (f q m)
+
+-- the greatest line below that has an entry
+abbrev pub IsLatest : (ℕ → Bool) → ℕ → Option ℕ → Type 0
+IsLatest f below None = (m : ℕ) → m < below → f m ≡ false
+IsLatest f below (Some n) = (n < below) × (f n ≡ true) × ((m : ℕ) → n < m → m < below → f m ≡ false)

@@ -1,0 +1,38 @@
+use crate::table::Place;
+use read_set::{Name, PlanName};
+use std::alloc::AllocError;
+
+/// What an attempt at a line placed at a key: its record stands in the version at the place.
+pub struct Entry<'t, J: PlanName> {
+    pub attempt: u32,
+    /// Whether a check of the line has failed since it was placed.
+    pub suspect: bool,
+    pub place: Place<'t, J>,
+}
+
+impl<'t, J: PlanName> Clone for Entry<'t, J> {
+    fn clone(&self) -> Result<Entry<'t, J>, AllocError> {
+        Ok(*self)
+    }
+}
+
+impl<'t, J: PlanName> Copy for Entry<'t, J> {}
+
+/// What a line sees at a key.
+#[derive(Drop)]
+pub enum Seen<'t, J: PlanName> {
+    /// No line below has an entry: the base's record, or that there is none.
+    Base,
+    /// The record that the version at the place writes.
+    Made { name: Name, place: Place<'t, J> },
+    /// The entry of this line, which is suspect.
+    Suspect { line: u64 },
+}
+
+/// The name under which a line sees a key.
+#[derive(Clone, Copy, Debug, PartialEq, Eq)]
+pub enum Found {
+    Named(Name),
+    /// The entry of this line, which is suspect and equals no name.
+    Suspect { line: u64 },
+}

@@ -1,0 +1,73 @@
+//! Which lines have an entry, key by key.
+
+ghost use Rattle.std.specs.Prelude.{◌≡◌, ℕ, OnOk, OnErr, true, false};
+ghost use Rattle.circ_records.specs.declared.key.Key.{Key};
+ghost use Rattle.version_store.specs.Index.{IsLatest, at, with_at};
+
+use circ_records::Key;
+use std::alloc::{AllocError, Global};
+use std::collections::{BTreeMap, BTreeSet};
+
+/// For each key the lines that have an entry there.
+#[derive(Drop)]
+pub struct KeyIndex {
+    columns: BTreeMap<Key, BTreeSet<u64>>,
+}
+
+impl KeyIndex {
+    /// No line has an entry.
+    pub fn new(alloc: Global) -> KeyIndex
+        ensures { (q : Key) (m : ℕ) → at result q m ≡ false }
+    {
+        KeyIndex {
+            columns: BTreeMap::new(alloc),
+        }
+    }
+
+    /// Makes room for a key.
+    fn open(&mut self, alloc: Global, key: &Key) -> Result<(), AllocError>
+        ensures same { (q : Key) (m : ℕ) → at self.new q m ≡ at self.old q m }
+    {
+        if !self.columns.contains_key(key) {
+            self.columns.insert(*key, BTreeSet::new(alloc))?;
+        }
+        Ok(())
+    }
+
+    /// The line has an entry at the key.
+    pub fn set(&mut self, alloc: Global, key: &Key, line: u64) -> Result<(), AllocError>
+        ensures put { OnOk result ((q : Key) (m : ℕ) → at self.new q m ≡ with_at key.now line true (at self.old) q m) }
+        ensures same { OnErr result ((q : Key) (m : ℕ) → at self.new q m ≡ at self.old q m) }
+    {
+        self.open(alloc, key)?;
+        let Some(column) = self.columns.get_mut(key) else {
+            return Err(AllocError);
+        };
+        match column.insert(line) {
+            Ok(_) => Ok(()),
+            Err(_) => Err(AllocError),
+        }
+    }
+
+    /// The line has no entry at the key.
+    pub fn clear(&mut self, key: &Key, line: u64)
+        ensures { (q : Key) (m : ℕ) → at self.new q m ≡ with_at key.now line false (at self.old) q m }
+    {
+        if let Some(column) = self.columns.get_mut(key) {
+            let _ = column.remove(&line);
+        }
+    }
+
+    /// The greatest line below this one that has an entry at the key.
+    pub fn latest_below(&self, key: &Key, below: u64) -> Option<u64>
+        ensures { IsLatest (at self.now key.now) below result }
+    {
+        let Some(column) = self.columns.get(key) else {
+            return None;
+        };
+        let Some(line) = column.range(..below).next_back() else {
+            return None;
+        };
+        Some(*line)
+    }
+}

@@ -1,0 +1,192 @@
+//! The entries of all lines.
+
+ghost use Rattle.std.specs.Prelude.{◌≡◌, ℕ, OnOk, OnErr, IfOk, option_map, slice_get};
+ghost use Rattle.std.specs.FinMap as fin;
+ghost use Rattle.version_store.specs.Entries.{IsLine, IsNamedAt, found_at, line_at, no_rows, none_placed, position_of, seen, shown, shown_by, sight_at, suspected, visible, with_line};
+
+use crate::entry::{Entry, Found, Seen};
+use crate::index::KeyIndex;
+use crate::line::LineEntries;
+use crate::table::Place;
+use circ_records::Key;
+use read_set::{Name, PlanName};
+use std::alloc::{AllocError, Global};
+use std::marker::Model;
+
+/// The entries of the lines of a journal, which go by their numbers.
+#[derive(Drop)]
+pub struct EntryStore<'t, J: PlanName> {
+    first: u64,
+    lines: Vec<LineEntries<'t, J>>,
+    index: KeyIndex,
+}
+
+impl<'t, J: PlanName> Model for EntryStore<'t, J> {
+    ghost use Rattle.std.specs.Coded.{codes};
+    ghost use Rattle.std.specs.FinMap as fin;
+    ghost use Rattle.version_store.specs.Entries.{Store};
+
+    ghost Value = { Store };
+
+    ghost coded = { Prim.hlevel (codes, fin.code) };
+
+    ghost use Rattle.version_store.specs.Indexed.{IsIndexed};
+
+    ghost view = { λ s. record { first = s.first; lines = s.lines.items } };
+
+    ghost invariant = { λ s. IsIndexed s.index (record { first = s.first; lines = s.lines.items }) };
+}
+
+impl<'t, J: PlanName> EntryStore<'t, J> {
+    /// So many lines from the first number on, none of which has an entry.
+    pub fn new(alloc: Global, first: u64, lines: usize) -> Result<EntryStore<'t, J>, AllocError>
+        ensures { IfOk result (λ s. s ≡ none_placed first lines) }
+    {
+        Ok(EntryStore {
+            first,
+            lines: no_lines(alloc, lines)?,
+            index: KeyIndex::new(alloc),
+        })
+    }
+
+    /// What a line sees at a key: the entry of the greatest line below it that has one, else the base.
+    pub fn see(&self, key: &Key, below: u64) -> Seen<'t, J>
+        ensures { seen result ≡ sight_at (line_at self.now) below key.now }
+    {
+        let Some((line, made)) = self.latest(key, below) else {
+            return Seen::Base;
+        };
+        if made.suspect {
+            return Seen::Suspect { line };
+        }
+        Seen::Made {
+            name: Name::Made {
+                line,
+                attempt: made.attempt,
+            },
+            place: made.place,
+        }
+    }
+
+    /// The name of what a line sees at a key.
+    pub fn name(&self, key: &Key, below: u64) -> Found
+        ensures { result ≡ found_at (line_at self.now) below key.now }
+    {
+        let Some((line, made)) = self.latest(key, below) else {
+            return Found::Named(Name::Base);
+        };
+        if made.suspect {
+            return Found::Suspect { line };
+        }
+        Found::Named(Name::Made {
+            line,
+            attempt: made.attempt,
+        })
+    }
+
+    /// The i-th key, from 0 and rising, at which a line has an entry, and the attempt of that entry; None past the last.
+    pub fn keys_of(&self, line: u64, i: usize) -> Option<(&Key, u32)>
+        ensures { IsNamedAt (slice_get (fin.entries (line_at self.now line)) i) result }
+    {
+        let Some(position) = self.position(line) else {
+            return None;
+        };
+        self.lines[position].nth(i)
+    }
+
+    /// The entry of a line at a key is of this attempt, and stands at this place. It isn't suspect. Without memory
+    /// nothing changes.
+    pub fn place(
+        &mut self,
+        alloc: Global,
+        line: u64,
+        attempt: u32,
+        key: &Key,
+        place: Place<'t, J>,
+    ) -> Result<(), AllocError>
+        requires { IsLine self.old line }
+        ensures placed { OnOk result (self.new ≡ with_line self.old line (fin.insert (line_at self.old line) key.now (shown_by attempt place.entry.version.now))) }
+        ensures same { OnErr result (self.new ≡ self.old) }
+    {
+        let made = Entry {
+            attempt,
+            suspect: false,
+            place,
+        };
+        let Ok(()) = self.index.set(alloc, key, line) else {
+            return Err(AllocError);
+        };
+        let row = &mut self.lines[(line - self.first) as usize];
+        match row.put(key, made) {
+            Ok(()) => Ok(()),
+            Err(refused) => {
+                self.index.clear(key, line);
+                Err(refused)
+            }
+        }
+    }
+
+    /// A line has no entry at a key any more.
+    pub fn lift(&mut self, line: u64, key: &Key)
+        ensures { self.new ≡ with_line self.old line (fin.remove (line_at self.old line) key.now) }
+    {
+        let Some(position) = self.position(line) else {
+            return;
+        };
+        let row = &mut self.lines[position];
+        row.take_out(key);
+        self.index.clear(key, line);
+    }
+
+    /// Each entry of a line is suspect.
+    pub fn suspect_all(&mut self, line: u64)
+        ensures { self.new ≡ with_line self.old line (suspected (line_at self.old line)) }
+    {
+        let Some(position) = self.position(line) else {
+            return;
+        };
+        let row = &mut self.lines[position];
+        row.suspect_all();
+    }
+
+    /// Where a line stands among the lines.
+    fn position(&self, line: u64) -> Option<usize>
+        ensures { result ≡ position_of self.now line }
+    {
+        if line < self.first {
+            return None;
+        }
+        let position = (line - self.first) as usize;
+        if position >= self.lines.len() {
+            return None;
+        }
+        Some(position)
+    }
+
+    /// The visible entry: that of the greatest line below this one that has one at the key.
+    fn latest(&self, key: &Key, below: u64) -> Option<(u64, Entry<'t, J>)>
+        ensures { option_map (λ p. (p.0, shown p.1)) result ≡ visible (line_at self.now) below key.now }
+    {
+        let Some(line) = self.index.latest_below(key, below) else {
+            return None;
+        };
+        match self.lines[(line - self.first) as usize].get(key) {
+            Some(made) => Some((line, made)),
+            None => None,
+        }
+    }
+}
+
+/// Lines that have no entries.
+fn no_lines<'t, J: PlanName>(
+    alloc: Global,
+    lines: usize,
+) -> Result<Vec<LineEntries<'t, J>>, AllocError>
+    ensures { IfOk result (λ v. v.items ≡ no_rows lines) }
+{
+    let mut rows = Vec::with_capacity(alloc, lines)?;
+    for _i in 0..lines {
+        rows.push(LineEntries::new(alloc))?;
+    }
+    Ok(rows)
+}

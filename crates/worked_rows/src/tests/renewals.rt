@@ -1,0 +1,77 @@
+//! Renewals of one item and of all.
+
+use super::run_book;
+use std::test::Fail;
+
+const ONE: &str = "
+# once, and not above the class's renewals
+base loans P1,I1,20260316,0
+asked 29NN20260316    100000                  AOL1|AAP1|ABI1|
+answer 301YUY20260316    100000AOL1|AAP1|ABI1|AJOne|AH20260330    235900|CK001|
+asked 29NN20260316    100000                  AOL1|AAP1|ABI1|
+answer 300NUN20260316    100000AOL1|AAP1|ABI1|AJOne|AH|CK001|
+after loans P1,I1,20260330,1
+# by a third party
+base loans P1,I1,20260316,0
+asked 29YN20260316    100000                  AOL1|AAP2|ABI1|
+answer 301YUY20260316    100000AOL1|AAP2|ABI1|AJOne|AH20260330    235900|CK001|
+after loans P1,I1,20260330,1
+# not by a third party where that is not allowed
+base loans P1,I1,20260316,0
+asked 29NN20260316    100000                  AOL1|AAP2|ABI1|
+answer 300NUN20260316    100000AOL1|AAP2|ABI1|AJOne|AH|CK001|
+after loans P1,I1,20260316,0
+# nothing on loan
+asked 29NN20260316    100000                  AOL1|AAP1|ABI1|
+answer 300NUN20260316    100000AOL1|AAP1|ABI1|AJOne|AH|CK001|
+# forced above the renewals, with the day that was sent
+base loans P1,I1,20260316,4294967295
+asked 29NY20260316    10000020260401    235900AOL1|AAP1|ABI1|
+answer 301YUY20260316    100000AOL1|AAP1|ABI1|AJOne|AH20260401    235900|CK001|
+after loans P1,I1,20260401,4294967295
+# a rental asks for the patron's word, and is charged with it
+base loans P1,V1,20260316,0
+asked 29NN20260316    100000                  AOL1|AAP1|ABV1|
+answer 300NUN20260316    100000AOL1|AAP1|ABV1|AJTwo|AH|BT06|BHUSD|BV1.00|CK005|
+asked 29NN20260316    100000                  AOL1|AAP1|ABV1|BOY|
+answer 301YUY20260316    100000AOL1|AAP1|ABV1|AJTwo|AH20260323    235900|BT06|BHUSD|BV1.00|CK005|
+after fees R2-0,P1,06,1.00,0.00
+# the order of the list stays
+base loans P1,I1,20260316,0
+base loans P1,V1,20260316,0
+asked 29NN20260316    100000                  AOL1|AAP1|ABI1|
+answer 301YUY20260316    100000AOL1|AAP1|ABI1|AJOne|AH20260330    235900|CK001|
+after loans P1,I1,20260330,1
+after loans P1,V1,20260316,0
+";
+
+const ALL: &str = "
+# the first rental makes the second one too much
+base loans P1,V1,20260310,0
+base loans P1,V2,20260310,0
+base fees F1,P1,01,9.50,0.00
+asked 6520260309    120000AOL1|AAP1|BOY|
+answer 6610001000120260309    120000AOL1|BMV1|BNV2|
+after loans P1,V1,20260316,1
+after loans P1,V2,20260310,0
+after fees F1,P1,01,9.50,0.00
+after fees R1-0,P1,06,1.00,0.00
+# two rentals of one line
+base loans P1,V1,20260310,0
+base loans P1,V2,20260310,0
+asked 6520260309    120000AOL1|AAP1|BOY|
+answer 6610002000020260309    120000AOL1|BMV1|BMV2|
+after fees R1-0,P1,06,1.00,0.00
+after fees R1-1,P1,06,1.00,0.00
+# no loans, and nobody
+asked 6520260309    120000AOL1|AAP1|
+answer 6610000000020260309    120000AOL1|
+asked 6520260309    120000AOL1|AAX9|
+answer 6600000000020260309    120000AOL1|
+";
+
+#[test]
+fn renewals(rt: HostRuntime) -> Result<(), Fail> {
+    run_book(&rt, rt.alloc(), ONE)?;
+    run_book(&rt, rt.alloc(), ALL)
+}

@@ -1,6 +1,6 @@
 //! The states of all lines.
 
-ghost use Rattle.std.specs.Prelude.{◌≡◌, ◌^◌, IfOk, IfSome, IfNone, IsSomeAnd, Some, true, length};
+ghost use Rattle.std.specs.Prelude.{◌≡◌, ◌+◌, ◌^◌, IfOk, IfSome, IfNone, IsSomeAnd, Some, true, length};
 ghost use Rattle.attempts.specs.States.{Balanced, IsNumbered, all_waiting, is_live, newest_at, next_at, row_at, state_at};
 ghost use Rattle.attempts.specs.Moves.{committed, failed, moved, stopped, taken};
 ghost use Rattle.attempts.specs.declared.state.LineState.TheVariants as states;
@@ -77,7 +77,8 @@ impl AttemptTable {
 
     /// The number of the newest attempt of a line that doesn't wait; None where it waits, or there is no such line.
     pub fn newest(&self, line: u64) -> Option<u32>
-        ensures { result ≡ newest_at self.now line }
+        ensures newest { result ≡ newest_at self.now line }
+        ensures begun { IfSome result (λ attempt. next_at self.now line ≡ Some (attempt + 1)) }
     {
         let row = self.row(line)?;
         match row.state {

@@ -22,7 +22,7 @@ use crate::record::Record;
 use crate::rows::TableRows;
 use crate::tables::Tables;
 use circ_policy::Policy;
-use std::alloc::Global;
+use std::alloc::{AllocError, Global};
 use std::collections::BTreeMap;
 use std::collections::btree_map::Keys;
 use std::marker::Model;
@@ -73,6 +73,14 @@ impl Base {
         ensures rising { IsStrictlySortedBy key_cmp (map (λ e. e.0) self.now) }
     {
         self.records.keys()
+    }
+
+    /// The same records, on their own.
+    pub fn to_map(&self) -> Result<BTreeMap<Key, Record>, AllocError>
+        ensures { IfOk result (λ m. m.entries ≡ self.now) }
+    {
+        let map = self.records.clone()?;
+        Ok(map)
     }
 }
 

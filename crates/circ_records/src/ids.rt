@@ -52,6 +52,11 @@ impl Ids {
         Ok(Ids { ids })
     }
 
+    /// Where its memory is from.
+    pub(crate) fn allocator(&self) -> Global {
+        *self.ids.allocator()
+    }
+
     pub fn len(&self) -> usize
         ensures { result ≡ length self.now }
     {

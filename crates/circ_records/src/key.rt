@@ -61,9 +61,11 @@ impl Ord for Key {
     ghost matches_eq = { Prim.search (comparing, rules) };
 
     fn cmp(&self, other: &Key) -> Ordering {
-        self.kind()
-            .cmp(&other.kind())
-            .then(self.id().cmp(other.id()))
+        match self.kind().cmp(&other.kind()) {
+            Ordering::Less => Ordering::Less,
+            Ordering::Equal => self.id().cmp(other.id()),
+            Ordering::Greater => Ordering::Greater,
+        }
     }
 }
 

@@ -129,6 +129,21 @@ impl Record {
     }
 }
 
+/// A clone is the same record. So a whole map of records is copied as it is built, with no look-up.
+impl Clone for Record {
+    ghost use Rattle.std.specs.Prelude.{◌≡◌};
+
+    ghost is_clone = { λ x y. y ≡ x };
+
+    fn clone(&self) -> Result<Record, AllocError> {
+        match self {
+            Record::Patron(patron) => Ok(Record::Patron(patron.copy(patron.loans.allocator())?)),
+            Record::Item(item) => Ok(Record::Item(item.copy(item.holds.allocator())?)),
+            Record::Fee(fee) => Ok(Record::Fee(*fee)),
+        }
+    }
+}
+
 impl Patron {
     /// The same patron.
     pub fn copy(&self, alloc: Global) -> Result<Patron, AllocError>

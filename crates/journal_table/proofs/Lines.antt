@@ -103,11 +103,11 @@ pub told-no-table : (e : JournalError) (rows rest : Option (List (List (List ℕ
 told-no-table e rows rest none h = h ∙ rw none refl
 
 -- what two steps that succeed did
-bind-ok : {A B : Type 0} (r : Result A JournalError) (f : A → Result B JournalError) (y : B) → (r >>= f) ≡ Ok y → (x : A) × (r ≡ Ok x) × (f x ≡ Ok y)
+pub bind-ok : {A B : Type 0} (r : Result A JournalError) (f : A → Result B JournalError) (y : B) → (r >>= f) ≡ Ok y → (x : A) × (r ≡ Ok x) × (f x ≡ Ok y)
 bind-ok (Ok x) f y h = (x, refl, h)
 bind-ok (Err e) f y h = cc h
 
-guard-ok : {A : Type 0} (b : Bool) (e : JournalError) (r : Result A JournalError) (x : A) → cond b (Err e) r ≡ Ok x → (b ≡ false) × (r ≡ Ok x)
+pub guard-ok : {A : Type 0} (b : Bool) (e : JournalError) (r : Result A JournalError) (x : A) → cond b (Err e) r ≡ Ok x → (b ≡ false) × (r ≡ Ok x)
 guard-ok true e r x h = cc h
 guard-ok false e r x h = (refl, h)
 

@@ -1,11 +1,11 @@
 -- Readings with their numbers, and what the threads read.
-use Rattle.std.proofs.Common.{◌≡◌, ◌≢◌, ◌+◌, ◌-◌, ◌≤◌, ◌^◌, ℕ, zero, suc, List, [], ◌∷◌, length, map, Some, None, Result, Ok, refl, sym, ap, arith}
+use Rattle.std.proofs.Common.{◌≡◌, ◌≢◌, ◌+◌, ◌-◌, ◌≤◌, ℕ, zero, suc, List, [], ◌∷◌, length, map, Some, None, Result, Ok, refl, sym, ap, arith}
 use Rattle.std.specs.Prelude.{IfOk, Vec, slice_get, unwrap_or}
 use Rattle.std.specs.List.{AllZip}
 use Rattle.sip_reader.specs.Reading.{reading}
 use Rattle.sip_reader.specs.declared.request.Reading.{Reading}
 use Rattle.journal_table.specs.Entry.{Entry, Numbered, NumberedFrom, first_number}
-use Rattle.journal_table.specs.Readings.{NumberedReading, Rises, RisesFrom, first_read, numbered_from, reading_at, readings_of, requests_read}
+use Rattle.journal_table.specs.Readings.{EndInTime, NumberedReading, Rises, RisesFrom, first_read, numbered_from, reading_at, readings_of, requests_read}
 use Rattle.journal_table.specs.Stretches.{stretches_of}
 
 -- the readings of what is numbered
@@ -33,7 +33,7 @@ pub numbered-none : (n : ℕ) (rs : List Reading) → length rs ≡ 0 → None �
 numbered-none n [] h = refl
 numbered-none n (r ∷ rs) h = absurd (omega arith)
 
-pub numbered-within : (n : ℕ) (rs : List Reading) → n + length rs ≤ 2 ^ 64 → unwrap_or (first_read (numbered_from n rs)) 0 + length (numbered_from n rs) ≤ 2 ^ 64
+pub numbered-within : (n : ℕ) (rs : List Reading) → n + length rs ≤ 10000000000 → EndInTime (numbered_from n rs)
 numbered-within n [] h = omega arith
 numbered-within n (r ∷ rs) h = rw (length-numbered (n + 1) rs) (omega arith)
 

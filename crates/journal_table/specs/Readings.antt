@@ -1,5 +1,5 @@
 -- The readings of a journal's requests.
-use Rattle.std.specs.Prelude.{◌≡◌, ◌+◌, ℕ, List, [], ◌∷◌, Option, Some, None, map}
+use Rattle.std.specs.Prelude.{◌≡◌, ◌+◌, ◌≤◌, ℕ, List, [], ◌∷◌, Option, Some, None, length, map, unwrap_or}
 use Rattle.sip_reader.specs.Reading.{reading}
 use Rattle.sip_reader.specs.declared.request.Reading.{Reading}
 use Rattle.journal_table.specs.Entry.{Entry}
@@ -37,3 +37,7 @@ RisesFrom n (r ∷ rest) = (r.number ≡ n) × RisesFrom (n + 1) rest
 abbrev pub Rises : List NumberedReading → Type 0
 Rises [] = Unit {0}
 Rises (r ∷ rest) = RisesFrom (r.number + 1) rest
+
+-- no number is above 9,999,999,999: as many numbers as there are readings, from the first on, end before 10,000,000,000
+abbrev pub EndInTime : List NumberedReading → Type 0
+EndInTime read = unwrap_or (first_read read) 10000000000 + length read ≤ 10000000000

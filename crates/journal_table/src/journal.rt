@@ -2,7 +2,7 @@
 
 ghost use Rattle.std.specs.Prelude.{◌≡◌, ◌≤◌, Ok, None, IfOk, IfErr, OnOk, IsSome, length};
 ghost use Rattle.csv_table.specs.declared.TableError.TheVariants as table;
-ghost use Rattle.journal_table.specs.Entry.{Numbered, first_number};
+ghost use Rattle.journal_table.specs.Entry.{EndsInTime, Numbered, first_number};
 ghost use Rattle.journal_table.specs.declared.TheConstants.{LINE_LIMIT};
 ghost use Rattle.journal_table.specs.Journal.{Gives, journal_of, lines_of};
 ghost use Rattle.journal_table.specs.Stops.{Stops};
@@ -16,7 +16,7 @@ use std::marker::Model;
 
 const HEADER: [&str; 4] = ["line", "connection", "request", "response"];
 
-/// The lines of a journal, their numbers rising by one, at most 1,000,000.
+/// The lines of a journal, their numbers rising by one, at most 1,000,000; the last number is at most 9,999,999,999.
 #[derive(Debug, Drop)]
 pub struct Journal {
     lines: Vec<Line>,
@@ -63,6 +63,7 @@ impl Journal {
         ensures lines { result.now ≡ self.now }
         ensures numbered { Numbered self.now }
         ensures few { length self.now ≤ LINE_LIMIT }
+        ensures within { EndsInTime self.now }
     {
         &self.lines
     }

@@ -3,7 +3,7 @@
 ghost use Rattle.std.specs.Prelude.{◌≡◌, ◌+◌, ◌≤◌, ◌^◌, IfOk, length, map, option_copied, slice_get, unwrap_or};
 ghost use Rattle.journal_table.specs.Entry.{AreLines, Numbered, first_number};
 ghost use Rattle.journal_table.specs.declared.TheConstants.{LINE_LIMIT};
-ghost use Rattle.journal_table.specs.Readings.{Rises, first_read, reading_at, readings_of, requests_read};
+ghost use Rattle.journal_table.specs.Readings.{EndInTime, Rises, first_read, reading_at, readings_of, requests_read};
 ghost use Rattle.journal_table.specs.Stretches.{AreStretchesOf, stretches_of};
 
 use crate::journal::Journal;
@@ -57,7 +57,7 @@ impl Readings {
     pub fn first(&self) -> Option<u64>
         ensures value { result ≡ first_read self.now }
         ensures numbered { Rises self.now }
-        ensures within { unwrap_or (first_read self.now) 0 + length self.now ≤ 2 ^ 64 }
+        ensures within { EndInTime self.now }
     {
         if self.count == 0 {
             None

@@ -1,4 +1,5 @@
 pub mod LineReach
+pub mod Listed
 pub mod LoanReach
 pub mod Paying
 pub mod Reach

@@ -9,6 +9,8 @@ mod item_status;
 mod lines;
 mod needs;
 mod payment;
+#[cfg(test)]
+mod tests;
 
 pub use lines::perform;
 pub use needs::need;

@@ -1,4 +1,5 @@
 pub mod Asks
+pub mod Coherence
 pub mod Effects
 pub mod Fees
 pub mod Holding

@@ -6,15 +6,22 @@
 
 mod effect;
 mod known;
+mod laws;
 mod notes;
 mod plan;
 mod progress;
 mod source;
+#[cfg(test)]
+mod tests;
 mod verdict;
 mod version;
 
 pub use effect::{Draft, Effect, Writes};
 pub use known::{Article, Member, known_fee, known_item, known_patron};
+pub use laws::{
+    final_tables_read_back, meaning_keeps_coherence, read_plans_stay_coherent,
+    replay_keeps_coherence,
+};
 pub use notes::{Name, Note, Notes, NotesSource};
 pub use plan::{Plan, PlanName};
 pub use progress::{Payments, Renewals};

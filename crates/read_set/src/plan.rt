@@ -1,6 +1,6 @@
 //! What a replay begins with.
 
-ghost use Rattle.std.specs.Prelude.{◌≡◌, ◌+◌, ◌≤◌, ◌^◌, List, IfOk, length, map, option_copied};
+ghost use Rattle.std.specs.Prelude.{◌≡◌, ◌+◌, ◌≤◌, ◌^◌, ◌&&◌, ℕ, List, IfOk, is_some, length, map, nat_le, nat_lt, option_copied};
 ghost use Rattle.std.specs.List.Sorted.{IsStrictlySortedBy};
 ghost use Rattle.circ_records.specs.Keys.{key_cmp};
 ghost use Rattle.circ_records.specs.Records.{record_at};
@@ -14,8 +14,10 @@ use circ_records::{Base, Key, Record};
 use journal_table::{Journal, Readings, read_in_turn};
 use sip_reader::Reading;
 use std::alloc::{AllocError, Global};
+use std::collections::BTreeMap;
 use std::collections::btree_map::Keys;
 use std::marker::{Brand, Model};
+use std::ops::Range;
 
 /// The number at which the plan of a journal without lines begins, one behind the last that a line can have.
 const BEHIND_LAST: u64 = 10_000_000_000;
@@ -30,7 +32,7 @@ pub struct Plan {
 }
 
 impl Model for Plan {
-    ghost use Rattle.std.specs.Prelude.{◌+◌, ◌≤◌, ◌^◌, length, map};
+    ghost use Rattle.std.specs.Prelude.{◌+◌, ◌≤◌, length, map};
     ghost use Rattle.journal_table.specs.Readings.{reading_at};
     ghost use Rattle.journal_table.specs.declared.TheConstants.{LINE_LIMIT};
     ghost use Rattle.read_set.specs.Plans.{Planned};
@@ -39,7 +41,7 @@ impl Model for Plan {
 
     ghost view = { λ p. record { policy = p.policy; base = p.base; first = p.first; readings = map reading_at p.readings } };
 
-    ghost invariant = { λ p. (p.first + length p.readings ≤ 2 ^ 64) × (length p.readings ≤ LINE_LIMIT) };
+    ghost invariant = { λ p. (p.first + length p.readings ≤ 10000000000) × (length p.readings ≤ LINE_LIMIT) };
 }
 
 impl Plan {
@@ -86,6 +88,16 @@ impl Plan {
         self.first
     }
 
+    /// The numbers of the lines, rising: from the first line's to the one behind the last's, at most 10,000,000,000.
+    pub fn numbers(&self) -> Range<u64>
+        ensures start { result.start ≡ self.now.first }
+        ensures end { result.end ≡ self.now.first + length self.now.readings }
+        ensures lines { (n : ℕ) → is_some (reading_at self.now n) ≡ (nat_le result.start n && nat_lt n result.end) }
+        ensures within { result.end ≤ 10000000000 }
+    {
+        self.first..self.first + self.readings.len() as u64
+    }
+
     /// What the lines are read as, in their order.
     pub fn readings(&self) -> &Readings
         ensures readings { map reading_in result.now ≡ self.now.readings }
@@ -118,6 +130,14 @@ impl Plan {
         ensures { option_copied result ≡ record_at self.now.base key.now }
     {
         self.base.get(key)
+    }
+
+    /// The records before the first line, on their own.
+    pub fn to_map(&self) -> Result<BTreeMap<Key, Record>, AllocError>
+        ensures { IfOk result (λ m. m.entries ≡ self.now.base) }
+    {
+        let map = self.base.to_map()?;
+        Ok(map)
     }
 }
 

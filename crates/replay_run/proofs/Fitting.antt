@@ -1,6 +1,5 @@
 -- A plan fits the journal that it was made of.
-use Rattle.std.proofs.Common.{◌≡◌, ◌∙◌, ℕ, zero, suc, ◌+◌, List, [], ◌∷◌, ◌++◌, length, Result, Ok, Err, refl, arith, ap}
-use Rattle.std.proofs.lemmas.List.{length-append}
+use Rattle.std.proofs.Common.{◌≡◌, ℕ, List, Result, Ok, Err, refl}
 use Rattle.circ_policy.specs.Reading.{Refusal, policy_of}
 use Rattle.circ_policy.specs.Terms.{Terms}
 use Rattle.circ_records.specs.Base.{base_of}
@@ -10,14 +9,8 @@ use Rattle.circ_records.specs.declared.fault.BaseError.{BaseError}
 use Rattle.journal_table.specs.Entry.{Entry}
 use Rattle.journal_table.specs.Journal.{journal_of}
 use Rattle.journal_table.specs.declared.error.JournalError.{JournalError}
-use Rattle.read_set.specs.Plans.{Planned, readings_of}
-use Rattle.replay_run.specs.Answers.{first_answers}
+use Rattle.read_set.specs.Plans.{readings_of}
 use Rattle.replay_run.specs.Judged.{Judgement, Refused, first_read, judged, with_base, with_lines, with_policy}
-
--- there are as many answers as lines
-pub answers-length : (plan : Planned) (n : ℕ) → length (first_answers plan n) ≡ n
-answers-length plan zero = refl
-answers-length plan (suc n) = length-append (first_answers plan n) _ ∙ omega (arith, answers-length plan n)
 
 abbrev pub Fits : Result Judgement Refused → Type 0
 Fits (Ok j) = j.plan.readings ≡ readings_of j.lines
@@ -38,8 +31,3 @@ policy-fits tables read (Err e) = tt
 pub judged-fits : (policy : List ℕ) (tables : Texts) (lines : List ℕ) → Fits (judged policy tables lines)
 unfolding judged
 judged-fits policy tables lines = policy-fits tables (journal_of lines) (policy_of policy)
-
--- and as many readings
-pub readings-length : (lines : List Entry) → length (readings_of lines) ≡ length lines
-readings-length [] = refl
-readings-length (line ∷ lines) = omega (arith, readings-length lines)

@@ -1,4 +1,4 @@
 mod Puts
-mod Filled
 mod Replayed
 mod Fitting
+mod Answered

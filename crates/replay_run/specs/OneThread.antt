@@ -1,16 +1,16 @@
 -- The output of one thread: the first fault of the inputs, or what the replay of the lines in the order of the journal
 -- comes to.
-use Rattle.std.specs.Prelude.{◌≡◌, ◌∷◌, List, length, replicate, Result, Ok, Err}
+use Rattle.std.specs.Prelude.{◌≡◌, ◌+◌, List, length, replicate, Result, Ok, Err}
 use Rattle.circ_records.specs.Records.{Entries}
 use Rattle.circ_records.specs.Tables.{Texts, texts_of}
 use Rattle.circ_records.specs.Written.{tables_of}
-use Rattle.csv_table.specs.Text.{table_text}
 use Rattle.journal_table.specs.Entry.{Entry}
 use Rattle.read_set.specs.Maps.{Map}
 use Rattle.read_set.specs.Plans.{Planned}
 use Rattle.read_set.specs.Replay.{last}
-use Rattle.result_report.specs.Report.{Told, told, answers_header, answers_rows, passed_header, passed_rows, report_header, report_rows}
-use Rattle.result_report.specs.Tables.{sizes_of}
+use Rattle.result_report.specs.Report.{Told, told}
+use Rattle.result_report.specs.Tables.{AreTexts}
+use Rattle.result_report.specs.declared.texts.Texts.{Texts as Results}
 use Rattle.replay_run.specs.Answers.{answers_of}
 use Rattle.replay_run.specs.Entries.{AreEntries}
 use Rattle.replay_run.specs.Judged.{Judgement, Refused, Fails, judged}
@@ -26,12 +26,16 @@ TellsMap M texts = (entries : Entries) × AreEntries M entries × (texts ≡ tab
 abbrev pub told_lines : Planned → List Entry → List Told
 told_lines plan lines = told lines plan.readings (answers_of plan)
 
+-- the result tables of an output, and the numbers of their rows
+abbrev pub results_of : Output → Results
+results_of o = record { answers = o.answers; report = o.report; passed = o.passed; sizes = o.sizes }
+
+-- The tables of the records after the last line, and the result tables of the lines; each line is answered or passed,
+-- and attempted once, by the number 0.
 pub record IsOutput (plan : Planned) (lines : List Entry) (o : Output) : Type 0 where
   pub tables : TellsMap (last plan) (texts_of o.tables)
-  pub answers : o.answers.items ≡ table_text (answers_header ∷ answers_rows (told_lines plan lines))
-  pub report : o.report.items ≡ table_text (report_header ∷ report_rows (told_lines plan lines))
-  pub passed : o.passed.items ≡ table_text (passed_header ∷ passed_rows (told_lines plan lines))
-  pub sizes : o.sizes ≡ sizes_of (told_lines plan lines)
+  pub results : AreTexts (told_lines plan lines) (results_of o)
+  pub each_once : o.sizes.answered + o.sizes.passed ≡ length lines
   pub attempts : o.attempts.items ≡ replicate (length plan.readings) 0
 
 abbrev pub IsOutputOf : Result Judgement Refused → Output → Type 0

@@ -5,15 +5,15 @@ use read_set::{Plan, Source, Stop, Writes};
 use std::alloc::{AllocError, Global};
 use std::collections::BTreeMap;
 
-/// The records as they stand: what the lines so far wrote, over the records before the first line.
+/// The records as they stand: those before the first line, and over them what the lines so far wrote. They are one map,
+/// so that each is found by one look-up.
 #[derive(Drop)]
-pub struct Live<'p> {
-    pub plan: &'p Plan,
-    pub written: BTreeMap<Key, Record>,
+pub struct Live {
+    pub records: BTreeMap<Key, Record>,
 }
 
-impl<'p> Live<'p> {
-    ghost use Rattle.std.specs.Prelude.{◌≡◌, ◌∷◌, [], IfOk, IsSome, OnOk, option_copied};
+impl Live {
+    ghost use Rattle.std.specs.Prelude.{◌≡◌, ◌∷◌, [], IfOk, OnOk, option_copied};
     ghost use Rattle.circ_records.specs.Records.{record_at};
     ghost use Rattle.circ_records.specs.declared.key.Key.{Key};
     ghost use Rattle.read_set.specs.Maps.{put};
@@ -21,24 +21,18 @@ impl<'p> Live<'p> {
     ghost use Rattle.replay_run.specs.Live.{standing};
 
     /// The records before the first line.
-    pub fn new(alloc: Global, plan: &'p Plan) -> Live<'p>
-        ensures plan { result.plan.now ≡ plan.entry.now }
-        ensures base { (k : Key) → standing result k ≡ record_at plan.entry.now.base k }
+    pub fn new(plan: &Plan) -> Result<Live, AllocError>
+        ensures { IfOk result (λ live. (k : Key) → standing live k ≡ record_at plan.now.base k) }
     {
-        Live {
-            plan,
-            written: BTreeMap::new(alloc),
-        }
+        let records = plan.to_map()?;
+        Ok(Live { records })
     }
 
     /// The record at a key.
     pub fn at(&self, key: &Key) -> Option<&Record>
         ensures { option_copied result ≡ standing self.now key.now }
     {
-        match self.written.get(key) {
-            Some(written) => Some(written),
-            None => self.plan.base(key),
-        }
+        self.records.get(key)
     }
 
     /// Puts what a line writes over the records.
@@ -53,45 +47,23 @@ impl<'p> Live<'p> {
     }
 
     /// The records as they stand, on their own.
-    pub fn into_records(mut self, alloc: Global) -> Result<Records, AllocError>
-        ensures { IfOk result (AreEntries (standing self.entry)) }
+    pub fn into_records(self) -> Records
+        ensures { AreEntries (standing self) result }
     {
-        let plan = self.plan;
-        for key in plan.keys() {
-            self.fill(alloc, key)?;
-        }
-        let _count = self.written.len();
-        Ok(Records::from_map(self.written))
-    }
-
-    /// Writes the record that stands at a key, so that it no longer lies in the plan alone.
-    fn fill(&mut self, alloc: Global, key: &Key) -> Result<(), AllocError>
-        ensures same { OnOk result ((k : Key) → standing self.new k ≡ standing self.old k) }
-        ensures written { OnOk result (IsSome (standing self.old key.now) → IsSome (record_at self.new.written.entries key.now)) }
-        ensures keeps { OnOk result ((k : Key) → IsSome (record_at self.old.written.entries k) → IsSome (record_at self.new.written.entries k)) }
-        ensures plan { self.new.plan.now ≡ self.old.plan.now }
-    {
-        match self.at(key) {
-            Some(found) => {
-                let found = found.copy(alloc)?;
-                self.write(*key, found)
-            }
-            None => Ok(()),
-        }
+        let _count = self.records.len();
+        Records::from_map(self.records)
     }
 
     /// Puts one record over the records.
     fn write(&mut self, key: Key, written: Record) -> Result<(), AllocError>
-        ensures put { OnOk result ((k : Key) → standing self.new k ≡ put ((key, written) ∷ []) (standing self.old) k) }
-        ensures written { OnOk result ((k : Key) → record_at self.new.written.entries k ≡ put ((key, written) ∷ []) (record_at self.old.written.entries) k) }
-        ensures plan { self.new.plan.now ≡ self.old.plan.now }
+        ensures { OnOk result ((k : Key) → standing self.new k ≡ put ((key, written) ∷ []) (standing self.old) k) }
     {
-        self.written.insert(key, written)?;
+        self.records.insert(key, written)?;
         Ok(())
     }
 }
 
-impl Source for Live<'_> {
+impl Source for Live {
     ghost use Rattle.std.specs.Prelude.{Some};
     ghost use Rattle.replay_run.specs.Live.{standing};
 

@@ -9,27 +9,36 @@ ghost use Rattle.replay_run.specs.Entries.{AreEntries};
 ghost use Rattle.replay_run.specs.Live.{standing};
 
 use crate::live::Live;
+use circ_records::Records;
 use message_meaning::perform;
 use read_set::{Effect, Plan, Stop};
-use result_report::Outcome;
 use sip_answer::Answer;
 use std::alloc::{AllocError, Global};
 
+/// What a replay comes to: the records after the last line, and of each line its answer, where it has one, and the
+/// number of the attempt whose answer that is.
+#[derive(Drop)]
+pub struct ReplayEnd {
+    pub records: Records,
+    pub answers: Vec<Option<Answer>>,
+    pub attempts: Vec<u32>,
+}
+
 /// What the lines of a plan come to, taken in order by one thread. Each line is attempted once, by the number 0.
-pub fn replay(alloc: Global, plan: &Plan) -> Result<Outcome, AllocError>
+pub fn replay(alloc: Global, plan: &Plan) -> Result<ReplayEnd, AllocError>
     ensures answers { IfOk result (λ o. o.answers.items ≡ answers_of plan.now) }
     ensures records { IfOk result (λ o. AreEntries (last plan.now) o.records) }
     ensures attempts { IfOk result (λ o. o.attempts.items ≡ replicate (length plan.now.readings) 0) }
 {
     let count = plan.readings().len();
     let first = plan.first();
-    let mut live = Live::new(alloc, plan);
+    let mut live = Live::new(plan)?;
     let mut answers = Vec::with_capacity(alloc, count)?;
     for i in 0..count {
         answers.push(take_line(alloc, plan, first + i as u64, &mut live)?)?;
     }
-    Ok(Outcome {
-        records: live.into_records(alloc)?,
+    Ok(ReplayEnd {
+        records: live.into_records(),
         answers,
         attempts: vec![in alloc; 0; count]?,
     })
@@ -40,7 +49,7 @@ fn take_line(
     alloc: Global,
     plan: &Plan,
     line: u64,
-    live: &mut Live<'_>,
+    live: &mut Live,
 ) -> Result<Option<Answer>, AllocError>
     ensures answer { IfOk result (λ a. (M : Map) → ((k : Key) → standing live.old k ≡ M k) → a ≡ (one_at plan.now line M).1) }
     ensures records { OnOk result ((M : Map) → ((k : Key) → standing live.old k ≡ M k) → (k : Key) → standing live.new k ≡ (one_at plan.now line M).0 k) }

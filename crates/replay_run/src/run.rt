@@ -2,17 +2,19 @@
 
 ghost use Rattle.std.specs.Prelude.{◌≡◌, IfOk};
 ghost use Rattle.read_set.specs.Plans.{readings_of};
+ghost use Rattle.result_report.specs.Report.{lent};
 ghost use Rattle.replay_run.specs.OneThread.{IsOneThread, IsOutput};
 
 use crate::fault::Fault;
 use crate::inputs::{Inputs, Output};
 use crate::judge::judge;
 use crate::judged::Judged;
-use crate::replay::replay;
+use crate::replay::{ReplayEnd, replay};
 use circ_records::write_records;
 use journal_table::Journal;
 use read_set::Plan;
-use result_report::report;
+use result_report::{Outcome, report};
+use sip_answer::Answer;
 use std::alloc::{AllocError, Global};
 
 /// The output of one thread that takes the lines in the order of the journal, or the first fault of the inputs: first
@@ -40,8 +42,17 @@ fn output(alloc: Global, plan: &Plan, journal: &Journal) -> Result<Output, Alloc
     requires { plan.now.readings ≡ readings_of journal.now }
     ensures { IfOk result (IsOutput plan.now journal.now) }
 {
-    let outcome = replay(alloc, plan)?;
-    let tables = write_records(alloc, &outcome.records)?;
+    let ReplayEnd {
+        records,
+        answers,
+        attempts,
+    } = replay(alloc, plan)?;
+    let tables = write_records(alloc, &records)?;
+    let outcome = Outcome {
+        records,
+        answers: lend(alloc, answers.as_slice())?,
+        attempts,
+    };
     let texts = report(alloc, journal, plan, &outcome)?;
     Ok(Output {
         tables,
@@ -51,4 +62,15 @@ fn output(alloc: Global, plan: &Plan, journal: &Journal) -> Result<Output, Alloc
         sizes: texts.sizes,
         attempts: outcome.attempts,
     })
+}
+
+/// The answers, lent.
+fn lend(alloc: Global, answers: &[Option<Answer>]) -> Result<Vec<Option<&Answer>>, AllocError>
+    ensures { IfOk result (λ v. lent v.items ≡ answers.now) }
+{
+    let mut lent = Vec::with_capacity(alloc, answers.len())?;
+    for answer in answers {
+        lent.push(answer.as_ref())?;
+    }
+    Ok(lent)
 }

@@ -1,2 +1,5 @@
 mod Joined
 mod TellingLines
+mod Parts
+mod Collected
+mod Once

@@ -4,7 +4,6 @@ use Rattle.std.specs.List.{cons_option, filter_map}
 use Rattle.std.proofs.lemmas.List.{append-nil, length-append}
 use Rattle.std.proofs.lemmas.List.Elements.{filter_map-append}
 use Rattle.csv_table.proofs.Written.{with_row-written}
-use Rattle.csv_table.specs.Text.{with_row, written}
 use Rattle.journal_table.specs.Entry.{Entry}
 use Rattle.sip_answer.specs.declared.answer.Answer.{Answer}
 use Rattle.sip_reader.specs.declared.request.Reading.{Reading}
@@ -72,7 +71,7 @@ one-or-none : {Y : Type 0} (o : Option Y) (ys : List Y) (n : ℕ) → length ys 
 one-or-none None ys n le = omega (arith, le)
 one-or-none (Some y) ys n le = omega (arith, le)
 
-few-rows : (row : Told → Option Row) (lines : List Told) → length (filter_map row lines) ≤ length lines
+pub few-rows : (row : Told → Option Row) (lines : List Told) → length (filter_map row lines) ≤ length lines
 few-rows row [] = omega arith
 few-rows row (line ∷ lines) = one-or-none (row line) (filter_map row lines) (length lines) (few-rows row lines)
 

@@ -2,3 +2,5 @@ pub mod Report
 pub mod Listings
 pub mod Tellings
 pub mod Tables
+pub mod Stretches
+pub mod Ends

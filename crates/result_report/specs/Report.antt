@@ -1,15 +1,16 @@
 -- The result tables: what a run tells of each line of the journal, rising by line. A line has a row in just one of
 -- answers and passed; of the answered lines the report has those that differ.
-use Rattle.std.specs.Prelude.{ℕ, List, [], ◌∷◌, codes, decimal, Option, Some, None}
+use Rattle.std.specs.Prelude.{◌≡◌, ℕ, Bool, true, false, List, [], ◌∷◌, codes, decimal, map, option_copied, Option, Some, None}
+use Rattle.std.specs.Borrow.{Bor}
 use Rattle.std.specs.List.{filter_map, join_by}
-use Rattle.std.specs.Option.{option_map}
+use Rattle.std.specs.Option.{is_some, option_map}
 use Rattle.journal_table.specs.Entry.{Entry}
 use Rattle.sip_answer.specs.Differ.{differ}
 use Rattle.sip_answer.specs.Texts.{answer_text}
 use Rattle.sip_answer.specs.Words.{word_of}
 use Rattle.sip_answer.specs.declared.answer.Answer.{Answer}
 use Rattle.sip_answer.specs.declared.field.Field.{Field}
-use Rattle.sip_reader.specs.Words.{kind_digits, kind_of, passed_word, why_word}
+use Rattle.sip_reader.specs.Words.{passed_word, why_word}
 use Rattle.sip_reader.specs.declared.request.Reading.{Reading}
 use Rattle.sip_reader.specs.declared.request.Reading.TheVariants as readings
 
@@ -30,6 +31,22 @@ passed_header = codes "line" ∷ codes "connection" ∷ codes "why" ∷ []
 abbrev pub Told : Type 0
 Told = Entry × Reading × Option Answer
 
+-- What is asked is answered, and so is a wrong sum, by the wish to have the message again; what is passed over or can't
+-- be read is not.
+abbrev pub is_answered : Reading → Bool
+is_answered (readings.Asked q) = true
+is_answered (readings.Passed p) = false
+is_answered readings.BadSum = true
+is_answered (readings.Unread w) = false
+
+-- each line has an answer or none: none just where it is passed over or can't be read
+abbrev pub AreAnswers : List Reading → List (Option Answer) → Type 0
+AreAnswers readings answers = map is_some answers ≡ map is_answered readings
+
+-- the answers that a run lends
+abbrev pub lent : List (Option (Bor Answer)) → List (Option Answer)
+lent answers = map option_copied answers
+
 abbrev pub told : List Entry → List Reading → List (Option Answer) → List Told
 told [] readings answers = []
 told (line ∷ lines) [] answers = []
@@ -43,10 +60,9 @@ sequence_of (readings.Passed p) = None
 sequence_of readings.BadSum = None
 sequence_of (readings.Unread w) = None
 
--- Why a line has no answer: it is passed over by its kind or for its title, it can't be read, or its kind has no
--- rules. A wrong sum is answered.
+-- Why a line has no answer: it is passed over by its kind or for its title, or it can't be read.
 abbrev pub reason_of : Reading → Option (List ℕ)
-reason_of (readings.Asked q) = Some (kind_digits (kind_of q.act))
+reason_of (readings.Asked q) = None
 reason_of (readings.Passed p) = Some (passed_word p)
 reason_of readings.BadSum = None
 reason_of (readings.Unread w) = Some (why_word w)

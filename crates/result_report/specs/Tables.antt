@@ -1,7 +1,8 @@
 -- The result tables of lines that are told, as csv prints them.
-use Rattle.std.specs.Prelude.{◌≡◌, ◌∷◌, List, length}
+use Rattle.std.specs.Prelude.{◌≡◌, [], ◌∷◌, List, length}
 use Rattle.csv_table.specs.Text.{table_text}
 use Rattle.result_report.specs.Report.{Told, answers_header, answers_rows, passed_header, passed_rows, report_header, report_rows}
+use Rattle.result_report.specs.declared.texts.Heads.{Heads}
 use Rattle.result_report.specs.declared.texts.Sizes.{Sizes}
 use Rattle.result_report.specs.declared.texts.Texts.{Texts}
 
@@ -13,8 +14,15 @@ sizes_of lines = record {
   differences = length (report_rows lines);
 }
 
+-- the result tables of lines
 pub record AreTexts (lines : List Told) (t : Texts) : Type 0 where
   pub answers : t.answers.items ≡ table_text (answers_header ∷ answers_rows lines)
   pub report : t.report.items ≡ table_text (report_header ∷ report_rows lines)
   pub passed : t.passed.items ≡ table_text (passed_header ∷ passed_rows lines)
   pub sizes : t.sizes ≡ sizes_of lines
+
+-- the numbers of bytes of the tables' headers
+pub record AreHeads (h : Heads) : Type 0 where
+  pub answers : h.answers ≡ length (table_text (answers_header ∷ []))
+  pub report : h.report ≡ length (table_text (report_header ∷ []))
+  pub passed : h.passed ≡ length (table_text (passed_header ∷ []))

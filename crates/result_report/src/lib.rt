@@ -2,11 +2,15 @@
 //! responses that differ, and the lines that are passed over. It stands on the journal, the plan and the answers.
 #![tactic(auto)]
 
+mod ends;
 mod listing;
 mod outcome;
 mod telling;
+#[cfg(test)]
+mod tests;
 mod texts;
 mod words;
 
+pub use ends::{End, collect};
 pub use outcome::Outcome;
-pub use texts::{Sizes, Texts, report};
+pub use texts::{Sizes, Texts, report, report_parallel};

@@ -1,11 +1,12 @@
 //! The three result tables, told line by line.
 
-ghost use Rattle.std.specs.Prelude.{[], Some, None, IfOk, OnOk};
+ghost use Rattle.std.specs.Prelude.{[], Some, None, IfOk, OnOk, option_copied};
 ghost use Rattle.result_report.specs.Report.{answer_row, difference_row, passed_row};
 ghost use Rattle.result_report.specs.Listings.{Gains, HasRoomFor};
 ghost use Rattle.sip_answer.specs.Differ.{differ};
 
 use crate::listing::Listing;
+use crate::texts::{Sizes, Texts};
 use crate::words::{reason_of, sequence_of, words_of};
 use journal_table::Line;
 use sip_answer::{Answer, differences, write_answer};
@@ -27,6 +28,9 @@ pub struct Telling {
 }
 
 impl Telling {
+    ghost use Rattle.std.specs.Prelude.{List};
+    ghost use Rattle.result_report.specs.Report.{Told};
+    ghost use Rattle.result_report.specs.Tables.{AreTexts};
     ghost use Rattle.result_report.specs.Tellings.{Gained, HasRoom, Tells};
 
     /// The headers alone.
@@ -40,16 +44,37 @@ impl Telling {
         })
     }
 
+    /// The texts of what is told.
+    pub fn finish(self) -> Result<Texts, AllocError>
+        ensures { IfOk result (λ t. (lines : List Told) → Tells lines self → AreTexts lines t) }
+    {
+        let Telling {
+            answers,
+            report,
+            passed,
+        } = self;
+        Ok(Texts {
+            sizes: Sizes {
+                answered: answers.rows,
+                passed: passed.rows,
+                differences: report.rows,
+            },
+            answers: answers.table.finish()?,
+            report: report.table.finish()?,
+            passed: passed.table.finish()?,
+        })
+    }
+
     /// Tells one line.
     pub fn line(
         &mut self,
         alloc: Global,
         line: &Line,
         reading: &Reading,
-        answer: &Option<Answer>,
+        answer: Option<&Answer>,
     ) -> Result<(), AllocError>
         requires { HasRoom self.old }
-        ensures { OnOk result (Gained (line.now, reading.now, answer.now) self.old self.new) }
+        ensures { OnOk result (Gained (line.now, reading.now, option_copied answer.entry) self.old self.new) }
     {
         match answer {
             Some(answer) => {

@@ -1,19 +1,24 @@
 //! The texts of the result tables.
 
-ghost use Rattle.std.specs.Prelude.{◌≡◌, ◌<◌, IfOk, length, map, slice_index_or};
-ghost use Rattle.journal_table.specs.Readings.{reading_at};
+ghost use Rattle.std.specs.Prelude.{◌≡◌, ◌<◌, ◌≤◌, ◌+◌, ◌++◌, ◌^◌, [], List, IfOk, OnOk, drop, length, option_copied, option_map, slice_get};
 ghost use Rattle.read_set.specs.Plans.{readings_of};
-ghost use Rattle.result_report.specs.Report.{told};
-ghost use Rattle.result_report.specs.Tables.{AreTexts};
+ghost use Rattle.result_report.specs.Report.{AreAnswers, Told, lent, told};
+ghost use Rattle.result_report.specs.Stretches.{AreParts, between, stretch};
+ghost use Rattle.result_report.specs.Tables.{AreHeads, AreTexts};
 ghost use Rattle.result_report.specs.Tellings.{Tells};
 
 use crate::outcome::Outcome;
 use crate::telling::Telling;
-use journal_table::{Journal, Line, Readings};
+use journal_table::{Journal, Line};
+use rayon::prelude::*;
 use read_set::Plan;
 use sip_answer::Answer;
 use sip_reader::Reading;
 use std::alloc::{AllocError, Global};
+use std::thread::Threads;
+
+/// How many lines are told at a time where all cores tell them.
+const STRETCH: usize = 4096;
 
 /// How many rows stand under the header of each result table.
 #[derive(Clone, Copy, Debug, PartialEq, Eq)]
@@ -33,64 +38,171 @@ pub struct Texts {
     pub sizes: Sizes,
 }
 
-/// The result tables of a run over the plan of a journal, of which it has an answer, or none, for each line.
+/// The result tables of a run over the plan of a journal. The run has an answer for each line, and none just where the
+/// line is passed over or can't be read; so each line has a row in just one of answers and passed.
 pub fn report(
     alloc: Global,
     journal: &Journal,
     plan: &Plan,
-    outcome: &Outcome,
+    outcome: &Outcome<'_>,
 ) -> Result<Texts, AllocError>
     requires planned { plan.now.readings ≡ readings_of journal.now }
-    requires answered { length outcome.now.answers.items ≡ length journal.now }
-    ensures { IfOk result (AreTexts (told journal.now (readings_of journal.now) outcome.now.answers.items)) }
+    requires answered { AreAnswers (readings_of journal.now) (lent outcome.now.answers.items) }
+    ensures texts { IfOk result (AreTexts (told journal.now (readings_of journal.now) (lent outcome.now.answers.items))) }
+    ensures each_once { IfOk result (λ t. t.sizes.answered + t.sizes.passed ≡ length journal.now) }
 {
-    let Telling {
-        answers,
-        report,
-        passed,
-    } = tell(
-        alloc,
-        journal.lines(),
-        plan.readings(),
-        outcome.answers.as_slice(),
-    )?;
-    Ok(Texts {
-        sizes: Sizes {
-            answered: answers.rows,
-            passed: passed.rows,
-            differences: report.rows,
-        },
-        answers: answers.table.finish()?,
-        report: report.table.finish()?,
-        passed: passed.table.finish()?,
-    })
+    let lines = journal.lines();
+    let answers = outcome.answers.as_slice();
+    tell(alloc, lines, plan, answers, 0, lines.len())?.finish()
 }
 
-/// Tells each line.
-fn tell(
+/// The same, told by as many threads as there are processors, a stretch of lines at a time.
+pub fn report_parallel(
+    rt: &(impl Threads + Sync),
+    alloc: Global,
+    journal: &Journal,
+    plan: &Plan,
+    outcome: &Outcome<'_>,
+) -> Result<Texts, AllocError>
+    requires planned { plan.now.readings ≡ readings_of journal.now }
+    requires answered { AreAnswers (readings_of journal.now) (lent outcome.now.answers.items) }
+    ensures texts { IfOk result (AreTexts (told journal.now (readings_of journal.now) (lent outcome.now.answers.items))) }
+    ensures each_once { IfOk result (λ t. t.sizes.answered + t.sizes.passed ≡ length journal.now) }
+{
+    let lines = journal.lines();
+    let answers = outcome.answers.as_slice();
+    let parts: Result<Vec<Texts>, AllocError> = (0..lines.len() / STRETCH + 1)
+        .into_par_iter()
+        .map(
+            |k: usize| -> Result<Texts, AllocError>
+                ensures { IfOk result (AreTexts (stretch k (told lines.entry.now plan.entry.now.readings (lent answers.entry.now)))) }
+            { tell_stretch(alloc, lines, plan, answers, k) },
+        )
+        .with_min_len(1)
+        .collect(rt, alloc)?;
+    join(alloc, parts?.as_slice())
+}
+
+/// The result tables of one stretch of lines; stretches count from 0.
+fn tell_stretch<'e>(
     alloc: Global,
     lines: &[Line],
-    readings: &Readings,
-    answers: &[Option<Answer>],
+    plan: &Plan,
+    answers: &[Option<&'e Answer>],
+    k: usize,
+) -> Result<Texts, AllocError>
+    ensures { IfOk result (AreTexts (stretch k (told lines.now plan.now.readings (lent answers.now)))) }
+{
+    let from = k.saturating_mul(STRETCH);
+    tell(
+        alloc,
+        lines,
+        plan,
+        answers,
+        from,
+        from.saturating_add(STRETCH),
+    )?
+    .finish()
+}
+
+/// Tells each line from one place on up to another.
+fn tell<'e>(
+    alloc: Global,
+    lines: &[Line],
+    plan: &Plan,
+    answers: &[Option<&'e Answer>],
+    from: usize,
+    to: usize,
 ) -> Result<Telling, AllocError>
-    requires read { length (map reading_at readings.now) ≡ length lines.now }
-    requires answered { length answers.now ≡ length lines.now }
-    ensures { IfOk result (Tells (told lines.now (map reading_at readings.now) answers.now)) }
+    ensures { IfOk result (Tells (between from to (told lines.now plan.now.readings (lent answers.now)))) }
 {
     let mut telling = Telling::new(alloc)?;
-    for (i, line) in lines.iter().enumerate() {
-        telling.line(alloc, line, reading_of(readings, i), &answers[i])?;
+    for place in from..to {
+        if let Some((line, reading, answer)) = told_at(lines, plan, answers, place) {
+            telling.line(alloc, line, reading, answer)?;
+        }
     }
     Ok(telling)
 }
 
-/// What the line at a place is read as.
-fn reading_of(readings: &Readings, i: usize) -> &Reading
-    requires { i < length (map reading_at readings.now) }
-    ensures is { result.now ≡ slice_index_or (map reading_at readings.now) i result.now }
+/// The line at a place, with its reading and its answer.
+fn told_at<'l, 'e>(
+    lines: &'l [Line],
+    plan: &'l Plan,
+    answers: &[Option<&'e Answer>],
+    place: usize,
+) -> Option<(&'l Line, &'l Reading, Option<&'e Answer>)>
+    ensures { option_map (λ t. (t.0.now, t.1.now, option_copied t.2)) result ≡ slice_get (told lines.now plan.now.readings (lent answers.now)) place }
 {
-    match readings.get(i) {
-        Some(reading) => reading,
-        None => unreachable!(),
+    let line = lines.get(place)?;
+    let reading = reading_at(plan, place)?;
+    let answer = answers.get(place)?;
+    Some((line, reading, *answer))
+}
+
+/// What the line at a place is read as.
+fn reading_at(plan: &Plan, place: usize) -> Option<&Reading>
+    ensures { option_copied result ≡ slice_get plan.now.readings place }
+{
+    plan.readings().get(place)
+}
+
+/// The result tables of all stretches, from those of each.
+fn join(alloc: Global, parts: &[Texts]) -> Result<Texts, AllocError>
+    ensures { IfOk result (λ t. (lines : List Told) → length lines < 2 ^ 64 → AreParts lines parts.now → AreTexts lines t) }
+{
+    let mut whole = Telling::new(alloc)?.finish()?;
+    let heads = Heads {
+        answers: whole.answers.len(),
+        report: whole.report.len(),
+        passed: whole.passed.len(),
+    };
+    for part in parts {
+        whole.add(heads, part)?;
     }
+    Ok(whole)
+}
+
+/// How many bytes the header of each table has.
+#[derive(Clone, Copy)]
+pub(crate) struct Heads {
+    pub(crate) answers: usize,
+    pub(crate) report: usize,
+    pub(crate) passed: usize,
+}
+
+impl Texts {
+    /// Puts the rows of more lines behind its own.
+    fn add(&mut self, heads: Heads, more: &Texts) -> Result<(), AllocError>
+        ensures { OnOk result ((front back : List Told) → length front + length back < 2 ^ 64 → AreHeads heads
+            → AreTexts front self.old → AreTexts back more.now → AreTexts (front ++ back) self.new) }
+    {
+        put_behind(&mut self.answers, heads.answers, more.answers.as_slice())?;
+        put_behind(&mut self.report, heads.report, more.report.as_slice())?;
+        put_behind(&mut self.passed, heads.passed, more.passed.as_slice())?;
+        self.sizes = self.sizes.and(more.sizes);
+        Ok(())
+    }
+}
+
+impl Sizes {
+    fn and(self, more: Sizes) -> Sizes
+        ensures answered { self.answered + more.answered < 2 ^ 64 → result.answered ≡ self.answered + more.answered }
+        ensures passed { self.passed + more.passed < 2 ^ 64 → result.passed ≡ self.passed + more.passed }
+        ensures differences { self.differences + more.differences < 2 ^ 64 → result.differences ≡ self.differences + more.differences }
+    {
+        Sizes {
+            answered: self.answered.saturating_add(more.answered),
+            passed: self.passed.saturating_add(more.passed),
+            differences: self.differences.saturating_add(more.differences),
+        }
+    }
+}
+
+/// Puts a text without its head behind another.
+fn put_behind(text: &mut Vec<u8>, head: usize, more: &[u8]) -> Result<(), AllocError>
+    ensures { OnOk result (text.new.items ≡ text.old.items ++ drop head more.now) }
+{
+    let rows = more.get(head..).unwrap_or(&[]);
+    text.extend_from_slice(rows)
 }

@@ -18,15 +18,14 @@ pub fn sequence_of(reading: &Reading) -> Option<u8>
     }
 }
 
-/// Why a line has no answer.
+/// Why a line has no answer: the digits of a passed message, `title`, or what is wrong with one that can't be read.
 pub fn reason_of(reading: &Reading) -> Option<&'static str>
     ensures { option_map (λ word. word.now) result ≡ reason_of reading.now }
 {
     match reading {
-        Reading::Asked(request) => Some(request.act.kind().digits()),
         Reading::Passed(passed) => Some(passed.word()),
-        Reading::BadSum => None,
         Reading::Unread(why) => Some(why.word()),
+        Reading::Asked(_) | Reading::BadSum => None,
     }
 }
 

@@ -13,6 +13,9 @@ use crate::answer::Answer;
 use parts::put_detection;
 use std::alloc::{AllocError, Global};
 
+/// Room for most answers, in bytes: one that is longer grows.
+const ROOM: usize = 256;
+
 /// An answer's bytes, as they stand in a table: without the carriage return. Where the request had a sequence digit, they
 /// end in the error detection of SIP 2.00 with that digit; the request to send again never does.
 #[tactic(auto, unfolding(crate::specs::Texts::answer_text))]
@@ -23,7 +26,7 @@ pub fn write_answer(
 ) -> Result<Vec<u8>, AllocError>
     ensures { IfOk result (λ v. v.items ≡ answer_text answer.now sequence) }
 {
-    let mut out = Vec::new(alloc);
+    let mut out = Vec::with_capacity(alloc, ROOM)?;
     match answer {
         Answer::BlockPatron(a) => patrons::put_block_patron(&mut out, a)?,
         Answer::Checkin(a) => items::put_checkin(&mut out, a)?,

@@ -10,3 +10,4 @@ pub mod Shorts
 pub mod Stamps
 pub mod Sums
 pub mod Written
+pub mod Ordered

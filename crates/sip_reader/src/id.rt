@@ -111,7 +111,7 @@ impl Ord for Id {
     ghost matches_eq = { Prim.search (comparing, rules) };
 
     fn cmp(&self, other: &Id) -> Ordering {
-        self.as_bytes().cmp(other.as_bytes())
+        self.bytes.order(&other.bytes)
     }
 }
 

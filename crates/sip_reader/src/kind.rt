@@ -88,67 +88,81 @@ const DATE_ALONE: Layout = Layout {
     title: false,
 };
 
+/// A patron's id behind the date.
+const PATRON_ALONE: Layout = Layout {
+    patron: true,
+    ..DATE_ALONE
+};
+
+/// One flag, and a patron's id.
+const BLOCK_PATRON: Layout = Layout {
+    flags: 1,
+    ..PATRON_ALONE
+};
+
+/// One flag and a return date, and an item's id.
+const CHECKIN: Layout = Layout {
+    flags: 1,
+    after: 18,
+    item: true,
+    ..DATE_ALONE
+};
+
+/// Two flags and a no block due date, a patron's id and an item's.
+const CHECKOUT: Layout = Layout {
+    flags: 2,
+    after: 18,
+    patron: true,
+    item: true,
+    ..DATE_ALONE
+};
+
+/// The same, where a title may name the item.
+const RENEW: Layout = Layout {
+    title: true,
+    ..CHECKOUT
+};
+
+/// A hold mode, a patron's id and an item's or its title, and where it is picked up.
+const HOLD: Layout = Layout {
+    flags: 1,
+    hold_mode: true,
+    patron: true,
+    item: true,
+    pickup: true,
+    title: true,
+    ..DATE_ALONE
+};
+
+/// An item's id and its properties.
+const ITEM_STATUS: Layout = Layout {
+    item: true,
+    properties: true,
+    ..DATE_ALONE
+};
+
+/// The types of fee, of payment and of currency, and a patron's id and an amount.
+const FEE_PAID: Layout = Layout {
+    after: 7,
+    amount: true,
+    ..PATRON_ALONE
+};
+
 impl Kind {
     /// The layout of its requests.
     pub fn layout(self) -> Layout
         ensures { result ≡ layout_of self }
     {
-        let date = DATE_ALONE;
         match self {
-            Kind::BlockPatron => Layout {
-                flags: 1,
-                patron: true,
-                ..date
-            },
-            Kind::Checkin => Layout {
-                flags: 1,
-                after: 18,
-                item: true,
-                ..date
-            },
-            Kind::Checkout => Layout {
-                flags: 2,
-                after: 18,
-                patron: true,
-                item: true,
-                ..date
-            },
-            Kind::Hold => Layout {
-                flags: 1,
-                hold_mode: true,
-                patron: true,
-                item: true,
-                pickup: true,
-                title: true,
-                ..date
-            },
-            Kind::ItemStatus => Layout {
-                item: true,
-                properties: true,
-                ..date
-            },
-            Kind::PatronEnable => Layout {
-                patron: true,
-                ..date
-            },
-            Kind::Renew => Layout {
-                flags: 2,
-                after: 18,
-                patron: true,
-                item: true,
-                title: true,
-                ..date
-            },
-            Kind::FeePaid => Layout {
-                after: 7,
-                patron: true,
-                amount: true,
-                ..date
-            },
-            Kind::RenewAll => Layout {
-                patron: true,
-                ..date
-            },
+            Kind::BlockPatron => BLOCK_PATRON,
+            Kind::Checkin => CHECKIN,
+            Kind::Checkout => CHECKOUT,
+            Kind::Hold => HOLD,
+            Kind::ItemStatus => ITEM_STATUS,
+            Kind::PatronEnable => PATRON_ALONE,
+            Kind::Renew => RENEW,
+            Kind::FeePaid => FEE_PAID,
+            Kind::RenewAll => PATRON_ALONE,
         }
     }
 }

@@ -2,13 +2,14 @@
 
 ghost use Rattle.std.specs.Prelude.{◌≡◌, IfOk};
 ghost use Rattle.sip_reader.specs.Reading.{reading, reading_trimmed, reading_of, reading_as, trimmed};
+ghost use Rattle.sip_reader.specs.declared.request.Reading.TheVariants.{Asked};
 
 use crate::act::asked_act;
 use crate::checks::{is_bad_amount, is_bad_field, is_bad_flag, is_by_title, is_lacking};
 use crate::fields::Fields;
 use crate::kind::Command;
 use crate::sum::{is_right, is_summed, unsummed};
-use crate::{Kind, Passed, Reading, Request, STAMP_LEN, Stamp, Why};
+use crate::{Act, Kind, Passed, Reading, Request, STAMP_LEN, Stamp, Why};
 use std::alloc::{AllocError, Global};
 
 /// The longest message without the end of its line, in bytes.
@@ -97,9 +98,16 @@ fn read_kind(
         return Ok(Reading::Unread(Why::BadAmount));
     }
     let act = asked_act(alloc, kind, message, fields)?;
-    Ok(Reading::Asked(Request {
+    Ok(asked(sequence, date, act))
+}
+
+/// The reading of a request that passed all tests.
+fn asked(sequence: Option<u8>, date: Stamp, act: Act) -> Reading
+    ensures { result ≡ Asked (record { sequence = sequence; date = date; act = act }) }
+{
+    Reading::Asked(Request {
         sequence,
         date,
         act,
-    }))
+    })
 }

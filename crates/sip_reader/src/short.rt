@@ -1,7 +1,11 @@
 //! Up to 64 bytes that are copied without memory.
 
-ghost use Rattle.std.specs.Prelude.{◌≡◌, ◌≤◌, ◌+◌, ◌++◌, ◌-◌, length, replicate};
+ghost use Rattle.std.specs.Prelude.{◌≡◌, ◌≤◌, ◌+◌, ◌++◌, ◌-◌, length, take, drop, replicate};
+ghost use Rattle.std.specs.Cmp.Lexicographic.{slice_cmp};
+ghost use Rattle.std.specs.Ordering.{nat_cmp};
+ghost use Rattle.std.specs.Slice.Scan.{big_endian};
 
+use std::cmp::Ordering;
 use std::marker::Model;
 
 /// The greatest number of bytes.
@@ -64,6 +68,48 @@ impl Short {
     {
         &self.bytes[..self.len as usize]
     }
+
+    /// How the bytes go in the order of bytes.
+    pub fn order(&self, other: &Short) -> Ordering
+        ensures { result ≡ slice_cmp nat_cmp self.now other.now }
+    {
+        match order_of(&self.bytes, &other.bytes) {
+            Ordering::Less => Ordering::Less,
+            Ordering::Equal => self.len.cmp(&other.len),
+            Ordering::Greater => Ordering::Greater,
+        }
+    }
+}
+
+/// How 64 bytes go in the order of bytes, seen eight at a time: keys are compared all the time.
+fn order_of(a: &[u8; 64], b: &[u8; 64]) -> Ordering
+    ensures { result ≡ slice_cmp nat_cmp a.now b.now }
+{
+    for i in 0..8 {
+        let x = word_at(a, 8 * i);
+        let y = word_at(b, 8 * i);
+        if x != y {
+            return x.cmp(&y);
+        }
+    }
+    Ordering::Equal
+}
+
+/// The number that eight bytes spell, the first the greatest.
+fn word_at(bytes: &[u8; 64], i: usize) -> u64
+    requires { i + 8 ≤ 64 }
+    ensures { result ≡ big_endian 0 (take 8 (drop i bytes.now)) }
+{
+    u64::from_be_bytes([
+        bytes[i],
+        bytes[i + 1],
+        bytes[i + 2],
+        bytes[i + 3],
+        bytes[i + 4],
+        bytes[i + 5],
+        bytes[i + 6],
+        bytes[i + 7],
+    ])
 }
 
 /// The bytes and zeros behind them.

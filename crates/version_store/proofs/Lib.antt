@@ -2,3 +2,4 @@ pub mod Columns
 pub mod Views
 pub mod Sights
 pub mod Changes
+pub mod Walks

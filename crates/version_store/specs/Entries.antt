@@ -1,8 +1,9 @@
 -- The entries of the lines, and what a line sees (the board: the visible entry).
 use denote.Ref.{Bor}
-use Rattle.std.specs.Prelude.{◌≡◌, ℕ, zero, suc, ◌+◌, ◌-◌, ◌<◌, ◌≤◌, Bool, true, false, List, map, length, replicate, nat_lt, slice_index_or, slice_set, Option, Some, None, option_map, if◌then◌else◌}
+use Rattle.std.specs.Prelude.{◌≡◌, ◌≢◌, ℕ, zero, suc, ◌+◌, ◌-◌, ◌<◌, ◌≤◌, Bool, true, false, List, map, length, replicate, nat_lt, slice_index_or, slice_set, Option, Some, None, option_map, if◌then◌else◌}
 use Rattle.std.specs.BTreeMap.{BTreeMap}
 use Rattle.std.specs.FinMap.{FinMap, get, empty, entries, from_entries}
+use Rattle.std.specs.declared.cmp.Ordering.TheVariants.{Less}
 use Rattle.circ_records.specs.Keys.{key_cmp}
 use Rattle.circ_records.specs.declared.key.Key.{Key}
 use Rattle.read_set.specs.Settling.{Told}
@@ -67,6 +68,20 @@ as_suspect e = record { attempt = e.attempt; suspect = true; told = e.told }
 -- each entry is suspect
 abbrev pub suspected : Line → Line
 suspected l = from_entries (map (λ e. (e.0, as_suspect e.1)) (entries l))
+
+-- the attempt of a line's entry at a key
+abbrev pub attempt_at : Line → Key → Option ℕ
+attempt_at l k = option_map (λ e. e.attempt) (get l k)
+
+-- each entry of a line is of this attempt
+abbrev pub AllOf : Line → ℕ → Type 0
+AllOf l a = (q : Key) (e : Shown) → get l q ≡ Some e → e.attempt ≡ a
+
+-- the least key at which a line's entry is of another attempt
+abbrev pub IsLeastLeft : Line → ℕ → Key → Type 0
+IsLeastLeft l a k =
+    ((e : Shown) × (get l k ≡ Some e) × (e.attempt ≢ a))
+    × ((q : Key) (e : Shown) → key_cmp q k ≡ Less → get l q ≡ Some e → e.attempt ≡ a)
 
 abbrev pub above : ℕ → Option Shown → Option (ℕ × Shown) → Option (ℕ × Shown)
 above n (Some e) below = Some (n, e)

@@ -1,13 +1,13 @@
 //! The entries of one line.
 
-ghost use Rattle.std.specs.Prelude.{◌≡◌, OnOk, OnErr, Some, None, slice_get, cond, option_map};
+ghost use Rattle.std.specs.Prelude.{◌≡◌, OnOk, OnErr, Some, None, MatchOption, slice_get, cond, option_map};
 ghost use Rattle.std.specs.BTreeMap as tree;
 ghost use Rattle.std.specs.FinMap as fin;
 ghost use Rattle.std.specs.Map.Iter.{deref_pair};
 ghost use Rattle.std.specs.Ordering.{eq_by_cmp};
 ghost use Rattle.circ_records.specs.Keys.{key_cmp};
 ghost use Rattle.circ_records.specs.declared.key.Key.{Key};
-ghost use Rattle.version_store.specs.Entries.{IsNamedAt, no_entries, shown, suspected};
+ghost use Rattle.version_store.specs.Entries.{AllOf, IsLeastLeft, IsNamedAt, line_of, no_entries, shown, suspected};
 
 use crate::entry::Entry;
 use circ_records::Key;
@@ -91,6 +91,13 @@ impl<'t, J: PlanName> LineEntries<'t, J> {
         };
         Some((key, made.attempt))
     }
+
+    /// The least key whose entry isn't of this attempt.
+    pub fn left(&self, attempt: u32) -> Option<&Key>
+        ensures { MatchOption result (AllOf self.now attempt) (λ k. IsLeastLeft self.now attempt k.now) }
+    {
+        left_key(&self.entries, attempt)
+    }
 }
 
 /// Puts an entry at the key.
@@ -118,4 +125,20 @@ fn nth_entry<'m, 't, J: PlanName>(
     ensures ordered { tree.IsOrdered key_cmp entries.now }
 {
     entries.iter().nth(i)
+}
+
+/// The least key whose entry isn't of this attempt.
+fn left_key<'m, 't, J: PlanName>(
+    entries: &'m BTreeMap<Key, Entry<'t, J>>,
+    attempt: u32,
+) -> Option<&'m Key>
+    ensures { MatchOption result (AllOf (line_of entries.now) attempt) (λ k. IsLeastLeft (line_of entries.now) attempt k.now) }
+{
+    for (key, made) in entries.iter() {
+        let made = *made;
+        if made.attempt != attempt {
+            return Some(key);
+        }
+    }
+    None
 }

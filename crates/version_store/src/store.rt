@@ -1,8 +1,8 @@
 //! The entries of all lines.
 
-ghost use Rattle.std.specs.Prelude.{◌≡◌, ℕ, OnOk, OnErr, IfOk, option_map, slice_get};
+ghost use Rattle.std.specs.Prelude.{◌≡◌, ℕ, OnOk, OnErr, IfOk, MatchOption, option_map, slice_get};
 ghost use Rattle.std.specs.FinMap as fin;
-ghost use Rattle.version_store.specs.Entries.{IsLine, IsNamedAt, found_at, line_at, no_rows, none_placed, position_of, seen, shown, shown_by, sight_at, suspected, visible, with_line};
+ghost use Rattle.version_store.specs.Entries.{AllOf, IsLeastLeft, IsLine, IsNamedAt, attempt_at, found_at, line_at, no_rows, none_placed, position_of, seen, shown, shown_by, sight_at, suspected, visible, with_line};
 
 use crate::entry::{Entry, Found, Seen};
 use crate::index::KeyIndex;
@@ -94,6 +94,26 @@ impl<'t, J: PlanName> EntryStore<'t, J> {
         self.lines[position].nth(i)
     }
 
+    /// The attempt of a line's entry at a key; None where it has no entry.
+    pub fn attempt_at(&self, line: u64, key: &Key) -> Option<u32>
+        ensures { result ≡ attempt_at (line_at self.now line) key.now }
+    {
+        let Some(position) = self.position(line) else {
+            return None;
+        };
+        attempt_in(&self.lines[position], key)
+    }
+
+    /// The least key at which a line has an entry of another attempt; None where it has none.
+    pub fn left(&self, line: u64, attempt: u32) -> Option<&Key>
+        ensures { MatchOption result (AllOf (line_at self.now line) attempt) (λ k. IsLeastLeft (line_at self.now line) attempt k.now) }
+    {
+        let Some(position) = self.position(line) else {
+            return None;
+        };
+        self.lines[position].left(attempt)
+    }
+
     /// The entry of a line at a key is of this attempt, and stands at this place. It isn't suspect. Without memory
     /// nothing changes.
     pub fn place(
@@ -174,6 +194,16 @@ impl<'t, J: PlanName> EntryStore<'t, J> {
             Some(made) => Some((line, made)),
             None => None,
         }
+    }
+}
+
+/// The attempt of the entry at a key.
+fn attempt_in<J: PlanName>(entries: &LineEntries<'_, J>, key: &Key) -> Option<u32>
+    ensures { result ≡ attempt_at entries.now key.now }
+{
+    match entries.get(key) {
+        Some(made) => Some(made.attempt),
+        None => None,
     }
 }
 

@@ -71,13 +71,23 @@ fn two_attempts<'t, J: PlanName, R: Wait + AllocGlobal + Abort>(
     store.place(rt.alloc(), 8, 1, &item, second)?;
     assert!(rt; store.name(&item, 9) == made(8, 1));
     assert!(rt; store.name(&patron, 9) == Found::Suspect { line: 8 });
+    assert!(rt; store.attempt_at(8, &item) == Some(1) && store.attempt_at(8, &patron) == Some(0));
+    assert!(rt; is_key(store.left(8, 1), &patron) && is_key(store.left(8, 0), &item));
     store.lift(8, &patron);
+    assert!(rt; store.left(8, 1).is_none() && store.attempt_at(8, &patron).is_none());
     store.lift(10, &item);
     store.suspect_all(6);
     assert!(rt; store.name(&patron, 9) == Found::Named(Name::Base));
     assert!(rt; attempt_of(store.see(&item, 9)) == Some(1));
     assert!(rt; first.show().attempt() == 0);
     Ok(())
+}
+
+fn is_key(found: Option<&Key>, key: &Key) -> bool {
+    match found {
+        Some(found) => found == key,
+        None => false,
+    }
 }
 
 /// The attempt of the version that is seen.

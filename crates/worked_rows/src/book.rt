@@ -19,6 +19,10 @@ closed_weekdays = ["sunday"]
 max_loans = 2
 max_fees = 1000
 max_renewals = 1
+[class.C]
+max_loans = 0
+max_fees = 0
+max_renewals = 0
 [media.001]
 days = 14
 rental = 0

@@ -15,12 +15,17 @@
 //! | `fault TEXT` | the run gives this fault |
 //!
 //! Each run begins with the same library: patrons P1 (Ann) and P2 (Bob) of class A, the book I1 and the video tapes V1
-//! and V2, closed on Sundays.
+//! and V2, closed on Sundays. Whoever is of class C borrows nothing.
+//!
+//! In a book of single lines a row tells records that need not fit together, one line, the records for which it asks, in the
+//! order of asking, and what it does.
 #![tactic(auto)]
 
 #[cfg(test)]
 mod book;
 #[cfg(test)]
 mod shelf;
+#[cfg(test)]
+mod single;
 #[cfg(test)]
 mod tests;

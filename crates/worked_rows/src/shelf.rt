@@ -2,7 +2,8 @@
 //!
 //! A record is told by its key, a colon and its fields: `patron P1: patron, Ann, A, N, I1+V1, F1` (name, class, blocked,
 //! loans, open fees), `item I1: item, One, 001, Main, P2 20260316 0, P1+P2` (title, media type, location, loan, queue),
-//! `fee F1: fee, P1, 01, 1.00, 0.00` (patron, type, amount, paid). A `-` stands for nothing.
+//! `fee F1: fee, P1, 01, 1.00, 0.00` (patron, type, amount, paid). A `-` stands for nothing. An entry of a queue is told with
+//! its pickup, where it has one: `P1 East+P2`.
 
 use circ_policy::MediaType;
 use circ_records::{Fee, FeeType, Hold, Holds, Ids, Item, Key, Loan, Patron, Record};
@@ -33,6 +34,14 @@ impl Source for Shelf {
 }
 
 impl Shelf {
+    /// A copy of the record at a key, where there is one.
+    pub(crate) fn copy_at(&self, alloc: Global, key: &Key) -> Result<Option<Record>, AllocError> {
+        match self.records.get(key) {
+            Some(found) => Ok(Some(found.copy(alloc)?)),
+            None => Ok(None),
+        }
+    }
+
     pub(crate) fn new(alloc: Global) -> Shelf {
         Shelf {
             records: BTreeMap::new(alloc),
@@ -261,6 +270,9 @@ fn tell_queue(out: &mut String, queue: &[Hold]) -> Result<(), AllocError> {
             out.push_str("+")?;
         }
         out.push_str(shown(&hold.patron))?;
+        if !hold.pickup.as_bytes().is_empty() {
+            write!(out, " {}", or_none(&hold.pickup))?;
+        }
     }
     Ok(())
 }

@@ -10,8 +10,10 @@ mod recorded;
 mod renewals;
 mod tables;
 mod unread;
+mod wants;
 
 use crate::book::Row;
+use crate::single::Single;
 use std::alloc::Global;
 use std::process::Abort;
 use std::test::Fail;
@@ -34,4 +36,28 @@ fn run_row(rt: &impl Abort, alloc: Global, title: &str, lines: &str) -> Result<(
         assert!(rt; line.is_empty() || row.take(line)?, "{title}: {line}");
     }
     row.run(rt, alloc, title)
+}
+
+/// Runs each row of a book of single lines. Each row: records, `asked` and a request, `wants` and the ids of the records for
+/// which it asks, `answer` and its text, `writes` and each record that is written.
+fn run_lines(rt: &impl Abort, alloc: Global, book: &str) -> Result<(), Fail> {
+    for row in book.split('#') {
+        let (title, lines) = row.split_once('\n').unwrap_or((row, ""));
+        if !lines.is_empty() {
+            run_line(rt, alloc, title, lines)?;
+        }
+    }
+    Ok(())
+}
+
+/// Runs a row of a book of single lines.
+fn run_line(rt: &impl Abort, alloc: Global, title: &str, lines: &str) -> Result<(), Fail> {
+    let mut single = Single::new(alloc);
+    for line in lines.split('\n') {
+        assert!(rt;
+            line.is_empty() || single.take(alloc, line)?,
+            "{title}: {line}"
+        );
+    }
+    single.run(rt, alloc, title)
 }

@@ -1,9 +1,8 @@
 //! Tables as they are written.
 
 use super::read;
-use crate::{Base, BaseError, Records, Tables, write_records};
+use crate::{BaseError, Records, Tables, write_records};
 use std::alloc::{AllocError, Global};
-use std::collections::BTreeMap;
 use std::process::Abort;
 use std::test::Fail;
 
@@ -37,21 +36,10 @@ const STRICT: [&str; 6] = [
     "item,patron,pickup\n",
 ];
 
-/// The records of a base.
-fn records_of(alloc: Global, base: &Base) -> Result<Records, AllocError> {
-    let mut map = BTreeMap::new(alloc);
-    for key in base.keys() {
-        if let Some(found) = base.get(key) {
-            map.insert(*key, found.copy(alloc)?)?;
-        }
-    }
-    Ok(Records::from_map(map))
-}
-
 /// The tables of the records that tables tell.
 fn again(alloc: Global, texts: &[&str; 6]) -> Result<Tables, BaseError> {
     let base = read(alloc, texts, None)?;
-    let records = records_of(alloc, &base)?;
+    let records = Records::from_map(base.to_map()?);
     Ok(write_records(alloc, &records)?)
 }
 

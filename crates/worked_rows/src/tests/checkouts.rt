@@ -44,6 +44,18 @@ base loans P1,I1,20260310,0
 asked 11YN20260302    101500                  AOL1|AAP1|ABI1|
 answer 121YUY20260302    101500AOL1|AAP1|ABI1|AJOne|AH20260316    235900|CK001|
 after loans P1,I1,20260316,1
+# a forced checkout charges the rental without the patron's word
+asked 11NY20260302    101500                  AOL1|AAP1|ABV1|
+answer 121NUY20260302    101500AOL1|AAP1|ABV1|AJTwo|AH20260309    235900|BT06|BHUSD|BV1.00|CK005|
+after loans P1,V1,20260309,0
+after fees R1-0,P1,06,1.00,0.00
+# a class without loans borrows by force alone
+base patrons P3,Cy,C,N
+asked 11NN20260302    101500                  AOL1|AAP3|ABI1|
+answer 120NUN20260302    101500AOL1|AAP3|ABI1|AJOne|AH|CK001|
+asked 11NY20260302    101500                  AOL1|AAP3|ABI1|
+answer 121NUY20260302    101500AOL1|AAP3|ABI1|AJOne|AH20260316    235900|CK001|
+after loans P3,I1,20260316,0
 ";
 
 const REFUSED: &str = "
@@ -88,7 +100,61 @@ answer 120NUN20260302    101500AOL1|AAP1|ABX9|AJ|AH|
 # forced for an unknown patron
 asked 11NY20260302    101500                  AOL1|AAX9|ABI1|
 answer 120NUN20260302    101500AOL1|AAX9|ABI1|AJOne|AH|CK001|
+# a refusal for something else tells no rental
+base loans P2,V1,20260310,0
+base fees F1,P1,01,10.01,0.00
+asked 11NN20260302    101500                  AOL1|AAP1|ABV1|
+answer 120NUN20260302    101500AOL1|AAP1|ABV1|AJTwo|AH|CK005|
+asked 11NN20260302    101500                  AOL1|AAP1|ABV2|
+answer 120NUN20260302    101500AOL1|AAP1|ABV2|AJThree|AH|CK005|
+after loans P2,V1,20260310,0
 ";
+
+/// An own loan that is asked for again.
+const OWN: &str = "
+# it is renewed even by force, with the day that was sent, and keeps its place
+base loans P1,I1,20260310,0
+base loans P1,V1,20260310,0
+asked 11YY20260302    10150020260320    235900AOL1|AAP1|ABI1|
+answer 121YUY20260302    101500AOL1|AAP1|ABI1|AJOne|AH20260320    235900|CK001|
+after loans P1,I1,20260320,1
+after loans P1,V1,20260310,0
+# by force it is lent anew, without a fee, where the terminal renews nothing
+base loans P1,I1,20260216,1
+base loans P1,V1,20260310,0
+asked 11NY20260302    101500                  AOL1|AAP1|ABI1|
+answer 121NUY20260302    101500AOL1|AAP1|ABI1|AJOne|AH20260316    235900|CK001|
+after loans P1,V1,20260310,0
+after loans P1,I1,20260316,0
+after fees
+# it is renewed with as many loans as the class has
+base loans P1,I1,20260310,0
+base loans P1,V1,20260310,0
+asked 11YN20260302    101500                  AOL1|AAP1|ABI1|
+answer 121YUY20260302    101500AOL1|AAP1|ABI1|AJOne|AH20260316    235900|CK001|
+after loans P1,I1,20260316,1
+after loans P1,V1,20260310,0
+# it is not renewed where somebody waits, but by force, and the queue stays
+base loans P1,I1,20260310,0
+base holds I1,P2,Main
+asked 11YN20260302    101500                  AOL1|AAP1|ABI1|
+answer 120NUN20260302    101500AOL1|AAP1|ABI1|AJOne|AH|CK001|
+asked 11YY20260302    101500                  AOL1|AAP1|ABI1|
+answer 121YUY20260302    101500AOL1|AAP1|ABI1|AJOne|AH20260316    235900|CK001|
+after loans P1,I1,20260316,1
+after holds I1,P2,Main
+# a rental is not charged with BI Y where it is renewed
+base loans P1,V1,20260310,0
+asked 11YN20260302    101500                  AOL1|AAP1|ABV1|BIY|
+answer 121YUY20260302    101500AOL1|AAP1|ABV1|AJTwo|AH20260309    235900|CK005|
+after loans P1,V1,20260309,1
+after fees
+";
+
+#[test]
+fn own_loans(rt: HostRuntime) -> Result<(), Fail> {
+    run_book(&rt, rt.alloc(), OWN)
+}
 
 #[test]
 fn checkouts(rt: HostRuntime) -> Result<(), Fail> {

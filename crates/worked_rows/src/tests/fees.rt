@@ -47,6 +47,13 @@ asked 3720260302    1200000100EURBV1|AOL1|AAP1|
 answer 38N20260302    120000AOL1|AAP1|
 asked 3720260302    1200000100USDBV1|AOL1|AAX9|
 answer 38N20260302    120000AOL1|AAX9|
+# the name of a closed fee counts as none
+base fees F2,P1,01,2.00,0.00
+base closed F1,P1,01,1.00
+asked 3720260302    1200000100USDBV1|AOL1|AAP1|CGF1|
+answer 38Y20260302    120000AOL1|AAP1|
+after fees F2,P1,01,2.00,1.00
+after closed F1,P1,01,1.00
 ";
 
 #[test]

@@ -64,6 +64,29 @@ asked 15+20260302    101500AAX9|ABI1|
 answer 160N20260302    101500AOL1|AAX9|ABI1|AJOne|
 asked 15+20260302    101500AAP1|ABX9|
 answer 160N20260302    101500AOL1|AAP1|ABX9|
+# the first for an item on loan, which is not available, and without a pickup
+base loans P1,I1,20260316,0
+asked 15+20260302    101500AOL1|AAP2|ABI1|
+answer 161N20260302    101500BR1|AOL1|AAP2|ABI1|AJOne|
+after holds I1,P2,
+# the second in the queue
+base holds I1,P1,Main
+asked 15+20260302    101500AOL1|AAP2|ABI1|BSEast|
+answer 161N20260302    101500BR2|BSEast|AOL1|AAP2|ABI1|AJOne|
+after holds I1,P1,Main
+after holds I1,P2,East
+# who waits behind the borrower stays
+base holds I1,P1,Main
+base holds I1,P2,East
+asked 11NN20260302    101500                  AOL1|AAP1|ABI1|ACx|
+answer 121NUY20260302    101500AOL1|AAP1|ABI1|AJOne|AH20260316    235900|CK001|
+after holds I1,P2,East
+# by force an entry leaves that is not the first
+base holds I1,P2,East
+base holds I1,P1,Main
+asked 11NY20260302    101500                  AOL1|AAP1|ABI1|ACx|
+answer 121NUY20260302    101500AOL1|AAP1|ABI1|AJOne|AH20260316    235900|CK001|
+after holds I1,P2,East
 ";
 
 #[test]

@@ -1,4 +1,5 @@
-use Rattle.std.proofs.Common.{◌≡◌, ◌+◌, ◌++◌, ◌∷◌, [], ap, sym, subst}
+use Rattle.std.proofs.Common.{◌≡◌, ◌∙◌, ◌+◌, ◌++◌, ◌∷◌, [], ap, sym, subst, length, arith}
+use Rattle.std.proofs.lemmas.Grind.{common_steps}
 use Rattle.read_set.specs.Replay.{after}
 use Rattle.replay_run.proofs.Replayed.{Replayed, replayed-next}
 use Rattle.replay_run.specs.Live.{standing}
@@ -12,3 +13,11 @@ loop-i-preserved c =
     subst (λ answers. Replayed c.args.plan.now (c.loop-i.i + 1) (standing c.take_line.new.live) answers) (sym c.in_ok-push.ensures.items)
     (replayed-next c.args.plan.now c.loop-i.i _ (standing c.loop-i.live) (standing c.take_line.new.live) c.loop-i.answers.items c.in_ok-take_line.field-0 line so
     (c.in_ok-take_line.ensures.answer before so.records) (c.in_ok-take_line.ensures.records before so.records))
+
+pub returns-clause-records : goal.returns-clause-records
+returns-clause-records c =
+    let all : c.loop-i.i ≡ length c.args.plan.now.readings = grind (arith, common_steps) in
+    record {
+      rising = c.into_records.ensures.rising;
+      same = λ k. c.into_records.ensures.same k ∙ c.loop-i.invariant.records k ∙ ap (λ n. after c.args.plan.now n k) all;
+    }

@@ -1,10 +1,11 @@
-use Rattle.std.proofs.Common.{◌∙◌, ap, length}
-use Rattle.replay_run.proofs.Fitting.{answers-length, readings-length}
+use Rattle.std.proofs.Common.{◌∙◌, ap, map}
+use Rattle.std.specs.Option.{is_some}
+use Rattle.result_report.specs.Report.{is_answered}
+use Rattle.replay_run.proofs.Answered.{answered}
 use Rattle.replay_run.proofs.run.output.Goals as goal
 
 pub report-requires-clause-answered : goal.report-requires-clause-answered
 report-requires-clause-answered c =
-    ap length c.in_ok-outcome.ensures.answers
-    ∙ answers-length c.args.plan.now (length c.args.plan.now.readings)
-    ∙ ap length c.requires
-    ∙ readings-length c.args.journal.now
+    ap (map is_some) (c.in_ok-lend.ensures ∙ c.as_slice.ensures.value ∙ c.in_ok-records.ensures.answers)
+    ∙ answered c.args.plan.now
+    ∙ ap (map is_answered) c.requires

@@ -1,20 +1,36 @@
-use Rattle.std.proofs.Common.{rules, arith, ◌≡◌, ◌<◌, ◌^◌, ◌-◌, length, map, subst}
-use Rattle.journal_table.specs.Readings.{reading_at}
-use Rattle.result_report.specs.Report.{told}
+use Rattle.std.proofs.Common.{arith, ◌-◌, drop, subst}
+use Rattle.std.specs.Prelude.{option_copied}
+use Rattle.result_report.specs.Report.{Told, lent, told}
+use Rattle.result_report.specs.Stretches.{between}
 use Rattle.result_report.specs.Tellings.{Tells}
-use Rattle.result_report.proofs.TellingLines.{has-room, tells-more, told-next, told-whole}
+use Rattle.result_report.proofs.Parts.{between-last, between-next}
+use Rattle.result_report.proofs.TellingLines.{has-room, tells-more}
 use Rattle.result_report.proofs.texts.tell.Goals as goal
+use Rattle.result_report.proofs.texts.tell.Goals.{in-Some+in_ok-line, in_default}
 
 pub line-requires : goal.line-requires
 line-requires c =
-    let small : length c.args.lines.now < 2 ^ 64 = search rules in
-    has-room c.loop-i.i (told c.args.lines.now (map reading_at c.args.readings.now) c.args.answers.now) c.loop-i.telling (omega (arith, small, c.loop-i-test.true)) c.loop-i.invariant
+    let place = c.loop-place.place in
+    let from = c.args.from in
+    let begun = c.loop-place.auto.place in
+    let ends = c.ranges.to in
+    let all = told c.args.lines.now c.args.plan.now.readings (lent c.args.answers.now) in
+    has-room (place - from) (drop from all) c.loop-place.telling (omega (arith, c.loop-place-test.true, ends, begun)) c.loop-place.invariant.told
 
-pub loop-i-preserved : goal.loop-i-preserved
-loop-i-preserved c =
-    let step = told-next c.loop-i.i c.args.lines.now (map reading_at c.args.readings.now) c.args.answers.now c.index-lines-i.result c.reading_of.result.now c.index-answers-i.result
-    c.loop-i-test.true c.requires.read c.requires.answered c.index-lines-i.is c.reading_of.ensures.is c.index-answers-i.is in
-    subst (λ lines. Tells lines c.line.new.self) step (tells-more _ _ _ _ c.loop-i.invariant c.in_ok-line.ensures)
-
-pub returns : goal.returns
-returns c = subst (λ lines. Tells lines c.loop-i.telling) (told-whole c.loop-i.i c.args.lines.now (map reading_at c.args.readings.now) c.args.answers.now c.loop-i-test.false) c.loop-i.invariant
+pub loop-place-preserved : goal.loop-place-preserved
+loop-place-preserved c =
+    let place = c.loop-place.place in
+    let from = c.args.from in
+    let begun = c.loop-place.auto.place in
+    let all = told c.args.lines.now c.args.plan.now.readings (lent c.args.answers.now) in
+    record {
+      told = elim c.match-told_at.branch [
+        | in-Some+in_ok-line w ↦
+            let line : Told = (w.in-Some.line.now, w.in-Some.reading.now, option_copied w.in-Some.answer) in
+            rw w.telling-is (subst (λ lines. Tells lines w.line.new.self) (between-next from place all line begun w.in-Some.ensures)
+            (tells-more (between from place all) line _ _ c.loop-place.invariant.told w.in_ok-line.ensures))
+        | in_default w ↦
+            rw w.telling-is (subst (λ lines. Tells lines c.loop-place.telling) (between-last from place all begun w.in_default.ensures) c.loop-place.invariant.told)
+      ];
+      begun = λ less. absurd (omega (arith, c.loop-place-test.true, begun));
+    }

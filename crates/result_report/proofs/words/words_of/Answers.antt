@@ -1,4 +1,4 @@
-use Rattle.std.proofs.Common.{◌∙◌, codes, rules}
+use Rattle.std.proofs.Common.{◌∙◌, codes}
 use Rattle.std.proofs.lemmas.Result.{IfOk-weaker}
 use Rattle.result_report.proofs.Joined.{joined}
 use Rattle.result_report.proofs.words.words_of.Goals as goal

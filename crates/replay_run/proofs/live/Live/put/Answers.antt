@@ -12,7 +12,7 @@ pub loop-key-preserved : goal.loop-key-preserved
 loop-key-preserved c =
     let last : Key × Record = (c.in-Some.key, c.in-Some.written) in
     let all : c.loop-key.left.items ≡ c.pop.new.self.items ++ (c.in-Some.key, c.in-Some.written) ∷ [] = search rules in
-    λ k. ap (λ found. option_or (record_at c.pop.new.self.items k) found) (c.in_ok-write.ensures.put k)
+    λ k. ap (λ found. option_or (record_at c.pop.new.self.items k) found) (c.in_ok-write.ensures k)
     ∙ sym (put-last c.pop.new.self.items last (standing c.loop-key.self) k)
     ∙ ap (λ writes. put writes (standing c.loop-key.self) k) (sym all)
     ∙ c.loop-key.invariant k

@@ -1,0 +1,12 @@
+pub mod Entries
+pub mod Views
+pub mod Keep
+pub mod Lines
+pub mod Suspects
+pub mod Calls
+pub mod Truth
+pub mod Steps
+pub mod Histories
+pub mod Stays
+pub mod Stamps
+pub mod Fixed

@@ -1,0 +1,4 @@
+pub mod Board
+pub mod Reached
+pub mod Steps
+pub mod Choice

@@ -1,0 +1,71 @@
+use Rattle.std.proofs.Common.{◌≡◌, ℕ, zero, suc, ◌+◌, ◌-◌, ◌*◌, ◌/◌, ◌%◌, ◌^◌, ◌<◌, ◌≤◌, Bool, true, false, List, length, get_or, set, refl, sym, ap, subst, ◌∙◌, arith, rules, length-set, true≢false}
+use Rattle.line_set.specs.Trees.{AllBut, IsLeastFrom, IsPower, IsTree, joined, node_at}
+use Rattle.line_set.specs.Rows.{IsNext, IsInRow, NoneSet, below}
+use Rattle.line_set.proofs.Trees.{mended, flag_changed, made_from, go_left, go_right, flag_found, next_first, next_within, next_none, next_in_row, next_up, in_row_first, pow_suc, power_some, none_below, one_of, none_past, wide_some, below_past}
+use Rattle.line_set.proofs.line_set.next_set.Goals as goal
+
+pub overflow_add-node-in-loop-node : goal.overflow_add-node-in-loop-node
+overflow_add-node-in-loop-node c =
+    let l = c.loop-node in
+    let n = next_within c.args.flags.now c.args.nodes.now l.node l.width l.first c.requires.tree l.invariant.in_row in
+    let f = next_first c.args.flags.now c.args.nodes.now l.node l.width l.first c.requires.tree l.invariant.in_row in
+    let b = below_past (l.node + 1) l.invariant.in_row.rows in
+    search (arith, n, f, b, c.requires.tree.few)
+
+pub overflow_add-first : goal.overflow_add-first
+overflow_add-first c =
+    let l = c.loop-node in
+    let n = next_within c.args.flags.now c.args.nodes.now l.node l.width l.first c.requires.tree l.invariant.in_row in
+    search (arith, n, c.requires.tree.few)
+
+pub returns-then-first-nodes : goal.returns-then-first-nodes
+returns-then-first-nodes c p from =
+    let l = c.loop-node in
+    let nodes = c.args.nodes.now in
+    let bare : node_at c.args.flags.now nodes l.node ≡ false = sym c.is_set.ensures ∙ c.loop-node-test.true in
+    none_past c.args.flags.now nodes c.args.from (l.first + l.width) (omega arith) c.requires.tree
+    (next_none c.args.flags.now nodes l.node l.width l.first c.requires.tree l.invariant.in_row (length nodes + c.args.from) bare l.invariant.before) p from
+
+pub overflow_mul-width : goal.overflow_mul-width
+overflow_mul-width c =
+    let l = c.loop-node in
+    let n = next_within c.args.flags.now c.args.nodes.now l.node l.width l.first c.requires.tree l.invariant.in_row in
+    search (arith, n, c.requires.tree.few)
+
+pub loop-node-smaller-then-node-eq0 : goal.loop-node-smaller-then-node-eq0
+loop-node-smaller-then-node-eq0 c =
+    let l = c.loop-node in
+    let n = next_within c.args.flags.now c.args.nodes.now l.node l.width l.first c.requires.tree l.invariant.in_row in
+    let w = wide_some c.args.nodes.now l.node l.width l.first l.invariant.in_row in
+    omega (arith, n, w)
+
+pub loop-node-preserved-then-node-eq0 : goal.loop-node-preserved-then-node-eq0
+loop-node-preserved-then-node-eq0 c =
+    let l = c.loop-node in
+    let flags = c.args.flags.now in
+    let nodes = c.args.nodes.now in
+    let bare : node_at flags nodes l.node ≡ false = sym c.is_set.ensures ∙ c.loop-node-test.true in
+    record {
+      in_row = next_up flags nodes l.node l.width l.first c.requires.tree l.invariant.in_row c.if-first-nodes.false c.if-node-eq0.true;
+      past = omega (arith, l.invariant.past);
+      before = next_none flags nodes l.node l.width l.first c.requires.tree l.invariant.in_row (length nodes + c.args.from) bare l.invariant.before;
+    }
+
+pub loop-node-smaller : goal.loop-node-smaller
+loop-node-smaller c =
+    let l = c.loop-node in
+    let n = next_within c.args.flags.now c.args.nodes.now l.node l.width l.first c.requires.tree l.invariant.in_row in
+    let w = wide_some c.args.nodes.now l.node l.width l.first l.invariant.in_row in
+    omega (arith, n, w)
+
+pub loop-node-preserved : goal.loop-node-preserved
+loop-node-preserved c =
+    let l = c.loop-node in
+    let flags = c.args.flags.now in
+    let nodes = c.args.nodes.now in
+    let bare : node_at flags nodes l.node ≡ false = sym c.is_set.ensures ∙ c.loop-node-test.true in
+    record {
+      in_row = next_in_row flags nodes l.node l.width l.first c.requires.tree l.invariant.in_row c.if-first-nodes.false;
+      past = omega (arith, l.invariant.past);
+      before = next_none flags nodes l.node l.width l.first c.requires.tree l.invariant.in_row (length nodes + c.args.from) bare l.invariant.before;
+    }

@@ -1,0 +1,169 @@
+//! A set of lines by their places.
+
+ghost use Rattle.std.specs.Prelude.{◌≡◌, ℕ, ◌+◌, ◌/◌, ◌<◌, ◌≤◌, length, replicate, slice_set, slice_index_or, true, false, IfOk, Some};
+ghost use Rattle.line_set.specs.Rows.{IsNext, IsNextNode};
+ghost use Rattle.line_set.specs.Trees.{AllBut, IsLeastFrom, IsPower, IsTree, joined, node_at};
+
+use std::alloc::{AllocError, Global};
+use std::marker::Model;
+
+/// Some of the places 0 to so many. Over the flags of the places stands a tree, each node of which says whether there is
+/// one below it: node 1 is the root, nodes 2 n and 2 n + 1 are below node n, and the flags are the last row.
+#[derive(Drop)]
+pub struct LineSet {
+    flags: Vec<bool>,
+    /// The nodes above the flags; their number is a power of two, and number 0 is none of them.
+    nodes: Vec<bool>,
+}
+
+impl Model for LineSet {
+    ghost use Rattle.std.specs.Prelude.{List, Bool};
+    ghost use Rattle.line_set.specs.Trees.{IsTree};
+
+    ghost Value = { List Bool };
+
+    ghost view = { λ s. s.flags.items };
+
+    ghost invariant = { λ s. IsTree s.flags.items s.nodes.items };
+}
+
+impl LineSet {
+    /// A set of places below `len` (at most 1,000,000): all of them, or none.
+    pub fn new(alloc: Global, len: usize, all: bool) -> Result<LineSet, AllocError>
+        requires { len ≤ 1000000 }
+        ensures { IfOk result (λ s. s ≡ replicate len all) }
+    {
+        let width = row_width(len);
+        let flags = vec![in alloc; all; len]?;
+        let mut nodes = vec![in alloc; false; width]?;
+        let mut node = width;
+        while node > 1 {
+            node -= 1;
+            nodes[node] = join(&flags, &nodes, node);
+        }
+        Ok(LineSet { flags, nodes })
+    }
+
+    /// Whether a place is in the set.
+    pub fn has(&self, place: usize) -> bool
+        ensures { result ≡ slice_index_or self.now place false }
+    {
+        place < self.flags.len() && self.flags[place]
+    }
+
+    /// Adds a place.
+    pub fn insert(&mut self, place: usize)
+        requires { place < length self.old }
+        ensures { self.new ≡ slice_set self.old place true }
+    {
+        self.flags[place] = true;
+        mend(&self.flags, &mut self.nodes, place);
+    }
+
+    /// Takes a place out.
+    pub fn remove(&mut self, place: usize)
+        requires { place < length self.old }
+        ensures { self.new ≡ slice_set self.old place false }
+    {
+        self.flags[place] = false;
+        mend(&self.flags, &mut self.nodes, place);
+    }
+
+    /// The least place of the set from this one on.
+    pub fn least_from(&self, from: usize) -> Option<usize>
+        ensures { IsLeastFrom self.now from result }
+    {
+        if from >= self.flags.len() {
+            return None;
+        }
+        let node = next_set(&self.flags, &self.nodes, from)?;
+        Some(least_below(&self.flags, &self.nodes, from, node))
+    }
+}
+
+/// The least power of two that is at least `len`.
+fn row_width(len: usize) -> usize
+    requires { len ≤ 1000000 }
+    ensures covers { len ≤ result }
+    ensures power { IsPower result }
+    ensures few { result ≤ 2000000 }
+{
+    let mut width = 1;
+    while width < len {
+        width *= 2;
+    }
+    width
+}
+
+/// What is at a node.
+fn is_set(flags: &[bool], nodes: &[bool], node: usize) -> bool
+    ensures { result ≡ node_at flags.now nodes.now node }
+{
+    if node < nodes.len() {
+        return nodes[node];
+    }
+    let place = node - nodes.len();
+    place < flags.len() && flags[place]
+}
+
+/// What the two nodes below a node make of it.
+fn join(flags: &[bool], nodes: &[bool], node: usize) -> bool
+    requires { node ≤ 2000000 }
+    ensures { result ≡ joined flags.now nodes.now node }
+{
+    is_set(flags, nodes, 2 * node) || is_set(flags, nodes, 2 * node + 1)
+}
+
+/// Mends the nodes above a place whose flag was changed.
+fn mend(flags: &[bool], nodes: &mut [bool], place: usize)
+    requires within { place < length nodes.old }
+    requires few { length nodes.old ≤ 2000000 }
+    requires each { AllBut flags.now nodes.old ((length nodes.old + place) / 2) }
+    ensures { AllBut flags.now nodes.new 0 }
+{
+    let mut node = (nodes.len() + place) / 2;
+    while node > 0 {
+        nodes[node] = join(flags, nodes, node);
+        node /= 2;
+    }
+}
+
+/// A set node before which no flag is set, from a place on. It looks at no more nodes than twice the rows.
+fn next_set(flags: &[bool], nodes: &[bool], from: usize) -> Option<usize>
+    requires tree { IsTree flags.now nodes.now }
+    requires within { from < length nodes.now }
+    ensures { IsNextNode flags.now nodes.now from result }
+{
+    let mut node = nodes.len() + from;
+    // the number of flags below the node, and the first of them, in the row of the flags
+    let mut width = 1;
+    let mut first = node;
+    while !is_set(flags, nodes, node) {
+        node += 1;
+        first += width;
+        if first == 2 * nodes.len() {
+            return None;
+        }
+        if node % 2 == 0 {
+            node /= 2;
+            width *= 2;
+        }
+    }
+    Some(node)
+}
+
+/// The least set flag below a set node.
+fn least_below(flags: &[bool], nodes: &[bool], from: usize, top: usize) -> usize
+    requires tree { IsTree flags.now nodes.now }
+    requires next { IsNext flags.now nodes.now from top }
+    ensures { IsLeastFrom flags.now from (Some result) }
+{
+    let mut node = top;
+    while node < nodes.len() {
+        node *= 2;
+        if !is_set(flags, nodes, node) {
+            node += 1;
+        }
+    }
+    node - nodes.len()
+}

@@ -1,0 +1,91 @@
+-- The meaning of a line keeps records coherent (circulation rules, records of any moment): what a line leaves of coherent records is coherent
+-- before the next line, the ids of the fees that it made included.
+use Rattle.std.specs.Prelude.{◌≡◌, ◌≤◌, ◌+◌, ◌^◌, ℕ, true, List, length, Some, Ok, IfSome, is_some, None}
+use Rattle.std.specs.List.{AllByRecursion}
+use Rattle.circ_policy.specs.Policy.{media_of}
+use Rattle.circ_policy.specs.Reading.{policy_of}
+use Rattle.circ_policy.specs.Terms.{Terms}
+use Rattle.circ_policy.specs.declared.media.Media.{Media}
+use Rattle.circ_policy.specs.declared.media_type.MediaType.{MediaType}
+use Rattle.circ_records.specs.Base.{base_of}
+use Rattle.circ_records.specs.Laws.{AreRising}
+use Rattle.circ_records.specs.Written.{tables_of}
+use Rattle.circ_records.specs.declared.key.Key.{Key}
+use Rattle.circ_records.specs.Coherent.{Coherent, IsCoherentMap, as_item, has_id, number_before}
+use Rattle.circ_records.specs.Records.{Entries, record_at}
+use Rattle.circ_records.specs.declared.key.Key.TheVariants as keys
+use Rattle.journal_table.specs.Entry.{Entry, first_number}
+use Rattle.journal_table.specs.Journal.{journal_of}
+use Rattle.sip_reader.specs.Dates.{is_stamp}
+use Rattle.sip_reader.specs.Days.{day_at}
+use Rattle.sip_reader.specs.Texts.{is_text}
+use Rattle.sip_reader.specs.declared.request.Act.{Act}
+use Rattle.sip_reader.specs.declared.request.Act.TheVariants as acts
+use Rattle.sip_reader.specs.declared.request.Reading.{Reading}
+use Rattle.sip_reader.specs.declared.request.Reading.TheVariants as readings
+use Rattle.read_set.specs.Maps.{Map}
+use Rattle.read_set.specs.Meaning.{one}
+use Rattle.read_set.specs.Plans.{Planned, plan_of}
+use Rattle.read_set.specs.Replay.{before, last}
+
+-- the ranges of a policy's terms: loans of at most 3,650 days, amounts of at most 999,999,999.99
+pub record FitsMedia (m : Media) : Type 0 where
+  pub days : m.days ≤ 3650
+  pub rental : m.rental ≤ 99999999999
+  pub cap : m.cap ≤ 99999999999
+
+abbrev pub FitsPolicy : Terms → Type 0
+FitsPolicy p = (type : MediaType) (media : Media) → media_of p type ≡ Some media → FitsMedia media
+
+-- the number of a real day of the years 1900 to 9999
+abbrev pub IsDay : ℕ → Type 0
+IsDay n = (year : ℕ) × (month : ℕ) × (day : ℕ) × (day_at year month day ≡ Some n)
+
+-- a given due date is a day, and what is written as it is given is a text
+abbrev pub FitsAct : Act → Type 0
+FitsAct (acts.Checkout q) = IfSome q.due IsDay
+FitsAct (acts.Renew q) = IfSome q.due IsDay
+FitsAct (acts.Hold q) = is_text q.pickup ≡ true
+FitsAct (acts.ItemStatus q) = IfSome q.properties (λ t. is_text t ≡ true)
+FitsAct q = Unit {0}
+
+-- what each request has that was read
+abbrev pub FitsReading : Reading → Type 0
+FitsReading (readings.Asked q) = (is_stamp q.date ≡ true) × FitsAct q.act
+FitsReading r = Unit {0}
+
+-- some list names all items, and isn't longer than a count of 64 bits: so no line makes more fees than that
+abbrev pub HasFewItems : Map → Type 0
+HasFewItems M = (ids : List (List ℕ)) × (length ids ≤ 2 ^ 64) × ((id : List ℕ) → is_some (as_item (M (keys.Item id))) ≡ true → has_id id ids ≡ true)
+
+-- line n takes records that are coherent before it to such that are coherent before line n + 1
+abbrev pub MeaningKeepsCoherence : Type 0
+MeaningKeepsCoherence = (policy : Terms) (n : ℕ) (r : Reading) (M : Map) → FitsPolicy policy → FitsReading r → n ≤ 9999999999
+    → HasFewItems M → IsCoherentMap policy n M → IsCoherentMap policy (n + 1) (one policy n r M).0 × HasFewItems (one policy n r M).0
+
+-- a plan as it is read: of what fits, on a base that is coherent at the number of its first line, and no line has a number of more than ten digits
+pub record FitsPlan (plan : Planned) : Type 0 where
+  pub policy : FitsPolicy plan.policy
+  pub readings : AllByRecursion FitsReading plan.readings
+  pub base : Coherent plan.policy plan.first plan.base
+  pub last : plan.first + length plan.readings ≤ 10000000000
+
+-- the records before each line, and behind the last one, are coherent there
+pub record StaysCoherent (plan : Planned) : Type 0 where
+  pub before : (line : ℕ) → plan.first ≤ line → line ≤ plan.first + length plan.readings → IsCoherentMap plan.policy line (before plan line)
+  pub last : IsCoherentMap plan.policy (plan.first + length plan.readings) (last plan)
+
+-- so do those of a replay on a base that a memory can hold
+abbrev pub ReplayKeepsCoherence : Type 0
+ReplayKeepsCoherence = (plan : Planned) → FitsPlan plan → length plan.base ≤ 2 ^ 64 → StaysCoherent plan
+
+-- so does the replay of whatever was read: a policy, a journal, and a base that is coherent before the journal's first line
+abbrev pub ReadPlansStayCoherent : Type 0
+ReadPlansStayCoherent = (text bytes : List ℕ) (policy : Terms) (base : Entries) (lines : List Entry) → policy_of text ≡ Ok policy → journal_of bytes ≡ Ok lines
+    → Coherent policy (number_before (first_number lines)) base → length base ≤ 2 ^ 64 → StaysCoherent (plan_of policy base lines)
+
+-- and then the six final tables, which tell the records after the last line, are read again as these records, as a base before a journal without lines
+abbrev pub FinalTablesReadBack : Type 0
+FinalTablesReadBack = (text bytes : List ℕ) (policy : Terms) (base : Entries) (lines : List Entry) → policy_of text ≡ Ok policy → journal_of bytes ≡ Ok lines
+    → Coherent policy (number_before (first_number lines)) base → length base ≤ 2 ^ 64
+    → (entries : Entries) → AreRising entries → ((k : Key) → record_at entries k ≡ last (plan_of policy base lines) k) → base_of policy (tables_of entries) None ≡ Ok entries

@@ -1,0 +1,178 @@
+-- What is asked has an answer, over any records; what is passed over or can't be read has none.
+use Rattle.std.proofs.Common.{◌≡◌, ◌∙◌, ◌<◌, ◌≤◌, ◌-◌, ◌+◌, ℕ, zero, suc, Bool, true, false, cond, List, [], ◌∷◌, ◌++◌, length, map, take, Option, Some, None, refl, sym, ap, arith}
+use Rattle.std.specs.Prelude.{◌==◌, nat_lt, not, slice_get}
+use Rattle.std.specs.Option.{is_some}
+use Rattle.std.proofs.lemmas.Bool.{le-ltb}
+use Rattle.std.proofs.lemmas.List.{map-append, take_all}
+use Rattle.circ_policy.specs.Terms.{Terms}
+use Rattle.circ_records.specs.declared.record.Item.{Item}
+use Rattle.circ_records.specs.declared.record.Loan.{Loan}
+use Rattle.sip_reader.specs.declared.request.Act.{Act}
+use Rattle.sip_reader.specs.declared.request.Act.TheVariants as acts
+use Rattle.sip_reader.specs.declared.request.Checkin.{Checkin}
+use Rattle.sip_reader.specs.declared.request.Checkout.{Checkout}
+use Rattle.sip_reader.specs.declared.request.FeePaid.{FeePaid}
+use Rattle.sip_reader.specs.declared.request.HoldRequest.{HoldRequest}
+use Rattle.sip_reader.specs.declared.request.ItemStatus.{ItemStatus}
+use Rattle.sip_reader.specs.declared.request.Reading.{Reading}
+use Rattle.sip_reader.specs.declared.request.Reading.TheVariants as readings
+use Rattle.sip_reader.specs.declared.request.RenewAll.{RenewAll}
+use Rattle.read_set.specs.Effects.{unwritten}
+use Rattle.read_set.specs.Holding.{held, hold_kept, hold_known, queue_after, refuses_hold}
+use Rattle.read_set.specs.ItemStatuses.{relabelled, updated}
+use Rattle.read_set.specs.Ids.{same}
+use Rattle.read_set.specs.Known.{borrower_in, item_in, patron_in}
+use Rattle.read_set.specs.Loans.{by_checkout, by_renew, checkout_known, lending, lending_by, lending_made, lending_verdict, refused, renew_known, renewal, renewal_by, renewal_made, renewal_verdict}
+use Rattle.read_set.specs.Maps.{Map}
+use Rattle.read_set.specs.Meaning.{effect, effect_of, one}
+use Rattle.read_set.specs.Patrons.{block_known, blocked_by}
+use Rattle.read_set.specs.Payments.{all_paid, fee_paid_known, payment, payment_answer}
+use Rattle.read_set.specs.Plans.{Planned, reading_at}
+use Rattle.read_set.specs.RenewAlls.{all_renewed, renew_all_known}
+use Rattle.read_set.specs.Replay.{after, one_at, one_by}
+use Rattle.read_set.specs.Returns.{checked_in, loan_of, returned}
+use Rattle.read_set.specs.declared.effect.Effect.{Effect}
+use Rattle.read_set.specs.declared.known.Article.{Article}
+use Rattle.read_set.specs.declared.known.Member.{Member}
+use Rattle.read_set.specs.declared.verdict.LoanRequest.{LoanRequest}
+use Rattle.read_set.specs.declared.verdict.Verdict.{Verdict}
+use Rattle.read_set.specs.declared.verdict.Verdict.TheVariants as verdicts
+use Rattle.result_report.specs.Report.{is_answered}
+use Rattle.replay_run.specs.Answers.{answers_of, first_answers}
+
+-- an effect has an answer
+abbrev Tells : Effect → Type 0
+Tells e = is_some e.answer ≡ true
+
+either : (b : Bool) (x y : Effect) → Tells x → Tells y → Tells (cond b x y)
+either true x y f g = f
+either false x y f g = g
+
+block-tells : (p : Terms) (blocks : Bool) (id date : List ℕ) (M : Map) (member : Option Member) → Tells (block_known p blocks id date M member)
+unfolding blocked_by
+block-tells p blocks id date M None = refl
+block-tells p blocks id date M (Some member) = refl
+
+returned-tells : (p : Terms) (n : ℕ) (q : Checkin) (date : List ℕ) (article : Article) (borrower : Option Member) (loan : Option Loan) → Tells (returned p n q date article borrower loan)
+returned-tells p n q date article borrower None = refl
+returned-tells p n q date article borrower (Some loan) = refl
+
+checkin-tells : (p : Terms) (n : ℕ) (q : Checkin) (date : List ℕ) (article : Option Article) (borrower : Option Member) → Tells (checked_in p n q date article borrower)
+unfolding checked_in
+checkin-tells p n q date None borrower = refl
+checkin-tells p n q date (Some article) borrower = returned-tells p n q date article borrower article.item.loan
+
+lending-tells : (p : Terms) (n : ℕ) (a : LoanRequest) (date : List ℕ) (M : Map) (member : Member) (article : Article) (v : Verdict) → Tells (lending_by p n a date M member article v)
+unfolding refused lending_made
+lending-tells p n a date M member article verdicts.Refused = refl
+lending-tells p n a date M member article verdicts.Unpaid = refl
+lending-tells p n a date M member article verdicts.Made = refl
+
+renewal-tells : (p : Terms) (n : ℕ) (a : LoanRequest) (date : List ℕ) (member : Member) (article : Article) (v : Verdict) → Tells (renewal_by p n a date member article v)
+unfolding refused renewal_made
+renewal-tells p n a date member article verdicts.Refused = refl
+renewal-tells p n a date member article verdicts.Unpaid = refl
+renewal-tells p n a date member article verdicts.Made = refl
+
+checkout-tells : (p : Terms) (n : ℕ) (q : Checkout) (date : List ℕ) (M : Map) (member : Option Member) (article : Option Article) → Tells (checkout_known p n q date M member article)
+unfolding refused
+checkout-tells p n q date M (Some member) (Some article) =
+    either _ (renewal p n (by_checkout q) date M member article) (lending p n (by_checkout q) date M member article)
+    (renewal-tells p n (by_checkout q) date member article (renewal_verdict M (by_checkout q) member article))
+    (lending-tells p n (by_checkout q) date M member article (lending_verdict M (by_checkout q) member article))
+checkout-tells p n q date M (Some member) None = refl
+checkout-tells p n q date M None article = refl
+
+renew-tells : (p : Terms) (n : ℕ) (a : LoanRequest) (date : List ℕ) (M : Map) (member : Option Member) (article : Option Article) → Tells (renew_known p n a date M member article)
+unfolding refused
+renew-tells p n a date M (Some member) (Some article) = renewal-tells p n a date member article (renewal_verdict M a member article)
+renew-tells p n a date M (Some member) None = refl
+renew-tells p n a date M None article = refl
+
+hold-known-tells : (p : Terms) (q : HoldRequest) (date : List ℕ) (blocked : Bool) (item : Item) → Tells (hold_known p q date blocked item)
+unfolding hold_kept
+hold-known-tells p q date blocked item = either (refuses_hold q.mode q.patron blocked item) _ (hold_kept p q date item (queue_after q item.holds q.mode)) refl refl
+
+hold-tells : (p : Terms) (q : HoldRequest) (date : List ℕ) (member : Option Member) (article : Option Article) → Tells (held p q date member article)
+unfolding held
+hold-tells p q date (Some member) (Some article) = hold-known-tells p q date member.patron.blocked article.item
+hold-tells p q date (Some member) None = refl
+hold-tells p q date None article = refl
+
+relabelled-tells : (q : ItemStatus) (date : List ℕ) (item : Item) (given : Option (List ℕ)) → Tells (relabelled q date item given)
+relabelled-tells q date item None = refl
+relabelled-tells q date item (Some given) = refl
+
+item-status-tells : (q : ItemStatus) (date : List ℕ) (article : Option Article) → Tells (updated q date article)
+unfolding updated
+item-status-tells q date None = refl
+item-status-tells q date (Some article) = relabelled-tells q date article.item q.properties
+
+fee-paid-tells : (p : Terms) (q : FeePaid) (date : List ℕ) (M : Map) (member : Option Member) → Tells (fee_paid_known p q date M member)
+unfolding all_paid
+fee-paid-tells p q date M None = refl
+fee-paid-tells p q date M (Some member) =
+    let refusal = unwritten (Some (payment_answer p q date false)) in
+    let paid = payment p q date M member.patron in
+    either (not (same q.currency p.currency)) refusal (cond (q.amount == 0) refusal paid) refl (either (q.amount == 0) refusal paid refl refl)
+
+renew-all-tells : (p : Terms) (n : ℕ) (q : RenewAll) (date : List ℕ) (M : Map) (member : Option Member) → Tells (renew_all_known p n q date M member)
+unfolding all_renewed
+renew-all-tells p n q date M None = refl
+renew-all-tells p n q date M (Some member) = refl
+
+act-tells : (p : Terms) (n : ℕ) (date : List ℕ) (act : Act) (M : Map) → Tells (effect_of p n date act M)
+unfolding effect_of
+act-tells p n date (acts.BlockPatron q) M = block-tells p true q.patron date M (patron_in p M q.patron)
+act-tells p n date (acts.Checkin q) M = checkin-tells p n q date (item_in p M q.item) (borrower_in p M (loan_of (item_in p M q.item)))
+act-tells p n date (acts.Checkout q) M = checkout-tells p n q date M (patron_in p M q.patron) (item_in p M q.item)
+act-tells p n date (acts.Hold q) M = hold-tells p q date (patron_in p M q.patron) (item_in p M q.item)
+act-tells p n date (acts.ItemStatus q) M = item-status-tells q date (item_in p M q.item)
+act-tells p n date (acts.PatronEnable q) M = block-tells p false q.patron date M (patron_in p M q.patron)
+act-tells p n date (acts.Renew q) M = renew-tells p n (by_renew q) date M (patron_in p M q.patron) (item_in p M q.item)
+act-tells p n date (acts.FeePaid q) M = fee-paid-tells p q date M (patron_in p M q.patron)
+act-tells p n date (acts.RenewAll q) M = renew-all-tells p n q date M (patron_in p M q.patron)
+
+-- a line has an answer just where its reading is answered
+line-tells : (p : Terms) (n : ℕ) (r : Reading) (M : Map) → is_some (one p n r M).1 ≡ is_answered r
+unfolding effect
+line-tells p n (readings.Asked q) M = act-tells p n q.date q.act M
+line-tells p n (readings.Passed why) M = refl
+line-tells p n readings.BadSum M = refl
+line-tells p n (readings.Unread why) M = refl
+
+taken-next : {X : Type 0} (xs : List X) (n : ℕ) (x : X) → slice_get xs n ≡ Some x → take (suc n) xs ≡ take n xs ++ x ∷ []
+taken-next [] n x e = cc e
+taken-next (y ∷ xs) zero x e = let same : y ≡ x = cc e in rw same refl
+taken-next (y ∷ xs) (suc n) x e = ap (λ (rest : List _). y ∷ rest) (taken-next xs n x e)
+
+there : {X : Type 0} (xs : List X) (n : ℕ) → n < length xs → (x : X) × (slice_get xs n ≡ Some x)
+there [] n lt = absurd (omega arith)
+there (x ∷ xs) zero lt = (x, refl)
+there (x ∷ xs) (suc n) lt = there xs n (omega arith)
+
+-- what a line of the plan is read as
+read-at : (plan : Planned) (n : ℕ) → reading_at plan (plan.first + n) ≡ slice_get plan.readings n
+read-at plan n =
+    let below : nat_lt (plan.first + n) plan.first ≡ false = le-ltb (plan.first + n) plan.first (omega arith) in
+    let at : plan.first + n - plan.first ≡ n = omega arith in
+    ap (λ b. cond b None (slice_get plan.readings (plan.first + n - plan.first))) below ∙ ap (slice_get plan.readings) at
+
+answered-next : (plan : Planned) (n : ℕ) → n < length plan.readings → map is_some (first_answers plan n) ≡ map is_answered (take n plan.readings)
+    → map is_some (first_answers plan (suc n)) ≡ map is_answered (take (suc n) plan.readings)
+answered-next plan n lt so =
+    let r = there plan.readings n lt in
+    let at : reading_at plan (plan.first + n) ≡ Some r.0 = read-at plan n ∙ r.1 in
+    map-append is_some (first_answers plan n) ((one_at plan (plan.first + n) (after plan n)).1 ∷ [])
+    ∙ ap (λ (given : List Bool). given ++ is_some (one_at plan (plan.first + n) (after plan n)).1 ∷ []) so
+    ∙ ap (λ b. map is_answered (take n plan.readings) ++ b ∷ []) (ap (λ found. is_some (one_by plan (plan.first + n) found (after plan n)).1) at ∙ line-tells plan.policy (plan.first + n) r.0 (after plan n))
+    ∙ sym (map-append is_answered (take n plan.readings) (r.0 ∷ []))
+    ∙ ap (map is_answered) (sym (taken-next plan.readings n r.0 r.1))
+
+answered-first : (plan : Planned) (n : ℕ) → n ≤ length plan.readings → map is_some (first_answers plan n) ≡ map is_answered (take n plan.readings)
+answered-first plan zero le = refl
+answered-first plan (suc n) le = answered-next plan n (omega arith) (answered-first plan n (omega arith))
+
+-- of the replay by one thread each line has an answer, none just where it is passed over or can't be read
+pub answered : (plan : Planned) → map is_some (answers_of plan) ≡ map is_answered plan.readings
+answered plan = answered-first plan (length plan.readings) (omega arith) ∙ ap (map is_answered) (take_all (length plan.readings) plan.readings (omega arith))

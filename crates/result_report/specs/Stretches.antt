@@ -1,0 +1,19 @@
+-- Lines that are told in parts, one stretch after the other.
+use Rattle.std.specs.Prelude.{◌≡◌, ◌≤◌, ◌-◌, ◌*◌, ℕ, List, Some, drop, length, slice_get, take}
+use Rattle.result_report.specs.Report.{Told}
+use Rattle.result_report.specs.Tables.{AreTexts}
+use Rattle.result_report.specs.declared.texts.TheConstants.{STRETCH}
+use Rattle.result_report.specs.declared.texts.Texts.{Texts}
+
+-- from one place on up to another
+abbrev pub between : {X : Type 0} → ℕ → ℕ → List X → List X
+between from to lines = take (to - from) (drop from lines)
+
+-- the k-th stretch, from 0
+abbrev pub stretch : {X : Type 0} → ℕ → List X → List X
+stretch k lines = take STRETCH (drop (k * STRETCH) lines)
+
+-- the result tables of each stretch of these lines, and of no line beside them
+pub record AreParts (lines : List Told) (parts : List Texts) : Type 0 where
+  pub each : (k : ℕ) (t : Texts) → slice_get parts k ≡ Some t → AreTexts (stretch k lines) t
+  pub all : length lines ≤ length parts * STRETCH

@@ -1,0 +1,181 @@
+//! The end of a run, and what is collected from it.
+
+ghost use Rattle.std.specs.Prelude.{◌≡◌, ◌≤◌, ◌<◌, ◌+◌, ◌++◌, ◌∷◌, ◌^◌, [], ℕ, List, Option, IfOk, OnOk, length, map, option_copied, option_map, slice_get};
+ghost use Rattle.std.specs.List.{range_with_len};
+ghost use Rattle.circ_records.specs.declared.key.Key.{Key};
+ghost use Rattle.circ_records.specs.declared.record.Record.{Record};
+ghost use Rattle.read_set.specs.Plans.{Planned};
+ghost use Rattle.sip_answer.specs.declared.answer.Answer.{Answer};
+ghost use Rattle.result_report.specs.Ends.{AreRecordsAt, HasAt, keys_named, lines_keys, named_keys, numbers_of};
+ghost use Rattle.result_report.specs.Report.{lent};
+
+use crate::outcome::Outcome;
+use circ_records::{Key, Record, Records};
+use read_set::Plan;
+use sip_answer::Answer;
+use std::alloc::{AllocError, Global};
+use std::collections::BTreeMap;
+
+/// The end of a run over a plan: what it lends of each line, by the line's number, and of the records after the last.
+pub trait End {
+    /// The plan of the run.
+    ghost planned: { Self → Planned };
+
+    /// The answer of each line, where it has one.
+    ghost answered: { Self → ℕ → Option Answer };
+
+    /// The attempt whose answer that is.
+    ghost attempted: { Self → ℕ → ℕ };
+
+    /// The keys of the records that each line wrote, each with the attempt that wrote it.
+    ghost entered: { Self → ℕ → List (Key × ℕ) };
+
+    /// The record at each key after the last line.
+    ghost left: { Self → Key → Option Record };
+
+    /// The plan of the run.
+    fn plan(&self) -> &Plan
+        ensures { result.now ≡ planned self.now };
+
+    /// The answer of a line.
+    fn answer(&self, line: u64) -> Option<&Answer>
+        ensures { option_copied result ≡ answered self.now line };
+
+    /// The number of the attempt whose answer that is, from 0.
+    fn attempt(&self, line: u64) -> u32
+        ensures { result ≡ attempted self.now line };
+
+    /// The i-th key, from 0, of the records that a line wrote, with the attempt that wrote it; none past the last.
+    fn keys_of(&self, line: u64, i: usize) -> Option<(&Key, u32)>
+        ensures value { option_map (λ e. (e.0.now, e.1)) result ≡ slice_get (entered self.now line) i }
+        ensures few { length (entered self.now line) < 2 ^ 64 };
+
+    /// The record at a key after the last line.
+    fn final_of(&self, key: &Key) -> Option<&Record>
+        ensures { option_copied result ≡ left self.now key.now };
+}
+
+/// What a run comes to, exactly as its end lends it: each line's answer and attempt, and the records at the keys of the
+/// plan and of what the lines wrote.
+pub fn collect<'e, E: End>(alloc: Global, end: &'e E) -> Result<Outcome<'e>, AllocError>
+    ensures answers { IfOk result (λ o. lent o.answers.items ≡ map (E.answered end.now) (numbers_of (E.planned end.now))) }
+    ensures attempts { IfOk result (λ o. o.attempts.items ≡ map (E.attempted end.now) (numbers_of (E.planned end.now))) }
+    ensures records { IfOk result (λ o. AreRecordsAt (named_keys (E.planned end.now) (E.entered end.now)) (E.left end.now) o.records) }
+{
+    let first = end.plan().first();
+    let count = end.plan().readings().len();
+    let mut records = BTreeMap::new(alloc);
+    take_base(alloc, end, &mut records)?;
+    take_lines(alloc, end, first, count, &mut records)?;
+    Ok(Outcome {
+        records: Records::from_map(records),
+        answers: collect_answers(alloc, end, first, count)?,
+        attempts: collect_attempts(alloc, end, first, count)?,
+    })
+}
+
+fn collect_answers<'e, E: End>(
+    alloc: Global,
+    end: &'e E,
+    first: u64,
+    count: usize,
+) -> Result<Vec<Option<&'e Answer>>, AllocError>
+    requires { first + count ≤ 2 ^ 64 }
+    ensures { IfOk result (λ v. lent v.items ≡ map (E.answered end.now) (range_with_len first count)) }
+{
+    let mut answers = Vec::with_capacity(alloc, count)?;
+    for i in 0..count {
+        answers.push(end.answer(first + i as u64))?;
+    }
+    Ok(answers)
+}
+
+fn collect_attempts<E: End>(
+    alloc: Global,
+    end: &E,
+    first: u64,
+    count: usize,
+) -> Result<Vec<u32>, AllocError>
+    requires { first + count ≤ 2 ^ 64 }
+    ensures { IfOk result (λ v. v.items ≡ map (E.attempted end.now) (range_with_len first count)) }
+{
+    let mut attempts = Vec::with_capacity(alloc, count)?;
+    for i in 0..count {
+        attempts.push(end.attempt(first + i as u64))?;
+    }
+    Ok(attempts)
+}
+
+/// Takes the records at the keys of the plan.
+fn take_base<E: End>(
+    alloc: Global,
+    end: &E,
+    records: &mut BTreeMap<Key, Record>,
+) -> Result<(), AllocError>
+    ensures { OnOk result (HasAt [] (E.left end.now) records.old.entries
+        → HasAt (map (λ e. e.0) (E.planned end.now).base) (E.left end.now) records.new.entries) }
+{
+    for key in end.plan().keys() {
+        take_record(alloc, end, key, records)?;
+    }
+    Ok(())
+}
+
+/// Takes the records at the keys of what the lines wrote.
+fn take_lines<E: End>(
+    alloc: Global,
+    end: &E,
+    first: u64,
+    count: usize,
+    records: &mut BTreeMap<Key, Record>,
+) -> Result<(), AllocError>
+    requires { first + count ≤ 2 ^ 64 }
+    ensures { OnOk result ((keys : List Key) → HasAt keys (E.left end.now) records.old.entries
+        → HasAt (keys ++ lines_keys (E.entered end.now) (range_with_len first count)) (E.left end.now) records.new.entries) }
+{
+    for i in 0..count {
+        take_entries(alloc, end, first + i as u64, records)?;
+    }
+    Ok(())
+}
+
+/// Takes the records at the keys of what one line wrote.
+fn take_entries<E: End>(
+    alloc: Global,
+    end: &E,
+    line: u64,
+    records: &mut BTreeMap<Key, Record>,
+) -> Result<(), AllocError>
+    ensures { OnOk result ((keys : List Key) → HasAt keys (E.left end.now) records.old.entries
+        → HasAt (keys ++ keys_named (E.entered end.now line)) (E.left end.now) records.new.entries) }
+{
+    let mut i = 0;
+    while let Some(entry) = end.keys_of(line, i) {
+        take_record(alloc, end, entry.0, records)?;
+        i += 1;
+    }
+    Ok(())
+}
+
+/// Takes the record at a key, which is copied once, however often the key is named.
+fn take_record<E: End>(
+    alloc: Global,
+    end: &E,
+    key: &Key,
+    records: &mut BTreeMap<Key, Record>,
+) -> Result<(), AllocError>
+    ensures { OnOk result ((keys : List Key) → HasAt keys (E.left end.now) records.old.entries
+        → HasAt (keys ++ key.now ∷ []) (E.left end.now) records.new.entries) }
+{
+    if records.contains_key(key) {
+        return Ok(());
+    }
+    match end.final_of(key) {
+        Some(found) => {
+            let found = found.copy(alloc)?;
+            records.insert(*key, found)?;
+            Ok(())
+        }
+        None => Ok(()),
+    }
+}

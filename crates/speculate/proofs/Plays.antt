@@ -1,0 +1,181 @@
+-- Steps of workers, one after another.
+use Rattle.std.proofs.Common.{◌≡◌, ◌≢◌, ℕ, suc, List, [], ◌∷◌, ◌++◌, Option, Some, None, Result, Ok, Err, OnOk, IfErr, option_map, refl, sym, ap, subst, ◌∙◌, ◌⊎◌, inl, inr}
+use Rattle.std.proofs.lemmas.Option.{none-some}
+use Rattle.circ_records.specs.declared.key.Key.{Key}
+use Rattle.read_set.specs.Plans.{Planned}
+use Rattle.read_set.specs.Needs.{IsNeed}
+use Rattle.read_set.specs.Settling.{Told}
+use Rattle.read_set.specs.declared.notes.Note.{Note}
+use Rattle.read_set.specs.declared.version.Need.{Need}
+use Rattle.read_set.specs.declared.version.Need.TheVariants as needs
+use Rattle.board_steps.specs.Board.{Board, row_at, holder}
+use Rattle.board_steps.specs.Board.State.{Placing}
+use Rattle.board_steps.specs.Reached.{Reached}
+use Rattle.board_steps.specs.Steps.{Call, IsVersion, Reply, Step}
+use Rattle.board_steps.specs.Steps.Call.{Take as TheTake, Look as TheLook, Publish as ThePublish, Check as TheCheck, Commit as TheCommit}
+use Rattle.board_steps.specs.Steps.Reply.{Idle, Taken, Seen, Stopped, Stranger, Placed, Lifted, Whole, Same, Changed, Commits, Later, Attempts, ClockSpent}
+use Rattle.speculate.specs.Ending.{ended_by}
+use Rattle.speculate.specs.Hands.{HasNoLine, notes_of}
+use Rattle.speculate.specs.Needed.{IsNext, IsToPublish, SettlesIfDone, needed_key, needed_version}
+use Rattle.speculate.specs.Notes.{found_by, told_at}
+use Rattle.speculate.specs.Playing.{Goes, HasLast, HasVersion, InHand, IsRefused, Plays, ToPublish, Wants, refusal}
+use Rattle.speculate.specs.Replies.{Answers, Grows}
+use Rattle.speculate.specs.declared.reply.Reply.{Reply as CodeReply}
+use Rattle.speculate.specs.declared.reply.Reply.TheVariants as replies
+use Rattle.speculate.specs.declared.steps.BoardFault.{BoardFault}
+use Rattle.speculate.specs.declared.steps.BoardFault.TheVariants as faults
+use Rattle.speculate.specs.declared.steps.Step.{Step as WorkerStep}
+use Rattle.speculate.specs.declared.steps.Step.TheVariants as steps
+
+-- a step more at the end
+pub plays_more : (plan : Planned) (old mid new : Board) (done : List WorkerStep) (step : WorkerStep) → Plays plan old done mid → Goes plan mid step new → Plays plan old (done ++ step ∷ []) new
+plays_more plan old mid new [] step plays goes = (new, subst (λ b. Goes plan b step new) plays goes, refl)
+plays_more plan old mid new (first ∷ done) step plays goes = (plays.0, plays.1, plays_more plan plays.0 mid new done step plays.2 goes)
+
+-- where a call is refused
+abbrev pub CallRefused : Planned → Board → Call → BoardFault → Type 0
+CallRefused plan b call (faults.Attempts n) = Step plan b call (Attempts n) b
+CallRefused plan b call faults.ClockSpent = Step plan b call ClockSpent b
+CallRefused plan b call faults.Memory = Grows call
+
+abbrev pub CallEnds : Planned → Board → Call → Result (Unit {0}) BoardFault → Board → Type 0
+CallEnds plan old call (Ok u) new = (reply : Reply) × Step plan old call reply new × (refusal reply ≡ None)
+CallEnds plan old call (Err fault) new = CallRefused plan old call fault × (new ≡ old)
+
+attempts_same : (plan : Planned) (old new : Board) (call : Call) (n : ℕ) → Step plan old call (Attempts n) new → new ≡ old
+attempts_same plan old new (TheTake w m) n h = h.3
+attempts_same plan old new (TheLook w k) n h = absurd h
+attempts_same plan old new (ThePublish w v) n h = absurd h
+attempts_same plan old new (TheCheck w m) n h = absurd h
+attempts_same plan old new (TheCommit m) n h = absurd h
+
+spent_same : (plan : Planned) (old new : Board) (call : Call) → Step plan old call ClockSpent new → new ≡ old
+spent_same plan old new (TheTake w m) h = absurd h
+spent_same plan old new (TheLook w k) h = absurd h
+spent_same plan old new (ThePublish w v) h = h.6
+spent_same plan old new (TheCheck w m) h = h.8
+spent_same plan old new (TheCommit m) h = absurd h
+
+-- a call of the board, by its reply
+pub call_ends : {J : Type 0} (plan : Planned) (old new : Board) (call : Call) (reply : CodeReply J) → Answers plan old call reply new → CallEnds plan old call (ended_by reply) new
+call_ends plan old new call replies.Idle h = (Idle, h, refl)
+call_ends plan old new call (replies.Taken attempt) h = (Taken attempt, h, refl)
+call_ends plan old new (TheLook w k) (replies.Seen name place) h = (Seen name (found_by plan.base k (option_map told_at place)), h, refl)
+call_ends plan old new (TheTake w n) (replies.Seen name place) h = absurd h
+call_ends plan old new (ThePublish w v) (replies.Seen name place) h = absurd h
+call_ends plan old new (TheCheck w n) (replies.Seen name place) h = absurd h
+call_ends plan old new (TheCommit n) (replies.Seen name place) h = absurd h
+call_ends plan old new call (replies.Suspect line) h = (Stopped line, h, refl)
+call_ends plan old new call replies.Stranger h = (Stranger, h, refl)
+call_ends plan old new call replies.Placed h = (Placed, h, refl)
+call_ends plan old new call replies.Lifted h = (Lifted, h, refl)
+call_ends plan old new call replies.Whole h = (Whole, h, refl)
+call_ends plan old new call replies.Same h = (Same, h, refl)
+call_ends plan old new call (replies.Changed key noted found) h = (Changed key noted found, h, refl)
+call_ends plan old new call replies.Committed h = (Commits, h, refl)
+call_ends plan old new call replies.Later h = (Later, h, refl)
+call_ends plan old new call (replies.Attempts line) h =
+    let same = attempts_same plan old new call line h in (subst (λ b. Step plan old call (Attempts line) b) same h, same)
+call_ends plan old new call replies.ClockSpent h =
+    let same = spent_same plan old new call h in (subst (λ b. Step plan old call ClockSpent b) same h, same)
+call_ends plan old new call replies.Memory h = (h.0, h.1)
+
+-- how a worker's step ends
+abbrev pub StepEnds : Planned → Board → WorkerStep → Result (Unit {0}) BoardFault → Board → Type 0
+StepEnds plan old step (Ok u) new = Goes plan old step new
+StepEnds plan old step (Err fault) new = IsRefused plan old step fault new
+
+pub take_ends : (plan : Planned) (old new : Board) (w n : ℕ) (r : Result (Unit {0}) BoardFault) → CallEnds plan old (TheTake w n) r new → StepEnds plan old (steps.Take w n) r new
+take_ends plan old new w n (Ok u) h = h
+take_ends plan old new w n (Err (faults.Attempts m)) h = h
+take_ends plan old new w n (Err faults.ClockSpent) h = h
+take_ends plan old new w n (Err faults.Memory) h = h
+
+pub check_ends : (plan : Planned) (old new : Board) (w n : ℕ) (r : Result (Unit {0}) BoardFault) → CallEnds plan old (TheCheck w n) r new → StepEnds plan old (steps.Check w n) r new
+check_ends plan old new w n (Ok u) h = h
+check_ends plan old new w n (Err (faults.Attempts m)) h = h
+check_ends plan old new w n (Err faults.ClockSpent) h = h
+check_ends plan old new w n (Err faults.Memory) h = h
+
+pub commit_ends : (plan : Planned) (old new : Board) (n : ℕ) (r : Result (Unit {0}) BoardFault) → CallEnds plan old (TheCommit n) r new → StepEnds plan old (steps.Commit n) r new
+commit_ends plan old new n (Ok u) h = h
+commit_ends plan old new n (Err (faults.Attempts m)) h = h
+commit_ends plan old new n (Err faults.ClockSpent) h = h
+commit_ends plan old new n (Err faults.Memory) h = h
+
+-- a look at a key that is wanted
+pub look_ends : (plan : Planned) (old new : Board) (w : ℕ) (k : Key) (r : Result (Unit {0}) BoardFault) → Wants plan old w k → CallEnds plan old (TheLook w k) r new → StepEnds plan old (steps.Look w) r new
+look_ends plan old new w k (Ok u) wants h = (h.0, inl (k, wants, h.1), h.2)
+look_ends plan old new w k (Err (faults.Attempts m)) wants h = (inl (k, wants, h.0), h.1)
+look_ends plan old new w k (Err faults.ClockSpent) wants h = (inl (k, wants, h.0), h.1)
+look_ends plan old new w k (Err faults.Memory) wants h = (tt, h.1)
+
+pub look_idle : (plan : Planned) (old : Board) (w : ℕ) → HasNoLine old w ⊎ ((v : Told) × HasVersion plan old w v) → Goes plan old (steps.Look w) old
+look_idle plan old w why = (Idle, inr (why, refl, refl), refl)
+
+-- an act of publication of a version that settles
+pub publish_ends : (plan : Planned) (old new : Board) (w : ℕ) (v : Told) (r : Result (Unit {0}) BoardFault) → ToPublish plan old w v → IsVersion plan v → CallEnds plan old (ThePublish w v) r new → StepEnds plan old (steps.Publish w) r new
+publish_ends plan old new w v (Ok u) ready settles h = (h.0, inl (v, ready, settles, h.1), h.2)
+publish_ends plan old new w v (Err (faults.Attempts m)) ready settles h = (inl (v, ready, settles, h.0), h.1)
+publish_ends plan old new w v (Err faults.ClockSpent) ready settles h = (inl (v, ready, settles, h.0), h.1)
+publish_ends plan old new w v (Err faults.Memory) ready settles h = (tt, h.1)
+
+pub publish_idle : (plan : Planned) (old : Board) (w : ℕ) → HasNoLine old w ⊎ ((k : Key) × Wants plan old w k) → Goes plan old (steps.Publish w) old
+publish_idle plan old w why = (Idle, inr (why, refl, refl), refl)
+
+-- a call whose reply was judged
+pub call_judged : {J : Type 0} (plan : Planned) (old new : Board) (call : Call) (reply : CodeReply J) (r : Result (Unit {0}) BoardFault) → Answers plan old call reply new → r ≡ ended_by reply → CallEnds plan old call r new
+call_judged plan old new call reply r h e = subst (λ x. CallEnds plan old call x new) (sym e) (call_ends plan old new call reply h)
+
+pub ends_well : (plan : Planned) (old new : Board) (step : WorkerStep) (r : Result (Unit {0}) BoardFault) → StepEnds plan old step r new → OnOk r (Goes plan old step new)
+ends_well plan old new step (Ok u) h = h
+ends_well plan old new step (Err fault) h = tt
+
+pub ends_refused : (plan : Planned) (old new : Board) (step : WorkerStep) (r : Result (Unit {0}) BoardFault) → StepEnds plan old step r new → IfErr r (λ fault. IsRefused plan old step fault new)
+ends_refused plan old new step (Ok u) h = tt
+ends_refused plan old new step (Err fault) h = h
+
+-- both clauses
+pub ends : (plan : Planned) (old new : Board) (step : WorkerStep) (r : Result (Unit {0}) BoardFault) → StepEnds plan old step r new
+    → record { goes : OnOk r (Goes plan old step new); refused : IfErr r (λ fault. IsRefused plan old step fault new) }
+ends plan old new step r h = record { goes = ends_well plan old new step r h; refused = ends_refused plan old new step r h }
+
+-- the hand, its line's notes, and what it needs
+pub in_hand : (plan : Planned) (b : Board) (w n a : ℕ) (notes : List Note) → Reached plan b → holder (row_at b n).state ≡ Some w → suc a ≡ (row_at b n).next
+    → (m : ℕ) × (holder (row_at b m).state ≡ Some w) × (notes_of (row_at b m).state ≡ notes) → InHand b w n a notes
+in_hand plan b w n a notes reached held next (m, holds, noted) =
+    let same : m ≡ n = reached.hands m n w holds held in
+    record { held = held; attempt = next; noted = subst (λ x. notes_of (row_at b x).state ≡ notes) same noted }
+
+pub next_is : {J : Type 0} (plan : Planned) (b : Board) (w n a : ℕ) (notes : List Note) (next : Need J) → InHand b w n a notes → IsNeed plan n a notes next → SettlesIfDone plan next → IsNext plan b w (Some next)
+next_is plan b w n a notes (needs.Key k) hand need settles = (n, a, notes, hand, need)
+next_is plan b w n a notes (needs.Done v) hand need settles = (n, a, notes, hand, need.0, need.1, need.2, settles)
+
+pub look_rests : {J : Type 0} (plan : Planned) (b : Board) (w : ℕ) (next : Option (Need J)) → IsNext plan b w next → None ≡ needed_key next → Goes plan b (steps.Look w) b
+look_rests plan b w None is e = look_idle plan b w (inl is)
+look_rests plan b w (Some (needs.Key k)) is e = absurd (cc)
+look_rests plan b w (Some (needs.Done v)) is e = look_idle plan b w (inr (v, is))
+
+pub look_wants : {J : Type 0} (plan : Planned) (b : Board) (w : ℕ) (next : Option (Need J)) (k : Key) → IsNext plan b w next → Some k ≡ needed_key next → Wants plan b w k
+look_wants plan b w None k is e = absurd (cc)
+look_wants plan b w (Some (needs.Key q)) k is e = let same : q ≡ k = cc in subst (λ x. Wants plan b w x) same is
+look_wants plan b w (Some (needs.Done v)) k is e = absurd (cc)
+
+pub none_to_publish : {J : Type 0} (plan : Planned) (b : Board) (w : ℕ) (next : Option (Need J)) → IsNext plan b w next → None ≡ needed_version next → HasNoLine b w ⊎ ((k : Key) × Wants plan b w k)
+none_to_publish plan b w None is e = inl is
+none_to_publish plan b w (Some (needs.Key k)) is e = inr (k, is)
+none_to_publish plan b w (Some (needs.Done v)) is e = absurd (cc)
+
+-- no line is being published by the worker
+none_placing : (b : Board) (w : ℕ) → ((n : ℕ) (notes : List Note) (last : Option Told) → (row_at b n).state ≢ Placing w notes last) → (u : Told) → HasLast b w u → ⊥
+none_placing b w not u (n, notes, is) = not n notes (Some u) is
+
+one_to_publish : {J : Type 0} (plan : Planned) (b : Board) (w : ℕ) (next : Option (Need J)) (v : Told) → IsNext plan b w next → Some v ≡ needed_version next → HasVersion plan b w v
+one_to_publish plan b w None v is e = absurd (cc)
+one_to_publish plan b w (Some (needs.Key q)) v is e = absurd (cc)
+one_to_publish plan b w (Some (needs.Done u)) v is e = let same : u ≡ v = cc in subst (λ x. HasVersion plan b w x) same is
+
+pub new_to_publish : {J : Type 0} (plan : Planned) (b : Board) (w : ℕ) (next : Option (Need J)) (v u : Told) → ((n : ℕ) (notes : List Note) (last : Option Told) → (row_at b n).state ≢ Placing w notes last) → IsNext plan b w next → Some v ≡ needed_version next → u ≡ v → IsToPublish plan b w (Some u)
+new_to_publish plan b w next v u none is e same =
+    let has = one_to_publish plan b w next v is e in
+    subst (λ x. IsToPublish plan b w (Some x)) (sym same) (inr (none_placing b w none, has), has.7)

@@ -1,0 +1,15 @@
+use Rattle.std.proofs.Common.{◌≡◌, ◌∙◌, ap, sym, subst, length}
+use Rattle.read_set.specs.Plans.{Planned}
+use Rattle.board_steps.specs.Board.{Board}
+use Rattle.board_steps.specs.Steps.{opening}
+use Rattle.speculate.specs.declared.ready.Ready.{Ready}
+use Rattle.speculate.specs.Marks.{IsReady}
+use Rattle.speculate.proofs.Readying.{opening_ready}
+use Rattle.speculate.proofs.board.Board.starting.Goals as goal
+
+pub invariant_of-result : goal.invariant_of-result
+invariant_of-result g c =
+    let start : Board = opening g.J.PlanName.plan c.args.workers c.args.attempt c.args.clock in
+    subst (λ (b : Board). IsReady b c.in_ok-new-2.field-0) (sym c.in_ok-new.ensures)
+    (subst (λ (r : Ready). IsReady start r) (sym c.in_ok-new-2.ensures)
+    (opening_ready g.J.PlanName.plan c.args.workers c.args.attempt c.args.clock c.lines_of.result (c.lines_of.ensures.lines ∙ ap (λ (x : Planned). length x.readings) c.requires.named) c.lines_of.ensures.few))

@@ -1,0 +1,12 @@
+-- Which replies stop what a worker does.
+use Rattle.std.specs.Prelude.{Result, Ok, Err}
+use Rattle.speculate.specs.declared.reply.Reply.{Reply}
+use Rattle.speculate.specs.declared.reply.Reply.TheVariants as replies
+use Rattle.speculate.specs.declared.steps.BoardFault.{BoardFault}
+use Rattle.speculate.specs.declared.steps.BoardFault.TheVariants as faults
+
+abbrev pub ended_by : {J : Type 0} → Reply J → Result (Unit {0}) BoardFault
+ended_by (replies.Attempts line) = Err (faults.Attempts line)
+ended_by replies.ClockSpent = Err faults.ClockSpent
+ended_by replies.Memory = Err faults.Memory
+ended_by _ = Ok tt

@@ -1,0 +1,11 @@
+pub mod Acts
+pub mod Choices
+pub mod Ending
+pub mod Hands
+pub mod Marks
+pub mod Needed
+pub mod Notes
+pub mod Parts
+pub mod Playing
+pub mod Replies
+pub mod Sights

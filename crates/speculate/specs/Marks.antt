@@ -1,0 +1,151 @@
+-- Which lines wait, which need a check, and whose stamp counts: four sets of places, and what they say of a board (the board:
+-- the choice of a free worker).
+use Rattle.std.specs.Prelude.{◌≡◌, ◌≢◌, ℕ, ◌-◌, ◌<◌, ◌≤◌, ◌⊎◌, Bool, true, false, ◌||◌, List, length, replicate, slice_index_or, Option, Some, None}
+use Rattle.sip_answer.specs.declared.answer.Answer.{Answer}
+use Rattle.read_set.specs.declared.notes.Note.{Note}
+use Rattle.board_steps.specs.Board.{State, Row, Board, IsLine, row_at}
+use Rattle.board_steps.specs.Board.State.{Waiting, Running, Placing, Done, Checking, Committed}
+use Rattle.speculate.specs.declared.ready.Mark.{Mark}
+use Rattle.speculate.specs.declared.ready.Mark.TheVariants as marks
+use Rattle.speculate.specs.declared.ready.Ready.{Ready}
+
+abbrev pub waits : Mark → Bool
+waits marks.Nowhere = false
+waits marks.Waiting = true
+waits marks.Unchecked = false
+waits marks.Checked = false
+waits marks.Checking = false
+
+abbrev pub is_unchecked : Mark → Bool
+is_unchecked marks.Nowhere = false
+is_unchecked marks.Waiting = false
+is_unchecked marks.Unchecked = true
+is_unchecked marks.Checked = false
+is_unchecked marks.Checking = false
+
+abbrev pub is_checked : Mark → Bool
+is_checked marks.Nowhere = false
+is_checked marks.Waiting = false
+is_checked marks.Unchecked = false
+is_checked marks.Checked = true
+is_checked marks.Checking = false
+
+abbrev pub is_in_check : Mark → Bool
+is_in_check marks.Nowhere = false
+is_in_check marks.Waiting = false
+is_in_check marks.Unchecked = false
+is_in_check marks.Checked = false
+is_in_check marks.Checking = true
+
+-- whether a place is in a set
+abbrev pub has_place : List Bool → ℕ → Bool
+has_place flags place = slice_index_or flags place false
+
+-- a place is in the set of its mark and in no other
+pub record IsMarked (ready : Ready) (place : ℕ) (mark : Mark) : Type 0 where
+  pub in_waiting : has_place ready.waiting place ≡ waits mark
+  pub in_unchecked : has_place ready.unchecked place ≡ is_unchecked mark
+  pub in_checked : has_place ready.checked place ≡ is_checked mark
+  pub in_checking : has_place ready.checking place ≡ is_in_check mark
+
+-- each set is over so many places
+pub record HasPlaces (len : ℕ) (ready : Ready) : Type 0 where
+  pub of_waiting : length ready.waiting ≡ len
+  pub of_unchecked : length ready.unchecked ≡ len
+  pub of_checked : length ready.checked ≡ len
+  pub of_checking : length ready.checking ≡ len
+
+-- the sets are over as many places as before
+pub record AreAsLong (old new : Ready) : Type 0 where
+  pub as_waiting : length new.waiting ≡ length old.waiting
+  pub as_unchecked : length new.unchecked ≡ length old.unchecked
+  pub as_checked : length new.checked ≡ length old.checked
+  pub as_checking : length new.checking ≡ length old.checking
+
+-- the place is one of each set
+pub record IsPlace (ready : Ready) (place : ℕ) : Type 0 where
+  pub of_waiting : place < length ready.waiting
+  pub of_unchecked : place < length ready.unchecked
+  pub of_checked : place < length ready.checked
+  pub of_checking : place < length ready.checking
+  pub as_many : length ready.checked ≡ length ready.unchecked
+  pub few : place < 1000000
+
+-- no line below has changed since a stamp
+abbrev pub IsStill : (ℕ → Row) → ℕ → ℕ → Type 0
+IsStill rows n t = (m : ℕ) → m < n → (rows m).changed ≤ t
+
+-- some line below has
+abbrev pub HasTurned : (ℕ → Row) → ℕ → ℕ → Type 0
+HasTurned rows n t = (m : ℕ) × (m < n) × (t < (rows m).changed)
+
+-- The mark of a line by its state: a line that is done is checked while its stamp counts, else unchecked; one that is being
+-- checked has its mark while the stamp of the check counts.
+abbrev pub Fits : (ℕ → Row) → ℕ → State → Mark → Type 0
+Fits rows n Waiting mark = mark ≡ marks.Waiting
+Fits rows n (Running worker notes) mark = mark ≡ marks.Nowhere
+Fits rows n (Placing worker notes last) mark = mark ≡ marks.Nowhere
+Fits rows n (Done notes answer None) mark = mark ≡ marks.Unchecked
+Fits rows n (Done notes answer (Some t)) mark = ((mark ≡ marks.Checked) × IsStill rows n t) ⊎ ((mark ≡ marks.Unchecked) × HasTurned rows n t)
+Fits rows n (Checking worker notes answer t i) mark = ((mark ≡ marks.Checking) × IsStill rows n t) ⊎ ((mark ≡ marks.Nowhere) × HasTurned rows n t)
+Fits rows n (Committed answer) mark = mark ≡ marks.Nowhere
+
+-- The sets say of each line what its state and the changes below it say.
+pub record IsReady (b : Board) (ready : Ready) : Type 0 where
+  pub places : HasPlaces (length b.rows) ready
+  pub few : length b.rows ≤ 1000000
+  pub each : (n : ℕ) → IsLine b n → (mark : Mark) × Fits (row_at b) n (row_at b n).state mark × IsMarked ready (n - b.first) mark
+
+-- all places wait
+abbrev pub all_waiting : ℕ → Ready
+all_waiting len = record {
+  waiting = replicate len true;
+  unchecked = replicate len false;
+  checked = replicate len false;
+  checking = replicate len false;
+}
+
+-- a place gets a mark, and the others keep theirs
+pub record Puts (old new : Ready) (place : ℕ) (mark : Mark) : Type 0 where
+  pub here : IsMarked new place mark
+  pub off : (q : ℕ) (other : Mark) → q ≢ place → IsMarked old q other → IsMarked new q other
+  pub same : AreAsLong old new
+
+-- what a mark is after a change below
+abbrev pub lost : Mark → Mark
+lost marks.Nowhere = marks.Nowhere
+lost marks.Waiting = marks.Waiting
+lost marks.Unchecked = marks.Unchecked
+lost marks.Checked = marks.Unchecked
+lost marks.Checking = marks.Nowhere
+
+-- the stamps of the lines above a place count no more
+pub record Loses (old new : Ready) (place : ℕ) : Type 0 where
+  pub above : (q : ℕ) (mark : Mark) → place < q → IsMarked old q mark → IsMarked new q (lost mark)
+  pub rest : (q : ℕ) (mark : Mark) → q ≤ place → IsMarked old q mark → IsMarked new q mark
+  pub same : AreAsLong old new
+
+-- the mark of a line whose check is over: whether the stamp of the check counts
+abbrev pub ended : Bool → Mark
+ended true = marks.Checked
+ended false = marks.Unchecked
+
+-- the line of a place waits again, and its entries have changed or have not
+abbrev pub SendsBack : Ready → Ready → ℕ → Bool → Type 0
+SendsBack old new place true = (mid : Ready) × Puts old mid place marks.Waiting × Loses mid new place
+SendsBack old new place false = Puts old new place marks.Waiting
+
+-- from a place on, what is in the first set goes over to the second; before it nothing changes
+pub record GoesOver (first second first_new second_new : List Bool) (from : ℕ) : Type 0 where
+  pub out : (q : ℕ) → from ≤ q → has_place first_new q ≡ false
+  pub over : (q : ℕ) → from ≤ q → has_place second_new q ≡ (has_place first q || has_place second q)
+  pub first_before : (q : ℕ) → q < from → has_place first_new q ≡ has_place first q
+  pub second_before : (q : ℕ) → q < from → has_place second_new q ≡ has_place second q
+  pub first_len : length first_new ≡ length first
+  pub second_len : length second_new ≡ length second
+
+-- from a place on, a set has nothing; before it nothing changes
+pub record GoesOut (old new : List Bool) (from : ℕ) : Type 0 where
+  pub out : (q : ℕ) → from ≤ q → has_place new q ≡ false
+  pub before : (q : ℕ) → q < from → has_place new q ≡ has_place old q
+  pub len : length new ≡ length old

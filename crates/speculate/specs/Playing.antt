@@ -1,0 +1,101 @@
+-- A list of steps of workers, played one after another (the board; the headline over lists of steps).
+use Rattle.std.specs.Prelude.{◌≡◌, ◌≢◌, ℕ, suc, ◌<◌, ◌⊎◌, List, [], ◌∷◌, Option, Some, None, slice_get, take}
+use Rattle.circ_records.specs.declared.key.Key.{Key}
+use Rattle.read_set.specs.Notes.{noted}
+use Rattle.read_set.specs.Plans.{Planned}
+use Rattle.read_set.specs.Settling.{Told}
+use Rattle.read_set.specs.Wanted.{Wanted}
+use Rattle.read_set.specs.declared.notes.Note.{Note}
+use Rattle.board_steps.specs.Board.{Board, row_at, holder}
+use Rattle.board_steps.specs.Board.State.{Placing}
+use Rattle.board_steps.specs.Steps.{IsVersion, Reply, Step}
+use Rattle.board_steps.specs.Steps.Call.{Check, Commit, Look, Publish, Take}
+use Rattle.board_steps.specs.Steps.Reply.{Attempts, ClockSpent, Idle}
+use Rattle.speculate.specs.Hands.{HasNoLine, notes_of}
+use Rattle.speculate.specs.declared.steps.BoardFault.{BoardFault}
+use Rattle.speculate.specs.declared.steps.BoardFault.TheVariants as faults
+use Rattle.speculate.specs.declared.steps.Halt.{Halt}
+use Rattle.speculate.specs.declared.steps.Step.{Step as WorkerStep}
+use Rattle.speculate.specs.declared.steps.Step.TheVariants as steps
+
+-- the worker has line n in hand, in attempt a, with these notes
+pub record InHand (b : Board) (w n a : ℕ) (notes : List Note) : Type 0 where
+  pub held : holder (row_at b n).state ≡ Some w
+  pub attempt : suc a ≡ (row_at b n).next
+  pub noted : notes_of (row_at b n).state ≡ notes
+
+-- the line in hand wants the record at a key
+abbrev pub Wants : Planned → Board → ℕ → Key → Type 0
+Wants plan b w k = (n : ℕ) × (a : ℕ) × (notes : List Note) × InHand b w n a notes × Wanted plan n (noted notes) k
+
+-- a version of the line in hand: of its number, its attempt and its notes, which settle it
+abbrev pub HasVersion : Planned → Board → ℕ → Told → Type 0
+HasVersion plan b w v =
+    (n : ℕ) × (a : ℕ) × (notes : List Note) × InHand b w n a notes
+    × (v.line ≡ n) × (v.attempt ≡ a) × (v.reads ≡ notes) × IsVersion plan v
+
+-- the version of the last act of publication of the line in hand
+abbrev pub HasLast : Board → ℕ → Told → Type 0
+HasLast b w v = (n : ℕ) × (notes : List Note) × ((row_at b n).state ≡ Placing w notes (Some v))
+
+-- what a publication goes on with, or begins with
+abbrev pub ToPublish : Planned → Board → ℕ → Told → Type 0
+ToPublish plan b w v = HasLast b w v ⊎ (((u : Told) → HasLast b w u → ⊥) × HasVersion plan b w v)
+
+-- A look: at a key that the line in hand wants. It is idle where nothing is in hand, or a version is ready.
+abbrev pub Looks : Planned → Board → ℕ → Reply → Board → Type 0
+Looks plan old w reply new =
+    ((k : Key) × Wants plan old w k × Step plan old (Look w k) reply new)
+    ⊎ ((HasNoLine old w ⊎ ((v : Told) × HasVersion plan old w v)) × (reply ≡ Idle) × (new ≡ old))
+
+-- A publication: of a version that settles. It is idle where nothing is in hand, or the line wants a key.
+abbrev pub Publishes : Planned → Board → ℕ → Reply → Board → Type 0
+Publishes plan old w reply new =
+    ((v : Told) × ToPublish plan old w v × IsVersion plan v × Step plan old (Publish w v) reply new)
+    ⊎ ((HasNoLine old w ⊎ ((k : Key) × Wants plan old w k)) × (reply ≡ Idle) × (new ≡ old))
+
+-- what a worker's step does
+abbrev pub StepOf : Planned → Board → WorkerStep → Reply → Board → Type 0
+StepOf plan old (steps.Take w n) reply new = Step plan old (Take w n) reply new
+StepOf plan old (steps.Look w) reply new = Looks plan old w reply new
+StepOf plan old (steps.Publish w) reply new = Publishes plan old w reply new
+StepOf plan old (steps.Check w n) reply new = Step plan old (Check w n) reply new
+StepOf plan old (steps.Commit n) reply new = Step plan old (Commit n) reply new
+
+-- the replies that stop a list of steps
+abbrev pub refusal : Reply → Option BoardFault
+refusal (Attempts n) = Some (faults.Attempts n)
+refusal ClockSpent = Some faults.ClockSpent
+refusal _ = None
+
+-- a step that isn't refused leads from a board to another
+abbrev pub Goes : Planned → Board → WorkerStep → Board → Type 0
+Goes plan old step new = (reply : Reply) × StepOf plan old step reply new × (refusal reply ≡ None)
+
+-- The steps of a list, one after another, none of them refused, lead from a board to another.
+abbrev pub Plays : Planned → Board → List WorkerStep → Board → Type 0
+Plays plan old [] new = new ≡ old
+Plays plan old (step ∷ more) new = (mid : Board) × Goes plan old step mid × Plays plan mid more new
+
+-- the steps that can want memory
+abbrev pub MayWant : WorkerStep → Type 0
+MayWant (steps.Look w) = Unit {0}
+MayWant (steps.Publish w) = Unit {0}
+MayWant (steps.Take w n) = ⊥
+MayWant (steps.Check w n) = ⊥
+MayWant (steps.Commit n) = ⊥
+
+-- A step is refused: it has no attempt left, or no clock, just where the board's reply says so, which leaves the board.
+abbrev pub Refuses : Planned → Board → WorkerStep → BoardFault → Type 0
+Refuses plan b step (faults.Attempts n) = StepOf plan b step (Attempts n) b
+Refuses plan b step faults.ClockSpent = StepOf plan b step ClockSpent b
+Refuses plan b step faults.Memory = MayWant step
+
+-- a step that is refused leaves the board as it was
+abbrev pub IsRefused : Planned → Board → WorkerStep → BoardFault → Board → Type 0
+IsRefused plan old step fault new = Refuses plan old step fault × (new ≡ old)
+
+-- A list stops: so many of its steps were done, the next is refused, and the board is the one before it.
+abbrev pub Halts : Planned → Board → List WorkerStep → Halt → Board → Type 0
+Halts plan old steps halt new =
+    Plays plan old (take halt.done steps) new × (step : WorkerStep) × (slice_get steps halt.done ≡ Some step) × Refuses plan new step halt.fault

@@ -1,0 +1,279 @@
+//! The board.
+
+ghost use Rattle.std.specs.Prelude.{◌≡◌, ◌+◌, ◌-◌, ◌^◌, ◌≤◌, IfOk, length, option_copied, option_map};
+ghost use Rattle.board_steps.specs.Choice.{IsChoice};
+ghost use Rattle.board_steps.specs.Reached.{Reached};
+ghost use Rattle.board_steps.specs.Steps.{opening};
+ghost use Rattle.board_steps.specs.Steps.Call.{Check, Commit, Look, Publish, Take};
+ghost use Rattle.speculate.specs.Choices.{Begins, chosen};
+ghost use Rattle.speculate.specs.Hands.{AreCounts, AreNotesOf, IsHand};
+ghost use Rattle.speculate.specs.Acts.{IsPlacing};
+ghost use Rattle.speculate.specs.Notes.{told_at};
+ghost use Rattle.speculate.specs.Replies.{Answers};
+
+use crate::choice::Choice;
+use crate::hand::Hand;
+use crate::lines::Lines;
+use crate::notes::PlaceNotes;
+use crate::ready::{Mark, Ready};
+use crate::reply::Reply;
+use attempts::Counts;
+use circ_records::Key;
+use read_set::{Plan, PlanName};
+use std::alloc::{AllocError, Global};
+use std::marker::Model;
+use version_store::Place;
+
+/// The lines of a plan while workers run them, and which of them a free worker chooses. Each call is one step of the
+/// board's rules; none looks at more lines than its own and those whose stamps it ends.
+#[derive(Drop)]
+pub struct Board<'p, 't, J: PlanName> {
+    lines: Lines<'p, 't, J>,
+    ready: Ready,
+}
+
+impl<'p, 't, J: PlanName> Model for Board<'p, 't, J> {
+    ghost use Rattle.std.specs.Coded.{codes};
+    ghost use Rattle.std.specs.FinMap as fin;
+    ghost use Rattle.board_steps.specs.Board as steps;
+
+    ghost Value = { steps.Board };
+
+    ghost coded = { Prim.hlevel (codes, fin.code) };
+
+    ghost use Rattle.speculate.specs.Marks.{IsReady};
+
+    ghost view = { λ b. b.lines };
+
+    ghost invariant = { λ b. IsReady b.lines b.ready };
+}
+
+impl<'p, 't, J: PlanName> Board<'p, 't, J> {
+    /// The board of a plan for 1 to 64 workers: all lines wait for their first attempt.
+    pub fn new(alloc: Global, plan: &'p Plan, workers: u32) -> Result<Board<'p, 't, J>, AllocError>
+        requires named { plan.now ≡ J.plan }
+        requires workers { (1 ≤ workers) × (workers ≤ 64) }
+        ensures { IfOk result (λ b. b ≡ opening J.plan workers 0 0) }
+    {
+        Board::starting(alloc, plan, workers, 0, 0)
+    }
+
+    /// The same, with the number of each line's first attempt and the clock as they are given.
+    pub fn starting(
+        alloc: Global,
+        plan: &'p Plan,
+        workers: u32,
+        attempt: u32,
+        clock: u64,
+    ) -> Result<Board<'p, 't, J>, AllocError>
+        requires named { plan.now ≡ J.plan }
+        requires workers { (1 ≤ workers) × (workers ≤ 64) }
+        ensures { IfOk result (λ b. b ≡ opening J.plan workers attempt clock) }
+    {
+        Ok(Board {
+            lines: Lines::new(alloc, plan, workers, attempt, clock)?,
+            ready: Ready::new(alloc, lines_of(plan))?,
+        })
+    }
+
+    /// The plan. The board is one that steps of its rules lead to.
+    pub fn plan(&self) -> &'p Plan
+        ensures plan { result.now ≡ J.plan }
+        ensures reached { Reached J.plan self.now }
+    {
+        self.lines.plan()
+    }
+
+    /// A worker takes a line that waits.
+    pub fn take(&mut self, worker: u32, line: u64) -> Reply<'t, J>
+        ensures { Answers J.plan self.old (Take worker line) result self.new }
+    {
+        let plan = self.lines.plan();
+        match self.lines.take(worker, line) {
+            Reply::Taken { attempt } => {
+                self.ready.put(place_of(plan, line), Mark::Nowhere);
+                Reply::Taken { attempt }
+            }
+            reply => reply,
+        }
+    }
+
+    /// A worker looks at a key for its line, and notes what it sees.
+    pub fn look(&mut self, worker: u32, key: &Key) -> Reply<'t, J>
+        ensures { Answers J.plan self.old (Look worker key.now) result self.new }
+    {
+        let plan = self.lines.plan();
+        let Some(hand) = self.lines.hand(worker) else {
+            return Reply::Idle;
+        };
+        match self.lines.look(worker, key) {
+            Reply::Suspect { line } => {
+                self.ready.put(place_of(plan, hand.line), Mark::Waiting);
+                Reply::Suspect { line }
+            }
+            reply => reply,
+        }
+    }
+
+    /// One act of publishing the version at a place for the worker's line.
+    pub fn publish(&mut self, worker: u32, place: Place<'t, J>) -> Reply<'t, J>
+        ensures { Answers J.plan self.old (Publish worker (told_at place.entry)) result self.new }
+    {
+        let plan = self.lines.plan();
+        let Some(hand) = self.lines.hand(worker) else {
+            return Reply::Idle;
+        };
+        match self.lines.publish(worker, place) {
+            Reply::Placed => {
+                self.ready.lose_above(place_of(plan, hand.line));
+                Reply::Placed
+            }
+            Reply::Lifted => {
+                self.ready.lose_above(place_of(plan, hand.line));
+                Reply::Lifted
+            }
+            Reply::Whole => {
+                self.ready.put(place_of(plan, hand.line), Mark::Unchecked);
+                Reply::Whole
+            }
+            reply => reply,
+        }
+    }
+
+    /// Begins to check a line that is done, or goes on with it, by one noted name.
+    pub fn check(&mut self, worker: u32, line: u64) -> Reply<'t, J>
+        ensures { Answers J.plan self.old (Check worker line) result self.new }
+    {
+        let plan = self.lines.plan();
+        let begins = self.lines.hand(worker).is_none();
+        let clock = self.lines.clock();
+        match self.lines.check(worker, line) {
+            Reply::Same => {
+                if begins {
+                    self.ready.put(place_of(plan, line), Mark::Checking);
+                }
+                Reply::Same
+            }
+            Reply::Whole => {
+                self.ready.end_check(place_of(plan, line), begins);
+                Reply::Whole
+            }
+            Reply::Changed { key, noted, found } => {
+                let changes = self.lines.clock() != clock;
+                self.ready.send_back(place_of(plan, line), changes);
+                Reply::Changed { key, noted, found }
+            }
+            reply => reply,
+        }
+    }
+
+    /// Commits the next line, where no line below has changed since its stamp. It looks at no read.
+    pub fn commit(&mut self, line: u64) -> Reply<'t, J>
+        ensures { Answers J.plan self.old (Commit line) result self.new }
+    {
+        let plan = self.lines.plan();
+        match self.lines.commit(line) {
+            Reply::Committed => {
+                self.ready.put(place_of(plan, line), Mark::Nowhere);
+                Reply::Committed
+            }
+            reply => reply,
+        }
+    }
+
+    /// The line that the worker has in hand, with its attempt.
+    pub fn hand(&self, worker: u32) -> Option<Hand>
+        ensures { IsHand self.now worker result }
+    {
+        self.lines.hand(worker)
+    }
+
+    /// What the worker's line in hand has noted.
+    pub fn notes(&self, worker: u32) -> Option<&PlaceNotes<'t, J>>
+        ensures { AreNotesOf J.plan self.now worker (option_copied result) }
+    {
+        self.lines.notes(worker)
+    }
+
+    /// The place of the last act of publication of the worker's line in hand, where that line is in publication.
+    pub fn placing(&self, worker: u32) -> Option<Place<'t, J>>
+        ensures { IsPlacing self.now worker (option_map told_at result) }
+    {
+        self.lines.placing(worker)
+    }
+
+    /// How often lines were taken, and what became of it.
+    pub fn counts(&self) -> Counts
+        ensures { AreCounts self.now result }
+    {
+        self.lines.counts()
+    }
+
+    /// How many lines are committed.
+    pub fn committed(&self) -> u64
+        ensures { result ≡ self.now.committed }
+    {
+        self.counts().commits
+    }
+
+    /// How often entries have changed, counted from where the board began.
+    pub fn clock(&self) -> u64
+        ensures { result ≡ self.now.clock }
+    {
+        self.lines.clock()
+    }
+
+    /// The choice of a free worker: it commits the least line that isn't committed where that may commit; else checks the
+    /// least line that is done and whose last check is missing or counts no longer; else takes the least line that waits.
+    pub fn choose(&self) -> Choice
+        ensures { IsChoice self.now (chosen result) }
+    {
+        let plan = self.lines.plan();
+        let committed = self.lines.committed();
+        if committed >= lines_of(plan) as u64 {
+            return Choice::End;
+        }
+        if self.ready.checked.has(committed as usize) {
+            return Choice::Commit(plan.first() + committed);
+        }
+        if let Some(place) = self.ready.unchecked.least_from(0) {
+            return Choice::Check(plan.first() + place as u64);
+        }
+        if let Some(place) = self.ready.waiting.least_from(0) {
+            return Choice::Take(plan.first() + place as u64);
+        }
+        Choice::Nothing
+    }
+
+    /// Does the call that the choice of a free worker names, for this worker; none where it names none.
+    pub fn begin(&mut self, worker: u32) -> (Choice, Option<Reply<'t, J>>)
+        ensures choice { IsChoice self.old (chosen result.0) }
+        ensures call { Begins J.plan self.old worker result.0 result.1 self.new }
+    {
+        let choice = self.choose();
+        match choice {
+            Choice::Commit(line) => (choice, Some(self.commit(line))),
+            Choice::Check(line) => (choice, Some(self.check(worker, line))),
+            Choice::Take(line) => (choice, Some(self.take(worker, line))),
+            Choice::Nothing => (choice, None),
+            Choice::End => (choice, None),
+        }
+    }
+}
+
+/// How many lines a plan has.
+fn lines_of(plan: &Plan) -> usize
+    ensures lines { result ≡ length plan.now.readings }
+    ensures few { result ≤ 1000000 }
+    ensures numbered { plan.now.first + result ≤ 2 ^ 64 }
+{
+    plan.readings().len()
+}
+
+/// The place of a line, from 0 on.
+fn place_of(plan: &Plan, line: u64) -> usize
+    requires { plan.now.first ≤ line }
+    ensures { result ≡ line - plan.now.first }
+{
+    (line - plan.first()) as usize
+}

@@ -1,0 +1,20 @@
+//! Whether a reply stops what a worker does.
+
+ghost use Rattle.std.specs.Prelude.{◌≡◌};
+ghost use Rattle.speculate.specs.Ending.{ended_by};
+
+use crate::reply::Reply;
+use crate::steps::BoardFault;
+use read_set::PlanName;
+
+/// Goes on where the step wasn't refused.
+pub fn ended<J: PlanName>(reply: Reply<'_, J>) -> Result<(), BoardFault>
+    ensures { result ≡ ended_by reply.entry }
+{
+    match reply {
+        Reply::Attempts { line } => Err(BoardFault::Attempts { line }),
+        Reply::ClockSpent => Err(BoardFault::ClockSpent),
+        Reply::Memory => Err(BoardFault::Memory),
+        _ => Ok(()),
+    }
+}

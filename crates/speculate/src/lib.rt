@@ -1,0 +1,30 @@
+//! The room of the board: lines run early on versions of records, and commit in the order of the journal where what they
+//! have read still holds.
+//!
+//! `Board` has the five calls `take`, `look`, `publish`, `check` and `commit`; each is one step of `board_steps`. It stands on the
+//! versions and entries of `version_store` and on the states of `attempts`; it knows no message and no table.
+#![tactic(auto)]
+
+mod board;
+mod choice;
+mod ending;
+mod hand;
+mod lines;
+mod notes;
+mod playing;
+mod publishing;
+mod reading;
+mod ready;
+mod reply;
+mod row;
+mod same;
+mod steps;
+
+pub use board::Board;
+pub use choice::Choice;
+pub use hand::Hand;
+pub use notes::{PlaceNotes, PlacedName};
+pub use playing::play;
+pub use reading::read_notes;
+pub use reply::Reply;
+pub use steps::{BoardFault, Halt, Step};

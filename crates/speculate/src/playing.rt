@@ -1,0 +1,227 @@
+//! A list of steps of workers, played one after another.
+
+ghost use Rattle.std.specs.Prelude.{◌≡◌, IfOk, IfErr, OnOk, option_map};
+ghost use Rattle.board_steps.specs.Steps.{IsVersion};
+ghost use Rattle.speculate.specs.Needed.{IsNext, IsToPublish, SettlesIfDone, needed_key, needed_version};
+ghost use Rattle.speculate.specs.Notes.{told_at};
+ghost use Rattle.speculate.specs.Playing.{Goes, Halts, IsRefused, Plays};
+ghost use Rattle.speculate.specs.declared.steps.Step.TheVariants as steps;
+
+use crate::board::Board;
+use crate::ending::ended;
+use crate::reading::read_notes;
+use crate::steps::{BoardFault, Halt, Step};
+use circ_records::Key;
+use message_meaning::need;
+use read_set::{Need, PlanName, Version};
+use std::alloc::{AllocError, Global};
+use std::sync::Wait;
+use version_store::{Place, VersionTable};
+
+/// Plays steps of workers in their order, up to one that is refused. A list that stopped can be taken up again where it
+/// stopped.
+pub fn play<'t, J: PlanName, R: Wait>(
+    rt: &R,
+    alloc: Global,
+    table: &'t VersionTable<J>,
+    board: &mut Board<'_, 't, J>,
+    steps: &[Step],
+) -> Result<(), Halt>
+    ensures all { OnOk result (Plays J.plan board.old steps.now board.new) }
+    ensures halt { IfErr result (λ halt. Halts J.plan board.old steps.now halt board.new) }
+{
+    for done in 0..steps.len() {
+        if let Err(fault) = act(rt, alloc, table, board, steps[done]) {
+            return Err(Halt { done, fault });
+        }
+    }
+    Ok(())
+}
+
+/// One step.
+fn act<'t, J: PlanName, R: Wait>(
+    rt: &R,
+    alloc: Global,
+    table: &'t VersionTable<J>,
+    board: &mut Board<'_, 't, J>,
+    step: Step,
+) -> Result<(), BoardFault>
+    ensures goes { OnOk result (Goes J.plan board.old step board.new) }
+    ensures refused { IfErr result (λ fault. IsRefused J.plan board.old step fault board.new) }
+{
+    match step {
+        Step::Take { worker, line } => take(board, worker, line),
+        Step::Look { worker } => look(alloc, board, worker),
+        Step::Publish { worker } => publish(rt, alloc, table, board, worker),
+        Step::Check { worker, line } => check(board, worker, line),
+        Step::Commit { line } => commit(board, line),
+    }
+}
+
+/// The worker takes the line.
+fn take<J: PlanName>(board: &mut Board<'_, '_, J>, worker: u32, line: u64) -> Result<(), BoardFault>
+    ensures goes { OnOk result (Goes J.plan board.old (steps.Take worker line) board.new) }
+    ensures refused { IfErr result (λ fault. IsRefused J.plan board.old (steps.Take worker line) fault board.new) }
+{
+    ended(board.take(worker, line))
+}
+
+/// Looks at the key that the worker's line in hand wants, if it wants one.
+fn look<'t, J: PlanName>(
+    alloc: Global,
+    board: &mut Board<'_, 't, J>,
+    worker: u32,
+) -> Result<(), BoardFault>
+    ensures goes { OnOk result (Goes J.plan board.old (steps.Look worker) board.new) }
+    ensures refused { IfErr result (λ fault. IsRefused J.plan board.old (steps.Look worker) fault board.new) }
+{
+    let next = next_need(alloc, board, worker)?;
+    let Some(key) = key_in(next) else {
+        return Ok(());
+    };
+    ended(board.look(worker, &key))
+}
+
+/// One act of publication of the version of the worker's line in hand, if it has one.
+fn publish<'t, J: PlanName, R: Wait>(
+    rt: &R,
+    alloc: Global,
+    table: &'t VersionTable<J>,
+    board: &mut Board<'_, 't, J>,
+    worker: u32,
+) -> Result<(), BoardFault>
+    ensures goes { OnOk result (Goes J.plan board.old (steps.Publish worker) board.new) }
+    ensures refused { IfErr result (λ fault. IsRefused J.plan board.old (steps.Publish worker) fault board.new) }
+{
+    let place = place_of(rt, alloc, table, board, worker)?;
+    publish_at(board, worker, place)
+}
+
+/// One act of publication of the version at a place, if there is one.
+fn publish_at<'t, J: PlanName>(
+    board: &mut Board<'_, 't, J>,
+    worker: u32,
+    place: Option<Place<'t, J>>,
+) -> Result<(), BoardFault>
+    requires { IsToPublish J.plan board.old worker (option_map told_at place) }
+    ensures goes { OnOk result (Goes J.plan board.old (steps.Publish worker) board.new) }
+    ensures refused { IfErr result (λ fault. IsRefused J.plan board.old (steps.Publish worker) fault board.new) }
+{
+    match place {
+        Some(place) => ended(board.publish(worker, place)),
+        None => Ok(()),
+    }
+}
+
+/// The worker compares the next noted name of the line.
+fn check<J: PlanName>(
+    board: &mut Board<'_, '_, J>,
+    worker: u32,
+    line: u64,
+) -> Result<(), BoardFault>
+    ensures goes { OnOk result (Goes J.plan board.old (steps.Check worker line) board.new) }
+    ensures refused { IfErr result (λ fault. IsRefused J.plan board.old (steps.Check worker line) fault board.new) }
+{
+    ended(board.check(worker, line))
+}
+
+/// The line is committed.
+fn commit<J: PlanName>(board: &mut Board<'_, '_, J>, line: u64) -> Result<(), BoardFault>
+    ensures goes { OnOk result (Goes J.plan board.old (steps.Commit line) board.new) }
+    ensures refused { IfErr result (λ fault. IsRefused J.plan board.old (steps.Commit line) fault board.new) }
+{
+    ended(board.commit(line))
+}
+
+/// The place of the version to be published: that of the last act, else a new one; None where there is no version.
+fn place_of<'t, J: PlanName, R: Wait>(
+    rt: &R,
+    alloc: Global,
+    table: &'t VersionTable<J>,
+    board: &Board<'_, 't, J>,
+    worker: u32,
+) -> Result<Option<Place<'t, J>>, AllocError>
+    ensures { IfOk result (λ place. IsToPublish J.plan board.now worker (option_map told_at place)) }
+{
+    if let Some(place) = board.placing(worker) {
+        settled(place);
+        return Ok(Some(place));
+    }
+    let next = next_need(alloc, board, worker)?;
+    let Some(version) = version_in(next) else {
+        return Ok(None);
+    };
+    let place = put(rt, table, version)?;
+    Ok(Some(place))
+}
+
+/// The key that is needed.
+fn key_in<J: PlanName>(next: Option<Need<J>>) -> Option<Key>
+    ensures { result ≡ needed_key next }
+{
+    match &next {
+        Some(Need::Key(key)) => Some(*key),
+        _ => None,
+    }
+}
+
+/// The version that is needed.
+fn version_in<J: PlanName>(next: Option<Need<J>>) -> Option<Version<J>>
+    ensures { result ≡ needed_version next }
+{
+    match next {
+        Some(Need::Done(version)) => Some(version),
+        _ => None,
+    }
+}
+
+/// What the worker's line in hand needs next; None where it has none in hand.
+fn next_need<J: PlanName>(
+    alloc: Global,
+    board: &Board<'_, '_, J>,
+    worker: u32,
+) -> Result<Option<Need<J>>, AllocError>
+    ensures { IfOk result (IsNext J.plan board.now worker) }
+{
+    let Some(hand) = board.hand(worker) else {
+        return Ok(None);
+    };
+    let Some(noted) = board.notes(worker) else {
+        return Ok(None);
+    };
+    let plan = board.plan();
+    let notes = read_notes(alloc, plan, noted)?;
+    let next = need(alloc, plan, hand.line, hand.attempt, &notes)?;
+    settled_if_done(&next);
+    Ok(Some(next))
+}
+
+/// A version that a line needs settles.
+pub fn settled_if_done<J: PlanName>(next: &Need<J>)
+    ensures { SettlesIfDone J.plan next.now }
+{
+    if let Need::Done(version) = next {
+        let _reads = version.reads();
+    }
+}
+
+/// A version at a place settles.
+fn settled<J: PlanName>(place: Place<'_, J>)
+    ensures { IsVersion J.plan (told_at place.entry) }
+{
+    let _reads = place.show().reads();
+}
+
+/// Puts a version into the table.
+pub fn put<'t, J: PlanName, R: Wait>(
+    rt: &R,
+    table: &'t VersionTable<J>,
+    version: Version<J>,
+) -> Result<Place<'t, J>, AllocError>
+    ensures { IfOk result (λ place. told_at place ≡ version) }
+{
+    match table.put(rt, version) {
+        Ok(place) => Ok(place),
+        Err(_refused) => Err(AllocError),
+    }
+}

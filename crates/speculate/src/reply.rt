@@ -1,0 +1,53 @@
+//! What the board's calls answer.
+
+use circ_records::Key;
+use read_set::{Name, PlanName};
+use version_store::{Found, Place};
+
+/// What a call of the board answers.
+#[derive(Drop)]
+pub enum Reply<'t, J: PlanName> {
+    /// The call has nothing to do here; nothing changed.
+    Idle,
+    /// The worker has the line in hand, with this attempt.
+    Taken {
+        attempt: u32,
+    },
+    /// The key is noted under this name. The record is what the version at the place writes; without a place it is the base's.
+    Seen {
+        name: Name,
+        place: Option<Place<'t, J>>,
+    },
+    /// The entry of this line is suspect: the attempt ended.
+    Suspect {
+        line: u64,
+    },
+    /// The version isn't of the board's line, attempt and notes.
+    Stranger,
+    /// The next write was placed.
+    Placed,
+    /// An entry that an earlier attempt left was taken away.
+    Lifted,
+    /// All is published, or all was compared.
+    Whole,
+    /// The noted name is that of the visible entry.
+    Same,
+    /// It isn't: the line waits again, and its entries are suspect.
+    Changed {
+        key: Key,
+        noted: Name,
+        found: Found,
+    },
+    /// The line is committed.
+    Committed,
+    /// The line can't commit yet.
+    Later,
+    /// The line has no attempt left.
+    Attempts {
+        line: u64,
+    },
+    /// The clock has come to its end.
+    ClockSpent,
+    /// There was no memory; nothing changed.
+    Memory,
+}

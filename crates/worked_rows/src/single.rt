@@ -1,0 +1,128 @@
+//! A single line over records that need not fit together: what it asks for, record by record, and what it does.
+
+ghost use Rattle.std.specs.Prelude.{◌≡◌, None};
+ghost use Rattle.read_set.specs.Notes.{noted};
+
+use crate::book::{journal_of, plan_of};
+use crate::shelf::{Shelf, tell};
+use circ_records::{Key, Record};
+use message_meaning::{need, perform};
+use read_set::{Name, Need, Note, Notes, Plan, PlanName};
+use sip_answer::{Answer, write_answer};
+use std::alloc::{AllocError, Global};
+use std::marker::Brand;
+use std::process::Abort;
+use std::str::from_utf8;
+use std::test::Fail;
+
+/// More records than any line of a book asks for.
+const MANY: usize = 20;
+
+/// A line and its records, and what must come out.
+#[derive(Drop)]
+pub(crate) struct Single {
+    shelf: Shelf,
+    request: String,
+    /// The ids of the records for which the line asks, in the order of asking.
+    wants: String,
+    /// The answer, then each record that is written.
+    told: String,
+}
+
+impl Single {
+    pub(crate) fn new(alloc: Global) -> Single {
+        Single {
+            shelf: Shelf::new(alloc),
+            request: String::new(alloc),
+            wants: String::new(alloc),
+            told: String::new(alloc),
+        }
+    }
+
+    /// Takes in a line of the book. False where it is none.
+    pub(crate) fn take(&mut self, alloc: Global, line: &str) -> Result<bool, AllocError> {
+        let (word, rest) = line.split_once(' ').unwrap_or((line, ""));
+        match word {
+            "asked" => self.request.push_str(rest)?,
+            "wants" => self.wants.push_str(rest)?,
+            "answer" | "writes" => writeln!(self.told, "{rest}")?,
+            _ => return self.shelf.take(alloc, line),
+        }
+        Ok(true)
+    }
+
+    /// Performs the line over the records, and once more on notes that grow by what it asks for. Both must do the same.
+    pub(crate) fn run(mut self, rt: &impl Abort, alloc: Global, title: &str) -> Result<(), Fail> {
+        let journal = journal_of(alloc, self.request.as_str())?;
+        let Some(plan) = plan_of(alloc, journal.as_bytes())? else {
+            panic!(rt; "{title}");
+        };
+        let Ok(effect) = perform(alloc, &plan, 1, &mut self.shelf) else {
+            panic!(rt; "{title}");
+        };
+        let done = told(alloc, &effect.answer, effect.writes.as_slice())?;
+        assert_eq!(rt; done.as_str(), self.told.as_str(), "{title}");
+        let (wants, done) = ask::<Brand>(alloc, &plan, &self.shelf)?;
+        assert_eq!(rt; wants.as_str(), self.wants.as_str(), "{title}");
+        assert_eq!(rt; done.as_str(), self.told.as_str(), "{title}");
+        Ok(())
+    }
+}
+
+/// The ids of the records for which the line 1 asks, joined by blanks, and what its version tells.
+fn ask<J: PlanName>(
+    alloc: Global,
+    plan: &Plan,
+    shelf: &Shelf,
+) -> Result<(String, String), AllocError>
+    requires { plan.now ≡ J.plan }
+{
+    let mut notes = Notes::new(alloc);
+    let mut wants = String::new(alloc);
+    for _ in 0..MANY {
+        match need::<J>(alloc, plan, 1, 0, &notes)? {
+            Need::Key(key) => {
+                tell_want(&mut wants, &key)?;
+                look(alloc, shelf, key, &mut notes)?;
+            }
+            Need::Done(version) => {
+                let done = told(alloc, version.answer(), version.writes())?;
+                return Ok((wants, done));
+            }
+        }
+    }
+    Ok((wants, String::new(alloc)))
+}
+
+/// Notes the record at a key that isn't noted yet.
+fn look(alloc: Global, shelf: &Shelf, key: Key, notes: &mut Notes) -> Result<(), AllocError>
+    requires { noted notes.old key ≡ None }
+{
+    let found = shelf.copy_at(alloc, &key)?;
+    let name = Name::Base;
+    notes.add(Note { key, name, found })
+}
+
+fn tell_want(wants: &mut String, key: &Key) -> Result<(), AllocError> {
+    if !wants.is_empty() {
+        wants.push_str(" ")?;
+    }
+    wants.push_str(from_utf8(key.id().as_bytes()).unwrap_or("?"))
+}
+
+/// The answer, then each record that is written.
+fn told(
+    alloc: Global,
+    answer: &Option<Answer>,
+    writes: &[(Key, Record)],
+) -> Result<String, AllocError> {
+    let mut out = String::new(alloc);
+    if let Some(answer) = answer {
+        let text = write_answer(alloc, answer, None)?;
+        writeln!(out, "{}", from_utf8(text.as_slice()).unwrap_or("?"))?;
+    }
+    for (key, record) in writes {
+        tell(&mut out, key, record)?;
+    }
+    Ok(out)
+}

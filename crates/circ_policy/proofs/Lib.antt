@@ -5,3 +5,4 @@ pub mod Documents
 pub mod Least
 pub mod Listed
 pub mod Entries
+pub mod Ranges

@@ -1,6 +1,7 @@
 pub mod Medias
 pub mod Terms
 pub mod Policy
+pub mod Ranges
 pub mod Due
 pub mod Calendars
 pub mod Fees

@@ -24,16 +24,20 @@ pub struct Policy {
 
 impl Model for Policy {
     ghost use Rattle.circ_policy.specs.Calendars.{closed_of};
+    ghost use Rattle.circ_policy.specs.Ranges.{AllFit};
     ghost use Rattle.circ_policy.specs.Terms.{Terms};
 
     ghost Value = { Terms };
 
     ghost view = { λ p. record { institution = p.institution; currency = p.currency; due_form = p.due_form; closed = closed_of p.calendar; classes = p.classes.entries; media = p.media.items } };
+
+    ghost invariant = { λ p. AllFit p.media.items };
 }
 
 impl Policy {
     ghost use Rattle.circ_policy.specs.Due.{IsLeastOpen, due_day};
     ghost use Rattle.circ_policy.specs.Policy.{class_of, media_of};
+    ghost use Rattle.circ_policy.specs.Ranges.{FitsPolicy};
 
     /// The library's id.
     pub fn institution(&self) -> Id
@@ -42,9 +46,10 @@ impl Policy {
         self.institution
     }
 
-    /// The currency of all amounts, three letters.
+    /// The currency of all amounts, three letters. The terms of each type of media lie in their ranges.
     pub fn currency(&self) -> [u8; 3]
-        ensures { result ≡ self.now.currency }
+        ensures value { result ≡ self.now.currency }
+        ensures ranges { FitsPolicy self.now }
     {
         self.currency
     }

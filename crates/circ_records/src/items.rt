@@ -43,39 +43,43 @@ pub(crate) fn add_items(
     ensures err { IfErr result (λ e. Breaks e (broken_items policy.now (rows_in rows.now))) }
 {
     for (i, row) in rows.items.iter().enumerate() {
-        match broken_rule(policy, records, row) {
-            Some(rule) => {
-                return Err(BaseError::Rule {
-                    table: TableName::Items,
-                    row: i + 1,
-                    rule,
-                });
-            }
-            None => add_item(alloc, row, records)?,
+        let broken = put_item(alloc, policy, row, records)?;
+        if let Some(rule) = broken {
+            return Err(BaseError::Rule {
+                table: TableName::Items,
+                row: i + 1,
+                rule,
+            });
         }
     }
     Ok(())
 }
 
-/// The first rule that a row breaks, behind those whose records these are.
+/// Puts the item of a row among the records, or tells the first rule that the row breaks behind those whose records
+/// these are. A row that breaks one may leave its item there.
 #[tactic(auto, unfolding(crate::specs::Rules::item_rule))]
-fn broken_rule(
+fn put_item(
+    alloc: Global,
     policy: &Policy,
-    records: &BTreeMap<Key, Record>,
     row: &ByteRecord,
-) -> Option<BaseRule>
-    ensures rule { (r : Rows) → Tells r records.now → result ≡ Rules.item_rule policy.now r.items (fields_of row.now) }
-    ensures texts { result ≡ None → Rules.has_item_texts (fields_of row.now) ≡ true }
-    ensures media { result ≡ None → IsSome (media_of_code (field 2 (fields_of row.now))) }
+    records: &mut BTreeMap<Key, Record>,
+) -> Result<Option<BaseRule>, AllocError>
+    ensures rule { IfOk result (λ broken. (r : Rows) → Tells r records.old → broken ≡ Rules.item_rule policy.now r.items (fields_of row.now)) }
+    ensures told { IfOk result (λ broken. broken ≡ None → (r : Rows) (before : List Row) → Tells (to_items r before) records.old → Rules.has_row 0 (field 0 (fields_of row.now)) before ≡ false → Tells (to_items r (before ++ fields_of row.now ∷ [])) records.new) }
+    ensures rising { IfOk result (λ broken. broken ≡ None → IsOrdered key_cmp records.new) }
 {
     if !has_texts(row) {
-        Some(BaseRule::Text)
-    } else if has_item(records, id_at(row, 0)) {
-        Some(BaseRule::Double)
+        Ok(Some(BaseRule::Text))
     } else if !is_lent_by(policy, row) {
-        Some(BaseRule::Media)
+        if has_item(records, id_at(row, 0)) {
+            Ok(Some(BaseRule::Double))
+        } else {
+            Ok(Some(BaseRule::Media))
+        }
+    } else if add_item(alloc, row, records)? {
+        Ok(Some(BaseRule::Double))
     } else {
-        None
+        Ok(None)
     }
 }
 
@@ -103,20 +107,21 @@ fn is_lent_by(policy: &Policy, row: &ByteRecord) -> bool
     }
 }
 
-/// Puts the item of a row among the records.
+/// Puts the item of a row among the records, and says whether there was one with its id.
 fn add_item(
     alloc: Global,
     row: &ByteRecord,
     records: &mut BTreeMap<Key, Record>,
-) -> Result<(), AllocError>
+) -> Result<bool, AllocError>
     requires texts { Rules.has_item_texts (fields_of row.now) ≡ true }
     requires media { IsSome (media_of_code (field 2 (fields_of row.now))) }
+    ensures double { IfOk result (λ double. (r : Rows) → Tells r records.old → double ≡ Rules.has_row 0 (field 0 (fields_of row.now)) r.items) }
     ensures told { OnOk result ((r : Rows) (before : List Row) → Tells (to_items r before) records.old → Rules.has_row 0 (field 0 (fields_of row.now)) before ≡ false → Tells (to_items r (before ++ fields_of row.now ∷ [])) records.new) }
     ensures rising { OnOk result (IsOrdered key_cmp records.new) }
 {
     let item = item_of(alloc, row)?;
-    records.insert(Key::Item(row_id(row)), Record::Item(item))?;
-    Ok(())
+    let before = records.insert(Key::Item(row_id(row)), Record::Item(item))?;
+    Ok(before.is_some())
 }
 
 /// The id of a row whose texts are such.

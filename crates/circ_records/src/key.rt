@@ -61,10 +61,11 @@ impl Ord for Key {
     ghost matches_eq = { Prim.search (comparing, rules) };
 
     fn cmp(&self, other: &Key) -> Ordering {
-        match self.kind().cmp(&other.kind()) {
-            Ordering::Less => Ordering::Less,
-            Ordering::Equal => self.id().cmp(other.id()),
-            Ordering::Greater => Ordering::Greater,
+        let (kind, other_kind) = (self.kind(), other.kind());
+        if kind == other_kind {
+            self.id().cmp(other.id())
+        } else {
+            kind.cmp(&other_kind)
         }
     }
 }

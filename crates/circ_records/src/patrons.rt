@@ -44,42 +44,45 @@ pub(crate) fn add_patrons(
     ensures err { IfErr result (λ e. Breaks e (broken_patrons policy.now (rows_in rows.now))) }
 {
     for (i, row) in rows.patrons.iter().enumerate() {
-        match broken_rule(policy, records, row) {
-            Some(rule) => {
-                return Err(BaseError::Rule {
-                    table: TableName::Patrons,
-                    row: i + 1,
-                    rule,
-                });
-            }
-            None => add_patron(alloc, row, records)?,
+        let broken = put_patron(alloc, policy, row, records)?;
+        if let Some(rule) = broken {
+            return Err(BaseError::Rule {
+                table: TableName::Patrons,
+                row: i + 1,
+                rule,
+            });
         }
     }
     Ok(())
 }
 
-/// The first rule that a row breaks, behind those whose records these are.
+/// Puts the patron of a row among the records, or tells the first rule that the row breaks behind those whose records
+/// these are. A row that breaks one may leave its patron there.
 #[tactic(auto, unfolding(crate::specs::Rules::patron_rule))]
-fn broken_rule(
+fn put_patron(
+    alloc: Global,
     policy: &Policy,
-    records: &BTreeMap<Key, Record>,
     row: &ByteRecord,
-) -> Option<BaseRule>
-    ensures rule { (r : Rows) → Tells r records.now → result ≡ Rules.patron_rule policy.now r.patrons (fields_of row.now) }
-    ensures texts { result ≡ None → Rules.has_patron_texts (fields_of row.now) ≡ true }
-    ensures value { result ≡ None → is_some (flag_of (field 3 (fields_of row.now))) ≡ true }
-    ensures class { result ≡ None → is_id (field 2 (fields_of row.now)) ≡ true }
+    records: &mut BTreeMap<Key, Record>,
+) -> Result<Option<BaseRule>, AllocError>
+    ensures rule { IfOk result (λ broken. (r : Rows) → Tells r records.old → broken ≡ Rules.patron_rule policy.now r.patrons (fields_of row.now)) }
+    ensures told { IfOk result (λ broken. broken ≡ None → (r : Rows) (before : List Row) → Tells (to_patrons r before) records.old → Rules.has_row 0 (field 0 (fields_of row.now)) before ≡ false → Tells (to_patrons r (before ++ fields_of row.now ∷ [])) records.new) }
+    ensures rising { IfOk result (λ broken. broken ≡ None → IsOrdered key_cmp records.new) }
 {
     if !has_texts(row) {
-        Some(BaseRule::Text)
+        Ok(Some(BaseRule::Text))
     } else if flag_of(column(row, 3)).is_none() {
-        Some(BaseRule::Value)
-    } else if has_patron(records, id_at(row, 0)) {
-        Some(BaseRule::Double)
+        Ok(Some(BaseRule::Value))
     } else if !has_class(policy, column(row, 2)) {
-        Some(BaseRule::Class)
+        if has_patron(records, id_at(row, 0)) {
+            Ok(Some(BaseRule::Double))
+        } else {
+            Ok(Some(BaseRule::Class))
+        }
+    } else if add_patron(alloc, row, records)? {
+        Ok(Some(BaseRule::Double))
     } else {
-        None
+        Ok(None)
     }
 }
 
@@ -103,21 +106,22 @@ fn has_class(policy: &Policy, name: &[u8]) -> bool
     }
 }
 
-/// Puts the patron of a row among the records.
+/// Puts the patron of a row among the records, and says whether there was one with its id.
 fn add_patron(
     alloc: Global,
     row: &ByteRecord,
     records: &mut BTreeMap<Key, Record>,
-) -> Result<(), AllocError>
+) -> Result<bool, AllocError>
     requires texts { Rules.has_patron_texts (fields_of row.now) ≡ true }
     requires value { is_some (flag_of (field 3 (fields_of row.now))) ≡ true }
     requires class { is_id (field 2 (fields_of row.now)) ≡ true }
+    ensures double { IfOk result (λ double. (r : Rows) → Tells r records.old → double ≡ Rules.has_row 0 (field 0 (fields_of row.now)) r.patrons) }
     ensures told { OnOk result ((r : Rows) (before : List Row) → Tells (to_patrons r before) records.old → Rules.has_row 0 (field 0 (fields_of row.now)) before ≡ false → Tells (to_patrons r (before ++ fields_of row.now ∷ [])) records.new) }
     ensures rising { OnOk result (IsOrdered key_cmp records.new) }
 {
     let patron = patron_of(alloc, row)?;
-    records.insert(Key::Patron(row_id(row)), Record::Patron(patron))?;
-    Ok(())
+    let before = records.insert(Key::Patron(row_id(row)), Record::Patron(patron))?;
+    Ok(before.is_some())
 }
 
 /// The id of a row whose texts are such.

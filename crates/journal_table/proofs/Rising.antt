@@ -1,17 +1,26 @@
 -- Readings with their numbers, and what the threads read.
-use Rattle.std.proofs.Common.{◌≡◌, ◌≢◌, ◌+◌, ◌-◌, ◌≤◌, ℕ, zero, suc, List, [], ◌∷◌, length, map, Some, None, Result, Ok, refl, sym, ap, arith}
+use Rattle.std.proofs.Common.{◌≡◌, ◌≢◌, ◌+◌, ◌-◌, ◌≤◌, ℕ, zero, suc, List, [], ◌∷◌, length, map, Some, None, Result, Ok, refl, subst, sym, ap, arith}
 use Rattle.std.specs.Prelude.{IfOk, Vec, slice_get, unwrap_or}
-use Rattle.std.specs.List.{AllZip}
+use Rattle.std.specs.List.{AllByRecursion, AllZip}
 use Rattle.sip_reader.specs.Reading.{reading}
 use Rattle.sip_reader.specs.declared.request.Reading.{Reading}
 use Rattle.journal_table.specs.Entry.{Entry, Numbered, NumberedFrom, first_number}
-use Rattle.journal_table.specs.Readings.{EndInTime, NumberedReading, Rises, RisesFrom, first_read, numbered_from, reading_at, readings_of, requests_read}
+use Rattle.journal_table.specs.Readings.{EndInTime, IsRead, NumberedReading, Rises, RisesFrom, first_read, numbered_from, reading_at, readings_of, requests_read}
 use Rattle.journal_table.specs.Stretches.{stretches_of}
 
 -- the readings of what is numbered
 pub numbered-readings : (n : ℕ) (rs : List Reading) → rs ≡ map reading_at (numbered_from n rs)
 numbered-readings n [] = refl
 numbered-readings n (r ∷ rs) = ap (λ (rest : List Reading). r ∷ rest) (numbered-readings (n + 1) rs)
+
+-- what is kept of readings is kept of them numbered
+pub numbered-read : (n : ℕ) (rs : List Reading) → AllByRecursion IsRead rs → AllByRecursion IsRead (map reading_at (numbered_from n rs))
+numbered-read n rs h = subst (λ (l : List Reading). AllByRecursion IsRead l) (numbered-readings n rs) h
+
+-- each request is read as the message that it is
+pub requests-read : (lines : List Entry) → AllByRecursion IsRead (requests_read lines)
+requests-read [] = tt
+requests-read (line ∷ lines) = ((line.request, refl), requests-read lines)
 
 rises-from : (n : ℕ) (rs : List Reading) → RisesFrom n (numbered_from n rs)
 rises-from n [] = tt

@@ -13,6 +13,10 @@ pub record NumberedReading : Type 0 where
 abbrev pub requests_read : List Entry → List Reading
 requests_read = map (λ line. reading line.request)
 
+-- what some message is read as
+abbrev pub IsRead : Reading → Type 0
+IsRead r = (message : List ℕ) × (r ≡ reading message)
+
 -- of each line, in order
 abbrev pub readings_of : List Entry → List NumberedReading
 readings_of = map (λ line. record { number = line.number; reading = reading line.request })

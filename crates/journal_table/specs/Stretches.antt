@@ -1,6 +1,8 @@
 -- How readings lie in memory: in stretches of one length, of which the last may be shorter.
 use Rattle.std.specs.Prelude.{◌≡◌, ◌+◌, ◌<◌, ◌≤◌, ℕ, List, [], ◌∷◌, length, flat_map, map, Vec}
+use Rattle.std.specs.List.{AllByRecursion}
 use Rattle.sip_reader.specs.declared.request.Reading.{Reading}
+use Rattle.journal_table.specs.Readings.{IsRead}
 use Rattle.journal_table.specs.declared.TheConstants.{LINE_LIMIT}
 use Rattle.journal_table.specs.declared.readings.Readings.TheInside.{Inside}
 use Rattle.journal_table.specs.declared.readings.TheConstants.{STRETCH}
@@ -21,9 +23,10 @@ pub record AreStretchesOf (readings : List Reading) (stretches : List (List Read
 abbrev pub stretches_of : {A : Type 0} → List (Vec Reading A) → List (List Reading)
 stretches_of stretches = map (λ s. s.items) stretches
 
--- as many readings as are counted, no more than a journal has lines, of which the last has a number of at most ten digits
+-- as many readings as are counted, each that of a message, no more than a journal has lines, of which the last has a number of at most ten digits
 pub record IsKept (r : Inside) : Type 0 where
   pub full : AreFull STRETCH (stretches_of r.stretches.items)
   pub count : length (joined (stretches_of r.stretches.items)) ≡ r.count
+  pub read : AllByRecursion IsRead (joined (stretches_of r.stretches.items))
   pub few : r.count ≤ LINE_LIMIT
   pub within : r.first + r.count ≤ 10000000000

@@ -1,9 +1,10 @@
 //! The requests of a journal, read one after the other or by all cores.
 
 ghost use Rattle.std.specs.Prelude.{◌≡◌, ◌+◌, ◌≤◌, ◌^◌, IfOk, length, map, option_copied, slice_get, unwrap_or};
+ghost use Rattle.std.specs.List.{AllByRecursion};
 ghost use Rattle.journal_table.specs.Entry.{AreLines, Numbered, first_number};
 ghost use Rattle.journal_table.specs.declared.TheConstants.{LINE_LIMIT};
-ghost use Rattle.journal_table.specs.Readings.{EndInTime, Rises, first_read, reading_at, readings_of, requests_read};
+ghost use Rattle.journal_table.specs.Readings.{EndInTime, IsRead, Rises, first_read, reading_at, readings_of, requests_read};
 ghost use Rattle.journal_table.specs.Stretches.{AreStretchesOf, stretches_of};
 
 use crate::journal::Journal;
@@ -66,10 +67,11 @@ impl Readings {
         }
     }
 
-    /// How many lines were read, at most 1,000,000.
+    /// How many lines were read, at most 1,000,000. Each reading is that of a message.
     pub fn len(&self) -> usize
         ensures len { result ≡ length self.now }
         ensures few { length self.now ≤ LINE_LIMIT }
+        ensures read { AllByRecursion IsRead (map reading_at self.now) }
     {
         self.count
     }

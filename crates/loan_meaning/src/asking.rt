@@ -10,6 +10,7 @@ use circ_records::Loan;
 use read_set::{Article, LoanRequest};
 use sip_reader::{Amount, Checkout, Day, Id, Renew, Stamp};
 
+/// The loan or the renewal for which a checkout asks: it is forced by no block Y or by BI Y, and BI Y makes it free.
 pub fn ask_checkout(request: &Checkout) -> LoanRequest
     ensures { result ≡ by_checkout request.now }
 {
@@ -25,6 +26,7 @@ pub fn ask_checkout(request: &Checkout) -> LoanRequest
     }
 }
 
+/// The renewal for which a renewal asks: it is forced by no block Y alone, and never free.
 pub fn ask_renew(request: &Renew) -> LoanRequest
     ensures { result ≡ by_renew request.now }
 {
@@ -76,12 +78,14 @@ pub fn has_lent_to(patron: &Id, loan: Option<Loan>) -> bool
     }
 }
 
+/// The loan of an item.
 pub fn loan_in(article: &Article) -> Option<Loan>
     ensures { result ≡ article.now.item.loan }
 {
     article.item.loan
 }
 
+/// The rental of an item's media type, in hundredths.
 pub fn rental_in(article: &Article) -> Amount
     ensures { result ≡ article.now.media.rental }
 {

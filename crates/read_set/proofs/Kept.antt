@@ -3,6 +3,7 @@ use Rattle.std.proofs.Common.{◌≡◌, ◌≤◌, ◌^◌, ◌+◌, ◌-◌, �
 use Rattle.std.specs.Prelude.{◌||◌, is_some, nat_lt, slice_get}
 use Rattle.std.specs.List.{AllByRecursion}
 use Rattle.std.specs.Ordering.{is_eq}
+use Rattle.circ_policy.specs.Ranges.{FitsPolicy}
 use Rattle.circ_policy.specs.Terms.{Terms}
 use Rattle.circ_records.proofs.RowsKept.{same-itself}
 use Rattle.circ_records.specs.Coherent.{IsCoherentMap, as_item, has_id}
@@ -17,7 +18,7 @@ use Rattle.sip_reader.specs.declared.request.Act.{Act}
 use Rattle.sip_reader.specs.declared.request.Act.TheVariants as acts
 use Rattle.sip_reader.specs.declared.request.Reading.{Reading}
 use Rattle.sip_reader.specs.declared.request.Reading.TheVariants as readings
-use Rattle.read_set.specs.Coherence.{FitsAct, FitsPlan, FitsPolicy, FitsReading, HasFewItems, MeaningKeepsCoherence, ReplayKeepsCoherence}
+use Rattle.read_set.specs.Coherence.{FitsAct, FitsPlan, FitsReading, HasFewItems, MeaningKeepsCoherence, ReplayKeepsCoherence}
 use Rattle.read_set.specs.Maps.{Map, put}
 use Rattle.read_set.specs.Meaning.{effect, effect_of, one}
 use Rattle.read_set.specs.Plans.{Planned, reading_at}
@@ -109,20 +110,20 @@ step-by plan fits line M h low (Some r) e =
     let kept = meaning-keeps plan.policy line r M fits.policy (fits-reading plan fits line r e) low h.few h.coherent in
     record { coherent = kept.0; few = kept.1 }
 
-stands-after : (plan : Planned) → FitsPlan plan → length plan.base ≤ 2 ^ 64 → (n : ℕ) → n ≤ length plan.readings → Stands plan (plan.first + n) (after plan n)
-stands-after plan fits few zero h =
+stands-after : (plan : Planned) → FitsPlan plan → (n : ℕ) → n ≤ length plan.readings → Stands plan (plan.first + n) (after plan n)
+stands-after plan fits zero h =
     let same : plan.first ≡ plan.first + 0 = omega arith in
-    subst (λ (line : ℕ). Stands plan line (record_at plan.base)) same (record { coherent = fits.base; few = few-items plan.base few })
-stands-after plan fits few (suc n) h =
+    subst (λ (line : ℕ). Stands plan line (record_at plan.base)) same (record { coherent = fits.base; few = few-items plan.base fits.few })
+stands-after plan fits (suc n) h =
     let end : plan.first + length plan.readings ≤ 10000000000 = fits.last in
     let same : plan.first + n + 1 ≡ plan.first + suc n = omega arith in
     subst (λ (line : ℕ). Stands plan line (one_at plan (plan.first + n) (after plan n)).0) same
-    (step-by plan fits (plan.first + n) (after plan n) (stands-after plan fits few n (omega arith)) (omega arith) (reading_at plan (plan.first + n)) refl)
+    (step-by plan fits (plan.first + n) (after plan n) (stands-after plan fits n (omega arith)) (omega arith) (reading_at plan (plan.first + n)) refl)
 
 pub replay-keeps : ReplayKeepsCoherence
-replay-keeps plan fits few = record {
+replay-keeps plan fits = record {
   before = λ line low high.
       let same : plan.first + (line - plan.first) ≡ line = omega arith in
-      subst (λ (x : ℕ). IsCoherentMap plan.policy x (after plan (line - plan.first))) same (stands-after plan fits few (line - plan.first) (omega arith)).coherent;
-  last = (stands-after plan fits few (length plan.readings) (omega arith)).coherent;
+      subst (λ (x : ℕ). IsCoherentMap plan.policy x (after plan (line - plan.first))) same (stands-after plan fits (line - plan.first) (omega arith)).coherent;
+  last = (stands-after plan fits (length plan.readings) (omega arith)).coherent;
 }

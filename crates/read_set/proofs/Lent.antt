@@ -14,7 +14,8 @@ use Rattle.circ_records.specs.declared.record.Record.TheVariants as records
 use Rattle.sip_reader.specs.Dates.{is_stamp}
 use Rattle.sip_reader.specs.declared.request.Checkout.{Checkout}
 use Rattle.sip_reader.specs.declared.request.Renew.{Renew}
-use Rattle.read_set.specs.Coherence.{FitsMedia, IsDay}
+use Rattle.circ_policy.specs.Ranges.{FitsMedia}
+use Rattle.read_set.specs.Coherence.{IsDay}
 use Rattle.read_set.specs.Fees.{fee_made}
 use Rattle.read_set.specs.Ids.{same, without}
 use Rattle.read_set.specs.Known.{item_in, patron_in}

@@ -1,3 +1,4 @@
+pub mod Drafting
 pub mod DueDays
 pub mod FeeNumbers
 pub mod Following
@@ -13,7 +14,6 @@ pub mod Numbers
 pub mod OneRecord
 pub mod Paid
 pub mod PlanFits
-pub mod PolicyFits
 pub mod Putting
 pub mod QueueLists
 pub mod ReadingFits

@@ -16,7 +16,8 @@ use Rattle.circ_records.specs.declared.record.Patron.{Patron}
 use Rattle.circ_records.specs.declared.record.Record.TheVariants as records
 use Rattle.sip_reader.specs.Dates.{day_of, is_stamp}
 use Rattle.sip_reader.specs.Texts.{fee_id}
-use Rattle.read_set.specs.Coherence.{FitsMedia, FitsPolicy, IsDay}
+use Rattle.circ_policy.specs.Ranges.{FitsMedia, FitsPolicy}
+use Rattle.read_set.specs.Coherence.{IsDay}
 use Rattle.read_set.specs.Effects.{written}
 use Rattle.read_set.specs.Fees.{fee_made, with_fee}
 use Rattle.read_set.specs.Known.{item_in, patron_in}

@@ -9,7 +9,7 @@ use Rattle.read_set.specs.Plans.{Planned, plan_of, plan_read}
 use Rattle.sip_reader.specs.Reading.{reading}
 use Rattle.sip_reader.specs.declared.request.Reading.{Reading}
 
-first-same : (lines : List Entry) → first_read (readings_of lines) ≡ first_number lines
+pub first-same : (lines : List Entry) → first_read (readings_of lines) ≡ first_number lines
 first-same [] = refl
 first-same (line ∷ rest) = refl
 

@@ -1,6 +1,10 @@
 -- The plan of what was read fits: of a policy, a journal and a base as they are read.
-use Rattle.std.proofs.Common.{◌≡◌, ◌≤◌, ◌+◌, ℕ, suc, List, [], ◌∷◌, Ok, length, refl, subst, sym, ap, arith}
+use Rattle.std.proofs.Common.{◌≡◌, ◌<◌, ◌≤◌, ◌+◌, ◌^◌, ℕ, suc, List, [], ◌∷◌, Option, Some, None, Ok, length, map, refl, subst, sym, ap, ◌∙◌, arith}
+use Rattle.std.specs.Prelude.{unwrap_or}
+use Rattle.std.proofs.lemmas.List.{length-map}
 use Rattle.std.specs.List.{AllByRecursion}
+use Rattle.circ_policy.proofs.Ranges.{policy-fits}
+use Rattle.circ_policy.specs.Ranges.{FitsPolicy}
 use Rattle.circ_policy.specs.Reading.{policy_of}
 use Rattle.circ_policy.specs.Terms.{Terms}
 use Rattle.read_set.specs.Replay.{last}
@@ -9,14 +13,17 @@ use Rattle.circ_records.proofs.ReadAgain.{read-again}
 use Rattle.std.proofs.Math.Path.{fun_ext}
 use Rattle.circ_records.specs.Coherent.{Coherent, number_before, IsCoherentMap}
 use Rattle.circ_records.specs.Records.{Entries, record_at}
+use Rattle.circ_records.specs.declared.key.Key.{Key}
+use Rattle.circ_records.specs.declared.record.Record.{Record}
 use Rattle.journal_table.proofs.Ends.{ends-lines}
 use Rattle.journal_table.specs.Entry.{Entry, first_number}
 use Rattle.journal_table.specs.Journal.{journal_of, header}
+use Rattle.journal_table.specs.Readings.{EndInTime, IsRead, NumberedReading, first_read, reading_at}
+use Rattle.sip_reader.specs.declared.request.Reading.{Reading}
 use Rattle.csv_table.specs.Rows.{rows_under}
 use Rattle.read_set.specs.Coherence.{FitsPlan, FitsReading, ReadPlansStayCoherent, FinalTablesReadBack, StaysCoherent}
-use Rattle.read_set.specs.Plans.{beginning, plan_of, readings_of, Planned}
+use Rattle.read_set.specs.Plans.{beginning, plan_of, plan_read, readings_of, Planned}
 use Rattle.read_set.proofs.Kept.{replay-keeps}
-use Rattle.read_set.proofs.PolicyFits.{policy-fits}
 use Rattle.read_set.proofs.ReadingFits.{reading-fits}
 
 -- what each line asks fits
@@ -24,34 +31,59 @@ all-fit : (lines : List Entry) → AllByRecursion FitsReading (readings_of lines
 all-fit [] = tt
 all-fit (line ∷ rest) = (reading-fits line.request, all-fit rest)
 
+-- so does each of which it is kept that a message is read so
+read-fits : (rs : List Reading) → AllByRecursion IsRead rs → AllByRecursion FitsReading rs
+read-fits [] h = tt
+read-fits (r ∷ rest) h = (subst FitsReading (sym h.0.1) (reading-fits h.0.0), read-fits rest h.1)
+
 as-many : (lines : List Entry) → length (readings_of lines) ≡ length lines
 as-many [] = refl
 as-many (line ∷ rest) = ap suc (as-many rest)
 
 -- THE PLAN
 
-begins : (lines : List Entry) → number_before (first_number lines) ≡ beginning lines
-begins [] = refl
-begins (line ∷ rest) = refl
+-- as many records as keys, and a count holds the number of the keys
+pub counted : (base : Entries) (keys : List Key) (count : ℕ) → keys ≡ map (λ (e : Key × Record). e.0) base → count ≡ length keys → count < 18446744073709551616 → length base ≤ 2 ^ 64
+counted base keys count is many held = let same : length keys ≡ length base = ap length is ∙ length-map base (λ (e : Key × Record). e.0) in omega arith
+
+begins : (first : Option ℕ) → number_before first ≡ unwrap_or first 10000000000
+begins None = refl
+begins (Some first) = refl
+
+as-many-read : (rs : List NumberedReading) → length (map reading_at rs) ≡ length rs
+as-many-read [] = refl
+as-many-read (r ∷ rest) = ap suc (as-many-read rest)
+
+-- the plan of numbered readings fits
+pub made-fits : (policy : Terms) (base : Entries) (read : List NumberedReading) → FitsPolicy policy → AllByRecursion IsRead (map reading_at read) → EndInTime read
+    → length base ≤ 2 ^ 64 → Coherent policy (number_before (first_read read)) base → FitsPlan (plan_read policy base read)
+made-fits policy base read p r end few h = record {
+  policy = p;
+  readings = read-fits (map reading_at read) r;
+  base = subst (λ (n : ℕ). Coherent policy n base) (begins (first_read read)) h;
+  few = few;
+  last = let same : length (map reading_at read) ≡ length read = as-many-read read in omega arith;
+}
 
 pub plan-fits : (text bytes : List ℕ) (policy : Terms) (base : Entries) (lines : List Entry) → policy_of text ≡ Ok policy → journal_of bytes ≡ Ok lines
-    → Coherent policy (number_before (first_number lines)) base → FitsPlan (plan_of policy base lines)
-plan-fits text bytes policy base lines p j h = record {
+    → length base ≤ 2 ^ 64 → Coherent policy (number_before (first_number lines)) base → FitsPlan (plan_of policy base lines)
+plan-fits text bytes policy base lines p j few h = record {
   policy = policy-fits text policy p;
   readings = all-fit lines;
-  base = subst (λ (n : ℕ). Coherent policy n base) (begins lines) h;
+  base = subst (λ (n : ℕ). Coherent policy n base) (begins (first_number lines)) h;
+  few = few;
   last = let same : length (readings_of lines) ≡ length lines = as-many lines in
       let end : beginning lines + length lines ≤ 10000000000 = ends-lines (rows_under header bytes) lines j in
       omega arith;
 }
 
-pub read-plans : ReadPlansStayCoherent
-read-plans text bytes policy base lines p j h few = replay-keeps (plan_of policy base lines) (plan-fits text bytes policy base lines p j h) few
+pub read-plans : (base : Entries) → length base ≤ 2 ^ 64 → ReadPlansStayCoherent base
+read-plans base few text bytes policy lines p j h = replay-keeps (plan_of policy base lines) (plan-fits text bytes policy base lines p j few h)
 
 -- the tables of the last records are read again
-pub final-tables : FinalTablesReadBack
-final-tables text bytes policy base lines p j h few entries rising tells =
+pub final-tables : (base : Entries) → length base ≤ 2 ^ 64 → FinalTablesReadBack base
+final-tables base few text bytes policy lines p j h entries rising tells =
     let plan : Planned = plan_of policy base lines in
-    let stays : StaysCoherent plan = read-plans text bytes policy base lines p j h few in
+    let stays : StaysCoherent plan = read-plans base few text bytes policy lines p j h in
     let same : record_at entries ≡ last plan = fun_ext tells in
     read-again policy (plan.first + length plan.readings) entries rising (subst (λ (m : Map). IsCoherentMap policy (plan.first + length plan.readings) m) (sym same) stays.last)

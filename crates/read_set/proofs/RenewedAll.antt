@@ -13,7 +13,7 @@ use Rattle.circ_records.specs.declared.record.Record.TheVariants as records
 use Rattle.sip_reader.specs.Dates.{is_stamp}
 use Rattle.sip_reader.specs.Texts.{fee_id}
 use Rattle.sip_reader.specs.declared.request.RenewAll.{RenewAll}
-use Rattle.read_set.specs.Coherence.{FitsMedia}
+use Rattle.circ_policy.specs.Ranges.{FitsMedia}
 use Rattle.read_set.specs.Effects.{written}
 use Rattle.read_set.specs.Fees.{fee_made, with_fee}
 use Rattle.read_set.specs.Known.{item_in, patron_in}

@@ -11,7 +11,7 @@ use Rattle.circ_records.specs.declared.record.Loan.{Loan}
 use Rattle.circ_records.specs.declared.record.Patron.{Patron}
 use Rattle.circ_records.specs.declared.record.Record.TheVariants as records
 use Rattle.sip_reader.specs.declared.request.Checkin.{Checkin}
-use Rattle.read_set.specs.Coherence.{FitsMedia}
+use Rattle.circ_policy.specs.Ranges.{FitsMedia}
 use Rattle.read_set.specs.Fees.{fee_made}
 use Rattle.read_set.specs.Known.{borrower_in, item_in}
 use Rattle.read_set.specs.Maps.{Map, put}

@@ -2,11 +2,9 @@
 -- before the next line, the ids of the fees that it made included.
 use Rattle.std.specs.Prelude.{◌≡◌, ◌≤◌, ◌+◌, ◌^◌, ℕ, true, List, length, Some, Ok, IfSome, is_some, None}
 use Rattle.std.specs.List.{AllByRecursion}
-use Rattle.circ_policy.specs.Policy.{media_of}
+use Rattle.circ_policy.specs.Ranges.{FitsPolicy}
 use Rattle.circ_policy.specs.Reading.{policy_of}
 use Rattle.circ_policy.specs.Terms.{Terms}
-use Rattle.circ_policy.specs.declared.media.Media.{Media}
-use Rattle.circ_policy.specs.declared.media_type.MediaType.{MediaType}
 use Rattle.circ_records.specs.Base.{base_of}
 use Rattle.circ_records.specs.Laws.{AreRising}
 use Rattle.circ_records.specs.Written.{tables_of}
@@ -27,15 +25,6 @@ use Rattle.read_set.specs.Maps.{Map}
 use Rattle.read_set.specs.Meaning.{one}
 use Rattle.read_set.specs.Plans.{Planned, plan_of}
 use Rattle.read_set.specs.Replay.{before, last}
-
--- the ranges of a policy's terms: loans of at most 3,650 days, amounts of at most 999,999,999.99
-pub record FitsMedia (m : Media) : Type 0 where
-  pub days : m.days ≤ 3650
-  pub rental : m.rental ≤ 99999999999
-  pub cap : m.cap ≤ 99999999999
-
-abbrev pub FitsPolicy : Terms → Type 0
-FitsPolicy p = (type : MediaType) (media : Media) → media_of p type ≡ Some media → FitsMedia media
 
 -- the number of a real day of the years 1900 to 9999
 abbrev pub IsDay : ℕ → Type 0
@@ -63,11 +52,13 @@ abbrev pub MeaningKeepsCoherence : Type 0
 MeaningKeepsCoherence = (policy : Terms) (n : ℕ) (r : Reading) (M : Map) → FitsPolicy policy → FitsReading r → n ≤ 9999999999
     → HasFewItems M → IsCoherentMap policy n M → IsCoherentMap policy (n + 1) (one policy n r M).0 × HasFewItems (one policy n r M).0
 
--- a plan as it is read: of what fits, on a base that is coherent at the number of its first line, and no line has a number of more than ten digits
+-- what a plan's type keeps: it is made of what fits, on a base that is coherent at the number of its first line and that a memory holds, and no line has
+-- a number of more than ten digits
 pub record FitsPlan (plan : Planned) : Type 0 where
   pub policy : FitsPolicy plan.policy
   pub readings : AllByRecursion FitsReading plan.readings
   pub base : Coherent plan.policy plan.first plan.base
+  pub few : length plan.base ≤ 2 ^ 64
   pub last : plan.first + length plan.readings ≤ 10000000000
 
 -- the records before each line, and behind the last one, are coherent there
@@ -75,17 +66,17 @@ pub record StaysCoherent (plan : Planned) : Type 0 where
   pub before : (line : ℕ) → plan.first ≤ line → line ≤ plan.first + length plan.readings → IsCoherentMap plan.policy line (before plan line)
   pub last : IsCoherentMap plan.policy (plan.first + length plan.readings) (last plan)
 
--- so do those of a replay on a base that a memory can hold
+-- so do those of a replay
 abbrev pub ReplayKeepsCoherence : Type 0
-ReplayKeepsCoherence = (plan : Planned) → FitsPlan plan → length plan.base ≤ 2 ^ 64 → StaysCoherent plan
+ReplayKeepsCoherence = (plan : Planned) → FitsPlan plan → StaysCoherent plan
 
--- so does the replay of whatever was read: a policy, a journal, and a base that is coherent before the journal's first line
-abbrev pub ReadPlansStayCoherent : Type 0
-ReadPlansStayCoherent = (text bytes : List ℕ) (policy : Terms) (base : Entries) (lines : List Entry) → policy_of text ≡ Ok policy → journal_of bytes ≡ Ok lines
-    → Coherent policy (number_before (first_number lines)) base → length base ≤ 2 ^ 64 → StaysCoherent (plan_of policy base lines)
+-- so does the replay over this base of whatever was read: a policy, and a journal before whose first line the base is coherent
+abbrev pub ReadPlansStayCoherent : Entries → Type 0
+ReadPlansStayCoherent base = (text bytes : List ℕ) (policy : Terms) (lines : List Entry) → policy_of text ≡ Ok policy → journal_of bytes ≡ Ok lines
+    → Coherent policy (number_before (first_number lines)) base → StaysCoherent (plan_of policy base lines)
 
 -- and then the six final tables, which tell the records after the last line, are read again as these records, as a base before a journal without lines
-abbrev pub FinalTablesReadBack : Type 0
-FinalTablesReadBack = (text bytes : List ℕ) (policy : Terms) (base : Entries) (lines : List Entry) → policy_of text ≡ Ok policy → journal_of bytes ≡ Ok lines
-    → Coherent policy (number_before (first_number lines)) base → length base ≤ 2 ^ 64
+abbrev pub FinalTablesReadBack : Entries → Type 0
+FinalTablesReadBack base = (text bytes : List ℕ) (policy : Terms) (lines : List Entry) → policy_of text ≡ Ok policy → journal_of bytes ≡ Ok lines
+    → Coherent policy (number_before (first_number lines)) base
     → (entries : Entries) → AreRising entries → ((k : Key) → record_at entries k ≡ last (plan_of policy base lines) k) → base_of policy (tables_of entries) None ≡ Ok entries

@@ -1,5 +1,6 @@
 pub mod Asks
 pub mod Coherence
+pub mod Drafts
 pub mod Effects
 pub mod Fees
 pub mod Holding

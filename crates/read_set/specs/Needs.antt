@@ -1,3 +1,4 @@
+-- What a line needs next, on what is noted for it.
 use Rattle.std.specs.Prelude.{◌≡◌, ℕ, List}
 use Rattle.read_set.specs.Notes.{noted}
 use Rattle.read_set.specs.Plans.{Planned}

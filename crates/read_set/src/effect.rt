@@ -8,16 +8,28 @@ ghost use Rattle.circ_records.specs.Keys.{key_cmp};
 ghost use Rattle.circ_records.specs.Records.{record_at};
 ghost use Rattle.read_set.specs.Effects.{unwritten};
 
+use crate::sorted::{found_in, map_of, put_in, put_over};
 use circ_records::{Key, Record};
 use sip_answer::Answer;
 use std::alloc::{AllocError, Global};
 use std::collections::BTreeMap;
 use std::marker::Model;
+use std::mem::replace;
+
+/// Up to so many records are kept as a list, which costs less than a map.
+const FEW: usize = 8;
 
 /// The records that a line writes so far. Of several under one key the newest counts.
 #[derive(Drop)]
 pub struct Draft {
-    entries: BTreeMap<Key, Record>,
+    kept: Kept,
+}
+
+/// A few records are a list, rising by key. More are a map, so that each costs little however many are there before it.
+#[derive(Drop)]
+enum Kept {
+    Few(Vec<(Key, Record)>),
+    Many(BTreeMap<Key, Record>),
 }
 
 impl Model for Draft {
@@ -25,7 +37,11 @@ impl Model for Draft {
 
     ghost Value = { Entries };
 
-    ghost view = { λ d. d.entries.entries };
+    ghost use Rattle.read_set.specs.Drafts.{Rise, entries_in};
+
+    ghost view = { λ d. entries_in d.kept };
+
+    ghost invariant = { λ d. Rise (entries_in d.kept) };
 }
 
 impl Draft {
@@ -34,7 +50,7 @@ impl Draft {
         ensures { result ≡ [] }
     {
         Draft {
-            entries: BTreeMap::new(alloc),
+            kept: Kept::Few(Vec::new(alloc)),
         }
     }
 
@@ -42,29 +58,59 @@ impl Draft {
     pub fn get(&self, key: &Key) -> Option<&Record>
         ensures { option_copied result ≡ record_at self.now key.now }
     {
-        self.entries.get(key)
+        match &self.kept {
+            Kept::Few(list) => found_in(list.as_slice(), key),
+            Kept::Many(map) => map.get(key),
+        }
     }
 
     /// One more record.
     pub fn put(&mut self, key: Key, written: Record) -> Result<(), AllocError>
         ensures { OnOk result (self.new ≡ insert_entry key_cmp self.old key written) }
     {
-        match self.entries.insert(key, written) {
-            Ok(_) => Ok(()),
-            Err(_) => Err(AllocError),
+        self.make_room()?;
+        match &mut self.kept {
+            Kept::Few(list) => put_in(list, key, written),
+            Kept::Many(map) => put_over(map, key, written),
         }
+    }
+
+    /// Makes a map of the records, where they are no longer few.
+    fn make_room(&mut self) -> Result<(), AllocError>
+        ensures { OnOk result (self.new ≡ self.old) }
+    {
+        let Kept::Few(list) = &mut self.kept else {
+            return Ok(());
+        };
+        if list.len() < FEW {
+            return Ok(());
+        }
+        let alloc = *list.allocator();
+        let list = replace(list, Vec::new(alloc));
+        self.kept = Kept::Many(map_of(alloc, list)?);
+        Ok(())
     }
 
     /// The records in the order of keys.
     pub fn finish(self, alloc: Global) -> Result<Writes, AllocError>
         ensures { IfOk result (λ w. w ≡ self) }
     {
-        let mut entries = Vec::with_capacity(alloc, self.entries.len())?;
-        for entry in self.entries {
-            entries.push(entry)?;
+        match self.kept {
+            Kept::Few(entries) => Ok(Writes { entries }),
+            Kept::Many(map) => listed(alloc, map),
         }
-        Ok(Writes { entries })
     }
+}
+
+/// The records of a map in the order of keys.
+fn listed(alloc: Global, map: BTreeMap<Key, Record>) -> Result<Writes, AllocError>
+    ensures { IfOk result (λ w. w ≡ map.entries) }
+{
+    let mut entries = Vec::with_capacity(alloc, map.len())?;
+    for entry in map {
+        entries.push(entry)?;
+    }
+    Ok(Writes { entries })
 }
 
 /// The records that a line writes, each under its key, in the order of keys.

@@ -2,6 +2,8 @@
 
 ghost use Rattle.read_set.specs.Coherence.{FinalTablesReadBack, MeaningKeepsCoherence, ReadPlansStayCoherent, ReplayKeepsCoherence};
 
+use circ_records::Base;
+
 /// The meaning of a line keeps records coherent.
 pub fn meaning_keeps_coherence()
     ensures { MeaningKeepsCoherence }
@@ -12,12 +14,16 @@ pub fn replay_keeps_coherence()
     ensures { ReplayKeepsCoherence }
 {}
 
-/// So are those of the plan of a policy, a journal and a base that were read. What fits a plan is asked of nobody: it is proved of what is read.
-pub fn read_plans_stay_coherent()
-    ensures { ReadPlansStayCoherent }
-{}
+/// So are those of the plan of a policy and a journal that were read, over a base. What fits a plan is asked of nobody: it is proved of what is read.
+pub fn read_plans_stay_coherent(base: &Base)
+    ensures { ReadPlansStayCoherent base.now }
+{
+    let _count = base.keys().len();
+}
 
 /// The six tables of the records after the last line are read again as these records, as a base before a journal without lines.
-pub fn final_tables_read_back()
-    ensures { FinalTablesReadBack }
-{}
+pub fn final_tables_read_back(base: &Base)
+    ensures { FinalTablesReadBack base.now }
+{
+    let _count = base.keys().len();
+}

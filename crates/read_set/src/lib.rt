@@ -10,6 +10,7 @@ mod laws;
 mod notes;
 mod plan;
 mod progress;
+mod sorted;
 mod source;
 #[cfg(test)]
 mod tests;

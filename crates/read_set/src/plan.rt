@@ -2,11 +2,13 @@
 
 ghost use Rattle.std.specs.Prelude.{◌≡◌, ◌+◌, ◌≤◌, ◌^◌, ◌&&◌, ℕ, List, IfOk, is_some, length, map, nat_le, nat_lt, option_copied};
 ghost use Rattle.std.specs.List.Sorted.{IsStrictlySortedBy};
+ghost use Rattle.circ_records.specs.Coherent.{Coherent, number_before};
 ghost use Rattle.circ_records.specs.Keys.{key_cmp};
 ghost use Rattle.circ_records.specs.Records.{record_at};
-ghost use Rattle.journal_table.specs.Entry.{Entry};
-ghost use Rattle.journal_table.specs.Readings.{reading_at as reading_in, readings_of as all_read};
+ghost use Rattle.journal_table.specs.Entry.{Entry, first_number};
+ghost use Rattle.journal_table.specs.Readings.{first_read, reading_at as reading_in, readings_of as all_read};
 ghost use Rattle.journal_table.specs.declared.TheConstants.{LINE_LIMIT};
+ghost use Rattle.read_set.specs.Coherence.{StaysCoherent};
 ghost use Rattle.read_set.specs.Plans.{plan_of, plan_read, reading_at};
 
 use circ_policy::Policy;
@@ -35,37 +37,43 @@ impl Model for Plan {
     ghost use Rattle.std.specs.Prelude.{◌+◌, ◌≤◌, length, map};
     ghost use Rattle.journal_table.specs.Readings.{reading_at};
     ghost use Rattle.journal_table.specs.declared.TheConstants.{LINE_LIMIT};
+    ghost use Rattle.read_set.specs.Coherence.{FitsPlan};
     ghost use Rattle.read_set.specs.Plans.{Planned};
 
     ghost Value = { Planned };
 
     ghost view = { λ p. record { policy = p.policy; base = p.base; first = p.first; readings = map reading_at p.readings } };
 
-    ghost invariant = { λ p. (p.first + length p.readings ≤ 10000000000) × (length p.readings ≤ LINE_LIMIT) };
+    ghost invariant = { λ p. (p.first + length p.readings ≤ 10000000000) × (length p.readings ≤ LINE_LIMIT) × FitsPlan (record { policy = p.policy; base = p.base; first = p.first; readings = map reading_at p.readings }) };
 }
 
 impl Plan {
-    /// The plan of a journal.
+    /// The plan of a journal, over a base that is coherent before its first line, as a base is that was read for it.
     pub fn new(
         alloc: Global,
         policy: Policy,
         base: Base,
         journal: &Journal,
     ) -> Result<Plan, AllocError>
+        requires { Coherent policy (number_before (first_number journal.now)) base }
         ensures { IfOk result (λ p. p ≡ plan_of policy base journal.now) }
     {
         let readings = read_in_turn(alloc, journal)?;
         Ok(Plan::from_readings(policy, base, readings))
     }
 
-    /// The plan of what the requests of a journal were read as.
+    /// The plan of what the requests of a journal were read as, over a base that is coherent before the first of them.
     pub fn from_readings(policy: Policy, base: Base, readings: Readings) -> Plan
+        requires { Coherent policy (number_before (first_read readings)) base }
         ensures value { result ≡ plan_read policy base readings }
         ensures journal { (lines : List Entry) → readings ≡ all_read lines → result ≡ plan_of policy base lines }
     {
         let first = readings.first().unwrap_or(BEHIND_LAST);
-        // Its contract says that they are few.
-        let _count = readings.len();
+        // Their contracts say that the lines are few and each is read from a message, that the policy's terms lie in
+        // their ranges, and that a count holds the number of the records.
+        let _lines = readings.len();
+        let _currency = policy.currency();
+        let _records = base.keys().len();
         Plan {
             policy,
             base,
@@ -88,12 +96,14 @@ impl Plan {
         self.first
     }
 
-    /// The numbers of the lines, rising: from the first line's to the one behind the last's, at most 10,000,000,000.
+    /// The numbers of the lines, rising: from the first line's to the one behind the last's, at most 10,000,000,000. The
+    /// records before each of them, and those after the last line, are coherent.
     pub fn numbers(&self) -> Range<u64>
         ensures start { result.start ≡ self.now.first }
         ensures end { result.end ≡ self.now.first + length self.now.readings }
         ensures lines { (n : ℕ) → is_some (reading_at self.now n) ≡ (nat_le result.start n && nat_lt n result.end) }
         ensures within { result.end ≤ 10000000000 }
+        ensures coherent { StaysCoherent self.now }
     {
         self.first..self.first + self.readings.len() as u64
     }
@@ -117,10 +127,11 @@ impl Plan {
         self.readings.get((line - self.first) as usize)
     }
 
-    /// The keys of the records before the first line, rising.
+    /// The keys of the records before the first line, rising. These records are coherent before it.
     pub fn keys(&self) -> Keys<'_, Key, Record>
         ensures keys { result ≡ map (λ e. e.0) self.now.base }
         ensures rising { IsStrictlySortedBy key_cmp (map (λ e. e.0) self.now.base) }
+        ensures coherent { Coherent self.now.policy self.now.first self.now.base }
     {
         self.base.keys()
     }

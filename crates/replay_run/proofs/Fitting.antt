@@ -1,5 +1,5 @@
 -- A plan fits the journal that it was made of.
-use Rattle.std.proofs.Common.{◌≡◌, ℕ, List, Result, Ok, Err, refl}
+use Rattle.std.proofs.Common.{◌≡◌, ℕ, List, Result, Ok, Err, IfOk, refl, subst}
 use Rattle.circ_policy.specs.Reading.{Refusal, policy_of}
 use Rattle.circ_policy.specs.Terms.{Terms}
 use Rattle.circ_records.specs.Base.{base_of}
@@ -11,6 +11,9 @@ use Rattle.journal_table.specs.Journal.{journal_of}
 use Rattle.journal_table.specs.declared.error.JournalError.{JournalError}
 use Rattle.read_set.specs.Plans.{readings_of}
 use Rattle.replay_run.specs.Judged.{Judgement, Refused, first_read, judged, with_base, with_lines, with_policy}
+use Rattle.replay_run.specs.Judging.{Judges}
+use Rattle.replay_run.specs.declared.fault.Fault.{Fault}
+use Rattle.replay_run.specs.declared.judged.Judged.{Judged}
 
 abbrev pub Fits : Result Judgement Refused → Type 0
 Fits (Ok j) = j.plan.readings ≡ readings_of j.lines
@@ -31,3 +34,8 @@ policy-fits tables read (Err e) = tt
 pub judged-fits : (policy : List ℕ) (tables : Texts) (lines : List ℕ) → Fits (judged policy tables lines)
 unfolding judged
 judged-fits policy tables lines = policy-fits tables (journal_of lines) (policy_of policy)
+
+-- and so does the plan of what was judged
+pub fit : (r : Result Judged Fault) (due : Result Judgement Refused) → Judges r due → Fits due → IfOk r (λ j. j.plan.readings ≡ readings_of j.journal)
+fit (Ok j) due judges fits = subst Fits judges fits
+fit (Err fault) due judges fits = tt

@@ -2,3 +2,5 @@ mod Puts
 mod Replayed
 mod Fitting
 mod Answered
+mod Ended
+mod Stepping

@@ -8,6 +8,8 @@ use Rattle.circ_records.specs.declared.fault.BaseError.TheVariants as base
 use Rattle.journal_table.specs.Words as journal_words
 use Rattle.journal_table.specs.declared.error.JournalError.{JournalError}
 use Rattle.journal_table.specs.declared.error.JournalError.TheVariants as journal
+use Rattle.speculate.specs.declared.steps.BoardFault.{BoardFault}
+use Rattle.speculate.specs.declared.steps.BoardFault.TheVariants as board
 use Rattle.replay_run.specs.declared.fault.Fault.{Fault}
 use Rattle.replay_run.specs.declared.fault.Fault.TheVariants as faults
 
@@ -35,7 +37,7 @@ fault_text (faults.Attempts line) = codes "attempts spent at line " ++ decimal l
 fault_text faults.ClockSpent = codes "clock spent"
 fault_text faults.Memory = codes "memory"
 
--- what a refused policy, base or journal is told as
+-- what a refused policy, base, journal or step is told as
 abbrev pub policy_fault : PolicyError → Fault
 policy_fault policy.Text = faults.PolicyText
 policy_fault (policy.Rule key) = faults.PolicyRule key
@@ -50,3 +52,8 @@ abbrev pub journal_fault : JournalError → Fault
 journal_fault journal.Table = faults.JournalTable
 journal_fault (journal.Rule row rule) = faults.JournalRule row rule
 journal_fault journal.Memory = faults.Memory
+
+abbrev pub board_fault : BoardFault → Fault
+board_fault (board.Attempts line) = faults.Attempts line
+board_fault board.ClockSpent = faults.ClockSpent
+board_fault board.Memory = faults.Memory

@@ -5,3 +5,4 @@ pub mod Faults
 pub mod Judged
 pub mod Judging
 pub mod OneThread
+pub mod BySteps

@@ -1,6 +1,6 @@
 -- The output of one thread: the first fault of the inputs, or what the replay of the lines in the order of the journal
 -- comes to.
-use Rattle.std.specs.Prelude.{◌≡◌, ◌+◌, List, length, replicate, Result, Ok, Err}
+use Rattle.std.specs.Prelude.{◌≡◌, ◌+◌, ℕ, List, length, replicate, Result, Ok, Err}
 use Rattle.circ_records.specs.Records.{Entries}
 use Rattle.circ_records.specs.Tables.{Texts, texts_of}
 use Rattle.circ_records.specs.Written.{tables_of}
@@ -30,13 +30,17 @@ told_lines plan lines = told lines plan.readings (answers_of plan)
 abbrev pub results_of : Output → Results
 results_of o = record { answers = o.answers; report = o.report; passed = o.passed; sizes = o.sizes }
 
--- The tables of the records after the last line, and the result tables of the lines; each line is answered or passed,
--- and attempted once, by the number 0.
-pub record IsOutput (plan : Planned) (lines : List Entry) (o : Output) : Type 0 where
+-- The tables of the records after the last line, and the result tables of the lines; each line is answered or passed. The
+-- attempts are these.
+pub record IsOutputBy (plan : Planned) (lines : List Entry) (tried : List ℕ) (o : Output) : Type 0 where
   pub tables : TellsMap (last plan) (texts_of o.tables)
   pub results : AreTexts (told_lines plan lines) (results_of o)
   pub each_once : o.sizes.answered + o.sizes.passed ≡ length lines
-  pub attempts : o.attempts.items ≡ replicate (length plan.readings) 0
+  pub attempts : o.attempts.items ≡ tried
+
+-- of one thread: each line is attempted once, by the number 0
+abbrev pub IsOutput : Planned → List Entry → Output → Type 0
+IsOutput plan lines o = IsOutputBy plan lines (replicate (length plan.readings) 0) o
 
 abbrev pub IsOutputOf : Result Judgement Refused → Output → Type 0
 IsOutputOf (Ok j) o = IsOutput j.plan j.lines o

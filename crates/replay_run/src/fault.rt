@@ -1,12 +1,13 @@
 //! Why a run gives no output.
 
 ghost use Rattle.std.specs.Prelude.{◌≡◌, Some};
-ghost use Rattle.replay_run.specs.Faults.{base_fault, fault_number, fault_text, journal_fault, policy_fault};
+ghost use Rattle.replay_run.specs.Faults.{base_fault, board_fault, fault_number, fault_text, journal_fault, policy_fault};
 ghost use Rattle.replay_run.specs.declared.fault.Fault.TheVariants as faults;
 
 use circ_policy::PolicyError;
 use circ_records::{BaseError, BaseRule, TableName};
 use journal_table::{JournalError, JournalRule};
+use speculate::BoardFault;
 use std::alloc::AllocError;
 use std::fmt;
 
@@ -130,6 +131,18 @@ impl From<JournalError> for Fault {
             JournalError::Table => Fault::JournalTable,
             JournalError::Rule { row, rule } => Fault::JournalRule { row, rule },
             JournalError::Memory => Fault::Memory,
+        }
+    }
+}
+
+impl From<BoardFault> for Fault {
+    ghost from_gives = { λ error fault. fault ≡ board_fault error };
+
+    fn from(error: BoardFault) -> Fault {
+        match error {
+            BoardFault::Attempts { line } => Fault::Attempts { line },
+            BoardFault::ClockSpent => Fault::ClockSpent,
+            BoardFault::Memory => Fault::Memory,
         }
     }
 }

@@ -1,9 +1,13 @@
-//! A whole run by one thread.
+//! A whole run by one thread, and the output of any run that comes to what one thread comes to.
 
 ghost use Rattle.std.specs.Prelude.{◌≡◌, IfOk};
 ghost use Rattle.read_set.specs.Plans.{readings_of};
+ghost use Rattle.read_set.specs.Replay.{last};
 ghost use Rattle.result_report.specs.Report.{lent};
-ghost use Rattle.replay_run.specs.OneThread.{IsOneThread, IsOutput};
+ghost use Rattle.replay_run.specs.Answers.{answers_of};
+ghost use Rattle.replay_run.specs.Entries.{AreEntries};
+ghost use Rattle.replay_run.specs.Judging.{Judges};
+ghost use Rattle.replay_run.specs.OneThread.{IsOneThread, IsOutput, IsOutputBy, judgement};
 
 use crate::fault::Fault;
 use crate::inputs::{Inputs, Output};
@@ -22,13 +26,7 @@ use std::alloc::{AllocError, Global};
 pub fn one_thread(alloc: Global, inputs: &Inputs) -> Result<Output, Fault>
     ensures { IsOneThread inputs.now result }
 {
-    let judged = judge(
-        alloc,
-        inputs.policy.as_slice(),
-        &inputs.tables,
-        inputs.journal.as_slice(),
-    );
-    match judged {
+    match judge_inputs(alloc, inputs) {
         Ok(Judged { plan, journal }) => match output(alloc, &plan, &journal) {
             Ok(output) => Ok(output),
             Err(error) => Err(Fault::from(error)),
@@ -37,8 +35,21 @@ pub fn one_thread(alloc: Global, inputs: &Inputs) -> Result<Output, Fault>
     }
 }
 
+/// The plan and the journal that inputs make, or their first fault.
+pub fn judge_inputs(alloc: Global, inputs: &Inputs) -> Result<Judged, Fault>
+    ensures due { Judges result (judgement inputs.now) }
+    ensures fits { IfOk result (λ j. j.plan.readings ≡ readings_of j.journal) }
+{
+    judge(
+        alloc,
+        inputs.policy.as_slice(),
+        &inputs.tables,
+        inputs.journal.as_slice(),
+    )
+}
+
 /// The output of one thread over the plan of a journal.
-fn output(alloc: Global, plan: &Plan, journal: &Journal) -> Result<Output, AllocError>
+pub fn output(alloc: Global, plan: &Plan, journal: &Journal) -> Result<Output, AllocError>
     requires { plan.now.readings ≡ readings_of journal.now }
     ensures { IfOk result (IsOutput plan.now journal.now) }
 {
@@ -47,12 +58,27 @@ fn output(alloc: Global, plan: &Plan, journal: &Journal) -> Result<Output, Alloc
         answers,
         attempts,
     } = replay(alloc, plan)?;
-    let tables = write_records(alloc, &records)?;
     let outcome = Outcome {
         records,
         answers: lend(alloc, answers.as_slice())?,
         attempts,
     };
+    output_of(alloc, plan, journal, outcome)
+}
+
+/// The output of a run over the plan of a journal that came to the records and the answers of one thread.
+pub fn output_of(
+    alloc: Global,
+    plan: &Plan,
+    journal: &Journal,
+    outcome: Outcome<'_>,
+) -> Result<Output, AllocError>
+    requires fits { plan.now.readings ≡ readings_of journal.now }
+    requires answers { lent outcome.answers.items ≡ answers_of plan.now }
+    requires records { AreEntries (last plan.now) outcome.records }
+    ensures { IfOk result (IsOutputBy plan.now journal.now outcome.entry.attempts.items) }
+{
+    let tables = write_records(alloc, &outcome.records)?;
     let texts = report(alloc, journal, plan, &outcome)?;
     Ok(Output {
         tables,

@@ -3,3 +3,4 @@ mod TellingLines
 mod Parts
 mod Collected
 mod Once
+mod BoardEnds

@@ -4,6 +4,7 @@ ghost use Rattle.std.specs.Prelude.{[], Some, IfOk, OnOk};
 ghost use Rattle.csv_table.specs.Text.{bytes_of};
 
 use csv_table::TableText;
+use itoa::Buffer;
 use journal_table::Line;
 use std::alloc::{AllocError, Global};
 
@@ -29,11 +30,12 @@ impl Listing {
     }
 
     /// Writes the row of a line at the end: its number, its connection, and what is told of it.
-    pub fn row(&mut self, alloc: Global, line: &Line, told: &[u8]) -> Result<(), AllocError>
+    pub fn row(&mut self, line: &Line, told: &[u8]) -> Result<(), AllocError>
         requires { HasRoomFor self.old }
         ensures { OnOk result (Gains (Some (row_of line.now told.now)) self.old self.new) }
     {
-        let number = format!(in alloc; "{}", line.number())?;
+        let mut digits = Buffer::new();
+        let number = digits.format(line.number());
         self.table
             .row(&[number.as_bytes(), line.connection(), told])?;
         self.rows += 1;

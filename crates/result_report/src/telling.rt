@@ -81,7 +81,7 @@ impl Telling {
                 tell_answer(alloc, &mut self.answers, line, reading, answer)?;
                 tell_differences(alloc, &mut self.report, line, answer)
             }
-            None => tell_reason(alloc, &mut self.passed, line, reading),
+            None => tell_reason(&mut self.passed, line, reading),
         }
     }
 }
@@ -98,7 +98,7 @@ fn tell_answer(
     ensures { OnOk result (Gains (answer_row (line.now, reading.now, Some answer.now)) answers.old answers.new) }
 {
     let text = write_answer(alloc, answer, sequence_of(reading))?;
-    answers.row(alloc, line, text.as_slice())
+    answers.row(line, text.as_slice())
 }
 
 /// An answered line whose recorded response differs, with the words of what differs.
@@ -116,21 +116,16 @@ fn tell_differences(
         return Ok(());
     }
     let words = words_of(alloc, fields.as_slice())?;
-    report.row(alloc, line, words.as_bytes())
+    report.row(line, words.as_bytes())
 }
 
 /// A line without an answer, with the reason.
-fn tell_reason(
-    alloc: Global,
-    passed: &mut Listing,
-    line: &Line,
-    reading: &Reading,
-) -> Result<(), AllocError>
+fn tell_reason(passed: &mut Listing, line: &Line, reading: &Reading) -> Result<(), AllocError>
     requires { HasRoomFor passed.old }
     ensures { OnOk result (Gains (passed_row (line.now, reading.now, None)) passed.old passed.new) }
 {
     let Some(reason) = reason_of(reading) else {
         return Ok(());
     };
-    passed.row(alloc, line, reason.as_bytes())
+    passed.row(line, reason.as_bytes())
 }

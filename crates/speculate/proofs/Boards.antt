@@ -1,17 +1,18 @@
 -- The board that the fields are, after a change of one line.
-use Rattle.std.proofs.Common.{◌≡◌, ◌≢◌, ℕ, ◌+◌, ◌-◌, ◌<◌, ◌≤◌, max, List, None, length, sym, ap, ap₂, subst, ◌∙◌, inl, inr, arith}
+use Rattle.std.proofs.Common.{◌≡◌, ◌≢◌, ℕ, ◌+◌, ◌-◌, ◌<◌, ◌≤◌, max, get_or, List, Option, length, sym, ap, ap₂, subst, ◌∙◌, inl, inr, arith}
 use Rattle.std.proofs.lemmas.Bool.{cases_eq, cases_lt}
+use Rattle.std.proofs.lemmas.Option.{none-some}
 use Rattle.circ_records.specs.Records.{Entries}
 use Rattle.read_set.specs.Plans.{Planned}
-use Rattle.attempts.specs.Moves.{no_row}
-use Rattle.version_store.specs.Entries as store
+use Rattle.read_set.specs.Settling.{Told}
 use Rattle.read_set.specs.declared.notes.Note.{Note}
-use Rattle.board_steps.specs.Board.{Row, Board, IsLine, IsCommitted, row_at}
+use Rattle.board_steps.specs.Board.{Row, Board, IsLine, IsCommitted, row_at, holder}
 use Rattle.board_steps.specs.Board.State.{Placing}
 use Rattle.board_steps.specs.Reached.{Reached}
 use Rattle.board_steps.specs.Steps.{put_row}
-use Rattle.board_steps.proofs.Lines.{row_from, rows_put, row_put, row_put_off}
-use Rattle.speculate.specs.Parts.{Parts, row_by, first_of, board_of, HandsHold, IsKept}
+use Rattle.board_steps.proofs.Lines.{row_from, rows_put, row_put, row_put_off, within_board}
+use Rattle.speculate.specs.Courses.{IsUnderWay}
+use Rattle.speculate.specs.Parts.{Kept, Parts, no_notes, row_by, first_of, board_of, kept_at, HandsHold, IsKept}
 use Rattle.speculate.proofs.Firsts.{length_first, nth_first, set_first}
 
 -- a line is there where its place is among the rows
@@ -34,6 +35,7 @@ pub record Puts (base : Entries) (a q : Parts) (n : ℕ) (r : Row) : Type 0 wher
   pub lines : length q.store.lines ≡ length a.store.lines
   pub here : row_by base q (n - a.states.first) ≡ r
   pub off : (m : ℕ) → m ≢ n - a.states.first → row_by base q m ≡ row_by base a m
+  pub kept_off : (m : ℕ) → m ≢ n - a.states.first → get_or q.rows m no_notes ≡ get_or a.rows m no_notes
 
 -- a board with these lines and these numbers
 abbrev pub numbered : Board → Parts → Board
@@ -69,21 +71,38 @@ row_new base a q n r there puts = ap (λ (b : Board). row_at b n) (board_is base
 pub row_old : (base : Entries) (a q : Parts) (n : ℕ) (r : Row) → IsLine (board_of base a) n → Puts base a q n r → (m : ℕ) → m ≢ n → row_at (board_of base q) m ≡ row_at (board_of base a) m
 row_old base a q n r there puts m ne = ap (λ (b : Board). row_at b m) (board_is base a q n r there puts) ∙ row_put_off (board_of base a) n r m ne
 
--- a line that is placing has a version, if the line that is put has one
-placed_put : (base : Entries) (a q : Parts) (n : ℕ) (r : Row) → IsLine (board_of base a) n → Puts base a q n r
-    → ((w : ℕ) (notes : List Note) → r.state ≡ Placing w notes None → ⊥)
-    → ((m w : ℕ) (notes : List Note) → (row_at (board_of base a) m).state ≡ Placing w notes None → ⊥)
-    → (m w : ℕ) (notes : List Note) → (row_at (board_of base q) m).state ≡ Placing w notes None → ⊥
-placed_put base a q n r there puts has each m w notes h = elim (cases_eq m n) [
-  | inl e ↦ has w notes (ap (λ (l : Row). l.state) (sym (row_new base a q n r there puts)) ∙ subst (λ x. (row_at (board_of base q) x).state ≡ Placing w notes None) e h)
-  | inr ne ↦ each m w notes (ap (λ (l : Row). l.state) (sym (row_old base a q n r there puts m ne)) ∙ h)
+-- what is kept of another line is as it was
+kept_old : (base : Entries) (a q : Parts) (n : ℕ) (r : Row) → IsLine (board_of base a) n → Puts base a q n r → (m : ℕ) → m ≢ n → a.states.first ≤ m → kept_at q m ≡ kept_at a m
+kept_old base a q n r there puts m ne from =
+    ap (λ x. get_or q.rows (m - x) no_notes) puts.first ∙ puts.kept_off (m - a.states.first) (λ e. ne (omega (arith, e, from, there.0)))
+
+-- a line that is placing is there
+placing_from : (b : Board) (m w : ℕ) (notes : List Note) (last : Option Told) → (row_at b m).state ≡ Placing w notes last → b.first ≤ m
+placing_from b m w notes last h = (within_board b m (λ e. none-some w (sym (ap holder e) ∙ ap holder h))).0
+
+-- each publication has come so far, if that of the line that is put has
+under_put : (base : Entries) (a q : Parts) (n : ℕ) (r : Row) → IsLine (board_of base a) n → Puts base a q n r
+    → ((w : ℕ) (notes : List Note) (last : Option Told) → r.state ≡ Placing w notes last → IsUnderWay n r notes last (kept_at q n).course)
+    → ((m w : ℕ) (notes : List Note) (last : Option Told) → (row_at (board_of base a) m).state ≡ Placing w notes last → IsUnderWay m (row_at (board_of base a) m) notes last (kept_at a m).course)
+    → (m w : ℕ) (notes : List Note) (last : Option Told) → (row_at (board_of base q) m).state ≡ Placing w notes last → IsUnderWay m (row_at (board_of base q) m) notes last (kept_at q m).course
+under_put base a q n r there puts has each m w notes last h = elim (cases_eq m n) [
+  | inl e ↦
+      (let new : row_at (board_of base q) n ≡ r = row_new base a q n r there puts in
+      let here : (row_at (board_of base q) n).state ≡ Placing w notes last = subst (λ x. (row_at (board_of base q) x).state ≡ Placing w notes last) e h in
+      subst (λ x. IsUnderWay x (row_at (board_of base q) x) notes last (kept_at q x).course) (sym e)
+      (subst (λ (l : Row). IsUnderWay n l notes last (kept_at q n).course) (sym new) (has w notes last (ap (λ (l : Row). l.state) (sym new) ∙ here))))
+  | inr ne ↦
+      (let old : row_at (board_of base q) m ≡ row_at (board_of base a) m = row_old base a q n r there puts m ne in
+      let was : (row_at (board_of base a) m).state ≡ Placing w notes last = ap (λ (l : Row). l.state) (sym old) ∙ h in
+      subst (λ (k : Kept). IsUnderWay m (row_at (board_of base q) m) notes last k.course) (sym (kept_old base a q n r there puts m ne (placing_from (board_of base a) m w notes last was)))
+      (subst (λ (l : Row). IsUnderWay m l notes last (kept_at a m).course) (sym old) (each m w notes last was)))
 ]
 
 -- a line that isn't committed is put
 pub kept_put : (plan : Planned) (a q : Parts) (n : ℕ) (r : Row) → IsKept plan a → IsLine (board_of plan.base a) n → Puts plan.base a q n r
     → Reached plan (board_of plan.base q) → HandsHold q.hands (row_at (board_of plan.base q))
     → (IsCommitted (row_at (board_of plan.base a) n).state → ⊥) → q.states.counts.commits ≡ a.states.counts.commits → q.latest ≡ a.latest
-    → ((w : ℕ) (notes : List Note) → r.state ≡ Placing w notes None → ⊥) → IsKept plan q
+    → ((w : ℕ) (notes : List Note) (last : Option Told) → r.state ≡ Placing w notes last → IsUnderWay n r notes last (kept_at q n).course) → IsKept plan q
 kept_put plan a q n r kept there puts reached hand bar commits latest has =
     let f : a.states.first ≡ plan.first = kept.reached.first in
     let off : (m : ℕ) → m < plan.first + a.states.counts.commits → m ≢ n =
@@ -94,7 +113,7 @@ kept_put plan a q n r kept there puts reached hand bar commits latest has =
       all_states = puts.states ∙ kept.all_states ∙ sym puts.rows;
       all_entries = puts.lines ∙ kept.all_entries ∙ sym puts.rows;
       hand = hand;
-      version_placed = placed_put plan.base a q n r there puts has kept.version_placed;
+      under_way = under_put plan.base a q n r there puts has kept.under_way;
       below = λ m lt. let less : m < plan.first + a.states.counts.commits = omega (arith, lt, commits) in
           omega (arith, kept.below m less, ap (λ (l : Row). l.changed) (row_old plan.base a q n r there puts m (off m less)), latest);
       attained = elim kept.attained [
@@ -108,7 +127,7 @@ pub kept_commit : (plan : Planned) (a q : Parts) (n : ℕ) (r : Row) → IsKept 
     → Reached plan (board_of plan.base q) → HandsHold q.hands (row_at (board_of plan.base q))
     → n ≡ plan.first + a.states.counts.commits → q.states.counts.commits ≡ a.states.counts.commits + 1
     → r.changed ≡ (row_at (board_of plan.base a) n).changed → q.latest ≡ max a.latest r.changed
-    → ((w : ℕ) (notes : List Note) → r.state ≡ Placing w notes None → ⊥) → IsKept plan q
+    → ((w : ℕ) (notes : List Note) (last : Option Told) → r.state ≡ Placing w notes last → IsUnderWay n r notes last (kept_at q n).course) → IsKept plan q
 kept_commit plan a q n r kept there puts reached hand least one_more same latest has =
     let changed : (m : ℕ) → (row_at (board_of plan.base q) m).changed ≡ (row_at (board_of plan.base a) m).changed =
     λ m. elim (cases_eq m n) [
@@ -122,7 +141,7 @@ kept_commit plan a q n r kept there puts reached hand least one_more same latest
       all_states = puts.states ∙ kept.all_states ∙ sym puts.rows;
       all_entries = puts.lines ∙ kept.all_entries ∙ sym puts.rows;
       hand = hand;
-      version_placed = placed_put plan.base a q n r there puts has kept.version_placed;
+      under_way = under_put plan.base a q n r there puts has kept.under_way;
       below = λ m lt. elim (cases_eq m n) [
         | inl e ↦ subst (λ x. (row_at (board_of plan.base q) x).changed ≤ q.latest) (sym e) (omega (arith, changed n, same, latest))
         | inr ne ↦ omega (arith, changed m, kept.below m (omega (arith, lt, one_more, least, ne)), latest)

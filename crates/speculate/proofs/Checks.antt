@@ -1,6 +1,6 @@
 -- A check of a line: it begins or goes on, ends whole, or sends the line back.
 use denote.Ref.{Bor}
-use Rattle.std.proofs.Common.{◌≡◌, ◌≢◌, ℕ, zero, suc, ◌+◌, ◌-◌, ◌<◌, ◌≤◌, Bool, true, false, List, [], ◌∷◌, Option, Some, None, length, set, get_or, slice_get, refl, sym, ap, ap₂, subst, ◌∙◌, ◌⊎◌, inl, inr, arith, length-set}
+use Rattle.std.proofs.Common.{◌≡◌, ◌≢◌, ℕ, zero, suc, ◌+◌, ◌-◌, ◌<◌, ◌≤◌, true, false, List, [], ◌∷◌, Option, Some, None, length, set, get_or, slice_get, refl, sym, ap, ap₂, subst, ◌∙◌, ◌⊎◌, inl, inr, arith, length-set}
 use Rattle.std.specs.Prelude.{option_map, is_some}
 use Rattle.std.proofs.lemmas.Bool.{le-ltb}
 use Rattle.std.proofs.lemmas.List.{set-get_or}
@@ -23,13 +23,13 @@ use Rattle.version_store.specs.Entries.{Shown, IsNamedAt}
 use Rattle.version_store.specs.declared.entry.Found.{Found}
 use Rattle.version_store.specs.declared.entry.Found.TheVariants.{Named}
 use Rattle.board_steps.specs.Board.{State, Row, Board, IsLine, IsCommitted, row_at, holder, live_of, found}
-use Rattle.board_steps.specs.Board.State.{Waiting, Running, Placing, Done, Checking, Committed}
+use Rattle.board_steps.specs.Board.State.{Waiting, Placing, Done, Checking}
 use Rattle.board_steps.specs.Reached.{Reached, IsNow}
-use Rattle.board_steps.specs.Steps.{IsFree, Compares, Differs, CheckStep, HasNone, HasRoom, put_row, with_state, failing, marked}
+use Rattle.board_steps.specs.Steps.{IsFree, Compares, Differs, CheckStep, HasNone, HasRoom, put_row, with_state, marked}
 use Rattle.board_steps.specs.Steps.Reply.{Whole, Same, Changed}
 use Rattle.board_steps.proofs.Steps.{check_step}
 use Rattle.speculate.specs.Hands.{HasNoLine, notes_of}
-use Rattle.speculate.specs.Notes.{Noted, notes_by, key_and_name}
+use Rattle.speculate.specs.Notes.{notes_by, key_and_name}
 use Rattle.speculate.specs.Parts.{Kept, Parts, no_notes, row_with, row_by, state_of, answer_by, board_of, HandsHold, IsKept}
 use Rattle.speculate.specs.Sights.{IsCheck, IsOther, IsSame}
 use Rattle.speculate.proofs.Boards.{Puts, place_of, row_there, board_is, row_new, row_old, kept_put}
@@ -37,7 +37,7 @@ use Rattle.speculate.proofs.Commits.{state_there}
 use Rattle.speculate.proofs.Hands.{hand_put}
 use Rattle.speculate.proofs.Moves.{puts_of, board_eq}
 use Rattle.speculate.proofs.Rows.{live_there, state_shown, state_somewhere, entries_at}
-use Rattle.speculate.proofs.Sights.{has_none, has_some, found_seen}
+use Rattle.speculate.proofs.Sights.{has_none, has_some}
 
 -- ---- the state of a line that is done or being checked
 done_parts : (s : LineState) (ns notes : List Note) (told : Option Told) (answer : Option Answer) (stamp : Option ℕ) → state_of s ns told ≡ Done notes answer stamp
@@ -229,7 +229,7 @@ module _ (plan : Planned) (a : Parts) (kept : IsKept plan a) (w n : ℕ) where
     module _ (s : LineState) (to : State) (x : Option ℕ)
         (to_is : state_of s notes (get_or a.rows (n - a.states.first) no_notes).told ≡ to)
         (hand_is : ((x ≡ Some n) × (holder to ≡ Some w)) ⊎ ((x ≡ None) × (holder to ≡ None)))
-        (placed : (v : ℕ) (ns : List Note) → to ≡ Placing v ns None → ⊥)
+        (placed : (v : ℕ) (ns : List Note) (last : Option Told) → to ≡ Placing v ns last → ⊥)
         (q : Parts) (first_is : q.states.first ≡ a.states.first) (row_is : q.states.rows ≡ set a.states.rows (n - a.states.first) (record { state = s; next = (get_or a.states.rows (n - a.states.first) no_row).next }))
         (store_is : q.store ≡ a.store) (rows_is : q.rows ≡ a.rows) (hands_is : q.hands ≡ set a.hands w x)
         (latest_is : q.latest ≡ a.latest) (commits_is : q.states.counts.commits ≡ a.states.counts.commits) where
@@ -270,7 +270,7 @@ module _ (plan : Planned) (a : Parts) (kept : IsKept plan a) (w n : ℕ) where
           bar
           commits_is
           latest_is
-          (λ v ns h. placed v ns (sym (ap (λ (y : Row). y.state) r_is) ∙ h))
+          (λ v ns last h. absurd (placed v ns last (sym (ap (λ (y : Row). y.state) r_is) ∙ h)))
         where
           hand_new : ((x ≡ Some n) × (holder to ≡ Some w)) ⊎ ((x ≡ None) × (holder to ≡ None)) → ((x ≡ Some n) × (holder r.state ≡ Some w)) ⊎ ((x ≡ None) × (holder r.state ≡ None))
           hand_new (inl h) = inl (h.0, ap (λ (y : Row). holder y.state) r_is ∙ h.1)
@@ -290,9 +290,9 @@ module _ (plan : Planned) (a : Parts) (kept : IsKept plan a) (w n : ℕ) where
       unfolding done
       done_hand = inr (refl, refl)
 
-      done_placed : (v : ℕ) (ns : List Note) → done ≡ Placing v ns None → ⊥
+      done_placed : (v : ℕ) (ns : List Note) (last : Option Told) → done ≡ Placing v ns last → ⊥
       unfolding done
-      done_placed v ns h = cc
+      done_placed v ns last h = cc
 
       pub whole_returns : CheckStep (board_of plan.base a) w n Whole (board_of plan.base q)
       unfolding done
@@ -334,9 +334,9 @@ module _ (plan : Planned) (a : Parts) (kept : IsKept plan a) (w n : ℕ) where
       unfolding further
       further_hand = inl (refl, refl)
 
-      further_placed : (v : ℕ) (ns : List Note) → further ≡ Placing v ns None → ⊥
+      further_placed : (v : ℕ) (ns : List Note) (last : Option Told) → further ≡ Placing v ns last → ⊥
       unfolding further
-      further_placed v ns h = cc
+      further_placed v ns last h = cc
 
       pub same_returns : CheckStep (board_of plan.base a) w n Same (board_of plan.base q)
       unfolding further
@@ -380,9 +380,9 @@ module _ (plan : Planned) (a : Parts) (kept : IsKept plan a) (w n : ℕ) where
       unfolding back
       back_hand = inr (refl, refl)
 
-      back_placed : (v : ℕ) (ns : List Note) → back ≡ Placing v ns None → ⊥
+      back_placed : (v : ℕ) (ns : List Note) (last : Option Told) → back ≡ Placing v ns last → ⊥
       unfolding back
-      back_placed v ns h = cc
+      back_placed v ns last h = cc
 
       pub back_returns : CheckStep (board_of plan.base a) w n (Changed key noted now) (board_of plan.base q)
       unfolding back
@@ -416,7 +416,7 @@ module _ (plan : Planned) (a : Parts) (kept : IsKept plan a) (w n : ℕ) where
     module _ (key : Key) (noted : Name) (now : Found) (differs : Differs (board_of plan.base a) n notes i key noted now) (some : HasNone (row_at (board_of plan.base a) n) → ⊥) (room : HasRoom (board_of plan.base a))
         (q : Parts) (k : Kept) (states_is : q.states ≡ moves.failed a.states n) (store_is : q.store ≡ store.with_line a.store n (store.suspected (store.line_at a.store n)))
         (rows_is : q.rows ≡ set a.rows (n - a.states.first) k)
-        (k_is : k ≡ record { notes = (get_or a.rows (n - a.states.first) no_notes).notes; told = (get_or a.rows (n - a.states.first) no_notes).told; changed = a.clock + 1 })
+        (k_is : k ≡ record { notes = (get_or a.rows (n - a.states.first) no_notes).notes; told = (get_or a.rows (n - a.states.first) no_notes).told; course = (get_or a.rows (n - a.states.first) no_notes).course; changed = a.clock + 1 })
         (hands_is : q.hands ≡ set a.hands w None) (clock_is : q.clock ≡ a.clock + 1) (latest_is : q.latest ≡ a.latest) where
       gone : attempt.Row
       gone = record { state = states.Waiting; next = (get_or a.states.rows (n - a.states.first) no_row).next }
@@ -468,4 +468,4 @@ module _ (plan : Planned) (a : Parts) (kept : IsKept plan a) (w n : ℕ) where
           bar
           (ap (λ (y : States). y.counts.commits) states_is)
           latest_is
-          (λ v ns h. (let z : Waiting ≡ Placing v ns None = h in cc))
+          (λ v ns last h. (let z : Waiting ≡ Placing v ns last = h in absurd (cc)))

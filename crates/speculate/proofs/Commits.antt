@@ -1,5 +1,5 @@
 -- A line commits.
-use Rattle.std.proofs.Common.{◌≡◌, ◌≢◌, ℕ, ◌+◌, ◌-◌, ◌<◌, ◌≤◌, max, List, Option, Some, None, length, get_or, refl, sym, ap, subst, ◌∙◌, inl, inr, arith}
+use Rattle.std.proofs.Common.{◌≡◌, ◌≢◌, ℕ, ◌+◌, ◌-◌, ◌<◌, ◌≤◌, max, List, Option, Some, length, get_or, refl, sym, ap, subst, ◌∙◌, inl, inr, arith}
 use Rattle.std.proofs.lemmas.Bool.{cases_order}
 use Rattle.std.proofs.lemmas.List.{set-get_or}
 use Rattle.sip_answer.specs.declared.answer.Answer.{Answer}
@@ -161,4 +161,4 @@ module _ (plan : Planned) (a : Parts) (kept : IsKept plan a) (n : ℕ) (state : 
           (ap (λ (x : States). x.counts.commits) states_is)
           (ap (λ (x : Row). x.changed) (sym at))
           latest_is
-          (λ v notes h. (let z : Committed (answer_by (get_or a.rows (n - a.states.first) no_notes).told) ≡ Placing v notes None = h in cc))
+          (λ v notes last h. (let z : Committed (answer_by (get_or a.rows (n - a.states.first) no_notes).told) ≡ Placing v notes last = h in absurd (cc)))

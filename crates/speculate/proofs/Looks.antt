@@ -1,13 +1,11 @@
 -- A worker's line looks at a key.
-use Rattle.std.proofs.Common.{◌≡◌, ◌≢◌, ℕ, ◌+◌, ◌-◌, ◌<◌, ◌≤◌, Bool, true, false, List, [], ◌∷◌, ◌++◌, Option, Some, None, length, set, get_or, slice_get, refl, sym, ap, ap₂, subst, ◌∙◌, ◌⊎◌, inl, inr, arith, length-set}
+use Rattle.std.proofs.Common.{◌≡◌, ℕ, ◌-◌, ◌<◌, Bool, true, false, List, [], ◌∷◌, ◌++◌, Option, Some, None, length, set, get_or, slice_get, refl, sym, ap, ap₂, subst, ◌∙◌, inl, inr, length-set}
 use Rattle.std.specs.Prelude.{option_map}
 use Rattle.std.proofs.lemmas.List.{set-get_or}
-use Rattle.std.proofs.lemmas.Option.{none-some, same_Some, slice_get_within}
+use Rattle.std.proofs.lemmas.Option.{same_Some, slice_get_within}
 use Rattle.circ_records.specs.declared.key.Key.{Key}
-use Rattle.circ_records.specs.declared.record.Record.{Record}
 use Rattle.read_set.specs.Plans.{Planned}
 use Rattle.read_set.specs.Settling.{Told}
-use Rattle.read_set.specs.declared.notes.Name.{Name}
 use Rattle.read_set.specs.declared.notes.Note.{Note}
 use Rattle.attempts.specs.Moves.{no_row}
 use Rattle.attempts.specs.Moves as moves
@@ -16,9 +14,9 @@ use Rattle.attempts.specs.declared.state.LineState.{LineState}
 use Rattle.attempts.specs.declared.state.LineState.TheVariants as states
 use Rattle.attempts.specs.declared.table.Row as attempt
 use Rattle.version_store.specs.Entries as store
-use Rattle.version_store.specs.declared.entry.Found.TheVariants.{Named, Suspect}
-use Rattle.board_steps.specs.Board.{State, Row, Board, IsLine, IsCommitted, row_at, holder, value_at, found}
-use Rattle.board_steps.specs.Board.State.{Waiting, Running, Placing, Done, Checking, Committed}
+use Rattle.version_store.specs.declared.entry.Found.TheVariants.{Named}
+use Rattle.board_steps.specs.Board.{Row, Board, IsLine, IsCommitted, row_at, holder, value_at, found}
+use Rattle.board_steps.specs.Board.State.{Waiting, Running, Placing}
 use Rattle.board_steps.specs.Steps.{MayLook, LookStep, put_row, with_state}
 use Rattle.board_steps.specs.Steps as steps
 use Rattle.board_steps.specs.Steps.Reply.{Seen, Stopped}
@@ -26,7 +24,7 @@ use Rattle.board_steps.proofs.Calls.{stopped_reached}
 use Rattle.board_steps.proofs.Steps.{look_step}
 use Rattle.board_steps.specs.Reached.{Reached}
 use Rattle.speculate.specs.Hands.{HasNoLine}
-use Rattle.speculate.specs.Notes.{Noted, found_by, is_noted, notes_by, note_by, note_with, told_at}
+use Rattle.speculate.specs.Notes.{found_by, is_noted, notes_by, note_with, told_at}
 use Rattle.speculate.specs.Parts.{Kept, Parts, no_notes, row_with, row_by, state_of, board_of, HandsHold, IsKept}
 use Rattle.speculate.specs.Sights.{IsLooking}
 use Rattle.speculate.specs.declared.notes.PlacedName.{PlacedName}
@@ -143,13 +141,13 @@ module _ (plan : Planned) (a : Parts) (kept : IsKept plan a) (w n : ℕ) (k : Ke
         (λ h. subst IsCommitted may.running h)
         (ap (λ (x : States). x.counts.commits) states_is)
         latest_is
-        (λ v ns h. (let z : Waiting ≡ Placing v ns None = h in cc))
+        (λ v ns last h. (let z : Waiting ≡ Placing v ns last = h in absurd (cc)))
 
   -- the key is noted under its name
   module _ {J : Type 0} (seen : PlacedName J) (found_is : found (row_at (board_of plan.base a)) n k ≡ Named seen.name)
       (value_is : found_by plan.base k (option_map told_at seen.place) ≡ value_at plan (row_at (board_of plan.base a)) n k)
       (q : Parts) (x : Kept) (states_is : q.states ≡ a.states) (store_is : q.store ≡ a.store) (rows_is : q.rows ≡ set a.rows (n - a.states.first) x)
-      (x_is : x ≡ record { notes = (get_or a.rows (n - a.states.first) no_notes).notes ++ note_with k seen ∷ []; told = (get_or a.rows (n - a.states.first) no_notes).told; changed = (get_or a.rows (n - a.states.first) no_notes).changed })
+      (x_is : x ≡ record { notes = (get_or a.rows (n - a.states.first) no_notes).notes ++ note_with k seen ∷ []; told = (get_or a.rows (n - a.states.first) no_notes).told; course = (get_or a.rows (n - a.states.first) no_notes).course; changed = (get_or a.rows (n - a.states.first) no_notes).changed })
       (hands_is : q.hands ≡ a.hands) (clock_is : q.clock ≡ a.clock) (latest_is : q.latest ≡ a.latest) where
     l : Row
     l = row_with plan.base (get_or a.states.rows (n - a.states.first) no_row) x (get_or a.store.lines (n - a.states.first) store.no_entries)
@@ -208,4 +206,4 @@ module _ (plan : Planned) (a : Parts) (kept : IsKept plan a) (w n : ℕ) (k : Ke
         (λ h. subst IsCommitted may.running h)
         (ap (λ (y : States). y.counts.commits) states_is)
         latest_is
-        (λ v ns h. (let z : Running w more ≡ Placing v ns None = sym (ap (λ (y : Row). y.state) l_is) ∙ h in cc))
+        (λ v ns last h. (let z : Running w more ≡ Placing v ns last = sym (ap (λ (y : Row). y.state) l_is) ∙ h in absurd (cc)))

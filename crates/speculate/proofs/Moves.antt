@@ -99,6 +99,7 @@ puts_of base a q n s k l all_states all_entries within first states store_first 
           ∙ ap (λ (x : attempt.Row). row_with base x (get_or (set a.rows p k) m no_notes) (get_or (set a.store.lines p l) m store.no_entries)) (get_or-set_other a.states.rows p m s no_row ne)
           ∙ ap (λ (x : Kept). row_with base (get_or a.states.rows m no_row) x (get_or (set a.store.lines p l) m store.no_entries)) (get_or-set_other a.rows p m k no_notes ne)
           ∙ ap (λ (x : store.Line). row_with base (get_or a.states.rows m no_row) (get_or a.rows m no_notes) x) (get_or-set_other a.store.lines p m l store.no_entries ne);
+      kept_off = λ m ne. ap (λ (x : List Kept). get_or x m no_notes) rows ∙ get_or-set_other a.rows p m k no_notes ne;
     }
 
 -- boards with equal fields are one

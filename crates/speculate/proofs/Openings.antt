@@ -84,7 +84,7 @@ module _ (plan : Planned) (workers number clock : ℕ) (q : Parts)
       λ h. absurd (nothing_held workers w n (subst (λ (x : List (Option ℕ)). slice_get x w ≡ Some (Some n)) hands_is h)),
       λ h. absurd (none-some w (sym (ap holder (still n).waits) ∙ h)),
     );
-    version_placed = λ n w notes h. (let z : Waiting ≡ Placing w notes None = sym (still n).waits ∙ h in cc);
+    under_way = λ n w notes last h. (let z : Waiting ≡ Placing w notes last = sym (still n).waits ∙ h in absurd (cc));
     below = λ m lt. omega (arith, (still m).zero);
     attained = inl latest_is;
   }

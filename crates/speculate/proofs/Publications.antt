@@ -1,5 +1,5 @@
 -- A version of a line in hand is published, act by act.
-use Rattle.std.proofs.Common.{◌≡◌, ◌≢◌, ℕ, suc, ◌+◌, ◌-◌, ◌<◌, Bool, true, false, List, Option, Some, None, length, set, get_or, refl, sym, ap, subst, ◌∙◌, ◌⊎◌, inl, inr, arith, length-set}
+use Rattle.std.proofs.Common.{◌≡◌, ◌≢◌, ℕ, suc, ◌+◌, ◌-◌, ◌<◌, Bool, true, false, List, Option, Some, None, length, set, get_or, refl, sym, ap, subst, ◌∙◌, ◌⊎◌, inl, inr, arith, length-set, get_or-set_same}
 use Rattle.std.specs.Prelude.{option_map, IsSomeAnd}
 use Rattle.std.specs.Bool.{Decides}
 use Rattle.std.specs.FinMap.{insert, remove}
@@ -19,15 +19,18 @@ use Rattle.attempts.specs.declared.table.Row as attempt
 use Rattle.version_store.specs.Entries as store
 use Rattle.version_store.specs.Entries.{shown_by}
 use Rattle.version_store.proofs.Sights.{line_from, put_is}
+use Rattle.version_store.proofs.Walks.{Rising}
 use Rattle.board_steps.specs.Board.{State, Row, Board, IsLine, IsCommitted, row_at, holder}
-use Rattle.board_steps.specs.Board.State.{Waiting, Running, Placing, Done}
+use Rattle.board_steps.specs.Board.State.{Waiting, Running, Placing, Done, Checking, Committed}
 use Rattle.board_steps.specs.Steps.{Reply, MayPublish, Fits, IsVersion, IsNextWrite, AllPlaced, IsNextLeft, NoneLeft, HasRoom, PublishStep, changing, placed, lifted, put_row, with_state}
 use Rattle.board_steps.specs.Steps.Reply.{Placed, Lifted, Whole}
 use Rattle.board_steps.proofs.Lines.{within_board}
 use Rattle.board_steps.proofs.Steps.{publish_step}
 use Rattle.speculate.specs.Acts.{IsPlacing}
 use Rattle.speculate.specs.Notes.{notes_by}
-use Rattle.speculate.specs.Parts.{Kept, Parts, no_notes, row_with, row_by, state_of, board_of, HandsHold, IsKept}
+use Rattle.speculate.specs.Courses.{FirstPlaced, FirstPlacedBut, IsUnderWay, UnderWay}
+use Rattle.speculate.specs.Parts.{Kept, Parts, no_notes, row_with, row_by, state_of, board_of, kept_at, HandsHold, IsKept}
+use Rattle.speculate.specs.declared.row.Course.{Course}
 use Rattle.speculate.specs.Acts.{IsAct, publishes, places, notes_at}
 use Rattle.speculate.specs.Hands.{notes_of}
 use Rattle.speculate.specs.declared.publishing.Act.{Act}
@@ -35,6 +38,7 @@ use Rattle.speculate.specs.declared.publishing.Act.TheVariants as acts
 use Rattle.speculate.proofs.Boards.{Puts, place_of, row_there, board_is, row_new, row_old, kept_put}
 use Rattle.speculate.proofs.Hands.{hand_same, hand_put}
 use Rattle.speculate.proofs.Moves.{puts_of, board_eq}
+use Rattle.speculate.proofs.Writes.{first_inserted, first_removed}
 
 -- ---- states that are to be published
 -- the worker has the line in hand
@@ -202,6 +206,15 @@ module _ (plan : Planned) (a : Parts) (kept : IsKept plan a) (w n : ℕ) (held :
   not_placing s h p m notes last e =
       only_placing s _ _ p w notes last (sym (shown_state s h) ∙ subst (λ x. (row_at (board_of plan.base a) x).state ≡ Placing w notes last) (one_line m (ap holder e)) e)
 
+-- the version of the last act
+last_of : State → Option Told
+last_of (Placing w notes last) = last
+last_of Waiting = None
+last_of (Running w notes) = None
+last_of (Done notes answer stamp) = None
+last_of (Checking w notes answer stamp compared) = None
+last_of (Committed answer) = None
+
 -- ---- an act: the entries of the line are others
 module _ (plan : Planned) (a : Parts) (kept : IsKept plan a) (w n : ℕ) (notes : List Note) (may : MayPublish (board_of plan.base a) w n notes) (v : Told) where
   pub act_held : holder (row_at (board_of plan.base a) n).state ≡ Some w
@@ -213,9 +226,9 @@ module _ (plan : Planned) (a : Parts) (kept : IsKept plan a) (w n : ℕ) (notes 
   act_place : n - a.states.first < length a.rows
   act_place = place_there plan a kept n act_line
 
-  module _ (q : Parts) (l : store.Line) (k : Kept) (states_is : q.states ≡ moved a.states n (states.Placing w)) (store_is : q.store ≡ store.with_line a.store n l)
+  module _ (q : Parts) (l : store.Line) (k : Kept) (come : Course) (states_is : q.states ≡ moved a.states n (states.Placing w)) (store_is : q.store ≡ store.with_line a.store n l)
       (rows_is : q.rows ≡ set a.rows (n - a.states.first) k)
-      (k_is : k ≡ record { notes = (get_or a.rows (n - a.states.first) no_notes).notes; told = Some v; changed = a.clock + 1 })
+      (k_is : k ≡ record { notes = (get_or a.rows (n - a.states.first) no_notes).notes; told = Some v; course = come; changed = a.clock + 1 })
       (hands_is : q.hands ≡ a.hands) (clock_is : q.clock ≡ a.clock + 1) (latest_is : q.latest ≡ a.latest) where
     s : attempt.Row
     s = record { state = states.Placing w; next = (get_or a.states.rows (n - a.states.first) no_row).next }
@@ -250,9 +263,31 @@ module _ (plan : Planned) (a : Parts) (kept : IsKept plan a) (w n : ℕ) (notes 
         (ap (λ (x : States). x.counts.failed) states_is)
         (ap (λ (x : States). x.counts.stops) states_is)
 
+    -- what is kept of the line says how far it has come
+    come_is : (kept_at q n).course ≡ come
+    come_is =
+        ap (λ x. (get_or q.rows (n - x) no_notes).course) (ap (λ (x : States). x.first) states_is)
+        ∙ ap (λ (x : List Kept). (get_or x (n - a.states.first) no_notes).course) rows_is
+        ∙ ap (λ (x : Kept). x.course) (get_or-set_same a.rows (n - a.states.first) k no_notes act_place ∙ k_is)
+
+    act_under : Fits (board_of plan.base a) n notes v → FirstPlaced l v.attempt v.writes come.placed
+        → (u : ℕ) (ns : List Note) (last : Option Told) → r.state ≡ Placing u ns last → IsUnderWay n r ns last (kept_at q n).course
+    unfolding last_of
+    act_under fits first u ns last h =
+        let same : Placing w notes (Some v) ≡ Placing u ns last = sym (ap (λ (x : Row). x.state) r_is) ∙ h in
+        let under : UnderWay n r notes v come = record {
+          same_line = fits.same_line;
+          same_attempt = fits.same_attempt ∙ ap (λ (x : Row). x.next) (sym r_is);
+          same_notes = fits.same_notes;
+          placed = subst (λ (x : store.Line). FirstPlaced x v.attempt v.writes come.placed) (ap (λ (x : Row). x.entries) (sym r_is)) first;
+        } in
+        subst (λ (x : Course). IsUnderWay n r ns last x) (sym come_is)
+        (subst (λ (x : State). IsUnderWay n r (notes_of x) (last_of x) come) same under)
+
     -- the step keeps what the fields keep
-    act_kept : (reply : Reply) → IsVersion plan v → PublishStep (board_of plan.base a) w v reply (board_of plan.base q) → IsKept plan q
-    act_kept reply version step = kept_put plan a q n r kept act_line puts
+    act_kept : (reply : Reply) → IsVersion plan v → PublishStep (board_of plan.base a) w v reply (board_of plan.base q)
+        → Fits (board_of plan.base a) n notes v → FirstPlaced l v.attempt v.writes come.placed → IsKept plan q
+    act_kept reply version step fits first = kept_put plan a q n r kept act_line puts
         (publish_step plan (board_of plan.base a) w v reply (board_of plan.base q) kept.reached version step)
         (subst (λ x. HandsHold x (row_at (board_of plan.base q))) (sym hands_is)
         (hand_same a.hands (row_at (board_of plan.base a)) (row_at (board_of plan.base q)) n r (row_new plan.base a q n r act_line puts) (row_old plan.base a q n r act_line puts) kept.hand
@@ -260,7 +295,7 @@ module _ (plan : Planned) (a : Parts) (kept : IsKept plan a) (w n : ℕ) (notes 
         (publish_bar _ w notes may)
         (ap (λ (x : States). x.counts.commits) states_is)
         latest_is
-        (λ u ns h. (let z : Placing w notes (Some v) ≡ Placing u ns None = sym (ap (λ (x : Row). x.state) r_is) ∙ h in cc))
+        (act_under fits first)
 
     module _ (key : Key) (fits : Fits (board_of plan.base a) n notes v) (version : IsVersion plan v) (room : HasRoom (board_of plan.base a)) where
       -- the next write is placed
@@ -268,21 +303,23 @@ module _ (plan : Planned) (a : Parts) (kept : IsKept plan a) (w n : ℕ) (notes 
         pub placed_board : board_of plan.base q ≡ placed (board_of plan.base a) w n notes v key
         placed_board = act_board ∙ ap (λ (x : store.Line). changing (board_of plan.base a) n (record (row_at (board_of plan.base a) n) { state = Placing w notes (Some v); entries = x })) l_is
 
-        pub placed_kept_here : IsKept plan q
-        placed_kept_here = act_kept Placed version (n, notes, may, fits, key, next.0, next.1, room, placed_board)
+        pub placed_kept_here : FirstPlacedBut (row_at (board_of plan.base a) n).entries v.attempt v.writes key come.placed → IsKept plan q
+        placed_kept_here but = act_kept Placed version (n, notes, may, fits, key, next.0, next.1, room, placed_board) fits
+            (subst (λ (x : store.Line). FirstPlaced x v.attempt v.writes come.placed) (sym l_is) (first_inserted _ v.attempt v key v.writes come.placed but))
 
       -- the next key that was left is lifted
       module _ (all : AllPlaced (row_at (board_of plan.base a) n) v) (next : IsNextLeft (row_at (board_of plan.base a) n) v key) (l_is : l ≡ remove (row_at (board_of plan.base a) n).entries key) where
         pub lifted_board : board_of plan.base q ≡ lifted (board_of plan.base a) w n notes v key
         lifted_board = act_board ∙ ap (λ (x : store.Line). changing (board_of plan.base a) n (record (row_at (board_of plan.base a) n) { state = Placing w notes (Some v); entries = x })) l_is
 
-        pub lifted_kept_here : IsKept plan q
-        lifted_kept_here = act_kept Lifted version (n, notes, may, fits, all, key, next, room, lifted_board)
+        pub lifted_kept_here : Rising v.writes → IsKept plan q
+        lifted_kept_here up = act_kept Lifted version (n, notes, may, fits, all, key, next, room, lifted_board) fits
+            (subst (λ (x : store.Line). FirstPlaced x v.attempt v.writes come.placed) (sym l_is) (first_removed _ v key up all next come.placed))
 
   -- all is published
   module _ (q : Parts) (k : Kept) (states_is : q.states ≡ moved a.states n (states.Done None)) (store_is : q.store ≡ a.store)
       (rows_is : q.rows ≡ set a.rows (n - a.states.first) k)
-      (k_is : k ≡ record { notes = (get_or a.rows (n - a.states.first) no_notes).notes; told = Some v; changed = (get_or a.rows (n - a.states.first) no_notes).changed })
+      (k_is : k ≡ record { notes = (get_or a.rows (n - a.states.first) no_notes).notes; told = Some v; course = (get_or a.rows (n - a.states.first) no_notes).course; changed = (get_or a.rows (n - a.states.first) no_notes).changed })
       (hands_is : q.hands ≡ set a.hands w None) (clock_is : q.clock ≡ a.clock) (latest_is : q.latest ≡ a.latest) where
     d : attempt.Row
     d = record { state = states.Done None; next = (get_or a.states.rows (n - a.states.first) no_row).next }
@@ -326,16 +363,16 @@ module _ (plan : Planned) (a : Parts) (kept : IsKept plan a) (w n : ℕ) (notes 
         (publish_bar _ w notes may)
         (ap (λ (x : States). x.counts.commits) states_is)
         latest_is
-        (λ u ns h. (let z : Done notes v.answer None ≡ Placing u ns None = sym (ap (λ (x : Row). x.state) t_is) ∙ h in cc))
+        (λ u ns last h. (let z : Done notes v.answer None ≡ Placing u ns last = sym (ap (λ (x : Row). x.state) t_is) ∙ h in absurd (cc)))
 
 -- ---- what an act is
 pub act_left : (r : Row) (v : Told) (act : Act) → IsAct r v act → (act ≡ acts.Finish → ⊥) → AllPlaced r v → NoneLeft r v → ⊥
-act_left r v (acts.Write k) h not all none = h.1.apart (all k h.0 h.1.written)
+act_left r v (acts.Write k count) h not all none = h.1.apart (all k h.0 h.1.written)
 act_left r v (acts.Lift k) h not all none = h.1.left.2 (none k h.1.left.0 h.1.left.1)
 act_left r v acts.Finish h not all none = not refl
 
-pub no_other : (act : Act) → (act ≡ acts.Finish → ⊥) → ((k : Key) → act ≡ acts.Lift k → ⊥) → ((k : Key) → act ≡ acts.Write k → ⊥) → ⊥
-no_other (acts.Write k) f l w = w k refl
+pub no_other : (act : Act) → (act ≡ acts.Finish → ⊥) → ((k : Key) → act ≡ acts.Lift k → ⊥) → ((k : Key) (count : ℕ) → act ≡ acts.Write k count → ⊥) → ⊥
+no_other (acts.Write k count) f l w = w k count refl
 no_other (acts.Lift k) f l w = l k refl
 no_other acts.Finish f l w = f refl
 
@@ -353,3 +390,17 @@ fits_by b n notes v a next r line attempt d = (
 pub placing_version : (b : Board) (w n : ℕ) (notes : List Note) (last : Option Told) → (row_at b n).state ≡ Placing w notes last → (last ≡ None → ⊥) → IsPlacing b w last
 placing_version b w n notes None h some = absurd (some refl)
 placing_version b w n notes (Some v) h some = (n, notes, h)
+
+-- ---- a publication goes on
+more_notes : (b : Board) (w n : ℕ) (notes : List Note) (v : Told) → (row_at b n).state ≡ Placing w notes (Some v) → notes ≡ notes_at b n
+more_notes b w n notes v here = sym (ap notes_of here)
+
+pub more_may : (b : Board) (w n : ℕ) (notes : List Note) (v : Told) → (row_at b n).state ≡ Placing w notes (Some v) → MayPublish b w n (notes_at b n)
+more_may b w n notes v here = subst (λ (ns : List Note). MayPublish b w n ns) (more_notes b w n notes v here) (inr (Some v, here))
+
+pub more_fits : (b : Board) (w n : ℕ) (notes : List Note) (v : Told) (come : Course) → (row_at b n).state ≡ Placing w notes (Some v) → UnderWay n (row_at b n) notes v come → Fits b n (notes_at b n) v
+more_fits b w n notes v come here under = record {
+  same_line = under.same_line;
+  same_attempt = under.same_attempt;
+  same_notes = under.same_notes ∙ more_notes b w n notes v here;
+}

@@ -63,10 +63,10 @@ held_notes (states.Done t) notes told w h = refl
 held_notes (states.Checking v t i) notes told w h = refl
 held_notes states.Committed notes told w h = absurd (none-some w h)
 
-newest_from : (t : States) (n : ℕ) → t.first ≤ n → newest_at t n ≡ option_and_then newest_of (slice_get t.rows (n - t.first))
+pub newest_from : (t : States) (n : ℕ) → t.first ≤ n → newest_at t n ≡ option_and_then newest_of (slice_get t.rows (n - t.first))
 newest_from t n l = rw (le-ltb n t.first l) refl
 
-newest_if : (b : Bool) (x : ℕ) → b ≡ false → if b then None else Some x ≡ None → ⊥
+pub newest_if : (b : Bool) (x : ℕ) → b ≡ false → if b then None else Some x ≡ None → ⊥
 newest_if true x e h = cc
 newest_if false x e h = cc
 

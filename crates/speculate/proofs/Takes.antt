@@ -7,9 +7,8 @@ use Rattle.attempts.specs.States.{States, state_at, next_at}
 use Rattle.attempts.specs.declared.state.LineState.TheVariants as states
 use Rattle.attempts.specs.declared.table.Row as attempt
 use Rattle.version_store.specs.Entries as store
-use Rattle.board_steps.specs.Board.{Row, Board, IsLine, IsCommitted, row_at, holder, State}
-use Rattle.board_steps.specs.Board.State.{Running, Placing, Waiting}
-use Rattle.board_steps.specs.Reached.{Reached}
+use Rattle.board_steps.specs.Board.{Row, Board, IsLine, IsCommitted, row_at, holder}
+use Rattle.board_steps.specs.Board.State.{Running, Placing}
 use Rattle.board_steps.specs.Steps.{MayTake, TakeStep, put_row}
 use Rattle.board_steps.specs.Steps as steps
 use Rattle.board_steps.specs.Steps.Reply.{Taken, Attempts}
@@ -53,7 +52,7 @@ module _ (plan : Planned) (a : Parts) (kept : IsKept plan a) (n w : ℕ) (waits 
   attempts_returns h = (may_take, omega (arith, next_there (2 ^ 32) h), refl, refl)
 
   module _ (q : Parts) (k : Kept) (states_is : q.states ≡ taken a.states n w) (store_is : q.store ≡ a.store)
-      (rows_is : q.rows ≡ set a.rows p k) (k_is : k ≡ record { notes = []; told = (get_or a.rows p no_notes).told; changed = (get_or a.rows p no_notes).changed })
+      (rows_is : q.rows ≡ set a.rows p k) (k_is : k ≡ record { notes = []; told = (get_or a.rows p no_notes).told; course = (get_or a.rows p no_notes).course; changed = (get_or a.rows p no_notes).changed })
       (hands_is : q.hands ≡ set a.hands w (Some n)) (within : w < length a.hands) (clock_is : q.clock ≡ a.clock) (latest_is : q.latest ≡ a.latest) where
     s : attempt.Row
     s = record { state = states.Running w; next = (get_or a.states.rows p no_row).next + 1 }
@@ -100,4 +99,4 @@ module _ (plan : Planned) (a : Parts) (kept : IsKept plan a) (n w : ℕ) (waits 
         (λ h. subst IsCommitted may_take.waiting h)
         (ap (λ (x : States). x.counts.commits) states_is)
         latest_is
-        (λ v notes h. (let z : Running w (notes_by plan.base k.notes) ≡ Placing v notes None = h in cc))
+        (λ v notes last h. (let z : Running w (notes_by plan.base k.notes) ≡ Placing v notes last = h in absurd (cc)))

@@ -1,21 +1,23 @@
 -- Writes in the order of their keys: by their places, and by their keys.
-use Rattle.std.proofs.Common.{◌≡◌, ◌≢◌, ℕ, zero, suc, ◌<◌, cond, [], ◌∷◌, map, slice_get, Option, Some, None, Less, refl, sym, ap, subst, ◌∙◌, inl, inr, arith}
+use Rattle.std.proofs.Common.{◌≡◌, ◌≢◌, ℕ, zero, suc, ◌+◌, ◌<◌, cond, [], ◌∷◌, map, slice_get, Option, Some, None, Less, refl, sym, ap, subst, ◌∙◌, inl, inr, arith}
 use Rattle.std.specs.Prelude.{option_map}
-use Rattle.std.specs.FinMap.{get}
+use Rattle.std.specs.FinMap.{get, insert, remove}
 use Rattle.std.specs.List.Sorted.{IsStrictlySortedBy}
 use Rattle.std.specs.BTreeMap.{is_at}
 use Rattle.std.proofs.lemmas.Option.{none-some, same_Some}
-use Rattle.std.proofs.lemmas.Bool.{cases_Bool}
+use Rattle.std.proofs.lemmas.Bool.{cases_Bool, cases_eq}
 use Rattle.circ_records.specs.Keys.{key_cmp}
 use Rattle.circ_records.specs.Records.{Entries, record_at}
 use Rattle.circ_records.specs.declared.key.Key.{Key}
 use Rattle.circ_records.specs.declared.record.Record.{Record}
 use Rattle.read_set.specs.Settling.{Told}
-use Rattle.version_store.specs.Entries.{Shown, Line, AllOf, IsLeastLeft}
+use Rattle.version_store.specs.Entries.{Shown, Line, AllOf, IsLeastLeft, shown_by}
 use Rattle.version_store.proofs.Walks.{Rising, rising, not_below, not_both, head_or_tail, at_head, same_key}
 use Rattle.board_steps.specs.Board.{Row}
 use Rattle.board_steps.specs.Steps.{IsNextWrite, AllPlaced, IsNextLeft, NoneLeft}
+use Rattle.board_steps.proofs.Entries.{cases_key, get_insert_same, get_insert_other, get_remove_other}
 use Rattle.speculate.specs.Acts.{IsPlacedAt, IsFirstApart}
+use Rattle.speculate.specs.Courses.{FirstPlaced, FirstPlacedBut}
 
 -- the record at a key stands at some place
 pub stands : (ws : Entries) (q : Key) (u : Record) → record_at ws q ≡ Some u → (j : ℕ) × (slice_get ws j ≡ Some (q, u))
@@ -89,3 +91,32 @@ module _ (r : Row) (l : Line) (is : r.entries ≡ l) (v : Told) (up : Rising v.w
 
   pub none_is : AllOf l v.attempt → NoneLeft r v
   none_is h q e g = h q e (ap (λ (x : Line). get x q) (sym is) ∙ g)
+
+-- ---- so many first writes are placed
+-- the next write is placed: it is one more
+pub comes_to : (l : Line) (a : ℕ) (ws : Entries) (i count : ℕ) (x : Key × Record) → slice_get ws i ≡ Some x → count ≡ i + 1 → IsFirstApart l a ws (Some i) → FirstPlacedBut l a ws x.0 count
+comes_to l a ws i count x at more first j y lt h = elim (cases_eq j i) [
+  | inl e ↦ inl (ap (λ (p : Key × Record). p.0) (sym (same_Some x y (sym at ∙ subst (λ m. slice_get ws m ≡ Some y) e h))))
+  | inr ne ↦ inr (first.1 j y (omega (arith, lt, more, ne)) h)
+]
+
+pub first_inserted : (l : Line) (a : ℕ) (v : Told) (k : Key) (ws : Entries) (count : ℕ) → FirstPlacedBut l a ws k count → FirstPlaced (insert l k (shown_by a v)) a ws count
+first_inserted l a v k ws count but j x lt h = elim (cases_key x.0 k) [
+  | inl e ↦ (shown_by a v, subst (λ (q : Key). get (insert l k (shown_by a v)) q ≡ Some (shown_by a v)) (sym e) (get_insert_same l k (shown_by a v)), refl)
+  | inr ne ↦ elim (but j x lt h) [
+    | inl e ↦ absurd (ne e)
+    | inr p ↦ (p.0, get_insert_other l k (shown_by a v) x.0 ne ∙ p.1, p.2)
+  ]
+]
+
+-- an entry that is lifted is of another attempt than the writes that are placed
+pub first_removed : (r : Row) (v : Told) (k : Key) → Rising v.writes → AllPlaced r v → IsNextLeft r v k → (count : ℕ) → FirstPlaced (remove r.entries k) v.attempt v.writes count
+first_removed r v k up all next count j x lt h =
+    let own : IsPlacedAt r.entries v.attempt x.0 = all x.0 x.1 (is_at_key v.writes up j x h) in
+    elim (cases_key x.0 k) [
+      | inl e ↦
+          (let left = next.left in
+          let here : get r.entries k ≡ Some own.0 = subst (λ (q : Key). get r.entries q ≡ Some own.0) e own.1 in
+          absurd (left.2 (ap (λ (s : Shown). s.attempt) (same_Some left.0 own.0 (sym left.1 ∙ here)) ∙ own.2)))
+      | inr ne ↦ (own.0, get_remove_other r.entries k x.0 ne ∙ own.1, own.2)
+    ]

@@ -1,5 +1,5 @@
 -- The fields of a board, as data, and the board that they are.
-use Rattle.std.specs.Prelude.{◌≡◌, ℕ, zero, suc, ◌+◌, ◌<◌, ◌≤◌, ◌⊎◌, ◌↔◌, List, [], ◌∷◌, length, slice_get, slice_index_or, Option, Some, None, option_map}
+use Rattle.std.specs.Prelude.{◌≡◌, ℕ, zero, suc, ◌+◌, ◌-◌, ◌<◌, ◌≤◌, ◌⊎◌, ◌↔◌, List, [], ◌∷◌, length, slice_get, slice_index_or, Option, Some, None, option_map}
 use Rattle.circ_records.specs.Records.{Entries}
 use Rattle.sip_answer.specs.declared.answer.Answer.{Answer}
 use Rattle.read_set.specs.Plans.{Planned}
@@ -16,19 +16,22 @@ use Rattle.board_steps.specs.Board.{Board, State, IsLine, row_at, holder}
 use Rattle.board_steps.specs.Board.State.{Waiting, Running, Placing, Done, Checking, Committed}
 use Rattle.board_steps.specs.Reached.{Reached}
 use Rattle.speculate.specs.Notes.{Noted, notes_by, told_at}
+use Rattle.speculate.specs.Courses.{IsUnderWay}
+use Rattle.speculate.specs.declared.row.Course.{Course}
 use Rattle.speculate.specs.declared.row.Row.{Row}
 
 -- what the board keeps of a line beside its state and its entries
 pub record Kept : Type 0 where
   pub notes : List Noted
   pub told : Option Told
+  pub course : Course
   pub changed : ℕ
 
 abbrev pub row_shown : {J : Type 0} → Row J → Kept
-row_shown r = record { notes = r.notes; told = option_map told_at r.version; changed = r.changed }
+row_shown r = record { notes = r.notes; told = option_map told_at r.version; course = r.course; changed = r.changed }
 
 abbrev pub no_notes : Kept
-no_notes = record { notes = []; told = None; changed = 0 }
+no_notes = record { notes = []; told = None; course = record { placed = 0 }; changed = 0 }
 
 pub record Parts : Type 0 where
   pub states : States
@@ -77,6 +80,10 @@ board_of base a = record {
   stops = a.states.counts.stops;
 }
 
+-- what is kept of a line
+abbrev pub kept_at : Parts → ℕ → Kept
+kept_at a n = slice_index_or a.rows (n - a.states.first) no_notes
+
 -- each hand holds the line that its worker has
 abbrev pub HandsHold : List (Option ℕ) → (ℕ → steps.Row) → Type 0
 HandsHold hands rows = (w n : ℕ) → (slice_get hands w ≡ Some (Some n)) ↔ (holder (rows n).state ≡ Some w)
@@ -88,8 +95,9 @@ pub record IsKept (plan : Planned) (a : Parts) : Type 0 where
   pub all_states : length a.states.rows ≡ length a.rows
   pub all_entries : length a.store.lines ≡ length a.rows
   pub hand : HandsHold a.hands (row_at (board_of plan.base a))
-  -- a line that is placing has the version of its last act
-  pub version_placed : (n w : ℕ) (notes : List Note) → (row_at (board_of plan.base a) n).state ≡ Placing w notes None → ⊥
+  -- a line that is placing has the version of its last act, which fits, and the course says how far that has come
+  pub under_way : (n w : ℕ) (notes : List Note) (last : Option Told) → (row_at (board_of plan.base a) n).state ≡ Placing w notes last
+      → IsUnderWay n (row_at (board_of plan.base a) n) notes last (kept_at a n).course
   -- the greatest clock at which a committed line changed
   pub below : (m : ℕ) → m < plan.first + a.states.counts.commits → (row_at (board_of plan.base a) m).changed ≤ a.latest
   pub attained : (a.latest ≡ 0) ⊎ ((m : ℕ) × (m < plan.first + a.states.counts.commits) × (a.latest ≡ (row_at (board_of plan.base a) m).changed))

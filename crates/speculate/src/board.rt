@@ -6,6 +6,7 @@ ghost use Rattle.board_steps.specs.Reached.{Reached};
 ghost use Rattle.board_steps.specs.Steps.{opening};
 ghost use Rattle.board_steps.specs.Steps.Call.{Check, Commit, Look, Publish, Take};
 ghost use Rattle.speculate.specs.Choices.{Begins, chosen};
+ghost use Rattle.speculate.specs.Courses.{PublishesMore};
 ghost use Rattle.speculate.specs.Hands.{AreCounts, AreNotesOf, IsHand};
 ghost use Rattle.speculate.specs.Acts.{IsPlacing};
 ghost use Rattle.speculate.specs.Notes.{told_at};
@@ -28,7 +29,7 @@ use version_store::Place;
 /// board's rules; none looks at more lines than its own and those whose stamps it ends.
 #[derive(Drop)]
 pub struct Board<'p, 't, J: PlanName> {
-    lines: Lines<'p, 't, J>,
+    pub(crate) lines: Lines<'p, 't, J>,
     ready: Ready,
 }
 
@@ -137,6 +138,36 @@ impl<'p, 't, J: PlanName> Board<'p, 't, J> {
                 Reply::Whole
             }
             reply => reply,
+        }
+    }
+
+    /// Goes on with the publication that the worker's line is in: one act of publishing the version of the last act. It
+    /// compares no note again, and looks at no write that is placed. None, and no change, where that line is in none.
+    pub fn publish_more(&mut self, worker: u32) -> Option<Reply<'t, J>>
+        ensures { PublishesMore J.plan self.old worker result self.new }
+    {
+        let plan = self.lines.plan();
+        let Some(hand) = self.lines.hand(worker) else {
+            return None;
+        };
+        let Some(reply) = self.lines.publish_more(worker) else {
+            return None;
+        };
+        let place = place_of(plan, hand.line);
+        match reply {
+            Reply::Placed => {
+                self.ready.lose_above(place);
+                Some(Reply::Placed)
+            }
+            Reply::Lifted => {
+                self.ready.lose_above(place);
+                Some(Reply::Lifted)
+            }
+            Reply::Whole => {
+                self.ready.put(place, Mark::Unchecked);
+                Some(Reply::Whole)
+            }
+            reply => Some(reply),
         }
     }
 
@@ -262,7 +293,7 @@ impl<'p, 't, J: PlanName> Board<'p, 't, J> {
 }
 
 /// How many lines a plan has.
-fn lines_of(plan: &Plan) -> usize
+pub fn lines_of(plan: &Plan) -> usize
     ensures lines { result ≡ length plan.now.readings }
     ensures few { result ≤ 1000000 }
     ensures numbered { plan.now.first + result ≤ 2 ^ 64 }

@@ -7,8 +7,11 @@
 
 mod board;
 mod choice;
+mod driving;
 mod ending;
+mod finished;
 mod hand;
+mod lending;
 mod lines;
 mod notes;
 mod playing;
@@ -22,6 +25,8 @@ mod steps;
 
 pub use board::Board;
 pub use choice::Choice;
+pub use driving::drive_in_order;
+pub use finished::{Finished, Open};
 pub use hand::Hand;
 pub use notes::{PlaceNotes, PlacedName};
 pub use playing::play;

@@ -2,7 +2,7 @@
 
 ghost use Rattle.std.specs.Prelude.{◌≡◌, ◌+◌, ◌^◌, ◌<◌, IfOk, IfErr, IfSome, Some, None, length, max, option_copied, option_map, slice_get, unwrap_or, ◌≤◌, ℕ, suc, OnOk, OnErr, List, Option, map, replicate};
 ghost use Rattle.std.specs.Bool.{Decides};
-ghost use Rattle.board_steps.specs.Board.{live_of, row_at, IsLine};
+ghost use Rattle.board_steps.specs.Board.{holder, live_of, row_at, IsLine};
 ghost use Rattle.board_steps.specs.Reached.{Reached};
 ghost use Rattle.board_steps.specs.Steps.{CheckStep, LookStep, AllPlaced, Fits, HasRoom, IsNextLeft, IsNextWrite, IsVersion, MayPublish, NoneLeft, lifted, opening, placed, put_row, with_state};
 ghost use Rattle.board_steps.specs.Steps.Call.{Check, Commit, Look, Take, Publish};
@@ -19,12 +19,13 @@ ghost use Rattle.read_set.specs.declared.notes.Note.{Note};
 ghost use Rattle.board_steps.specs.Board.State.{Done, Placing};
 ghost use Rattle.speculate.specs.Parts.{no_notes, row_shown};
 ghost use Rattle.speculate.specs.Acts.{IsAct, IsPlacing, IsToPublish, notes_at};
+ghost use Rattle.speculate.specs.Courses.{ComesTo, FirstPlaced, FirstPlacedBut, PublishesMore, UnderWay};
 
 use crate::hand::Hand;
 use crate::notes::{PlaceNotes, PlacedName};
-use crate::publishing::{Act, act_of, is_of, is_placing, is_publishing};
+use crate::publishing::{Act, act_of, is_of, is_placing, is_publishing, settled};
 use crate::reply::Reply;
-use crate::row::Row;
+use crate::row::{Course, Row};
 use crate::same::same_notes;
 use attempts::{AttemptTable, Counts, LineState};
 use circ_records::Key;
@@ -36,10 +37,10 @@ use version_store::{EntryStore, Found, Place, Seen};
 /// The lines of a plan while workers run them: at each moment as some list of steps leaves them.
 #[derive(Drop)]
 pub struct Lines<'p, 't, J: PlanName> {
-    plan: &'p Plan,
-    attempts: AttemptTable,
-    entries: EntryStore<'t, J>,
-    rows: Vec<Row<'t, J>>,
+    pub(crate) plan: &'p Plan,
+    pub(crate) attempts: AttemptTable,
+    pub(crate) entries: EntryStore<'t, J>,
+    pub(crate) rows: Vec<Row<'t, J>>,
     /// The line that each worker has in hand.
     hands: Vec<Option<u64>>,
     clock: u64,
@@ -372,19 +373,59 @@ impl<'p, 't, J: PlanName> Lines<'p, 't, J> {
         })
     }
 
-    /// Does the next act of the publication of the version at a place, where it is of the board's line, attempt and notes. It looks
-    /// at the notes, writes and entries of the line again at each act.
+    /// Does the next act of the publication of the version at a place, where it is of the board's line, attempt and notes. It
+    /// compares the notes, and looks at the writes from the first on: `publish_more` goes on from where an act ended.
     pub fn publish(&mut self, worker: u32, place: Place<'t, J>) -> Reply<'t, J>
         ensures { Answers J.plan self.old (Publish worker (told_at place.entry)) result self.new }
     {
         let Some(hand) = self.to_publish(worker) else {
             return Reply::Idle;
         };
-        let line = hand.line;
         if !self.fits(hand, place) {
             return Reply::Stranger;
         }
-        let act = self.act(line, place);
+        self.next_act(worker, hand.line, place, 0)
+    }
+
+    /// Goes on with the publication that the worker's line in hand is in: does the next act of the version of the last act. It
+    /// compares no note again, and looks at no write that it has placed. None, and no change, where that line is in none.
+    pub fn publish_more(&mut self, worker: u32) -> Option<Reply<'t, J>>
+        ensures { PublishesMore J.plan self.old worker result self.new }
+    {
+        let Some(place) = self.placing(worker) else {
+            return None;
+        };
+        let Some(line) = self.in_hand(worker) else {
+            return None;
+        };
+        let course = self.course(worker, line);
+        settled(place);
+        Some(self.next_act(worker, line, place, course.placed))
+    }
+
+    /// How far the publication that the worker's line in hand is in has come, if it is in one.
+    fn course(&self, worker: u32, line: u64) -> Course
+        requires { holder (row_at self.now line).state ≡ Some worker }
+        ensures { (n : ℕ) (notes : List Note) (v : Told) → (row_at self.now n).state ≡ Placing worker notes (Some v) → (n ≡ line) × UnderWay line (row_at self.now line) notes v result }
+    {
+        self.rows[(line - self.plan.first()) as usize].course
+    }
+
+    /// Does the next act of the publication of the version at a place, which fits, and so many of whose first writes are placed.
+    fn next_act(
+        &mut self,
+        worker: u32,
+        line: u64,
+        place: Place<'t, J>,
+        count: usize,
+    ) -> Reply<'t, J>
+        requires may { MayPublish self.old worker line (notes_at self.old line) }
+        requires fits { Fits self.old line (notes_at self.old line) (told_at place) }
+        requires version { IsVersion J.plan (told_at place) }
+        requires placed { FirstPlaced (row_at self.old line).entries (told_at place).attempt (told_at place).writes count }
+        ensures { Answers J.plan self.old (Publish worker (told_at place.entry)) result self.new }
+    {
+        let act = self.act(line, place, count);
         if let Act::Finish = act {
             self.finish(worker, line, place);
             return Reply::Whole;
@@ -396,8 +437,10 @@ impl<'p, 't, J: PlanName> Lines<'p, 't, J> {
             self.lift(worker, line, key, place);
             return Reply::Lifted;
         }
-        let Act::Write(key) = act else { unreachable!() };
-        match self.place(worker, line, key, place) {
+        let Act::Write(key, count) = act else {
+            unreachable!()
+        };
+        match self.place(worker, line, key, place, count) {
             Ok(()) => Reply::Placed,
             Err(_) => Reply::Memory,
         }
@@ -466,12 +509,14 @@ impl<'p, 't, J: PlanName> Lines<'p, 't, J> {
         &self.rows[(line - self.plan.first()) as usize].notes
     }
 
-    /// The next act of the publication of the version at a place.
-    fn act(&self, line: u64, place: Place<'t, J>) -> Act
-        requires { IsLine self.now line }
-        ensures { IsAct (row_at self.now line) (told_at place.entry) result }
+    /// The next act of the publication of the version at a place, so many of whose first writes are placed.
+    fn act(&self, line: u64, place: Place<'t, J>, count: usize) -> Act
+        requires there { IsLine self.now line }
+        requires placed { FirstPlaced (row_at self.now line).entries (told_at place).attempt (told_at place).writes count }
+        ensures act { IsAct (row_at self.now line) (told_at place.entry) result }
+        ensures comes { ComesTo (row_at self.now line).entries (told_at place.entry) result }
     {
-        act_of(&self.entries, line, place.show())
+        act_of(&self.entries, line, place.show(), count)
     }
 
     /// Whether the clock can be raised.
@@ -481,18 +526,20 @@ impl<'p, 't, J: PlanName> Lines<'p, 't, J> {
         self.clock < u64::MAX
     }
 
-    /// Places the next write. Without memory nothing changes.
+    /// Places the next write, after which so many of the first are placed. Without memory nothing changes.
     fn place(
         &mut self,
         worker: u32,
         line: u64,
         key: Key,
         place: Place<'t, J>,
+        count: usize,
     ) -> Result<(), AllocError>
         requires may { MayPublish self.old worker line (notes_at self.old line) }
         requires fits { Fits self.old line (notes_at self.old line) (told_at place) }
         requires version { IsVersion J.plan (told_at place) }
         requires next { (value : Record) × IsNextWrite (row_at self.old line) (told_at place) key value }
+        requires first { FirstPlacedBut (row_at self.old line).entries (told_at place).attempt (told_at place).writes key count }
         requires room { HasRoom self.old }
         ensures placed { OnOk result (self.new ≡ placed self.old worker line (notes_at self.old line) (told_at place.entry) key) }
         ensures same { OnErr result (self.new ≡ self.old) }
@@ -506,6 +553,7 @@ impl<'p, 't, J: PlanName> Lines<'p, 't, J> {
         let clock = self.clock + 1;
         let row = &mut self.rows[(line - self.plan.first()) as usize];
         row.version = Some(place);
+        row.course = Course { placed: count };
         row.changed = clock;
         self.clock = clock;
         Ok(())
@@ -521,11 +569,13 @@ impl<'p, 't, J: PlanName> Lines<'p, 't, J> {
         requires room { HasRoom self.old }
         ensures { self.new ≡ lifted self.old worker line (notes_at self.old line) (told_at place.entry) key }
     {
+        let placed = place.show().writes().len();
         self.entries.lift(line, &key);
         self.attempts.go_on(line, LineState::Placing { worker });
         let clock = self.clock + 1;
         let row = &mut self.rows[(line - self.plan.first()) as usize];
         row.version = Some(place);
+        row.course = Course { placed };
         row.changed = clock;
         self.clock = clock;
     }

@@ -1,7 +1,7 @@
 //! A list of steps of workers, played one after another.
 
-ghost use Rattle.std.specs.Prelude.{◌≡◌, IfOk, IfErr, OnOk, option_map};
-ghost use Rattle.board_steps.specs.Steps.{IsVersion};
+ghost use Rattle.std.specs.Prelude.{◌≡◌, IfOk, IfErr, None, OnOk, option_map};
+ghost use Rattle.speculate.specs.Acts.{IsPlacing};
 ghost use Rattle.speculate.specs.Needed.{IsNext, IsToPublish, SettlesIfDone, needed_key, needed_version};
 ghost use Rattle.speculate.specs.Notes.{told_at};
 ghost use Rattle.speculate.specs.Playing.{Goes, Halts, IsRefused, Plays};
@@ -93,6 +93,9 @@ fn publish<'t, J: PlanName, R: Wait>(
     ensures goes { OnOk result (Goes J.plan board.old (steps.Publish worker) board.new) }
     ensures refused { IfErr result (λ fault. IsRefused J.plan board.old (steps.Publish worker) fault board.new) }
 {
+    if let Some(reply) = board.publish_more(worker) {
+        return ended(reply);
+    }
     let place = place_of(rt, alloc, table, board, worker)?;
     publish_at(board, worker, place)
 }
@@ -133,7 +136,7 @@ fn commit<J: PlanName>(board: &mut Board<'_, '_, J>, line: u64) -> Result<(), Bo
     ended(board.commit(line))
 }
 
-/// The place of the version to be published: that of the last act, else a new one; None where there is no version.
+/// The place of the version to be published, a new one; None where there is no version.
 fn place_of<'t, J: PlanName, R: Wait>(
     rt: &R,
     alloc: Global,
@@ -141,12 +144,9 @@ fn place_of<'t, J: PlanName, R: Wait>(
     board: &Board<'_, 't, J>,
     worker: u32,
 ) -> Result<Option<Place<'t, J>>, AllocError>
+    requires { IsPlacing board.now worker None }
     ensures { IfOk result (λ place. IsToPublish J.plan board.now worker (option_map told_at place)) }
 {
-    if let Some(place) = board.placing(worker) {
-        settled(place);
-        return Ok(Some(place));
-    }
     let next = next_need(alloc, board, worker)?;
     let Some(version) = version_in(next) else {
         return Ok(None);
@@ -203,13 +203,6 @@ pub fn settled_if_done<J: PlanName>(next: &Need<J>)
     if let Need::Done(version) = next {
         let _reads = version.reads();
     }
-}
-
-/// A version at a place settles.
-fn settled<J: PlanName>(place: Place<'_, J>)
-    ensures { IsVersion J.plan (told_at place.entry) }
-{
-    let _reads = place.show().reads();
 }
 
 /// Puts a version into the table.

@@ -5,19 +5,22 @@ ghost use Rattle.std.specs.Bool.{Decides};
 ghost use Rattle.board_steps.specs.Board.{Row};
 ghost use Rattle.read_set.specs.Settling.{Told};
 ghost use Rattle.version_store.specs.Entries.{line_at};
+ghost use Rattle.board_steps.specs.Steps.{IsVersion};
 ghost use Rattle.speculate.specs.Acts.{IsAct, IsFirstApart, IsPlacedAt, places, publishes};
+ghost use Rattle.speculate.specs.Courses.{ComesTo, FirstPlaced};
+ghost use Rattle.speculate.specs.Notes.{told_at};
 
 use crate::hand::Hand;
 use attempts::LineState;
 use circ_records::{Key, Record};
 use read_set::{PlanName, Version};
-use version_store::EntryStore;
+use version_store::{EntryStore, Place};
 
 /// What a publication does next.
 #[derive(Clone, Copy)]
 pub(crate) enum Act {
-    /// It places the write at this key.
-    Write(Key),
+    /// It places the write at this key. After it so many of the first writes are placed.
+    Write(Key, usize),
     /// It takes away the entry at this key, which an earlier attempt left.
     Lift(Key),
     /// Nothing: all is published.
@@ -54,18 +57,29 @@ pub(crate) fn is_of<J: PlanName>(version: &Version<J>, hand: Hand) -> bool
     version.attempt() == hand.attempt
 }
 
-/// The next act of the publication of a version of a line. It looks at each write and each entry of the line.
+/// A version at a place settles.
+pub(crate) fn settled<J: PlanName>(place: Place<'_, J>)
+    ensures { IsVersion J.plan (told_at place.entry) }
+{
+    let _reads = place.show().reads();
+}
+
+/// The next act of the publication of a version of a line, so many of whose first writes are placed. It looks at none of
+/// these again.
 pub(crate) fn act_of<J: PlanName>(
     entries: &EntryStore<'_, J>,
     line: u64,
     version: &Version<J>,
+    placed: usize,
 ) -> Act
-    ensures { (r : Row) → r.entries ≡ line_at entries.now line → IsAct r version.now result }
+    requires { FirstPlaced (line_at entries.now line) version.now.attempt version.now.writes placed }
+    ensures act { (r : Row) → r.entries ≡ line_at entries.now line → IsAct r version.now result }
+    ensures comes { ComesTo (line_at entries.now line) version.now result }
 {
     let writes = version.writes();
     let attempt = version.attempt();
-    if let Some(i) = next_write(entries, line, attempt, writes) {
-        return Act::Write(writes[i].0);
+    if let Some(i) = next_write(entries, line, attempt, writes, placed) {
+        return Act::Write(writes[i].0, i + 1);
     }
     match entries.left(line, attempt) {
         Some(key) => Act::Lift(*key),
@@ -73,16 +87,18 @@ pub(crate) fn act_of<J: PlanName>(
     }
 }
 
-/// The place of the first write whose entry isn't of the attempt.
+/// The place of the first write whose entry isn't of the attempt, where so many of the first are of it.
 fn next_write<J: PlanName>(
     entries: &EntryStore<'_, J>,
     line: u64,
     attempt: u32,
     writes: &[(Key, Record)],
+    placed: usize,
 ) -> Option<usize>
+    requires { FirstPlaced (line_at entries.now line) attempt writes.now placed }
     ensures { IsFirstApart (line_at entries.now line) attempt writes.now result }
 {
-    for i in 0..writes.len() {
+    for i in placed..writes.len() {
         if !is_placed(entries, line, attempt, &writes[i].0) {
             return Some(i);
         }

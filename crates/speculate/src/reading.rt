@@ -15,7 +15,7 @@ use std::alloc::{AllocError, Global};
 use version_store::Place;
 
 /// The record that is written at a key.
-fn written<'w>(writes: &'w [(Key, Record)], key: &Key) -> Option<&'w Record>
+pub fn written<'w>(writes: &'w [(Key, Record)], key: &Key) -> Option<&'w Record>
     requires { IsStrictlySortedBy key_cmp (map (λ e. e.0) writes.now) }
     ensures { option_copied result ≡ record_at writes.now key.now }
 {
@@ -75,7 +75,7 @@ fn read_note<J: PlanName>(
 }
 
 /// The same record, where there is one.
-fn copied(alloc: Global, found: Option<&Record>) -> Result<Option<Record>, AllocError>
+pub fn copied(alloc: Global, found: Option<&Record>) -> Result<Option<Record>, AllocError>
     ensures { IfOk result (λ copy. copy ≡ option_copied found.entry) }
 {
     match found {

@@ -5,11 +5,20 @@ use read_set::PlanName;
 use std::alloc::Global;
 use version_store::Place;
 
-/// What a line has noted, the place of the version of its newest publication, and the clock at the last change of its entries.
+/// How far the publication of a version has come.
+#[derive(Clone, Copy)]
+pub struct Course {
+    /// So many of its first writes are placed.
+    pub placed: usize,
+}
+
+/// What a line has noted, the place of the version of its newest publication, how far that has come, and the clock at the
+/// last change of the line's entries.
 #[derive(Drop)]
 pub struct Row<'t, J: PlanName> {
     pub notes: PlaceNotes<'t, J>,
     pub version: Option<Place<'t, J>>,
+    pub course: Course,
     pub changed: u64,
 }
 
@@ -24,6 +33,7 @@ impl<'t, J: PlanName> Row<'t, J> {
         Row {
             notes: PlaceNotes::new(alloc),
             version: None,
+            course: Course { placed: 0 },
             changed: 0,
         }
     }

@@ -71,6 +71,9 @@ position_none s n h = ⊎_elim
 pub none_nth : (i : ℕ) → slice_get (entries no_entries) i ≡ None
 none_nth i = slice_get_past (entries no_entries) i (omega (arith, len-empty key_cmp Shown, len-entries no_entries))
 
+pub none_few : length (entries no_entries) ≡ 0
+none_few = omega (arith, len-empty key_cmp Shown, len-entries no_entries)
+
 none_at : (l : Line) (k : Key) → l ≡ no_entries → is_some (get l k) ≡ false
 none_at l k e = rw e (ap (λ (o : Option Shown). is_some o) (get-empty key_cmp k))
 

@@ -1,5 +1,5 @@
 -- The entries of a line as a finite map.
-use Rattle.std.proofs.Common.{◌≡◌, ℕ, Bool, true, false, cond, Option, Some, None, List, [], ◌∷◌, map, refl, sym, ap, ◌∙◌}
+use Rattle.std.proofs.Common.{◌≡◌, ℕ, Bool, true, false, cond, Option, Some, None, List, [], ◌∷◌, length, map, refl, sym, ap, ◌∙◌}
 use Rattle.std.specs.Prelude.{option_map, slice_get}
 use Rattle.std.specs.Ordering.{eq_by_cmp, is_lt}
 use Rattle.std.specs.declared.cmp.Ordering.{Ordering}
@@ -11,6 +11,7 @@ use Rattle.std.specs.List.Sorted.{IsStrictlySortedBy}
 use Rattle.std.specs.Map.{lookup, keys_of}
 use Rattle.std.specs.FinMap.{from_sorted, entries-from_sorted, get-from_sorted, get-entries, get, insert, remove, from_entries, entries, find, get-insert, get-remove, get-from_entries, same_map}
 use Rattle.std.specs.FinMap.Entries.{is_sorted, below_all}
+use Rattle.std.proofs.lemmas.List.{length-map}
 use Rattle.std.proofs.lemmas.Option.{slice_get-map}
 use Rattle.std.proofs.lemmas.Map.Keys.{sorted_head, sorted_tail}
 use Rattle.std.proofs.lemmas.Cmp.{eq_by_cmp_equiv}
@@ -120,6 +121,10 @@ entries-shown es h =
     let e : from_entries {R = key_cmp} (map shown_pair es) ≡ from_sorted (map shown_pair es) =
     same_map key_cmp_total key_cmp-IsAntisymmetric _ _ (λ q. get-from_entries key_cmp_total (map shown_pair es) q ∙ sym (get-from_sorted key_cmp (map shown_pair es) q s)) in
     ap entries e ∙ entries-from_sorted key_cmp (map shown_pair es) s
+
+-- a line has as many entries as its map
+pub entries_count : {J : Type 0} (m : BTreeMap Key (Entry J)) → IsStrictlySortedBy key_cmp (keys_of m.entries) → length (entries (line_of m)) ≡ length m.entries
+entries_count m s = ap (λ es. length es) (entries-shown m.entries s) ∙ length-map m.entries shown_pair
 
 pub entry_at : {J : Type 0} (m : BTreeMap Key (Entry J)) (i : ℕ) (o : Option (Key × Entry J))
     → IsStrictlySortedBy key_cmp (keys_of m.entries) → o ≡ slice_get m.entries i

@@ -14,6 +14,7 @@ use Rattle.version_store.specs.declared.entry.Found.{Found}
 use Rattle.version_store.specs.declared.entry.Found.TheVariants as found
 use Rattle.version_store.specs.declared.entry.Seen.{Seen}
 use Rattle.version_store.specs.declared.entry.Seen.TheVariants as sees
+use Rattle.version_store.specs.declared.table.Place.{Place}
 
 -- an entry of a line at a key: the attempt that placed it, whether it is suspect, and what the version at its place says
 pub record Shown : Type 0 where
@@ -92,6 +93,10 @@ abbrev pub visible : (ℕ → Line) → ℕ → Key → Option (ℕ × Shown)
 visible lines zero k = None
 visible lines (suc n) k = above n (get (lines n) k) (visible lines n k)
 
+-- what the version of the visible entry says, whether that entry is suspect or not; None where the base is seen
+abbrev pub told_seen : (ℕ → Line) → ℕ → Key → Option Told
+told_seen lines n k = option_map (λ p. p.1.told) (visible lines n k)
+
 -- the name of the visible entry, Base where there is none; a suspect entry equals no name
 abbrev pub found_of : Option (ℕ × Shown) → Found
 found_of None = found.Named names.Base
@@ -116,6 +121,10 @@ sight_at lines n k = sight_of (visible lines n k)
 -- ---- values of the code
 abbrev pub shown : {J : Type 0} → Entry J → Shown
 shown e = record { attempt = e.attempt; suspect = e.suspect; told = e.place.version.now }
+
+-- what the version at a place says
+abbrev pub told_in : {J : Type 0} → Place J → Told
+told_in place = place.version.now
 
 abbrev pub shown_pair : {J : Type 0} → Key × Entry J → Key × Shown
 shown_pair e = (e.0, shown e.1)

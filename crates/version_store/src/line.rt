@@ -1,6 +1,6 @@
 //! The entries of one line.
 
-ghost use Rattle.std.specs.Prelude.{◌≡◌, OnOk, OnErr, Some, None, MatchOption, slice_get, cond, option_map};
+ghost use Rattle.std.specs.Prelude.{◌≡◌, ◌^◌, ◌<◌, OnOk, OnErr, Some, None, MatchOption, length, slice_get, cond, option_map};
 ghost use Rattle.std.specs.BTreeMap as tree;
 ghost use Rattle.std.specs.FinMap as fin;
 ghost use Rattle.std.specs.Map.Iter.{deref_pair};
@@ -84,7 +84,8 @@ impl<'t, J: PlanName> LineEntries<'t, J> {
 
     /// The i-th key, rising, and the attempt of its entry.
     pub fn nth(&self, i: usize) -> Option<(&Key, u32)>
-        ensures { IsNamedAt (slice_get (fin.entries self.now) i) result }
+        ensures value { IsNamedAt (slice_get (fin.entries self.now) i) result }
+        ensures few { length (fin.entries self.now) < 2 ^ 64 }
     {
         let Some((key, made)) = nth_entry(&self.entries, i) else {
             return None;
@@ -123,7 +124,10 @@ fn nth_entry<'m, 't, J: PlanName>(
 ) -> Option<(&'m Key, &'m Entry<'t, J>)>
     ensures nth { option_map deref_pair result ≡ slice_get entries.now.entries i }
     ensures ordered { tree.IsOrdered key_cmp entries.now }
+    ensures few { length entries.now.entries < 2 ^ 64 }
 {
+    // Its contract says that they are few.
+    let _count = entries.len();
     entries.iter().nth(i)
 }
 

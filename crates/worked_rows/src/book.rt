@@ -215,6 +215,12 @@ impl Row {
         Ok(true)
     }
 
+    /// The plan of the row's inputs, where they are right.
+    pub(crate) fn plan(mut self, alloc: Global) -> Result<Option<Plan>, AllocError> {
+        self.close()?;
+        plan_over(alloc, &self.base, self.journal.as_bytes())
+    }
+
     /// Runs the row and compares what came out.
     pub(crate) fn run(mut self, rt: &impl Abort, alloc: Global, title: &str) -> Result<(), Fail> {
         self.close()?;
@@ -271,13 +277,18 @@ pub(crate) fn journal_of(alloc: Global, request: &str) -> Result<String, AllocEr
 
 /// The plan of a journal over the tables that each row begins with.
 pub(crate) fn plan_of(alloc: Global, journal: &[u8]) -> Result<Option<Plan>, AllocError> {
+    plan_over(alloc, &first_tables(alloc)?, journal)
+}
+
+/// The plan of a journal over tables.
+fn plan_over(alloc: Global, tables: &Tables, journal: &[u8]) -> Result<Option<Plan>, AllocError> {
     let Ok(policy) = Policy::read(alloc, POLICY.as_bytes()) else {
         return Ok(None);
     };
     let Ok(journal) = Journal::read(alloc, journal) else {
         return Ok(None);
     };
-    match Base::read(alloc, &policy, &first_tables(alloc)?, journal.first()) {
+    match Base::read(alloc, &policy, tables, journal.first()) {
         Ok(base) => Ok(Some(Plan::new(alloc, policy, base, &journal)?)),
         Err(_) => Ok(None),
     }

@@ -17,14 +17,41 @@
 //! Each run begins with the same library: patrons P1 (Ann) and P2 (Bob) of class A, the book I1 and the video tapes V1
 //! and V2, closed on Sundays. Whoever is of class C borrows nothing.
 //!
+//! A script of the board begins as a row does, with `base`, `first` and `asked` lines. `starting ATTEMPT CLOCK` tells with which
+//! attempt and at which clock its board begins, else 0 and 0. Then come calls, each with the reply that must come behind ` = `,
+//! and what is refused must leave the board as it was:
+//!
+//! | Call | What it does |
+//! |---|---|
+//! | `take WORKER LINE` | `taken ATTEMPT` |
+//! | `look WORKER` | looks at the key that the line needs next: `seen ID NAME`, a name being `base` or a line and its attempt, `1.0`; `look WORKER at item ID` looks at this one |
+//! | `publish WORKER` | an act of the version of the last act, else of the one that the line needs |
+//! | `publish WORKER of OTHER` | an act of a new version, the one that the other worker's line needs |
+//! | `publish WORKER writing item ID` | an act of a new version of equal notes, which writes the noted record again |
+//! | `keep WORKER`, `publish WORKER kept` | the version that the line needs is kept, and published later |
+//! | `check WORKER LINE`, `commit LINE` | the calls of these names; `changed ID NOTED FOUND` |
+//! | `choose`, `begin WORKER` | the choice of a free worker, `take 1`; with its reply, `take 1: taken 0` |
+//! | `does WORKER` | what the version does that the line needs: its answer, then each record that it writes |
+//! | `clock`, `committed`, `counts` | the board's; of the counts takes, failed checks, stops, commits and live lines |
+//!
 //! In a book of single lines a row tells records that need not fit together, one line, the records for which it asks, in the
 //! order of asking, and what it does.
 #![tactic(auto)]
 
 #[cfg(test)]
+mod again;
+#[cfg(test)]
 mod book;
 #[cfg(test)]
+mod calls;
+#[cfg(test)]
+mod replies;
+#[cfg(test)]
+mod script;
+#[cfg(test)]
 mod shelf;
+#[cfg(test)]
+mod sight;
 #[cfg(test)]
 mod single;
 #[cfg(test)]

@@ -61,7 +61,8 @@ impl Shelf {
     }
 }
 
-fn key_in(text: &str) -> Option<Key> {
+/// The key that a kind and an id name.
+pub(crate) fn key_in(text: &str) -> Option<Key> {
     let (kind, id) = text.split_once(' ')?;
     let id = Id::new(id.as_bytes())?;
     match kind {
@@ -183,6 +184,12 @@ fn loan_in(text: &str) -> Option<Loan> {
 
 /// Tells a record as a line.
 pub(crate) fn tell(out: &mut String, key: &Key, record: &Record) -> Result<(), AllocError> {
+    tell_record(out, key, record)?;
+    out.push('\n')
+}
+
+/// Tells a record by its key and its fields.
+pub(crate) fn tell_record(out: &mut String, key: &Key, record: &Record) -> Result<(), AllocError> {
     let kind = match key {
         Key::Patron(_) => "patron",
         Key::Item(_) => "item",
@@ -190,11 +197,10 @@ pub(crate) fn tell(out: &mut String, key: &Key, record: &Record) -> Result<(), A
     };
     write!(out, "{kind} {}: ", shown(key.id()))?;
     match record {
-        Record::Patron(patron) => tell_patron(out, patron)?,
-        Record::Item(item) => tell_item(out, item)?,
-        Record::Fee(fee) => tell_fee(out, fee)?,
+        Record::Patron(patron) => tell_patron(out, patron),
+        Record::Item(item) => tell_item(out, item),
+        Record::Fee(fee) => tell_fee(out, fee),
     }
-    out.push('\n')
 }
 
 fn shown(id: &Id) -> &str {

@@ -2,12 +2,14 @@
 
 mod checkins;
 mod checkouts;
+mod driving;
 mod fees;
 mod holds;
 mod odd;
 mod patrons;
 mod recorded;
 mod renewals;
+mod steps;
 mod tables;
 mod unread;
 mod wants;

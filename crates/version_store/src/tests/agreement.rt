@@ -20,7 +20,7 @@ const FIRST: u64 = 9_999_999_990;
 
 const LINES: u64 = 6;
 
-/// Names, sights and lists of keys, also of lines that aren't there.
+/// Names, sights, places and lists of keys, also of lines that aren't there.
 fn agree<J: PlanName>(rt: &impl Abort, store: &EntryStore<'_, J>, plain: &PlainStore) {
     for number in 0..5u32 {
         for line in 0..LINES + 2 {
@@ -53,6 +53,11 @@ fn agree_at<J: PlanName>(
             );
         }
     }
+    let shown = match store.shown_at(&chosen, line) {
+        None => None,
+        Some(place) => Some((place.show().line(), place.show().attempt())),
+    };
+    assert!(rt; shown == plain.shown_at(&chosen, line));
     let ours = match store.keys_of(line, number as usize) {
         None => None,
         Some((key, attempt)) => Some((*key, attempt)),

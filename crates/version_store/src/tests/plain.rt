@@ -48,6 +48,14 @@ impl PlainStore {
         })
     }
 
+    /// The line and the attempt of the entry that is seen, suspect or not.
+    pub fn shown_at(&self, key: &Key, below: u64) -> Option<(u64, u32)> {
+        match self.latest(key, below) {
+            Some(plain) => Some((plain.line, plain.attempt)),
+            None => None,
+        }
+    }
+
     /// How many keys of the line lie below this one.
     fn below(&self, line: u64, key: &Key) -> usize {
         let mut smaller = 0usize;

@@ -64,6 +64,12 @@ asked 15+20260302    101500AAX9|ABI1|
 answer 160N20260302    101500AOL1|AAX9|ABI1|AJOne|
 asked 15+20260302    101500AAP1|ABX9|
 answer 160N20260302    101500AOL1|AAP1|ABX9|
+# a blocked patron who waits first has what stands on the shelf
+base patrons P3,Cy,A,Y
+base holds I1,P3,Main
+asked 15*20260302    101500AAP3|ABI1|BSEast|
+answer 161Y20260302    101500BR1|BSEast|AOL1|AAP3|ABI1|AJOne|
+after holds I1,P3,East
 # the first for an item on loan, which is not available, and without a pickup
 base loans P1,I1,20260316,0
 asked 15+20260302    101500AOL1|AAP2|ABI1|

@@ -21,6 +21,13 @@ base loans P1,I1,20260316,0
 asked 29NN20260316    100000                  AOL1|AAP2|ABI1|
 answer 300NUN20260316    100000AOL1|AAP2|ABI1|AJOne|AH|CK001|
 after loans P1,I1,20260316,0
+# nor where somebody waits, the asker or another
+base loans P1,I1,20260316,0
+base holds I1,P2,Main
+asked 29YN20260316    100000                  AOL1|AAP2|ABI1|
+answer 300NUN20260316    100000AOL1|AAP2|ABI1|AJOne|AH|CK001|
+after loans P1,I1,20260316,0
+after holds I1,P2,Main
 # nothing on loan
 asked 29NN20260316    100000                  AOL1|AAP1|ABI1|
 answer 300NUN20260316    100000AOL1|AAP1|ABI1|AJOne|AH|CK001|

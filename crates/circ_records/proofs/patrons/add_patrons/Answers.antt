@@ -1,4 +1,4 @@
-use Rattle.std.proofs.Common.{◌≡◌, ◌++◌, ◌∷◌, [], ◌+◌, List, None, map, take, sym, refl, subst, add-one}
+use Rattle.std.proofs.Common.{◌≡◌, ◌++◌, ◌∷◌, [], ◌+◌, List, Some, None, map, rules, ◌∙◌, take, sym, refl, subst, add-one}
 use Rattle.std.proofs.Math.Seq.{take-suc}
 use Rattle.csv.specs.Records.{fields_of}
 use Rattle.circ_records.specs.Read.{Tells, rows_in, to_patrons}
@@ -12,23 +12,25 @@ use Rattle.circ_records.proofs.patrons.add_patrons.Goals as goal
 
 pub returns-in-Some-clause-err : goal.returns-in-Some-clause-err
 returns-in-Some-clause-err c =
+    let is : c.in_ok-broken.broken ≡ Some c.in-Some.rule = search rules in
     let inv = c.loop-i.invariant in
     let rows = map fields_of c.args.rows.now.patrons.items in
     let (below, at) = item-among fields_of c.args.rows.now.patrons.items c.deref-row-items.result.now c.loop-i.i c.row-item.result c.deref-row-items.ensures.value c.loop-i-test.true c.row-item.is in
     breaks-here table.Patrons (patron_rule c.args.policy.now) rows c.loop-i.i (fields_of c.row-item.result) c.in-Some.rule below at
-    (sym (c.in-Some.ensures.rule (to_patrons (rows_in c.args.rows.now) (take c.loop-i.i rows)) inv.tells)) inv.keeps
+    (sym (c.in_ok-broken.ensures.rule (to_patrons (rows_in c.args.rows.now) (take c.loop-i.i rows)) inv.tells) ∙ is) inv.keeps
 
 pub loop-i-preserved : goal.loop-i-preserved
 loop-i-preserved c =
+    let is : c.in_ok-broken.broken ≡ None = search rules in
     let inv = c.loop-i.invariant in
     let rows = map fields_of c.args.rows.now.patrons.items in
     let row = fields_of c.row-item.result in
     let before = take c.loop-i.i rows in
     let (below, at) = item-among fields_of c.args.rows.now.patrons.items c.deref-row-items.result.now c.loop-i.i c.row-item.result c.deref-row-items.ensures.value c.loop-i-test.true c.row-item.is in
-    let none : patron_rule c.args.policy.now before row ≡ None = sym (c.in-None.ensures.rule (to_patrons (rows_in c.args.rows.now) before) inv.tells) in
+    let none : patron_rule c.args.policy.now before row ≡ None = sym (c.in_ok-broken.ensures.rule (to_patrons (rows_in c.args.rows.now) before) inv.tells) ∙ is in
     let more : take (c.loop-i.i + 1) rows ≡ before ++ row ∷ [] = rw (add-one, take-suc rows c.loop-i.i [] below, at) refl in
     record {
       keeps = keeps-more table.Patrons (patron_rule c.args.policy.now) rows c.loop-i.i row below at none inv.keeps;
-      rising = c.in_ok-add_patron-in-None.ensures.rising;
-      tells = subst (λ (xs : List Row). Tells (to_patrons (rows_in c.args.rows.now) xs) c.add_patron.new.records) (sym more) (c.in_ok-add_patron-in-None.ensures.told (rows_in c.args.rows.now) before inv.tells (kept-patron c.args.policy.now before row none).fresh);
+      rising = c.in_ok-broken.ensures.rising is;
+      tells = subst (λ (xs : List Row). Tells (to_patrons (rows_in c.args.rows.now) xs) c.put_patron.new.records) (sym more) (c.in_ok-broken.ensures.told is (rows_in c.args.rows.now) before inv.tells (kept-patron c.args.policy.now before row none).fresh);
     }

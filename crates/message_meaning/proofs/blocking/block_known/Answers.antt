@@ -1,9 +1,17 @@
 use Rattle.std.proofs.Common.{ap, sym, []}
+use Rattle.std.proofs.lemmas.Result.{err_from_is_err_and}
 use Rattle.loan_meaning.specs.Owing.{owed_at}
 use Rattle.read_set.specs.Asks.{Give, Done}
 use Rattle.read_set.specs.Patrons.{blocked_by}
-use Rattle.read_set.proofs.Following.{follow_then}
+use Rattle.read_set.proofs.Following.{follow_then, stop_then}
 use Rattle.message_meaning.proofs.blocking.block_known.Goals as goal
+
+pub returns-in_err-owes-clause-gives : goal.returns-in_err-owes-clause-gives
+returns-in_err-owes-clause-gives g c =
+    let p = err_from_is_err_and c.from_residual.result c.from_residual.ensures.1 in
+    let had = g.S.Source.has c.args.source.now in
+    let stops = rw (c.new.ensures, c.as_slice.ensures) at c.in_err-owes.ensures.gives in
+    rw (p.1, p.2) (stop_then had (owed_at [] c.args.member.patron.fees) (λ owes. Give (blocked_by c.args.policy.now c.args.blocks c.args.id.now c.args.date c.args.member owes)) _ stops)
 
 pub returns-clause-gives : goal.returns-clause-gives
 returns-clause-gives g c =

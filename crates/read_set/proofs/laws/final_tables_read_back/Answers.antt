@@ -1,5 +1,5 @@
-use Rattle.read_set.proofs.PlanFits.{final-tables}
+use Rattle.read_set.proofs.PlanFits.{counted, final-tables}
 use Rattle.read_set.proofs.laws.final_tables_read_back.Goals as goal
 
 pub returns : goal.returns
-returns c = final-tables
+returns c = final-tables c.args.base.now (counted c.args.base.now c.keys.result c.len-count.result c.keys.ensures.keys c.len-count.ensures.value c.len-count.type_inv)

@@ -1,11 +1,7 @@
-use Rattle.std.proofs.Common.{◌∙◌, ap, map}
-use Rattle.std.specs.Option.{is_some}
-use Rattle.result_report.specs.Report.{is_answered}
-use Rattle.replay_run.proofs.Answered.{answered}
+use Rattle.std.proofs.Common.{IfOk, subst}
+use Rattle.replay_run.specs.OneThread.{IsOutputBy}
 use Rattle.replay_run.proofs.run.output.Goals as goal
 
-pub report-requires-clause-answered : goal.report-requires-clause-answered
-report-requires-clause-answered c =
-    ap (map is_some) (c.in_ok-lend.ensures ∙ c.as_slice.ensures.value ∙ c.in_ok-records.ensures.answers)
-    ∙ answered c.args.plan.now
-    ∙ ap (map is_answered) c.requires
+pub returns : goal.returns
+returns c =
+    subst (λ attempts. IfOk c.output_of.result (IsOutputBy c.args.plan.now c.args.journal.now attempts)) c.in_ok-records.ensures.attempts c.output_of.ensures

@@ -14,6 +14,9 @@ returns-then-not-is_placed g c =
     let here : slice_get ws c.loop-i.i ≡ Some x = slice_get-get_or ws c.loop-i.i c.index-writes-i.result (omega arith) in
     ((x, here, λ p. (let z : true ≡ false = sym (c.is_placed.ensures.1 p) ∙ c.if-not-is_placed.true in cc)), λ j y lt h. c.loop-i.invariant j y lt h)
 
+pub loop-i-init : goal.loop-i-init
+loop-i-init g c = λ j x lt h. c.requires j x lt h
+
 pub loop-i-preserved : goal.loop-i-preserved
 loop-i-preserved g c =
     let ws = c.args.writes.now in

@@ -95,7 +95,7 @@ invariant_of-self g c =
     let there : IsLine (board_of plan.base parts) n = act_line plan parts kept w n (notes_at (board_of plan.base parts) n) may v in
     let f : c.first.result ≡ parts.states.first = c.first.ensures ∙ ap (λ (x : Planned). x.first) c.self.invariant.0 ∙ sym kept.reached.first in
     let spot = c.index_mut-row.result.now in
-    let row : Row g.row.J.Denot = record { notes = spot.notes; version = Some c.args.place; changed = spot.changed } in
+    let row : Row g.row.J.Denot = record { notes = spot.notes; version = Some c.args.place; course = spot.course; changed = spot.changed } in
     let k : Kept = row_shown row in
     let q : Parts = record {
       states = c.go_on.new.self;
@@ -112,8 +112,8 @@ invariant_of-self g c =
     ∙ ap row_shown (sym (c.index_mut-row.ensures.value ∙ ap (λ x. get_or a.rows.items (n - x) c.index_mut-row.result.now) f)) in
     let rows_is : q.rows ≡ set parts.rows (n - parts.states.first) k =
     map-set row_shown a.rows.items (n - c.first.result) row ∙ ap (λ x. set parts.rows (n - x) k) f in
-    let k_is : k ≡ record { notes = (get_or parts.rows (n - parts.states.first) no_notes).notes; told = Some v; changed = (get_or parts.rows (n - parts.states.first) no_notes).changed } =
-    ap (λ (y : Kept). record { notes = y.notes; told = Some v; changed = y.changed }) (sym was) in
+    let k_is : k ≡ record { notes = (get_or parts.rows (n - parts.states.first) no_notes).notes; told = Some v; course = (get_or parts.rows (n - parts.states.first) no_notes).course; changed = (get_or parts.rows (n - parts.states.first) no_notes).changed } =
+    ap (λ (y : Kept). record { notes = y.notes; told = Some v; course = y.course; changed = y.changed }) (sym was) in
     let all : AllPlaced (row_at (board_of plan.base parts) n) v = subst (λ (b : Board). AllPlaced (row_at b n) v) (sym is) c.requires.all in
     let none : NoneLeft (row_at (board_of plan.base parts) n) v = subst (λ (b : Board). NoneLeft (row_at b n) v) (sym is) c.requires.none in
     (c.self.invariant.0, done_kept plan parts kept w n (notes_at (board_of plan.base parts) n) may v q k c.go_on.ensures refl rows_is k_is refl refl refl fits c.requires.version all none)
@@ -133,7 +133,7 @@ returns g c =
     let there : IsLine (board_of plan.base parts) n = act_line plan parts kept w n (notes_at (board_of plan.base parts) n) may v in
     let f : c.first.result ≡ parts.states.first = c.first.ensures ∙ ap (λ (x : Planned). x.first) c.self.invariant.0 ∙ sym kept.reached.first in
     let spot = c.index_mut-row.result.now in
-    let row : Row g.row.J.Denot = record { notes = spot.notes; version = Some c.args.place; changed = spot.changed } in
+    let row : Row g.row.J.Denot = record { notes = spot.notes; version = Some c.args.place; course = spot.course; changed = spot.changed } in
     let k : Kept = row_shown row in
     let q : Parts = record {
       states = c.go_on.new.self;
@@ -150,8 +150,8 @@ returns g c =
     ∙ ap row_shown (sym (c.index_mut-row.ensures.value ∙ ap (λ x. get_or a.rows.items (n - x) c.index_mut-row.result.now) f)) in
     let rows_is : q.rows ≡ set parts.rows (n - parts.states.first) k =
     map-set row_shown a.rows.items (n - c.first.result) row ∙ ap (λ x. set parts.rows (n - x) k) f in
-    let k_is : k ≡ record { notes = (get_or parts.rows (n - parts.states.first) no_notes).notes; told = Some v; changed = (get_or parts.rows (n - parts.states.first) no_notes).changed } =
-    ap (λ (y : Kept). record { notes = y.notes; told = Some v; changed = y.changed }) (sym was) in
+    let k_is : k ≡ record { notes = (get_or parts.rows (n - parts.states.first) no_notes).notes; told = Some v; course = (get_or parts.rows (n - parts.states.first) no_notes).course; changed = (get_or parts.rows (n - parts.states.first) no_notes).changed } =
+    ap (λ (y : Kept). record { notes = y.notes; told = Some v; course = y.course; changed = y.changed }) (sym was) in
     let all : AllPlaced (row_at (board_of plan.base parts) n) v = subst (λ (b : Board). AllPlaced (row_at b n) v) (sym is) c.requires.all in
     let none : NoneLeft (row_at (board_of plan.base parts) n) v = subst (λ (b : Board). NoneLeft (row_at b n) v) (sym is) c.requires.none in
     subst (λ (b : Board). board_of a.plan.now.base q ≡ put_row b n (with_state (row_at b n) (Done (notes_at b n) v.answer None))) is

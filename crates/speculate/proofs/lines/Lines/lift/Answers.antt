@@ -5,10 +5,15 @@ use Rattle.read_set.specs.Settling.{Told}
 use Rattle.version_store.specs.Entries as store
 use Rattle.version_store.specs.Entries.{shown_by}
 use Rattle.board_steps.specs.Steps.{MayPublish, Fits, AllPlaced, IsNextLeft, HasRoom, lifted}
+use Rattle.speculate.specs.declared.row.Course.{Course}
 use Rattle.speculate.specs.declared.row.Row.{Row}
 use Rattle.speculate.specs.Acts.{notes_at}
 use Rattle.speculate.specs.Parts.{Kept, no_notes}
 use Rattle.speculate.proofs.Boards.{place_of}
+use Rattle.std.specs.List.Sorted.{IsStrictlySortedBy}
+use Rattle.circ_records.specs.Keys.{key_cmp}
+use Rattle.version_store.proofs.Walks.{Rising}
+use Rattle.speculate.proofs.Writes.{writes_rise}
 use Rattle.speculate.proofs.Publications.{act_line, live_there, entries_there, lifted_board, lifted_kept_here}
 use Rattle.read_set.specs.Plans.{Planned}
 use Rattle.board_steps.specs.Board.{Board, IsLine, row_at}
@@ -90,7 +95,8 @@ invariant_of-self g c =
     let there : IsLine (board_of plan.base parts) n = act_line plan parts kept w n (notes_at (board_of plan.base parts) n) may v in
     let f : c.first.result ≡ parts.states.first = c.first.ensures ∙ ap (λ (x : Planned). x.first) c.self.invariant.0 ∙ sym kept.reached.first in
     let spot = c.index_mut-row.result.now in
-    let row : Row g.row.J.Denot = record { notes = spot.notes; version = Some c.args.place; changed = a.clock + 1 } in
+    let come : Course = record { placed = length c.writes-placed.result.now } in
+    let row : Row g.row.J.Denot = record { notes = spot.notes; version = Some c.args.place; course = come; changed = a.clock + 1 } in
     let k : Kept = row_shown row in
     let q : Parts = record {
       states = c.go_on.new.self;
@@ -107,15 +113,16 @@ invariant_of-self g c =
     ∙ ap row_shown (sym (c.index_mut-row.ensures.value ∙ ap (λ x. get_or a.rows.items (n - x) c.index_mut-row.result.now) f)) in
     let rows_is : q.rows ≡ set parts.rows (n - parts.states.first) k =
     map-set row_shown a.rows.items (n - c.first.result) row ∙ ap (λ x. set parts.rows (n - x) k) f in
-    let k_is : k ≡ record { notes = (get_or parts.rows (n - parts.states.first) no_notes).notes; told = Some v; changed = a.clock + 1 } =
-    ap (λ (y : Kept). record { notes = y.notes; told = Some v; changed = a.clock + 1 }) (sym was) in
+    let k_is : k ≡ record { notes = (get_or parts.rows (n - parts.states.first) no_notes).notes; told = Some v; course = come; changed = a.clock + 1 } =
+    ap (λ (y : Kept). record { notes = y.notes; told = Some v; course = come; changed = a.clock + 1 }) (sym was) in
     let all : AllPlaced (row_at (board_of plan.base parts) n) v = subst (λ (b : Board). AllPlaced (row_at b n) v) (sym is) c.requires.all in
     let next : IsNextLeft (row_at (board_of plan.base parts) n) v c.args.key = subst (λ (b : Board). IsNextLeft (row_at b n) v c.args.key) (sym is) c.requires.next in
     let room : HasRoom (board_of plan.base parts) = subst HasRoom (sym is) c.requires.room in
     let l = remove (store.line_at a.entries n) c.args.key in
     let l_is : l ≡ remove (row_at (board_of plan.base parts) n).entries c.args.key =
     ap (λ (x : store.Line). remove x c.args.key) (sym (entries_there plan parts kept n there)) in
-    (c.self.invariant.0, lifted_kept_here plan parts kept w n (notes_at (board_of plan.base parts) n) may v q l k c.go_on.ensures c.lift.ensures rows_is k_is refl refl refl c.args.key fits c.requires.version room all next l_is)
+    let up : Rising v.writes = writes_rise v.writes (subst (λ (t : Told). IsStrictlySortedBy key_cmp (map (λ e. e.0) t.writes)) c.show.ensures c.writes-placed.ensures.rising) in
+    (c.self.invariant.0, lifted_kept_here plan parts kept w n (notes_at (board_of plan.base parts) n) may v q l k come c.go_on.ensures c.lift.ensures rows_is k_is refl refl refl c.args.key fits c.requires.version room all next l_is up)
 
 pub returns : goal.returns
 returns g c =
@@ -132,7 +139,8 @@ returns g c =
     let there : IsLine (board_of plan.base parts) n = act_line plan parts kept w n (notes_at (board_of plan.base parts) n) may v in
     let f : c.first.result ≡ parts.states.first = c.first.ensures ∙ ap (λ (x : Planned). x.first) c.self.invariant.0 ∙ sym kept.reached.first in
     let spot = c.index_mut-row.result.now in
-    let row : Row g.row.J.Denot = record { notes = spot.notes; version = Some c.args.place; changed = a.clock + 1 } in
+    let come : Course = record { placed = length c.writes-placed.result.now } in
+    let row : Row g.row.J.Denot = record { notes = spot.notes; version = Some c.args.place; course = come; changed = a.clock + 1 } in
     let k : Kept = row_shown row in
     let q : Parts = record {
       states = c.go_on.new.self;
@@ -149,8 +157,8 @@ returns g c =
     ∙ ap row_shown (sym (c.index_mut-row.ensures.value ∙ ap (λ x. get_or a.rows.items (n - x) c.index_mut-row.result.now) f)) in
     let rows_is : q.rows ≡ set parts.rows (n - parts.states.first) k =
     map-set row_shown a.rows.items (n - c.first.result) row ∙ ap (λ x. set parts.rows (n - x) k) f in
-    let k_is : k ≡ record { notes = (get_or parts.rows (n - parts.states.first) no_notes).notes; told = Some v; changed = a.clock + 1 } =
-    ap (λ (y : Kept). record { notes = y.notes; told = Some v; changed = a.clock + 1 }) (sym was) in
+    let k_is : k ≡ record { notes = (get_or parts.rows (n - parts.states.first) no_notes).notes; told = Some v; course = come; changed = a.clock + 1 } =
+    ap (λ (y : Kept). record { notes = y.notes; told = Some v; course = come; changed = a.clock + 1 }) (sym was) in
     let all : AllPlaced (row_at (board_of plan.base parts) n) v = subst (λ (b : Board). AllPlaced (row_at b n) v) (sym is) c.requires.all in
     let next : IsNextLeft (row_at (board_of plan.base parts) n) v c.args.key = subst (λ (b : Board). IsNextLeft (row_at b n) v c.args.key) (sym is) c.requires.next in
     let room : HasRoom (board_of plan.base parts) = subst HasRoom (sym is) c.requires.room in
@@ -158,4 +166,4 @@ returns g c =
     let l_is : l ≡ remove (row_at (board_of plan.base parts) n).entries c.args.key =
     ap (λ (x : store.Line). remove x c.args.key) (sym (entries_there plan parts kept n there)) in
     subst (λ (b : Board). board_of a.plan.now.base q ≡ lifted b w n (notes_at b n) v c.args.key) is
-    (ap (λ (x : Planned). board_of x.base q) c.self.invariant.0 ∙ lifted_board plan parts kept w n (notes_at (board_of plan.base parts) n) may v q l k c.go_on.ensures c.lift.ensures rows_is k_is refl refl refl c.args.key fits c.requires.version room all next l_is)
+    (ap (λ (x : Planned). board_of x.base q) c.self.invariant.0 ∙ lifted_board plan parts kept w n (notes_at (board_of plan.base parts) n) may v q l k come c.go_on.ensures c.lift.ensures rows_is k_is refl refl refl c.args.key fits c.requires.version room all next l_is)

@@ -1,10 +1,9 @@
-use Rattle.std.proofs.Common.{◌≡◌, ◌≢◌, ◌+◌, ◌-◌, ◌<◌, ◌≤◌, Bool, true, false, Some, None, List, [], ◌∷◌, ◌++◌, map, set, get_or, slice_get, length, refl, sym, ap, subst, ◌∙◌, ◌⊎◌, inl, inr, arith, rules}
+use Rattle.std.proofs.Common.{◌≡◌, ◌-◌, ◌<◌, List, [], ◌∷◌, ◌++◌, map, set, get_or, length, refl, sym, ap, subst, ◌∙◌, arith, rules}
 use Rattle.std.proofs.lemmas.List.{length-map, get_or-map, map-set, set-get_or}
 use Rattle.read_set.specs.Plans.{Planned}
-use Rattle.board_steps.specs.Board.{Board, IsLine, row_at, holder, live_of, found}
+use Rattle.board_steps.specs.Board.{Board, IsLine, row_at, found}
 use Rattle.speculate.specs.Parts.{Kept, Parts, IsKept, board_of, row_shown, no_notes}
 use Rattle.speculate.proofs.Boards.{place_of}
-use Rattle.speculate.proofs.Rows.{held_there, live_there, state_somewhere, live_stands, notes_held, notes_live}
 use Rattle.board_steps.specs.Steps.{MayLook}
 use Rattle.version_store.specs.declared.entry.Found.TheVariants.{Suspect}
 use Rattle.speculate.specs.Notes.{is_noted}
@@ -98,7 +97,7 @@ invariant_of-self g c =
     let was : get_or (map row_shown a.rows.items) (line - parts.states.first) no_notes ≡ row_shown spot =
     get_or-map row_shown a.rows.items (line - parts.states.first) spot no_notes (omega (arith, l, m))
     ∙ ap row_shown (sym (c.index_mut-row.ensures.value ∙ ap (λ x. get_or a.rows.items (line - x) spot) f)) in
-    let row : Row g.row.J.Denot = record { notes = c.add.new.self; version = spot.version; changed = spot.changed } in
+    let row : Row g.row.J.Denot = record { notes = c.add.new.self; version = spot.version; course = spot.course; changed = spot.changed } in
     let k : Kept = row_shown row in
     let q : Parts = record { states = a.attempts; store = a.entries; rows = map row_shown (set a.rows.items (line - c.first.result) row); hands = a.hands.items; clock = a.clock; latest = a.latest } in
     let rows_is : q.rows ≡ set parts.rows (line - parts.states.first) k =
@@ -108,14 +107,14 @@ invariant_of-self g c =
         | in-Ok-add w ↦ (
             let seen = c.in-Ok.seen in
             let name = named_seen plan parts kept line c.args.key.now seen (subst (λ (y : Sight). IsNameOf y seen) c.see.ensures c.in-Ok.ensures.named) in
-            let k_is : k ≡ record { notes = (get_or parts.rows (line - parts.states.first) no_notes).notes ++ note_with c.args.key.now seen ∷ []; told = (get_or parts.rows (line - parts.states.first) no_notes).told; changed = (get_or parts.rows (line - parts.states.first) no_notes).changed } =
-            ap (λ (x : List Noted). record { notes = x; told = (row_shown spot).told; changed = spot.changed }) w.in-Ok-add.ensures.ok
-            ∙ ap (λ (y : Kept). record { notes = y.notes ++ note_with c.args.key.now seen ∷ []; told = y.told; changed = y.changed }) (sym was) in
+            let k_is : k ≡ record { notes = (get_or parts.rows (line - parts.states.first) no_notes).notes ++ note_with c.args.key.now seen ∷ []; told = (get_or parts.rows (line - parts.states.first) no_notes).told; course = (get_or parts.rows (line - parts.states.first) no_notes).course; changed = (get_or parts.rows (line - parts.states.first) no_notes).changed } =
+            ap (λ (x : List Noted). record { notes = x; told = (row_shown spot).told; course = spot.course; changed = spot.changed }) w.in-Ok-add.ensures.ok
+            ∙ ap (λ (y : Kept). record { notes = y.notes ++ note_with c.args.key.now seen ∷ []; told = y.told; course = y.course; changed = y.changed }) (sym was) in
             seen_kept plan parts kept c.args.worker line c.args.key.now notes may seen name.0 name.1 q k refl refl rows_is k_is refl refl refl)
         | in-Err-add w ↦ (
             let same_rows : q.rows ≡ parts.rows =
             rows_is
-            ∙ ap (λ (x : List Noted). set parts.rows (line - parts.states.first) (record { notes = x; told = (row_shown spot).told; changed = spot.changed })) w.in-Err-add.ensures.err
+            ∙ ap (λ (x : List Noted). set parts.rows (line - parts.states.first) (record { notes = x; told = (row_shown spot).told; course = spot.course; changed = spot.changed })) w.in-Err-add.ensures.err
             ∙ ap (λ (x : Kept). set parts.rows (line - parts.states.first) x) (sym was)
             ∙ set-get_or parts.rows (line - parts.states.first) no_notes in
             subst (λ (x : List Kept). IsKept plan (record { states = a.attempts; store = a.entries; rows = x; hands = a.hands.items; clock = a.clock; latest = a.latest })) (sym same_rows) kept)
@@ -141,7 +140,7 @@ returns g c =
     let was : get_or (map row_shown a.rows.items) (line - parts.states.first) no_notes ≡ row_shown spot =
     get_or-map row_shown a.rows.items (line - parts.states.first) spot no_notes (omega (arith, l, m))
     ∙ ap row_shown (sym (c.index_mut-row.ensures.value ∙ ap (λ x. get_or a.rows.items (line - x) spot) f)) in
-    let row : Row g.row.J.Denot = record { notes = c.add.new.self; version = spot.version; changed = spot.changed } in
+    let row : Row g.row.J.Denot = record { notes = c.add.new.self; version = spot.version; course = spot.course; changed = spot.changed } in
     let k : Kept = row_shown row in
     let q : Parts = record { states = a.attempts; store = a.entries; rows = map row_shown (set a.rows.items (line - c.first.result) row); hands = a.hands.items; clock = a.clock; latest = a.latest } in
     let rows_is : q.rows ≡ set parts.rows (line - parts.states.first) k =
@@ -151,9 +150,9 @@ returns g c =
       | in-Ok-add w ↦ (
           let seen = c.in-Ok.seen in
           let name = named_seen plan parts kept line c.args.key.now seen (subst (λ (y : Sight). IsNameOf y seen) c.see.ensures c.in-Ok.ensures.named) in
-          let k_is : k ≡ record { notes = (get_or parts.rows (line - parts.states.first) no_notes).notes ++ note_with c.args.key.now seen ∷ []; told = (get_or parts.rows (line - parts.states.first) no_notes).told; changed = (get_or parts.rows (line - parts.states.first) no_notes).changed } =
-          ap (λ (x : List Noted). record { notes = x; told = (row_shown spot).told; changed = spot.changed }) w.in-Ok-add.ensures.ok
-          ∙ ap (λ (y : Kept). record { notes = y.notes ++ note_with c.args.key.now seen ∷ []; told = y.told; changed = y.changed }) (sym was) in
+          let k_is : k ≡ record { notes = (get_or parts.rows (line - parts.states.first) no_notes).notes ++ note_with c.args.key.now seen ∷ []; told = (get_or parts.rows (line - parts.states.first) no_notes).told; course = (get_or parts.rows (line - parts.states.first) no_notes).course; changed = (get_or parts.rows (line - parts.states.first) no_notes).changed } =
+          ap (λ (x : List Noted). record { notes = x; told = (row_shown spot).told; course = spot.course; changed = spot.changed }) w.in-Ok-add.ensures.ok
+          ∙ ap (λ (y : Kept). record { notes = y.notes ++ note_with c.args.key.now seen ∷ []; told = y.told; course = y.course; changed = y.changed }) (sym was) in
           rw w.result-is
           (subst (λ (b : Board). LookStep plan b c.args.worker c.args.key.now (TheSeen seen.name (found_by plan.base c.args.key.now (option_map told_at seen.place))) (board_of a.plan.now.base q)) is
           (subst (λ (b : Board). LookStep plan (board_of plan.base parts) c.args.worker c.args.key.now (TheSeen seen.name (found_by plan.base c.args.key.now (option_map told_at seen.place))) b) new
@@ -161,7 +160,7 @@ returns g c =
       | in-Err-add w ↦ (
           let same_rows : q.rows ≡ parts.rows =
           rows_is
-          ∙ ap (λ (x : List Noted). set parts.rows (line - parts.states.first) (record { notes = x; told = (row_shown spot).told; changed = spot.changed })) w.in-Err-add.ensures.err
+          ∙ ap (λ (x : List Noted). set parts.rows (line - parts.states.first) (record { notes = x; told = (row_shown spot).told; course = spot.course; changed = spot.changed })) w.in-Err-add.ensures.err
           ∙ ap (λ (x : Kept). set parts.rows (line - parts.states.first) x) (sym was)
           ∙ set-get_or parts.rows (line - parts.states.first) no_notes in
           rw w.result-is

@@ -6,8 +6,10 @@ use Rattle.read_set.specs.Settling.{Told}
 use Rattle.version_store.specs.Entries as store
 use Rattle.version_store.specs.Entries.{shown_by}
 use Rattle.board_steps.specs.Steps.{MayPublish, Fits, IsNextWrite, HasRoom, placed}
+use Rattle.speculate.specs.declared.row.Course.{Course}
 use Rattle.speculate.specs.declared.row.Row.{Row}
 use Rattle.speculate.specs.Acts.{notes_at}
+use Rattle.speculate.specs.Courses.{FirstPlacedBut}
 use Rattle.speculate.specs.Parts.{Kept, no_notes}
 use Rattle.speculate.proofs.Boards.{place_of}
 use Rattle.speculate.proofs.Publications.{act_line, live_there, store_line, entries_there, placed_board, placed_kept_here}
@@ -106,7 +108,8 @@ invariant_of-self-2 g c =
     let there : IsLine (board_of plan.base parts) n = act_line plan parts kept w n (notes_at (board_of plan.base parts) n) may v in
     let f : c.first.result ≡ parts.states.first = c.first.ensures ∙ ap (λ (x : Planned). x.first) c.self.invariant.0 ∙ sym kept.reached.first in
     let spot = c.index_mut-row.result.now in
-    let row : Row g.row.J.Denot = record { notes = spot.notes; version = Some c.args.place; changed = a.clock + 1 } in
+    let come : Course = record { placed = c.args.count } in
+    let row : Row g.row.J.Denot = record { notes = spot.notes; version = Some c.args.place; course = come; changed = a.clock + 1 } in
     let k : Kept = row_shown row in
     let q : Parts = record {
       states = c.go_on.new.self;
@@ -123,8 +126,8 @@ invariant_of-self-2 g c =
     ∙ ap row_shown (sym (c.index_mut-row.ensures.value ∙ ap (λ x. get_or a.rows.items (n - x) c.index_mut-row.result.now) f)) in
     let rows_is : q.rows ≡ set parts.rows (n - parts.states.first) k =
     map-set row_shown a.rows.items (n - c.first.result) row ∙ ap (λ x. set parts.rows (n - x) k) f in
-    let k_is : k ≡ record { notes = (get_or parts.rows (n - parts.states.first) no_notes).notes; told = Some v; changed = a.clock + 1 } =
-    ap (λ (y : Kept). record { notes = y.notes; told = Some v; changed = a.clock + 1 }) (sym was) in
+    let k_is : k ≡ record { notes = (get_or parts.rows (n - parts.states.first) no_notes).notes; told = Some v; course = come; changed = a.clock + 1 } =
+    ap (λ (y : Kept). record { notes = y.notes; told = Some v; course = come; changed = a.clock + 1 }) (sym was) in
     let next : (value : Record) × IsNextWrite (row_at (board_of plan.base parts) n) v c.args.key value = subst (λ (b : Board). (value : Record) × IsNextWrite (row_at b n) v c.args.key value) (sym is) c.requires.next in
     let room : HasRoom (board_of plan.base parts) = subst HasRoom (sym is) c.requires.room in
     let l = insert (store.line_at a.entries n) c.args.key (shown_by c.attempt-attempt.result v) in
@@ -132,7 +135,9 @@ invariant_of-self-2 g c =
     let l_is : l ≡ insert (row_at (board_of plan.base parts) n).entries c.args.key (shown_by v.attempt v) =
     ap (λ x. insert (store.line_at a.entries n) c.args.key (shown_by x v)) attempt_is
     ∙ ap (λ (x : store.Line). insert x c.args.key (shown_by v.attempt v)) (sym (entries_there plan parts kept n there)) in
-    (c.self.invariant.0, placed_kept_here plan parts kept w n (notes_at (board_of plan.base parts) n) may v q l k c.go_on.ensures c.in-Ok.ensures.placed rows_is k_is refl refl refl c.args.key fits c.requires.version room next l_is)
+    let but : FirstPlacedBut (row_at (board_of plan.base parts) n).entries v.attempt v.writes c.args.key c.args.count =
+    subst (λ (b : Board). FirstPlacedBut (row_at b n).entries v.attempt v.writes c.args.key c.args.count) (sym is) c.requires.first in
+    (c.self.invariant.0, placed_kept_here plan parts kept w n (notes_at (board_of plan.base parts) n) may v q l k come c.go_on.ensures c.in-Ok.ensures.placed rows_is k_is refl refl refl c.args.key fits c.requires.version room next l_is but)
 
 pub returns-clause-placed : goal.returns-clause-placed
 returns-clause-placed g c =
@@ -149,7 +154,8 @@ returns-clause-placed g c =
     let there : IsLine (board_of plan.base parts) n = act_line plan parts kept w n (notes_at (board_of plan.base parts) n) may v in
     let f : c.first.result ≡ parts.states.first = c.first.ensures ∙ ap (λ (x : Planned). x.first) c.self.invariant.0 ∙ sym kept.reached.first in
     let spot = c.index_mut-row.result.now in
-    let row : Row g.row.J.Denot = record { notes = spot.notes; version = Some c.args.place; changed = a.clock + 1 } in
+    let come : Course = record { placed = c.args.count } in
+    let row : Row g.row.J.Denot = record { notes = spot.notes; version = Some c.args.place; course = come; changed = a.clock + 1 } in
     let k : Kept = row_shown row in
     let q : Parts = record {
       states = c.go_on.new.self;
@@ -166,8 +172,8 @@ returns-clause-placed g c =
     ∙ ap row_shown (sym (c.index_mut-row.ensures.value ∙ ap (λ x. get_or a.rows.items (n - x) c.index_mut-row.result.now) f)) in
     let rows_is : q.rows ≡ set parts.rows (n - parts.states.first) k =
     map-set row_shown a.rows.items (n - c.first.result) row ∙ ap (λ x. set parts.rows (n - x) k) f in
-    let k_is : k ≡ record { notes = (get_or parts.rows (n - parts.states.first) no_notes).notes; told = Some v; changed = a.clock + 1 } =
-    ap (λ (y : Kept). record { notes = y.notes; told = Some v; changed = a.clock + 1 }) (sym was) in
+    let k_is : k ≡ record { notes = (get_or parts.rows (n - parts.states.first) no_notes).notes; told = Some v; course = come; changed = a.clock + 1 } =
+    ap (λ (y : Kept). record { notes = y.notes; told = Some v; course = come; changed = a.clock + 1 }) (sym was) in
     let next : (value : Record) × IsNextWrite (row_at (board_of plan.base parts) n) v c.args.key value = subst (λ (b : Board). (value : Record) × IsNextWrite (row_at b n) v c.args.key value) (sym is) c.requires.next in
     let room : HasRoom (board_of plan.base parts) = subst HasRoom (sym is) c.requires.room in
     let l = insert (store.line_at a.entries n) c.args.key (shown_by c.attempt-attempt.result v) in
@@ -176,4 +182,4 @@ returns-clause-placed g c =
     ap (λ x. insert (store.line_at a.entries n) c.args.key (shown_by x v)) attempt_is
     ∙ ap (λ (x : store.Line). insert x c.args.key (shown_by v.attempt v)) (sym (entries_there plan parts kept n there)) in
     subst (λ (b : Board). board_of a.plan.now.base q ≡ placed b w n (notes_at b n) v c.args.key) is
-    (ap (λ (x : Planned). board_of x.base q) c.self.invariant.0 ∙ placed_board plan parts kept w n (notes_at (board_of plan.base parts) n) may v q l k c.go_on.ensures c.in-Ok.ensures.placed rows_is k_is refl refl refl c.args.key fits c.requires.version room next l_is)
+    (ap (λ (x : Planned). board_of x.base q) c.self.invariant.0 ∙ placed_board plan parts kept w n (notes_at (board_of plan.base parts) n) may v q l k come c.go_on.ensures c.in-Ok.ensures.placed rows_is k_is refl refl refl c.args.key fits c.requires.version room next l_is)

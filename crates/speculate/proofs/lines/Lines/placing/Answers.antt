@@ -1,4 +1,4 @@
-use Rattle.std.proofs.Common.{◌≡◌, Some, Option, map, sym, ap, subst, ◌∙◌}
+use Rattle.std.proofs.Common.{◌≡◌, Some, None, Option, map, sym, ap, subst, ◌∙◌}
 use Rattle.std.specs.Prelude.{option_map}
 use Rattle.read_set.specs.Settling.{Told}
 use Rattle.board_steps.specs.Board.State.{Placing}
@@ -67,4 +67,4 @@ returns g c =
     let last : option_map told_at c.version.result ≡ p.0 = c.version.ensures w (notes_at (board_of plan.base parts) n) p.0 here in
     subst (λ (o : Option Told). IsPlacing c.args.self.now w o) (sym last)
     (placing_version c.args.self.now w n (notes_at (board_of plan.base parts) n) p.0 here
-    (λ e. kept.version_placed n w (notes_at (board_of plan.base parts) n) (subst (λ (o : Option Told). (row_at (board_of plan.base parts) n).state ≡ Placing w (notes_at (board_of plan.base parts) n) o) e p.1)))
+    (λ e. kept.under_way n w (notes_at (board_of plan.base parts) n) None (subst (λ (o : Option Told). (row_at (board_of plan.base parts) n).state ≡ Placing w (notes_at (board_of plan.base parts) n) o) e p.1)))

@@ -1,17 +1,16 @@
-use Rattle.std.proofs.Common.{◌≡◌, ◌≢◌, ◌+◌, ◌-◌, ◌<◌, ◌≤◌, ◌^◌, Bool, true, false, Some, None, List, [], ◌∷◌, ◌++◌, map, set, get_or, slice_get, length, refl, sym, ap, subst, ◌∙◌, ◌⊎◌, inl, inr, arith, rules}
+use Rattle.std.proofs.Common.{◌≡◌, ◌+◌, ◌-◌, ◌<◌, None, map, set, get_or, length, refl, sym, ap, subst, ◌∙◌, arith, rules}
 use Rattle.std.specs.Prelude.{not}
-use Rattle.std.proofs.lemmas.List.{length-map, get_or-map, map-set, set-get_or}
+use Rattle.std.proofs.lemmas.List.{length-map, get_or-map, map-set}
 use Rattle.read_set.specs.Plans.{Planned}
-use Rattle.board_steps.specs.Board.{Board, IsLine, row_at, holder, live_of, found}
-use Rattle.speculate.specs.Notes.{Noted, notes_by}
+use Rattle.board_steps.specs.Board.{Board, IsLine, row_at}
 use Rattle.speculate.specs.Parts.{Kept, Parts, IsKept, board_of, row_shown, no_notes}
 use Rattle.speculate.proofs.Boards.{place_of}
-use Rattle.speculate.proofs.Rows.{held_there, live_there, state_somewhere, live_stands, notes_held, notes_live}
-use Rattle.speculate.specs.Sights.{IsCheck, IsWhole, IsSame, IsOther}
-use Rattle.board_steps.specs.Steps.{CheckStep, Compares, HasNone, HasRoom}
-use Rattle.board_steps.specs.Steps.Reply.{Whole as TheWhole, Same as TheSame, Changed as TheChanged, ClockSpent as TheClockSpent}
+use Rattle.speculate.proofs.Rows.{live_stands}
+use Rattle.speculate.specs.Sights.{IsOther}
+use Rattle.board_steps.specs.Steps.{CheckStep, HasNone, HasRoom}
+use Rattle.board_steps.specs.Steps.Reply.{Changed as TheChanged, ClockSpent as TheClockSpent}
 use Rattle.speculate.specs.declared.row.Row.{Row}
-use Rattle.speculate.proofs.Checks.{check_live, check_notes, check_line, check_within, no_hand, no_such_line, not_done, other_worker, goes_on, holds_another, begins, whole_returns, whole_kept, same_returns, same_kept, back_returns, back_kept, mark_returns, mark_kept, none_there, some_there, note_there, note_past}
+use Rattle.speculate.proofs.Checks.{check_live, check_line, check_within, back_returns, back_kept, mark_returns, mark_kept, none_there, some_there}
 use Rattle.speculate.proofs.lines.Lines.send_back.Goals as goal
 
 pub fail-requires : goal.fail-requires
@@ -43,7 +42,7 @@ invariant_of-self g c =
     let kept : IsKept plan parts = c.self.invariant.1 in
     let is : board_of plan.base parts ≡ c.args.self.now = ap (λ (x : Planned). board_of x.base parts) (sym c.self.invariant.0) ∙ c.self.view_is in
     let o : IsOther (board_of plan.base parts) c.args.worker c.args.line c.args.key c.args.noted c.args.found = subst (λ (b : Board). IsOther b c.args.worker c.args.line c.args.key c.args.noted c.args.found) (sym is) c.requires in
-    let none : HasNone (row_at (board_of plan.base parts) c.args.line) = none_there plan parts kept c.args.line c.keys_of.result c.keys_of.ensures (c.is_none.ensures ∙ ap not c.if-is_none.true) in
+    let none : HasNone (row_at (board_of plan.base parts) c.args.line) = none_there plan parts kept c.args.line c.keys_of.result c.keys_of.ensures.value (c.is_none.ensures ∙ ap not c.if-is_none.true) in
     let q : Parts = record { states = c.fail.new.self; store = a.entries; rows = map row_shown a.rows.items; hands = set a.hands.items c.args.worker None; clock = a.clock; latest = a.latest } in
     (c.self.invariant.0, back_kept plan parts kept c.args.worker c.args.line o.0 o.1 o.2 o.3 o.4 c.args.key c.args.noted c.args.found o.5 none q c.fail.ensures refl refl refl refl refl)
 
@@ -55,7 +54,7 @@ returns-then-is_none g c =
     let kept : IsKept plan parts = c.self.invariant.1 in
     let is : board_of plan.base parts ≡ c.args.self.now = ap (λ (x : Planned). board_of x.base parts) (sym c.self.invariant.0) ∙ c.self.view_is in
     let o : IsOther (board_of plan.base parts) c.args.worker c.args.line c.args.key c.args.noted c.args.found = subst (λ (b : Board). IsOther b c.args.worker c.args.line c.args.key c.args.noted c.args.found) (sym is) c.requires in
-    let none : HasNone (row_at (board_of plan.base parts) c.args.line) = none_there plan parts kept c.args.line c.keys_of.result c.keys_of.ensures (c.is_none.ensures ∙ ap not c.if-is_none.true) in
+    let none : HasNone (row_at (board_of plan.base parts) c.args.line) = none_there plan parts kept c.args.line c.keys_of.result c.keys_of.ensures.value (c.is_none.ensures ∙ ap not c.if-is_none.true) in
     let q : Parts = record { states = c.fail.new.self; store = a.entries; rows = map row_shown a.rows.items; hands = set a.hands.items c.args.worker None; clock = a.clock; latest = a.latest } in
     let new : board_of plan.base q ≡ board_of a.plan.now.base q = ap (λ (x : Planned). board_of x.base q) (sym c.self.invariant.0) in
     subst (λ (b : Board). CheckStep b c.args.worker c.args.line (TheChanged c.args.key c.args.noted c.args.found) (board_of a.plan.now.base q)) is
@@ -70,7 +69,7 @@ returns-then-self g c =
     let kept : IsKept plan parts = c.self.invariant.1 in
     let is : board_of plan.base parts ≡ c.args.self.now = ap (λ (x : Planned). board_of x.base parts) (sym c.self.invariant.0) ∙ c.self.view_is in
     let o : IsOther (board_of plan.base parts) c.args.worker c.args.line c.args.key c.args.noted c.args.found = subst (λ (b : Board). IsOther b c.args.worker c.args.line c.args.key c.args.noted c.args.found) (sym is) c.requires in
-    let some : HasNone (row_at (board_of plan.base parts) c.args.line) → ⊥ = some_there plan parts kept c.args.line c.keys_of.result c.keys_of.ensures (c.is_none.ensures ∙ ap not c.if-is_none.false) in
+    let some : HasNone (row_at (board_of plan.base parts) c.args.line) → ⊥ = some_there plan parts kept c.args.line c.keys_of.result c.keys_of.ensures.value (c.is_none.ensures ∙ ap not c.if-is_none.false) in
     let full : HasRoom (board_of plan.base parts) → ⊥ = λ room. omega (arith, room, c.if-self.true) in
     subst (λ (b : Board). CheckStep b c.args.worker c.args.line TheClockSpent b) is
     (o.0, o.1, o.2, o.3, o.4, (c.args.key, c.args.noted, c.args.found, o.5), some, full, refl)
@@ -119,7 +118,7 @@ invariant_of-self-2 g c =
     let kept : IsKept plan parts = c.self.invariant.1 in
     let is : board_of plan.base parts ≡ c.args.self.now = ap (λ (x : Planned). board_of x.base parts) (sym c.self.invariant.0) ∙ c.self.view_is in
     let o : IsOther (board_of plan.base parts) c.args.worker c.args.line c.args.key c.args.noted c.args.found = subst (λ (b : Board). IsOther b c.args.worker c.args.line c.args.key c.args.noted c.args.found) (sym is) c.requires in
-    let some : HasNone (row_at (board_of plan.base parts) c.args.line) → ⊥ = some_there plan parts kept c.args.line c.keys_of.result c.keys_of.ensures (c.is_none.ensures ∙ ap not c.if-is_none.false) in
+    let some : HasNone (row_at (board_of plan.base parts) c.args.line) → ⊥ = some_there plan parts kept c.args.line c.keys_of.result c.keys_of.ensures.value (c.is_none.ensures ∙ ap not c.if-is_none.false) in
     let there : IsLine (board_of plan.base parts) c.args.line = check_line plan parts kept c.args.worker c.args.line o.0 o.1 o.2 o.3 o.4 in
     let f : c.first.result ≡ parts.states.first = c.first.ensures ∙ ap (λ (x : Planned). x.first) c.self.invariant.0 ∙ sym kept.reached.first in
     let l : c.args.line - parts.states.first < length (map row_shown a.rows.items) = place_of plan.base parts c.args.line there in
@@ -129,13 +128,13 @@ invariant_of-self-2 g c =
     get_or-map row_shown a.rows.items (c.args.line - parts.states.first) spot no_notes (omega (arith, l, m))
     ∙ ap row_shown (sym (c.index_mut-row.ensures.value ∙ ap (λ x. get_or a.rows.items (c.args.line - x) spot) f)) in
     let room : HasRoom (board_of plan.base parts) = search (arith, c.if-self.false) in
-    let row : Row g.row.J.Denot = record { notes = spot.notes; version = spot.version; changed = a.clock + 1 } in
+    let row : Row g.row.J.Denot = record { notes = spot.notes; version = spot.version; course = spot.course; changed = a.clock + 1 } in
     let k : Kept = row_shown row in
     let q : Parts = record { states = c.fail-2.new.self; store = c.suspect_all.new.self; rows = map row_shown (set a.rows.items (c.args.line - c.first.result) row); hands = set a.hands.items c.args.worker None; clock = a.clock + 1; latest = a.latest } in
     let rows_is : q.rows ≡ set parts.rows (c.args.line - parts.states.first) k =
     map-set row_shown a.rows.items (c.args.line - c.first.result) row ∙ ap (λ x. set parts.rows (c.args.line - x) k) f in
-    let k_is : k ≡ record { notes = (get_or parts.rows (c.args.line - parts.states.first) no_notes).notes; told = (get_or parts.rows (c.args.line - parts.states.first) no_notes).told; changed = a.clock + 1 } =
-    ap (λ (y : Kept). record { notes = y.notes; told = y.told; changed = a.clock + 1 }) (sym was) in
+    let k_is : k ≡ record { notes = (get_or parts.rows (c.args.line - parts.states.first) no_notes).notes; told = (get_or parts.rows (c.args.line - parts.states.first) no_notes).told; course = (get_or parts.rows (c.args.line - parts.states.first) no_notes).course; changed = a.clock + 1 } =
+    ap (λ (y : Kept). record { notes = y.notes; told = y.told; course = y.course; changed = a.clock + 1 }) (sym was) in
     (c.self.invariant.0, mark_kept plan parts kept c.args.worker c.args.line o.0 o.1 o.2 o.3 o.4 c.args.key c.args.noted c.args.found o.5 some room q k c.fail-2.ensures c.suspect_all.ensures rows_is k_is refl refl refl)
 
 pub returns : goal.returns
@@ -146,7 +145,7 @@ returns g c =
     let kept : IsKept plan parts = c.self.invariant.1 in
     let is : board_of plan.base parts ≡ c.args.self.now = ap (λ (x : Planned). board_of x.base parts) (sym c.self.invariant.0) ∙ c.self.view_is in
     let o : IsOther (board_of plan.base parts) c.args.worker c.args.line c.args.key c.args.noted c.args.found = subst (λ (b : Board). IsOther b c.args.worker c.args.line c.args.key c.args.noted c.args.found) (sym is) c.requires in
-    let some : HasNone (row_at (board_of plan.base parts) c.args.line) → ⊥ = some_there plan parts kept c.args.line c.keys_of.result c.keys_of.ensures (c.is_none.ensures ∙ ap not c.if-is_none.false) in
+    let some : HasNone (row_at (board_of plan.base parts) c.args.line) → ⊥ = some_there plan parts kept c.args.line c.keys_of.result c.keys_of.ensures.value (c.is_none.ensures ∙ ap not c.if-is_none.false) in
     let there : IsLine (board_of plan.base parts) c.args.line = check_line plan parts kept c.args.worker c.args.line o.0 o.1 o.2 o.3 o.4 in
     let f : c.first.result ≡ parts.states.first = c.first.ensures ∙ ap (λ (x : Planned). x.first) c.self.invariant.0 ∙ sym kept.reached.first in
     let l : c.args.line - parts.states.first < length (map row_shown a.rows.items) = place_of plan.base parts c.args.line there in
@@ -156,13 +155,13 @@ returns g c =
     get_or-map row_shown a.rows.items (c.args.line - parts.states.first) spot no_notes (omega (arith, l, m))
     ∙ ap row_shown (sym (c.index_mut-row.ensures.value ∙ ap (λ x. get_or a.rows.items (c.args.line - x) spot) f)) in
     let room : HasRoom (board_of plan.base parts) = search (arith, c.if-self.false) in
-    let row : Row g.row.J.Denot = record { notes = spot.notes; version = spot.version; changed = a.clock + 1 } in
+    let row : Row g.row.J.Denot = record { notes = spot.notes; version = spot.version; course = spot.course; changed = a.clock + 1 } in
     let k : Kept = row_shown row in
     let q : Parts = record { states = c.fail-2.new.self; store = c.suspect_all.new.self; rows = map row_shown (set a.rows.items (c.args.line - c.first.result) row); hands = set a.hands.items c.args.worker None; clock = a.clock + 1; latest = a.latest } in
     let rows_is : q.rows ≡ set parts.rows (c.args.line - parts.states.first) k =
     map-set row_shown a.rows.items (c.args.line - c.first.result) row ∙ ap (λ x. set parts.rows (c.args.line - x) k) f in
-    let k_is : k ≡ record { notes = (get_or parts.rows (c.args.line - parts.states.first) no_notes).notes; told = (get_or parts.rows (c.args.line - parts.states.first) no_notes).told; changed = a.clock + 1 } =
-    ap (λ (y : Kept). record { notes = y.notes; told = y.told; changed = a.clock + 1 }) (sym was) in
+    let k_is : k ≡ record { notes = (get_or parts.rows (c.args.line - parts.states.first) no_notes).notes; told = (get_or parts.rows (c.args.line - parts.states.first) no_notes).told; course = (get_or parts.rows (c.args.line - parts.states.first) no_notes).course; changed = a.clock + 1 } =
+    ap (λ (y : Kept). record { notes = y.notes; told = y.told; course = y.course; changed = a.clock + 1 }) (sym was) in
     let new : board_of plan.base q ≡ board_of a.plan.now.base q = ap (λ (x : Planned). board_of x.base q) (sym c.self.invariant.0) in
     subst (λ (b : Board). CheckStep b c.args.worker c.args.line (TheChanged c.args.key c.args.noted c.args.found) (board_of a.plan.now.base q)) is
     (subst (λ (b : Board). CheckStep (board_of plan.base parts) c.args.worker c.args.line (TheChanged c.args.key c.args.noted c.args.found) b) new

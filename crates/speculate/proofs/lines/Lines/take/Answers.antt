@@ -106,7 +106,7 @@ invariant_of-self-2 g c =
     let hand : slice_get a.hands.items c.args.worker ≡ Some None =
     hand_read a.hands.items c.args.worker c.index.result.now (omega (arith, a.hands.ok.0)) c.index.ensures ∙ ap (λ x. Some x) (none_if c.index.result.now (sym c.is_some.ensures ∙ c.if-is_some.false)) in
     let spot = c.index_mut-row.result.now in
-    let row : Row g.row.J.Denot = record { notes = c.clear.new.self; version = spot.version; changed = spot.changed } in
+    let row : Row g.row.J.Denot = record { notes = c.clear.new.self; version = spot.version; course = spot.course; changed = spot.changed } in
     let k : Kept = row_shown row in
     let q : Parts = record {
       states = c.take.new.self;
@@ -124,9 +124,9 @@ invariant_of-self-2 g c =
     ∙ ap row_shown (sym (c.index_mut-row.ensures.value ∙ ap (λ x. get_or a.rows.items (c.args.line - x) spot) f)) in
     let rows_is : q.rows ≡ set parts.rows (c.args.line - parts.states.first) k =
     map-set row_shown a.rows.items (c.args.line - c.first.result) row ∙ ap (λ x. set parts.rows (c.args.line - x) k) f in
-    let k_is : k ≡ record { notes = []; told = (get_or parts.rows (c.args.line - parts.states.first) no_notes).told; changed = (get_or parts.rows (c.args.line - parts.states.first) no_notes).changed } =
-    ap (λ (x : List Noted). record { notes = x; told = (row_shown spot).told; changed = spot.changed }) c.clear.ensures
-    ∙ ap (λ (y : Kept). record { notes = []; told = y.told; changed = y.changed }) (sym was) in
+    let k_is : k ≡ record { notes = []; told = (get_or parts.rows (c.args.line - parts.states.first) no_notes).told; course = (get_or parts.rows (c.args.line - parts.states.first) no_notes).course; changed = (get_or parts.rows (c.args.line - parts.states.first) no_notes).changed } =
+    ap (λ (x : List Noted). record { notes = x; told = (row_shown spot).told; course = spot.course; changed = spot.changed }) c.clear.ensures
+    ∙ ap (λ (y : Kept). record { notes = []; told = y.told; course = y.course; changed = y.changed }) (sym was) in
     let ok = c.in-Some-take.ensures.some in
     let next = next_there plan parts kept c.args.line c.args.worker waits hand c.in-Some-take.attempt ok.0 in
     let fits : c.in-Some-take.attempt < 2 ^ 32 = search rules in
@@ -143,7 +143,7 @@ returns g c =
     let hand : slice_get a.hands.items c.args.worker ≡ Some None =
     hand_read a.hands.items c.args.worker c.index.result.now (omega (arith, a.hands.ok.0)) c.index.ensures ∙ ap (λ x. Some x) (none_if c.index.result.now (sym c.is_some.ensures ∙ c.if-is_some.false)) in
     let spot = c.index_mut-row.result.now in
-    let row : Row g.row.J.Denot = record { notes = c.clear.new.self; version = spot.version; changed = spot.changed } in
+    let row : Row g.row.J.Denot = record { notes = c.clear.new.self; version = spot.version; course = spot.course; changed = spot.changed } in
     let k : Kept = row_shown row in
     let q : Parts = record {
       states = c.take.new.self;
@@ -161,9 +161,9 @@ returns g c =
     ∙ ap row_shown (sym (c.index_mut-row.ensures.value ∙ ap (λ x. get_or a.rows.items (c.args.line - x) spot) f)) in
     let rows_is : q.rows ≡ set parts.rows (c.args.line - parts.states.first) k =
     map-set row_shown a.rows.items (c.args.line - c.first.result) row ∙ ap (λ x. set parts.rows (c.args.line - x) k) f in
-    let k_is : k ≡ record { notes = []; told = (get_or parts.rows (c.args.line - parts.states.first) no_notes).told; changed = (get_or parts.rows (c.args.line - parts.states.first) no_notes).changed } =
-    ap (λ (x : List Noted). record { notes = x; told = (row_shown spot).told; changed = spot.changed }) c.clear.ensures
-    ∙ ap (λ (y : Kept). record { notes = []; told = y.told; changed = y.changed }) (sym was) in
+    let k_is : k ≡ record { notes = []; told = (get_or parts.rows (c.args.line - parts.states.first) no_notes).told; course = (get_or parts.rows (c.args.line - parts.states.first) no_notes).course; changed = (get_or parts.rows (c.args.line - parts.states.first) no_notes).changed } =
+    ap (λ (x : List Noted). record { notes = x; told = (row_shown spot).told; course = spot.course; changed = spot.changed }) c.clear.ensures
+    ∙ ap (λ (y : Kept). record { notes = []; told = y.told; course = y.course; changed = y.changed }) (sym was) in
     let ok = c.in-Some-take.ensures.some in
     let next = next_there plan parts kept c.args.line c.args.worker waits hand c.in-Some-take.attempt ok.0 in
     let fits : c.in-Some-take.attempt < 2 ^ 32 = search rules in

@@ -1,9 +1,15 @@
 use Rattle.std.proofs.Common.{refl}
-use Rattle.version_store.proofs.Views.{entry_at}
+use Rattle.version_store.proofs.Views.{entries_count, entry_at}
 use Rattle.version_store.proofs.line.LineEntries.nth.Goals as goal
 
 pub returns-in_default : goal.returns-in_default
-returns-in_default g c = rw (← c.self.view_is, entry_at c.self.inside.entries c.args.i _ c.in_default.ensures.ordered c.in_default.ensures.nth) refl
+returns-in_default g c = record {
+  value = rw (← c.self.view_is, entry_at c.self.inside.entries c.args.i _ c.in_default.ensures.ordered c.in_default.ensures.nth) refl;
+  few = rw (← c.self.view_is, entries_count c.self.inside.entries c.in_default.ensures.ordered) c.in_default.ensures.few;
+}
 
 pub returns : goal.returns
-returns g c = rw (← c.self.view_is, entry_at c.self.inside.entries c.args.i _ c.in-Some.ensures.ordered c.in-Some.ensures.nth) refl
+returns g c = record {
+  value = rw (← c.self.view_is, entry_at c.self.inside.entries c.args.i _ c.in-Some.ensures.ordered c.in-Some.ensures.nth) refl;
+  few = rw (← c.self.view_is, entries_count c.self.inside.entries c.in-Some.ensures.ordered) c.in-Some.ensures.few;
+}

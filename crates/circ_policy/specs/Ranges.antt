@@ -1,0 +1,21 @@
+-- In which ranges the terms of a policy lie (the policy file, its types of media).
+use Rattle.std.specs.Prelude.{◌≡◌, ◌≤◌, List, [], ◌∷◌, Some}
+use Rattle.circ_policy.specs.Policy.{media_of}
+use Rattle.circ_policy.specs.Terms.{Terms}
+use Rattle.circ_policy.specs.declared.media.Media.{Media}
+use Rattle.circ_policy.specs.declared.media_type.MediaType.{MediaType}
+
+-- loans of at most 3,650 days, amounts of at most 999,999,999.99
+pub record FitsMedia (m : Media) : Type 0 where
+  pub days : m.days ≤ 3650
+  pub rental : m.rental ≤ 99999999999
+  pub cap : m.cap ≤ 99999999999
+
+-- the terms of each type of media of a list
+abbrev pub AllFit : List (MediaType × Media) → Type 0
+AllFit [] = Unit {0}
+AllFit (e ∷ es) = FitsMedia e.1 × AllFit es
+
+-- the terms of each type of media of a policy
+abbrev pub FitsPolicy : Terms → Type 0
+FitsPolicy p = (type : MediaType) (media : Media) → media_of p type ≡ Some media → FitsMedia media

@@ -1,0 +1,23 @@
+-- A device of proofs: how the records that a line writes are kept while it writes them.
+use Rattle.std.specs.Prelude.{ℕ, ◌+◌, List, [], ◌∷◌, map, Result, Ok, Err}
+use Rattle.std.specs.List.Sorted.{IsStrictlySortedBy}
+use Rattle.std.specs.Ordering.{match_ordering}
+use Rattle.circ_records.specs.Keys.{key_cmp}
+use Rattle.circ_records.specs.Records.{Entries}
+use Rattle.circ_records.specs.declared.key.Key.{Key}
+use Rattle.read_set.specs.declared.effect.Kept.{Kept}
+use Rattle.read_set.specs.declared.effect.Kept.TheVariants.{Few, Many}
+
+-- each key is below those behind it
+abbrev pub Rise : Entries → Type 0
+Rise entries = IsStrictlySortedBy key_cmp (map (λ e. e.0) entries)
+
+-- the records of a list or of a map
+abbrev pub entries_in : Kept → Entries
+entries_in (Few list) = list.items
+entries_in (Many records) = records.entries
+
+-- the place of a key among rising ones, or else the place to which it goes; the first has this number
+abbrev pub place_from : ℕ → Key → Entries → Result ℕ ℕ
+place_from i k [] = Err i
+place_from i k (e ∷ es) = match_ordering (key_cmp k e.0) (Err i) (Ok i) (place_from (i + 1) k es)

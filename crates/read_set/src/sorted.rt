@@ -1,0 +1,82 @@
+//! A few records as a list, rising by key.
+
+ghost use Rattle.std.specs.Prelude.{◌≡◌, IfOk, OnOk, option_copied};
+ghost use Rattle.std.specs.BTreeMap.{insert_entry};
+ghost use Rattle.circ_records.specs.Keys.{key_cmp};
+ghost use Rattle.circ_records.specs.Records.{record_at};
+ghost use Rattle.read_set.specs.Drafts.{Rise, place_from};
+
+use circ_records::{Key, Record};
+use std::alloc::{AllocError, Global};
+use std::cmp::Ordering;
+use std::collections::BTreeMap;
+
+/// The record under a key.
+pub fn found_in<'e>(entries: &'e [(Key, Record)], key: &Key) -> Option<&'e Record>
+    ensures { option_copied result ≡ record_at entries.now key.now }
+{
+    for entry in entries {
+        if *key == entry.0 {
+            return Some(&entry.1);
+        }
+    }
+    None
+}
+
+/// The place of a key, or else the place to which it goes.
+fn place_of(entries: &[(Key, Record)], key: &Key) -> Result<usize, usize>
+    ensures { result ≡ place_from 0 key.now entries.now }
+{
+    for (i, entry) in entries.iter().enumerate() {
+        match key.cmp(&entry.0) {
+            Ordering::Less => return Err(i),
+            Ordering::Equal => return Ok(i),
+            Ordering::Greater => {}
+        }
+    }
+    Err(entries.len())
+}
+
+/// Puts a record under its key.
+pub fn put_in(entries: &mut Vec<(Key, Record)>, key: Key, written: Record) -> Result<(), AllocError>
+    requires { Rise entries.old.items }
+    ensures ok { OnOk result (entries.new.items ≡ insert_entry key_cmp entries.old.items key written) }
+    ensures rising { Rise entries.new.items }
+{
+    match place_of(entries.as_slice(), &key) {
+        Ok(place) => entries[place] = (key, written),
+        Err(place) => entries.insert(place, (key, written))?,
+    }
+    Ok(())
+}
+
+/// Puts a record under its key in a map.
+pub fn put_over(
+    map: &mut BTreeMap<Key, Record>,
+    key: Key,
+    written: Record,
+) -> Result<(), AllocError>
+    ensures ok { OnOk result (map.new.entries ≡ insert_entry key_cmp map.old.entries key written) }
+    ensures rising { Rise map.new.entries }
+{
+    match map.insert(key, written) {
+        Ok(_) => Ok(()),
+        Err(_) => Err(AllocError),
+    }
+}
+
+/// The map of the records.
+pub fn map_of(
+    alloc: Global,
+    entries: Vec<(Key, Record)>,
+) -> Result<BTreeMap<Key, Record>, AllocError>
+    requires { Rise entries.items }
+    ensures { IfOk result (λ m. m.entries ≡ entries.items) }
+{
+    let mut map = BTreeMap::new(alloc);
+    let mut left = entries;
+    while let Some((key, record)) = left.pop() {
+        put_over(&mut map, key, record)?;
+    }
+    Ok(map)
+}

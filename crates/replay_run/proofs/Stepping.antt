@@ -1,0 +1,41 @@
+-- Why a run by steps gives no output.
+use Rattle.std.proofs.Common.{◌≡◌, ◌≤◌, ℕ, zero, suc, List, Result, Ok, Err, arith, refl}
+use Rattle.board_steps.specs.Board.{Board}
+use Rattle.speculate.specs.Playing.{Halts}
+use Rattle.speculate.specs.declared.steps.BoardFault.{BoardFault}
+use Rattle.speculate.specs.declared.steps.BoardFault.TheVariants as refusals
+use Rattle.speculate.specs.declared.steps.Halt.{Halt}
+use Rattle.speculate.specs.declared.steps.Step.{Step}
+use Rattle.replay_run.specs.BySteps.{AreWorkers, FailsBySteps, IsRunOf, first_board}
+use Rattle.replay_run.specs.Faults.{board_fault}
+use Rattle.replay_run.specs.Judged.{Fails, Judgement, Refused}
+use Rattle.replay_run.specs.declared.fault.Fault.{Fault}
+use Rattle.replay_run.specs.declared.fault.Fault.TheVariants as faults
+
+-- a list of steps that stopped
+pub stopped : (j : Judgement) (workers : ℕ) (steps : List Step) (halt : Halt) (board : Board) → Halts j.plan (first_board j.plan workers) steps halt board → FailsBySteps j workers steps (board_fault halt.fault)
+stopped j workers steps halt board halts = by halt.fault refl
+  where
+    by : (f : BoardFault) → halt.fault ≡ f → FailsBySteps j workers steps (board_fault f)
+    by (refusals.Attempts line) e = (halt, board, halts, e)
+    by refusals.ClockSpent e = (halt, board, halts, e)
+    by refusals.Memory e = tt
+
+-- inputs that are refused
+pub refused : (due : Result Judgement Refused) (workers : ℕ) (steps : List Step) (fault : Fault) → Fails fault due → IsRunOf due workers steps (Err fault)
+refused (Err e) workers steps fault fails = fails
+refused (Ok j) workers steps faults.BadWorkers fails = absurd fails
+refused (Ok j) workers steps faults.PolicyText fails = cc fails
+refused (Ok j) workers steps (faults.PolicyRule key) fails = cc fails
+refused (Ok j) workers steps (faults.BaseTable table) fails = cc fails
+refused (Ok j) workers steps (faults.BaseRule table row rule) fails = cc fails
+refused (Ok j) workers steps faults.JournalTable fails = cc fails
+refused (Ok j) workers steps (faults.JournalRule row rule) fails = cc fails
+refused (Ok j) workers steps (faults.Attempts line) fails = absurd fails
+refused (Ok j) workers steps faults.ClockSpent fails = absurd fails
+refused (Ok j) workers steps faults.Memory fails = tt
+
+-- a number of workers that isn't refused
+pub crew : (workers : ℕ) → (workers ≡ 0 → ⊥) → workers ≤ 64 → AreWorkers workers
+crew zero some few = absurd (some refl)
+crew (suc workers) some few = (omega arith, few)

@@ -1,0 +1,25 @@
+use Rattle.std.proofs.Common.{◌≡◌, ◌≤◌, ◌<◌, ◌+◌, length, ap, arith}
+use Rattle.read_set.specs.Plans.{Planned}
+use Rattle.result_report.proofs.BoardEnds.{none_outside}
+use Rattle.result_report.proofs.board_end.FinishedEnd.attempt.Goals as goal
+
+pub returns-then-line-numbers : goal.returns-then-line-numbers
+returns-then-line-numbers g c =
+    let first = ap (λ (p : Planned). p.first) c.plan.ensures.plan in
+    none_outside c.args.self.now c.args.line
+    (λ there. omega (arith, c.if-line-numbers.true, there.0, c.numbers-numbers.ensures.start, first, c.plan.ensures.reached.first))
+
+pub returns-then-numbers-line : goal.returns-then-numbers-line
+returns-then-numbers-line g c =
+    let first = ap (λ (p : Planned). p.first) c.plan.ensures.plan in
+    let count = ap (λ (p : Planned). length p.readings) c.plan.ensures.plan in
+    none_outside c.args.self.now c.args.line
+    (λ there. omega (arith, c.if-numbers-line.true, there.1, c.numbers-numbers.ensures.end, first, count, c.plan.ensures.reached.first, c.plan.ensures.reached.all))
+
+pub attempt-requires : goal.attempt-requires
+attempt-requires g c =
+    let first = ap (λ (p : Planned). p.first) c.plan.ensures.plan in
+    let count = ap (λ (p : Planned). length p.readings) c.plan.ensures.plan in (
+      omega (arith, c.if-line-numbers.false, c.numbers-numbers.ensures.start, first, c.plan.ensures.reached.first),
+      omega (arith, c.if-numbers-line.false, c.numbers-numbers.ensures.end, first, count, c.plan.ensures.reached.first, c.plan.ensures.reached.all),
+    )

@@ -1,0 +1,10 @@
+use Rattle.std.proofs.Common.{◌+◌}
+use Rattle.speculate.specs.Driving.{RunsTo}
+use Rattle.speculate.specs.Phases.{Waits}
+use Rattle.speculate.proofs.driving.drive_in_order.Given as goal
+
+abbrev pub invariant-loop-place : goal.invariant-loop-place
+invariant-loop-place g l = record {
+  waits : Waits g.J.PlanName.plan l.board (g.J.PlanName.plan.first + l.place);
+  led : RunsTo g.J.PlanName.plan l.fn.board l.board;
+}

@@ -1,0 +1,37 @@
+use Rattle.std.proofs.Common.{◌≡◌, List, ◌∷◌, [], ◌++◌, Option, ap, option_map, subst, sym, ◌∙◌}
+use Rattle.circ_records.specs.declared.record.Record.{Record}
+use Rattle.read_set.specs.Plans.{Planned}
+use Rattle.read_set.specs.declared.notes.Note.{Note}
+use Rattle.board_steps.specs.Steps.Call.{Look}
+use Rattle.speculate.specs.Notes.{found_by, told_at}
+use Rattle.speculate.specs.Phases.{Reads}
+use Rattle.speculate.proofs.Drives.{led, look_only, look_seen}
+use Rattle.speculate.proofs.driving.look_at.Goals as goal
+
+pub unreachable-requires : goal.unreachable-requires
+unreachable-requires g c =
+    look_only g.J.PlanName.plan c.args.board.now c.look.new.self c.args.line c.args.notes.now c.args.key.now c.look.result
+    c.requires.reads c.requires.wanted.0 c.look.ensures c.in_default.not-Seen c.in_default.not-Memory
+
+pub returns-in_err-found-clause-led : goal.returns-in_err-found-clause-led
+returns-in_err-found-clause-led g c = led g.J.PlanName.plan c.args.board.now c.look.new.self (Look 0 c.args.key.now) c.look.result tt c.look.ensures
+
+pub returns-in_err-add-clause-led : goal.returns-in_err-add-clause-led
+returns-in_err-add-clause-led g c = led g.J.PlanName.plan c.args.board.now c.look.new.self (Look 0 c.args.key.now) c.look.result tt c.look.ensures
+
+pub returns-clause-reads : goal.returns-clause-reads
+returns-clause-reads g c =
+    let plan = g.J.PlanName.plan in
+    let k = c.args.key.now in
+    let notes = c.args.notes.now in
+    let name = c.in-Seen.name in
+    let place = c.in-Seen.place in
+    let is : c.in_ok-found.found ≡ found_by plan.base k (option_map told_at place) =
+    c.in_ok-found.ensures ∙ c.record_seen.ensures ∙ ap (λ (p : Planned). found_by p.base k (option_map told_at place)) c.plan-plan.ensures.plan in
+    let noted : c.add.new.self ≡ notes ++ record { key = k; name = name; found = found_by plan.base k (option_map told_at place) } ∷ [] =
+    c.in_ok-add.ensures.ok ∙ ap (λ (f : Option Record). notes ++ record { key = k; name = name; found = f } ∷ []) is in
+    subst (λ (ns : List Note). Reads plan c.look.new.self c.args.line ns) (sym noted)
+    (look_seen plan c.args.board.now c.look.new.self c.args.line notes k name place c.requires.reads c.in-Seen.ensures)
+
+pub returns-clause-led : goal.returns-clause-led
+returns-clause-led g c = led g.J.PlanName.plan c.args.board.now c.look.new.self (Look 0 c.args.key.now) c.look.result tt c.look.ensures

@@ -1,0 +1,15 @@
+use Rattle.std.proofs.Common.{◌-◌, ◌^◌}
+use Rattle.speculate.specs.Driving.{RunsTo}
+use Rattle.speculate.specs.Notes.{told_at}
+use Rattle.speculate.specs.Phases.{Appears}
+use Rattle.speculate.proofs.driving.publish_line.Given as goal
+
+abbrev pub invariant-acts : goal.invariant-acts
+invariant-acts g l = record {
+  appears : Appears g.J.PlanName.plan l.board l.line (told_at l.fn.place);
+  led : RunsTo g.J.PlanName.plan l.fn.board l.board;
+}
+
+-- each act raises the clock
+abbrev pub decreases-acts : goal.decreases-acts
+decreases-acts g l = 2 ^ 64 - l.board.clock

@@ -1,0 +1,17 @@
+use Rattle.speculate.proofs.Drives.{done_appears, runs_on}
+use Rattle.speculate.proofs.driving.read_line.Goals as goal
+
+pub keys-preserved : goal.keys-preserved
+keys-preserved g c = record {
+  reads = c.in_ok-look_at-in-Key.ensures.reads;
+  led = runs_on g.J.PlanName.plan c.args.board.now c.keys.board c.look_at.new.board c.keys.invariant.led c.look_at.ensures.led;
+}
+
+pub returns-in_err-look_at-in-Key-clause-led : goal.returns-in_err-look_at-in-Key-clause-led
+returns-in_err-look_at-in-Key-clause-led g c =
+    runs_on g.J.PlanName.plan c.args.board.now c.keys.board c.look_at.new.board c.keys.invariant.led c.look_at.ensures.led
+
+pub returns-in-Done-clause-ready : goal.returns-in-Done-clause-ready
+returns-in-Done-clause-ready g c =
+    done_appears g.J.PlanName.plan c.keys.board c.args.line c.keys.notes c.in_ok-next.next c.in-Done.version
+    c.keys.invariant.reads c.in_ok-next.ensures c.settled_if_done.ensures c.in-Done.is

@@ -1,0 +1,199 @@
+//! The lines of a board, one after another in the order of the journal.
+
+ghost use Rattle.std.specs.Prelude.{◌≡◌, ◌+◌, [], suc, IfErr, IfOk, OnOk, length};
+ghost use Rattle.board_steps.specs.Board.{IsLine};
+ghost use Rattle.board_steps.specs.Steps.Call.{Publish};
+ghost use Rattle.read_set.specs.Notes.{noted};
+ghost use Rattle.read_set.specs.Wanted.{Wanted};
+ghost use Rattle.speculate.specs.Driving.{IsDriven, IsNew, MayStop, RunsTo};
+ghost use Rattle.speculate.specs.Notes.{told_at};
+ghost use Rattle.speculate.specs.Replies.{Answers};
+ghost use Rattle.speculate.specs.Phases.{Appears, Holds, Proves, Reads, Waits};
+
+use crate::board::{Board, lines_of};
+use crate::playing::{put, settled_if_done};
+use crate::reading::{copied, record_seen};
+use crate::reply::Reply;
+use crate::steps::BoardFault;
+use circ_records::Key;
+use message_meaning::need;
+use read_set::{Need, Note, Notes, PlanName, Version};
+use std::alloc::Global;
+use std::sync::Wait;
+use version_store::{Place, VersionTable};
+
+/// Runs each line of a new board once, in the order of the journal, and commits it before the next begins. Worker 0 does it.
+pub fn drive_in_order<'t, J: PlanName, R: Wait>(
+    rt: &R,
+    alloc: Global,
+    table: &'t VersionTable<J>,
+    board: &mut Board<'_, 't, J>,
+) -> Result<(), BoardFault>
+    requires { IsNew J.plan board.old }
+    ensures all { OnOk result (IsDriven J.plan board.new) }
+    ensures led { RunsTo J.plan board.old board.new }
+    ensures fault { IfErr result (MayStop board.new) }
+{
+    let plan = board.plan();
+    let first = plan.first();
+    let lines = lines_of(plan) as u64;
+    for place in 0..lines {
+        drive_line(rt, alloc, table, board, first + place)?;
+    }
+    Ok(())
+}
+
+/// Runs the next line, and commits it.
+fn drive_line<'t, J: PlanName, R: Wait>(
+    rt: &R,
+    alloc: Global,
+    table: &'t VersionTable<J>,
+    board: &mut Board<'_, 't, J>,
+    line: u64,
+) -> Result<(), BoardFault>
+    requires waits { Waits J.plan board.old line }
+    requires there { IsLine board.old line }
+    ensures next { OnOk result (Waits J.plan board.new (line + 1)) }
+    ensures led { RunsTo J.plan board.old board.new }
+    ensures fault { IfErr result (MayStop board.new) }
+{
+    take_line(board, line);
+    let version = read_line(alloc, board, line)?;
+    let place = put(rt, table, version)?;
+    publish_line(board, line, place)?;
+    check_line(board, line);
+    commit_line(board, line);
+    Ok(())
+}
+
+/// Takes the next line.
+fn take_line<J: PlanName>(board: &mut Board<'_, '_, J>, line: u64)
+    requires waits { Waits J.plan board.old line }
+    requires there { IsLine board.old line }
+    ensures reads { Reads J.plan board.new line [] }
+    ensures led { RunsTo J.plan board.old board.new }
+{
+    let Reply::Taken { .. } = board.take(0, line) else {
+        unreachable!()
+    };
+}
+
+/// Looks at all that a line wants: its version.
+fn read_line<J: PlanName>(
+    alloc: Global,
+    board: &mut Board<'_, '_, J>,
+    line: u64,
+) -> Result<Version<J>, BoardFault>
+    requires { Reads J.plan board.old line [] }
+    ensures ready { IfOk result (Appears J.plan board.new line) }
+    ensures led { RunsTo J.plan board.old board.new }
+    ensures fault { IfErr result (MayStop board.new) }
+{
+    let plan = board.plan();
+    let mut notes = Notes::new(alloc);
+    'keys: loop {
+        // A usize counts them, so this ends.
+        let _count = notes.as_slice().len();
+        let next = need(alloc, plan, line, 0, &notes)?;
+        settled_if_done(&next);
+        match next {
+            Need::Done(version) => return Ok(version),
+            Need::Key(key) => look_at(alloc, board, line, &key, &mut notes)?,
+        }
+    }
+}
+
+/// Looks at a key that a line wants, and notes what was seen.
+fn look_at<J: PlanName>(
+    alloc: Global,
+    board: &mut Board<'_, '_, J>,
+    line: u64,
+    key: &Key,
+    notes: &mut Notes,
+) -> Result<(), BoardFault>
+    requires reads { Reads J.plan board.old line notes.old }
+    requires wanted { Wanted J.plan line (noted notes.old) key.now }
+    ensures reads { OnOk result (Reads J.plan board.new line notes.new) }
+    ensures more { OnOk result (length notes.new ≡ suc (length notes.old)) }
+    ensures led { RunsTo J.plan board.old board.new }
+    ensures fault { IfErr result (MayStop board.new) }
+{
+    let plan = board.plan();
+    let (name, place) = match board.look(0, key) {
+        Reply::Seen { name, place } => (name, place),
+        Reply::Memory => return Err(BoardFault::Memory),
+        _ => unreachable!(),
+    };
+    let found = copied(alloc, record_seen(plan, key, place))?;
+    notes.add(Note {
+        key: *key,
+        name,
+        found,
+    })?;
+    Ok(())
+}
+
+/// Publishes the version of a line, act by act.
+fn publish_line<'t, J: PlanName>(
+    board: &mut Board<'_, 't, J>,
+    line: u64,
+    place: Place<'t, J>,
+) -> Result<(), BoardFault>
+    requires { Appears J.plan board.old line (told_at place) }
+    ensures whole { OnOk result (Proves J.plan board.new line) }
+    ensures led { RunsTo J.plan board.old board.new }
+    ensures fault { IfErr result (MayStop board.new) }
+{
+    'acts: loop {
+        match act(board, line, place) {
+            Reply::Placed => {}
+            Reply::Lifted => {}
+            Reply::Whole => return Ok(()),
+            Reply::ClockSpent => return Err(BoardFault::ClockSpent),
+            Reply::Memory => return Err(BoardFault::Memory),
+            _ => unreachable!(),
+        }
+    }
+}
+
+/// The next act of the publication of a line's version. The notes are compared at the first alone.
+fn act<'t, J: PlanName>(
+    board: &mut Board<'_, 't, J>,
+    line: u64,
+    place: Place<'t, J>,
+) -> Reply<'t, J>
+    requires { Appears J.plan board.old line (told_at place) }
+    ensures { Answers J.plan board.old (Publish 0 (told_at place.entry)) result board.new }
+{
+    let _line = line;
+    match board.publish_more(0) {
+        Some(reply) => reply,
+        None => board.publish(0, place),
+    }
+}
+
+/// Checks a line, name by name. Nothing has changed since it looked.
+fn check_line<J: PlanName>(board: &mut Board<'_, '_, J>, line: u64)
+    requires { Proves J.plan board.old line }
+    ensures whole { Holds J.plan board.new line }
+    ensures led { RunsTo J.plan board.old board.new }
+{
+    'names: loop {
+        match board.check(0, line) {
+            Reply::Same => {}
+            Reply::Whole => return,
+            _ => unreachable!(),
+        }
+    }
+}
+
+/// Commits a line that is checked.
+fn commit_line<J: PlanName>(board: &mut Board<'_, '_, J>, line: u64)
+    requires { Holds J.plan board.old line }
+    ensures next { Waits J.plan board.new (line + 1) }
+    ensures led { RunsTo J.plan board.old board.new }
+{
+    let Reply::Committed = board.commit(line) else {
+        unreachable!()
+    };
+}

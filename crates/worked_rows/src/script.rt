@@ -1,0 +1,114 @@
+//! A script of the board: calls of its workers beside their replies.
+
+ghost use Rattle.std.specs.Prelude.{◌≡◌};
+
+use crate::book::Row;
+use crate::calls::reply_to;
+use crate::sight::{WORKERS, sight};
+use read_set::{Plan, PlanName};
+use speculate::Board;
+use std::alloc::{AllocError, AllocGlobal, Global};
+use std::marker::Brand;
+use std::process::Abort;
+use std::sync::Wait;
+use std::test::Fail;
+use version_store::{Place, VersionTable};
+
+/// A script: its lines, and with which attempt and at which clock its board begins.
+#[derive(Drop)]
+struct Script {
+    title: String,
+    lines: String,
+    attempt: u32,
+    clock: u64,
+}
+
+impl Script {
+    fn new(alloc: Global, title: &str, lines: &str) -> Result<Script, AllocError> {
+        Ok(Script {
+            title: String::from_str(alloc, title)?,
+            lines: String::from_str(alloc, lines)?,
+            attempt: 0,
+            clock: 0,
+        })
+    }
+
+    /// The script with the attempt and the clock that a line tells.
+    fn starting(&mut self, numbers: &str) {
+        let (attempt, clock) = numbers.split_once(' ').unwrap_or((numbers, "0"));
+        self.attempt = attempt.parse::<u32>().unwrap_or(0);
+        self.clock = clock.parse::<u64>().unwrap_or(0);
+    }
+}
+
+/// Runs a script: the lines that a row knows make the plan, the others are calls.
+pub(crate) fn run_script<R: Wait + AllocGlobal + Abort>(
+    rt: &R,
+    title: &str,
+    lines: &str,
+) -> Result<(), Fail> {
+    let alloc = rt.alloc();
+    let mut row = Row::new(alloc)?;
+    let mut script = Script::new(alloc, title, lines)?;
+    for line in lines.split('\n') {
+        if let Some(numbers) = line.strip_prefix("starting ") {
+            script.starting(numbers);
+        } else if !is_call(line) {
+            assert!(rt; line.is_empty() || row.take(line)?, "{title}: {line}");
+        }
+    }
+    let plan = row.plan(alloc)?.expect(rt, "a plan");
+    play_calls::<Brand, R>(rt, &plan, &script)
+}
+
+/// A call stands before its reply.
+fn is_call(line: &str) -> bool {
+    line.contains(" = ")
+}
+
+/// Plays the calls of a script on a new board.
+fn play_calls<J: PlanName, R: Wait + AllocGlobal + Abort>(
+    rt: &R,
+    plan: &Plan,
+    script: &Script,
+) -> Result<(), Fail>
+    requires { plan.now ≡ J.plan }
+{
+    let alloc = rt.alloc();
+    let (attempt, clock) = (script.attempt, script.clock);
+    let table = VersionTable::new(alloc)?;
+    let mut board: Board<'_, '_, J> = Board::starting(alloc, plan, WORKERS, attempt, clock)?;
+    play_on(rt, &table, &mut board, script)
+}
+
+/// Plays the calls of a script. What is refused must leave the board as it was, as far as it is seen.
+fn play_on<'t, J: PlanName, R: Wait + AllocGlobal + Abort>(
+    rt: &R,
+    table: &'t VersionTable<J>,
+    board: &mut Board<'_, 't, J>,
+    script: &Script,
+) -> Result<(), Fail> {
+    let title = script.title.as_str();
+    let mut kept: Option<Place<'t, J>> = None;
+    for line in script.lines.as_str().split('\n') {
+        if let Some((call, wanted)) = line.split_once(" = ") {
+            let before = sight(rt.alloc(), board)?;
+            let told = reply_to(rt, table, board, &mut kept, call)?;
+            assert_eq!(rt; told.as_str(), wanted, "{title}: {line}");
+            if is_refusal(wanted) {
+                let after = sight(rt.alloc(), board)?;
+                assert_eq!(rt; after.as_str(), before.as_str(), "{title}: {line}");
+            }
+        }
+    }
+    Ok(())
+}
+
+/// Whether a call with this reply changes nothing. The reply to a `begin` stands behind its choice.
+fn is_refusal(told: &str) -> bool {
+    let (_, reply) = told.split_once(": ").unwrap_or(("", told));
+    match reply {
+        "idle" | "later" | "stranger" | "clock spent" | "memory" | "nothing" | "end" => true,
+        _ => reply.starts_with("attempts "),
+    }
+}

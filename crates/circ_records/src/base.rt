@@ -1,6 +1,6 @@
 //! The records that a run begins with.
 
-ghost use Rattle.std.specs.Prelude.{◌≡◌, None, map, option_copied, IfOk, IfErr};
+ghost use Rattle.std.specs.Prelude.{◌≡◌, [], None, map, option_copied, IfOk, IfErr};
 ghost use Rattle.std.specs.List.Sorted.{IsStrictlySortedBy};
 ghost use Rattle.circ_records.specs.Base.{Breaks, Gives, base_of, first_broken};
 ghost use Rattle.circ_records.specs.Coherent.{Coherent, number_before};
@@ -22,10 +22,11 @@ use crate::record::Record;
 use crate::rows::TableRows;
 use crate::tables::Tables;
 use circ_policy::Policy;
-use std::alloc::{AllocError, Global};
+use std::alloc::Global;
 use std::collections::BTreeMap;
 use std::collections::btree_map::Keys;
 use std::marker::Model;
+use std::mem::replace;
 
 /// The records that a run begins with, by their keys.
 #[derive(Drop)]
@@ -75,12 +76,12 @@ impl Base {
         self.records.keys()
     }
 
-    /// The same records, on their own.
-    pub fn to_map(&self) -> Result<BTreeMap<Key, Record>, AllocError>
-        ensures { IfOk result (λ m. m.entries ≡ self.now) }
+    /// The records by their keys, taken out: the base has none left.
+    pub fn take(&mut self, alloc: Global) -> BTreeMap<Key, Record>
+        ensures taken { result.entries ≡ self.old }
+        ensures left { self.new ≡ [] }
     {
-        let map = self.records.clone()?;
-        Ok(map)
+        replace(&mut self.records, BTreeMap::new(alloc))
     }
 }
 

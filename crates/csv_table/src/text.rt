@@ -9,6 +9,9 @@ use csv::{Writer, WriterBuilder};
 use std::alloc::{AllocError, Global};
 use std::marker::Model;
 
+/// Room for the first rows, in bytes, so that a text is seldom copied as it grows. What is never written to stays untouched.
+const FIRST_ROOM: usize = 1 << 20;
+
 /// The text of a table, written row by row under its header. After a failure there is no text.
 #[derive(Drop)]
 pub struct TableText {
@@ -35,7 +38,7 @@ impl TableText {
         ensures { IfOk result (λ t. t ≡ Some (written (bytes_of header.now) [])) }
     {
         let names = names_of(alloc, header)?;
-        let mut writer = WriterBuilder::new().from_writer(Vec::new(alloc));
+        let mut writer = WriterBuilder::new().from_writer(Vec::with_capacity(alloc, FIRST_ROOM)?);
         match writer.write_fields(&names) {
             Ok(()) => Ok(TableText {
                 writer,

@@ -22,7 +22,7 @@ use Rattle.journal_table.specs.Readings.{EndInTime, IsRead, NumberedReading, fir
 use Rattle.sip_reader.specs.declared.request.Reading.{Reading}
 use Rattle.csv_table.specs.Rows.{rows_under}
 use Rattle.read_set.specs.Coherence.{FitsPlan, FitsReading, ReadPlansStayCoherent, FinalTablesReadBack, StaysCoherent}
-use Rattle.read_set.specs.Plans.{beginning, plan_of, plan_read, readings_of, Planned}
+use Rattle.read_set.specs.Plans.{beginning, over, plan_of, plan_read, readings_of, Planned}
 use Rattle.read_set.proofs.Kept.{replay-keeps}
 use Rattle.read_set.proofs.ReadingFits.{reading-fits}
 
@@ -76,6 +76,14 @@ plan-fits text bytes policy base lines p j few h = record {
       let end : beginning lines + length lines ≤ 10000000000 = ends-lines (rows_under header bytes) lines j in
       omega arith;
 }
+
+-- no records are coherent
+none-coherent : (policy : Terms) (n : ℕ) → Coherent policy n []
+none-coherent policy n = record { kinds = λ k r e. cc; patrons = λ id p e. cc; items = λ id i e. cc; fees = λ id f e. cc }
+
+-- so a plan that fits does over no records
+pub bare-fits : (plan : Planned) → FitsPlan plan → FitsPlan (over plan [])
+bare-fits plan fits = record { policy = fits.policy; readings = fits.readings; base = none-coherent plan.policy plan.first; few = omega arith; last = fits.last }
 
 pub read-plans : (base : Entries) → length base ≤ 2 ^ 64 → ReadPlansStayCoherent base
 read-plans base few text bytes policy lines p j h = replay-keeps (plan_of policy base lines) (plan-fits text bytes policy base lines p j few h)

@@ -28,6 +28,10 @@ plan_of policy base lines = record { policy = policy; base = base; first = begin
 abbrev pub plan_read : Terms → Entries → List NumberedReading → Planned
 plan_read policy base read = record { policy = policy; base = base; first = unwrap_or (first_read read) 10000000000; readings = map reading_in read }
 
+-- the plan of the same lines over other records
+abbrev pub over : Planned → Entries → Planned
+over plan base = record plan { base = base }
+
 -- what the line of a number is read as
 abbrev pub reading_at : Planned → ℕ → Option Reading
 reading_at plan line = if nat_lt line plan.first then None else slice_get plan.readings (line - plan.first)

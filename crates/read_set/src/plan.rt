@@ -1,6 +1,6 @@
 //! What a replay begins with.
 
-ghost use Rattle.std.specs.Prelude.{◌≡◌, ◌+◌, ◌≤◌, ◌^◌, ◌&&◌, ℕ, List, IfOk, is_some, length, map, nat_le, nat_lt, option_copied};
+ghost use Rattle.std.specs.Prelude.{◌≡◌, ◌+◌, ◌≤◌, ◌^◌, ◌&&◌, ℕ, List, [], IfOk, is_some, length, map, nat_le, nat_lt, option_copied};
 ghost use Rattle.std.specs.List.Sorted.{IsStrictlySortedBy};
 ghost use Rattle.circ_records.specs.Coherent.{Coherent, number_before};
 ghost use Rattle.circ_records.specs.Keys.{key_cmp};
@@ -9,7 +9,7 @@ ghost use Rattle.journal_table.specs.Entry.{Entry, first_number};
 ghost use Rattle.journal_table.specs.Readings.{first_read, reading_at as reading_in, readings_of as all_read};
 ghost use Rattle.journal_table.specs.declared.TheConstants.{LINE_LIMIT};
 ghost use Rattle.read_set.specs.Coherence.{StaysCoherent};
-ghost use Rattle.read_set.specs.Plans.{plan_of, plan_read, reading_at};
+ghost use Rattle.read_set.specs.Plans.{over, plan_of, plan_read, reading_at};
 
 use circ_policy::Policy;
 use circ_records::{Base, Key, Record};
@@ -143,12 +143,12 @@ impl Plan {
         self.base.get(key)
     }
 
-    /// The records before the first line, on their own.
-    pub fn to_map(&self) -> Result<BTreeMap<Key, Record>, AllocError>
-        ensures { IfOk result (λ m. m.entries ≡ self.now.base) }
+    /// The records before the first line, taken out: the plan is then that of the same lines over no records.
+    pub fn take_base(&mut self, alloc: Global) -> BTreeMap<Key, Record>
+        ensures records { result.entries ≡ self.old.base }
+        ensures left { self.new ≡ over self.old [] }
     {
-        let map = self.base.to_map()?;
-        Ok(map)
+        self.base.take(alloc)
     }
 }
 

@@ -1,10 +1,12 @@
 -- The first lines, replayed.
-use Rattle.std.proofs.Common.{◌≡◌, ◌∙◌, ℕ, suc, ◌+◌, List, [], ◌∷◌, ◌++◌, Option, arith, ap, subst}
+use Rattle.std.proofs.Common.{◌≡◌, ◌∙◌, ℕ, suc, ◌+◌, List, [], ◌∷◌, ◌++◌, Option, Some, None, arith, ap, refl, subst}
 use Rattle.circ_records.specs.declared.key.Key.{Key}
 use Rattle.sip_answer.specs.declared.answer.Answer.{Answer}
 use Rattle.read_set.specs.Maps.{Map}
-use Rattle.read_set.specs.Plans.{Planned}
-use Rattle.read_set.specs.Replay.{after, one_at}
+use Rattle.circ_records.specs.Records.{Entries}
+use Rattle.sip_reader.specs.declared.request.Reading.{Reading}
+use Rattle.read_set.specs.Plans.{Planned, over, reading_at}
+use Rattle.read_set.specs.Replay.{after, one_at, one_by}
 use Rattle.replay_run.specs.Answers.{first_answers}
 
 -- the records as they stand and the answers so far are those of the first lines
@@ -23,3 +25,11 @@ replayed-next plan n line M N answers a at so answered stands =
       records = λ k. stands k ∙ ap (λ l. (one_at plan l (after plan n)).0 k) at;
     } in
     subst (λ m. Replayed plan m N (answers ++ a ∷ [])) next more
+
+over-by : (plan : Planned) (base : Entries) (line : ℕ) (r : Option Reading) (M : Map) → one_by (over plan base) line r M ≡ one_by plan line r M
+over-by plan base line None M = refl
+over-by plan base line (Some r) M = refl
+
+-- a line does the same over other records before the first
+pub over-at : (plan : Planned) (base : Entries) (line : ℕ) (M : Map) → one_at (over plan base) line M ≡ one_at plan line M
+over-at plan base line M = over-by plan base line (reading_at plan line) M

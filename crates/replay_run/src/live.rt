@@ -1,7 +1,7 @@
 //! The records as they stand while lines are replayed.
 
 use circ_records::{Key, Record, Records};
-use read_set::{Plan, Source, Stop, Writes};
+use read_set::{Source, Stop, Writes};
 use std::alloc::{AllocError, Global};
 use std::collections::BTreeMap;
 
@@ -13,19 +13,18 @@ pub struct Live {
 }
 
 impl Live {
-    ghost use Rattle.std.specs.Prelude.{◌≡◌, ◌∷◌, [], IfOk, OnOk, option_copied};
+    ghost use Rattle.std.specs.Prelude.{◌≡◌, ◌∷◌, [], OnOk, option_copied};
     ghost use Rattle.circ_records.specs.Records.{record_at};
     ghost use Rattle.circ_records.specs.declared.key.Key.{Key};
     ghost use Rattle.read_set.specs.Maps.{put};
     ghost use Rattle.replay_run.specs.Entries.{AreEntries};
     ghost use Rattle.replay_run.specs.Live.{standing};
 
-    /// The records before the first line.
-    pub fn new(plan: &Plan) -> Result<Live, AllocError>
-        ensures { IfOk result (λ live. (k : Key) → standing live k ≡ record_at plan.now.base k) }
+    /// These records.
+    pub fn over(records: BTreeMap<Key, Record>) -> Live
+        ensures { (k : Key) → standing result k ≡ record_at records.entries k }
     {
-        let records = plan.to_map()?;
-        Ok(Live { records })
+        Live { records }
     }
 
     /// The record at a key.

@@ -3,17 +3,19 @@
 ghost use Rattle.std.specs.Prelude.{◌≡◌, IfOk, OnOk, length, replicate};
 ghost use Rattle.circ_records.specs.declared.key.Key.{Key};
 ghost use Rattle.read_set.specs.Maps.{Map};
+ghost use Rattle.read_set.specs.Plans.{over};
 ghost use Rattle.read_set.specs.Replay.{last, one_at};
 ghost use Rattle.replay_run.specs.Answers.{answers_of};
 ghost use Rattle.replay_run.specs.Entries.{AreEntries};
 ghost use Rattle.replay_run.specs.Live.{standing};
 
 use crate::live::Live;
-use circ_records::Records;
+use circ_records::{Key, Record, Records};
 use message_meaning::perform;
 use read_set::{Effect, Plan, Stop};
 use sip_answer::Answer;
 use std::alloc::{AllocError, Global};
+use std::collections::BTreeMap;
 
 /// What a replay comes to: the records after the last line, and of each line its answer, where it has one, and the
 /// number of the attempt whose answer that is.
@@ -24,15 +26,31 @@ pub struct ReplayEnd {
     pub attempts: Vec<u32>,
 }
 
-/// What the lines of a plan come to, taken in order by one thread. Each line is attempted once, by the number 0.
-pub fn replay(alloc: Global, plan: &Plan) -> Result<ReplayEnd, AllocError>
-    ensures answers { IfOk result (λ o. o.answers.items ≡ answers_of plan.now) }
-    ensures records { IfOk result (λ o. AreEntries (last plan.now) o.records) }
+/// What the lines of a plan come to, taken in order by one thread. Each line is attempted once, by the number 0. The
+/// plan's records are those that the lines change, so that none is copied: the plan is left without records.
+pub fn replay(alloc: Global, plan: &mut Plan) -> Result<ReplayEnd, AllocError>
+    ensures answers { IfOk result (λ o. o.answers.items ≡ answers_of plan.old) }
+    ensures records { IfOk result (λ o. AreEntries (last plan.old) o.records) }
+    ensures attempts { IfOk result (λ o. o.attempts.items ≡ replicate (length plan.old.readings) 0) }
+    ensures lines { plan.new.readings ≡ plan.old.readings }
+{
+    let base = plan.take_base(alloc);
+    replay_over(alloc, plan, base)
+}
+
+/// What the lines of a plan come to over these records.
+fn replay_over(
+    alloc: Global,
+    plan: &Plan,
+    base: BTreeMap<Key, Record>,
+) -> Result<ReplayEnd, AllocError>
+    ensures answers { IfOk result (λ o. o.answers.items ≡ answers_of (over plan.now base.entries)) }
+    ensures records { IfOk result (λ o. AreEntries (last (over plan.now base.entries)) o.records) }
     ensures attempts { IfOk result (λ o. o.attempts.items ≡ replicate (length plan.now.readings) 0) }
 {
     let count = plan.readings().len();
     let first = plan.first();
-    let mut live = Live::new(plan)?;
+    let mut live = Live::over(base);
     let mut answers = Vec::with_capacity(alloc, count)?;
     for i in 0..count {
         answers.push(take_line(alloc, plan, first + i as u64, &mut live)?)?;

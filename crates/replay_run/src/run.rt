@@ -1,13 +1,16 @@
 //! A whole run by one thread, and the output of any run that comes to what one thread comes to.
 
-ghost use Rattle.std.specs.Prelude.{◌≡◌, IfOk};
+ghost use Rattle.std.specs.Prelude.{◌≡◌, ◌+◌, IfOk, length};
+ghost use Rattle.circ_records.specs.Tables.{texts_of};
+ghost use Rattle.circ_records.specs.Written.{tables_of};
 ghost use Rattle.read_set.specs.Plans.{readings_of};
 ghost use Rattle.read_set.specs.Replay.{last};
-ghost use Rattle.result_report.specs.Report.{lent};
+ghost use Rattle.result_report.specs.Report.{AreAnswers, lent, told};
+ghost use Rattle.result_report.specs.Tables.{AreTexts};
 ghost use Rattle.replay_run.specs.Answers.{answers_of};
 ghost use Rattle.replay_run.specs.Entries.{AreEntries};
 ghost use Rattle.replay_run.specs.Judging.{Judges};
-ghost use Rattle.replay_run.specs.OneThread.{IsOneThread, IsOutput, IsOutputBy, judgement};
+ghost use Rattle.replay_run.specs.OneThread.{IsOneThread, IsOutput, IsOutputBy, judgement, results_of};
 
 use crate::fault::Fault;
 use crate::inputs::{Inputs, Output};
@@ -27,7 +30,7 @@ pub fn one_thread(alloc: Global, inputs: &Inputs) -> Result<Output, Fault>
     ensures { IsOneThread inputs.now result }
 {
     match judge_inputs(alloc, inputs) {
-        Ok(Judged { plan, journal }) => match output(alloc, &plan, &journal) {
+        Ok(Judged { plan, journal }) => match output(alloc, plan, &journal) {
             Ok(output) => Ok(output),
             Err(error) => Err(Fault::from(error)),
         },
@@ -49,21 +52,22 @@ pub fn judge_inputs(alloc: Global, inputs: &Inputs) -> Result<Judged, Fault>
 }
 
 /// The output of one thread over the plan of a journal.
-pub fn output(alloc: Global, plan: &Plan, journal: &Journal) -> Result<Output, AllocError>
-    requires { plan.now.readings ≡ readings_of journal.now }
-    ensures { IfOk result (IsOutput plan.now journal.now) }
+fn output(alloc: Global, plan: Plan, journal: &Journal) -> Result<Output, AllocError>
+    requires { plan.readings ≡ readings_of journal.now }
+    ensures { IfOk result (IsOutput plan journal.now) }
 {
+    let mut plan = plan;
     let ReplayEnd {
         records,
         answers,
         attempts,
-    } = replay(alloc, plan)?;
+    } = replay(alloc, &mut plan)?;
     let outcome = Outcome {
         records,
         answers: lend(alloc, answers.as_slice())?,
         attempts,
     };
-    output_of(alloc, plan, journal, outcome)
+    write_outcome(alloc, &plan, journal, outcome)
 }
 
 /// The output of a run over the plan of a journal that came to the records and the answers of one thread.
@@ -77,6 +81,24 @@ pub fn output_of(
     requires answers { lent outcome.answers.items ≡ answers_of plan.now }
     requires records { AreEntries (last plan.now) outcome.records }
     ensures { IfOk result (IsOutputBy plan.now journal.now outcome.entry.attempts.items) }
+{
+    write_outcome(alloc, plan, journal, outcome)
+}
+
+/// The tables of the records that a run came to, and the result tables of the lines with its answers. Of the plan only the
+/// readings count.
+fn write_outcome(
+    alloc: Global,
+    plan: &Plan,
+    journal: &Journal,
+    outcome: Outcome<'_>,
+) -> Result<Output, AllocError>
+    requires planned { plan.now.readings ≡ readings_of journal.now }
+    requires answered { AreAnswers (readings_of journal.now) (lent outcome.answers.items) }
+    ensures tables { IfOk result (λ o. texts_of o.tables ≡ tables_of outcome.entry.records) }
+    ensures results { IfOk result (λ o. AreTexts (told journal.now (readings_of journal.now) (lent outcome.entry.answers.items)) (results_of o)) }
+    ensures each_once { IfOk result (λ o. o.sizes.answered + o.sizes.passed ≡ length journal.now) }
+    ensures attempts { IfOk result (λ o. o.attempts.items ≡ outcome.entry.attempts.items) }
 {
     let tables = write_records(alloc, &outcome.records)?;
     let texts = report(alloc, journal, plan, &outcome)?;

@@ -1,5 +1,5 @@
 -- What each call does to the sets.
-use Rattle.std.proofs.Common.{◌≡◌, ◌≢◌, ℕ, ◌+◌, ◌-◌, ◌<◌, ◌≤◌, Bool, true, false, not, ◌||◌, eqb, List, [], ◌∷◌, ◌++◌, Option, Some, None, length, refl, sym, ap, subst, ◌∙◌, ◌⊎◌, inl, inr, arith}
+use Rattle.std.proofs.Common.{◌≡◌, ◌≢◌, ℕ, ◌+◌, ◌-◌, Bool, true, false, not, ◌||◌, eqb, List, [], ◌∷◌, ◌++◌, Option, Some, None, refl, sym, ap, subst, ◌∙◌, inl, inr, arith}
 use Rattle.std.specs.Prelude.{is_some, option_map}
 use Rattle.std.proofs.lemmas.Bool.{not-true, not-false, eqb-true, eqb-false}
 use Rattle.std.specs.FinMap.{insert, remove}
@@ -15,22 +15,22 @@ use Rattle.version_store.specs.declared.entry.Found.{Found}
 use Rattle.board_steps.specs.Board.{State, Row, Board, IsLine, row_at, holder, value_at}
 use Rattle.board_steps.specs.Board.State.{Waiting, Running, Placing, Done, Checking, Committed}
 use Rattle.board_steps.specs.Reached.{Reached}
-use Rattle.board_steps.specs.Steps.{IsFree, TakeStep, LookStep, PublishStep, CheckStep, CommitStep, Compares, MayPublish, put_row, with_state}
+use Rattle.board_steps.specs.Steps.{TakeStep, LookStep, PublishStep, CheckStep, CommitStep, Compares, MayPublish, with_state}
 use Rattle.board_steps.specs.Steps.Call.{Take, Look, Publish, Check, Commit}
 use Rattle.board_steps.specs.Steps.Reply.{Idle, Taken, Seen, Stopped, Placed, Lifted, Whole, Same, Changed, Commits}
 use Rattle.board_steps.proofs.Lines.{within_board}
-use Rattle.speculate.specs.Hands.{IsHand}
-use Rattle.speculate.specs.Notes.{found_by, told_at}
-use Rattle.speculate.specs.Replies.{Answers}
-use Rattle.speculate.specs.declared.hand.Hand.{Hand}
-use Rattle.speculate.specs.declared.reply.Reply.{Reply}
-use Rattle.speculate.specs.declared.reply.Reply.TheVariants as replies
+use Rattle.board_lines.specs.Hands.{IsHand}
+use Rattle.board_lines.specs.Notes.{found_by, told_at}
+use Rattle.board_lines.specs.Replies.{Answers}
+use Rattle.board_lines.specs.declared.hand.Hand.{Hand}
+use Rattle.board_lines.specs.declared.reply.Reply.{Reply}
+use Rattle.board_lines.specs.declared.reply.Reply.TheVariants as replies
 use Rattle.speculate.specs.declared.ready.Mark.{Mark}
 use Rattle.speculate.specs.declared.ready.Mark.TheVariants as marks
 use Rattle.speculate.specs.declared.ready.Ready.{Ready}
 use Rattle.speculate.specs.Marks.{Fits, IsStill, HasTurned, IsMarked, IsReady, Puts, Loses, SendsBack, ended, has_place, is_in_check}
 use Rattle.speculate.proofs.Marking.{puts_none}
-use Rattle.speculate.proofs.Readying.{StampBy, stamp_by, Turns, turns_put, ready_put, ready_change}
+use Rattle.speculate.proofs.Readying.{stamp_by, Turns, turns_put, ready_put, ready_change}
 
 -- ---- lines in a state
 -- a line in another state than Waiting is there

@@ -1,17 +1,15 @@
 -- The choice of a free worker, as the sets give it.
-use Rattle.std.proofs.Common.{◌≡◌, ◌≢◌, ℕ, ◌+◌, ◌-◌, ◌<◌, ◌≤◌, Bool, true, false, List, length, Option, Some, None, refl, sym, ap, subst, ◌∙◌, ◌⊎◌, inl, inr, arith}
-use Rattle.std.proofs.lemmas.Bool.{cases_eq, cases_lt}
+use Rattle.std.proofs.Common.{◌≡◌, ℕ, ◌+◌, ◌-◌, ◌<◌, ◌≤◌, Bool, true, false, List, length, Option, Some, None, refl, sym, ap, subst, ◌∙◌, inl, inr, arith}
+use Rattle.std.proofs.lemmas.Bool.{cases_lt}
 use Rattle.sip_answer.specs.declared.answer.Answer.{Answer}
 use Rattle.read_set.specs.Plans.{Planned}
 use Rattle.read_set.specs.declared.notes.Note.{Note}
 use Rattle.board_steps.specs.Board.{State, Row, Board, IsLine, IsCommitted, row_at}
 use Rattle.board_steps.specs.Board.State.{Waiting, Running, Placing, Done, Checking, Committed}
-use Rattle.board_steps.specs.Choice.{NeedsCheck, CanCommit, Waits, NoneFits, IsLeast, IsChoice}
+use Rattle.board_steps.specs.Choice.{NeedsCheck, CanCommit, Waits, NoneFits, IsChoice}
 use Rattle.board_steps.specs.Choice.Choice.{ToCommit, ToCheck, ToTake, ToWait, ToEnd}
 use Rattle.board_steps.specs.Reached.{Reached}
-use Rattle.board_steps.specs.Steps.{MayCommit}
 use Rattle.speculate.specs.declared.ready.Mark.{Mark}
-use Rattle.speculate.specs.declared.ready.Mark.TheVariants as marks
 use Rattle.speculate.specs.declared.ready.Ready.{Ready}
 use Rattle.speculate.specs.Marks.{Fits, IsStill, HasTurned, IsMarked, IsReady, waits, is_unchecked, is_checked, has_place}
 use Rattle.line_set.specs.Trees.{IsLeastFrom}

@@ -28,11 +28,11 @@ use Rattle.board_steps.proofs.Lines.{row_before, row_from}
 use Rattle.speculate.specs.Driving.{IsDriven, IsNew, RunsTo}
 use Rattle.speculate.specs.Ending.{ended_by}
 use Rattle.speculate.specs.Needed.{SettlesIfDone}
-use Rattle.speculate.specs.Notes.{found_by, told_at}
+use Rattle.board_lines.specs.Notes.{found_by, told_at}
 use Rattle.speculate.specs.Phases.{Appears, GoesOn, Holds, Proves, Reads, Waits}
-use Rattle.speculate.specs.Replies.{Answers}
-use Rattle.speculate.specs.declared.reply.Reply.{Reply as CodeReply}
-use Rattle.speculate.specs.declared.reply.Reply.TheVariants as replies
+use Rattle.board_lines.specs.Replies.{Answers}
+use Rattle.board_lines.specs.declared.reply.Reply.{Reply as CodeReply}
+use Rattle.board_lines.specs.declared.reply.Reply.TheVariants as replies
 use Rattle.speculate.specs.declared.steps.BoardFault.{BoardFault}
 use Rattle.speculate.proofs.Phases.{check_never_changes, check_never_idle, check_never_spent, commit_never_idle, commit_never_later, look_goes, look_never_idle, look_never_stops, publish_never_idle, publish_no_stranger, take_never, take_never_idle}
 use Rattle.speculate.proofs.Plays.{CallEnds, call_ends}

@@ -1,9 +1,9 @@
 -- A place gets another mark, and the lines above a place lose their stamps.
-use Rattle.std.proofs.Common.{◌≡◌, ◌≢◌, ℕ, ◌+◌, ◌<◌, ◌≤◌, Bool, true, false, ◌||◌, List, length, set, get_or, refl, sym, ap, ap₂, subst, ◌∙◌, arith, length-set, get_or-set_same, get_or-set_other}
+use Rattle.std.proofs.Common.{◌≡◌, ℕ, ◌+◌, ◌<◌, ◌≤◌, Bool, false, ◌||◌, List, length, set, get_or, refl, sym, ap, ap₂, ◌∙◌, arith, length-set, get_or-set_same, get_or-set_other}
 use Rattle.speculate.specs.declared.ready.Mark.{Mark}
 use Rattle.speculate.specs.declared.ready.Mark.TheVariants as marks
 use Rattle.speculate.specs.declared.ready.Ready.{Ready}
-use Rattle.speculate.specs.Marks.{waits, is_unchecked, is_checked, is_in_check, has_place, IsMarked, HasPlaces, AreAsLong, IsPlace, Puts, lost, Loses, GoesOver, GoesOut}
+use Rattle.speculate.specs.Marks.{waits, is_unchecked, is_checked, is_in_check, IsMarked, HasPlaces, AreAsLong, IsPlace, Puts, lost, Loses, GoesOver, GoesOut}
 
 pub puts_of : (old new : Ready) (p : ℕ) (mark : Mark) → IsPlace old p
     → new.waiting ≡ set old.waiting p (waits mark) → new.unchecked ≡ set old.unchecked p (is_unchecked mark)

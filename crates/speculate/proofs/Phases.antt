@@ -25,8 +25,8 @@ use Rattle.board_steps.proofs.Entries.{cases_key, each_push, get_insert_same, ge
 use Rattle.board_steps.proofs.Lines.{row_before, row_put, row_put_off, length_put}
 use Rattle.board_steps.proofs.Steps.{step_reached}
 use Rattle.board_steps.proofs.Views.{visible_entry}
-use Rattle.speculate.specs.Acts.{IsPlacing}
-use Rattle.speculate.specs.Hands.{notes_of}
+use Rattle.board_lines.specs.Acts.{IsPlacing}
+use Rattle.board_lines.specs.Hands.{notes_of}
 use Rattle.speculate.specs.Phases.{Appears, GoesOn, Holds, IsChecked, IsAppearing, Proves, Reads, Stands, Waits, left_of}
 
 -- ---- what is seen

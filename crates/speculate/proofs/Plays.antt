@@ -1,6 +1,5 @@
 -- Steps of workers, one after another.
-use Rattle.std.proofs.Common.{◌≡◌, ◌≢◌, ℕ, suc, List, [], ◌∷◌, ◌++◌, Option, Some, None, Result, Ok, Err, OnOk, IfErr, option_map, refl, sym, ap, subst, ◌∙◌, ◌⊎◌, inl, inr}
-use Rattle.std.proofs.lemmas.Option.{none-some}
+use Rattle.std.proofs.Common.{◌≡◌, ◌≢◌, ℕ, suc, List, [], ◌∷◌, ◌++◌, Option, Some, None, Result, Ok, Err, OnOk, IfErr, option_map, refl, sym, subst, ◌⊎◌, inl, inr}
 use Rattle.circ_records.specs.declared.key.Key.{Key}
 use Rattle.read_set.specs.Plans.{Planned}
 use Rattle.read_set.specs.Needs.{IsNeed}
@@ -15,13 +14,13 @@ use Rattle.board_steps.specs.Steps.{Call, IsVersion, Reply, Step}
 use Rattle.board_steps.specs.Steps.Call.{Take as TheTake, Look as TheLook, Publish as ThePublish, Check as TheCheck, Commit as TheCommit}
 use Rattle.board_steps.specs.Steps.Reply.{Idle, Taken, Seen, Stopped, Stranger, Placed, Lifted, Whole, Same, Changed, Commits, Later, Attempts, ClockSpent}
 use Rattle.speculate.specs.Ending.{ended_by}
-use Rattle.speculate.specs.Hands.{HasNoLine, notes_of}
+use Rattle.board_lines.specs.Hands.{HasNoLine, notes_of}
 use Rattle.speculate.specs.Needed.{IsNext, IsToPublish, SettlesIfDone, needed_key, needed_version}
-use Rattle.speculate.specs.Notes.{found_by, told_at}
+use Rattle.board_lines.specs.Notes.{found_by, told_at}
 use Rattle.speculate.specs.Playing.{Goes, HasLast, HasVersion, InHand, IsRefused, Plays, ToPublish, Wants, refusal}
-use Rattle.speculate.specs.Replies.{Answers, Grows}
-use Rattle.speculate.specs.declared.reply.Reply.{Reply as CodeReply}
-use Rattle.speculate.specs.declared.reply.Reply.TheVariants as replies
+use Rattle.board_lines.specs.Replies.{Answers, Grows}
+use Rattle.board_lines.specs.declared.reply.Reply.{Reply as CodeReply}
+use Rattle.board_lines.specs.declared.reply.Reply.TheVariants as replies
 use Rattle.speculate.specs.declared.steps.BoardFault.{BoardFault}
 use Rattle.speculate.specs.declared.steps.BoardFault.TheVariants as faults
 use Rattle.speculate.specs.declared.steps.Step.{Step as WorkerStep}

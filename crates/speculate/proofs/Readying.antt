@@ -1,10 +1,8 @@
 -- One line moves; the sets say what the board says then.
-use Rattle.std.proofs.Common.{◌≡◌, ◌≢◌, ℕ, ◌+◌, ◌-◌, ◌<◌, ◌≤◌, Bool, true, false, List, [], Option, Some, None, length, replicate, refl, sym, ap, ap₂, subst, ◌∙◌, ◌⊎◌, inl, inr, arith}
+use Rattle.std.proofs.Common.{◌≡◌, ◌≢◌, ℕ, ◌-◌, ◌<◌, ◌≤◌, true, false, List, Some, None, length, replicate, refl, sym, ap, ap₂, subst, ◌∙◌, inl, inr, arith}
 use Rattle.std.proofs.lemmas.Bool.{cases_eq, cases_lt}
 use Rattle.std.proofs.lemmas.List.{length-replicate, get_or-replicate}
-use Rattle.sip_answer.specs.declared.answer.Answer.{Answer}
 use Rattle.read_set.specs.Plans.{Planned}
-use Rattle.read_set.specs.declared.notes.Note.{Note}
 use Rattle.board_steps.specs.Board.{State, Row, Board, IsLine, blank, row_at}
 use Rattle.board_steps.specs.Board.State.{Waiting, Running, Placing, Done, Checking, Committed}
 use Rattle.board_steps.specs.Reached.{Reached, StateOk}

@@ -5,10 +5,10 @@ use Rattle.board_steps.specs.Board.{Board}
 use Rattle.board_steps.specs.Choice as steps
 use Rattle.board_steps.specs.Choice.Choice.{ToCommit, ToCheck, ToTake, ToWait, ToEnd}
 use Rattle.board_steps.specs.Steps.Call.{Take as TheTake, Check as TheCheck, Commit as TheCommit}
-use Rattle.speculate.specs.Replies.{Answers}
+use Rattle.board_lines.specs.Replies.{Answers}
 use Rattle.speculate.specs.declared.choice.Choice.{Choice}
 use Rattle.speculate.specs.declared.choice.Choice.TheVariants as choices
-use Rattle.speculate.specs.declared.reply.Reply.{Reply}
+use Rattle.board_lines.specs.declared.reply.Reply.{Reply}
 
 abbrev pub chosen : Choice → steps.Choice
 chosen (choices.Commit line) = ToCommit line

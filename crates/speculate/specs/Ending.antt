@@ -1,7 +1,7 @@
 -- Which replies stop what a worker does.
 use Rattle.std.specs.Prelude.{Result, Ok, Err}
-use Rattle.speculate.specs.declared.reply.Reply.{Reply}
-use Rattle.speculate.specs.declared.reply.Reply.TheVariants as replies
+use Rattle.board_lines.specs.declared.reply.Reply.{Reply}
+use Rattle.board_lines.specs.declared.reply.Reply.TheVariants as replies
 use Rattle.speculate.specs.declared.steps.BoardFault.{BoardFault}
 use Rattle.speculate.specs.declared.steps.BoardFault.TheVariants as faults
 

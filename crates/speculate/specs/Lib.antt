@@ -1,15 +1,8 @@
-pub mod Acts
 pub mod Choices
-pub mod Courses
 pub mod Driving
 pub mod Ending
 pub mod Finishing
-pub mod Hands
 pub mod Marks
 pub mod Needed
-pub mod Notes
-pub mod Parts
 pub mod Phases
 pub mod Playing
-pub mod Replies
-pub mod Sights

@@ -1,8 +1,6 @@
 -- Which lines wait, which need a check, and whose stamp counts: four sets of places, and what they say of a board (the board:
 -- the choice of a free worker).
-use Rattle.std.specs.Prelude.{◌≡◌, ◌≢◌, ℕ, ◌-◌, ◌<◌, ◌≤◌, ◌⊎◌, Bool, true, false, ◌||◌, List, length, replicate, slice_index_or, Option, Some, None}
-use Rattle.sip_answer.specs.declared.answer.Answer.{Answer}
-use Rattle.read_set.specs.declared.notes.Note.{Note}
+use Rattle.std.specs.Prelude.{◌≡◌, ◌≢◌, ℕ, ◌-◌, ◌<◌, ◌≤◌, ◌⊎◌, Bool, true, false, ◌||◌, List, length, replicate, slice_index_or, Some, None}
 use Rattle.board_steps.specs.Board.{State, Row, Board, IsLine, row_at}
 use Rattle.board_steps.specs.Board.State.{Waiting, Running, Placing, Done, Checking, Committed}
 use Rattle.speculate.specs.declared.ready.Mark.{Mark}

@@ -7,7 +7,7 @@ use Rattle.read_set.specs.declared.version.Need.{Need}
 use Rattle.read_set.specs.declared.version.Need.TheVariants as needs
 use Rattle.board_steps.specs.Board.{Board}
 use Rattle.board_steps.specs.Steps.{IsVersion}
-use Rattle.speculate.specs.Hands.{HasNoLine}
+use Rattle.board_lines.specs.Hands.{HasNoLine}
 use Rattle.speculate.specs.Playing.{HasVersion, ToPublish, Wants}
 
 -- a key that it wants, or its version; nothing where the worker has none in hand

@@ -1,5 +1,5 @@
 -- A list of steps of workers, played one after another (the board; the headline over lists of steps).
-use Rattle.std.specs.Prelude.{◌≡◌, ◌≢◌, ℕ, suc, ◌<◌, ◌⊎◌, List, [], ◌∷◌, Option, Some, None, slice_get, take}
+use Rattle.std.specs.Prelude.{◌≡◌, ℕ, suc, ◌⊎◌, List, [], ◌∷◌, Option, Some, None, slice_get, take}
 use Rattle.circ_records.specs.declared.key.Key.{Key}
 use Rattle.read_set.specs.Notes.{noted}
 use Rattle.read_set.specs.Plans.{Planned}
@@ -11,7 +11,7 @@ use Rattle.board_steps.specs.Board.State.{Placing}
 use Rattle.board_steps.specs.Steps.{IsVersion, Reply, Step}
 use Rattle.board_steps.specs.Steps.Call.{Check, Commit, Look, Publish, Take}
 use Rattle.board_steps.specs.Steps.Reply.{Attempts, ClockSpent, Idle}
-use Rattle.speculate.specs.Hands.{HasNoLine, notes_of}
+use Rattle.board_lines.specs.Hands.{HasNoLine, notes_of}
 use Rattle.speculate.specs.declared.steps.BoardFault.{BoardFault}
 use Rattle.speculate.specs.declared.steps.BoardFault.TheVariants as faults
 use Rattle.speculate.specs.declared.steps.Halt.{Halt}

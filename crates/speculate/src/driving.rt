@@ -6,15 +6,14 @@ ghost use Rattle.board_steps.specs.Steps.Call.{Publish};
 ghost use Rattle.read_set.specs.Notes.{noted};
 ghost use Rattle.read_set.specs.Wanted.{Wanted};
 ghost use Rattle.speculate.specs.Driving.{IsDriven, IsNew, MayStop, RunsTo};
-ghost use Rattle.speculate.specs.Notes.{told_at};
-ghost use Rattle.speculate.specs.Replies.{Answers};
+ghost use Rattle.board_lines.specs.Notes.{told_at};
+ghost use Rattle.board_lines.specs.Replies.{Answers};
 ghost use Rattle.speculate.specs.Phases.{Appears, Holds, Proves, Reads, Waits};
 
 use crate::board::{Board, lines_of};
 use crate::playing::{put, settled_if_done};
-use crate::reading::{copied, record_seen};
-use crate::reply::Reply;
 use crate::steps::BoardFault;
+use board_lines::{Reply, copied, record_seen};
 use circ_records::Key;
 use message_meaning::need;
 use read_set::{Need, Note, Notes, PlanName, Version};

@@ -3,8 +3,8 @@
 ghost use Rattle.std.specs.Prelude.{◌≡◌};
 ghost use Rattle.speculate.specs.Ending.{ended_by};
 
-use crate::reply::Reply;
 use crate::steps::BoardFault;
+use board_lines::Reply;
 use read_set::PlanName;
 
 /// Goes on where the step wasn't refused.

@@ -1,16 +1,16 @@
 //! A list of steps of workers, played one after another.
 
 ghost use Rattle.std.specs.Prelude.{◌≡◌, IfOk, IfErr, None, OnOk, option_map};
-ghost use Rattle.speculate.specs.Acts.{IsPlacing};
+ghost use Rattle.board_lines.specs.Acts.{IsPlacing};
 ghost use Rattle.speculate.specs.Needed.{IsNext, IsToPublish, SettlesIfDone, needed_key, needed_version};
-ghost use Rattle.speculate.specs.Notes.{told_at};
+ghost use Rattle.board_lines.specs.Notes.{told_at};
 ghost use Rattle.speculate.specs.Playing.{Goes, Halts, IsRefused, Plays};
 ghost use Rattle.speculate.specs.declared.steps.Step.TheVariants as steps;
 
 use crate::board::Board;
 use crate::ending::ended;
-use crate::reading::read_notes;
 use crate::steps::{BoardFault, Halt, Step};
+use board_lines::read_notes;
 use circ_records::Key;
 use message_meaning::need;
 use read_set::{Need, PlanName, Version};

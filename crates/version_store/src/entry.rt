@@ -11,6 +11,12 @@ pub struct Entry<'t, J: PlanName> {
 }
 
 impl<'t, J: PlanName> Clone for Entry<'t, J> {
+    ghost use Rattle.std.specs.Prelude.{◌≡◌, ⊤};
+
+    ghost is_clone = { λ x y. y ≡ x };
+
+    ghost is_infallible = { λ _. ⊤ };
+
     fn clone(&self) -> Result<Entry<'t, J>, AllocError> {
         Ok(*self)
     }

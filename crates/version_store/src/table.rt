@@ -19,6 +19,12 @@ pub struct Place<'t, J: PlanName> {
 }
 
 impl<'t, J: PlanName> Clone for Place<'t, J> {
+    ghost use Rattle.std.specs.Prelude.{◌≡◌, ⊤};
+
+    ghost is_clone = { λ x y. y ≡ x };
+
+    ghost is_infallible = { λ _. ⊤ };
+
     fn clone(&self) -> Result<Place<'t, J>, AllocError> {
         Ok(*self)
     }

@@ -1,13 +1,16 @@
 //! A row of a book: the inputs of a run, and what must come out.
 
+use crate::by_steps::tell_rounds;
+use crate::driven::drive_journal;
 use circ_policy::Policy;
 use circ_records::Base;
 use journal_table::Journal;
 use read_set::Plan;
 use replay_run::{Inputs, Tables, one_thread};
-use std::alloc::{AllocError, Global};
+use std::alloc::{AllocError, AllocGlobal, Global};
 use std::process::Abort;
 use std::str::from_utf8;
+use std::sync::Wait;
 use std::test::Fail;
 
 const POLICY: &str = r#"
@@ -103,6 +106,8 @@ pub(crate) struct Row {
     journal: String,
     /// The number of the last line, or the one before the first.
     line: u64,
+    /// How many lines the journal has.
+    asked: u64,
     /// Whether the last line still wants its recorded response.
     open: bool,
     answers: String,
@@ -122,6 +127,7 @@ impl Row {
             base: first_tables(alloc)?,
             journal: String::from_str(alloc, JOURNAL)?,
             line: 0,
+            asked: 0,
             open: false,
             answers: String::from_str(alloc, ANSWERS)?,
             passed: String::from_str(alloc, PASSED)?,
@@ -176,6 +182,7 @@ impl Row {
     fn ask(&mut self, request: &str) -> Result<(), AllocError> {
         self.close()?;
         self.line = self.line.saturating_add(1);
+        self.asked = self.asked.saturating_add(1);
         write!(self.journal, "{},C1,{request}", self.line)?;
         self.open = true;
         Ok(())
@@ -215,23 +222,47 @@ impl Row {
         Ok(true)
     }
 
+    /// How many lines the row's journal has.
+    pub(crate) fn asked(&self) -> u64 {
+        self.asked
+    }
+
+    /// The inputs of the row's run.
+    pub(crate) fn inputs(mut self) -> Result<Inputs, AllocError> {
+        self.close()?;
+        Ok(Inputs {
+            policy: self.policy,
+            tables: self.base,
+            journal: self.journal.into_bytes(),
+        })
+    }
+
     /// The plan of the row's inputs, where they are right.
     pub(crate) fn plan(mut self, alloc: Global) -> Result<Option<Plan>, AllocError> {
         self.close()?;
         plan_over(alloc, &self.base, self.journal.as_bytes())
     }
 
-    /// Runs the row and compares what came out.
-    pub(crate) fn run(mut self, rt: &impl Abort, alloc: Global, title: &str) -> Result<(), Fail> {
+    /// Runs the row and compares what came out: by one thread, by steps, and driven in order.
+    pub(crate) fn run<R: Wait + AllocGlobal + Abort>(
+        mut self,
+        rt: &R,
+        title: &str,
+    ) -> Result<(), Fail> {
+        let alloc = rt.alloc();
         self.close()?;
+        let first = self.line.saturating_sub(self.asked).saturating_add(1);
         let inputs = Inputs {
             policy: self.policy,
             tables: self.base,
             journal: self.journal.into_bytes(),
         };
+        let rounds = tell_rounds(rt, alloc, &inputs, first, self.asked)?;
         match one_thread(alloc, &inputs) {
             Ok(output) => {
                 assert!(rt; self.fault.is_empty(), "{title}");
+                assert!(rt; rounds.as_str().starts_with("output"), "{title}: {rounds}");
+                compare_driven(rt, title, &inputs, self.answers.as_str())?;
                 compare(rt, title, &output.answers, self.answers.as_str());
                 compare(rt, title, &output.passed, self.passed.as_str());
                 if !self.report.is_empty() {
@@ -242,10 +273,24 @@ impl Row {
             Err(fault) => {
                 let told = fault.to_string(alloc)?;
                 assert_eq!(rt; told.as_str(), self.fault.as_str(), "{title}");
+                assert_eq!(rt; rounds.as_str(), self.fault.as_str(), "{title}");
             }
         }
         Ok(())
     }
+}
+
+/// Compares the answers of a board that is driven in order with what was wanted.
+fn compare_driven<R: Wait + AllocGlobal + Abort>(
+    rt: &R,
+    title: &str,
+    inputs: &Inputs,
+    wanted: &str,
+) -> Result<(), Fail> {
+    let driven = drive_journal(rt, inputs)?;
+    let answers = format!(in rt.alloc(); "{ANSWERS}{}", driven.answers.as_str())?;
+    assert_eq!(rt; answers.as_str(), wanted, "{title}");
+    Ok(())
 }
 
 /// Compares a table with what was wanted.
@@ -281,7 +326,11 @@ pub(crate) fn plan_of(alloc: Global, journal: &[u8]) -> Result<Option<Plan>, All
 }
 
 /// The plan of a journal over tables.
-fn plan_over(alloc: Global, tables: &Tables, journal: &[u8]) -> Result<Option<Plan>, AllocError> {
+pub(crate) fn plan_over(
+    alloc: Global,
+    tables: &Tables,
+    journal: &[u8],
+) -> Result<Option<Plan>, AllocError> {
     let Ok(policy) = Policy::read(alloc, POLICY.as_bytes()) else {
         return Ok(None);
     };

@@ -17,6 +17,9 @@
 //! Each run begins with the same library: patrons P1 (Ann) and P2 (Bob) of class A, the book I1 and the video tapes V1
 //! and V2, closed on Sundays. Whoever is of class C borrows nothing.
 //!
+//! Each row is run by one thread; by the steps of a worker for each line, in rounds in which all lines are begun, the last
+//! first, and then ended, the first first; and driven in order through a board. All must give the same.
+//!
 //! A script of the board begins as a row does, with `base`, `first` and `asked` lines. `starting ATTEMPT CLOCK` tells with which
 //! attempt and at which clock its board begins, else 0 and 0. Then come calls, each with the reply that must come behind ` = `,
 //! and what is refused must leave the board as it was:
@@ -34,6 +37,8 @@
 //! | `does WORKER` | what the version does that the line needs: its answer, then each record that it writes |
 //! | `clock`, `committed`, `counts` | the board's; of the counts takes, failed checks, stops, commits and live lines |
 //!
+//! A script is played call by call, and then its steps as lists, whole and in parts; the same must be seen at the end.
+//!
 //! In a book of single lines a row tells records that need not fit together, one line, the records for which it asks, in the
 //! order of asking, and what it does.
 #![tactic(auto)]
@@ -43,7 +48,13 @@ mod again;
 #[cfg(test)]
 mod book;
 #[cfg(test)]
+mod by_steps;
+#[cfg(test)]
 mod calls;
+#[cfg(test)]
+mod driven;
+#[cfg(test)]
+mod lists;
 #[cfg(test)]
 mod replies;
 #[cfg(test)]

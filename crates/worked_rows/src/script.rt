@@ -4,6 +4,7 @@ ghost use Rattle.std.specs.Prelude.{◌≡◌};
 
 use crate::book::Row;
 use crate::calls::reply_to;
+use crate::lists::play_lists;
 use crate::sight::{WORKERS, sight};
 use read_set::{Plan, PlanName};
 use speculate::Board;
@@ -16,9 +17,9 @@ use version_store::{Place, VersionTable};
 
 /// A script: its lines, and with which attempt and at which clock its board begins.
 #[derive(Drop)]
-struct Script {
-    title: String,
-    lines: String,
+pub(crate) struct Script {
+    pub(crate) title: String,
+    pub(crate) lines: String,
     attempt: u32,
     clock: u64,
 }
@@ -66,7 +67,7 @@ fn is_call(line: &str) -> bool {
     line.contains(" = ")
 }
 
-/// Plays the calls of a script on a new board.
+/// Plays the calls of a script one after another, and then as lists in parts of so many: what is seen at the end is the same.
 fn play_calls<J: PlanName, R: Wait + AllocGlobal + Abort>(
     rt: &R,
     plan: &Plan,
@@ -74,20 +75,42 @@ fn play_calls<J: PlanName, R: Wait + AllocGlobal + Abort>(
 ) -> Result<(), Fail>
     requires { plan.now ≡ J.plan }
 {
+    let title = script.title.as_str();
+    let called = play::<J, R>(rt, plan, script, 0)?;
+    for size in [1, 3, usize::MAX] {
+        let listed = play::<J, R>(rt, plan, script, size)?;
+        assert_eq!(rt; listed.as_str(), called.as_str(), "{title}: {size}");
+    }
+    Ok(())
+}
+
+/// Plays a script on a new board, its calls one after another where the size is 0, else as lists in parts of this size.
+fn play<J: PlanName, R: Wait + AllocGlobal + Abort>(
+    rt: &R,
+    plan: &Plan,
+    script: &Script,
+    size: usize,
+) -> Result<String, Fail>
+    requires { plan.now ≡ J.plan }
+{
     let alloc = rt.alloc();
     let (attempt, clock) = (script.attempt, script.clock);
     let table = VersionTable::new(alloc)?;
     let mut board: Board<'_, '_, J> = Board::starting(alloc, plan, WORKERS, attempt, clock)?;
-    play_on(rt, &table, &mut board, script)
+    if size == 0 {
+        play_on(rt, &table, &mut board, script)
+    } else {
+        play_lists(rt, &table, &mut board, script, size)
+    }
 }
 
-/// Plays the calls of a script. What is refused must leave the board as it was, as far as it is seen.
+/// Plays the calls of a script. What is refused must leave the board as it was, as far as it is seen. What is seen at the end.
 fn play_on<'t, J: PlanName, R: Wait + AllocGlobal + Abort>(
     rt: &R,
     table: &'t VersionTable<J>,
     board: &mut Board<'_, 't, J>,
     script: &Script,
-) -> Result<(), Fail> {
+) -> Result<String, Fail> {
     let title = script.title.as_str();
     let mut kept: Option<Place<'t, J>> = None;
     for line in script.lines.as_str().split('\n') {
@@ -101,7 +124,7 @@ fn play_on<'t, J: PlanName, R: Wait + AllocGlobal + Abort>(
             }
         }
     }
-    Ok(())
+    sight(rt.alloc(), board)
 }
 
 /// Whether a call with this reply changes nothing. The reply to a `begin` stands behind its choice.

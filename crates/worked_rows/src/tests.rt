@@ -16,28 +16,29 @@ mod wants;
 
 use crate::book::Row;
 use crate::single::Single;
-use std::alloc::Global;
+use std::alloc::{AllocGlobal, Global};
 use std::process::Abort;
+use std::sync::Wait;
 use std::test::Fail;
 
 /// Runs each row of a book.
-fn run_book(rt: &impl Abort, alloc: Global, book: &str) -> Result<(), Fail> {
+fn run_book<R: Wait + AllocGlobal + Abort>(rt: &R, book: &str) -> Result<(), Fail> {
     for row in book.split('#') {
         let (title, lines) = row.split_once('\n').unwrap_or((row, ""));
         if !lines.is_empty() {
-            run_row(rt, alloc, title, lines)?;
+            run_row(rt, title, lines)?;
         }
     }
     Ok(())
 }
 
 /// Runs a row of a book.
-fn run_row(rt: &impl Abort, alloc: Global, title: &str, lines: &str) -> Result<(), Fail> {
-    let mut row = Row::new(alloc)?;
+fn run_row<R: Wait + AllocGlobal + Abort>(rt: &R, title: &str, lines: &str) -> Result<(), Fail> {
+    let mut row = Row::new(rt.alloc())?;
     for line in lines.split('\n') {
         assert!(rt; line.is_empty() || row.take(line)?, "{title}: {line}");
     }
-    row.run(rt, alloc, title)
+    row.run(rt, title)
 }
 
 /// Runs each row of a book of single lines. Each row: records, `asked` and a request, `wants` and the ids of the records for

@@ -38,8 +38,8 @@ const STRICT: [&str; 6] = [
 
 /// The tables of the records that tables tell.
 fn again(alloc: Global, texts: &[&str; 6]) -> Result<Tables, BaseError> {
-    let base = read(alloc, texts, None)?;
-    let records = Records::from_map(base.to_map()?);
+    let mut base = read(alloc, texts, None)?;
+    let records = Records::from_map(base.take(alloc));
     Ok(write_records(alloc, &records)?)
 }
 

@@ -88,5 +88,5 @@ after fees
 
 #[test]
 fn checkins(rt: HostRuntime) -> Result<(), Fail> {
-    run_book(&rt, rt.alloc(), BACK)
+    run_book(&rt, BACK)
 }

@@ -153,11 +153,11 @@ after fees
 
 #[test]
 fn own_loans(rt: HostRuntime) -> Result<(), Fail> {
-    run_book(&rt, rt.alloc(), OWN)
+    run_book(&rt, OWN)
 }
 
 #[test]
 fn checkouts(rt: HostRuntime) -> Result<(), Fail> {
-    run_book(&rt, rt.alloc(), MADE)?;
-    run_book(&rt, rt.alloc(), REFUSED)
+    run_book(&rt, MADE)?;
+    run_book(&rt, REFUSED)
 }

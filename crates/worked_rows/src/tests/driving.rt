@@ -1,62 +1,85 @@
-//! A journal driven through a board, line by line in its order.
+//! Journals driven through a board, line by line in their order.
 
-ghost use Rattle.std.specs.Prelude.{◌≡◌};
-
-use crate::book::plan_of;
-use read_set::{Plan, PlanName};
-use speculate::{Board, Choice, drive_in_order};
+use super::run_row;
+use crate::book::Row;
+use crate::driven::drive_journal;
 use std::alloc::AllocGlobal;
-use std::marker::Brand;
 use std::process::Abort;
 use std::sync::Wait;
 use std::test::Fail;
-use version_store::VersionTable;
 
-/// An item's properties, a checkout, a tape with its rental, an item brought late, a patron blocked and enabled again.
-const REQUESTS: [&str; 6] = [
-    "1920260302    101500AOL1|ABI1|ACx|CHtorn|",
-    "11NN20260302    101500                  AOL1|AAP1|ABI1|ACx|",
-    "11NN20260301    101500                  AOL1|AAP1|ABV1|BOY|",
-    "09N20260320    09000020260320    090000APx|AOL1|ABI1|ACx|",
-    "01N20260302    101500AOL1|ALlost|AAP1|ACx|",
-    "2520260302    101500AOL1|AAP1|",
-];
+/// An item's properties, a checkout, a tape with its rental, an item brought late, a patron blocked and enabled again. Behind
+/// each journal stand its answers, the counts and the clock, and for each record that a line and its attempt left the record
+/// at the end.
+const DAYS: &str = "
+# a day
+asked 1920260302    101500AOL1|ABI1|ACx|CHtorn|
+answer 20120260302    101500ABI1|AJOne|CHtorn|
+asked 11NN20260302    101500                  AOL1|AAP1|ABI1|ACx|
+answer 121NUY20260302    101500AOL1|AAP1|ABI1|AJOne|AH20260316    235900|CK001|CHtorn|
+asked 11NN20260301    101500                  AOL1|AAP1|ABV1|BOY|
+answer 121NUY20260301    101500AOL1|AAP1|ABV1|AJTwo|AH20260309    235900|BT06|BHUSD|BV1.00|CK005|
+asked 09N20260320    09000020260320    090000APx|AOL1|ABI1|ACx|
+answer 101YUN20260320    090000AOL1|ABI1|AQMain|AJOne|AAP1|CK001|CHtorn|
+asked 01N20260302    101500AOL1|ALlost|AAP1|ACx|
+answer 24YY Y          00020260302    101500AOL1|AAP1|AEAnn|BLY|BHUSD|BV2.00|
+asked 2520260302    101500AOL1|AAP1|
+answer 26              00020260302    101500AOL1|AAP1|AEAnn|BLY|
+= 6 0 0 6 0 at 11
+1.0 item I1: item, One, 001, Main, -, -
+2.0 patron P1: patron, Ann, A, N, V1, R3-0+R4-0
+2.0 item I1: item, One, 001, Main, -, -
+3.0 patron P1: patron, Ann, A, N, V1, R3-0+R4-0
+3.0 item V1: item, Two, 005, Main, P1 20260309 0, -
+3.0 fee R3-0: fee, P1, 06, 1.00, 0.00
+4.0 patron P1: patron, Ann, A, N, V1, R3-0+R4-0
+4.0 item I1: item, One, 001, Main, -, -
+4.0 fee R4-0: fee, P1, 04, 1.00, 0.00
+5.0 patron P1: patron, Ann, A, N, V1, R3-0+R4-0
+6.0 patron P1: patron, Ann, A, N, V1, R3-0+R4-0
+# a tape and an item brought late, at the greatest numbers of lines, and a line without an answer
+base loans P1,I1,20260316,0
+first 9999999997
+asked 11NN20260301    101500                  AOL1|AAP1|ABV1|BOY|
+answer 121NUY20260301    101500AOL1|AAP1|ABV1|AJTwo|AH20260309    235900|BT06|BHUSD|BV1.00|CK005|
+asked 88
+passed unknown_kind
+asked 09N20260320    09000020260320    090000APx|AOL1|ABI1|ACx|
+answer 101YUN20260320    090000AOL1|ABI1|AQMain|AJOne|AAP1|CK001|
+= 3 0 0 3 0 at 6
+9999999997.0 patron P1: patron, Ann, A, N, V1, R9999999997-0+R9999999999-0
+9999999997.0 item V1: item, Two, 005, Main, P1 20260309 0, -
+9999999997.0 fee R9999999997-0: fee, P1, 06, 1.00, 0.00
+9999999999.0 patron P1: patron, Ann, A, N, V1, R9999999997-0+R9999999999-0
+9999999999.0 item I1: item, One, 001, Main, -, -
+9999999999.0 fee R9999999999-0: fee, P1, 04, 1.00, 0.00
+# no line
+= 0 0 0 0 0 at 0
+";
 
-/// Drives a plan on a new board: each line is taken and committed once, no check fails and none stops, and the clock counts
-/// the entries.
-fn drive<J: PlanName, R: Wait + AllocGlobal + Abort>(
-    rt: &R,
-    plan: &Plan,
-    entries: u64,
-) -> Result<(), Fail>
-    requires { plan.now ≡ J.plan }
-{
+/// Runs a row, drives its journal, and compares what came out.
+fn drive_row<R: Wait + AllocGlobal + Abort>(rt: &R, row: &str) -> Result<(), Fail> {
     let alloc = rt.alloc();
-    let table = VersionTable::new(alloc)?;
-    let mut board: Board<'_, '_, J> = Board::new(alloc, plan, 1)?;
-    assert!(rt; drive_in_order(rt, alloc, &table, &mut board).is_ok());
-    let counts = board.counts();
-    let lines = plan.readings().len() as u64;
-    assert!(rt; counts.takes == lines && counts.commits == lines);
-    assert!(rt; counts.failed == 0 && counts.stops == 0 && counts.live == 0);
-    assert!(rt; board.choose() == Choice::End);
-    assert_eq!(rt; board.clock(), entries);
-    Ok(())
-}
-
-/// Drives the requests as the lines from a number on.
-fn drive_from<R: Wait + AllocGlobal + Abort>(rt: &R, first: u64, entries: u64) -> Result<(), Fail> {
-    let alloc = rt.alloc();
-    let mut journal = String::from_str(alloc, "line,connection,request,response\n")?;
-    for (line, request) in (first..).zip(REQUESTS) {
-        writeln!(journal, "{line},C1,{request},")?;
+    let (lines, wanted) = row.split_once("\n= ").unwrap_or((row, ""));
+    let (title, lines) = lines.split_once('\n').unwrap_or((lines, ""));
+    run_row(rt, title, lines)?;
+    let mut row = Row::new(alloc)?;
+    for line in lines.split('\n') {
+        assert!(rt; line.is_empty() || row.take(line)?, "{title}: {line}");
     }
-    let plan = plan_of(alloc, journal.as_bytes())?.expect(rt, "a plan");
-    drive::<Brand, R>(rt, &plan, entries)
+    let driven = drive_journal(rt, &row.inputs()?)?;
+    let (counts, left) = (driven.counts.as_str(), driven.left.as_str());
+    let told = format!(in alloc; "{counts}\n{left}")?;
+    assert_eq!(rt; told.as_str(), wanted, "{title}");
+    Ok(())
 }
 
 #[test]
 fn drives_in_order(rt: HostRuntime) -> Result<(), Fail> {
-    drive_from(&rt, 1, 11)?;
-    drive_from(&rt, 9_999_999_990, 11)
+    for row in DAYS.split('#') {
+        if row.contains('=') {
+            drive_row(&rt, row)?;
+        }
+    }
+    Ok(())
 }

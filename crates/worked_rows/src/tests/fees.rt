@@ -58,5 +58,5 @@ after closed F1,P1,01,1.00
 
 #[test]
 fn fees_are_paid(rt: HostRuntime) -> Result<(), Fail> {
-    run_book(&rt, rt.alloc(), PAID)
+    run_book(&rt, PAID)
 }

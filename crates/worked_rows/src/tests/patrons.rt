@@ -62,6 +62,6 @@ answer 20120260302    101500ABI1|AJOne|CHtorn|AY3AZF463
 
 #[test]
 fn patrons_and_items(rt: HostRuntime) -> Result<(), Fail> {
-    run_book(&rt, rt.alloc(), STATUS)?;
-    run_book(&rt, rt.alloc(), ITEMS)
+    run_book(&rt, STATUS)?;
+    run_book(&rt, ITEMS)
 }

@@ -54,5 +54,5 @@ differs unreadable
 
 #[test]
 fn recorded_responses(rt: HostRuntime) -> Result<(), Fail> {
-    run_book(&rt, rt.alloc(), RESPONSES)
+    run_book(&rt, RESPONSES)
 }

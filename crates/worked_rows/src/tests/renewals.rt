@@ -143,6 +143,6 @@ after loans P1,I1,20260323,1
 
 #[test]
 fn renewals(rt: HostRuntime) -> Result<(), Fail> {
-    run_book(&rt, rt.alloc(), ONE)?;
-    run_book(&rt, rt.alloc(), ALL)
+    run_book(&rt, ONE)?;
+    run_book(&rt, ALL)
 }

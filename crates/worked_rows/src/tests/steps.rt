@@ -2,8 +2,10 @@
 
 mod checked;
 mod choices;
+mod lists;
 mod refused;
 mod rows;
+mod spared;
 mod turns;
 
 use crate::script::run_script;

@@ -51,5 +51,5 @@ after holds V1,P2,
 
 #[test]
 fn tables(rt: HostRuntime) -> Result<(), Fail> {
-    run_book(&rt, rt.alloc(), BROKEN)
+    run_book(&rt, BROKEN)
 }

@@ -35,5 +35,5 @@ answer 96AZFEF6
 
 #[test]
 fn lines_without_an_answer(rt: HostRuntime) -> Result<(), Fail> {
-    run_book(&rt, rt.alloc(), PASSED)
+    run_book(&rt, PASSED)
 }

@@ -119,6 +119,59 @@ item I1: item, One, 001, Main, -, -
 asked 11NN20260302    101500                  AOL1|AAX9|ABI1|
 wants X9 I1
 answer 120NUN20260302    101500AOL1|AAX9|ABI1|AJOne|AH|CK001|
+# a checkout asks for nothing that the patron has
+patron P1: patron, Ann, A, N, V1, -
+item I1: item, One, 001, Main, -, -
+item V1: item, Two, 005, Main, P1 20260309 0, -
+asked 11NN20260302    101500                  AOL1|AAP1|ABI1|
+wants P1 I1
+answer 121NUY20260302    101500AOL1|AAP1|ABI1|AJOne|AH20260316    235900|CK001|
+writes patron P1: patron, Ann, A, N, V1+I1, -
+writes item I1: item, One, 001, Main, P1 20260316 0, -
+# nor a renewal for what else the patron has
+patron P1: patron, Ann, A, N, V1+I1, -
+item I1: item, One, 001, Main, P1 20260316 0, -
+item V1: item, Two, 005, Main, P1 20260309 0, -
+asked 29NN20260316    100000                  AOL1|AAP1|ABI1|
+wants P1 I1
+answer 301YUY20260316    100000AOL1|AAP1|ABI1|AJOne|AH20260330    235900|CK001|
+writes item I1: item, One, 001, Main, P1 20260330 1, -
+# nor a checkin for what else the borrower has and owes
+patron P1: patron, Ann, A, N, V1+I1, F1
+item I1: item, One, 001, Main, P1 20260316 0, -
+asked 09N20260302    11000020260302    110000AOL1|ABI1|
+wants I1 P1
+answer 101YUN20260302    110000AOL1|ABI1|AQMain|AJOne|AAP1|CK001|
+writes patron P1: patron, Ann, A, N, V1, F1
+writes item I1: item, One, 001, Main, -, -
+# nor a hold for what the patron has and owes
+patron P1: patron, Ann, A, N, V1, F1
+item I1: item, One, 001, Main, P2 20260316 0, -
+asked 15+20260302    101500AOL1|AAP1|ABI1|BSMain|
+wants P1 I1
+answer 161N20260302    101500BR1|BSMain|AOL1|AAP1|ABI1|AJOne|
+writes item I1: item, One, 001, Main, P2 20260316 0, P1 Main
+# a block asks for what is owed, and for no item
+patron P1: patron, Ann, A, N, V1, F1
+fee F1: fee, P1, 01, 1.00, 0.00
+asked 01N20260302    101500AOL1|AL|AAP1|
+wants P1 F1
+answer 24YY Y          00020260302    101500AOL1|AAP1|AEAnn|BLY|BHUSD|BV1.00|
+writes patron P1: patron, Ann, A, Y, V1, F1
+# and so does its end
+patron P1: patron, Ann, A, Y, V1, F1
+fee F1: fee, P1, 01, 1.00, 0.00
+asked 2520260302    101500AOL1|AAP1|
+wants P1 F1
+answer 26              00020260302    101500AOL1|AAP1|AEAnn|BLY|
+writes patron P1: patron, Ann, A, N, V1, F1
+# a payment asks for no item
+patron P1: patron, Ann, A, N, I1, F1
+fee F1: fee, P1, 01, 1.00, 0.00
+asked 3720260302    1200000100USDBV0.5|AOL1|AAP1|
+wants P1 F1
+answer 38Y20260302    120000AOL1|AAP1|
+writes fee F1: fee, P1, 01, 1.00, 0.50
 # all fees of a list, in its order
 patron P1: patron, Ann, A, N, -, F3+F1+F4+F2
 item I1: item, One, 001, Main, -, -

@@ -1,23 +1,16 @@
-use Rattle.std.proofs.Common.{◌≡◌, ◌∙◌, ◌+◌, ◌++◌, ◌∷◌, [], ap, sym, subst, length, arith}
-use Rattle.std.proofs.lemmas.Grind.{common_steps}
-use Rattle.read_set.specs.Replay.{after}
-use Rattle.replay_run.proofs.Replayed.{Replayed, replayed-next}
-use Rattle.replay_run.specs.Live.{standing}
+use Rattle.std.proofs.Common.{◌≡◌, ◌∙◌, IfOk, ap, refl, subst}
+use Rattle.read_set.specs.Plans.{Planned, over}
+use Rattle.read_set.specs.Replay.{last}
+use Rattle.replay_run.specs.Answers.{answers_of}
+use Rattle.replay_run.specs.Entries.{AreEntries}
 use Rattle.replay_run.proofs.replay.replay.Goals as goal
 
-pub loop-i-preserved : goal.loop-i-preserved
-loop-i-preserved c =
-    let so = c.loop-i.invariant in
-    let before = after c.args.plan.now c.loop-i.i in
-    let line = ap (λ first. first + c.loop-i.i) c.first-first.ensures in
-    subst (λ answers. Replayed c.args.plan.now (c.loop-i.i + 1) (standing c.take_line.new.live) answers) (sym c.in_ok-push.ensures.items)
-    (replayed-next c.args.plan.now c.loop-i.i _ (standing c.loop-i.live) (standing c.take_line.new.live) c.loop-i.answers.items c.in_ok-take_line.field-0 line so
-    (c.in_ok-take_line.ensures.answer before so.records) (c.in_ok-take_line.ensures.records before so.records))
+pub returns-clause-answers : goal.returns-clause-answers
+returns-clause-answers c =
+    let same : over c.take_base-base.new.self c.take_base-base.result.entries ≡ c.args.plan.now = rw (c.take_base-base.ensures.left, c.take_base-base.ensures.records) refl in
+    subst (λ (p : Planned). IfOk c.replay_over.result (λ o. o.answers.items ≡ answers_of p)) same c.replay_over.ensures.answers
 
 pub returns-clause-records : goal.returns-clause-records
 returns-clause-records c =
-    let all : c.loop-i.i ≡ length c.args.plan.now.readings = grind (arith, common_steps) in
-    record {
-      rising = c.into_records.ensures.rising;
-      same = λ k. c.into_records.ensures.same k ∙ c.loop-i.invariant.records k ∙ ap (λ n. after c.args.plan.now n k) all;
-    }
+    let same : over c.take_base-base.new.self c.take_base-base.result.entries ≡ c.args.plan.now = rw (c.take_base-base.ensures.left, c.take_base-base.ensures.records) refl in
+    subst (λ (p : Planned). IfOk c.replay_over.result (λ o. AreEntries (last p) o.records)) same c.replay_over.ensures.records

@@ -1,7 +1,11 @@
-use Rattle.std.proofs.Common.{IfOk, subst}
-use Rattle.replay_run.specs.OneThread.{IsOutputBy}
+use Rattle.std.proofs.Common.{◌∙◌, ap, map}
+use Rattle.std.specs.Option.{is_some}
+use Rattle.result_report.specs.Report.{is_answered}
+use Rattle.replay_run.proofs.Answered.{answered}
 use Rattle.replay_run.proofs.run.output.Goals as goal
 
-pub returns : goal.returns
-returns c =
-    subst (λ attempts. IfOk c.output_of.result (IsOutputBy c.args.plan.now c.args.journal.now attempts)) c.in_ok-records.ensures.attempts c.output_of.ensures
+pub write_outcome-requires-clause-answered : goal.write_outcome-requires-clause-answered
+write_outcome-requires-clause-answered c =
+    ap (map is_some) (c.in_ok-lend.ensures ∙ c.as_slice.ensures.value ∙ c.in_ok-records.ensures.answers)
+    ∙ answered c.args.plan
+    ∙ ap (map is_answered) c.requires

@@ -2,8 +2,8 @@ use Rattle.std.proofs.Common.{subst}
 use Rattle.read_set.specs.Settling.{Told}
 use Rattle.board_steps.specs.Board.{Board}
 use Rattle.board_steps.specs.Steps.Call.{Publish}
-use Rattle.speculate.specs.Notes.{told_at}
-use Rattle.speculate.specs.Replies.{Answers}
+use Rattle.board_lines.specs.Notes.{told_at}
+use Rattle.board_lines.specs.Replies.{Answers}
 use Rattle.speculate.proofs.Phases.{last_act}
 use Rattle.speculate.proofs.driving.act.Goals as goal
 

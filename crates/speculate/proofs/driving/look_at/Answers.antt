@@ -3,7 +3,7 @@ use Rattle.circ_records.specs.declared.record.Record.{Record}
 use Rattle.read_set.specs.Plans.{Planned}
 use Rattle.read_set.specs.declared.notes.Note.{Note}
 use Rattle.board_steps.specs.Steps.Call.{Look}
-use Rattle.speculate.specs.Notes.{found_by, told_at}
+use Rattle.board_lines.specs.Notes.{found_by, told_at}
 use Rattle.speculate.specs.Phases.{Reads}
 use Rattle.speculate.proofs.Drives.{led, look_only, look_seen}
 use Rattle.speculate.proofs.driving.look_at.Goals as goal

@@ -1,6 +1,6 @@
 use Rattle.std.proofs.Common.{arith}
 use Rattle.board_steps.specs.Steps.Call.{Publish}
-use Rattle.speculate.specs.Notes.{told_at}
+use Rattle.board_lines.specs.Notes.{told_at}
 use Rattle.speculate.proofs.Drives.{led, publish_other, runs_on, spent_stops}
 use Rattle.speculate.proofs.Phases.{lifted_goes, placed_goes, whole_goes}
 use Rattle.speculate.proofs.driving.publish_line.Goals as goal

@@ -1,6 +1,6 @@
 use Rattle.std.proofs.Common.{◌-◌, ◌^◌}
 use Rattle.speculate.specs.Driving.{RunsTo}
-use Rattle.speculate.specs.Notes.{told_at}
+use Rattle.board_lines.specs.Notes.{told_at}
 use Rattle.speculate.specs.Phases.{Appears}
 use Rattle.speculate.proofs.driving.publish_line.Given as goal
 

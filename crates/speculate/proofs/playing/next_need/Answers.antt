@@ -1,6 +1,6 @@
 use Rattle.std.proofs.Common.{◌≡◌, ap, sym, ◌∙◌}
 use Rattle.read_set.specs.Plans.{Planned}
-use Rattle.speculate.specs.Notes.{notes_by}
+use Rattle.board_lines.specs.Notes.{notes_by}
 use Rattle.speculate.proofs.Plays.{in_hand, next_is}
 use Rattle.speculate.proofs.playing.next_need.Goals as goal
 

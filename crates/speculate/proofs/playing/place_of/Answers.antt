@@ -1,4 +1,4 @@
-use Rattle.speculate.specs.Notes.{told_at}
+use Rattle.board_lines.specs.Notes.{told_at}
 use Rattle.speculate.proofs.Plays.{new_to_publish, none_to_publish}
 use Rattle.speculate.proofs.playing.place_of.Goals as goal
 

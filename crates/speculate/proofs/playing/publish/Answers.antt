@@ -2,8 +2,8 @@ use Rattle.std.proofs.Common.{None, Some, sym, subst, inl}
 use Rattle.std.specs.Prelude.{OnOk}
 use Rattle.board_steps.specs.Board.{Board}
 use Rattle.board_steps.specs.Steps.Call.{Publish}
-use Rattle.speculate.specs.Acts.{IsPlacing}
-use Rattle.speculate.specs.Courses.{PublishesMore}
+use Rattle.board_lines.specs.Acts.{IsPlacing}
+use Rattle.board_lines.specs.Courses.{PublishesMore}
 use Rattle.speculate.specs.Playing.{Goes}
 use Rattle.speculate.specs.declared.steps.Step.TheVariants as steps
 use Rattle.speculate.proofs.Plays.{call_judged, ends, publish_ends}

@@ -1,7 +1,7 @@
-use Rattle.std.proofs.Common.{ap, option_map, subst, ◌∙◌}
+use Rattle.std.proofs.Common.{option_map, subst}
 use Rattle.board_steps.specs.Steps.Call.{Publish}
 use Rattle.speculate.specs.Needed.{IsToPublish}
-use Rattle.speculate.specs.Notes.{told_at}
+use Rattle.board_lines.specs.Notes.{told_at}
 use Rattle.speculate.specs.declared.steps.Step.TheVariants as steps
 use Rattle.speculate.proofs.Plays.{call_judged, ends, publish_ends, publish_idle}
 use Rattle.speculate.proofs.playing.publish_at.Goals as goal

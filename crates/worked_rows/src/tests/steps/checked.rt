@@ -3,7 +3,7 @@
 use super::run_scripts;
 use std::test::Fail;
 
-const CHANGES: &str = "
+pub(super) const CHANGES: &str = "
 # a line below changes while a line is being checked: its check doesn't count
 asked 2520260302    100000AOL1|AAP1|
 asked 2520260302    100000AOL1|AAP2|

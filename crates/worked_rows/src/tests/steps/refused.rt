@@ -3,7 +3,7 @@
 use super::run_scripts;
 use std::test::Fail;
 
-const STRANGE: &str = "
+pub(super) const STRANGE: &str = "
 # steps that are nobody's
 asked 1920260302    101500AOL1|ABI1|ACx|CHtorn|
 take 64 1 = idle

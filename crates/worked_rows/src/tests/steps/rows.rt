@@ -3,7 +3,7 @@
 use super::run_scripts;
 use std::test::Fail;
 
-const STALE: &str = "
+pub(super) const STALE: &str = "
 # a version that stood on the base is found changed, and so is what stood on it
 asked 2520260302    100000AOL1|AAP1|
 asked 11NN20260302    101500                  AOL1|AAP1|ABI1|ACx|
@@ -106,7 +106,7 @@ counts = 4 2 0 2 0
 committed = 2
 ";
 
-const IN_PART: &str = "
+pub(super) const IN_PART: &str = "
 # a line sees what another has placed in part, and is sent back when the rest comes
 asked 11NN20260302    101500                  AOL1|AAP1|ABI1|ACx|
 asked 9900302.00AY1AZFCA5
@@ -148,7 +148,7 @@ choose = end
 counts = 4 1 0 3 0
 ";
 
-const SUSPECT: &str = "
+pub(super) const SUSPECT: &str = "
 # a suspect entry stops a look, and what an attempt leaves is lifted by the next
 base loans P1,I1,20260316,0
 asked 29NN20260316    100000                  AOL1|AAP1|ABI1|
@@ -300,7 +300,7 @@ commit 3 = committed
 counts = 6 2 1 3 0
 ";
 
-const EARLY: &str = "
+pub(super) const EARLY: &str = "
 # a checkin that ran before a line changed the item's properties tells them the second time
 base loans P1,I1,20260316,0
 asked 1920260302    101500AOL1|ABI1|ACx|CHtorn|

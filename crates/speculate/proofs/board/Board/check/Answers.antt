@@ -1,4 +1,4 @@
-use Rattle.std.proofs.Common.{◌≡◌, ◌≢◌, Bool, true, false, not, ◌||◌, eqb, ap, sym, subst, ◌∙◌}
+use Rattle.std.proofs.Common.{Bool, not, ◌||◌, eqb, ap, sym, subst, ◌∙◌}
 use Rattle.speculate.specs.declared.ready.Mark.TheVariants as marks
 use Rattle.speculate.specs.Marks.{Puts, SendsBack, ended, has_place}
 use Rattle.speculate.proofs.Readying.{place_is, puts_at}

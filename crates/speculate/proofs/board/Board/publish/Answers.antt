@@ -2,7 +2,7 @@ use Rattle.std.proofs.Common.{subst}
 use Rattle.board_steps.specs.Board.{Board}
 use Rattle.board_steps.specs.Steps.{PublishStep}
 use Rattle.board_steps.specs.Steps.Reply.{Placed, Lifted}
-use Rattle.speculate.specs.Notes.{told_at}
+use Rattle.board_lines.specs.Notes.{told_at}
 use Rattle.speculate.specs.declared.ready.Mark.TheVariants as marks
 use Rattle.speculate.proofs.Readying.{puts_at, loses_at}
 use Rattle.speculate.proofs.Calling.{placed_ready, lifted_ready, published_ready}

@@ -3,13 +3,13 @@ use Rattle.board_steps.specs.Board.{Board, holder}
 use Rattle.board_steps.specs.Steps.{PublishStep}
 use Rattle.board_steps.specs.Steps.Call.{Publish}
 use Rattle.board_steps.specs.Steps.Reply.{Placed, Lifted, Whole}
-use Rattle.speculate.specs.Acts.{IsPlacing}
-use Rattle.speculate.specs.Courses.{PublishesMore}
-use Rattle.speculate.specs.Hands.{HasNoLine}
+use Rattle.board_lines.specs.Acts.{IsPlacing}
+use Rattle.board_lines.specs.Courses.{PublishesMore}
+use Rattle.board_lines.specs.Hands.{HasNoLine}
 use Rattle.speculate.specs.Marks.{IsReady}
-use Rattle.speculate.specs.Replies.{Answers}
+use Rattle.board_lines.specs.Replies.{Answers}
 use Rattle.speculate.specs.declared.ready.Mark.TheVariants as marks
-use Rattle.speculate.specs.declared.reply.Reply.TheVariants as replies
+use Rattle.board_lines.specs.declared.reply.Reply.TheVariants as replies
 use Rattle.speculate.proofs.Readying.{is_place, puts_at, loses_at}
 use Rattle.speculate.proofs.Calling.{hand_line, placed_ready, lifted_ready, published_ready}
 use Rattle.speculate.proofs.board.Board.publish_more.Goals as goal

@@ -1,0 +1,90 @@
+-- What a board lends of a committed line, and the record that is seen past the last.
+use Rattle.std.proofs.Common.{◌≡◌, ℕ, ◌-◌, List, Option, Some, None, length, get_or, refl, sym, ap, subst, ◌∙◌, inl, inr, arith, false}
+use Rattle.std.specs.Option.{option_and_then}
+use Rattle.std.specs.Prelude.{option_map}
+use Rattle.std.proofs.lemmas.Bool.{cases_lt}
+use Rattle.std.proofs.lemmas.List.{get_or_past}
+use Rattle.std.proofs.lemmas.Option.{slice_get-get_or}
+use Rattle.circ_records.specs.Records.{Entries, record_at}
+use Rattle.circ_records.specs.declared.key.Key.{Key}
+use Rattle.read_set.specs.Plans.{Planned}
+use Rattle.read_set.specs.Settling.{Told}
+use Rattle.read_set.specs.declared.notes.Note.{Note}
+use Rattle.attempts.specs.Moves.{no_row}
+use Rattle.attempts.specs.States.{is_waiting, newest_at, newest_of, state_at}
+use Rattle.attempts.specs.declared.state.LineState.{LineState}
+use Rattle.attempts.specs.declared.state.LineState.TheVariants as states
+use Rattle.version_store.specs.Entries as store
+use Rattle.version_store.specs.Entries.{Shown, told_seen}
+use Rattle.board_steps.specs.Board.{Board, IsCommitted, IsLine, Row, blank, record_of, row_at, value_at}
+use Rattle.board_steps.proofs.Lines.{row_before, row_from, within_board}
+use Rattle.board_lines.specs.Lendings.{committed_answer}
+use Rattle.board_lines.specs.Notes.{found_by}
+use Rattle.board_lines.specs.Parts.{IsKept, Parts, answer_by, board_of, no_notes, row_by, state_of}
+use Rattle.board_lines.proofs.Boards.{place_of}
+use Rattle.board_lines.proofs.Commits.{state_there}
+use Rattle.board_lines.proofs.Firsts.{length_first}
+use Rattle.board_lines.proofs.Moves.{state_none}
+use Rattle.board_lines.proofs.Rows.{newest_from, newest_if, state_shown}
+use Rattle.board_lines.proofs.Sights.{entry_seen}
+
+uncommitted : (s : LineState) (notes : List Note) (told : Option Told) → (s ≡ states.Committed → ⊥) → committed_answer (state_of s notes told) ≡ None
+uncommitted states.Waiting notes told h = refl
+uncommitted (states.Running w) notes told h = refl
+uncommitted (states.Placing w) notes told h = refl
+uncommitted (states.Done t) notes told h = refl
+uncommitted (states.Checking w t i) notes told h = refl
+uncommitted states.Committed notes told h = absurd (h refl)
+
+committed_waits : (s : LineState) (notes : List Note) (told : Option Told) → IsCommitted (state_of s notes told) → is_waiting s ≡ false
+committed_waits states.Waiting notes told h = absurd h
+committed_waits (states.Running w) notes told h = refl
+committed_waits (states.Placing w) notes told h = refl
+committed_waits (states.Done t) notes told h = refl
+committed_waits (states.Checking w t i) notes told h = refl
+committed_waits states.Committed notes told h = refl
+
+-- a committed line is there
+pub committed_there : (b : Board) (n : ℕ) → IsCommitted (row_at b n).state → IsLine b n
+committed_there b n h = within_board b n (λ d. subst IsCommitted d h)
+
+-- the record of the visible entry, by its version
+told_record : (base : Entries) (k : Key) (v : Option (ℕ × Shown)) → found_by base k (option_map (λ (p : ℕ × Shown). p.1.told) v) ≡ record_of k v (record_at base k)
+told_record base k None = refl
+told_record base k (Some p) = refl
+
+module _ (plan : Planned) (a : Parts) (kept : IsKept plan a) where
+  -- the answer of a line, by its state in the table: one that isn't there has none
+  pub answer_none : (n : ℕ) → state_at a.states n ≡ None → committed_answer (row_at (board_of plan.base a) n).state ≡ None
+  answer_none n none = elim (cases_lt n a.states.first) [
+    | inl before ↦ ap (λ (r : Row). committed_answer r.state) (row_before (board_of plan.base a) n before)
+    | inr from ↦ elim (cases_lt (n - a.states.first) (length a.rows)) [
+      | inl within ↦ absurd (state_none a.states n none from (omega (arith, within, kept.all_states)))
+      | inr past ↦ ap (λ (r : Row). committed_answer r.state)
+          (row_from (board_of plan.base a) n from
+          ∙ get_or_past (board_of plan.base a).rows (n - a.states.first) blank (omega (arith, past, length_first (row_by plan.base a) (length a.rows))))
+    ]
+  ]
+
+  pub answer_other : (n : ℕ) (s : LineState) → state_at a.states n ≡ Some s → (s ≡ states.Committed → ⊥) → committed_answer (row_at (board_of plan.base a) n).state ≡ None
+  answer_other n s is h = ap committed_answer (state_there plan a kept n s is) ∙ uncommitted s _ _ h
+
+  pub answer_there : (n : ℕ) → state_at a.states n ≡ Some states.Committed → committed_answer (row_at (board_of plan.base a) n).state ≡ answer_by (get_or a.rows (n - a.states.first) no_notes).told
+  answer_there n is = ap committed_answer (state_there plan a kept n states.Committed is)
+
+  -- a committed line has an attempt
+  pub newest_committed : (n : ℕ) → IsCommitted (row_at (board_of plan.base a) n).state → newest_at a.states n ≡ None → ⊥
+  newest_committed n committed h =
+      let there : IsLine (board_of plan.base a) n = committed_there (board_of plan.base a) n committed in
+      let within = place_of plan.base a n there in
+      newest_if (is_waiting (get_or a.states.rows (n - a.states.first) no_row).state) _
+      (committed_waits (get_or a.states.rows (n - a.states.first) no_row).state _ _ (subst IsCommitted (state_shown plan a kept n there) committed))
+      (ap (option_and_then newest_of) (sym (slice_get-get_or a.states.rows (n - a.states.first) no_row (omega (arith, within, kept.all_states))))
+      ∙ sym (newest_from a.states n there.0) ∙ h)
+
+  -- the record that line n sees, by the version that the store shows it
+  pub value_shown : (n : ℕ) (k : Key) (o : Option Told) → o ≡ told_seen (store.line_at a.store) n k → found_by plan.base k o ≡ value_at plan (row_at (board_of plan.base a)) n k
+  value_shown n k o is =
+      ap (found_by plan.base k) is
+      ∙ told_record plan.base k (store.visible (store.line_at a.store) n k)
+      ∙ sym (ap (λ (v : Option (ℕ × Shown)). record_of k v (record_at plan.base k)) (entry_seen plan a kept n k))

@@ -1,0 +1,17 @@
+pub mod Alike
+pub mod Boards
+pub mod Checks
+pub mod Commits
+pub mod Firsts
+pub mod Hands
+pub mod Lendings
+pub mod Looks
+pub mod Moves
+pub mod Noting
+pub mod Openings
+pub mod Publications
+pub mod Rows
+pub mod Searches
+pub mod Sights
+pub mod Takes
+pub mod Writes

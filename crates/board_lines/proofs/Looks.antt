@@ -1,0 +1,209 @@
+-- A worker's line looks at a key.
+use Rattle.std.proofs.Common.{◌≡◌, ℕ, ◌-◌, ◌<◌, Bool, true, false, List, [], ◌∷◌, ◌++◌, Option, Some, None, length, set, get_or, slice_get, refl, sym, ap, ap₂, subst, ◌∙◌, inl, inr, length-set}
+use Rattle.std.specs.Prelude.{option_map}
+use Rattle.std.proofs.lemmas.List.{set-get_or}
+use Rattle.std.proofs.lemmas.Option.{same_Some, slice_get_within}
+use Rattle.circ_records.specs.declared.key.Key.{Key}
+use Rattle.read_set.specs.Plans.{Planned}
+use Rattle.read_set.specs.Settling.{Told}
+use Rattle.read_set.specs.declared.notes.Note.{Note}
+use Rattle.attempts.specs.Moves.{no_row}
+use Rattle.attempts.specs.Moves as moves
+use Rattle.attempts.specs.States.{States, state_at}
+use Rattle.attempts.specs.declared.state.LineState.{LineState}
+use Rattle.attempts.specs.declared.state.LineState.TheVariants as states
+use Rattle.attempts.specs.declared.table.Row as attempt
+use Rattle.version_store.specs.Entries as store
+use Rattle.version_store.specs.declared.entry.Found.TheVariants.{Named}
+use Rattle.board_steps.specs.Board.{Row, Board, IsLine, IsCommitted, row_at, holder, value_at, found}
+use Rattle.board_steps.specs.Board.State.{Waiting, Running, Placing}
+use Rattle.board_steps.specs.Steps.{MayLook, LookStep, put_row, with_state}
+use Rattle.board_steps.specs.Steps as steps
+use Rattle.board_steps.specs.Steps.Reply.{Seen, Stopped}
+use Rattle.board_steps.proofs.Calls.{stopped_reached}
+use Rattle.board_steps.proofs.Steps.{look_step}
+use Rattle.board_steps.specs.Reached.{Reached}
+use Rattle.board_lines.specs.Hands.{HasNoLine}
+use Rattle.board_lines.specs.Notes.{found_by, is_noted, notes_by, note_with, told_at}
+use Rattle.board_lines.specs.Parts.{Kept, Parts, no_notes, row_with, row_by, state_of, board_of, HandsHold, IsKept}
+use Rattle.board_lines.specs.Sights.{IsLooking}
+use Rattle.board_lines.specs.declared.notes.PlacedName.{PlacedName}
+use Rattle.board_lines.proofs.Boards.{Puts, place_of, row_there, board_is, row_new, row_old, kept_put}
+use Rattle.board_lines.proofs.Commits.{state_there}
+use Rattle.board_lines.proofs.Hands.{hand_put, hand_same}
+use Rattle.board_lines.proofs.Moves.{puts_of, board_eq}
+use Rattle.board_lines.proofs.Rows.{held_there, state_shown, state_stands}
+use Rattle.board_lines.proofs.Sights.{noted_some, unnoted_each, notes_push, note_is}
+
+running_state : (s : LineState) (notes notes' : List Note) (told : Option Told) (w : ℕ) → state_of s notes told ≡ Running w notes' → (s ≡ states.Running w) × (notes ≡ notes')
+running_state states.Waiting notes notes' told w h = absurd (cc)
+running_state (states.Running v) notes notes' told w h = (let e : v ≡ w = cc in ap states.Running e, cc)
+running_state (states.Placing v) notes notes' told w h = absurd (cc)
+running_state (states.Done t) notes notes' told w h = absurd (cc)
+running_state (states.Checking v t i) notes notes' told w h = absurd (cc)
+running_state states.Committed notes notes' told w h = absurd (cc)
+
+pub no_look : (b : Board) (w : ℕ) (k : Key) → HasNoLine b w → IsLooking b w k None
+no_look b w k none n notes may = none n (ap holder may.running)
+
+module _ (plan : Planned) (a : Parts) (kept : IsKept plan a) (w n : ℕ) (held : holder (row_at (board_of plan.base a) n).state ≡ Some w) where
+  pub held_line : IsLine (board_of plan.base a) n
+  held_line = held_there (board_of plan.base a) n w held
+
+  -- another line isn't in the worker's hand
+  only : (m : ℕ) (notes : List Note) → (row_at (board_of plan.base a) m).state ≡ Running w notes → (row_at (board_of plan.base a) n).state ≡ Running w notes
+  only m notes run = subst (λ x. (row_at (board_of plan.base a) x).state ≡ Running w notes) (kept.reached.hands m n w (ap holder run) held) run
+
+  pub not_running : (s : LineState) → state_at a.states n ≡ Some s → ((v : ℕ) → s ≡ states.Running v → ⊥) → (k : Key) → IsLooking (board_of plan.base a) w k None
+  not_running s is not k m notes may =
+      not w (running_state s _ notes _ w (sym (state_there plan a kept n s is) ∙ only m notes may.running)).0
+
+  pub is_noted_there : (k : Key) → is_noted (get_or a.rows (n - a.states.first) no_notes).notes k ≡ true → IsLooking (board_of plan.base a) w k None
+  is_noted_there k h m notes may =
+      let here = kept.reached.hands m n w (ap holder may.running) held in
+      let same = (running_state _ _ notes _ w (sym (state_shown plan a kept n held_line) ∙ only m notes may.running)).1 in
+      noted_some plan.base (get_or a.rows (n - a.states.first) no_notes).notes k h (λ j x e. may.unnoted j x (ap (λ (y : List Note). slice_get y j) (sym same) ∙ e))
+
+  pub may_look : (k : Key) (v : ℕ) → state_at a.states n ≡ Some (states.Running v) → is_noted (get_or a.rows (n - a.states.first) no_notes).notes k ≡ false
+      → MayLook (board_of plan.base a) w k n (notes_by plan.base (get_or a.rows (n - a.states.first) no_notes).notes)
+  may_look k v is h =
+      let run : (row_at (board_of plan.base a) n).state ≡ Running v (notes_by plan.base (get_or a.rows (n - a.states.first) no_notes).notes) = state_there plan a kept n (states.Running v) is in
+      let e : v ≡ w = same_Some v w (sym (ap holder run) ∙ held) in
+      record {
+        running = run ∙ ap (λ x. Running x (notes_by plan.base (get_or a.rows (n - a.states.first) no_notes).notes)) e;
+        unnoted = unnoted_each plan.base (get_or a.rows (n - a.states.first) no_notes).notes k h;
+      }
+
+module _ (plan : Planned) (a : Parts) (kept : IsKept plan a) (w n : ℕ) (k : Key) (notes : List Note) (may : MayLook (board_of plan.base a) w k n notes) where
+  pub look_line : IsLine (board_of plan.base a) n
+  look_line = held_there (board_of plan.base a) n w (ap holder may.running)
+
+  look_place : n - a.states.first < length a.rows
+  look_place = place_of plan.base a n look_line
+
+  at : row_at (board_of plan.base a) n ≡ row_by plan.base a (n - a.states.first)
+  at = row_there plan.base a n look_line
+
+  pub look_state : (state_at a.states n ≡ Some (states.Running w)) × (notes_by plan.base (get_or a.rows (n - a.states.first) no_notes).notes ≡ notes)
+  look_state =
+      let r = running_state (get_or a.states.rows (n - a.states.first) no_row).state (notes_by plan.base (get_or a.rows (n - a.states.first) no_notes).notes) notes (get_or a.rows (n - a.states.first) no_notes).told w
+      (sym (state_shown plan a kept n look_line) ∙ may.running) in
+      (state_stands plan a kept n look_line ∙ ap (λ x. Some x) r.0, r.1)
+
+  pub look_unnoted : (b : Bool) → is_noted (get_or a.rows (n - a.states.first) no_notes).notes k ≡ b → b ≡ false
+  look_unnoted true h = absurd (noted_some plan.base (get_or a.rows (n - a.states.first) no_notes).notes k h
+      (λ j x e. may.unnoted j x (ap (λ (y : List Note). slice_get y j) (sym look_state.1) ∙ e)))
+  look_unnoted false h = refl
+
+  pub look_within : w < length a.hands
+  look_within = slice_get_within a.hands w (Some n) ((kept.hand w n).1 (ap holder may.running))
+
+  -- the attempt ends
+  module _ (q : Parts) (states_is : q.states ≡ moves.stopped a.states n) (store_is : q.store ≡ a.store) (rows_is : q.rows ≡ a.rows)
+      (hands_is : q.hands ≡ set a.hands w None) (clock_is : q.clock ≡ a.clock) (latest_is : q.latest ≡ a.latest) where
+    s : attempt.Row
+    s = record { state = states.Waiting; next = (get_or a.states.rows (n - a.states.first) no_row).next }
+
+    r : Row
+    r = row_with plan.base s (get_or a.rows (n - a.states.first) no_notes) (get_or a.store.lines (n - a.states.first) store.no_entries)
+
+    puts : Puts plan.base a q n r
+    unfolding s r
+    puts = puts_of plan.base a q n s (get_or a.rows (n - a.states.first) no_notes) (get_or a.store.lines (n - a.states.first) store.no_entries) kept.all_states kept.all_entries look_place
+        (ap (λ (x : States). x.first) states_is)
+        (ap (λ (x : States). x.rows) states_is)
+        (ap (λ (x : store.Store). x.first) store_is)
+        (ap (λ (x : store.Store). x.lines) store_is ∙ sym (set-get_or a.store.lines (n - a.states.first) store.no_entries))
+        (rows_is ∙ sym (set-get_or a.rows (n - a.states.first) no_notes))
+
+    r_is : r ≡ with_state (row_at (board_of plan.base a) n) Waiting
+    unfolding s r
+    r_is = ap (λ (x : Row). with_state x Waiting) (sym at)
+
+    pub stop_board : board_of plan.base q ≡ steps.stopped (board_of plan.base a) n
+    stop_board = board_eq _ _
+        (ap (λ (x : Board). x.first) (board_is plan.base a q n r look_line puts))
+        (ap (λ (x : Board). x.rows) (board_is plan.base a q n r look_line puts) ∙ ap (λ (x : Row). (put_row (board_of plan.base a) n x).rows) r_is)
+        (ap (λ (x : List (Option ℕ)). length x) hands_is ∙ length-set a.hands w None)
+        clock_is
+        (ap (λ (x : States). x.counts.commits) states_is)
+        (ap (λ (x : States). x.counts.takes) states_is)
+        (ap (λ (x : States). x.counts.failed) states_is)
+        (ap (λ (x : States). x.counts.stops) states_is)
+
+    pub stop_kept : IsKept plan q
+    unfolding s r
+    stop_kept = kept_put plan a q n r kept look_line puts
+        (subst (λ (x : Board). Reached plan x) (sym stop_board) (stopped_reached plan (board_of plan.base a) w k n notes kept.reached may))
+        (subst (λ x. HandsHold x (row_at (board_of plan.base q))) (sym hands_is)
+        (hand_put a.hands (row_at (board_of plan.base a)) (row_at (board_of plan.base q)) n r (row_new plan.base a q n r look_line puts) (row_old plan.base a q n r look_line puts) kept.hand
+        w None look_within (inl (ap holder may.running)) (inr (refl, refl))))
+        (λ h. subst IsCommitted may.running h)
+        (ap (λ (x : States). x.counts.commits) states_is)
+        latest_is
+        (λ v ns last h. (let z : Waiting ≡ Placing v ns last = h in absurd (cc)))
+
+  -- the key is noted under its name
+  module _ {J : Type 0} (seen : PlacedName J) (found_is : found (row_at (board_of plan.base a)) n k ≡ Named seen.name)
+      (value_is : found_by plan.base k (option_map told_at seen.place) ≡ value_at plan (row_at (board_of plan.base a)) n k)
+      (q : Parts) (x : Kept) (states_is : q.states ≡ a.states) (store_is : q.store ≡ a.store) (rows_is : q.rows ≡ set a.rows (n - a.states.first) x)
+      (x_is : x ≡ record { notes = (get_or a.rows (n - a.states.first) no_notes).notes ++ note_with k seen ∷ []; told = (get_or a.rows (n - a.states.first) no_notes).told; course = (get_or a.rows (n - a.states.first) no_notes).course; changed = (get_or a.rows (n - a.states.first) no_notes).changed })
+      (hands_is : q.hands ≡ a.hands) (clock_is : q.clock ≡ a.clock) (latest_is : q.latest ≡ a.latest) where
+    l : Row
+    l = row_with plan.base (get_or a.states.rows (n - a.states.first) no_row) x (get_or a.store.lines (n - a.states.first) store.no_entries)
+
+    seen_puts : Puts plan.base a q n l
+    unfolding l
+    seen_puts = puts_of plan.base a q n (get_or a.states.rows (n - a.states.first) no_row) x (get_or a.store.lines (n - a.states.first) store.no_entries) kept.all_states kept.all_entries look_place
+        (ap (λ (y : States). y.first) states_is)
+        (ap (λ (y : States). y.rows) states_is ∙ sym (set-get_or a.states.rows (n - a.states.first) no_row))
+        (ap (λ (y : store.Store). y.first) store_is)
+        (ap (λ (y : store.Store). y.lines) store_is ∙ sym (set-get_or a.store.lines (n - a.states.first) store.no_entries))
+        rows_is
+
+    more : List Note
+    more = notes ++ record { key = k; name = seen.name; found = value_at plan (row_at (board_of plan.base a)) n k } ∷ []
+
+    more_is : notes_by plan.base ((get_or a.rows (n - a.states.first) no_notes).notes ++ note_with k seen ∷ []) ≡ more
+    unfolding more
+    more_is =
+        notes_push plan.base (get_or a.rows (n - a.states.first) no_notes).notes (note_with k seen)
+        ∙ ap₂ (λ (y : List Note) (z : Note). y ++ z ∷ []) look_state.1 (note_is plan.base k seen _ value_is)
+
+    runs : (get_or a.states.rows (n - a.states.first) no_row).state ≡ states.Running w
+    runs = (running_state (get_or a.states.rows (n - a.states.first) no_row).state (notes_by plan.base (get_or a.rows (n - a.states.first) no_notes).notes) notes (get_or a.rows (n - a.states.first) no_notes).told w
+        (sym (state_shown plan a kept n look_line) ∙ may.running)).0
+
+    l_is : l ≡ with_state (row_at (board_of plan.base a) n) (Running w more)
+    unfolding l
+    l_is =
+        ap (λ (y : Kept). row_with plan.base (get_or a.states.rows (n - a.states.first) no_row) y (get_or a.store.lines (n - a.states.first) store.no_entries)) x_is
+        ∙ ap (λ (y : LineState). with_state (row_by plan.base a (n - a.states.first)) (state_of y (notes_by plan.base ((get_or a.rows (n - a.states.first) no_notes).notes ++ note_with k seen ∷ [])) (get_or a.rows (n - a.states.first) no_notes).told)) runs
+        ∙ ap (λ (y : List Note). with_state (row_by plan.base a (n - a.states.first)) (Running w y)) more_is
+        ∙ ap (λ (y : Row). with_state y (Running w more)) (sym at)
+
+    pub seen_board : board_of plan.base q ≡ steps.seen plan (board_of plan.base a) w k n notes seen.name
+    unfolding more
+    seen_board = board_eq _ _
+        (ap (λ (y : Board). y.first) (board_is plan.base a q n l look_line seen_puts))
+        (ap (λ (y : Board). y.rows) (board_is plan.base a q n l look_line seen_puts) ∙ ap (λ (y : Row). (put_row (board_of plan.base a) n y).rows) l_is)
+        (ap (λ (y : List (Option ℕ)). length y) hands_is)
+        clock_is
+        (ap (λ (y : States). y.counts.commits) states_is)
+        (ap (λ (y : States). y.counts.takes) states_is)
+        (ap (λ (y : States). y.counts.failed) states_is)
+        (ap (λ (y : States). y.counts.stops) states_is)
+
+    pub seen_returns : LookStep plan (board_of plan.base a) w k (Seen seen.name (found_by plan.base k (option_map told_at seen.place))) (board_of plan.base q)
+    seen_returns = (n, notes, may, found_is, value_is, seen_board)
+
+    pub seen_kept : IsKept plan q
+    seen_kept = kept_put plan a q n l kept look_line seen_puts
+        (look_step plan (board_of plan.base a) w k (Seen seen.name (found_by plan.base k (option_map told_at seen.place))) (board_of plan.base q) kept.reached seen_returns)
+        (subst (λ y. HandsHold y (row_at (board_of plan.base q))) (sym hands_is)
+        (hand_same a.hands (row_at (board_of plan.base a)) (row_at (board_of plan.base q)) n l (row_new plan.base a q n l look_line seen_puts) (row_old plan.base a q n l look_line seen_puts) kept.hand
+        (ap (λ (y : Row). holder y.state) l_is ∙ sym (ap holder may.running))))
+        (λ h. subst IsCommitted may.running h)
+        (ap (λ (y : States). y.counts.commits) states_is)
+        latest_is
+        (λ v ns last h. (let z : Running w more ≡ Placing v ns last = sym (ap (λ (y : Row). y.state) l_is) ∙ h in absurd (cc)))

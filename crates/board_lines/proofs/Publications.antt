@@ -1,0 +1,406 @@
+-- A version of a line in hand is published, act by act.
+use Rattle.std.proofs.Common.{◌≡◌, ◌≢◌, ℕ, suc, ◌+◌, ◌-◌, ◌<◌, Bool, true, false, List, Option, Some, None, length, set, get_or, refl, sym, ap, subst, ◌∙◌, ◌⊎◌, inl, inr, arith, length-set, get_or-set_same}
+use Rattle.std.specs.Prelude.{option_map, IsSomeAnd}
+use Rattle.std.specs.Bool.{Decides}
+use Rattle.std.specs.FinMap.{insert, remove}
+use Rattle.std.proofs.lemmas.Bool.{le-ltb}
+use Rattle.std.proofs.lemmas.List.{set-get_or}
+use Rattle.std.proofs.lemmas.Option.{none-some, same_Some, slice_get-get_or, slice_get_within}
+use Rattle.circ_records.specs.declared.key.Key.{Key}
+use Rattle.circ_records.specs.declared.record.Record.{Record}
+use Rattle.read_set.specs.Plans.{Planned}
+use Rattle.read_set.specs.Settling.{Told}
+use Rattle.read_set.specs.declared.notes.Note.{Note}
+use Rattle.attempts.specs.Moves.{no_row, moved}
+use Rattle.attempts.specs.States.{States, state_at, is_live}
+use Rattle.attempts.specs.declared.state.LineState.{LineState}
+use Rattle.attempts.specs.declared.state.LineState.TheVariants as states
+use Rattle.attempts.specs.declared.table.Row as attempt
+use Rattle.version_store.specs.Entries as store
+use Rattle.version_store.specs.Entries.{shown_by}
+use Rattle.version_store.proofs.Sights.{line_from, put_is}
+use Rattle.version_store.proofs.Walks.{Rising}
+use Rattle.board_steps.specs.Board.{State, Row, Board, IsLine, IsCommitted, row_at, holder}
+use Rattle.board_steps.specs.Board.State.{Waiting, Running, Placing, Done, Checking, Committed}
+use Rattle.board_steps.specs.Steps.{Reply, MayPublish, Fits, IsVersion, IsNextWrite, AllPlaced, IsNextLeft, NoneLeft, HasRoom, PublishStep, changing, placed, lifted, put_row, with_state}
+use Rattle.board_steps.specs.Steps.Reply.{Placed, Lifted, Whole}
+use Rattle.board_steps.proofs.Lines.{within_board}
+use Rattle.board_steps.proofs.Steps.{publish_step}
+use Rattle.board_lines.specs.Acts.{IsPlacing}
+use Rattle.board_lines.specs.Notes.{notes_by}
+use Rattle.board_lines.specs.Courses.{FirstPlaced, FirstPlacedBut, IsUnderWay, UnderWay}
+use Rattle.board_lines.specs.Parts.{Kept, Parts, no_notes, row_with, row_by, state_of, board_of, kept_at, HandsHold, IsKept}
+use Rattle.board_lines.specs.declared.row.Course.{Course}
+use Rattle.board_lines.specs.Acts.{IsAct, publishes, places, notes_at}
+use Rattle.board_lines.specs.Hands.{notes_of}
+use Rattle.board_lines.specs.declared.publishing.Act.{Act}
+use Rattle.board_lines.specs.declared.publishing.Act.TheVariants as acts
+use Rattle.board_lines.proofs.Boards.{Puts, place_of, row_there, board_is, row_new, row_old, kept_put}
+use Rattle.board_lines.proofs.Hands.{hand_same, hand_put}
+use Rattle.board_lines.proofs.Moves.{puts_of, board_eq}
+use Rattle.board_lines.proofs.Writes.{first_inserted, first_removed}
+
+-- ---- states that are to be published
+-- the worker has the line in hand
+pub publish_held : (x : State) (w : ℕ) (notes : List Note) → (x ≡ Running w notes) ⊎ ((last : Option Told) × (x ≡ Placing w notes last)) → holder x ≡ Some w
+publish_held x w notes (inl e) = ap holder e
+publish_held x w notes (inr e) = ap holder e.1
+
+pub publish_notes : (x : State) (w : ℕ) (notes : List Note) → (x ≡ Running w notes) ⊎ ((last : Option Told) × (x ≡ Placing w notes last)) → notes_of x ≡ notes
+publish_notes x w notes (inl e) = ap notes_of e
+publish_notes x w notes (inr e) = ap notes_of e.1
+
+publish_bar : (x : State) (w : ℕ) (notes : List Note) → (x ≡ Running w notes) ⊎ ((last : Option Told) × (x ≡ Placing w notes last)) → IsCommitted x → ⊥
+publish_bar x w notes (inl e) h = subst IsCommitted e h
+publish_bar x w notes (inr e) h = subst IsCommitted e.1 h
+
+is_running : (x : State) (v w : ℕ) (notes : List Note) → x ≡ Running v notes → holder x ≡ Some w → x ≡ Running w (notes_of x)
+is_running x v w notes e held =
+    e ∙ ap (λ (y : ℕ). Running y notes) (same_Some v w (sym (ap holder e) ∙ held)) ∙ ap (λ (ns : List Note). Running w ns) (sym (ap notes_of e))
+
+is_placing : (x : State) (v w : ℕ) (notes : List Note) (last : Option Told) → x ≡ Placing v notes last → holder x ≡ Some w → x ≡ Placing w (notes_of x) last
+is_placing x v w notes last e held =
+    e ∙ ap (λ (y : ℕ). Placing y notes last) (same_Some v w (sym (ap holder e) ∙ held)) ∙ ap (λ (ns : List Note). Placing w ns last) (sym (ap notes_of e))
+
+-- a line in hand whose state is to be published is
+pub published_by : (s : LineState) (notes : List Note) (told : Option Told) (x : State) (w : ℕ) → x ≡ state_of s notes told → holder x ≡ Some w → publishes s ≡ true
+    → (x ≡ Running w (notes_of x)) ⊎ ((last : Option Told) × (x ≡ Placing w (notes_of x) last))
+published_by states.Waiting notes told x w e held h = absurd (cc)
+published_by (states.Running v) notes told x w e held h = inl (is_running x v w notes e held)
+published_by (states.Placing v) notes told x w e held h = inr (told, is_placing x v w notes told e held)
+published_by (states.Done t) notes told x w e held h = absurd (cc)
+published_by (states.Checking v t i) notes told x w e held h = absurd (cc)
+published_by states.Committed notes told x w e held h = absurd (cc)
+
+pub placing_by : (s : LineState) (notes : List Note) (told : Option Told) (x : State) (w : ℕ) → x ≡ state_of s notes told → holder x ≡ Some w → places s ≡ true
+    → (last : Option Told) × (x ≡ Placing w (notes_of x) last)
+placing_by states.Waiting notes told x w e held h = absurd (cc)
+placing_by (states.Running v) notes told x w e held h = absurd (cc)
+placing_by (states.Placing v) notes told x w e held h = (told, is_placing x v w notes told e held)
+placing_by (states.Done t) notes told x w e held h = absurd (cc)
+placing_by (states.Checking v t i) notes told x w e held h = absurd (cc)
+placing_by states.Committed notes told x w e held h = absurd (cc)
+
+only_placing : (s : LineState) (ns : List Note) (told : Option Told) → places s ≡ false → (w : ℕ) (notes : List Note) (last : Option Told) → state_of s ns told ≡ Placing w notes last → ⊥
+only_placing states.Waiting ns told h w notes last e = cc
+only_placing (states.Running v) ns told h w notes last e = cc
+only_placing (states.Placing v) ns told h w notes last e = cc
+only_placing (states.Done t) ns told h w notes last e = cc
+only_placing (states.Checking v t i) ns told h w notes last e = cc
+only_placing states.Committed ns told h w notes last e = cc
+
+-- ---- what is no publication
+never : (s : LineState) (notes : List Note) (told : Option Told) (x : State) → x ≡ state_of s notes told → publishes s ≡ false
+    → (w : ℕ) (ns : List Note) → (x ≡ Running w ns) ⊎ ((last : Option Told) × (x ≡ Placing w ns last)) → ⊥
+never (states.Running v) notes told x e h w ns may = absurd (cc)
+never (states.Placing v) notes told x e h w ns may = absurd (cc)
+never states.Waiting notes told x e h w ns (inl r) = (let z : Waiting ≡ Running w ns = sym e ∙ r in cc)
+never (states.Done t) notes told x e h w ns (inl r) = (let z : state_of (states.Done t) notes told ≡ Running w ns = sym e ∙ r in cc)
+never (states.Checking v t i) notes told x e h w ns (inl r) = (let z : state_of (states.Checking v t i) notes told ≡ Running w ns = sym e ∙ r in cc)
+never states.Committed notes told x e h w ns (inl r) = (let z : state_of states.Committed notes told ≡ Running w ns = sym e ∙ r in cc)
+never states.Waiting notes told x e h w ns (inr r) = (let z : Waiting ≡ Placing w ns r.0 = sym e ∙ r.1 in cc)
+never (states.Done t) notes told x e h w ns (inr r) = (let z : state_of (states.Done t) notes told ≡ Placing w ns r.0 = sym e ∙ r.1 in cc)
+never (states.Checking v t i) notes told x e h w ns (inr r) = (let z : state_of (states.Checking v t i) notes told ≡ Placing w ns r.0 = sym e ∙ r.1 in cc)
+never states.Committed notes told x e h w ns (inr r) = (let z : state_of states.Committed notes told ≡ Placing w ns r.0 = sym e ∙ r.1 in cc)
+
+-- a state that is to be published is live
+live_of_published : (s : LineState) (notes : List Note) (told : Option Told) (x : State) → x ≡ state_of s notes told
+    → (w : ℕ) (ns : List Note) → (x ≡ Running w ns) ⊎ ((last : Option Told) × (x ≡ Placing w ns last)) → is_live s ≡ true
+live_of_published (states.Running v) notes told x e w ns may = refl
+live_of_published (states.Placing v) notes told x e w ns may = refl
+live_of_published states.Waiting notes told x e w ns may = absurd (never states.Waiting notes told x e refl w ns may)
+live_of_published (states.Done t) notes told x e w ns may = absurd (never (states.Done t) notes told x e refl w ns may)
+live_of_published (states.Checking v t i) notes told x e w ns may = absurd (never (states.Checking v t i) notes told x e refl w ns may)
+live_of_published states.Committed notes told x e w ns may = absurd (never states.Committed notes told x e refl w ns may)
+
+noted_of_published : (s : LineState) (notes : List Note) (told : Option Told) (x : State) → x ≡ state_of s notes told
+    → (w : ℕ) (ns : List Note) → (x ≡ Running w ns) ⊎ ((last : Option Told) × (x ≡ Placing w ns last)) → ns ≡ notes
+noted_of_published (states.Running v) notes told x e w ns may = sym (publish_notes x w ns may) ∙ ap notes_of e
+noted_of_published (states.Placing v) notes told x e w ns may = sym (publish_notes x w ns may) ∙ ap notes_of e
+noted_of_published states.Waiting notes told x e w ns may = absurd (never states.Waiting notes told x e refl w ns may)
+noted_of_published (states.Done t) notes told x e w ns may = absurd (never (states.Done t) notes told x e refl w ns may)
+noted_of_published (states.Checking v t i) notes told x e w ns may = absurd (never (states.Checking v t i) notes told x e refl w ns may)
+noted_of_published states.Committed notes told x e w ns may = absurd (never states.Committed notes told x e refl w ns may)
+
+last_of_placing : (s : LineState) (notes : List Note) (told : Option Told) (x : State) → x ≡ state_of s notes told
+    → (w : ℕ) (ns : List Note) (last : Option Told) → x ≡ Placing w ns last → told ≡ last
+last_of_placing states.Waiting notes told x e w ns last h = (let z : Waiting ≡ Placing w ns last = sym e ∙ h in absurd (cc))
+last_of_placing (states.Running v) notes told x e w ns last h = (let z : Running v notes ≡ Placing w ns last = sym e ∙ h in absurd (cc))
+last_of_placing (states.Placing v) notes told x e w ns last h = (let z : Placing v notes told ≡ Placing w ns last = sym e ∙ h in cc)
+last_of_placing (states.Done t) notes told x e w ns last h = (let z : state_of (states.Done t) notes told ≡ Placing w ns last = sym e ∙ h in absurd (cc))
+last_of_placing (states.Checking v t i) notes told x e w ns last h = (let z : state_of (states.Checking v t i) notes told ≡ Placing w ns last = sym e ∙ h in absurd (cc))
+last_of_placing states.Committed notes told x e w ns last h = (let z : state_of states.Committed notes told ≡ Placing w ns last = sym e ∙ h in absurd (cc))
+
+-- ---- a line that is there
+module _ (plan : Planned) (a : Parts) (kept : IsKept plan a) (n : ℕ) (there : IsLine (board_of plan.base a) n) where
+  pub place_there : n - a.states.first < length a.rows
+  place_there = place_of plan.base a n there
+
+  pub row_is : row_at (board_of plan.base a) n ≡ row_by plan.base a (n - a.states.first)
+  row_is = row_there plan.base a n there
+
+  -- where it stands
+  pub state_there : state_at a.states n ≡ Some (get_or a.states.rows (n - a.states.first) no_row).state
+  state_there =
+      rw (le-ltb n a.states.first there.0)
+      (ap (option_map (λ (r : attempt.Row). r.state)) (slice_get-get_or a.states.rows (n - a.states.first) no_row (omega (arith, place_there, kept.all_states))))
+
+  pub entries_there : (row_at (board_of plan.base a) n).entries ≡ store.line_at a.store n
+  entries_there =
+      ap (λ (x : Row). x.entries) row_is
+      ∙ ap (λ x. get_or a.store.lines (n - x) store.no_entries) (sym kept.same_first)
+      ∙ sym (line_from a.store n (omega (arith, there.0, kept.same_first)))
+
+  pub store_line : store.IsLine a.store n
+  store_line = (omega (arith, there.0, kept.same_first), omega (arith, place_there, there.0, kept.same_first, kept.all_entries))
+
+  -- its entries are others
+  lines_put : (l : store.Line) → (store.with_line a.store n l).lines ≡ set a.store.lines (n - a.states.first) l
+  lines_put l = ap (λ (x : store.Store). x.lines) (put_is a.store n l store_line) ∙ ap (λ x. set a.store.lines (n - x) l) kept.same_first
+
+  state_is : (row_at (board_of plan.base a) n).state ≡ state_of (get_or a.states.rows (n - a.states.first) no_row).state (notes_by plan.base (get_or a.rows (n - a.states.first) no_notes).notes) (get_or a.rows (n - a.states.first) no_notes).told
+  state_is = ap (λ (x : Row). x.state) row_is
+
+  pub noted_is : (w : ℕ) (notes : List Note) → MayPublish (board_of plan.base a) w n notes → notes ≡ notes_by plan.base (get_or a.rows (n - a.states.first) no_notes).notes
+  noted_is w notes may = noted_of_published _ _ _ _ state_is w notes may
+
+  pub last_is : (w : ℕ) (notes : List Note) (last : Option Told) → (row_at (board_of plan.base a) n).state ≡ Placing w notes last → (get_or a.rows (n - a.states.first) no_notes).told ≡ last
+  last_is w notes last h = last_of_placing _ _ _ _ state_is w notes last h
+
+  pub live_there : (w : ℕ) (notes : List Note) → MayPublish (board_of plan.base a) w n notes → IsSomeAnd (state_at a.states n) (λ s. is_live s ≡ true)
+  live_there w notes may = subst (λ (o : Option LineState). IsSomeAnd o (λ s. is_live s ≡ true)) (sym state_there) (live_of_published _ _ _ _ state_is w notes may)
+
+-- ---- a line in hand, by its state
+module _ (plan : Planned) (a : Parts) (kept : IsKept plan a) (w n : ℕ) (held : holder (row_at (board_of plan.base a) n).state ≡ Some w) where
+  pub held_line : IsLine (board_of plan.base a) n
+  held_line = within_board (board_of plan.base a) n (λ e. none-some w (sym (ap holder e) ∙ held))
+
+  pub held_state : (s : LineState) → state_at a.states n ≡ Some s → (get_or a.states.rows (n - a.states.first) no_row).state ≡ s
+  held_state s h = same_Some _ s (sym (state_there plan a kept n held_line) ∙ h)
+
+  pub has_state : state_at a.states n ≡ None → ⊥
+  has_state h = none-some _ (sym h ∙ state_there plan a kept n held_line)
+
+  shown_state : (s : LineState) → state_at a.states n ≡ Some s
+      → (row_at (board_of plan.base a) n).state ≡ state_of s (notes_by plan.base (get_or a.rows (n - a.states.first) no_notes).notes) (get_or a.rows (n - a.states.first) no_notes).told
+  shown_state s h =
+      ap (λ (x : Row). x.state) (row_is plan a kept n held_line)
+      ∙ ap (λ (x : LineState). state_of x (notes_by plan.base (get_or a.rows (n - a.states.first) no_notes).notes) (get_or a.rows (n - a.states.first) no_notes).told) (held_state s h)
+
+  pub to_publish : (s : LineState) → state_at a.states n ≡ Some s → publishes s ≡ true → MayPublish (board_of plan.base a) w n (notes_at (board_of plan.base a) n)
+  to_publish s h p = published_by s _ _ _ w (shown_state s h) held p
+
+  -- the worker's other lines are this one
+  one_line : (m : ℕ) → holder (row_at (board_of plan.base a) m).state ≡ Some w → m ≡ n
+  one_line m h = kept.reached.hands m n w h held
+
+  pub nothing_to_publish : (s : LineState) → state_at a.states n ≡ Some s → publishes s ≡ false → (m : ℕ) (notes : List Note) → MayPublish (board_of plan.base a) w m notes → ⊥
+  nothing_to_publish s h p m notes may =
+      never s _ _ _ (shown_state s h) p w notes
+      (subst (λ x. MayPublish (board_of plan.base a) w x notes) (one_line m (publish_held _ w notes may)) may)
+
+  pub is_placed : (s : LineState) → state_at a.states n ≡ Some s → places s ≡ true → (last : Option Told) × ((row_at (board_of plan.base a) n).state ≡ Placing w (notes_at (board_of plan.base a) n) last)
+  is_placed s h p = placing_by s _ _ _ w (shown_state s h) held p
+
+  pub not_placing : (s : LineState) → state_at a.states n ≡ Some s → places s ≡ false → (m : ℕ) (notes : List Note) (last : Option Told) → (row_at (board_of plan.base a) m).state ≢ Placing w notes last
+  not_placing s h p m notes last e =
+      only_placing s _ _ p w notes last (sym (shown_state s h) ∙ subst (λ x. (row_at (board_of plan.base a) x).state ≡ Placing w notes last) (one_line m (ap holder e)) e)
+
+-- the version of the last act
+last_of : State → Option Told
+last_of (Placing w notes last) = last
+last_of Waiting = None
+last_of (Running w notes) = None
+last_of (Done notes answer stamp) = None
+last_of (Checking w notes answer stamp compared) = None
+last_of (Committed answer) = None
+
+-- ---- an act: the entries of the line are others
+module _ (plan : Planned) (a : Parts) (kept : IsKept plan a) (w n : ℕ) (notes : List Note) (may : MayPublish (board_of plan.base a) w n notes) (v : Told) where
+  pub act_held : holder (row_at (board_of plan.base a) n).state ≡ Some w
+  act_held = publish_held _ w notes may
+
+  pub act_line : IsLine (board_of plan.base a) n
+  act_line = held_line plan a kept w n act_held
+
+  act_place : n - a.states.first < length a.rows
+  act_place = place_there plan a kept n act_line
+
+  module _ (q : Parts) (l : store.Line) (k : Kept) (come : Course) (states_is : q.states ≡ moved a.states n (states.Placing w)) (store_is : q.store ≡ store.with_line a.store n l)
+      (rows_is : q.rows ≡ set a.rows (n - a.states.first) k)
+      (k_is : k ≡ record { notes = (get_or a.rows (n - a.states.first) no_notes).notes; told = Some v; course = come; changed = a.clock + 1 })
+      (hands_is : q.hands ≡ a.hands) (clock_is : q.clock ≡ a.clock + 1) (latest_is : q.latest ≡ a.latest) where
+    s : attempt.Row
+    s = record { state = states.Placing w; next = (get_or a.states.rows (n - a.states.first) no_row).next }
+
+    r : Row
+    r = row_with plan.base s k l
+
+    puts : Puts plan.base a q n r
+    unfolding s r
+    puts = puts_of plan.base a q n s k l kept.all_states kept.all_entries act_place
+        (ap (λ (x : States). x.first) states_is)
+        (ap (λ (x : States). x.rows) states_is)
+        (ap (λ (x : store.Store). x.first) store_is)
+        (ap (λ (x : store.Store). x.lines) store_is ∙ lines_put plan a kept n act_line l)
+        rows_is
+
+    r_is : r ≡ record (row_at (board_of plan.base a) n) { state = Placing w notes (Some v); entries = l; changed = a.clock + 1 }
+    unfolding s r
+    r_is =
+        ap (λ (x : Kept). row_with plan.base s x l) k_is
+        ∙ ap (λ (ns : List Note). record { state = Placing w ns (Some v); next = (get_or a.states.rows (n - a.states.first) no_row).next; changed = a.clock + 1; entries = l }) (sym (noted_is plan a kept n act_line w notes may))
+        ∙ ap (λ (x : Row). record x { state = Placing w notes (Some v); entries = l; changed = a.clock + 1 }) (sym (row_is plan a kept n act_line))
+
+    act_board : board_of plan.base q ≡ changing (board_of plan.base a) n (record (row_at (board_of plan.base a) n) { state = Placing w notes (Some v); entries = l })
+    act_board = board_eq _ _
+        (ap (λ (x : Board). x.first) (board_is plan.base a q n r act_line puts))
+        (ap (λ (x : Board). x.rows) (board_is plan.base a q n r act_line puts) ∙ ap (λ (x : Row). (put_row (board_of plan.base a) n x).rows) r_is)
+        (ap (λ (x : List (Option ℕ)). length x) hands_is)
+        clock_is
+        (ap (λ (x : States). x.counts.commits) states_is)
+        (ap (λ (x : States). x.counts.takes) states_is)
+        (ap (λ (x : States). x.counts.failed) states_is)
+        (ap (λ (x : States). x.counts.stops) states_is)
+
+    -- what is kept of the line says how far it has come
+    come_is : (kept_at q n).course ≡ come
+    come_is =
+        ap (λ x. (get_or q.rows (n - x) no_notes).course) (ap (λ (x : States). x.first) states_is)
+        ∙ ap (λ (x : List Kept). (get_or x (n - a.states.first) no_notes).course) rows_is
+        ∙ ap (λ (x : Kept). x.course) (get_or-set_same a.rows (n - a.states.first) k no_notes act_place ∙ k_is)
+
+    act_under : Fits (board_of plan.base a) n notes v → FirstPlaced l v.attempt v.writes come.placed
+        → (u : ℕ) (ns : List Note) (last : Option Told) → r.state ≡ Placing u ns last → IsUnderWay n r ns last (kept_at q n).course
+    unfolding last_of
+    act_under fits first u ns last h =
+        let same : Placing w notes (Some v) ≡ Placing u ns last = sym (ap (λ (x : Row). x.state) r_is) ∙ h in
+        let under : UnderWay n r notes v come = record {
+          same_line = fits.same_line;
+          same_attempt = fits.same_attempt ∙ ap (λ (x : Row). x.next) (sym r_is);
+          same_notes = fits.same_notes;
+          placed = subst (λ (x : store.Line). FirstPlaced x v.attempt v.writes come.placed) (ap (λ (x : Row). x.entries) (sym r_is)) first;
+        } in
+        subst (λ (x : Course). IsUnderWay n r ns last x) (sym come_is)
+        (subst (λ (x : State). IsUnderWay n r (notes_of x) (last_of x) come) same under)
+
+    -- the step keeps what the fields keep
+    act_kept : (reply : Reply) → IsVersion plan v → PublishStep (board_of plan.base a) w v reply (board_of plan.base q)
+        → Fits (board_of plan.base a) n notes v → FirstPlaced l v.attempt v.writes come.placed → IsKept plan q
+    act_kept reply version step fits first = kept_put plan a q n r kept act_line puts
+        (publish_step plan (board_of plan.base a) w v reply (board_of plan.base q) kept.reached version step)
+        (subst (λ x. HandsHold x (row_at (board_of plan.base q))) (sym hands_is)
+        (hand_same a.hands (row_at (board_of plan.base a)) (row_at (board_of plan.base q)) n r (row_new plan.base a q n r act_line puts) (row_old plan.base a q n r act_line puts) kept.hand
+        (ap (λ (x : Row). holder x.state) r_is ∙ sym act_held)))
+        (publish_bar _ w notes may)
+        (ap (λ (x : States). x.counts.commits) states_is)
+        latest_is
+        (act_under fits first)
+
+    module _ (key : Key) (fits : Fits (board_of plan.base a) n notes v) (version : IsVersion plan v) (room : HasRoom (board_of plan.base a)) where
+      -- the next write is placed
+      module _ (next : (value : Record) × IsNextWrite (row_at (board_of plan.base a) n) v key value) (l_is : l ≡ insert (row_at (board_of plan.base a) n).entries key (shown_by v.attempt v)) where
+        pub placed_board : board_of plan.base q ≡ placed (board_of plan.base a) w n notes v key
+        placed_board = act_board ∙ ap (λ (x : store.Line). changing (board_of plan.base a) n (record (row_at (board_of plan.base a) n) { state = Placing w notes (Some v); entries = x })) l_is
+
+        pub placed_kept_here : FirstPlacedBut (row_at (board_of plan.base a) n).entries v.attempt v.writes key come.placed → IsKept plan q
+        placed_kept_here but = act_kept Placed version (n, notes, may, fits, key, next.0, next.1, room, placed_board) fits
+            (subst (λ (x : store.Line). FirstPlaced x v.attempt v.writes come.placed) (sym l_is) (first_inserted _ v.attempt v key v.writes come.placed but))
+
+      -- the next key that was left is lifted
+      module _ (all : AllPlaced (row_at (board_of plan.base a) n) v) (next : IsNextLeft (row_at (board_of plan.base a) n) v key) (l_is : l ≡ remove (row_at (board_of plan.base a) n).entries key) where
+        pub lifted_board : board_of plan.base q ≡ lifted (board_of plan.base a) w n notes v key
+        lifted_board = act_board ∙ ap (λ (x : store.Line). changing (board_of plan.base a) n (record (row_at (board_of plan.base a) n) { state = Placing w notes (Some v); entries = x })) l_is
+
+        pub lifted_kept_here : Rising v.writes → IsKept plan q
+        lifted_kept_here up = act_kept Lifted version (n, notes, may, fits, all, key, next, room, lifted_board) fits
+            (subst (λ (x : store.Line). FirstPlaced x v.attempt v.writes come.placed) (sym l_is) (first_removed _ v key up all next come.placed))
+
+  -- all is published
+  module _ (q : Parts) (k : Kept) (states_is : q.states ≡ moved a.states n (states.Done None)) (store_is : q.store ≡ a.store)
+      (rows_is : q.rows ≡ set a.rows (n - a.states.first) k)
+      (k_is : k ≡ record { notes = (get_or a.rows (n - a.states.first) no_notes).notes; told = Some v; course = (get_or a.rows (n - a.states.first) no_notes).course; changed = (get_or a.rows (n - a.states.first) no_notes).changed })
+      (hands_is : q.hands ≡ set a.hands w None) (clock_is : q.clock ≡ a.clock) (latest_is : q.latest ≡ a.latest) where
+    d : attempt.Row
+    d = record { state = states.Done None; next = (get_or a.states.rows (n - a.states.first) no_row).next }
+
+    t : Row
+    t = row_with plan.base d k (get_or a.store.lines (n - a.states.first) store.no_entries)
+
+    done_puts : Puts plan.base a q n t
+    unfolding d t
+    done_puts = puts_of plan.base a q n d k (get_or a.store.lines (n - a.states.first) store.no_entries) kept.all_states kept.all_entries act_place
+        (ap (λ (x : States). x.first) states_is)
+        (ap (λ (x : States). x.rows) states_is)
+        (ap (λ (x : store.Store). x.first) store_is)
+        (ap (λ (x : store.Store). x.lines) store_is ∙ sym (set-get_or a.store.lines (n - a.states.first) store.no_entries))
+        rows_is
+
+    t_is : t ≡ with_state (row_at (board_of plan.base a) n) (Done notes v.answer None)
+    unfolding d t
+    t_is =
+        ap (λ (x : Kept). row_with plan.base d x (get_or a.store.lines (n - a.states.first) store.no_entries)) k_is
+        ∙ ap (λ (ns : List Note). record { state = Done ns v.answer None; next = (get_or a.states.rows (n - a.states.first) no_row).next; changed = (get_or a.rows (n - a.states.first) no_notes).changed; entries = get_or a.store.lines (n - a.states.first) store.no_entries }) (sym (noted_is plan a kept n act_line w notes may))
+        ∙ ap (λ (x : Row). with_state x (Done notes v.answer None)) (sym (row_is plan a kept n act_line))
+
+    pub done_board : board_of plan.base q ≡ put_row (board_of plan.base a) n (with_state (row_at (board_of plan.base a) n) (Done notes v.answer None))
+    done_board = board_eq _ _
+        (ap (λ (x : Board). x.first) (board_is plan.base a q n t act_line done_puts))
+        (ap (λ (x : Board). x.rows) (board_is plan.base a q n t act_line done_puts) ∙ ap (λ (x : Row). (put_row (board_of plan.base a) n x).rows) t_is)
+        (ap (λ (x : List (Option ℕ)). length x) hands_is ∙ length-set a.hands w None)
+        clock_is
+        (ap (λ (x : States). x.counts.commits) states_is)
+        (ap (λ (x : States). x.counts.takes) states_is)
+        (ap (λ (x : States). x.counts.failed) states_is)
+        (ap (λ (x : States). x.counts.stops) states_is)
+
+    pub done_kept : Fits (board_of plan.base a) n notes v → IsVersion plan v → AllPlaced (row_at (board_of plan.base a) n) v → NoneLeft (row_at (board_of plan.base a) n) v → IsKept plan q
+    done_kept fits version all none = kept_put plan a q n t kept act_line done_puts
+        (publish_step plan (board_of plan.base a) w v Whole (board_of plan.base q) kept.reached version (n, notes, may, fits, all, none, done_board))
+        (subst (λ x. HandsHold x (row_at (board_of plan.base q))) (sym hands_is)
+        (hand_put a.hands (row_at (board_of plan.base a)) (row_at (board_of plan.base q)) n t (row_new plan.base a q n t act_line done_puts) (row_old plan.base a q n t act_line done_puts) kept.hand
+        w None (slice_get_within a.hands w (Some n) ((kept.hand w n).1 act_held)) (inl act_held) (inr (refl, ap (λ (x : Row). holder x.state) t_is))))
+        (publish_bar _ w notes may)
+        (ap (λ (x : States). x.counts.commits) states_is)
+        latest_is
+        (λ u ns last h. (let z : Done notes v.answer None ≡ Placing u ns last = sym (ap (λ (x : Row). x.state) t_is) ∙ h in absurd (cc)))
+
+-- ---- what an act is
+pub act_left : (r : Row) (v : Told) (act : Act) → IsAct r v act → (act ≡ acts.Finish → ⊥) → AllPlaced r v → NoneLeft r v → ⊥
+act_left r v (acts.Write k count) h not all none = h.1.apart (all k h.0 h.1.written)
+act_left r v (acts.Lift k) h not all none = h.1.left.2 (none k h.1.left.0 h.1.left.1)
+act_left r v acts.Finish h not all none = not refl
+
+pub no_other : (act : Act) → (act ≡ acts.Finish → ⊥) → ((k : Key) → act ≡ acts.Lift k → ⊥) → ((k : Key) (count : ℕ) → act ≡ acts.Write k count → ⊥) → ⊥
+no_other (acts.Write k count) f l w = w k count refl
+no_other (acts.Lift k) f l w = l k refl
+no_other acts.Finish f l w = f refl
+
+-- ---- whether a version fits
+pub not_fits : (b : Board) (n : ℕ) (notes : List Note) (v : Told) (a : ℕ) → suc a ≡ (row_at b n).next → ((v.line ≡ n) × (v.attempt ≡ a) → ⊥) → Decides false (Fits b n notes v)
+not_fits b n notes v a next ne = (λ h. absurd (cc), λ (f : Fits b n notes v). absurd (ne (f.same_line, omega (arith, f.same_attempt, next))))
+
+pub fits_by : (b : Board) (n : ℕ) (notes : List Note) (v : Told) (a : ℕ) → suc a ≡ (row_at b n).next → (r : Bool) → v.line ≡ n → v.attempt ≡ a → Decides r (v.reads ≡ notes) → Decides r (Fits b n notes v)
+fits_by b n notes v a next r line attempt d = (
+  λ h. record { same_line = line; same_attempt = omega (arith, attempt, next); same_notes = d.0 h },
+  λ (f : Fits b n notes v). d.1 f.same_notes,
+)
+
+-- a line that is placing has a version
+pub placing_version : (b : Board) (w n : ℕ) (notes : List Note) (last : Option Told) → (row_at b n).state ≡ Placing w notes last → (last ≡ None → ⊥) → IsPlacing b w last
+placing_version b w n notes None h some = absurd (some refl)
+placing_version b w n notes (Some v) h some = (n, notes, h)
+
+-- ---- a publication goes on
+more_notes : (b : Board) (w n : ℕ) (notes : List Note) (v : Told) → (row_at b n).state ≡ Placing w notes (Some v) → notes ≡ notes_at b n
+more_notes b w n notes v here = sym (ap notes_of here)
+
+pub more_may : (b : Board) (w n : ℕ) (notes : List Note) (v : Told) → (row_at b n).state ≡ Placing w notes (Some v) → MayPublish b w n (notes_at b n)
+more_may b w n notes v here = subst (λ (ns : List Note). MayPublish b w n ns) (more_notes b w n notes v here) (inr (Some v, here))
+
+pub more_fits : (b : Board) (w n : ℕ) (notes : List Note) (v : Told) (come : Course) → (row_at b n).state ≡ Placing w notes (Some v) → UnderWay n (row_at b n) notes v come → Fits b n (notes_at b n) v
+more_fits b w n notes v come here under = record {
+  same_line = under.same_line;
+  same_attempt = under.same_attempt;
+  same_notes = under.same_notes ∙ more_notes b w n notes v here;
+}

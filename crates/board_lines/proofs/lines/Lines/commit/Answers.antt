@@ -1,0 +1,139 @@
+use Rattle.std.proofs.Common.{◌≡◌, ◌-◌, ◌<◌, ◌≢◌, Some, map, length, get_or, max, refl, sym, ap, subst, ◌∙◌, inl, arith, rules}
+use Rattle.std.proofs.lemmas.List.{get_or-map, length-map}
+use Rattle.read_set.specs.Plans.{Planned}
+use Rattle.board_steps.specs.Board.{Board, IsLine}
+use Rattle.board_lines.specs.Parts.{Kept, Parts, IsKept, board_of, row_shown, no_notes}
+use Rattle.attempts.specs.declared.state.LineState.TheVariants as states
+use Rattle.board_steps.specs.Steps.{CommitStep}
+use Rattle.board_steps.specs.Steps.Reply.{Idle, Later, Commits}
+use Rattle.board_lines.proofs.Boards.{place_of}
+use Rattle.board_lines.proofs.Moves.{state_none}
+use Rattle.board_lines.proofs.Commits.{line_there, idle_committed, later_line, later_state, later_change, commit_returns, commit_kept}
+use Rattle.board_lines.proofs.lines.Lines.commit.Goals as goal
+
+pub returns-in_default : goal.returns-in_default
+returns-in_default g c =
+    let a = c.self.inside in
+    let plan = g.J.PlanName.plan in
+    let parts : Parts = record { states = a.attempts; store = a.entries; rows = map row_shown a.rows.items; hands = a.hands.items; clock = a.clock; latest = a.latest } in
+    let kept : IsKept plan parts = c.self.invariant.1 in
+    let is : board_of plan.base parts ≡ c.args.self.now = ap (λ (x : Planned). board_of x.base parts) (sym c.self.invariant.0) ∙ c.self.view_is in
+    subst (λ (b : Board). CommitStep b c.args.line Idle b) is (
+      inl (λ there. state_none parts.states c.args.line (sym c.in_default.ensures) there.0 (omega (arith, place_of plan.base parts c.args.line there, kept.all_states))),
+      refl,
+    )
+
+pub returns-in-Committed : goal.returns-in-Committed
+returns-in-Committed g c =
+    let a = c.self.inside in
+    let plan = g.J.PlanName.plan in
+    let parts : Parts = record { states = a.attempts; store = a.entries; rows = map row_shown a.rows.items; hands = a.hands.items; clock = a.clock; latest = a.latest } in
+    let kept : IsKept plan parts = c.self.invariant.1 in
+    let is : board_of plan.base parts ≡ c.args.self.now = ap (λ (x : Planned). board_of x.base parts) (sym c.self.invariant.0) ∙ c.self.view_is in
+    subst (λ (b : Board). CommitStep b c.args.line Idle b) is
+    (idle_committed plan parts kept c.args.line c.in-Some.state (sym c.in-Some.ensures) c.in-Committed.is)
+
+pub returns-then-position-counts : goal.returns-then-position-counts
+returns-then-position-counts g c =
+    let a = c.self.inside in
+    let plan = g.J.PlanName.plan in
+    let parts : Parts = record { states = a.attempts; store = a.entries; rows = map row_shown a.rows.items; hands = a.hands.items; clock = a.clock; latest = a.latest } in
+    let kept : IsKept plan parts = c.self.invariant.1 in
+    let is : board_of plan.base parts ≡ c.args.self.now = ap (λ (x : Planned). board_of x.base parts) (sym c.self.invariant.0) ∙ c.self.view_is in
+    let f : c.first.result ≡ parts.states.first = c.first.ensures ∙ ap (λ (x : Planned). x.first) c.self.invariant.0 ∙ sym kept.reached.first in
+    let ne : c.args.line - parts.states.first ≢ parts.states.counts.commits = λ e. c.if-position-counts.true (ap (λ x. c.args.line - x) f ∙ e ∙ sym (ap (λ x. x.commits) c.counts.ensures.value)) in
+    subst (λ (b : Board). CommitStep b c.args.line Later b) is
+    (later_line plan parts kept c.args.line c.in-Some.state (sym c.in-Some.ensures) c.in_default-state.not-Committed ne)
+
+pub returns-in_default-state-2 : goal.returns-in_default-state-2
+returns-in_default-state-2 g c =
+    let a = c.self.inside in
+    let plan = g.J.PlanName.plan in
+    let parts : Parts = record { states = a.attempts; store = a.entries; rows = map row_shown a.rows.items; hands = a.hands.items; clock = a.clock; latest = a.latest } in
+    let kept : IsKept plan parts = c.self.invariant.1 in
+    let is : board_of plan.base parts ≡ c.args.self.now = ap (λ (x : Planned). board_of x.base parts) (sym c.self.invariant.0) ∙ c.self.view_is in
+    subst (λ (b : Board). CommitStep b c.args.line Later b) is
+    (later_state plan parts kept c.args.line c.in-Some.state (sym c.in-Some.ensures) c.in_default-state.not-Committed (λ t e. c.in_default-state-2.not-Done (Some t) e))
+
+pub returns-in_default-stamp : goal.returns-in_default-stamp
+returns-in_default-stamp g c =
+    let a = c.self.inside in
+    let plan = g.J.PlanName.plan in
+    let parts : Parts = record { states = a.attempts; store = a.entries; rows = map row_shown a.rows.items; hands = a.hands.items; clock = a.clock; latest = a.latest } in
+    let kept : IsKept plan parts = c.self.invariant.1 in
+    let is : board_of plan.base parts ≡ c.args.self.now = ap (λ (x : Planned). board_of x.base parts) (sym c.self.invariant.0) ∙ c.self.view_is in
+    subst (λ (b : Board). CommitStep b c.args.line Later b) is
+    (later_state plan parts kept c.args.line c.in-Some.state (sym c.in-Some.ensures) c.in_default-state.not-Committed
+    (λ t e. (let z : states.Done c.in-Done.stamp ≡ states.Done (Some t) = sym c.in-Done.is ∙ e in c.in_default-stamp.not-Some t (cc))))
+
+pub returns-then-stamp-self : goal.returns-then-stamp-self
+returns-then-stamp-self g c =
+    let a = c.self.inside in
+    let plan = g.J.PlanName.plan in
+    let parts : Parts = record { states = a.attempts; store = a.entries; rows = map row_shown a.rows.items; hands = a.hands.items; clock = a.clock; latest = a.latest } in
+    let kept : IsKept plan parts = c.self.invariant.1 in
+    let is : board_of plan.base parts ≡ c.args.self.now = ap (λ (x : Planned). board_of x.base parts) (sym c.self.invariant.0) ∙ c.self.view_is in
+    subst (λ (b : Board). CommitStep b c.args.line Later b) is
+    (later_change plan parts kept c.args.line c.in-Some.state (sym c.in-Some.ensures) c.in-Some-stamp.stamp
+    (c.in-Done.is ∙ ap states.Done c.in-Some-stamp.is) c.if-stamp-self.true)
+
+pub index-requires : goal.index-requires
+index-requires g c =
+    let a = c.self.inside in
+    let plan = g.J.PlanName.plan in
+    let parts : Parts = record { states = a.attempts; store = a.entries; rows = map row_shown a.rows.items; hands = a.hands.items; clock = a.clock; latest = a.latest } in
+    let kept : IsKept plan parts = c.self.invariant.1 in
+    let is : board_of plan.base parts ≡ c.args.self.now = ap (λ (x : Planned). board_of x.base parts) (sym c.self.invariant.0) ∙ c.self.view_is in
+    let f : c.first.result ≡ parts.states.first = c.first.ensures ∙ ap (λ (x : Planned). x.first) c.self.invariant.0 ∙ sym kept.reached.first in
+    let there : IsLine (board_of plan.base parts) c.args.line = line_there plan parts kept c.args.line c.in-Some.state (sym c.in-Some.ensures) in
+    let l : c.args.line - parts.states.first < length (map row_shown a.rows.items) = place_of plan.base parts c.args.line there in
+    let m : length (map row_shown a.rows.items) ≡ length a.rows.items = length-map a.rows.items row_shown in
+    let h : c.args.line - c.first.result < length a.rows.items = omega (arith, l, m, f) in
+    search (rules, h)
+
+pub invariant_of-self : goal.invariant_of-self
+invariant_of-self g c =
+    let a = c.self.inside in
+    let plan = g.J.PlanName.plan in
+    let parts : Parts = record { states = a.attempts; store = a.entries; rows = map row_shown a.rows.items; hands = a.hands.items; clock = a.clock; latest = a.latest } in
+    let kept : IsKept plan parts = c.self.invariant.1 in
+    let is : board_of plan.base parts ≡ c.args.self.now = ap (λ (x : Planned). board_of x.base parts) (sym c.self.invariant.0) ∙ c.self.view_is in
+    let q : Parts = record { states = c.commit.new.self; store = a.entries; rows = map row_shown a.rows.items; hands = a.hands.items; clock = a.clock; latest = c.later-self-inside.result } in
+    let f : c.first.result ≡ parts.states.first = c.first.ensures ∙ ap (λ (x : Planned). x.first) c.self.invariant.0 ∙ sym kept.reached.first in
+    let there : IsLine (board_of plan.base parts) c.args.line = line_there plan parts kept c.args.line c.in-Some.state (sym c.in-Some.ensures) in
+    let l : c.args.line - parts.states.first < length (map row_shown a.rows.items) = place_of plan.base parts c.args.line there in
+    let m : length (map row_shown a.rows.items) ≡ length a.rows.items = length-map a.rows.items row_shown in
+    let done : c.in-Some.state ≡ states.Done (Some c.in-Some-stamp.stamp) = c.in-Done.is ∙ ap states.Done c.in-Some-stamp.is in
+    let least : c.args.line - parts.states.first ≡ parts.states.counts.commits = ap (λ x. c.args.line - x) (sym f) ∙ c.if-position-counts.false ∙ ap (λ x. x.commits) c.counts.ensures.value in
+    let row : get_or (map row_shown a.rows.items) (c.args.line - parts.states.first) no_notes ≡ row_shown c.index.result.now =
+    get_or-map row_shown a.rows.items (c.args.line - parts.states.first) c.index.result.now no_notes (omega (arith, l, m))
+    ∙ ap row_shown (sym (c.index.ensures ∙ ap (λ x. get_or a.rows.items (c.args.line - x) c.index.result.now) f)) in
+    let latest : q.latest ≡ max parts.latest (get_or parts.rows (c.args.line - parts.states.first) no_notes).changed =
+    c.later-self-inside.ensures ∙ ap (λ (x : Kept). max a.latest x.changed) (sym row) in (
+      c.self.invariant.0,
+      commit_kept plan parts kept c.args.line c.in-Some.state (sym c.in-Some.ensures) c.in-Some-stamp.stamp done least c.if-stamp-self.false q c.commit.ensures refl refl refl refl latest,
+    )
+
+pub returns : goal.returns
+returns g c =
+    let a = c.self.inside in
+    let plan = g.J.PlanName.plan in
+    let parts : Parts = record { states = a.attempts; store = a.entries; rows = map row_shown a.rows.items; hands = a.hands.items; clock = a.clock; latest = a.latest } in
+    let kept : IsKept plan parts = c.self.invariant.1 in
+    let is : board_of plan.base parts ≡ c.args.self.now = ap (λ (x : Planned). board_of x.base parts) (sym c.self.invariant.0) ∙ c.self.view_is in
+    let q : Parts = record { states = c.commit.new.self; store = a.entries; rows = map row_shown a.rows.items; hands = a.hands.items; clock = a.clock; latest = c.later-self-inside.result } in
+    let f : c.first.result ≡ parts.states.first = c.first.ensures ∙ ap (λ (x : Planned). x.first) c.self.invariant.0 ∙ sym kept.reached.first in
+    let there : IsLine (board_of plan.base parts) c.args.line = line_there plan parts kept c.args.line c.in-Some.state (sym c.in-Some.ensures) in
+    let l : c.args.line - parts.states.first < length (map row_shown a.rows.items) = place_of plan.base parts c.args.line there in
+    let m : length (map row_shown a.rows.items) ≡ length a.rows.items = length-map a.rows.items row_shown in
+    let done : c.in-Some.state ≡ states.Done (Some c.in-Some-stamp.stamp) = c.in-Done.is ∙ ap states.Done c.in-Some-stamp.is in
+    let least : c.args.line - parts.states.first ≡ parts.states.counts.commits = ap (λ x. c.args.line - x) (sym f) ∙ c.if-position-counts.false ∙ ap (λ x. x.commits) c.counts.ensures.value in
+    let row : get_or (map row_shown a.rows.items) (c.args.line - parts.states.first) no_notes ≡ row_shown c.index.result.now =
+    get_or-map row_shown a.rows.items (c.args.line - parts.states.first) c.index.result.now no_notes (omega (arith, l, m))
+    ∙ ap row_shown (sym (c.index.ensures ∙ ap (λ x. get_or a.rows.items (c.args.line - x) c.index.result.now) f)) in
+    let latest : q.latest ≡ max parts.latest (get_or parts.rows (c.args.line - parts.states.first) no_notes).changed =
+    c.later-self-inside.ensures ∙ ap (λ (x : Kept). max a.latest x.changed) (sym row) in
+    let new : board_of plan.base q ≡ board_of a.plan.now.base q = ap (λ (x : Planned). board_of x.base q) (sym c.self.invariant.0) in
+    subst (λ (b : Board). CommitStep b c.args.line Commits (board_of a.plan.now.base q)) is
+    (subst (λ (b : Board). CommitStep (board_of plan.base parts) c.args.line Commits b) new
+    (commit_returns plan parts kept c.args.line c.in-Some.state (sym c.in-Some.ensures) c.in-Some-stamp.stamp done least c.if-stamp-self.false q c.commit.ensures refl refl refl refl latest))

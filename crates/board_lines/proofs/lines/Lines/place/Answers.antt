@@ -1,0 +1,185 @@
+use Rattle.std.proofs.Common.{◌≡◌, ◌-◌, ◌+◌, ◌<◌, Some, map, set, length, get_or, refl, sym, ap, subst, ◌∙◌, arith, rules}
+use Rattle.std.specs.FinMap.{insert}
+use Rattle.std.proofs.lemmas.List.{get_or-map, length-map, map-set}
+use Rattle.circ_records.specs.declared.record.Record.{Record}
+use Rattle.read_set.specs.Settling.{Told}
+use Rattle.version_store.specs.Entries as store
+use Rattle.version_store.specs.Entries.{shown_by}
+use Rattle.board_steps.specs.Steps.{MayPublish, Fits, IsNextWrite, HasRoom, placed}
+use Rattle.board_lines.specs.declared.row.Course.{Course}
+use Rattle.board_lines.specs.declared.row.Row.{Row}
+use Rattle.board_lines.specs.Acts.{notes_at}
+use Rattle.board_lines.specs.Courses.{FirstPlacedBut}
+use Rattle.board_lines.specs.Parts.{Kept, no_notes}
+use Rattle.board_lines.proofs.Boards.{place_of}
+use Rattle.board_lines.proofs.Publications.{act_line, live_there, store_line, entries_there, placed_board, placed_kept_here}
+use Rattle.read_set.specs.Plans.{Planned}
+use Rattle.board_steps.specs.Board.{Board, IsLine, row_at}
+use Rattle.board_lines.specs.Parts.{Parts, IsKept, board_of, row_shown}
+use Rattle.board_lines.proofs.lines.Lines.place.Goals as goal
+
+pub place-requires : goal.place-requires
+place-requires g c =
+    let a = c.self.inside in
+    let plan = g.J.PlanName.plan in
+    let parts : Parts = record { states = a.attempts; store = a.entries; rows = map row_shown a.rows.items; hands = a.hands.items; clock = a.clock; latest = a.latest } in
+    let kept : IsKept plan parts = c.self.invariant.1 in
+    let is : board_of plan.base parts ≡ c.args.self.now = ap (λ (x : Planned). board_of x.base parts) (sym c.self.invariant.0) ∙ c.self.view_is in
+    let n = c.args.line in
+    let w = c.args.worker in
+    let v : Told = c.args.place.version.now in
+    let may : MayPublish (board_of plan.base parts) w n (notes_at (board_of plan.base parts) n) = subst (λ (b : Board). MayPublish b w n (notes_at b n)) (sym is) c.requires.may in
+    let fits : Fits (board_of plan.base parts) n (notes_at (board_of plan.base parts) n) v = subst (λ (b : Board). Fits b n (notes_at b n) v) (sym is) c.requires.fits in
+    let there : IsLine (board_of plan.base parts) n = act_line plan parts kept w n (notes_at (board_of plan.base parts) n) may v in
+    store_line plan parts kept n there
+
+pub go_on-requires-clause-old : goal.go_on-requires-clause-old
+go_on-requires-clause-old g c =
+    let a = c.self.inside in
+    let plan = g.J.PlanName.plan in
+    let parts : Parts = record { states = a.attempts; store = a.entries; rows = map row_shown a.rows.items; hands = a.hands.items; clock = a.clock; latest = a.latest } in
+    let kept : IsKept plan parts = c.self.invariant.1 in
+    let is : board_of plan.base parts ≡ c.args.self.now = ap (λ (x : Planned). board_of x.base parts) (sym c.self.invariant.0) ∙ c.self.view_is in
+    let n = c.args.line in
+    let w = c.args.worker in
+    let v : Told = c.args.place.version.now in
+    let may : MayPublish (board_of plan.base parts) w n (notes_at (board_of plan.base parts) n) = subst (λ (b : Board). MayPublish b w n (notes_at b n)) (sym is) c.requires.may in
+    let fits : Fits (board_of plan.base parts) n (notes_at (board_of plan.base parts) n) v = subst (λ (b : Board). Fits b n (notes_at b n) v) (sym is) c.requires.fits in
+    let there : IsLine (board_of plan.base parts) n = act_line plan parts kept w n (notes_at (board_of plan.base parts) n) may v in
+    live_there plan parts kept n there w (notes_at (board_of plan.base parts) n) may
+
+pub overflow_add-clock : goal.overflow_add-clock
+overflow_add-clock g c =
+    let a = c.self.inside in
+    let plan = g.J.PlanName.plan in
+    let parts : Parts = record { states = a.attempts; store = a.entries; rows = map row_shown a.rows.items; hands = a.hands.items; clock = a.clock; latest = a.latest } in
+    let kept : IsKept plan parts = c.self.invariant.1 in
+    let is : board_of plan.base parts ≡ c.args.self.now = ap (λ (x : Planned). board_of x.base parts) (sym c.self.invariant.0) ∙ c.self.view_is in
+    let room : HasRoom (board_of plan.base parts) = subst HasRoom (sym is) c.requires.room in
+    omega (arith, room)
+
+pub overflow_sub-line : goal.overflow_sub-line
+overflow_sub-line g c =
+    let a = c.self.inside in
+    let plan = g.J.PlanName.plan in
+    let parts : Parts = record { states = a.attempts; store = a.entries; rows = map row_shown a.rows.items; hands = a.hands.items; clock = a.clock; latest = a.latest } in
+    let kept : IsKept plan parts = c.self.invariant.1 in
+    let is : board_of plan.base parts ≡ c.args.self.now = ap (λ (x : Planned). board_of x.base parts) (sym c.self.invariant.0) ∙ c.self.view_is in
+    let n = c.args.line in
+    let w = c.args.worker in
+    let v : Told = c.args.place.version.now in
+    let may : MayPublish (board_of plan.base parts) w n (notes_at (board_of plan.base parts) n) = subst (λ (b : Board). MayPublish b w n (notes_at b n)) (sym is) c.requires.may in
+    let fits : Fits (board_of plan.base parts) n (notes_at (board_of plan.base parts) n) v = subst (λ (b : Board). Fits b n (notes_at b n) v) (sym is) c.requires.fits in
+    let there : IsLine (board_of plan.base parts) n = act_line plan parts kept w n (notes_at (board_of plan.base parts) n) may v in
+    let f : c.first.result ≡ parts.states.first = c.first.ensures ∙ ap (λ (x : Planned). x.first) c.self.invariant.0 ∙ sym kept.reached.first in
+    omega (arith, there.0, f)
+
+pub index_mut-row-requires : goal.index_mut-row-requires
+index_mut-row-requires g c =
+    let a = c.self.inside in
+    let plan = g.J.PlanName.plan in
+    let parts : Parts = record { states = a.attempts; store = a.entries; rows = map row_shown a.rows.items; hands = a.hands.items; clock = a.clock; latest = a.latest } in
+    let kept : IsKept plan parts = c.self.invariant.1 in
+    let is : board_of plan.base parts ≡ c.args.self.now = ap (λ (x : Planned). board_of x.base parts) (sym c.self.invariant.0) ∙ c.self.view_is in
+    let n = c.args.line in
+    let w = c.args.worker in
+    let v : Told = c.args.place.version.now in
+    let may : MayPublish (board_of plan.base parts) w n (notes_at (board_of plan.base parts) n) = subst (λ (b : Board). MayPublish b w n (notes_at b n)) (sym is) c.requires.may in
+    let fits : Fits (board_of plan.base parts) n (notes_at (board_of plan.base parts) n) v = subst (λ (b : Board). Fits b n (notes_at b n) v) (sym is) c.requires.fits in
+    let there : IsLine (board_of plan.base parts) n = act_line plan parts kept w n (notes_at (board_of plan.base parts) n) may v in
+    let f : c.first.result ≡ parts.states.first = c.first.ensures ∙ ap (λ (x : Planned). x.first) c.self.invariant.0 ∙ sym kept.reached.first in
+    let l : n - parts.states.first < length (map row_shown a.rows.items) = place_of plan.base parts n there in
+    let m : length (map row_shown a.rows.items) ≡ length a.rows.items = length-map a.rows.items row_shown in
+    let h : n - c.first.result < length a.rows.items = omega (arith, l, m, f) in
+    search (rules, h)
+
+pub invariant_of-self-2 : goal.invariant_of-self-2
+invariant_of-self-2 g c =
+    let a = c.self.inside in
+    let plan = g.J.PlanName.plan in
+    let parts : Parts = record { states = a.attempts; store = a.entries; rows = map row_shown a.rows.items; hands = a.hands.items; clock = a.clock; latest = a.latest } in
+    let kept : IsKept plan parts = c.self.invariant.1 in
+    let is : board_of plan.base parts ≡ c.args.self.now = ap (λ (x : Planned). board_of x.base parts) (sym c.self.invariant.0) ∙ c.self.view_is in
+    let n = c.args.line in
+    let w = c.args.worker in
+    let v : Told = c.args.place.version.now in
+    let may : MayPublish (board_of plan.base parts) w n (notes_at (board_of plan.base parts) n) = subst (λ (b : Board). MayPublish b w n (notes_at b n)) (sym is) c.requires.may in
+    let fits : Fits (board_of plan.base parts) n (notes_at (board_of plan.base parts) n) v = subst (λ (b : Board). Fits b n (notes_at b n) v) (sym is) c.requires.fits in
+    let there : IsLine (board_of plan.base parts) n = act_line plan parts kept w n (notes_at (board_of plan.base parts) n) may v in
+    let f : c.first.result ≡ parts.states.first = c.first.ensures ∙ ap (λ (x : Planned). x.first) c.self.invariant.0 ∙ sym kept.reached.first in
+    let spot = c.index_mut-row.result.now in
+    let come : Course = record { placed = c.args.count } in
+    let row : Row g.row.J.Denot = record { notes = spot.notes; version = Some c.args.place; course = come; changed = a.clock + 1 } in
+    let k : Kept = row_shown row in
+    let q : Parts = record {
+      states = c.go_on.new.self;
+      store = c.place.new.self;
+      rows = map row_shown (set a.rows.items (n - c.first.result) row);
+      hands = a.hands.items;
+      clock = a.clock + 1;
+      latest = a.latest;
+    } in
+    let l : n - parts.states.first < length (map row_shown a.rows.items) = place_of plan.base parts n there in
+    let m : length (map row_shown a.rows.items) ≡ length a.rows.items = length-map a.rows.items row_shown in
+    let was : get_or (map row_shown a.rows.items) (n - parts.states.first) no_notes ≡ row_shown c.index_mut-row.result.now =
+    get_or-map row_shown a.rows.items (n - parts.states.first) c.index_mut-row.result.now no_notes (omega (arith, l, m))
+    ∙ ap row_shown (sym (c.index_mut-row.ensures.value ∙ ap (λ x. get_or a.rows.items (n - x) c.index_mut-row.result.now) f)) in
+    let rows_is : q.rows ≡ set parts.rows (n - parts.states.first) k =
+    map-set row_shown a.rows.items (n - c.first.result) row ∙ ap (λ x. set parts.rows (n - x) k) f in
+    let k_is : k ≡ record { notes = (get_or parts.rows (n - parts.states.first) no_notes).notes; told = Some v; course = come; changed = a.clock + 1 } =
+    ap (λ (y : Kept). record { notes = y.notes; told = Some v; course = come; changed = a.clock + 1 }) (sym was) in
+    let next : (value : Record) × IsNextWrite (row_at (board_of plan.base parts) n) v c.args.key value = subst (λ (b : Board). (value : Record) × IsNextWrite (row_at b n) v c.args.key value) (sym is) c.requires.next in
+    let room : HasRoom (board_of plan.base parts) = subst HasRoom (sym is) c.requires.room in
+    let l = insert (store.line_at a.entries n) c.args.key (shown_by c.attempt-attempt.result v) in
+    let attempt_is : c.attempt-attempt.result ≡ v.attempt = c.attempt-attempt.ensures ∙ ap (λ (x : Told). x.attempt) c.show.ensures in
+    let l_is : l ≡ insert (row_at (board_of plan.base parts) n).entries c.args.key (shown_by v.attempt v) =
+    ap (λ x. insert (store.line_at a.entries n) c.args.key (shown_by x v)) attempt_is
+    ∙ ap (λ (x : store.Line). insert x c.args.key (shown_by v.attempt v)) (sym (entries_there plan parts kept n there)) in
+    let but : FirstPlacedBut (row_at (board_of plan.base parts) n).entries v.attempt v.writes c.args.key c.args.count =
+    subst (λ (b : Board). FirstPlacedBut (row_at b n).entries v.attempt v.writes c.args.key c.args.count) (sym is) c.requires.first in
+    (c.self.invariant.0, placed_kept_here plan parts kept w n (notes_at (board_of plan.base parts) n) may v q l k come c.go_on.ensures c.in-Ok.ensures.placed rows_is k_is refl refl refl c.args.key fits c.requires.version room next l_is but)
+
+pub returns-clause-placed : goal.returns-clause-placed
+returns-clause-placed g c =
+    let a = c.self.inside in
+    let plan = g.J.PlanName.plan in
+    let parts : Parts = record { states = a.attempts; store = a.entries; rows = map row_shown a.rows.items; hands = a.hands.items; clock = a.clock; latest = a.latest } in
+    let kept : IsKept plan parts = c.self.invariant.1 in
+    let is : board_of plan.base parts ≡ c.args.self.now = ap (λ (x : Planned). board_of x.base parts) (sym c.self.invariant.0) ∙ c.self.view_is in
+    let n = c.args.line in
+    let w = c.args.worker in
+    let v : Told = c.args.place.version.now in
+    let may : MayPublish (board_of plan.base parts) w n (notes_at (board_of plan.base parts) n) = subst (λ (b : Board). MayPublish b w n (notes_at b n)) (sym is) c.requires.may in
+    let fits : Fits (board_of plan.base parts) n (notes_at (board_of plan.base parts) n) v = subst (λ (b : Board). Fits b n (notes_at b n) v) (sym is) c.requires.fits in
+    let there : IsLine (board_of plan.base parts) n = act_line plan parts kept w n (notes_at (board_of plan.base parts) n) may v in
+    let f : c.first.result ≡ parts.states.first = c.first.ensures ∙ ap (λ (x : Planned). x.first) c.self.invariant.0 ∙ sym kept.reached.first in
+    let spot = c.index_mut-row.result.now in
+    let come : Course = record { placed = c.args.count } in
+    let row : Row g.row.J.Denot = record { notes = spot.notes; version = Some c.args.place; course = come; changed = a.clock + 1 } in
+    let k : Kept = row_shown row in
+    let q : Parts = record {
+      states = c.go_on.new.self;
+      store = c.place.new.self;
+      rows = map row_shown (set a.rows.items (n - c.first.result) row);
+      hands = a.hands.items;
+      clock = a.clock + 1;
+      latest = a.latest;
+    } in
+    let l : n - parts.states.first < length (map row_shown a.rows.items) = place_of plan.base parts n there in
+    let m : length (map row_shown a.rows.items) ≡ length a.rows.items = length-map a.rows.items row_shown in
+    let was : get_or (map row_shown a.rows.items) (n - parts.states.first) no_notes ≡ row_shown c.index_mut-row.result.now =
+    get_or-map row_shown a.rows.items (n - parts.states.first) c.index_mut-row.result.now no_notes (omega (arith, l, m))
+    ∙ ap row_shown (sym (c.index_mut-row.ensures.value ∙ ap (λ x. get_or a.rows.items (n - x) c.index_mut-row.result.now) f)) in
+    let rows_is : q.rows ≡ set parts.rows (n - parts.states.first) k =
+    map-set row_shown a.rows.items (n - c.first.result) row ∙ ap (λ x. set parts.rows (n - x) k) f in
+    let k_is : k ≡ record { notes = (get_or parts.rows (n - parts.states.first) no_notes).notes; told = Some v; course = come; changed = a.clock + 1 } =
+    ap (λ (y : Kept). record { notes = y.notes; told = Some v; course = come; changed = a.clock + 1 }) (sym was) in
+    let next : (value : Record) × IsNextWrite (row_at (board_of plan.base parts) n) v c.args.key value = subst (λ (b : Board). (value : Record) × IsNextWrite (row_at b n) v c.args.key value) (sym is) c.requires.next in
+    let room : HasRoom (board_of plan.base parts) = subst HasRoom (sym is) c.requires.room in
+    let l = insert (store.line_at a.entries n) c.args.key (shown_by c.attempt-attempt.result v) in
+    let attempt_is : c.attempt-attempt.result ≡ v.attempt = c.attempt-attempt.ensures ∙ ap (λ (x : Told). x.attempt) c.show.ensures in
+    let l_is : l ≡ insert (row_at (board_of plan.base parts) n).entries c.args.key (shown_by v.attempt v) =
+    ap (λ x. insert (store.line_at a.entries n) c.args.key (shown_by x v)) attempt_is
+    ∙ ap (λ (x : store.Line). insert x c.args.key (shown_by v.attempt v)) (sym (entries_there plan parts kept n there)) in
+    subst (λ (b : Board). board_of a.plan.now.base q ≡ placed b w n (notes_at b n) v c.args.key) is
+    (ap (λ (x : Planned). board_of x.base q) c.self.invariant.0 ∙ placed_board plan parts kept w n (notes_at (board_of plan.base parts) n) may v q l k come c.go_on.ensures c.in-Ok.ensures.placed rows_is k_is refl refl refl c.args.key fits c.requires.version room next l_is)

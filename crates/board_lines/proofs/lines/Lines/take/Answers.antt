@@ -1,0 +1,173 @@
+use Rattle.std.proofs.Common.{◌≡◌, ◌-◌, ◌<◌, Some, None, List, [], map, set, get_or, ◌^◌, length, slice_get, refl, sym, ap, subst, ◌∙◌, arith, rules}
+use Rattle.std.proofs.lemmas.List.{length-map, get_or-map, map-set}
+use Rattle.read_set.specs.Plans.{Planned}
+use Rattle.board_steps.specs.Board.{Board}
+use Rattle.board_lines.specs.Notes.{Noted}
+use Rattle.board_lines.specs.declared.row.Row.{Row}
+use Rattle.board_lines.specs.Parts.{Kept, Parts, IsKept, board_of, row_shown, no_notes}
+use Rattle.attempts.specs.States.{States, state_at}
+use Rattle.attempts.specs.declared.state.LineState.TheVariants as states
+use Rattle.board_steps.specs.Steps.{TakeStep}
+use Rattle.board_steps.specs.Steps.Reply.{Idle, Taken, Attempts}
+use Rattle.board_lines.proofs.Boards.{place_of}
+use Rattle.board_lines.proofs.Hands.{hand_read, none_if, some_if}
+use Rattle.board_lines.proofs.Moves.{state_none, state_waits, no_worker, busy}
+use Rattle.board_lines.proofs.Takes.{there, next_there, attempts_returns, take_returns, take_kept}
+use Rattle.board_lines.proofs.Commits.{state_there}
+use Rattle.board_lines.proofs.lines.Lines.take.Goals as goal
+use Rattle.board_lines.proofs.lines.Lines.take.Goals.{then-hand-len-via-then-hand-len, then-hand-len-via-else-hand-len+then-is_some}
+
+pub returns-then-hand-len : goal.returns-then-hand-len
+returns-then-hand-len g c =
+    let a = c.self.inside in
+    let plan = g.J.PlanName.plan in
+    let parts : Parts = record { states = a.attempts; store = a.entries; rows = map row_shown a.rows.items; hands = a.hands.items; clock = a.clock; latest = a.latest } in
+    let kept : IsKept plan parts = c.self.invariant.1 in
+    let is : board_of plan.base parts ≡ c.args.self.now = ap (λ (x : Planned). board_of x.base parts) (sym c.self.invariant.0) ∙ c.self.view_is in
+    subst (λ (b : Board). TakeStep b c.args.worker c.args.line Idle b) is (
+      elim c.then-hand-len.branch [
+        | then-hand-len-via-then-hand-len w ↦ (λ may. no_worker a.hands.items (board_of plan.base parts) kept.hand refl c.args.worker (omega (arith, a.hands.ok.0)) may.free)
+        | then-hand-len-via-else-hand-len+then-is_some w ↦
+            (let s = some_if w.index.result.now (sym w.is_some.ensures ∙ w.if-is_some.true) in
+            λ may. busy a.hands.items (board_of plan.base parts) kept.hand refl c.args.worker s.0
+            (hand_read a.hands.items c.args.worker w.index.result.now (omega (arith, a.hands.ok.0)) w.index.ensures ∙ ap (λ x. Some x) s.1) may.free)
+      ],
+      refl,
+    )
+
+pub returns-in_default : goal.returns-in_default
+returns-in_default g c =
+    let a = c.self.inside in
+    let plan = g.J.PlanName.plan in
+    let parts : Parts = record { states = a.attempts; store = a.entries; rows = map row_shown a.rows.items; hands = a.hands.items; clock = a.clock; latest = a.latest } in
+    let kept : IsKept plan parts = c.self.invariant.1 in
+    let is : board_of plan.base parts ≡ c.args.self.now = ap (λ (x : Planned). board_of x.base parts) (sym c.self.invariant.0) ∙ c.self.view_is in
+    subst (λ (b : Board). TakeStep b c.args.worker c.args.line Idle b) is (
+      λ may. state_none parts.states c.args.line (sym c.in_default.ensures) may.within.0
+          (omega (arith, place_of plan.base parts c.args.line may.within, kept.all_states)),
+      refl,
+    )
+
+pub returns-in_default-state : goal.returns-in_default-state
+returns-in_default-state g c =
+    let a = c.self.inside in
+    let plan = g.J.PlanName.plan in
+    let parts : Parts = record { states = a.attempts; store = a.entries; rows = map row_shown a.rows.items; hands = a.hands.items; clock = a.clock; latest = a.latest } in
+    let kept : IsKept plan parts = c.self.invariant.1 in
+    let is : board_of plan.base parts ≡ c.args.self.now = ap (λ (x : Planned). board_of x.base parts) (sym c.self.invariant.0) ∙ c.self.view_is in
+    subst (λ (b : Board). TakeStep b c.args.worker c.args.line Idle b) is (
+      λ may. c.in_default-state.not-Waiting (state_waits c.in-Some.state _ _ (sym (state_there plan parts kept c.args.line c.in-Some.state (sym c.in-Some.ensures)) ∙ may.waiting)),
+      refl,
+    )
+
+pub returns-in_default-take : goal.returns-in_default-take
+returns-in_default-take g c =
+    let a = c.self.inside in
+    let plan = g.J.PlanName.plan in
+    let parts : Parts = record { states = a.attempts; store = a.entries; rows = map row_shown a.rows.items; hands = a.hands.items; clock = a.clock; latest = a.latest } in
+    let kept : IsKept plan parts = c.self.invariant.1 in
+    let is : board_of plan.base parts ≡ c.args.self.now = ap (λ (x : Planned). board_of x.base parts) (sym c.self.invariant.0) ∙ c.self.view_is in
+    let waits : state_at parts.states c.args.line ≡ Some states.Waiting = sym c.in-Some.ensures ∙ ap (λ x. Some x) c.in-Waiting.is in
+    let hand : slice_get a.hands.items c.args.worker ≡ Some None =
+    hand_read a.hands.items c.args.worker c.index.result.now (omega (arith, a.hands.ok.0)) c.index.ensures ∙ ap (λ x. Some x) (none_if c.index.result.now (sym c.is_some.ensures ∙ c.if-is_some.false)) in
+    let spent = c.in_default-take.ensures.none in
+    let t : TakeStep c.args.self.now c.args.worker c.args.line (Attempts c.args.line) c.args.self.now =
+    subst (λ (b : Board). TakeStep b c.args.worker c.args.line (Attempts c.args.line) b) is (attempts_returns plan parts kept c.args.line c.args.worker waits hand spent.0) in (
+      t.0,
+      t.1,
+      refl,
+      ap (λ (x : States). board_of a.plan.now.base (record { states = x; store = a.entries; rows = map row_shown a.rows.items; hands = a.hands.items; clock = a.clock; latest = a.latest })) spent.1 ∙ c.self.view_is,
+    )
+
+pub index_mut-row-requires : goal.index_mut-row-requires
+index_mut-row-requires g c =
+    let a = c.self.inside in
+    let plan = g.J.PlanName.plan in
+    let parts : Parts = record { states = a.attempts; store = a.entries; rows = map row_shown a.rows.items; hands = a.hands.items; clock = a.clock; latest = a.latest } in
+    let kept : IsKept plan parts = c.self.invariant.1 in
+    let is : board_of plan.base parts ≡ c.args.self.now = ap (λ (x : Planned). board_of x.base parts) (sym c.self.invariant.0) ∙ c.self.view_is in
+    let waits : state_at parts.states c.args.line ≡ Some states.Waiting = sym c.in-Some.ensures ∙ ap (λ x. Some x) c.in-Waiting.is in
+    let hand : slice_get a.hands.items c.args.worker ≡ Some None =
+    hand_read a.hands.items c.args.worker c.index.result.now (omega (arith, a.hands.ok.0)) c.index.ensures ∙ ap (λ x. Some x) (none_if c.index.result.now (sym c.is_some.ensures ∙ c.if-is_some.false)) in
+    let f : c.first.result ≡ parts.states.first = c.first.ensures ∙ ap (λ (x : Planned). x.first) c.self.invariant.0 ∙ sym kept.reached.first in
+    let l : c.args.line - parts.states.first < length (map row_shown a.rows.items) = place_of plan.base parts c.args.line (there plan parts kept c.args.line c.args.worker waits hand) in
+    let m : length (map row_shown a.rows.items) ≡ length a.rows.items = length-map a.rows.items row_shown in
+    let h : c.args.line - c.first.result < length a.rows.items = omega (arith, l, m, f) in
+    search (rules, h)
+
+pub invariant_of-self-2 : goal.invariant_of-self-2
+invariant_of-self-2 g c =
+    let a = c.self.inside in
+    let plan = g.J.PlanName.plan in
+    let parts : Parts = record { states = a.attempts; store = a.entries; rows = map row_shown a.rows.items; hands = a.hands.items; clock = a.clock; latest = a.latest } in
+    let kept : IsKept plan parts = c.self.invariant.1 in
+    let is : board_of plan.base parts ≡ c.args.self.now = ap (λ (x : Planned). board_of x.base parts) (sym c.self.invariant.0) ∙ c.self.view_is in
+    let waits : state_at parts.states c.args.line ≡ Some states.Waiting = sym c.in-Some.ensures ∙ ap (λ x. Some x) c.in-Waiting.is in
+    let hand : slice_get a.hands.items c.args.worker ≡ Some None =
+    hand_read a.hands.items c.args.worker c.index.result.now (omega (arith, a.hands.ok.0)) c.index.ensures ∙ ap (λ x. Some x) (none_if c.index.result.now (sym c.is_some.ensures ∙ c.if-is_some.false)) in
+    let spot = c.index_mut-row.result.now in
+    let row : Row g.row.J.Denot = record { notes = c.clear.new.self; version = spot.version; course = spot.course; changed = spot.changed } in
+    let k : Kept = row_shown row in
+    let q : Parts = record {
+      states = c.take.new.self;
+      store = a.entries;
+      rows = map row_shown (set a.rows.items (c.args.line - c.first.result) row);
+      hands = set a.hands.items c.args.worker (Some c.args.line);
+      clock = a.clock;
+      latest = a.latest;
+    } in
+    let f : c.first.result ≡ parts.states.first = c.first.ensures ∙ ap (λ (x : Planned). x.first) c.self.invariant.0 ∙ sym kept.reached.first in
+    let l : c.args.line - parts.states.first < length (map row_shown a.rows.items) = place_of plan.base parts c.args.line (there plan parts kept c.args.line c.args.worker waits hand) in
+    let m : length (map row_shown a.rows.items) ≡ length a.rows.items = length-map a.rows.items row_shown in
+    let was : get_or (map row_shown a.rows.items) (c.args.line - parts.states.first) no_notes ≡ row_shown spot =
+    get_or-map row_shown a.rows.items (c.args.line - parts.states.first) spot no_notes (omega (arith, l, m))
+    ∙ ap row_shown (sym (c.index_mut-row.ensures.value ∙ ap (λ x. get_or a.rows.items (c.args.line - x) spot) f)) in
+    let rows_is : q.rows ≡ set parts.rows (c.args.line - parts.states.first) k =
+    map-set row_shown a.rows.items (c.args.line - c.first.result) row ∙ ap (λ x. set parts.rows (c.args.line - x) k) f in
+    let k_is : k ≡ record { notes = []; told = (get_or parts.rows (c.args.line - parts.states.first) no_notes).told; course = (get_or parts.rows (c.args.line - parts.states.first) no_notes).course; changed = (get_or parts.rows (c.args.line - parts.states.first) no_notes).changed } =
+    ap (λ (x : List Noted). record { notes = x; told = (row_shown spot).told; course = spot.course; changed = spot.changed }) c.clear.ensures
+    ∙ ap (λ (y : Kept). record { notes = []; told = y.told; course = y.course; changed = y.changed }) (sym was) in
+    let ok = c.in-Some-take.ensures.some in
+    let next = next_there plan parts kept c.args.line c.args.worker waits hand c.in-Some-take.attempt ok.0 in
+    let fits : c.in-Some-take.attempt < 2 ^ 32 = search rules in
+    (c.self.invariant.0, take_kept plan parts kept c.args.line c.args.worker waits hand q k ok.1 refl rows_is k_is refl (omega (arith, a.hands.ok.0)) refl refl (omega (arith, next, fits)))
+
+pub returns : goal.returns
+returns g c =
+    let a = c.self.inside in
+    let plan = g.J.PlanName.plan in
+    let parts : Parts = record { states = a.attempts; store = a.entries; rows = map row_shown a.rows.items; hands = a.hands.items; clock = a.clock; latest = a.latest } in
+    let kept : IsKept plan parts = c.self.invariant.1 in
+    let is : board_of plan.base parts ≡ c.args.self.now = ap (λ (x : Planned). board_of x.base parts) (sym c.self.invariant.0) ∙ c.self.view_is in
+    let waits : state_at parts.states c.args.line ≡ Some states.Waiting = sym c.in-Some.ensures ∙ ap (λ x. Some x) c.in-Waiting.is in
+    let hand : slice_get a.hands.items c.args.worker ≡ Some None =
+    hand_read a.hands.items c.args.worker c.index.result.now (omega (arith, a.hands.ok.0)) c.index.ensures ∙ ap (λ x. Some x) (none_if c.index.result.now (sym c.is_some.ensures ∙ c.if-is_some.false)) in
+    let spot = c.index_mut-row.result.now in
+    let row : Row g.row.J.Denot = record { notes = c.clear.new.self; version = spot.version; course = spot.course; changed = spot.changed } in
+    let k : Kept = row_shown row in
+    let q : Parts = record {
+      states = c.take.new.self;
+      store = a.entries;
+      rows = map row_shown (set a.rows.items (c.args.line - c.first.result) row);
+      hands = set a.hands.items c.args.worker (Some c.args.line);
+      clock = a.clock;
+      latest = a.latest;
+    } in
+    let f : c.first.result ≡ parts.states.first = c.first.ensures ∙ ap (λ (x : Planned). x.first) c.self.invariant.0 ∙ sym kept.reached.first in
+    let l : c.args.line - parts.states.first < length (map row_shown a.rows.items) = place_of plan.base parts c.args.line (there plan parts kept c.args.line c.args.worker waits hand) in
+    let m : length (map row_shown a.rows.items) ≡ length a.rows.items = length-map a.rows.items row_shown in
+    let was : get_or (map row_shown a.rows.items) (c.args.line - parts.states.first) no_notes ≡ row_shown spot =
+    get_or-map row_shown a.rows.items (c.args.line - parts.states.first) spot no_notes (omega (arith, l, m))
+    ∙ ap row_shown (sym (c.index_mut-row.ensures.value ∙ ap (λ x. get_or a.rows.items (c.args.line - x) spot) f)) in
+    let rows_is : q.rows ≡ set parts.rows (c.args.line - parts.states.first) k =
+    map-set row_shown a.rows.items (c.args.line - c.first.result) row ∙ ap (λ x. set parts.rows (c.args.line - x) k) f in
+    let k_is : k ≡ record { notes = []; told = (get_or parts.rows (c.args.line - parts.states.first) no_notes).told; course = (get_or parts.rows (c.args.line - parts.states.first) no_notes).course; changed = (get_or parts.rows (c.args.line - parts.states.first) no_notes).changed } =
+    ap (λ (x : List Noted). record { notes = x; told = (row_shown spot).told; course = spot.course; changed = spot.changed }) c.clear.ensures
+    ∙ ap (λ (y : Kept). record { notes = []; told = y.told; course = y.course; changed = y.changed }) (sym was) in
+    let ok = c.in-Some-take.ensures.some in
+    let next = next_there plan parts kept c.args.line c.args.worker waits hand c.in-Some-take.attempt ok.0 in
+    let fits : c.in-Some-take.attempt < 2 ^ 32 = search rules in
+    let new : board_of plan.base q ≡ board_of a.plan.now.base q = ap (λ (x : Planned). board_of x.base q) (sym c.self.invariant.0) in
+    subst (λ (b : Board). TakeStep b c.args.worker c.args.line (Taken c.in-Some-take.attempt) (board_of a.plan.now.base q)) is
+    (subst (λ (b : Board). TakeStep (board_of plan.base parts) c.args.worker c.args.line (Taken c.in-Some-take.attempt) b) new
+    (take_returns plan parts kept c.args.line c.args.worker waits hand q k ok.1 refl rows_is k_is refl (omega (arith, a.hands.ok.0)) refl refl c.in-Some-take.attempt (sym next) fits))

@@ -1,0 +1,16 @@
+use Rattle.std.proofs.Common.{ap₂, ◌∙◌, ◌≡◌, sym, false, subst}
+use Rattle.board_lines.specs.Notes.{noted_from, is_noted}
+use Rattle.board_lines.proofs.Noting.{noted_more, noted_push}
+use Rattle.board_lines.proofs.notes.PlaceNotes.add.Goals as goal
+
+pub invariant_of-self-in-Ok-insert : goal.invariant_of-self-in-Ok-insert
+invariant_of-self-in-Ok-insert g c =
+    let a = c.self.inside in
+    rw (c.in-Ok.ensures.items, c.in-Ok-push.ensures.items)
+    (noted_more a.keys.items a.names.items a.index c.insert.new.self c.args.key.now c.args.seen c.self.invariant (subst (λ n. is_noted n c.args.key.now ≡ false) (sym c.self.view_is) c.requires) c.in-Ok-insert.ensures.updates.0)
+
+pub returns-in-Ok-insert-clause-ok : goal.returns-in-Ok-insert-clause-ok
+returns-in-Ok-insert-clause-ok g c =
+    let a = c.self.inside in
+    rw (← c.self.view_is)
+    (ap₂ noted_from c.in-Ok.ensures.items c.in-Ok-push.ensures.items ∙ noted_push a.keys.items a.names.items c.args.key.now c.args.seen c.self.invariant.as_many)

@@ -1,0 +1,72 @@
+-- What a line has noted, by places: the base's record, or what the version at a place writes.
+use Rattle.std.specs.Prelude.{◌≡◌, Bool, List, [], ◌∷◌, map, length, Option, Some, None, option_map}
+use Rattle.std.specs.BTreeMap.{is_at}
+use Rattle.std.specs.BTreeSet.{BTreeSet, contains}
+use Rattle.std.specs.List.{list_any, IsDistinct}
+use Rattle.std.specs.Ordering.{eq_by_cmp}
+use Rattle.circ_records.specs.Keys.{key_cmp}
+use Rattle.circ_records.specs.Records.{Entries, record_at}
+use Rattle.circ_records.specs.declared.key.Key.{Key}
+use Rattle.circ_records.specs.declared.record.Record.{Record}
+use Rattle.read_set.specs.Settling.{Told}
+use Rattle.read_set.specs.declared.notes.Name.{Name}
+use Rattle.read_set.specs.declared.notes.Note.{Note}
+use Rattle.version_store.specs.declared.table.Place.{Place}
+use Rattle.board_lines.specs.declared.notes.PlacedName.{PlacedName}
+
+-- a note by its place: what the version there says
+pub record Noted : Type 0 where
+  pub key : Key
+  pub name : Name
+  pub told : Option Told
+
+abbrev pub told_at : {J : Type 0} → Place J → Told
+told_at place = place.version.now
+
+abbrev pub note_with : {J : Type 0} → Key → PlacedName J → Noted
+note_with key n = record { key = key; name = n.name; told = option_map told_at n.place }
+
+-- keys with their names and places
+abbrev pub noted_from : {J : Type 0} → List Key → List (PlacedName J) → List Noted
+noted_from [] names = []
+noted_from (k ∷ keys) [] = []
+noted_from (k ∷ keys) (n ∷ names) = note_with k n ∷ noted_from keys names
+
+-- the name of a note, and what the version at its place says
+abbrev pub by_place : {J : Type 0} → PlacedName J → Name × Option Told
+by_place n = (n.name, option_map told_at n.place)
+
+abbrev pub named_in : Noted → Name × Option Told
+named_in n = (n.name, n.told)
+
+-- the record of a note: the base's, or what the version writes at the key
+abbrev pub found_by : Entries → Key → Option Told → Option Record
+found_by base k None = record_at base k
+found_by base k (Some told) = record_at told.writes k
+
+abbrev pub note_by : Entries → Noted → Note
+note_by base n = record { key = n.key; name = n.name; found = found_by base n.key n.told }
+
+-- the key and the name of a note
+abbrev pub key_and_name : Note → Key × Name
+key_and_name n = (n.key, n.name)
+
+abbrev pub key_and_name_of : Noted → Key × Name
+key_and_name_of n = (n.key, n.name)
+
+abbrev pub notes_by : Entries → List Noted → List Note
+notes_by base notes = map (note_by base) notes
+
+-- whether a key is noted
+abbrev pub is_noted : List Noted → Key → Bool
+is_noted notes k = list_any (λ n. is_at (key_cmp k) n.key) notes
+
+-- each key is noted once
+abbrev pub AreOnce : List Noted → Type 0
+AreOnce notes = IsDistinct (eq_by_cmp key_cmp) (map (λ n. n.key) notes)
+
+-- each key has a name, and the keys, of which each is there once, can be found
+pub record AreNoted {J : Type 0} (keys : List Key) (names : List (PlacedName J)) (index : BTreeSet Key) : Type 0 where
+  pub as_many : length keys ≡ length names
+  pub each : (k : Key) → contains key_cmp index k ≡ is_noted (noted_from keys names) k
+  pub once : AreOnce (noted_from keys names)

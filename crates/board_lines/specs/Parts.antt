@@ -1,0 +1,103 @@
+-- The fields of a board, as data, and the board that they are.
+use Rattle.std.specs.Prelude.{◌≡◌, ℕ, zero, suc, ◌+◌, ◌-◌, ◌<◌, ◌≤◌, ◌⊎◌, ◌↔◌, List, [], ◌∷◌, length, slice_get, slice_index_or, Option, Some, None, option_map}
+use Rattle.circ_records.specs.Records.{Entries}
+use Rattle.sip_answer.specs.declared.answer.Answer.{Answer}
+use Rattle.read_set.specs.Plans.{Planned}
+use Rattle.read_set.specs.Settling.{Told}
+use Rattle.read_set.specs.declared.notes.Note.{Note}
+use Rattle.attempts.specs.Moves.{no_row}
+use Rattle.attempts.specs.declared.table.Row as attempt
+use Rattle.attempts.specs.States.{States}
+use Rattle.attempts.specs.declared.state.LineState.{LineState}
+use Rattle.attempts.specs.declared.state.LineState.TheVariants as states
+use Rattle.version_store.specs.Entries as store
+use Rattle.board_steps.specs.Board as steps
+use Rattle.board_steps.specs.Board.{Board, State, IsLine, row_at, holder}
+use Rattle.board_steps.specs.Board.State.{Waiting, Running, Placing, Done, Checking, Committed}
+use Rattle.board_steps.specs.Reached.{Reached}
+use Rattle.board_lines.specs.Notes.{Noted, notes_by, told_at}
+use Rattle.board_lines.specs.Courses.{IsUnderWay}
+use Rattle.board_lines.specs.declared.row.Course.{Course}
+use Rattle.board_lines.specs.declared.row.Row.{Row}
+
+-- what the board keeps of a line beside its state and its entries
+pub record Kept : Type 0 where
+  pub notes : List Noted
+  pub told : Option Told
+  pub course : Course
+  pub changed : ℕ
+
+abbrev pub row_shown : {J : Type 0} → Row J → Kept
+row_shown r = record { notes = r.notes; told = option_map told_at r.version; course = r.course; changed = r.changed }
+
+abbrev pub no_notes : Kept
+no_notes = record { notes = []; told = None; course = record { placed = 0 }; changed = 0 }
+
+pub record Parts : Type 0 where
+  pub states : States
+  pub store : store.Store
+  pub rows : List Kept
+  pub hands : List (Option ℕ)
+  pub clock : ℕ
+  pub latest : ℕ
+
+-- the answer of the version that was published
+abbrev pub answer_by : Option Told → Option Answer
+answer_by None = None
+answer_by (Some told) = told.answer
+
+-- the state, with the notes and the version that stand beside it
+abbrev pub state_of : LineState → List Note → Option Told → State
+state_of states.Waiting notes told = Waiting
+state_of (states.Running w) notes told = Running w notes
+state_of (states.Placing w) notes told = Placing w notes told
+state_of (states.Done stamp) notes told = Done notes (answer_by told) stamp
+state_of (states.Checking w t i) notes told = Checking w notes (answer_by told) t i
+state_of states.Committed notes told = Committed (answer_by told)
+
+-- a line of these three
+abbrev pub row_with : Entries → attempt.Row → Kept → store.Line → steps.Row
+row_with base s k l = record { state = state_of s.state (notes_by base k.notes) k.told; next = s.next; changed = k.changed; entries = l }
+
+-- the line at a place
+abbrev pub row_by : Entries → Parts → ℕ → steps.Row
+row_by base a p = row_with base (slice_index_or a.states.rows p no_row) (slice_index_or a.rows p no_notes) (slice_index_or a.store.lines p store.no_entries)
+
+-- so many values of a function, from 0 on
+abbrev pub first_of : {A : Type 0} → (ℕ → A) → ℕ → List A
+first_of f zero = []
+first_of f (suc n) = f zero ∷ first_of (λ i. f (suc i)) n
+
+abbrev pub board_of : Entries → Parts → Board
+board_of base a = record {
+  first = a.states.first;
+  rows = first_of (row_by base a) (length a.rows);
+  workers = length a.hands;
+  clock = a.clock;
+  committed = a.states.counts.commits;
+  takes = a.states.counts.takes;
+  failed = a.states.counts.failed;
+  stops = a.states.counts.stops;
+}
+
+-- what is kept of a line
+abbrev pub kept_at : Parts → ℕ → Kept
+kept_at a n = slice_index_or a.rows (n - a.states.first) no_notes
+
+-- each hand holds the line that its worker has
+abbrev pub HandsHold : List (Option ℕ) → (ℕ → steps.Row) → Type 0
+HandsHold hands rows = (w n : ℕ) → (slice_get hands w ≡ Some (Some n)) ↔ (holder (rows n).state ≡ Some w)
+
+-- what the fields keep
+pub record IsKept (plan : Planned) (a : Parts) : Type 0 where
+  pub reached : Reached plan (board_of plan.base a)
+  pub same_first : a.store.first ≡ a.states.first
+  pub all_states : length a.states.rows ≡ length a.rows
+  pub all_entries : length a.store.lines ≡ length a.rows
+  pub hand : HandsHold a.hands (row_at (board_of plan.base a))
+  -- a line that is placing has the version of its last act, which fits, and the course says how far that has come
+  pub under_way : (n w : ℕ) (notes : List Note) (last : Option Told) → (row_at (board_of plan.base a) n).state ≡ Placing w notes last
+      → IsUnderWay n (row_at (board_of plan.base a) n) notes last (kept_at a n).course
+  -- the greatest clock at which a committed line changed
+  pub below : (m : ℕ) → m < plan.first + a.states.counts.commits → (row_at (board_of plan.base a) m).changed ≤ a.latest
+  pub attained : (a.latest ≡ 0) ⊎ ((m : ℕ) × (m < plan.first + a.states.counts.commits) × (a.latest ≡ (row_at (board_of plan.base a) m).changed))

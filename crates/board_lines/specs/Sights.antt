@@ -1,0 +1,53 @@
+-- What the pieces of look and check answer: which line may look, what is to be noted, and what a check compares.
+use Rattle.std.specs.Prelude.{◌≡◌, ℕ, ◌≤◌, List, Option, Some, None, option_map, slice_get, length}
+use Rattle.circ_records.specs.declared.key.Key.{Key}
+use Rattle.sip_answer.specs.declared.answer.Answer.{Answer}
+use Rattle.read_set.specs.declared.notes.Name.{Name}
+use Rattle.read_set.specs.declared.notes.Name.TheVariants as names
+use Rattle.read_set.specs.declared.notes.Note.{Note}
+use Rattle.version_store.specs.Entries.{Sight, SeesBase, Sees, SeesSuspect}
+use Rattle.version_store.specs.declared.entry.Found.{Found}
+use Rattle.board_steps.specs.Board.{Board, row_at}
+use Rattle.board_steps.specs.Reached.{IsNow}
+use Rattle.board_steps.specs.Steps.{MayLook, Compares, Differs, stopped}
+use Rattle.board_lines.specs.Notes.{told_at}
+use Rattle.board_lines.specs.declared.notes.PlacedName.{PlacedName}
+
+-- the line whose look it is
+abbrev pub IsLooking : Board → ℕ → Key → Option ℕ → Type 0
+IsLooking b w k None = (n : ℕ) (notes : List Note) → MayLook b w k n notes → ⊥
+IsLooking b w k (Some n) = (notes : List Note) × MayLook b w k n notes
+
+-- the name and the place of what was seen
+abbrev pub IsNameOf : {J : Type 0} → Sight → PlacedName J → Type 0
+IsNameOf SeesBase n = (n.name ≡ names.Base) × (n.place ≡ None)
+IsNameOf (Sees name told) n = (n.name ≡ name) × (option_map told_at n.place ≡ Some told)
+IsNameOf (SeesSuspect line) n = ⊥
+
+-- the stamp of the check, and how many notes it has compared
+abbrev pub IsCheck : Board → ℕ → ℕ → Option (ℕ × ℕ) → Type 0
+IsCheck b w n None = (notes : List Note) (answer : Option Answer) (t i : ℕ) → Compares b w n notes answer t i → ⊥
+IsCheck b w n (Some c) = (notes : List Note) × (answer : Option Answer) × Compares b w n notes answer c.0 c.1
+
+-- all notes are compared
+abbrev pub IsWhole : Board → ℕ → ℕ → ℕ → Type 0
+IsWhole b w n t = (notes : List Note) × (answer : Option Answer) × (i : ℕ) × Compares b w n notes answer t i × (length notes ≤ i)
+
+-- the i-th note is compared, and its name is that of the visible entry
+abbrev pub IsSame : Board → ℕ → ℕ → ℕ → ℕ → Type 0
+IsSame b w n t i =
+    (notes : List Note) × (answer : Option Answer) × Compares b w n notes answer t i
+    × (x : Note) × (slice_get notes i ≡ Some x) × IsNow (row_at b) n x
+
+-- the note that is compared has another name than the visible entry
+abbrev pub IsOther : Board → ℕ → ℕ → Key → Name → Found → Type 0
+IsOther b w n key noted now =
+    (notes : List Note) × (answer : Option Answer) × (t i : ℕ) × Compares b w n notes answer t i × Differs b n notes i key noted now
+
+-- the worker's line runs, and looks at some key
+abbrev pub MayStop : Board → ℕ → ℕ → Type 0
+MayStop b w n = (k : Key) × (notes : List Note) × MayLook b w k n notes
+
+-- the attempt of the line ended
+abbrev pub IsStopped : Board → ℕ → Board → Type 0
+IsStopped old n new = new ≡ stopped old n

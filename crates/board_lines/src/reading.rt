@@ -1,0 +1,85 @@
+//! The records of what a line has noted.
+
+ghost use Rattle.std.specs.Prelude.{◌≡◌, ◌<◌, IfOk, Some, length, map, option_copied, option_map, slice_get};
+ghost use Rattle.std.specs.List.Sorted.{IsStrictlySortedBy};
+ghost use Rattle.circ_records.specs.Keys.{key_cmp};
+ghost use Rattle.circ_records.specs.Records.{record_at};
+ghost use Rattle.read_set.specs.Settling.{Told};
+ghost use Rattle.board_steps.specs.Steps.{IsVersion};
+ghost use Rattle.board_lines.specs.Notes.{found_by, notes_by, told_at};
+
+use crate::notes::{PlaceNotes, PlacedName};
+use circ_records::{Key, Record};
+use read_set::{Note, Notes, Plan, PlanName};
+use std::alloc::{AllocError, Global};
+use version_store::Place;
+
+/// The record that is written at a key.
+pub fn written<'w>(writes: &'w [(Key, Record)], key: &Key) -> Option<&'w Record>
+    requires { IsStrictlySortedBy key_cmp (map (λ e. e.0) writes.now) }
+    ensures { option_copied result ≡ record_at writes.now key.now }
+{
+    let Ok(place) = writes.binary_search_by_key(key, |write| write.0) else {
+        return None;
+    };
+    Some(&writes[place].1)
+}
+
+/// The record that was seen at a key: what the version at the place writes; without a place the base's.
+pub fn record_seen<'p, J: PlanName>(
+    plan: &'p Plan,
+    key: &Key,
+    place: Option<Place<'p, J>>,
+) -> Option<&'p Record>
+    ensures { option_copied result ≡ found_by plan.now.base key.now (option_map told_at place.entry) }
+{
+    match place {
+        Some(place) => written(place.show().writes(), key),
+        None => plan.base(key),
+    }
+}
+
+/// The notes of a line with their records.
+pub fn read_notes<J: PlanName>(
+    alloc: Global,
+    plan: &Plan,
+    noted: &PlaceNotes<'_, J>,
+) -> Result<Notes, AllocError>
+    ensures { IfOk result (λ notes. notes ≡ notes_by plan.now.base noted.now) }
+{
+    let mut notes = Notes::new(alloc);
+    for i in 0..noted.len() {
+        notes.add(read_note(alloc, plan, noted, i)?)?;
+    }
+    Ok(notes)
+}
+
+/// The i-th note with its record.
+fn read_note<J: PlanName>(
+    alloc: Global,
+    plan: &Plan,
+    noted: &PlaceNotes<'_, J>,
+    i: usize,
+) -> Result<Note, AllocError>
+    requires { i < length noted.now }
+    ensures { IfOk result (λ note. Some note ≡ slice_get (notes_by plan.now.base noted.now) i) }
+{
+    let (Some(key), Some(seen)) = (noted.key(i), noted.seen(i)) else {
+        unreachable!()
+    };
+    Ok(Note {
+        key: *key,
+        name: seen.name,
+        found: copied(alloc, record_seen(plan, key, seen.place))?,
+    })
+}
+
+/// The same record, where there is one.
+pub fn copied(alloc: Global, found: Option<&Record>) -> Result<Option<Record>, AllocError>
+    ensures { IfOk result (λ copy. copy ≡ option_copied found.entry) }
+{
+    match found {
+        Some(record) => Ok(Some(record.copy(alloc)?)),
+        None => Ok(None),
+    }
+}

@@ -1,0 +1,40 @@
+//! What the board keeps of a line beside its state and its entries.
+
+use crate::notes::PlaceNotes;
+use read_set::PlanName;
+use std::alloc::Global;
+use version_store::Place;
+
+/// How far the publication of a version has come.
+#[derive(Clone, Copy)]
+pub struct Course {
+    /// So many of its first writes are placed.
+    pub placed: usize,
+}
+
+/// What a line has noted, the place of the version of its newest publication, how far that has come, and the clock at the
+/// last change of the line's entries.
+#[derive(Drop)]
+pub struct Row<'t, J: PlanName> {
+    pub notes: PlaceNotes<'t, J>,
+    pub version: Option<Place<'t, J>>,
+    pub course: Course,
+    pub changed: u64,
+}
+
+impl<'t, J: PlanName> Row<'t, J> {
+    ghost use Rattle.std.specs.Prelude.{◌≡◌};
+    ghost use Rattle.board_lines.specs.Parts.{no_notes, row_shown};
+
+    /// The row of a line that never ran.
+    pub fn new(alloc: Global) -> Row<'t, J>
+        ensures { row_shown result ≡ no_notes }
+    {
+        Row {
+            notes: PlaceNotes::new(alloc),
+            version: None,
+            course: Course { placed: 0 },
+            changed: 0,
+        }
+    }
+}

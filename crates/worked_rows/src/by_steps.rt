@@ -1,0 +1,191 @@
+//! Whole runs by lists of workers' steps.
+
+use crate::book::Row;
+use crate::lists::step_of;
+use crate::sight::WORKERS;
+use replay_run::{Inputs, Output, Run, Step, Tables, one_thread, rebuild_by_steps};
+use std::alloc::{AllocError, AllocGlobal, Global};
+use std::process::Abort;
+use std::sync::Wait;
+use std::test::Fail;
+
+/// The most workers of a run.
+const MOST_WORKERS: u32 = 64;
+
+/// More records than any line of a book asks for or writes.
+const MANY: usize = 20;
+
+/// What a run by steps gives: `output` and the attempt that was committed of each line, where it is that of one thread;
+/// `unfinished` and how many lines are committed; or the fault.
+fn tell_run<R: Wait>(
+    rt: &R,
+    alloc: Global,
+    inputs: &Inputs,
+    workers: u32,
+    steps: &[Step],
+) -> Result<String, AllocError> {
+    match rebuild_by_steps(rt, alloc, inputs, workers, steps) {
+        Ok(Run::Output(output)) => {
+            if !is_that_of_one_thread(alloc, inputs, &output) {
+                return String::from_str(alloc, "another output");
+            }
+            let mut text = String::from_str(alloc, "output")?;
+            for attempt in output.attempts.as_slice() {
+                write!(text, " {attempt}")?;
+            }
+            Ok(text)
+        }
+        Ok(Run::Unfinished { committed }) => format!(in alloc; "unfinished {committed}"),
+        Err(fault) => fault.to_string(alloc),
+    }
+}
+
+/// Whether an output is that of one thread, but for the attempts.
+fn is_that_of_one_thread(alloc: Global, inputs: &Inputs, output: &Output) -> bool {
+    match one_thread(alloc, inputs) {
+        Ok(one) => {
+            one.sizes == output.sizes
+                && same_tables(&one.tables, &output.tables)
+                && one.answers.as_slice() == output.answers.as_slice()
+                && one.report.as_slice() == output.report.as_slice()
+                && one.passed.as_slice() == output.passed.as_slice()
+        }
+        Err(_) => false,
+    }
+}
+
+fn same_tables(one: &Tables, other: &Tables) -> bool {
+    one.patrons.as_slice() == other.patrons.as_slice()
+        && one.items.as_slice() == other.items.as_slice()
+        && one.loans.as_slice() == other.loans.as_slice()
+        && one.fees.as_slice() == other.fees.as_slice()
+        && one.closed.as_slice() == other.closed.as_slice()
+        && one.holds.as_slice() == other.holds.as_slice()
+}
+
+/// Runs each beginning of a script that is steps alone. Where its replies say that all lines are committed, the run must give
+/// what is wanted, else how many they say are.
+pub(crate) fn run_beginnings<R: Wait + AllocGlobal + Abort>(
+    rt: &R,
+    script: &str,
+    wanted: &str,
+) -> Result<(), Fail> {
+    let alloc = rt.alloc();
+    let (title, lines) = script.split_once('\n').unwrap_or((script, ""));
+    let (inputs, asked) = inputs_of(rt, title, lines)?;
+    let mut steps = Vec::new(alloc);
+    let mut committed: u64 = 0;
+    for line in lines.split('\n') {
+        if let Some((call, reply)) = line.split_once(" = ")
+            && let Some(step) = step_of(call)
+        {
+            steps.push(step)?;
+            committed = committed.saturating_add(u64::from(reply == "committed"));
+            let told = tell_run(rt, alloc, &inputs, WORKERS, steps.as_slice())?;
+            let open = format!(in alloc; "unfinished {committed}")?;
+            let wanted = if committed < asked {
+                open.as_str()
+            } else {
+                wanted
+            };
+            assert_eq!(rt; told.as_str(), wanted, "{title}: {line}");
+        }
+    }
+    Ok(())
+}
+
+/// The inputs that a script's lines tell, and how many lines its journal has.
+fn inputs_of<R: AllocGlobal + Abort>(
+    rt: &R,
+    title: &str,
+    lines: &str,
+) -> Result<(Inputs, u64), Fail> {
+    let mut row = Row::new(rt.alloc())?;
+    for line in lines.split('\n') {
+        if !line.is_empty() && !line.contains(" = ") {
+            assert!(rt; row.take(line)?, "{title}: {line}");
+        }
+    }
+    let asked = row.asked();
+    Ok((row.inputs()?, asked))
+}
+
+/// Runs a list of steps, which stand between the number of workers and what the run gives, over a row's lines.
+pub(crate) fn run_list<R: Wait + AllocGlobal + Abort>(
+    rt: &R,
+    lines: &str,
+    list: &str,
+) -> Result<(), Fail> {
+    let alloc = rt.alloc();
+    let (run, wanted) = list.split_once(" => ").unwrap_or((list, ""));
+    let (workers, words) = run.split_once(": ").unwrap_or((run, ""));
+    let (inputs, _asked) = inputs_of(rt, list, lines)?;
+    let mut steps = Vec::new(alloc);
+    for word in words.split(", ") {
+        match step_of(word) {
+            Some(step) => steps.push(step)?,
+            None => assert!(rt; word.is_empty(), "{list}"),
+        }
+    }
+    let workers = workers.parse::<u32>().unwrap_or(0);
+    let told = tell_run(rt, alloc, &inputs, workers, steps.as_slice())?;
+    assert_eq!(rt; told.as_str(), wanted, "{list}");
+    Ok(())
+}
+
+/// What a run in rounds gives: in each round all lines from the first number on are begun, the last first, and then ended, the
+/// first first. A line that was begun is published in part.
+pub(crate) fn tell_rounds<R: Wait>(
+    rt: &R,
+    alloc: Global,
+    inputs: &Inputs,
+    first: u64,
+    lines: u64,
+) -> Result<String, AllocError> {
+    let mut steps = Vec::new(alloc);
+    for _ in 0..lines {
+        begin_all(&mut steps, first, lines)?;
+        end_all(&mut steps, first, lines)?;
+    }
+    tell_run(rt, alloc, inputs, MOST_WORKERS, steps.as_slice())
+}
+
+/// The worker of the line at a place.
+fn worker_of(place: u64) -> u32 {
+    u32::try_from(place).unwrap_or(0) % MOST_WORKERS
+}
+
+/// Takes each line, the last first, looks at all that it needs, and publishes one write.
+fn begin_all(steps: &mut Vec<Step>, first: u64, lines: u64) -> Result<(), AllocError> {
+    for back in 0..lines {
+        let place = lines.saturating_sub(back).saturating_sub(1);
+        let worker = worker_of(place);
+        let line = first.saturating_add(place);
+        steps.push(Step::Take { worker, line })?;
+        push_many(steps, &[Step::Look { worker }])?;
+        steps.push(Step::Publish { worker })?;
+    }
+    Ok(())
+}
+
+/// Publishes the rest of each line, the first first, checks it and commits it.
+fn end_all(steps: &mut Vec<Step>, first: u64, lines: u64) -> Result<(), AllocError> {
+    for place in 0..lines {
+        let worker = worker_of(place);
+        let line = first.saturating_add(place);
+        push_many(steps, &[Step::Publish { worker }])?;
+        push_many(
+            steps,
+            &[Step::Check { worker, line }, Step::Commit { line }],
+        )?;
+    }
+    Ok(())
+}
+
+/// Steps as often as a line can want them; they are idle where it wants them no more.
+fn push_many(steps: &mut Vec<Step>, more: &[Step]) -> Result<(), AllocError> {
+    for _ in 0..MANY {
+        steps.extend_from_slice(more)?;
+    }
+    Ok(())
+}

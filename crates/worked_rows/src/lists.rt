@@ -1,0 +1,147 @@
+//! The calls of a script as lists of steps.
+
+use crate::calls::reply_to;
+use crate::script::Script;
+use crate::sight::sight;
+use read_set::PlanName;
+use speculate::{Board, BoardFault, Halt, Step, play};
+use std::alloc::{AllocError, AllocGlobal, Global};
+use std::process::Abort;
+use std::sync::Wait;
+use std::test::Fail;
+use version_store::{Place, VersionTable};
+
+/// The step of a call, if it is one: a `look` at the key that the line needs, a `publish` of its version, and each `take`,
+/// `check` and `commit`.
+pub(crate) fn step_of(call: &str) -> Option<Step> {
+    let (word, rest) = call.split_once(' ')?;
+    let (first, second) = rest.split_once(' ').unwrap_or((rest, "0"));
+    let number = first.parse::<u64>().ok()?;
+    let worker = u32::try_from(number).unwrap_or(u32::MAX);
+    let line = second.parse::<u64>().ok()?;
+    match word {
+        "take" => Some(Step::Take { worker, line }),
+        "look" => Some(Step::Look { worker }),
+        "publish" => Some(Step::Publish { worker }),
+        "check" => Some(Step::Check { worker, line }),
+        "commit" => Some(Step::Commit { line: number }),
+        _ => None,
+    }
+}
+
+/// Steps that stand one after another in a script, and where they must halt.
+#[derive(Drop)]
+struct List {
+    steps: Vec<Step>,
+    /// For each step that must be refused its place in the list, from 0, and its reply.
+    halts: String,
+}
+
+impl List {
+    fn new(alloc: Global) -> List {
+        List {
+            steps: Vec::new(alloc),
+            halts: String::new(alloc),
+        }
+    }
+
+    fn push(&mut self, step: Step, reply: &str) -> Result<(), AllocError> {
+        if reply == "clock spent" || reply.starts_with("attempts ") {
+            write!(self.halts, "{} {reply}; ", self.steps.len())?;
+        }
+        self.steps.push(step)?;
+        Ok(())
+    }
+}
+
+/// Plays a script: its steps as lists in parts of so many, and what else it calls between them. What is seen at the end.
+pub(crate) fn play_lists<'t, J: PlanName, R: Wait + AllocGlobal + Abort>(
+    rt: &R,
+    table: &'t VersionTable<J>,
+    board: &mut Board<'_, 't, J>,
+    script: &Script,
+    size: usize,
+) -> Result<String, Fail> {
+    let alloc = rt.alloc();
+    let title = script.title.as_str();
+    let mut kept: Option<Place<'t, J>> = None;
+    let mut list = List::new(alloc);
+    for line in script.lines.as_str().split('\n') {
+        if let Some((call, wanted)) = line.split_once(" = ") {
+            if let Some(step) = step_of(call) {
+                list.push(step, wanted)?;
+            } else {
+                play_list(rt, table, board, &list, size, title)?;
+                list = List::new(alloc);
+                let told = reply_to(rt, table, board, &mut kept, call)?;
+                assert_eq!(rt; told.as_str(), wanted, "{title}: {line}");
+            }
+        }
+    }
+    play_list(rt, table, board, &list, size, title)?;
+    sight(alloc, board)
+}
+
+/// Plays a list in parts of so many steps, and passes over a step at which it halts.
+fn play_list<'t, J: PlanName, R: Wait + AllocGlobal + Abort>(
+    rt: &R,
+    table: &'t VersionTable<J>,
+    board: &mut Board<'_, 't, J>,
+    list: &List,
+    size: usize,
+    title: &str,
+) -> Result<(), Fail> {
+    let alloc = rt.alloc();
+    let steps = list.steps.as_slice();
+    let mut halts = String::new(alloc);
+    let mut from: usize = 0;
+    for _ in 0..steps.len() {
+        let part = part_of(steps, from, size);
+        match play(rt, alloc, table, board, part) {
+            Ok(()) => from = from.saturating_add(part.len()),
+            Err(halt) => {
+                take_up(rt, table, board, part, halt)?;
+                from = from.saturating_add(halt.done);
+                write!(halts, "{from} ")?;
+                tell_fault(&mut halts, halt.fault)?;
+                from = from.saturating_add(1);
+            }
+        }
+    }
+    assert_eq!(rt; halts.as_str(), list.halts.as_str(), "{title}");
+    Ok(())
+}
+
+/// The next steps of a list, so many of them or all.
+fn part_of(steps: &[Step], from: usize, size: usize) -> &[Step] {
+    let end = from.saturating_add(size).min(steps.len());
+    steps.get(from..end).unwrap_or(&[])
+}
+
+/// Takes up a part where it halted: the step is refused again, and nothing has changed.
+fn take_up<'t, J: PlanName, R: Wait + AllocGlobal + Abort>(
+    rt: &R,
+    table: &'t VersionTable<J>,
+    board: &mut Board<'_, 't, J>,
+    part: &[Step],
+    halt: Halt,
+) -> Result<(), Fail> {
+    let alloc = rt.alloc();
+    let before = sight(alloc, board)?;
+    let rest = part.get(halt.done..).unwrap_or(&[]);
+    let Err(again) = play(rt, alloc, table, board, rest) else {
+        panic!(rt; "a step that was refused");
+    };
+    assert!(rt; again.done == 0 && again.fault == halt.fault);
+    let after = sight(alloc, board)?;
+    assert_eq!(rt; after.as_str(), before.as_str());
+    Ok(())
+}
+
+fn tell_fault(text: &mut String, fault: BoardFault) -> Result<(), AllocError> {
+    match fault {
+        BoardFault::Attempts { line } => write!(text, "attempts {line}; "),
+        BoardFault::ClockSpent => text.push_str("clock spent; "),
+        BoardFault::Memory => text.push_str("memory; "),
+    }
+}

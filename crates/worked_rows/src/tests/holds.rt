@@ -102,7 +102,7 @@ fn queues(rt: HostRuntime) -> Result<(), Fail> {
     run_book(&rt, QUEUES)
 }
 
-/// What becomes of a queue in which 98 patrons wait, W1 to W98.
+/// What becomes of a queue in which 98 patrons wait; their ids are a W and a number.
 const LONG: &str = "
 asked 15+20260302    101500AOL1|AAP1|ABI1|BSEast|
 answer 161N20260302    101500BR99|BSEast|AOL1|AAP1|ABI1|AJOne|

@@ -1,5 +1,5 @@
 /// How often lines were taken, and what became of it.
-#[derive(Clone, Copy, Debug, PartialEq, Eq)]
+#[derive(Clone, Copy, PartialEq, Eq)]
 pub struct Counts {
     /// How often a line was taken, for its first attempt or a later one.
     pub takes: u64,

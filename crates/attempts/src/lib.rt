@@ -8,8 +8,6 @@
 mod counts;
 mod state;
 mod table;
-#[cfg(test)]
-mod tests;
 
 pub use counts::Counts;
 pub use state::LineState;

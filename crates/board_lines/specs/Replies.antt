@@ -1,5 +1,7 @@
 -- What a call of the board answers: one step, or want of memory, which leaves the board as it was.
-use Rattle.std.specs.Prelude.{◌≡◌, option_map}
+use Rattle.std.specs.Prelude.{◌≡◌, Option, option_map}
+use Rattle.circ_records.specs.declared.record.Record.{Record}
+use Rattle.read_set.specs.declared.notes.Name.{Name}
 use Rattle.read_set.specs.Plans.{Planned}
 use Rattle.board_steps.specs.Board.{Board}
 use Rattle.board_steps.specs.Steps.{Call, Step}
@@ -9,13 +11,14 @@ use Rattle.board_lines.specs.Notes.{found_by, told_at}
 use Rattle.board_lines.specs.declared.reply.Reply.{Reply}
 use Rattle.board_lines.specs.declared.reply.Reply.TheVariants as replies
 
--- the calls that can want memory
-abbrev pub Grows : Call → Type 0
-Grows (Look w k) = Unit {0}
-Grows (Publish w v) = Unit {0}
-Grows (Take w n) = ⊥
-Grows (Check w n) = ⊥
-Grows (Commit n) = ⊥
+-- A call can want memory just where its step would grow something: a look that would note what it sees, and an act of
+-- publication that would place an entry.
+abbrev pub Grows : Planned → Board → Call → Type 0
+Grows plan old (Look w k) = (name : Name) × (value : Option Record) × (new : Board) × Step plan old (Look w k) (TheSeen name value) new
+Grows plan old (Publish w v) = (new : Board) × Step plan old (Publish w v) ThePlaced new
+Grows plan old (Take w n) = ⊥
+Grows plan old (Check w n) = ⊥
+Grows plan old (Commit n) = ⊥
 
 -- a look sees the base's record, or what the version at the place writes
 abbrev pub SeenStep : {J : Type 0} → Planned → Board → Call → Reply J → Board → Type 0
@@ -37,4 +40,4 @@ Answers plan old call replies.Committed new = Step plan old call TheCommits new
 Answers plan old call replies.Later new = Step plan old call TheLater new
 Answers plan old call (replies.Attempts line) new = Step plan old call (TheAttempts line) new
 Answers plan old call replies.ClockSpent new = Step plan old call TheClockSpent new
-Answers plan old call replies.Memory new = Grows call × (new ≡ old)
+Answers plan old call replies.Memory new = Grows plan old call × (new ≡ old)

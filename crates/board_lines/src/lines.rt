@@ -334,6 +334,13 @@ impl<'p, 't, J: PlanName> Lines<'p, 't, J> {
         self.attempts.counts()
     }
 
+    /// How many workers the board was made for.
+    pub fn workers(&self) -> usize
+        ensures { result ≡ self.now.workers }
+    {
+        self.hands.len()
+    }
+
     /// How many lines are committed.
     pub fn committed(&self) -> u64
         ensures { result ≡ self.now.committed }

@@ -30,6 +30,3 @@ pub use loan_days::LoanDays;
 pub use media::Media;
 pub use media_type::MediaType;
 pub use policy::Policy;
-
-#[cfg(test)]
-mod tests;

@@ -4,7 +4,7 @@ ghost use Rattle.std.specs.Prelude.{◌≡◌};
 ghost use Rattle.circ_policy.specs.Medias.{media_code, media_index, media_of_code};
 
 /// A type of media, of those that SIP 2.00 has.
-#[derive(Clone, Copy, Debug, PartialEq, Eq)]
+#[derive(Clone, Copy, PartialEq, Eq)]
 pub enum MediaType {
     Other,
     Book,

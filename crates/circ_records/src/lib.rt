@@ -29,8 +29,6 @@ mod row_texts;
 mod rows;
 mod table_texts;
 mod tables;
-#[cfg(test)]
-mod tests;
 mod texts;
 mod values;
 mod written;

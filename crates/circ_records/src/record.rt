@@ -60,7 +60,7 @@ pub struct Fee {
 }
 
 /// What a fee is for: the fee types of SIP2, 01 to 09.
-#[derive(Clone, Copy, Debug, PartialEq, Eq)]
+#[derive(Clone, Copy, PartialEq, Eq)]
 pub enum FeeType {
     Other,
     Administrative,

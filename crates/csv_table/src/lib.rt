@@ -10,8 +10,6 @@ ghost use Rattle.csv_table.specs.Rows.{is_row, refusal, rows_under};
 ghost use Rattle.csv_table.specs.declared.TableError.TheVariants as table;
 
 mod reader;
-#[cfg(test)]
-mod tests;
 mod text;
 
 use csv::{ByteRecord, ErrorKind};

@@ -7,8 +7,6 @@ mod journal;
 mod line;
 mod number;
 mod readings;
-#[cfg(test)]
-mod tests;
 
 pub use error::{JournalError, JournalRule};
 pub use journal::Journal;

@@ -15,7 +15,7 @@ use std::marker::Model;
 
 /// A request, the connection that it came over, and the response that was recorded. One piece of
 /// memory holds all three, so a line costs few bytes beside those of the file.
-#[derive(Debug, Drop)]
+#[derive(Drop)]
 pub struct Line {
     number: u64,
     bytes: Vec<u8>,

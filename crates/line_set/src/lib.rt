@@ -3,7 +3,5 @@
 #![tactic(auto)]
 
 mod line_set;
-#[cfg(test)]
-mod tests;
 
 pub use line_set::LineSet;

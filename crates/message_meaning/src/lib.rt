@@ -9,8 +9,6 @@ mod item_status;
 mod lines;
 mod needs;
 mod payment;
-#[cfg(test)]
-mod tests;
 
 pub use lines::perform;
 pub use needs::need;

@@ -12,8 +12,6 @@ mod plan;
 mod progress;
 mod sorted;
 mod source;
-#[cfg(test)]
-mod tests;
 mod verdict;
 mod version;
 

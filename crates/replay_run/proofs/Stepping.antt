@@ -7,6 +7,7 @@ use Rattle.speculate.specs.declared.steps.BoardFault.TheVariants as refusals
 use Rattle.speculate.specs.declared.steps.Halt.{Halt}
 use Rattle.speculate.specs.declared.steps.Step.{Step}
 use Rattle.replay_run.specs.BySteps.{AreWorkers, FailsBySteps, IsRunOf, first_board}
+use Rattle.replay_run.specs.ByWorkers.{IsMadeOf, MayFail}
 use Rattle.replay_run.specs.Faults.{board_fault}
 use Rattle.replay_run.specs.Judged.{Fails, Judgement, Refused}
 use Rattle.replay_run.specs.declared.fault.Fault.{Fault}
@@ -34,6 +35,25 @@ refused (Ok j) workers steps (faults.JournalRule row rule) fails = cc fails
 refused (Ok j) workers steps (faults.Attempts line) fails = absurd fails
 refused (Ok j) workers steps faults.ClockSpent fails = absurd fails
 refused (Ok j) workers steps faults.Memory fails = tt
+
+pub unmade : (due : Result Judgement Refused) (fault : Fault) → Fails fault due → IsMadeOf due (Err fault)
+unmade (Err e) fault fails = fails
+unmade (Ok j) faults.BadWorkers fails = absurd fails
+unmade (Ok j) faults.PolicyText fails = cc fails
+unmade (Ok j) (faults.PolicyRule key) fails = cc fails
+unmade (Ok j) (faults.BaseTable table) fails = cc fails
+unmade (Ok j) (faults.BaseRule table row rule) fails = cc fails
+unmade (Ok j) faults.JournalTable fails = cc fails
+unmade (Ok j) (faults.JournalRule row rule) fails = cc fails
+unmade (Ok j) (faults.Attempts line) fails = absurd fails
+unmade (Ok j) faults.ClockSpent fails = absurd fails
+unmade (Ok j) faults.Memory fails = tt
+
+-- what a worker meets
+pub met : (fault : BoardFault) → MayFail (board_fault fault)
+met (refusals.Attempts line) = tt
+met refusals.ClockSpent = tt
+met refusals.Memory = tt
 
 -- a number of workers that isn't refused
 pub crew : (workers : ℕ) → (workers ≡ 0 → ⊥) → workers ≤ 64 → AreWorkers workers

@@ -6,3 +6,4 @@ pub mod Judged
 pub mod Judging
 pub mod OneThread
 pub mod BySteps
+pub mod ByWorkers

@@ -13,7 +13,7 @@ use std::fmt;
 
 /// Why a run gives no output, in the order in which the inputs are judged. `Display` prints the text that the program
 /// tells behind the fault's number.
-#[derive(Debug, Drop)]
+#[derive(Drop)]
 pub enum Fault {
     /// The number of workers isn't 1 to 64.
     BadWorkers,

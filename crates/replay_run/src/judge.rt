@@ -7,20 +7,19 @@ ghost use Rattle.circ_records.specs.Tables.{texts_of};
 ghost use Rattle.journal_table.specs.Entry.{first_number};
 ghost use Rattle.journal_table.specs.Journal.{journal_of};
 ghost use Rattle.replay_run.specs.Judged.{Fails, first_read, judged, with_base, with_policy};
-ghost use Rattle.replay_run.specs.Judging.{Judges};
+ghost use Rattle.replay_run.specs.Judging.{IsSound};
 
 use crate::fault::Fault;
-use crate::judged::Judged;
+use crate::judged::Sound;
 use circ_policy::Policy;
 use circ_records::{Base, Tables};
 use journal_table::{Journal, JournalError};
-use read_set::Plan;
 use std::alloc::Global;
 
-/// The plan and the journal that the inputs make, or their first fault.
+/// The policy, the base and the journal that the inputs tell, or their first fault.
 #[tactic(auto, unfolding(crate::specs::Judged::judged))]
-pub fn judge(alloc: Global, policy: &[u8], tables: &Tables, journal: &[u8]) -> Result<Judged, Fault>
-    ensures { Judges result (judged policy.now (texts_of tables.now) journal.now) }
+pub fn judge(alloc: Global, policy: &[u8], tables: &Tables, journal: &[u8]) -> Result<Sound, Fault>
+    ensures { IsSound result (judged policy.now (texts_of tables.now) journal.now) }
 {
     match Policy::read(alloc, policy) {
         Ok(policy) => judge_journal(alloc, policy, tables, journal),
@@ -34,8 +33,8 @@ fn judge_journal(
     policy: Policy,
     tables: &Tables,
     journal: &[u8],
-) -> Result<Judged, Fault>
-    ensures { Judges result (with_base policy (journal_of journal.now) (base_of policy (texts_of tables.now) (first_read (journal_of journal.now)))) }
+) -> Result<Sound, Fault>
+    ensures { IsSound result (with_base policy (journal_of journal.now) (base_of policy (texts_of tables.now) (first_read (journal_of journal.now)))) }
 {
     match Journal::read(alloc, journal) {
         Ok(journal) => judge_base(alloc, policy, tables, journal),
@@ -50,14 +49,15 @@ fn judge_base(
     policy: Policy,
     tables: &Tables,
     journal: Journal,
-) -> Result<Judged, Fault>
-    ensures { Judges result (with_base policy (Ok journal) (base_of policy (texts_of tables.now) (first_number journal))) }
+) -> Result<Sound, Fault>
+    ensures { IsSound result (with_base policy (Ok journal) (base_of policy (texts_of tables.now) (first_number journal))) }
 {
     match Base::read(alloc, &policy, tables, journal.first()) {
-        Ok(base) => {
-            let plan = Plan::new(alloc, policy, base, &journal)?;
-            Ok(Judged { plan, journal })
-        }
+        Ok(base) => Ok(Sound {
+            policy,
+            base,
+            journal,
+        }),
         Err(error) => Err(Fault::from(error)),
     }
 }

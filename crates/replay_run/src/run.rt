@@ -9,20 +9,21 @@ ghost use Rattle.result_report.specs.Report.{AreAnswers, lent, told};
 ghost use Rattle.result_report.specs.Tables.{AreTexts};
 ghost use Rattle.replay_run.specs.Answers.{answers_of};
 ghost use Rattle.replay_run.specs.Entries.{AreEntries};
-ghost use Rattle.replay_run.specs.Judging.{Judges};
+ghost use Rattle.replay_run.specs.Judging.{IsSound, Judges};
 ghost use Rattle.replay_run.specs.OneThread.{IsOneThread, IsOutput, IsOutputBy, judgement, results_of};
 
 use crate::fault::Fault;
 use crate::inputs::{Inputs, Output};
 use crate::judge::judge;
-use crate::judged::Judged;
+use crate::judged::{Judged, Sound};
 use crate::replay::{ReplayEnd, replay};
 use circ_records::write_records;
-use journal_table::Journal;
+use journal_table::{Journal, read_all};
 use read_set::Plan;
 use result_report::{Outcome, report};
 use sip_answer::Answer;
 use std::alloc::{AllocError, Global};
+use std::thread::Threads;
 
 /// The output of one thread that takes the lines in the order of the journal, or the first fault of the inputs: first
 /// the policy, then the tables, then the journal. Each line is attempted once.
@@ -42,6 +43,50 @@ pub fn one_thread(alloc: Global, inputs: &Inputs) -> Result<Output, Fault>
 pub fn judge_inputs(alloc: Global, inputs: &Inputs) -> Result<Judged, Fault>
     ensures due { Judges result (judgement inputs.now) }
     ensures fits { IfOk result (λ j. j.plan.readings ≡ readings_of j.journal) }
+{
+    match sound_inputs(alloc, inputs) {
+        Ok(
+            Sound {
+                policy,
+                base,
+                journal,
+            },
+        ) => {
+            let plan = Plan::new(alloc, policy, base, &journal)?;
+            Ok(Judged { plan, journal })
+        }
+        Err(fault) => Err(fault),
+    }
+}
+
+/// The same; the requests are read by all cores.
+pub fn judge_parallel<R: Threads + Sync>(
+    rt: &R,
+    alloc: Global,
+    inputs: &Inputs,
+) -> Result<Judged, Fault>
+    ensures due { Judges result (judgement inputs.now) }
+    ensures fits { IfOk result (λ j. j.plan.readings ≡ readings_of j.journal) }
+{
+    match sound_inputs(alloc, inputs) {
+        Ok(
+            Sound {
+                policy,
+                base,
+                journal,
+            },
+        ) => {
+            let readings = read_all(rt, alloc, &journal)?;
+            let plan = Plan::from_readings(policy, base, readings);
+            Ok(Judged { plan, journal })
+        }
+        Err(fault) => Err(fault),
+    }
+}
+
+/// The policy, the base and the journal of inputs, or their first fault.
+fn sound_inputs(alloc: Global, inputs: &Inputs) -> Result<Sound, Fault>
+    ensures { IsSound result (judgement inputs.now) }
 {
     judge(
         alloc,

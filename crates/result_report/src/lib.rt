@@ -7,8 +7,6 @@ mod ends;
 mod listing;
 mod outcome;
 mod telling;
-#[cfg(test)]
-mod tests;
 mod texts;
 mod words;
 

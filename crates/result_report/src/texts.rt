@@ -21,7 +21,7 @@ use std::thread::Threads;
 const STRETCH: usize = 4096;
 
 /// How many rows stand under the header of each result table.
-#[derive(Clone, Copy, Debug, PartialEq, Eq)]
+#[derive(Clone, Copy, PartialEq, Eq)]
 pub struct Sizes {
     pub answered: u64,
     pub passed: u64,

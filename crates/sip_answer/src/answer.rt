@@ -45,7 +45,7 @@ pub struct PatronAnswer {
 }
 
 /// The positions of a patron status that can be set here.
-#[derive(Clone, Copy, Debug, PartialEq, Eq)]
+#[derive(Clone, Copy, PartialEq, Eq)]
 pub struct PatronStatus {
     /// Position 0.
     pub charge_denied: bool,

@@ -17,6 +17,3 @@ pub use field::Field;
 pub use item_ids::ItemIds;
 pub use laws::own_text_agrees;
 pub use writing::write_answer;
-
-#[cfg(test)]
-mod tests;

@@ -32,6 +32,3 @@ pub use request::{
 pub use stamp::{STAMP_LEN, Stamp};
 pub use sum::{sum_of, unsummed};
 pub use text::{TEXT_MAX, Text};
-
-#[cfg(test)]
-mod tests;

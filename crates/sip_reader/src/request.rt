@@ -5,7 +5,7 @@ ghost use Rattle.std.specs.Prelude.{◌≡◌};
 use crate::{Amount, Day, Id, Stamp, Text};
 
 /// A kind of request that the rules know.
-#[derive(Clone, Copy, Debug, PartialEq, Eq)]
+#[derive(Clone, Copy, PartialEq, Eq)]
 pub enum Kind {
     BlockPatron,
     Checkin,
@@ -40,7 +40,7 @@ impl Kind {
 }
 
 /// Why a message is passed over: its identifier, or its title.
-#[derive(Clone, Copy, Debug, PartialEq, Eq)]
+#[derive(Clone, Copy, PartialEq, Eq)]
 pub enum Passed {
     ItemInformation,
     PatronStatus,
@@ -74,7 +74,7 @@ impl Passed {
 }
 
 /// Why a message can't be read: the first test that it fails.
-#[derive(Clone, Copy, Debug, PartialEq, Eq)]
+#[derive(Clone, Copy, PartialEq, Eq)]
 pub enum Why {
     TooShort,
     TooLong,
@@ -198,7 +198,7 @@ pub struct Checkout {
 }
 
 /// What is done to a queue of holds (SIP 2.00, hold mode).
-#[derive(Clone, Copy, Debug, PartialEq, Eq)]
+#[derive(Clone, Copy, PartialEq, Eq)]
 pub enum HoldMode {
     Add,
     Delete,

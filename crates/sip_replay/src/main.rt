@@ -1,16 +1,8 @@
-//! The program `sip_replay`: reads the words of its command line and the files that they name, replays the journal
-//! and writes what came out. The top room of the house: what is computed stands in `replay_run` and below.
+//! The program `sip_replay`: takes the words of its command line and ends with the status of their run. The top room of the
+//! house: what the words ask for stands in `replay_command`, what is computed in `replay_run` and below.
 #![tactic(auto)]
 
-mod chosen;
-mod command_line;
-mod files;
-mod run;
-mod stop;
-#[cfg(test)]
-mod tests;
-
-use crate::stop::{REFUSED, Stop};
+use replay_command::{REFUSED, Stop, run};
 use replay_run::Fault;
 use std::env::Env;
 use std::process::ExitCode;
@@ -20,7 +12,7 @@ fn main(rt: HostRuntime) -> ExitCode {
     let mut out = rt.stdout();
     let mut err = rt.stderr();
     match words(&rt) {
-        Ok(words) => ExitCode::from(run::run(&rt, words.as_slice(), &mut out, &mut err)),
+        Ok(words) => ExitCode::from(run(&rt, words.as_slice(), &mut out, &mut err)),
         Err(error) => ExitCode::from(refuse_words(&error, &mut err)),
     }
 }

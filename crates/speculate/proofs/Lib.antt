@@ -3,6 +3,7 @@ pub mod Choosing
 pub mod Drives
 pub mod Finishes
 pub mod Flags
+pub mod Led
 pub mod Marking
 pub mod Phases
 pub mod Plays

@@ -35,7 +35,7 @@ plays_more plan old mid new (first ∷ done) step plays goes = (plays.0, plays.1
 abbrev pub CallRefused : Planned → Board → Call → BoardFault → Type 0
 CallRefused plan b call (faults.Attempts n) = Step plan b call (Attempts n) b
 CallRefused plan b call faults.ClockSpent = Step plan b call ClockSpent b
-CallRefused plan b call faults.Memory = Grows call
+CallRefused plan b call faults.Memory = Grows plan b call
 
 abbrev pub CallEnds : Planned → Board → Call → Result (Unit {0}) BoardFault → Board → Type 0
 CallEnds plan old call (Ok u) new = (reply : Reply) × Step plan old call reply new × (refusal reply ≡ None)

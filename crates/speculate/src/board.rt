@@ -237,6 +237,13 @@ impl<'p, 't, J: PlanName> Board<'p, 't, J> {
         self.lines.counts()
     }
 
+    /// How many workers the board was made for: they count from 0.
+    pub fn workers(&self) -> usize
+        ensures { result ≡ self.now.workers }
+    {
+        self.lines.workers()
+    }
+
     /// How many lines are committed.
     pub fn committed(&self) -> u64
         ensures { result ≡ self.now.committed }

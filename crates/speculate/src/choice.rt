@@ -1,7 +1,7 @@
 //! What a free worker does next.
 
 /// The choice of a free worker.
-#[derive(Clone, Copy, Debug, PartialEq, Eq)]
+#[derive(Clone, Copy, PartialEq, Eq)]
 pub enum Choice {
     /// The least line that isn't committed may commit.
     Commit(u64),

@@ -7,7 +7,7 @@ use line_set::LineSet;
 use std::alloc::{AllocError, Global};
 
 /// In which of the sets a line is.
-#[derive(Clone, Copy, Debug, PartialEq, Eq)]
+#[derive(Clone, Copy, PartialEq, Eq)]
 pub enum Mark {
     /// A worker has it in hand, or it is committed.
     Nowhere,

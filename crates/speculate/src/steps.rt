@@ -6,7 +6,7 @@ ghost use Rattle.speculate.specs.declared.steps.BoardFault.TheVariants.{Memory};
 use std::alloc::AllocError;
 
 /// A step of a worker. Workers count from 0, lines go by their numbers.
-#[derive(Clone, Copy, Debug, PartialEq, Eq)]
+#[derive(Clone, Copy, PartialEq, Eq)]
 pub enum Step {
     /// The worker takes the line.
     Take { worker: u32, line: u64 },
@@ -21,7 +21,7 @@ pub enum Step {
 }
 
 /// Why a step of the board was refused. It leaves the board as it was.
-#[derive(Clone, Copy, Debug, PartialEq, Eq)]
+#[derive(Clone, Copy, PartialEq, Eq)]
 pub enum BoardFault {
     /// The line has had all its attempts, 4,294,967,296 of them.
     Attempts { line: u64 },
@@ -40,7 +40,7 @@ impl From<AllocError> for BoardFault {
 }
 
 /// Where a list of steps stopped: how many of them were done, and why the next was refused.
-#[derive(Clone, Copy, Debug, PartialEq, Eq)]
+#[derive(Clone, Copy, PartialEq, Eq)]
 pub struct Halt {
     pub done: usize,
     pub fault: BoardFault,

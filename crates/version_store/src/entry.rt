@@ -36,7 +36,7 @@ pub enum Seen<'t, J: PlanName> {
 }
 
 /// The name under which a line sees a key.
-#[derive(Clone, Copy, Debug, PartialEq, Eq)]
+#[derive(Clone, Copy, PartialEq, Eq)]
 pub enum Found {
     Named(Name),
     /// The entry of this line, which is suspect and equals no name.

@@ -11,8 +11,6 @@ mod index;
 mod line;
 mod store;
 mod table;
-#[cfg(test)]
-mod tests;
 
 pub use entry::{Found, Seen};
 pub use store::EntryStore;

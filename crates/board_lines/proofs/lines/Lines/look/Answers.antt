@@ -1,11 +1,13 @@
 use Rattle.std.proofs.Common.{◌≡◌, ◌-◌, ◌<◌, List, [], ◌∷◌, ◌++◌, map, set, get_or, length, refl, sym, ap, subst, ◌∙◌, arith, rules}
 use Rattle.std.proofs.lemmas.List.{length-map, get_or-map, map-set, set-get_or}
 use Rattle.read_set.specs.Plans.{Planned}
-use Rattle.board_steps.specs.Board.{Board, IsLine, row_at, found}
+use Rattle.board_steps.specs.Board.{Board, IsLine, row_at, found, value_at}
 use Rattle.board_lines.specs.Parts.{Kept, Parts, IsKept, board_of, row_shown, no_notes}
 use Rattle.board_lines.proofs.Boards.{place_of}
-use Rattle.board_steps.specs.Steps.{MayLook}
-use Rattle.version_store.specs.declared.entry.Found.TheVariants.{Suspect}
+use Rattle.board_steps.specs.Steps.{MayLook, seen}
+use Rattle.board_steps.specs.Steps.Call.{Look}
+use Rattle.board_lines.specs.Replies.{Grows}
+use Rattle.version_store.specs.declared.entry.Found.TheVariants.{Named, Suspect}
 use Rattle.board_lines.specs.Notes.{is_noted}
 use Rattle.board_lines.proofs.Sights.{suspect_seen, named_seen}
 use Rattle.board_lines.proofs.Looks.{look_line, look_unnoted, seen_returns, seen_kept}
@@ -163,6 +165,14 @@ returns g c =
           ∙ ap (λ (x : List Noted). set parts.rows (line - parts.states.first) (record { notes = x; told = (row_shown spot).told; course = spot.course; changed = spot.changed })) w.in-Err-add.ensures.err
           ∙ ap (λ (x : Kept). set parts.rows (line - parts.states.first) x) (sym was)
           ∙ set-get_or parts.rows (line - parts.states.first) no_notes in
+          let seen_here = c.in-Ok.seen in
+          let name_here = named_seen plan parts kept line c.args.key.now seen_here (subst (λ (y : Sight). IsNameOf y seen_here) c.see.ensures c.in-Ok.ensures.named) in
+          let would : Grows plan c.args.self.now (Look c.args.worker c.args.key.now) = (
+            seen_here.name,
+            value_at plan (row_at c.args.self.now) line c.args.key.now,
+            seen plan c.args.self.now c.args.worker c.args.key.now line notes seen_here.name,
+            (line, notes, c.in-Some.ensures.1, subst (λ (b : Board). found (row_at b) line c.args.key.now ≡ Named seen_here.name) is name_here.0, refl, refl),
+          ) in
           rw w.result-is
-          (tt, ap (λ (x : List Kept). board_of a.plan.now.base (record { states = a.attempts; store = a.entries; rows = x; hands = a.hands.items; clock = a.clock; latest = a.latest })) same_rows ∙ c.self.view_is))
+          (would, ap (λ (x : List Kept). board_of a.plan.now.base (record { states = a.attempts; store = a.entries; rows = x; hands = a.hands.items; clock = a.clock; latest = a.latest })) same_rows ∙ c.self.view_is))
     ]

@@ -2,7 +2,7 @@ use Rattle.std.proofs.Common.{◌≡◌, false, true, refl, sym, subst, ◌∙�
 use Rattle.circ_records.specs.declared.record.Record.{Record}
 use Rattle.read_set.specs.Settling.{Told}
 use Rattle.board_steps.specs.Board.{row_at}
-use Rattle.board_steps.specs.Steps.{MayPublish, Fits, HasRoom, IsNextWrite, AllPlaced, IsNextLeft, NoneLeft}
+use Rattle.board_steps.specs.Steps.{MayPublish, Fits, HasRoom, IsNextWrite, AllPlaced, IsNextLeft, NoneLeft, placed}
 use Rattle.board_lines.specs.Acts.{IsAct, notes_at}
 use Rattle.board_lines.specs.Courses.{ComesTo, FirstPlacedBut}
 use Rattle.board_lines.proofs.Publications.{act_left, publish_held}
@@ -109,4 +109,12 @@ returns-in-Ok g c =
 
 pub returns-in-Err : goal.returns-in-Err
 returns-in-Err g c =
-    (tt, c.in-Err.ensures.same)
+    let b = c.args.self.now in
+    let w = c.args.worker in
+    let n = c.args.line in
+    let v : Told = c.args.place.version.now in
+    let may : MayPublish b w n (notes_at b n) = c.requires.may in
+    let fit : Fits b n (notes_at b n) v = c.requires.fits in
+    let act : (value : Record) × IsNextWrite (row_at b n) v c.in-Write.key value = subst (IsAct (row_at b n) v) c.in-Write.is c.act-act.ensures.act in
+    let room : HasRoom b = c.has_room.ensures.0 c.if-not-has_room.false in
+    ((placed b w n (notes_at b n) v c.in-Write.key, (n, notes_at b n, may, fit, c.in-Write.key, act.0, act.1, room, refl)), c.in-Err.ensures.same)

@@ -1,0 +1,16 @@
+//! What the command line asks for.
+
+/// The files and folders of a run, as the words name them, and how many workers are wanted.
+#[derive(Drop)]
+pub struct Options {
+    /// The policy, a TOML file.
+    pub policy: String,
+    /// The folder of the tables to start from.
+    pub base: String,
+    /// The journal, a CSV file.
+    pub journal: String,
+    /// The folder that gets the files of the run.
+    pub out: String,
+    /// How many workers, of which 1 to 64 are taken.
+    pub workers: u32,
+}

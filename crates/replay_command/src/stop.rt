@@ -1,0 +1,75 @@
+//! What ends a run before its last line is printed, and the status that tells it.
+
+ghost use Rattle.std.specs.Prelude.{◌≡◌};
+ghost use Rattle.replay_command.specs.Statuses.{status_of};
+
+use replay_run::Fault;
+use std::alloc::{AllocError, Global};
+use std::io;
+use std::io::Write;
+
+/// The status of a command line, a policy, a table or a journal that is refused.
+pub const REFUSED: u8 = 2;
+
+/// The status of a run that a file, memory or a counter's end stopped.
+pub const FAILED: u8 = 3;
+
+/// The last fault that names something in the inputs.
+const LAST_REFUSAL: u8 = 7;
+
+/// Why a run ends before its last line is printed.
+#[derive(Drop)]
+pub enum Stop {
+    /// The replay gave no output.
+    Fault(Fault),
+    /// The file of this path can't be read or written.
+    File(String),
+    /// Standard output takes nothing more.
+    Output,
+}
+
+impl From<AllocError> for Stop {
+    fn from(_error: AllocError) -> Stop {
+        Stop::Fault(Fault::Memory)
+    }
+}
+
+impl From<Fault> for Stop {
+    fn from(fault: Fault) -> Stop {
+        Stop::Fault(fault)
+    }
+}
+
+impl Stop {
+    /// The stop of a file that answered with an error. Where memory is what it lacked, the file isn't to blame.
+    pub fn of_file(alloc: Global, error: &io::Error, path: &str) -> Stop {
+        if error.kind() == io::ErrorKind::OutOfMemory {
+            return Stop::Fault(Fault::Memory);
+        }
+        match String::from_str(alloc, path) {
+            Ok(path) => Stop::File(path),
+            Err(error) => Stop::from(error),
+        }
+    }
+
+    /// Prints what stopped the run, and gives its status. A failed write to `err` changes no status.
+    pub fn tell<E: Write>(&self, err: &mut E) -> u8
+        ensures { result ≡ status_of self.now }
+    {
+        let _ = match self {
+            Stop::Fault(fault) => writeln!(err, "fault {}: {fault}", fault.number()),
+            Stop::File(path) => writeln!(err, "file: {path}"),
+            Stop::Output => Ok(()),
+        };
+        self.status()
+    }
+
+    fn status(&self) -> u8
+        ensures { result ≡ status_of self.now }
+    {
+        match self {
+            Stop::Fault(fault) if fault.number() <= LAST_REFUSAL => REFUSED,
+            _ => FAILED,
+        }
+    }
+}

@@ -1,0 +1,28 @@
+use mathlib.Core.List.{not-mem-nil}
+use Rattle.std.proofs.Common.{◌∙◌, IfOk, ap, map, subst, sym}
+use Rattle.read_set.specs.Plans.{Planned}
+use Rattle.read_set.specs.Replay.{last}
+use Rattle.result_report.specs.BoardEnds.{attempt_on}
+use Rattle.result_report.specs.Ends.{numbers_of}
+use Rattle.replay_run.specs.Answers.{answers_of}
+use Rattle.replay_run.specs.Entries.{AreEntries}
+use Rattle.replay_run.specs.OneThread.{IsOutputBy}
+use Rattle.replay_run.proofs.Ended.{answers_by_number, records_named}
+use Rattle.replay_run.proofs.by_workers.collect_parallel.Goals as goal
+
+pub output_parallel-requires-clause-answers : goal.output_parallel-requires-clause-answers
+output_parallel-requires-clause-answers g c κs within =
+    c.in_ok-outcome.ensures.answers ∙ answers_by_number g.J.PlanName.plan ∙ ap answers_of (sym c.requires.named)
+
+pub output_parallel-requires-clause-records : goal.output_parallel-requires-clause-records
+output_parallel-requires-clause-records g c κs within =
+    subst (λ (plan : Planned). AreEntries (last plan) c.in_ok-outcome.outcome.records) (sym c.requires.named)
+    (records_named g.J.PlanName.plan c.args.finished.now c.plan-plan.ensures.reached c.plan-plan.ensures.whole _ c.in_ok-outcome.ensures.records)
+
+pub returns : goal.returns
+returns g c =
+    subst (λ attempts. IfOk c.output_parallel.result (IsOutputBy c.args.plan.now c.args.journal.now attempts))
+    (c.in_ok-outcome.ensures.attempts ∙ ap (λ (plan : Planned). map (attempt_on c.args.finished.now) (numbers_of plan)) (sym c.requires.named)) c.output_parallel.ensures
+
+pub collect-requires-lives-E-End : goal.collect-requires-lives-E-End
+collect-requires-lives-E-End g c κs within = λ a m. absurd (not-mem-nil (c.type_bounds.static-J a m))

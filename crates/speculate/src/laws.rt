@@ -1,0 +1,15 @@
+//! What holds of every board to which lists of steps lead.
+
+ghost use Rattle.std.specs.Prelude.{List};
+ghost use Rattle.board_steps.specs.Board.{Board};
+ghost use Rattle.board_steps.specs.Reached.{Reached};
+ghost use Rattle.read_set.specs.Plans.{Planned};
+ghost use Rattle.speculate.specs.Playing.{Halts, Plays};
+ghost use Rattle.speculate.specs.declared.steps.Halt.{Halt};
+ghost use Rattle.speculate.specs.declared.steps.Step.{Step as WorkerStep};
+
+/// What a list of steps leads to from a board that steps of its rules lead to is such a board again, also where the list stops. So all that holds of such boards holds after `play`.
+pub fn plays_are_reached()
+    ensures all { (plan : Planned) (old new : Board) (steps : List WorkerStep) → Reached plan old → Plays plan old steps new → Reached plan new }
+    ensures halt { (plan : Planned) (old new : Board) (steps : List WorkerStep) (halt : Halt) → Reached plan old → Halts plan old steps halt new → Reached plan new }
+{}

@@ -1,0 +1,124 @@
+//! A board that threads share.
+
+ghost use Rattle.std.specs.Prelude.{◌≡◌};
+
+use crate::held::Held;
+use crate::told::{Begun, Course, Left, Sight};
+use circ_records::Key;
+use read_set::{Plan, PlanName};
+use speculate::{Board, BoardFault, Finished};
+use std::sync::{Mutex, Wait};
+use version_store::{Place, VersionTable};
+
+/// A board under a lock, with the plan and the table of the versions beside it. Each step is one hold of the lock: one call of
+/// the board, with what its reply says, or, once a fault was left, no call and that fault.
+#[derive(Drop)]
+pub struct SharedBoard<'p, 't, J: PlanName> {
+    plan: &'p Plan,
+    table: &'t VersionTable<J>,
+    workers: usize,
+    held: Mutex<Held<'p, 't, J>>,
+    ghost named: { plan.now ≡ J.plan },
+}
+
+/// What the workers have come to.
+#[derive(Drop)]
+pub enum Closed<'p, 't, J: PlanName> {
+    /// All lines are committed.
+    Finished(Finished<'p, 't, J>),
+    /// So many lines are committed, and there are more.
+    Open { committed: u64 },
+}
+
+impl<'p, 't, J: PlanName + 'static> SharedBoard<'p, 't, J> {
+    /// A board for workers, with the table of its versions.
+    pub fn new(board: Board<'p, 't, J>, table: &'t VersionTable<J>) -> SharedBoard<'p, 't, J> {
+        let plan = board.plan();
+        let workers = board.workers();
+        SharedBoard {
+            plan,
+            table,
+            workers,
+            held: Mutex::new(Held { board, left: None }),
+        }
+    }
+
+    /// The plan.
+    pub fn plan(&self) -> &'p Plan
+        ensures { result.now ≡ J.plan }
+    {
+        self.plan
+    }
+
+    /// The table of the versions.
+    pub fn table(&self) -> &'t VersionTable<J> {
+        self.table
+    }
+
+    /// How many workers the board was made for.
+    pub fn workers(&self) -> usize {
+        self.workers
+    }
+
+    /// What a free worker does next, done.
+    pub fn begin<R: Wait>(&self, rt: &R, worker: u32) -> Result<Begun, Left> {
+        self.held.lock(rt).begin(worker)
+    }
+
+    /// A worker looks at a key for its line.
+    pub fn look<R: Wait>(&self, rt: &R, worker: u32, key: &Key) -> Result<Sight<'t, J>, Left> {
+        self.held.lock(rt).look(worker, key)
+    }
+
+    /// The first act of the publication of the version at a place.
+    pub fn publish<R: Wait>(
+        &self,
+        rt: &R,
+        worker: u32,
+        place: Place<'t, J>,
+    ) -> Result<Course, Left> {
+        self.held.lock(rt).publish(worker, place)
+    }
+
+    /// One more act of the publication that the worker's line is in.
+    pub fn publish_more<R: Wait>(&self, rt: &R, worker: u32) -> Result<Course, Left> {
+        self.held.lock(rt).publish_more(worker)
+    }
+
+    /// Begins to check a line that is done, or goes on with it, by one noted name.
+    pub fn check<R: Wait>(&self, rt: &R, worker: u32, line: u64) -> Result<Course, Left> {
+        self.held.lock(rt).check(worker, line)
+    }
+
+    /// The place of the version that the worker's line publishes.
+    pub fn placing<R: Wait>(&self, rt: &R, worker: u32) -> Option<Place<'t, J>> {
+        self.held.lock(rt).board.placing(worker)
+    }
+
+    /// All workers are to end for this fault, unless one was left before.
+    pub fn leave<R: Wait>(&self, rt: &R, fault: BoardFault) {
+        self.held.lock(rt).leave(fault);
+    }
+
+    /// The first fault that was left.
+    pub fn left<R: Wait>(&self, rt: &R) -> Option<BoardFault> {
+        self.held.lock(rt).left
+    }
+
+    /// What the workers have come to.
+    pub fn close(self) -> Closed<'p, 't, J> {
+        let SharedBoard {
+            plan: _,
+            table: _,
+            workers: _,
+            held,
+        } = self;
+        let Held { board, left: _ } = held.into_inner();
+        match board.finish() {
+            Ok(finished) => Closed::Finished(finished),
+            Err(open) => Closed::Open {
+                committed: open.committed,
+            },
+        }
+    }
+}

@@ -1,4 +1,5 @@
-"""journals.py LINES: makes the inputs of bench/run and bench/instructions in bench/out/LINES, unless they are there.
+"""journals.py LINES [PATRONS ITEMS]: makes the inputs of bench/run, bench/instructions and bench/threads in bench/out/LINES, or
+bench/out/LINES-PATRONS-ITEMS, unless they are there.
 
 A process of its own makes them, so that the peak memory of a measured run isn't hidden by that of its parent.
 """
@@ -36,13 +37,13 @@ def stamp():
     return hashlib.sha256(''.join(model.read(path) for path in parts).encode('latin-1')).hexdigest()
 
 
-def prepare(lines):
+def prepare(name, lines, patrons, items):
     """Makes policy.toml, base/ and three journals of this many lines, and what a run prints.
 
     journal.csv is the day. tables.csv is its header alone, unread.csv has requests that are read to their end and
     refused there, so nothing is replayed and compared.
     """
-    folder = os.path.join(here, 'out', str(lines))
+    folder = os.path.join(here, 'out', name)
     done = os.path.join(folder, 'stamp')
     if os.path.exists(done) and model.read(done) == stamp():
         return
@@ -51,7 +52,7 @@ def prepare(lines):
     text = model.read(os.path.join(example, 'policy.toml'))
     model.write(os.path.join(folder, 'policy.toml'), text)
     policy = model.Policy(text)
-    library = day.Library(policy, DAY, *people(lines), SEED)
+    library = day.Library(policy, DAY, patrons, items, SEED)
     for table, rows in library.rows.items():
         model.write(os.path.join(folder, 'base', table + '.csv'), model.text_of(table, rows))
     model.write(os.path.join(folder, 'rows'), str(sum(map(len, library.rows.values()))))
@@ -71,6 +72,8 @@ def prepare(lines):
     model.write(done, stamp())
 
 
-if len(sys.argv) != 2 or not sys.argv[1].isdigit():
+sizes = sys.argv[1:]
+if len(sizes) not in (1, 3) or not all(map(str.isdigit, sizes)):
     sys.exit(__doc__)
-prepare(int(sys.argv[1]))
+count, *few = map(int, sizes)
+prepare('-'.join(sizes), count, *(few or people(count)))

@@ -21,11 +21,20 @@ pub struct Row {
 }
 
 /// Where each line of a journal stands, and the counts. Lines go by their numbers.
-#[derive(Drop)]
 pub struct AttemptTable {
     first: u64,
     rows: Vec<Row>,
     counts: Counts,
+}
+
+impl Drop for AttemptTable {
+    fn drop(self) {
+        let AttemptTable {
+            first: _,
+            rows: _,
+            counts: _,
+        } = self;
+    }
 }
 
 impl Model for AttemptTable {

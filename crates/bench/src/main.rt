@@ -26,7 +26,8 @@ const USAGE: &str = "bench MEASURE N..  prints a cost for each number N
   rows      a journal of N lines: rows a second, and by how much the peak of memory grows a line, the text counted
   readings  the requests of N lines, read in turn and by all cores
   renewals  a renewal of all of N items with a rental each: milliseconds
-  needs     all that is needed for it, asked for record by record: nanoseconds a record
+  needs     all that it wants, asked for record by record and noted: nanoseconds a record
+  fees      the same of a payment of N fees
   report    the result tables of N lines, by one thread and by all cores
   drive     nanoseconds a line of N lines, driven in order through a board, and of a whole run by one thread";
 
@@ -38,6 +39,7 @@ enum Measure {
     Readings,
     Renewals,
     Needs,
+    Fees,
     Report,
     Drive,
 }
@@ -51,6 +53,7 @@ impl Measure {
             "readings" => Some(Measure::Readings),
             "renewals" => Some(Measure::Renewals),
             "needs" => Some(Measure::Needs),
+            "fees" => Some(Measure::Fees),
             "report" => Some(Measure::Report),
             "drive" => Some(Measure::Drive),
             _ => None,
@@ -68,6 +71,7 @@ impl Measure {
             Measure::Readings => reading::readings(rt, count),
             Measure::Renewals => renewals::measure(rt, count as u64),
             Measure::Needs => renewals::measure_needs(rt, count as u64),
+            Measure::Fees => renewals::measure_fees(rt, count as u64),
             Measure::Report => reporting::measure(rt, count),
             Measure::Drive => driving::measure(rt, count as u64),
         }

@@ -1,31 +1,31 @@
-//! What a renewal of all items costs.
+//! What a renewal of all items costs, and what it costs to ask for all that it or a payment wants.
 
-ghost use Rattle.std.specs.Prelude.{◌≡◌};
-
-use crate::shelf::{Shelf, lend};
+use crate::shelf::{Shelf, lend, owe};
 use anyhow::{Result, bail};
 use circ_policy::Policy;
 use circ_records::{Base, Tables};
 use journal_table::Journal;
-use message_meaning::{need, perform};
-use read_set::{Effect, Name, Need, Note, Notes, Plan, PlanName};
+use message_meaning::perform;
+use read_set::{Effect, Notes, Noting, Plan};
 use std::alloc::Global;
 use std::io::Print;
-use std::marker::Brand;
 use std::time::{Clock, Instant};
 
 const POLICY: &str = "institution = 'L1'\ncurrency = 'USD'\ndue_form = 'sip'\n\
 [class.A]\nmax_loans = 20\nmax_fees = 10000000\nmax_renewals = 1\n\
 [media.005]\ndays = 7\nrental = 1\nlate = 0\ncap = 0\n";
 
-const JOURNAL: &str =
+const RENEWAL: &str =
     "line,connection,request,response\n1,C1,6520260309    120000AOL1|AAP1|BOY|,\n";
 
-fn planned(alloc: Global) -> Result<Plan> {
+const PAYMENT: &str =
+    "line,connection,request,response\n1,C1,3720260309    1200000100USDBV99999.99|AOL1|AAP1|,\n";
+
+fn planned(alloc: Global, journal: &str) -> Result<Plan> {
     let Ok(policy) = Policy::read(alloc, POLICY.as_bytes()) else {
         bail!("the policy isn't read");
     };
-    let Ok(journal) = Journal::read(alloc, JOURNAL.as_bytes()) else {
+    let Ok(journal) = Journal::read(alloc, journal.as_bytes()) else {
         bail!("the journal isn't read");
     };
     let tables = Tables {
@@ -48,7 +48,7 @@ fn bytes(alloc: Global, text: &[u8]) -> Result<Vec<u8>> {
 
 /// Prints what a renewal of all of so many items costs.
 pub(crate) fn measure<R: Clock + Print + AllocGlobal>(rt: &R, count: u64) -> Result<()> {
-    let plan = planned(rt.alloc())?;
+    let plan = planned(rt.alloc(), RENEWAL)?;
     let mut shelf = lend(rt.alloc(), count)?;
     let start = Instant::now(rt)?;
     let Ok(effect) = perform(rt.alloc(), &plan, 1, &mut shelf) else {
@@ -61,32 +61,38 @@ pub(crate) fn measure<R: Clock + Print + AllocGlobal>(rt: &R, count: u64) -> Res
     Ok(())
 }
 
-/// Prints what it costs to ask for all that is needed for it, record by record, each time with all that was read before.
+/// Prints what it costs to ask for all that a renewal of so many items wants, record by record, and to note it.
 pub(crate) fn measure_needs<R: Clock + Print + AllocGlobal>(rt: &R, count: u64) -> Result<()> {
-    let plan = planned(rt.alloc())?;
+    let plan = planned(rt.alloc(), RENEWAL)?;
     let shelf = lend(rt.alloc(), count)?;
-    let start = Instant::now(rt)?;
-    let asked = ask::<Brand>(rt.alloc(), &plan, &shelf)?;
-    let nanoseconds = start.elapsed(rt)?.as_nanos();
-    let each = nanoseconds.checked_div(asked as u128).unwrap_or(0);
-    println!(rt; "needs of {count} items: {asked} records asked for, {each} ns each")?;
-    Ok(())
+    ask(rt, &plan, shelf, "items", count)
 }
 
-fn ask<J: PlanName>(alloc: Global, plan: &Plan, shelf: &Shelf) -> Result<usize>
-    requires { plan.now ≡ J.plan }
-{
-    let mut notes = Notes::new(alloc);
-    for _ in 0..u64::MAX {
-        let key = match need::<J>(alloc, plan, 1, 0, &notes)? {
-            Need::Key(key) => key,
-            Need::Done(_) => return Ok(notes.as_slice().len()),
-        };
-        notes.add(Note {
-            key,
-            name: Name::Base,
-            found: shelf.copy_at(alloc, &key)?,
-        })?;
-    }
-    bail!("the line never comes to its end")
+/// The same of a payment of so many fees.
+pub(crate) fn measure_fees<R: Clock + Print + AllocGlobal>(rt: &R, count: u64) -> Result<()> {
+    let plan = planned(rt.alloc(), PAYMENT)?;
+    let shelf = owe(rt.alloc(), count)?;
+    ask(rt, &plan, shelf, "fees", count)
+}
+
+fn ask<R: Clock + Print + AllocGlobal>(
+    rt: &R,
+    plan: &Plan,
+    shelf: Shelf,
+    what: &str,
+    count: u64,
+) -> Result<()> {
+    let start = Instant::now(rt)?;
+    let mut source = Noting {
+        notes: Notes::new(rt.alloc()),
+        looks: shelf,
+    };
+    let Ok(_effect) = perform(rt.alloc(), plan, 1, &mut source) else {
+        bail!("the line isn't performed");
+    };
+    let nanoseconds = start.elapsed(rt)?.as_nanos();
+    let asked = source.notes.as_slice().len();
+    let each = nanoseconds.checked_div(asked as u128).unwrap_or(0);
+    println!(rt; "needs of {count} {what}: {asked} records asked for, {each} ns each")?;
+    Ok(())
 }

@@ -25,7 +25,7 @@ pub(crate) fn measure<R: Clock + Print + AllocGlobal>(rt: &R, count: usize) -> R
     for i in 0..count {
         let request = REQUESTS[i % 6].as_bytes();
         bytes = bytes.saturating_add(request.len() as u64);
-        if let Reading::Asked(_) = read_request(rt.alloc(), request)? {
+        if matches!(&read_request(rt.alloc(), request)?, Reading::Asked(_)) {
             asked = asked.saturating_add(1);
         }
     }

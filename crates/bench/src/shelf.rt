@@ -1,16 +1,21 @@
 //! Records of a library to measure over.
 
 use circ_policy::MediaType;
-use circ_records::{Holds, Ids, Item, Key, Loan, Patron, Record};
-use read_set::{Source, Stop};
-use sip_reader::{Day, Id, Text};
+use circ_records::{Fee, FeeType, Holds, Ids, Item, Key, Loan, Patron, Record};
+use read_set::{Looks, Name, Source, Stop};
+use sip_reader::{Amount, Day, Id, Text};
 use std::alloc::{AllocError, Global};
 use std::collections::BTreeMap;
 
 /// Records by their keys.
-#[derive(Drop)]
 pub(crate) struct Shelf {
     pub(crate) records: BTreeMap<Key, Record>,
+}
+
+impl Drop for Shelf {
+    fn drop(self) {
+        let Shelf { records: _ } = self;
+    }
 }
 
 impl Shelf {
@@ -28,6 +33,7 @@ impl Source for Shelf {
 
     ghost has = { λ shelf k. Some (record_at shelf.records.entries k) };
 
+    #[tactic(auto, using(read_set::proofs::Gaining::gains_none))]
     fn read(&mut self, alloc: Global, key: &Key) -> Result<Option<Record>, Stop> {
         match self.records.get(key) {
             Some(found) => Ok(Some(found.copy(alloc)?)),
@@ -36,31 +42,76 @@ impl Source for Shelf {
     }
 }
 
+impl Looks for Shelf {
+    fn look(
+        &mut self,
+        alloc: Global,
+        key: &Key,
+    ) -> Result<Option<(Name, Option<Record>)>, AllocError> {
+        let found = self.copy_at(alloc, key)?;
+        Ok(Some((Name::Base, found)))
+    }
+}
+
 /// A patron P1 with so many items on loan, all of media type 005.
 pub(crate) fn lend(alloc: Global, count: u64) -> Result<Shelf, AllocError> {
     let mut records = BTreeMap::new(alloc);
     let mut loans = Ids::new(alloc);
-    let Some(patron) = Id::new(b"P1") else {
-        return Err(AllocError);
-    };
+    let patron = id(b"P1")?;
     for k in 0..count {
         let id = Id::of_fee(7, k);
         loans.push(id)?;
         let item = lent(alloc, patron)?;
         let _ = records.insert(Key::Item(id), Record::Item(item))?;
     }
-    let Some(class) = Id::new(b"A") else {
-        return Err(AllocError);
-    };
-    let record = Record::Patron(Patron {
-        name: text(alloc, b"Ann")?,
-        class,
-        blocked: false,
-        loans,
-        fees: Ids::new(alloc),
-    });
+    let record = member(alloc, loans, Ids::new(alloc))?;
     let _ = records.insert(Key::Patron(patron), record)?;
     Ok(Shelf { records })
+}
+
+/// A patron P1 with so many fees of 0.01 each.
+pub(crate) fn owe(alloc: Global, count: u64) -> Result<Shelf, AllocError> {
+    let mut records = BTreeMap::new(alloc);
+    let mut fees = Ids::new(alloc);
+    let patron = id(b"P1")?;
+    for k in 0..count {
+        let fee = Id::of_fee(7, k);
+        fees.push(fee)?;
+        let record = Record::Fee(Fee {
+            patron,
+            kind: FeeType::Rental,
+            amount: amount(1)?,
+            paid: amount(0)?,
+        });
+        let _ = records.insert(Key::Fee(fee), record)?;
+    }
+    let record = member(alloc, Ids::new(alloc), fees)?;
+    let _ = records.insert(Key::Patron(patron), record)?;
+    Ok(Shelf { records })
+}
+
+fn member(alloc: Global, loans: Ids, fees: Ids) -> Result<Record, AllocError> {
+    Ok(Record::Patron(Patron {
+        name: text(alloc, b"Ann")?,
+        class: id(b"A")?,
+        blocked: false,
+        loans,
+        fees,
+    }))
+}
+
+fn id(bytes: &[u8]) -> Result<Id, AllocError> {
+    match Id::new(bytes) {
+        Some(id) => Ok(id),
+        None => Err(AllocError),
+    }
+}
+
+fn amount(hundredths: u64) -> Result<Amount, AllocError> {
+    match Amount::new(hundredths) {
+        Some(amount) => Ok(amount),
+        None => Err(AllocError),
+    }
 }
 
 fn lent(alloc: Global, patron: Id) -> Result<Item, AllocError> {

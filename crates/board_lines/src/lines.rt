@@ -35,7 +35,6 @@ use std::marker::Model;
 use version_store::{EntryStore, Found, Place, Seen};
 
 /// The lines of a plan while workers run them: at each moment as some list of steps leaves them.
-#[derive(Drop)]
 pub struct Lines<'p, 't, J: PlanName> {
     pub(crate) plan: &'p Plan,
     pub(crate) attempts: AttemptTable,
@@ -46,6 +45,20 @@ pub struct Lines<'p, 't, J: PlanName> {
     clock: u64,
     /// The greatest clock at which a line that is committed changed.
     latest: u64,
+}
+
+impl<J: PlanName> Drop for Lines<'_, '_, J> {
+    fn drop(self) {
+        let Lines {
+            plan: _,
+            attempts: _,
+            entries: _,
+            rows: _,
+            hands: _,
+            clock: _,
+            latest: _,
+        } = self;
+    }
 }
 
 impl<'p, 't, J: PlanName> Model for Lines<'p, 't, J> {

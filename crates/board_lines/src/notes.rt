@@ -31,12 +31,21 @@ impl<'t, J: PlanName> Clone for PlacedName<'t, J> {
 impl<'t, J: PlanName> Copy for PlacedName<'t, J> {}
 
 /// What a line has noted, in the order of looking: keys, names and places. It holds no record.
-#[derive(Drop)]
 pub struct PlaceNotes<'t, J: PlanName> {
     keys: Vec<Key>,
     names: Vec<PlacedName<'t, J>>,
     /// The keys again, to be found.
     index: BTreeSet<Key>,
+}
+
+impl<J: PlanName> Drop for PlaceNotes<'_, J> {
+    fn drop(self) {
+        let PlaceNotes {
+            keys: _,
+            names: _,
+            index: _,
+        } = self;
+    }
 }
 
 impl<'t, J: PlanName> Model for PlaceNotes<'t, J> {

@@ -14,12 +14,22 @@ pub struct Course {
 
 /// What a line has noted, the place of the version of its newest publication, how far that has come, and the clock at the
 /// last change of the line's entries.
-#[derive(Drop)]
 pub struct Row<'t, J: PlanName> {
     pub notes: PlaceNotes<'t, J>,
     pub version: Option<Place<'t, J>>,
     pub course: Course,
     pub changed: u64,
+}
+
+impl<J: PlanName> Drop for Row<'_, J> {
+    fn drop(self) {
+        let Row {
+            notes: _,
+            version: _,
+            course: _,
+            changed: _,
+        } = self;
+    }
 }
 
 impl<'t, J: PlanName> Row<'t, J> {

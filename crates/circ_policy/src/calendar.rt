@@ -8,7 +8,6 @@ use sip_reader::Day;
 use std::collections::BTreeSet;
 
 /// The days on which a library is closed. Some weekday is open and few dates are closed, so of 401 weeks some day is open.
-#[derive(Drop)]
 pub(crate) struct Calendar {
     /// From Monday on.
     pub closed_weekdays: [bool; 7],
@@ -16,6 +15,15 @@ pub(crate) struct Calendar {
     pub closed_dates: BTreeSet<u32>,
     pub ghost some_open: { list_any not closed_weekdays ≡ true },
     pub ghost few_closed: { length closed_dates.keys ≤ 400 },
+}
+
+impl Drop for Calendar {
+    fn drop(self) {
+        let Calendar {
+            closed_weekdays: _,
+            closed_dates: _,
+        } = self;
+    }
 }
 
 impl Calendar {

@@ -12,7 +12,6 @@ use std::collections::BTreeMap;
 use std::marker::Model;
 
 /// What a library grants its patrons, and what it asks for it.
-#[derive(Drop)]
 pub struct Policy {
     pub(crate) institution: Id,
     pub(crate) currency: [u8; 3],
@@ -20,6 +19,19 @@ pub struct Policy {
     pub(crate) calendar: Calendar,
     pub(crate) classes: BTreeMap<Id, Class>,
     pub(crate) media: Vec<(MediaType, Media)>,
+}
+
+impl Drop for Policy {
+    fn drop(self) {
+        let Policy {
+            institution: _,
+            currency: _,
+            due_form: _,
+            calendar: _,
+            classes: _,
+            media: _,
+        } = self;
+    }
 }
 
 impl Model for Policy {

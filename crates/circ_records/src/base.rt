@@ -29,9 +29,14 @@ use std::marker::Model;
 use std::mem::replace;
 
 /// The records that a run begins with, by their keys.
-#[derive(Drop)]
 pub struct Base {
     records: BTreeMap<Key, Record>,
+}
+
+impl Drop for Base {
+    fn drop(self) {
+        let Base { records: _ } = self;
+    }
 }
 
 impl Model for Base {

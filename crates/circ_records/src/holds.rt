@@ -5,11 +5,19 @@ use std::alloc::{AllocError, Global};
 use std::marker::Model;
 
 /// A patron's place in the queue of an item.
-#[derive(Drop)]
 pub struct Hold {
     pub patron: Id,
     /// Where the patron wants to have it, empty where nothing was said.
     pub pickup: Text,
+}
+
+impl Drop for Hold {
+    fn drop(self) {
+        let Hold {
+            patron: _,
+            pickup: _,
+        } = self;
+    }
 }
 
 impl Hold {
@@ -25,9 +33,14 @@ impl Hold {
 }
 
 /// The queue of an item: who waits for it, in order.
-#[derive(Drop)]
 pub struct Holds {
     holds: Vec<Hold>,
+}
+
+impl Drop for Holds {
+    fn drop(self) {
+        let Holds { holds: _ } = self;
+    }
 }
 
 impl Model for Holds {

@@ -5,9 +5,14 @@ use std::alloc::{AllocError, Global};
 use std::marker::Model;
 
 /// A list of ids, as a patron's loans or open fees, the oldest first.
-#[derive(Drop)]
 pub struct Ids {
     ids: Vec<Id>,
+}
+
+impl Drop for Ids {
+    fn drop(self) {
+        let Ids { ids: _ } = self;
+    }
 }
 
 impl Model for Ids {

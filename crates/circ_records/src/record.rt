@@ -17,7 +17,6 @@ pub enum Record {
 }
 
 /// A member of the library.
-#[derive(Drop)]
 pub struct Patron {
     pub name: Text,
     pub class: Id,
@@ -28,8 +27,19 @@ pub struct Patron {
     pub fees: Ids,
 }
 
+impl Drop for Patron {
+    fn drop(self) {
+        let Patron {
+            name: _,
+            class: _,
+            blocked: _,
+            loans: _,
+            fees: _,
+        } = self;
+    }
+}
+
 /// A thing that the library lends.
-#[derive(Drop)]
 pub struct Item {
     pub title: Text,
     pub media: MediaType,
@@ -39,6 +49,19 @@ pub struct Item {
     pub loan: Option<Loan>,
     /// Who waits for it, in order.
     pub holds: Holds,
+}
+
+impl Drop for Item {
+    fn drop(self) {
+        let Item {
+            title: _,
+            media: _,
+            location: _,
+            properties: _,
+            loan: _,
+            holds: _,
+        } = self;
+    }
 }
 
 /// Who has an item, and until when.

@@ -9,9 +9,14 @@ use std::collections::BTreeMap;
 use std::marker::Model;
 
 /// Records by their keys, as a run leaves them.
-#[derive(Drop)]
 pub struct Records {
     records: BTreeMap<Key, Record>,
+}
+
+impl Drop for Records {
+    fn drop(self) {
+        let Records { records: _ } = self;
+    }
 }
 
 impl Model for Records {

@@ -27,7 +27,6 @@ pub(crate) const CLOSED: [&str; 4] = ["id", "patron", "type", "amount"];
 pub(crate) const HOLDS: [&str; 3] = ["item", "patron", "pickup"];
 
 /// The rows of the tables, without their headers.
-#[derive(Drop)]
 pub(crate) struct TableRows {
     pub(crate) patrons: Vec<ByteRecord>,
     pub(crate) items: Vec<ByteRecord>,
@@ -35,6 +34,19 @@ pub(crate) struct TableRows {
     pub(crate) fees: Vec<ByteRecord>,
     pub(crate) closed: Vec<ByteRecord>,
     pub(crate) holds: Vec<ByteRecord>,
+}
+
+impl Drop for TableRows {
+    fn drop(self) {
+        let TableRows {
+            patrons: _,
+            items: _,
+            loans: _,
+            fees: _,
+            closed: _,
+            holds: _,
+        } = self;
+    }
 }
 
 impl TableRows {

@@ -4,7 +4,6 @@ ghost use Rattle.circ_records.specs.Words.{table_word};
 use std::fmt;
 
 /// The texts of the six tables.
-#[derive(Drop)]
 pub struct Tables {
     pub patrons: Vec<u8>,
     pub items: Vec<u8>,
@@ -13,6 +12,19 @@ pub struct Tables {
     pub closed: Vec<u8>,
     /// No bytes at all count as the header alone.
     pub holds: Vec<u8>,
+}
+
+impl Drop for Tables {
+    fn drop(self) {
+        let Tables {
+            patrons: _,
+            items: _,
+            loans: _,
+            fees: _,
+            closed: _,
+            holds: _,
+        } = self;
+    }
 }
 
 /// Which of the tables, in the order in which they are read and written.

@@ -12,10 +12,18 @@ use std::alloc::Global;
 use std::marker::Model;
 
 /// The rows under the header of a text, read one at a time. After an error it answers that error.
-#[derive(Drop)]
 pub struct RowReader<'a> {
     reader: Reader<&'a [u8]>,
     reach: Reach,
+}
+
+impl Drop for RowReader<'_> {
+    fn drop(self) {
+        let RowReader {
+            reader: _,
+            reach: _,
+        } = self;
+    }
 }
 
 /// How far a reader has come.

@@ -17,9 +17,14 @@ use std::marker::Model;
 const HEADER: [&str; 4] = ["line", "connection", "request", "response"];
 
 /// The lines of a journal, their numbers rising by one, at most 1,000,000; the last number is at most 9,999,999,999.
-#[derive(Drop)]
 pub struct Journal {
     lines: Vec<Line>,
+}
+
+impl Drop for Journal {
+    fn drop(self) {
+        let Journal { lines: _ } = self;
+    }
 }
 
 impl Model for Journal {

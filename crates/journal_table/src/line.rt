@@ -15,12 +15,22 @@ use std::marker::Model;
 
 /// A request, the connection that it came over, and the response that was recorded. One piece of
 /// memory holds all three, so a line costs few bytes beside those of the file.
-#[derive(Drop)]
 pub struct Line {
     number: u64,
     bytes: Vec<u8>,
     connection_end: usize,
     request_end: usize,
+}
+
+impl Drop for Line {
+    fn drop(self) {
+        let Line {
+            number: _,
+            bytes: _,
+            connection_end: _,
+            request_end: _,
+        } = self;
+    }
 }
 
 impl Model for Line {

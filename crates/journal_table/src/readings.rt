@@ -21,11 +21,20 @@ const STRETCH: usize = 4096;
 /// What the request of each line is. The numbers of the lines rise by one from the first.
 ///
 /// The readings stay in the stretches in which they were read, so that none of them moves again.
-#[derive(Drop)]
 pub struct Readings {
     first: u64,
     count: usize,
     stretches: Vec<Vec<Reading>>,
+}
+
+impl Drop for Readings {
+    fn drop(self) {
+        let Readings {
+            first: _,
+            count: _,
+            stretches: _,
+        } = self;
+    }
 }
 
 impl Model for Readings {

@@ -9,11 +9,16 @@ use std::marker::Model;
 
 /// Some of the places 0 to so many. Over the flags of the places stands a tree, each node of which says whether there is
 /// one below it: node 1 is the root, nodes 2 n and 2 n + 1 are below node n, and the flags are the last row.
-#[derive(Drop)]
 pub struct LineSet {
     flags: Vec<bool>,
     /// The nodes above the flags; their number is a power of two, and number 0 is none of them.
     nodes: Vec<bool>,
+}
+
+impl Drop for LineSet {
+    fn drop(self) {
+        let LineSet { flags: _, nodes: _ } = self;
+    }
 }
 
 impl Model for LineSet {

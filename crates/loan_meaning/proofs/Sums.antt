@@ -32,7 +32,7 @@ use Rattle.read_set.specs.Effects.{written}
 use Rattle.read_set.specs.Fees.{rest_of}
 use Rattle.read_set.specs.Known.{as_fee}
 use Rattle.read_set.specs.Loans.{renewed, due_for}
-use Rattle.read_set.specs.Maps.{Part}
+use Rattle.read_set.specs.Maps.{Part, Grows}
 use Rattle.read_set.specs.RenewAlls.{one_left, turn_by, none_renewed}
 use Rattle.read_set.specs.declared.known.Article.{Article}
 use Rattle.read_set.specs.declared.known.Member.{Member}
@@ -40,7 +40,7 @@ use Rattle.read_set.specs.declared.progress.Renewals.{Renewals}
 use Rattle.read_set.specs.declared.verdict.LoanRequest.{LoanRequest}
 use Rattle.read_set.specs.declared.verdict.Verdict.{Verdict}
 use Rattle.read_set.specs.declared.verdict.Verdict.TheVariants as verdicts
-use Rattle.read_set.proofs.Following.{follow_done, follow_wants}
+use Rattle.read_set.proofs.Following.{follow_done, follow_more, follow_wants}
 use Rattle.read_set.proofs.Putting.{put-at, put-there}
 
 -- programs that go on alike come as far
@@ -238,3 +238,11 @@ all_new n i fees end h = subst (AreNew n 0) (take_all i fees end) h
 -- an item that is left
 pub run_left : (has : Part) (n : ℕ) (item : List ℕ) (done : Renewals) (fresh : Bool) (sum : Option ℕ) → Runs has n fresh done sum → Runs has n fresh (one_left item done) sum
 run_left has n item done fresh sum h = record { known = h.known; new = h.new }
+
+-- what is known of a sum stays known where more is had
+known_more : (old new : Part) (w : Entries) (fees : List (List ℕ)) (sum : Option ℕ) → Grows old new → IsKnown old w fees sum → IsKnown new w fees sum
+known_more old new w fees None grows h = tt
+known_more old new w fees (Some sum) grows h = follow_more old new (owed_at w fees) sum grows h
+
+pub run_more : (old new : Part) (n : ℕ) (fresh : Bool) (done : Renewals) (sum : Option ℕ) → Grows old new → Runs old n fresh done sum → Runs new n fresh done sum
+run_more old new n fresh done sum grows h = record { known = known_more old new done.writes done.member.patron.fees sum grows h.known; new = h.new }

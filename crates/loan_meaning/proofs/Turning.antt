@@ -4,12 +4,13 @@ use Rattle.circ_records.specs.declared.key.Key.{Key}
 use Rattle.circ_records.specs.declared.record.Record.{Record}
 use Rattle.sip_reader.specs.declared.request.RenewAll.{RenewAll}
 use Rattle.loan_meaning.specs.RenewingAll.{turn_rule, turns_rule}
-use Rattle.read_set.specs.Asks.{Done, follow}
+use Rattle.read_set.specs.Asks.{Done, IsAsked, follow}
 use Rattle.read_set.specs.RenewAlls.{by_renew_all}
 use Rattle.read_set.specs.Stops.{StopsAt}
 use Rattle.read_set.specs.declared.progress.Renewals.{Renewals}
 use Rattle.read_set.specs.declared.source.Stop.{Stop}
 use Rattle.read_set.proofs.Following.{follow_done, stop_then}
+use Rattle.read_set.proofs.Gaining.{asked_first, asked_next}
 use Rattle.loan_meaning.proofs.Walking.{cut}
 
 -- one turn of the walk
@@ -25,3 +26,15 @@ pub stop_step : (has : Key → Option (Option Record)) (p : Terms) (n : ℕ) (q 
     → StopsAt stop (follow has (turns_rule p n q date (drop i items) done))
 stop_step has p n q date items i d done stop within e h =
     rw (cut items i d within e) (stop_then has (turn_rule p n (by_renew_all q d) date done) (λ x. turns_rule p n q date (drop (i + 1) items) x) stop h)
+
+-- what one turn asks for, and what the walk after it asks for
+pub asks_here : (has : Key → Option (Option Record)) (p : Terms) (n : ℕ) (q : RenewAll) (date : List ℕ) (items : List (List ℕ)) (i : ℕ) (d : List ℕ) (done : Renewals) (k : Key)
+    → i < length items → d ≡ get_or items i d → IsAsked has (turn_rule p n (by_renew_all q d) date done) k → IsAsked has (turns_rule p n q date (drop i items) done) k
+asks_here has p n q date items i d done k within e h =
+    rw (cut items i d within e) (asked_first has (turn_rule p n (by_renew_all q d) date done) (λ x. turns_rule p n q date (drop (i + 1) items) x) k h)
+
+pub asks_after : (has : Key → Option (Option Record)) (p : Terms) (n : ℕ) (q : RenewAll) (date : List ℕ) (items : List (List ℕ)) (i : ℕ) (d : List ℕ) (done next : Renewals) (k : Key)
+    → i < length items → d ≡ get_or items i d → follow has (turn_rule p n (by_renew_all q d) date done) ≡ Done next
+    → IsAsked has (turns_rule p n q date (drop (i + 1) items) next) k → IsAsked has (turns_rule p n q date (drop i items) done) k
+asks_after has p n q date items i d done next k within e is h =
+    rw (cut items i d within e) (asked_next has (turn_rule p n (by_renew_all q d) date done) (λ x. turns_rule p n q date (drop (i + 1) items) x) next k is h)

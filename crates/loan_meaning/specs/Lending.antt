@@ -1,4 +1,4 @@
--- A device of proofs: checkout and renewal as programs that ask record by record: the patron, then the item, then the fees
+-- Checkout and renewal as programs that ask record by record: the patron, then the item, then the fees
 -- where they matter, then the other patron whose loan ends. What they mean stands in read_set.
 use Rattle.std.specs.Prelude.{ℕ, not, ◌&&◌, nat_le, List, [], length, Option, Some, None, if◌then◌else◌}
 use Rattle.circ_policy.specs.Terms.{Terms}

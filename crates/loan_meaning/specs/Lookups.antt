@@ -1,4 +1,4 @@
--- A device of proofs: asking for the records of ids, and for the record at a key after the writes so far.
+-- Asking for the records of ids, and for the record at a key after the writes so far.
 use Rattle.std.specs.Prelude.{ℕ, List, Option, Some, None}
 use Rattle.std.specs.Option.{option_map_or}
 use Rattle.circ_policy.specs.Terms.{Terms}

@@ -1,4 +1,4 @@
--- A device of proofs: asking for what a patron owes, after the writes so far.
+-- Asking for what a patron owes, after the writes so far.
 use Rattle.std.specs.Prelude.{ℕ, Bool, ◌+◌, List, [], ◌∷◌}
 use Rattle.circ_records.specs.Records.{Entries}
 use Rattle.circ_records.specs.declared.key.Key.TheVariants as keys

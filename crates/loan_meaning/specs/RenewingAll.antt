@@ -1,4 +1,4 @@
--- A device of proofs: renewal of all items as a program that asks record by record: the patron, then each item of its list, each after the ones before it.
+-- Renewal of all items as a program that asks record by record: the patron, then each item of its list, each after the ones before it.
 use Rattle.std.specs.Prelude.{ℕ, false, List, [], ◌∷◌, Option, Some, None}
 use Rattle.circ_policy.specs.Terms.{Terms}
 use Rattle.circ_records.specs.declared.key.Key.TheVariants as keys

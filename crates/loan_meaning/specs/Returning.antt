@@ -1,4 +1,4 @@
--- A device of proofs: checkin as a program that asks record by record: the item, then the borrower where it is on loan.
+-- Checkin as a program that asks record by record: the item, then the borrower where it is on loan.
 use Rattle.std.specs.Prelude.{ℕ, List}
 use Rattle.circ_policy.specs.Terms.{Terms}
 use Rattle.sip_reader.specs.declared.request.Checkin.{Checkin}

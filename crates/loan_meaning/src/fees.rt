@@ -3,7 +3,7 @@
 ghost use Rattle.std.specs.Prelude.{◌≡◌, nat_lt, OnOk};
 ghost use Rattle.loan_meaning.specs.Owing.{owed_at, owed_from, owing_tests};
 ghost use Rattle.loan_meaning.specs.Sums.{IsKnown};
-ghost use Rattle.read_set.specs.Asks.{follow};
+ghost use Rattle.read_set.specs.Asks.{follow, Gains};
 ghost use Rattle.read_set.specs.Effects.{written};
 ghost use Rattle.read_set.specs.Fees.{rest_of, fee_made, with_fee, owing_verdict};
 ghost use Rattle.read_set.specs.Stops.{Follows};
@@ -28,15 +28,15 @@ fn rest(fee: Option<Fee>) -> u64
 }
 
 /// What is owed over a list of fees, in hundredths, after the writes so far.
-#[tactic(auto, unfolding(crate::specs::Owing::owed_at))]
+#[tactic(auto, unfolding(crate::specs::Owing::owed_at), using(read_set::proofs::Gaining::gains_none, read_set::proofs::Gaining::gains_first))]
 pub fn owed_of<S: Source>(
     alloc: Global,
     source: &mut S,
     writes: &Draft,
     fees: &[Id],
 ) -> Result<u128, Stop>
-    ensures gives { Follows result (follow (S.has source.old) (owed_at writes.now fees.now)) }
-    ensures keeps { S.has source.new ≡ S.has source.old }
+    ensures gives { Follows result (follow (S.has source.new) (owed_at writes.now fees.now)) }
+    ensures keeps { Gains (S.has source.old) (S.has source.new) (owed_at writes.now fees.now) }
 {
     let mut sum: u128 = 0;
     for id in fees {
@@ -47,6 +47,7 @@ pub fn owed_of<S: Source>(
 }
 
 /// What is owed over a list of fees after the writes so far, where it is known already; else it is summed, and known.
+#[tactic(auto, using(read_set::proofs::Gaining::gains_none, read_set::proofs::Gaining::gains_first))]
 pub fn owed_once<S: Source>(
     alloc: Global,
     source: &mut S,
@@ -55,9 +56,9 @@ pub fn owed_once<S: Source>(
     sum: &mut Option<u128>,
 ) -> Result<u128, Stop>
     requires { IsKnown (S.has source.old) writes.now fees.now sum.old }
-    ensures gives { Follows result (follow (S.has source.old) (owed_at writes.now fees.now)) }
-    ensures keeps { S.has source.new ≡ S.has source.old }
-    ensures known { OnOk result (IsKnown (S.has source.old) writes.now fees.now sum.new) }
+    ensures gives { Follows result (follow (S.has source.new) (owed_at writes.now fees.now)) }
+    ensures keeps { Gains (S.has source.old) (S.has source.new) (owed_at writes.now fees.now) }
+    ensures known { OnOk result (IsKnown (S.has source.new) writes.now fees.now sum.new) }
 {
     if let Some(known) = *sum {
         return Ok(known);
@@ -128,7 +129,7 @@ fn owing(owes: u128, agreed: bool, member: &Member, article: &Article) -> Verdic
 }
 
 /// The last tests of a loan and of a renewal. `sum` is what is known of the sum that is owed.
-#[tactic(auto, unfolding(crate::specs::Owing::owing_tests), using(read_set::proofs::Following::follow_wants))]
+#[tactic(auto, unfolding(crate::specs::Owing::owing_tests), using(read_set::proofs::Gaining::gains_none, read_set::proofs::Gaining::gains_first, read_set::proofs::Following::follow_wants))]
 pub fn test_owing<S: Source>(
     alloc: Global,
     source: &mut S,
@@ -139,9 +140,9 @@ pub fn test_owing<S: Source>(
     sum: &mut Option<u128>,
 ) -> Result<Verdict, Stop>
     requires { IsKnown (S.has source.old) writes.now member.now.patron.fees sum.old }
-    ensures gives { Follows result (follow (S.has source.old) (owing_tests writes.now agreed member.now article.now)) }
-    ensures keeps { S.has source.new ≡ S.has source.old }
-    ensures known { OnOk result (IsKnown (S.has source.old) writes.now member.now.patron.fees sum.new) }
+    ensures gives { Follows result (follow (S.has source.new) (owing_tests writes.now agreed member.now article.now)) }
+    ensures keeps { Gains (S.has source.old) (S.has source.new) (owing_tests writes.now agreed member.now article.now) }
+    ensures known { OnOk result (IsKnown (S.has source.new) writes.now member.now.patron.fees sum.new) }
 {
     let owes = owed_once(alloc, source, writes, member.patron.fees.as_slice(), sum)?;
     Ok(owing(owes, agreed, member, article))

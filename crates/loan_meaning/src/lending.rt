@@ -2,7 +2,7 @@
 
 ghost use Rattle.std.specs.Prelude.{◌≡◌, ◌&&◌, IfOk, OnOk, Some};
 ghost use Rattle.loan_meaning.specs.Lending.{lending_tests, other_at, lending_of, lending_rule_by, lending_rule, checkout_rule_known, checkout_rule};
-ghost use Rattle.read_set.specs.Asks.{follow};
+ghost use Rattle.read_set.specs.Asks.{follow, Gains};
 ghost use Rattle.read_set.specs.Effects.{written};
 ghost use Rattle.read_set.specs.Ids.{without};
 ghost use Rattle.read_set.specs.Loans.{lent_to, freed, freed_by, lent, lent_list, lending_patron, lending_records, lending_writes, lending_made, checkout};
@@ -21,7 +21,7 @@ use read_set::{Article, Draft, Effect, LoanRequest, Member, Source, Stop, Verdic
 use sip_reader::{Amount, Checkout, Day, Id, Stamp};
 use std::alloc::{AllocError, Global};
 
-#[tactic(auto, unfolding(crate::specs::Lending::lending_tests))]
+#[tactic(auto, unfolding(crate::specs::Lending::lending_tests), using(read_set::proofs::Gaining::gains_none, read_set::proofs::Gaining::gains_first))]
 fn test_lending<S: Source>(
     alloc: Global,
     a: &LoanRequest,
@@ -29,8 +29,8 @@ fn test_lending<S: Source>(
     article: &Article,
     source: &mut S,
 ) -> Result<Verdict, Stop>
-    ensures gives { Follows result (follow (S.has source.old) (lending_tests a.now member.now article.now)) }
-    ensures keeps { S.has source.new ≡ S.has source.old }
+    ensures gives { Follows result (follow (S.has source.new) (lending_tests a.now member.now article.now)) }
+    ensures keeps { Gains (S.has source.old) (S.has source.new) (lending_tests a.now member.now article.now) }
 {
     if a.forced {
         return Ok(Verdict::Made);
@@ -61,6 +61,7 @@ fn test_lending<S: Source>(
     )
 }
 
+#[tactic(auto, using(read_set::proofs::Gaining::gains_none, read_set::proofs::Gaining::gains_first))]
 fn other_of<S: Source>(
     alloc: Global,
     policy: &Policy,
@@ -68,8 +69,8 @@ fn other_of<S: Source>(
     loan: Option<Loan>,
     source: &mut S,
 ) -> Result<Option<Member>, Stop>
-    ensures gives { Follows result (follow (S.has source.old) (other_at policy.now patron.now loan)) }
-    ensures keeps { S.has source.new ≡ S.has source.old }
+    ensures gives { Follows result (follow (S.has source.new) (other_at policy.now patron.now loan)) }
+    ensures keeps { Gains (S.has source.old) (S.has source.new) (other_at policy.now patron.now loan) }
 {
     let Some(loan) = loan else {
         return Ok(None);
@@ -101,22 +102,9 @@ fn free(
 fn without_loan(alloc: Global, item: &Id, other: Member) -> Result<Patron, AllocError>
     ensures { IfOk result (λ p. p ≡ record other.patron { loans = without item.now other.patron.loans }) }
 {
-    let Member { patron, class: _ } = other;
-    let Patron {
-        name,
-        class,
-        blocked,
-        loans,
-        fees,
-    } = patron;
-    let loans = without(alloc, &loans, item)?;
-    Ok(Patron {
-        name,
-        class,
-        blocked,
-        loans,
-        fees,
-    })
+    let mut patron = other.into_patron();
+    patron.loans = without(alloc, &patron.loans, item)?;
+    Ok(patron)
 }
 
 fn free_by(
@@ -137,45 +125,29 @@ fn free_by(
 fn lent_item(alloc: Global, a: &LoanRequest, due: Day, article: Article) -> Result<Item, AllocError>
     ensures { IfOk result (λ i. i ≡ lent a.now due article.item) }
 {
-    let Article { item, media: _ } = article;
-    let Item {
-        title,
-        media,
-        location,
-        properties,
-        loan: _,
-        holds,
-    } = item;
-    let holds = without_hold(alloc, &holds, &a.patron)?;
-    Ok(Item {
-        title,
-        media,
-        location,
-        properties,
-        loan: Some(Loan {
-            patron: a.patron,
-            due,
-            renewals: 0,
-        }),
-        holds,
-    })
+    let mut item = article.into_item();
+    item.holds = without_hold(alloc, &item.holds, &a.patron)?;
+    item.loan = Some(Loan {
+        patron: a.patron,
+        due,
+        renewals: 0,
+    });
+    Ok(item)
 }
 
 fn list_loan(
     alloc: Global,
     a: &LoanRequest,
     loan: Option<Loan>,
-    loans: Ids,
-) -> Result<Ids, AllocError>
-    ensures { IfOk result (λ ids. ids ≡ lent_list a.now loan loans) }
+    loans: &mut Ids,
+) -> Result<(), AllocError>
+    ensures { OnOk result (loans.new ≡ lent_list a.now loan loans.old) }
 {
-    let mut loans = if has_lent_to(&a.patron, loan) {
-        without(alloc, &loans, &a.item)?
-    } else {
-        loans
-    };
+    if has_lent_to(&a.patron, loan) {
+        *loans = without(alloc, loans, &a.item)?;
+    }
     loans.push(a.item)?;
-    Ok(loans)
+    Ok(())
 }
 
 fn lend_to(
@@ -188,23 +160,10 @@ fn lend_to(
 ) -> Result<Patron, AllocError>
     ensures { IfOk result (λ p. p ≡ lending_patron n a.now charge loan member.patron) }
 {
-    let Member { patron, class: _ } = member;
-    let Patron {
-        name,
-        class,
-        blocked,
-        loans,
-        mut fees,
-    } = patron;
-    let loans = list_loan(alloc, a, loan, loans)?;
-    list_fee(n, 0, charge, &mut fees)?;
-    Ok(Patron {
-        name,
-        class,
-        blocked,
-        loans,
-        fees,
-    })
+    let mut patron = member.into_patron();
+    list_loan(alloc, a, loan, &mut patron.loans)?;
+    list_fee(n, 0, charge, &mut patron.fees)?;
+    Ok(patron)
 }
 
 /// The patron and the item are written after what is written already.
@@ -269,7 +228,7 @@ fn make_loan(
     })
 }
 
-#[tactic(auto, unfolding(crate::specs::Lending::lending_of), using(read_set::proofs::Following::follow_wants))]
+#[tactic(auto, unfolding(crate::specs::Lending::lending_of), using(read_set::proofs::Gaining::gains_none, read_set::proofs::Gaining::gains_first, read_set::proofs::Following::follow_wants))]
 fn lend_in_any_case<S: Source>(
     alloc: Global,
     policy: &Policy,
@@ -280,14 +239,15 @@ fn lend_in_any_case<S: Source>(
     article: Article,
     source: &mut S,
 ) -> Result<Effect, Stop>
-    ensures gives { Follows result (follow (S.has source.old) (lending_of policy.now n a.now date member article)) }
-    ensures keeps { S.has source.new ≡ S.has source.old }
+    ensures gives { Follows result (follow (S.has source.new) (lending_of policy.now n a.now date member article)) }
+    ensures keeps { Gains (S.has source.old) (S.has source.new) (lending_of policy.now n a.now date member article) }
 {
     let loan = loan_in(&article);
     let other = other_of(alloc, policy, &a.patron, loan, source)?;
     Ok(make_loan(alloc, policy, n, a, date, member, article, other)?)
 }
 
+#[tactic(auto, using(read_set::proofs::Gaining::gains_none, read_set::proofs::Gaining::gains_first))]
 fn lend_by<S: Source>(
     alloc: Global,
     policy: &Policy,
@@ -299,8 +259,8 @@ fn lend_by<S: Source>(
     verdict: Verdict,
     source: &mut S,
 ) -> Result<Effect, Stop>
-    ensures gives { Follows result (follow (S.has source.old) (lending_rule_by policy.now n a.now date member article verdict)) }
-    ensures keeps { S.has source.new ≡ S.has source.old }
+    ensures gives { Follows result (follow (S.has source.new) (lending_rule_by policy.now n a.now date member article verdict)) }
+    ensures keeps { Gains (S.has source.old) (S.has source.new) (lending_rule_by policy.now n a.now date member article verdict) }
 {
     let rental = rental_in(&article);
     match verdict {
@@ -310,7 +270,7 @@ fn lend_by<S: Source>(
     }
 }
 
-#[tactic(auto, unfolding(crate::specs::Lending::lending_rule), using(read_set::proofs::Following::follow_wants))]
+#[tactic(auto, unfolding(crate::specs::Lending::lending_rule), using(read_set::proofs::Gaining::gains_none, read_set::proofs::Gaining::gains_first, read_set::proofs::Following::follow_wants))]
 fn lend<S: Source>(
     alloc: Global,
     policy: &Policy,
@@ -321,8 +281,8 @@ fn lend<S: Source>(
     article: Article,
     source: &mut S,
 ) -> Result<Effect, Stop>
-    ensures gives { Follows result (follow (S.has source.old) (lending_rule policy.now n a.now date member article)) }
-    ensures keeps { S.has source.new ≡ S.has source.old }
+    ensures gives { Follows result (follow (S.has source.new) (lending_rule policy.now n a.now date member article)) }
+    ensures keeps { Gains (S.has source.old) (S.has source.new) (lending_rule policy.now n a.now date member article) }
 {
     let verdict = test_lending(alloc, a, &member, &article, source)?;
     lend_by(alloc, policy, n, a, date, member, article, verdict, source)
@@ -335,6 +295,7 @@ fn is_renewal(request: &Checkout, article: &Article) -> bool
     request.renewal && has_lent_to(&request.patron, article.item.loan)
 }
 
+#[tactic(auto, using(read_set::proofs::Gaining::gains_none, read_set::proofs::Gaining::gains_first))]
 fn lend_or_renew<S: Source>(
     alloc: Global,
     policy: &Policy,
@@ -345,8 +306,8 @@ fn lend_or_renew<S: Source>(
     article: Article,
     source: &mut S,
 ) -> Result<Effect, Stop>
-    ensures gives { Follows result (follow (S.has source.old) (checkout_rule_known policy.now n request.now date (Some member) (Some article))) }
-    ensures keeps { S.has source.new ≡ S.has source.old }
+    ensures gives { Follows result (follow (S.has source.new) (checkout_rule_known policy.now n request.now date (Some member) (Some article))) }
+    ensures keeps { Gains (S.has source.old) (S.has source.new) (checkout_rule_known policy.now n request.now date (Some member) (Some article)) }
 {
     let a = ask_checkout(request);
     if is_renewal(request, &article) {
@@ -356,6 +317,7 @@ fn lend_or_renew<S: Source>(
     }
 }
 
+#[tactic(auto, using(read_set::proofs::Gaining::gains_none, read_set::proofs::Gaining::gains_first))]
 fn lend_both<S: Source>(
     alloc: Global,
     policy: &Policy,
@@ -366,8 +328,8 @@ fn lend_both<S: Source>(
     article: Option<Article>,
     source: &mut S,
 ) -> Result<Effect, Stop>
-    ensures gives { Follows result (follow (S.has source.old) (checkout_rule_known policy.now n request.now date member article)) }
-    ensures keeps { S.has source.new ≡ S.has source.old }
+    ensures gives { Follows result (follow (S.has source.new) (checkout_rule_known policy.now n request.now date member article)) }
+    ensures keeps { Gains (S.has source.old) (S.has source.new) (checkout_rule_known policy.now n request.now date member article) }
 {
     let Some(member) = member else {
         return Ok(refuse(alloc, policy, &ask_checkout(request), date, article)?);
@@ -379,7 +341,7 @@ fn lend_both<S: Source>(
 }
 
 /// A checkout (message 11) on line n.
-#[tactic(auto, unfolding(crate::specs::Lending::checkout_rule), using(read_set::proofs::Following::follow_wants))]
+#[tactic(auto, unfolding(crate::specs::Lending::checkout_rule), using(read_set::proofs::Gaining::gains_none, read_set::proofs::Gaining::gains_first, read_set::proofs::Following::follow_wants))]
 pub fn check_out<S: Source>(
     alloc: Global,
     policy: &Policy,
@@ -388,9 +350,9 @@ pub fn check_out<S: Source>(
     date: Stamp,
     source: &mut S,
 ) -> Result<Effect, Stop>
-    ensures gives { Follows result (follow (S.has source.old) (checkout_rule policy.now n request.now date)) }
-    ensures means { IfOk result (λ e. (M : Map) → Agrees (S.has source.old) M → e ≡ checkout policy.now n request.now date M) }
-    ensures keeps { S.has source.new ≡ S.has source.old }
+    ensures gives { Follows result (follow (S.has source.new) (checkout_rule policy.now n request.now date)) }
+    ensures means { IfOk result (λ e. (M : Map) → Agrees (S.has source.new) M → e ≡ checkout policy.now n request.now date M) }
+    ensures keeps { Gains (S.has source.old) (S.has source.new) (checkout_rule policy.now n request.now date) }
 {
     let member = patron_of(alloc, policy, source, &request.patron)?;
     let article = item_of(alloc, policy, source, &request.item)?;

@@ -2,7 +2,7 @@
 
 ghost use Rattle.std.specs.Prelude.{◌≡◌};
 ghost use Rattle.loan_meaning.specs.Lookups.{patron_at, item_at, fee_at, borrower_at, ask_after};
-ghost use Rattle.read_set.specs.Asks.{follow};
+ghost use Rattle.read_set.specs.Asks.{follow, Gains};
 ghost use Rattle.read_set.specs.Stops.{Follows};
 
 use circ_policy::Policy;
@@ -12,55 +12,55 @@ use sip_reader::Id;
 use std::alloc::Global;
 
 /// The patron of an id, where it is known.
-#[tactic(auto, unfolding(crate::specs::Lookups::patron_at))]
+#[tactic(auto, unfolding(crate::specs::Lookups::patron_at), using(read_set::proofs::Gaining::gains_ask))]
 pub fn patron_of<S: Source>(
     alloc: Global,
     policy: &Policy,
     source: &mut S,
     id: &Id,
 ) -> Result<Option<Member>, Stop>
-    ensures gives { Follows result (follow (S.has source.old) (patron_at policy.now id.now)) }
-    ensures keeps { S.has source.new ≡ S.has source.old }
+    ensures gives { Follows result (follow (S.has source.new) (patron_at policy.now id.now)) }
+    ensures keeps { Gains (S.has source.old) (S.has source.new) (patron_at policy.now id.now) }
 {
     let found = source.read(alloc, &Key::Patron(*id))?;
     Ok(known_patron(policy, found))
 }
 
 /// The item of an id, where it is known.
-#[tactic(auto, unfolding(crate::specs::Lookups::item_at))]
+#[tactic(auto, unfolding(crate::specs::Lookups::item_at), using(read_set::proofs::Gaining::gains_ask))]
 pub fn item_of<S: Source>(
     alloc: Global,
     policy: &Policy,
     source: &mut S,
     id: &Id,
 ) -> Result<Option<Article>, Stop>
-    ensures gives { Follows result (follow (S.has source.old) (item_at policy.now id.now)) }
-    ensures keeps { S.has source.new ≡ S.has source.old }
+    ensures gives { Follows result (follow (S.has source.new) (item_at policy.now id.now)) }
+    ensures keeps { Gains (S.has source.old) (S.has source.new) (item_at policy.now id.now) }
 {
     let found = source.read(alloc, &Key::Item(*id))?;
     Ok(known_item(policy, found))
 }
 
 /// The fee of an id, where it has a record.
-#[tactic(auto, unfolding(crate::specs::Lookups::fee_at))]
+#[tactic(auto, unfolding(crate::specs::Lookups::fee_at), using(read_set::proofs::Gaining::gains_ask))]
 pub fn fee_of<S: Source>(alloc: Global, source: &mut S, id: &Id) -> Result<Option<Fee>, Stop>
-    ensures gives { Follows result (follow (S.has source.old) (fee_at id.now)) }
-    ensures keeps { S.has source.new ≡ S.has source.old }
+    ensures gives { Follows result (follow (S.has source.new) (fee_at id.now)) }
+    ensures keeps { Gains (S.has source.old) (S.has source.new) (fee_at id.now) }
 {
     let found = source.read(alloc, &Key::Fee(*id))?;
     Ok(known_fee(&found))
 }
 
 /// Whoever has a loan, where the patron is known.
-#[tactic(auto, unfolding(crate::specs::Lookups::borrower_at))]
+#[tactic(auto, unfolding(crate::specs::Lookups::borrower_at), using(read_set::proofs::Gaining::gains_none, read_set::proofs::Gaining::gains_first))]
 pub fn borrower_of<S: Source>(
     alloc: Global,
     policy: &Policy,
     source: &mut S,
     loan: Option<Loan>,
 ) -> Result<Option<Member>, Stop>
-    ensures gives { Follows result (follow (S.has source.old) (borrower_at policy.now loan)) }
-    ensures keeps { S.has source.new ≡ S.has source.old }
+    ensures gives { Follows result (follow (S.has source.new) (borrower_at policy.now loan)) }
+    ensures keeps { Gains (S.has source.old) (S.has source.new) (borrower_at policy.now loan) }
 {
     match loan {
         Some(loan) => patron_of(alloc, policy, source, &loan.patron),
@@ -69,15 +69,15 @@ pub fn borrower_of<S: Source>(
 }
 
 /// The record at a key after the writes so far.
-#[tactic(auto, unfolding(crate::specs::Lookups::ask_after))]
+#[tactic(auto, unfolding(crate::specs::Lookups::ask_after), using(read_set::proofs::Gaining::gains_none, read_set::proofs::Gaining::gains_first))]
 pub fn read_after<S: Source>(
     alloc: Global,
     source: &mut S,
     writes: &Draft,
     key: &Key,
 ) -> Result<Option<Record>, Stop>
-    ensures gives { Follows result (follow (S.has source.old) (ask_after writes.now key.now)) }
-    ensures keeps { S.has source.new ≡ S.has source.old }
+    ensures gives { Follows result (follow (S.has source.new) (ask_after writes.now key.now)) }
+    ensures keeps { Gains (S.has source.old) (S.has source.new) (ask_after writes.now key.now) }
 {
     match writes.get(key) {
         Some(found) => Ok(Some(found.copy(alloc)?)),

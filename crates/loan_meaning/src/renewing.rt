@@ -3,7 +3,7 @@
 ghost use Rattle.std.specs.Prelude.{◌≡◌, IfOk, OnOk, Some};
 ghost use Rattle.loan_meaning.specs.Lending.{renewal_tests, renewal_rule, renew_rule_known, renew_rule};
 ghost use Rattle.loan_meaning.specs.Sums.{IsKnown};
-ghost use Rattle.read_set.specs.Asks.{follow};
+ghost use Rattle.read_set.specs.Asks.{follow, Gains};
 ghost use Rattle.read_set.specs.Effects.{written};
 ghost use Rattle.read_set.specs.Loans.{may_renew, renewals_of, renewed_loan, renewed, charged, renewal_writes, renewal_made, renewal_by, renew};
 ghost use Rattle.read_set.specs.Fees.{with_fee};
@@ -40,7 +40,7 @@ fn renewals(loan: Option<Loan>) -> u32
 }
 
 /// The tests of a renewal, after the writes so far. `sum` is what is known of the sum that is owed.
-#[tactic(auto, unfolding(crate::specs::Lending::renewal_tests))]
+#[tactic(auto, unfolding(crate::specs::Lending::renewal_tests), using(read_set::proofs::Gaining::gains_none, read_set::proofs::Gaining::gains_first))]
 pub fn test_renewal<S: Source>(
     alloc: Global,
     writes: &Draft,
@@ -51,9 +51,9 @@ pub fn test_renewal<S: Source>(
     source: &mut S,
 ) -> Result<Verdict, Stop>
     requires { IsKnown (S.has source.old) writes.now member.now.patron.fees sum.old }
-    ensures gives { Follows result (follow (S.has source.old) (renewal_tests writes.now a.now member.now article.now)) }
-    ensures keeps { S.has source.new ≡ S.has source.old }
-    ensures known { OnOk result (IsKnown (S.has source.old) writes.now member.now.patron.fees sum.new) }
+    ensures gives { Follows result (follow (S.has source.new) (renewal_tests writes.now a.now member.now article.now)) }
+    ensures keeps { Gains (S.has source.old) (S.has source.new) (renewal_tests writes.now a.now member.now article.now) }
+    ensures known { OnOk result (IsKnown (S.has source.new) writes.now member.now.patron.fees sum.new) }
 {
     if !is_renewable(a, article.item.loan) {
         return Ok(Verdict::Refused);
@@ -94,44 +94,17 @@ fn renew_loan(due: Day, loan: Option<Loan>) -> Option<Loan>
 pub fn renew_loan_of(due: Day, article: Article) -> Item
     ensures { result ≡ renewed due article.item }
 {
-    let Article { item, media: _ } = article;
-    let Item {
-        title,
-        media,
-        location,
-        properties,
-        loan,
-        holds,
-    } = item;
-    Item {
-        title,
-        media,
-        location,
-        properties,
-        loan: renew_loan(due, loan),
-        holds,
-    }
+    let mut item = article.into_item();
+    item.loan = renew_loan(due, item.loan);
+    item
 }
 
 fn add_fee(n: u64, charge: Amount, member: Member) -> Result<Patron, AllocError>
     ensures { IfOk result (λ p. p ≡ record member.patron { fees = with_fee n 0 charge member.patron.fees }) }
 {
-    let Member { patron, class: _ } = member;
-    let Patron {
-        name,
-        class,
-        blocked,
-        loans,
-        mut fees,
-    } = patron;
-    list_fee(n, 0, charge, &mut fees)?;
-    Ok(Patron {
-        name,
-        class,
-        blocked,
-        loans,
-        fees,
-    })
+    let mut patron = member.into_patron();
+    list_fee(n, 0, charge, &mut patron.fees)?;
+    Ok(patron)
 }
 
 fn charge_patron(
@@ -211,7 +184,7 @@ fn renew_by(
 }
 
 /// A renewal of a known item by a known patron.
-#[tactic(auto, unfolding(crate::specs::Lending::renewal_rule), using(read_set::proofs::Following::follow_wants))]
+#[tactic(auto, unfolding(crate::specs::Lending::renewal_rule), using(read_set::proofs::Gaining::gains_none, read_set::proofs::Gaining::gains_first, read_set::proofs::Following::follow_wants))]
 pub fn renew_one<S: Source>(
     alloc: Global,
     policy: &Policy,
@@ -222,14 +195,15 @@ pub fn renew_one<S: Source>(
     article: Article,
     source: &mut S,
 ) -> Result<Effect, Stop>
-    ensures gives { Follows result (follow (S.has source.old) (renewal_rule policy.now n a.now date member article)) }
-    ensures keeps { S.has source.new ≡ S.has source.old }
+    ensures gives { Follows result (follow (S.has source.new) (renewal_rule policy.now n a.now date member article)) }
+    ensures keeps { Gains (S.has source.old) (S.has source.new) (renewal_rule policy.now n a.now date member article) }
 {
     let writes = Draft::new(alloc);
     let verdict = test_renewal(alloc, &writes, a, &member, &article, &mut None, source)?;
     Ok(renew_by(alloc, policy, n, a, date, member, article, verdict)?)
 }
 
+#[tactic(auto, using(read_set::proofs::Gaining::gains_none, read_set::proofs::Gaining::gains_first))]
 fn renew_both<S: Source>(
     alloc: Global,
     policy: &Policy,
@@ -240,8 +214,8 @@ fn renew_both<S: Source>(
     article: Option<Article>,
     source: &mut S,
 ) -> Result<Effect, Stop>
-    ensures gives { Follows result (follow (S.has source.old) (renew_rule_known policy.now n a.now date member article)) }
-    ensures keeps { S.has source.new ≡ S.has source.old }
+    ensures gives { Follows result (follow (S.has source.new) (renew_rule_known policy.now n a.now date member article)) }
+    ensures keeps { Gains (S.has source.old) (S.has source.new) (renew_rule_known policy.now n a.now date member article) }
 {
     let Some(member) = member else {
         return Ok(refuse(alloc, policy, a, date, article)?);
@@ -253,7 +227,7 @@ fn renew_both<S: Source>(
 }
 
 /// A renewal (message 29) on line n.
-#[tactic(auto, unfolding(crate::specs::Lending::renew_rule), using(read_set::proofs::Following::follow_wants))]
+#[tactic(auto, unfolding(crate::specs::Lending::renew_rule), using(read_set::proofs::Gaining::gains_none, read_set::proofs::Gaining::gains_first, read_set::proofs::Following::follow_wants))]
 pub fn renew_item<S: Source>(
     alloc: Global,
     policy: &Policy,
@@ -262,9 +236,9 @@ pub fn renew_item<S: Source>(
     date: Stamp,
     source: &mut S,
 ) -> Result<Effect, Stop>
-    ensures gives { Follows result (follow (S.has source.old) (renew_rule policy.now n request.now date)) }
-    ensures means { IfOk result (λ e. (M : Map) → Agrees (S.has source.old) M → e ≡ renew policy.now n request.now date M) }
-    ensures keeps { S.has source.new ≡ S.has source.old }
+    ensures gives { Follows result (follow (S.has source.new) (renew_rule policy.now n request.now date)) }
+    ensures means { IfOk result (λ e. (M : Map) → Agrees (S.has source.new) M → e ≡ renew policy.now n request.now date M) }
+    ensures keeps { Gains (S.has source.old) (S.has source.new) (renew_rule policy.now n request.now date) }
 {
     let member = patron_of(alloc, policy, source, &request.patron)?;
     let article = item_of(alloc, policy, source, &request.item)?;

@@ -6,7 +6,7 @@ ghost use Rattle.circ_records.specs.declared.record.FeeType.TheVariants as fee_t
 ghost use Rattle.circ_records.specs.declared.record.Record.TheVariants as records;
 ghost use Rattle.loan_meaning.specs.RenewingAll.{turn_rule_known, turn_rule, turns_rule, renew_all_rule_known, renew_all_rule};
 ghost use Rattle.loan_meaning.specs.Sums.{Runs};
-ghost use Rattle.read_set.specs.Asks.{follow};
+ghost use Rattle.read_set.specs.Asks.{follow, Gains};
 ghost use Rattle.read_set.specs.Effects.{written};
 ghost use Rattle.read_set.specs.Fees.{fee_made, with_fee};
 ghost use Rattle.read_set.specs.Loans.{renewed};
@@ -61,23 +61,9 @@ fn write_turn(
 fn charge_member(n: u64, k: u64, rental: Amount, member: Member) -> Result<Member, AllocError>
     ensures { IfOk result (λ m. m ≡ record member { patron = record member.patron { fees = with_fee n k rental member.patron.fees } }) }
 {
-    let Member { patron, class } = member;
-    let Patron {
-        name,
-        class: of,
-        blocked,
-        loans,
-        mut fees,
-    } = patron;
-    list_fee(n, k, rental, &mut fees)?;
-    let patron = Patron {
-        name,
-        class: of,
-        blocked,
-        loans,
-        fees,
-    };
-    Ok(Member { patron, class })
+    let mut member = member;
+    list_fee(n, k, rental, &mut member.patron.fees)?;
+    Ok(member)
 }
 
 fn count(made: u64, rental: Amount) -> u64
@@ -162,7 +148,7 @@ fn end_turn(
     }
 }
 
-#[tactic(auto, using(read_set::proofs::Following::follow_wants))]
+#[tactic(auto, using(read_set::proofs::Gaining::gains_none, read_set::proofs::Gaining::gains_first, read_set::proofs::Following::follow_wants))]
 fn turn_known<S: Source>(
     alloc: Global,
     policy: &Policy,
@@ -177,10 +163,10 @@ fn turn_known<S: Source>(
 ) -> Result<Renewals, Stop>
     requires small { done.made + 1 < 2 ^ 64 }
     requires runs { Runs (S.has source.old) n fresh done sum.old }
-    ensures gives { Follows result (follow (S.has source.old) (turn_rule_known policy.now n a.now date done (Some article))) }
-    ensures keeps { S.has source.new ≡ S.has source.old }
+    ensures gives { Follows result (follow (S.has source.new) (turn_rule_known policy.now n a.now date done (Some article))) }
+    ensures keeps { Gains (S.has source.old) (S.has source.new) (turn_rule_known policy.now n a.now date done (Some article)) }
     ensures few { IfOk result (λ next. next.made ≤ done.made + 1) }
-    ensures runs { IfOk result (λ next. Runs (S.has source.old) n fresh next sum.new) }
+    ensures runs { IfOk result (λ next. Runs (S.has source.new) n fresh next sum.new) }
 {
     let verdict = test_renewal(alloc, &done.writes, a, &done.member, &article, sum, source)?;
     let charge = charge_by(verdict, rental_in(&article));
@@ -188,6 +174,7 @@ fn turn_known<S: Source>(
     Ok(end_turn(policy, n, a, date, article, done, verdict)?)
 }
 
+#[tactic(auto, using(read_set::proofs::Gaining::gains_none, read_set::proofs::Gaining::gains_first))]
 fn turn_any<S: Source>(
     alloc: Global,
     policy: &Policy,
@@ -202,10 +189,10 @@ fn turn_any<S: Source>(
 ) -> Result<Renewals, Stop>
     requires small { done.made + 1 < 2 ^ 64 }
     requires runs { Runs (S.has source.old) n fresh done sum.old }
-    ensures gives { Follows result (follow (S.has source.old) (turn_rule_known policy.now n a.now date done article)) }
-    ensures keeps { S.has source.new ≡ S.has source.old }
+    ensures gives { Follows result (follow (S.has source.new) (turn_rule_known policy.now n a.now date done article)) }
+    ensures keeps { Gains (S.has source.old) (S.has source.new) (turn_rule_known policy.now n a.now date done article) }
     ensures few { IfOk result (λ next. next.made ≤ done.made + 1) }
-    ensures runs { IfOk result (λ next. Runs (S.has source.old) n fresh next sum.new) }
+    ensures runs { IfOk result (λ next. Runs (S.has source.new) n fresh next sum.new) }
 {
     match article {
         Some(article) => turn_known(alloc, policy, n, a, date, done, article, fresh, sum, source),
@@ -214,7 +201,7 @@ fn turn_any<S: Source>(
 }
 
 /// An item's turn, after the ones before it.
-#[tactic(auto, unfolding(crate::specs::RenewingAll::turn_rule), using(read_set::proofs::Following::follow_wants))]
+#[tactic(auto, unfolding(crate::specs::RenewingAll::turn_rule), using(read_set::proofs::Gaining::gains_none, read_set::proofs::Gaining::gains_first, read_set::proofs::Following::follow_wants))]
 fn take_turn<S: Source>(
     alloc: Global,
     policy: &Policy,
@@ -228,10 +215,10 @@ fn take_turn<S: Source>(
 ) -> Result<Renewals, Stop>
     requires small { done.made + 1 < 2 ^ 64 }
     requires runs { Runs (S.has source.old) n fresh done sum.old }
-    ensures gives { Follows result (follow (S.has source.old) (turn_rule policy.now n a.now date done)) }
-    ensures keeps { S.has source.new ≡ S.has source.old }
+    ensures gives { Follows result (follow (S.has source.new) (turn_rule policy.now n a.now date done)) }
+    ensures keeps { Gains (S.has source.old) (S.has source.new) (turn_rule policy.now n a.now date done) }
     ensures few { IfOk result (λ next. next.made ≤ done.made + 1) }
-    ensures runs { IfOk result (λ next. Runs (S.has source.old) n fresh next sum.new) }
+    ensures runs { IfOk result (λ next. Runs (S.has source.new) n fresh next sum.new) }
 {
     let found = read_after(alloc, source, &done.writes, &Key::Item(a.item))?;
     let article = known_item(policy, found);
@@ -251,6 +238,7 @@ fn begin(alloc: Global, member: Member) -> Renewals
 }
 
 /// The items of a list, each after the ones before it.
+#[tactic(auto, using(read_set::proofs::Gaining::gains_none, read_set::proofs::Gaining::gains_first))]
 fn take_turns<S: Source>(
     alloc: Global,
     policy: &Policy,
@@ -261,8 +249,8 @@ fn take_turns<S: Source>(
     member: Member,
     source: &mut S,
 ) -> Result<Renewals, Stop>
-    ensures gives { Follows result (follow (S.has source.old) (turns_rule policy.now n request.now date items.now (none_renewed member))) }
-    ensures keeps { S.has source.new ≡ S.has source.old }
+    ensures gives { Follows result (follow (S.has source.new) (turns_rule policy.now n request.now date items.now (none_renewed member))) }
+    ensures keeps { Gains (S.has source.old) (S.has source.new) (turns_rule policy.now n request.now date items.now (none_renewed member)) }
 {
     let fresh = are_new(n, member.patron.fees.as_slice());
     let mut sum = None;
@@ -303,9 +291,11 @@ fn finish(
         renewed,
         others,
     } = done;
-    let Member { patron, class: _ } = member;
     if made > 0 {
-        writes.put(Key::Patron(request.patron), Record::Patron(patron))?;
+        writes.put(
+            Key::Patron(request.patron),
+            Record::Patron(member.into_patron()),
+        )?;
     }
     Ok(Effect {
         writes: writes.finish(alloc)?,
@@ -313,7 +303,7 @@ fn finish(
     })
 }
 
-#[tactic(auto, using(read_set::proofs::Following::follow_wants))]
+#[tactic(auto, using(read_set::proofs::Gaining::gains_none, read_set::proofs::Gaining::gains_first, read_set::proofs::Following::follow_wants))]
 fn renew_each<S: Source>(
     alloc: Global,
     policy: &Policy,
@@ -323,8 +313,8 @@ fn renew_each<S: Source>(
     member: Member,
     source: &mut S,
 ) -> Result<Effect, Stop>
-    ensures gives { Follows result (follow (S.has source.old) (renew_all_rule_known policy.now n request.now date (Some member))) }
-    ensures keeps { S.has source.new ≡ S.has source.old }
+    ensures gives { Follows result (follow (S.has source.new) (renew_all_rule_known policy.now n request.now date (Some member))) }
+    ensures keeps { Gains (S.has source.old) (S.has source.new) (renew_all_rule_known policy.now n request.now date (Some member)) }
 {
     let items = member.patron.loans.copy(alloc)?;
     let done = take_turns(
@@ -340,6 +330,7 @@ fn renew_each<S: Source>(
     Ok(finish(alloc, policy, request, date, done)?)
 }
 
+#[tactic(auto, using(read_set::proofs::Gaining::gains_none, read_set::proofs::Gaining::gains_first))]
 fn renew_any<S: Source>(
     alloc: Global,
     policy: &Policy,
@@ -349,8 +340,8 @@ fn renew_any<S: Source>(
     member: Option<Member>,
     source: &mut S,
 ) -> Result<Effect, Stop>
-    ensures gives { Follows result (follow (S.has source.old) (renew_all_rule_known policy.now n request.now date member)) }
-    ensures keeps { S.has source.new ≡ S.has source.old }
+    ensures gives { Follows result (follow (S.has source.new) (renew_all_rule_known policy.now n request.now date member)) }
+    ensures keeps { Gains (S.has source.old) (S.has source.new) (renew_all_rule_known policy.now n request.now date member) }
 {
     match member {
         Some(member) => renew_each(alloc, policy, n, request, date, member, source),
@@ -368,7 +359,7 @@ fn renew_any<S: Source>(
 }
 
 /// A renewal of all items (message 65) on line n.
-#[tactic(auto, unfolding(crate::specs::RenewingAll::renew_all_rule), using(read_set::proofs::Following::follow_wants))]
+#[tactic(auto, unfolding(crate::specs::RenewingAll::renew_all_rule), using(read_set::proofs::Gaining::gains_none, read_set::proofs::Gaining::gains_first, read_set::proofs::Following::follow_wants))]
 pub fn renew_all<S: Source>(
     alloc: Global,
     policy: &Policy,
@@ -377,9 +368,9 @@ pub fn renew_all<S: Source>(
     date: Stamp,
     source: &mut S,
 ) -> Result<Effect, Stop>
-    ensures gives { Follows result (follow (S.has source.old) (renew_all_rule policy.now n request.now date)) }
-    ensures means { IfOk result (λ e. (M : Map) → Agrees (S.has source.old) M → e ≡ renew_all policy.now n request.now date M) }
-    ensures keeps { S.has source.new ≡ S.has source.old }
+    ensures gives { Follows result (follow (S.has source.new) (renew_all_rule policy.now n request.now date)) }
+    ensures means { IfOk result (λ e. (M : Map) → Agrees (S.has source.new) M → e ≡ renew_all policy.now n request.now date M) }
+    ensures keeps { Gains (S.has source.old) (S.has source.new) (renew_all_rule policy.now n request.now date) }
 {
     let member = patron_of(alloc, policy, source, &request.patron)?;
     renew_any(alloc, policy, n, request, date, member, source)

@@ -2,7 +2,7 @@
 
 ghost use Rattle.std.specs.Prelude.{◌≡◌, IfOk, OnOk, Some, None};
 ghost use Rattle.loan_meaning.specs.Returning.{checkin_rule};
-ghost use Rattle.read_set.specs.Asks.{follow};
+ghost use Rattle.read_set.specs.Asks.{follow, Gains};
 ghost use Rattle.read_set.specs.Effects.{written};
 ghost use Rattle.read_set.specs.Maps.{Map, Agrees};
 ghost use Rattle.read_set.specs.Returns.{returned_item, checkin_answer, day_back, lateness, returner, returned_by, returned_writes, returned, checked_in, loan_of, checkin};
@@ -91,23 +91,10 @@ fn return_from(
 ) -> Result<Patron, AllocError>
     ensures { IfOk result (λ p. p ≡ returner n item.now fee member.patron) }
 {
-    let Member { patron, class: _ } = member;
-    let Patron {
-        name,
-        class,
-        blocked,
-        loans,
-        mut fees,
-    } = patron;
-    let loans = without(alloc, &loans, item)?;
-    list_fee(n, 0, fee, &mut fees)?;
-    Ok(Patron {
-        name,
-        class,
-        blocked,
-        loans,
-        fees,
-    })
+    let mut patron = member.into_patron();
+    patron.loans = without(alloc, &patron.loans, item)?;
+    list_fee(n, 0, fee, &mut patron.fees)?;
+    Ok(patron)
 }
 
 /// The borrower's record without the loan and with its late fee, and that fee.
@@ -133,23 +120,9 @@ fn return_by(
 fn unlent(article: Article) -> Item
     ensures { result ≡ record article.item { loan = None } }
 {
-    let Article { item, media: _ } = article;
-    let Item {
-        title,
-        media,
-        location,
-        properties,
-        loan: _,
-        holds,
-    } = item;
-    Item {
-        title,
-        media,
-        location,
-        properties,
-        loan: None,
-        holds,
-    }
+    let mut item = article.into_item();
+    item.loan = None;
+    item
 }
 
 fn write_return(
@@ -241,7 +214,7 @@ fn any_loan(article: &Option<Article>) -> Option<Loan>
 }
 
 /// A checkin (message 09) on line n.
-#[tactic(auto, unfolding(crate::specs::Returning::checkin_rule), using(read_set::proofs::Following::follow_wants))]
+#[tactic(auto, unfolding(crate::specs::Returning::checkin_rule), using(read_set::proofs::Gaining::gains_none, read_set::proofs::Gaining::gains_first, read_set::proofs::Following::follow_wants))]
 pub fn check_in<S: Source>(
     alloc: Global,
     policy: &Policy,
@@ -250,9 +223,9 @@ pub fn check_in<S: Source>(
     date: Stamp,
     source: &mut S,
 ) -> Result<Effect, Stop>
-    ensures gives { Follows result (follow (S.has source.old) (checkin_rule policy.now n request.now date)) }
-    ensures means { IfOk result (λ e. (M : Map) → Agrees (S.has source.old) M → e ≡ checkin policy.now n request.now date M) }
-    ensures keeps { S.has source.new ≡ S.has source.old }
+    ensures gives { Follows result (follow (S.has source.new) (checkin_rule policy.now n request.now date)) }
+    ensures means { IfOk result (λ e. (M : Map) → Agrees (S.has source.new) M → e ≡ checkin policy.now n request.now date M) }
+    ensures keeps { Gains (S.has source.old) (S.has source.new) (checkin_rule policy.now n request.now date) }
 {
     let article = item_of(alloc, policy, source, &request.item)?;
     let loan = any_loan(&article);

@@ -1,5 +1,4 @@
 pub mod LineReach
-pub mod Listed
 pub mod LoanReach
 pub mod Paying
 pub mod Reach

@@ -1,4 +1,4 @@
--- A device of proofs: block patron and patron enable as programs that ask record by record: the patron, then the fees in the order of its list.
+-- Block patron and patron enable as programs that ask record by record: the patron, then the fees in the order of its list.
 use Rattle.std.specs.Prelude.{ℕ, Bool, List, [], Option, Some, None}
 use Rattle.circ_policy.specs.Terms.{Terms}
 use Rattle.loan_meaning.specs.Lookups.{patron_at}

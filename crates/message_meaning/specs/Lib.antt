@@ -1,4 +1,5 @@
 pub mod Blocking
+pub mod Needs
 pub mod Paying
 pub mod Queueing
 pub mod Rules

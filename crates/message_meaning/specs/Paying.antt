@@ -1,4 +1,4 @@
--- A device of proofs: fee paid as a program that asks record by record: the patron, then the named fee, then the fees until nothing is left of the money.
+-- Fee paid as a program that asks record by record: the patron, then the named fee, then the fees until nothing is left of the money.
 use Rattle.std.specs.Prelude.{ℕ, Bool, true, false, not, ◌==◌, List, [], ◌∷◌, Option, Some, None, if◌then◌else◌}
 use Rattle.circ_policy.specs.Terms.{Terms}
 use Rattle.circ_records.specs.declared.key.Key.TheVariants as keys

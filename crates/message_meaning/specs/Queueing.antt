@@ -1,4 +1,4 @@
--- A device of proofs: hold as a program that asks record by record: the patron, then the item.
+-- Hold as a program that asks record by record: the patron, then the item.
 use Rattle.std.specs.Prelude.{ℕ, List}
 use Rattle.circ_policy.specs.Terms.{Terms}
 use Rattle.sip_reader.specs.declared.request.HoldRequest.{HoldRequest}

@@ -1,4 +1,4 @@
--- A device of proofs: the meanings of lines as programs that ask for one record at a time, in the order of asking.
+-- The order of asking: the meanings of lines as programs that ask for one record at a time.
 -- That over a whole map they are the meaning of the line is proved in proofs/Whole.
 use Rattle.std.specs.Prelude.{ℕ, true, false, List, Option, Some, None}
 use Rattle.circ_policy.specs.Terms.{Terms}

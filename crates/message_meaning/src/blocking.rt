@@ -2,7 +2,7 @@
 
 ghost use Rattle.std.specs.Prelude.{◌≡◌, IfOk, Some};
 ghost use Rattle.message_meaning.specs.Blocking.{block_rule_known, block_rule};
-ghost use Rattle.read_set.specs.Asks.{follow};
+ghost use Rattle.read_set.specs.Asks.{follow, Gains};
 ghost use Rattle.read_set.specs.Patrons.{status_of, member_status, no_status, patron_answer, told, blocked_by};
 ghost use Rattle.read_set.specs.Stops.{Follows};
 
@@ -74,21 +74,9 @@ fn answer(
 fn blocked(blocks: bool, member: Member) -> Patron
     ensures { result ≡ record member.patron { blocked = blocks } }
 {
-    let Member { patron, class: _ } = member;
-    let Patron {
-        name,
-        class,
-        blocked: _,
-        loans,
-        fees,
-    } = patron;
-    Patron {
-        name,
-        class,
-        blocked: blocks,
-        loans,
-        fees,
-    }
+    let mut patron = member.into_patron();
+    patron.blocked = blocks;
+    patron
 }
 
 #[tactic(auto, unfolding(read_set::specs::Patrons::blocked_by))]
@@ -116,7 +104,7 @@ fn block_member(
     })
 }
 
-#[tactic(auto, using(read_set::proofs::Following::follow_wants))]
+#[tactic(auto, using(read_set::proofs::Gaining::gains_none, read_set::proofs::Gaining::gains_first, read_set::proofs::Following::follow_wants))]
 fn block_known<S: Source>(
     alloc: Global,
     policy: &Policy,
@@ -126,8 +114,8 @@ fn block_known<S: Source>(
     member: Member,
     source: &mut S,
 ) -> Result<Effect, Stop>
-    ensures gives { Follows result (follow (S.has source.old) (block_rule_known policy.now blocks id.now date (Some member))) }
-    ensures keeps { S.has source.new ≡ S.has source.old }
+    ensures gives { Follows result (follow (S.has source.new) (block_rule_known policy.now blocks id.now date (Some member))) }
+    ensures keeps { Gains (S.has source.old) (S.has source.new) (block_rule_known policy.now blocks id.now date (Some member)) }
 {
     let owes = owed_of(
         alloc,
@@ -138,6 +126,7 @@ fn block_known<S: Source>(
     Ok(block_member(alloc, policy, blocks, id, date, member, owes)?)
 }
 
+#[tactic(auto, using(read_set::proofs::Gaining::gains_none, read_set::proofs::Gaining::gains_first))]
 fn block_any<S: Source>(
     alloc: Global,
     policy: &Policy,
@@ -147,8 +136,8 @@ fn block_any<S: Source>(
     member: Option<Member>,
     source: &mut S,
 ) -> Result<Effect, Stop>
-    ensures gives { Follows result (follow (S.has source.old) (block_rule_known policy.now blocks id.now date member)) }
-    ensures keeps { S.has source.new ≡ S.has source.old }
+    ensures gives { Follows result (follow (S.has source.new) (block_rule_known policy.now blocks id.now date member)) }
+    ensures keeps { Gains (S.has source.old) (S.has source.new) (block_rule_known policy.now blocks id.now date member) }
 {
     match member {
         Some(member) => block_known(alloc, policy, blocks, id, date, member, source),
@@ -160,7 +149,7 @@ fn block_any<S: Source>(
 }
 
 /// A block patron (message 01), where it blocks, or a patron enable (message 25).
-#[tactic(auto, unfolding(crate::specs::Blocking::block_rule), using(read_set::proofs::Following::follow_wants))]
+#[tactic(auto, unfolding(crate::specs::Blocking::block_rule), using(read_set::proofs::Gaining::gains_none, read_set::proofs::Gaining::gains_first, read_set::proofs::Following::follow_wants))]
 pub fn block<S: Source>(
     alloc: Global,
     policy: &Policy,
@@ -169,8 +158,8 @@ pub fn block<S: Source>(
     date: Stamp,
     source: &mut S,
 ) -> Result<Effect, Stop>
-    ensures gives { Follows result (follow (S.has source.old) (block_rule policy.now blocks id.now date)) }
-    ensures keeps { S.has source.new ≡ S.has source.old }
+    ensures gives { Follows result (follow (S.has source.new) (block_rule policy.now blocks id.now date)) }
+    ensures keeps { Gains (S.has source.old) (S.has source.new) (block_rule policy.now blocks id.now date) }
 {
     let member = patron_of(alloc, policy, source, id)?;
     block_any(alloc, policy, blocks, id, date, member, source)

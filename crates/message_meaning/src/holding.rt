@@ -2,7 +2,7 @@
 
 ghost use Rattle.std.specs.Prelude.{◌≡◌, ◌++◌, ◌∷◌, [], IfOk, option_map};
 ghost use Rattle.message_meaning.specs.Queueing.{hold_rule};
-ghost use Rattle.read_set.specs.Asks.{follow};
+ghost use Rattle.read_set.specs.Asks.{follow, Gains};
 ghost use Rattle.read_set.specs.Holding.{refuses_hold, queue_after, hold_place, is_available, told_hold, hold_kept, hold_known, held};
 ghost use Rattle.read_set.specs.Stops.{Follows};
 
@@ -139,27 +139,6 @@ fn tell(
     })
 }
 
-fn with_holds(item: Item, holds: Holds) -> Item
-    ensures { result ≡ record item { holds = holds } }
-{
-    let Item {
-        title,
-        media,
-        location,
-        properties,
-        loan,
-        holds: _,
-    } = item;
-    Item {
-        title,
-        media,
-        location,
-        properties,
-        loan,
-        holds,
-    }
-}
-
 #[tactic(auto, unfolding(read_set::specs::Holding::hold_kept))]
 fn keep_queue(
     alloc: Global,
@@ -175,7 +154,8 @@ fn keep_queue(
     let place = place_in(alloc, request, &holds)?;
     let title = item.title.copy(alloc)?;
     let answer = tell(policy, request, date, Some(title), true, available, place);
-    let item = with_holds(item, holds);
+    let mut item = item;
+    item.holds = holds;
     let writes = Writes::one(alloc, Key::Item(request.item), Record::Item(item))?;
     Ok(Effect {
         writes,
@@ -231,12 +211,12 @@ fn hold_both(
         let answer = tell(policy, request, date, None, false, false, None);
         return Ok(Effect::unwritten(alloc, Some(answer)));
     };
-    let Article { item, media: _ } = article;
+    let item = article.into_item();
     hold_item(alloc, policy, request, date, member.patron.blocked, item)
 }
 
 /// A hold (message 15).
-#[tactic(auto, unfolding(crate::specs::Queueing::hold_rule), using(read_set::proofs::Following::follow_wants))]
+#[tactic(auto, unfolding(crate::specs::Queueing::hold_rule), using(read_set::proofs::Gaining::gains_none, read_set::proofs::Gaining::gains_first, read_set::proofs::Following::follow_wants))]
 pub fn hold<S: Source>(
     alloc: Global,
     policy: &Policy,
@@ -244,8 +224,8 @@ pub fn hold<S: Source>(
     date: Stamp,
     source: &mut S,
 ) -> Result<Effect, Stop>
-    ensures gives { Follows result (follow (S.has source.old) (hold_rule policy.now request.now date)) }
-    ensures keeps { S.has source.new ≡ S.has source.old }
+    ensures gives { Follows result (follow (S.has source.new) (hold_rule policy.now request.now date)) }
+    ensures keeps { Gains (S.has source.old) (S.has source.new) (hold_rule policy.now request.now date) }
 {
     let member = patron_of(alloc, policy, source, &request.patron)?;
     let article = item_of(alloc, policy, source, &request.item)?;

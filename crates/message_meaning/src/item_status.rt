@@ -1,7 +1,7 @@
 ghost use Rattle.std.specs.Prelude.{◌≡◌, IfOk};
 ghost use Rattle.message_meaning.specs.Rules.{item_status_rule};
-ghost use Rattle.read_set.specs.Asks.{follow};
-ghost use Rattle.read_set.specs.ItemStatuses.{updated, status_answer};
+ghost use Rattle.read_set.specs.Asks.{follow, Gains};
+ghost use Rattle.read_set.specs.ItemStatuses.{updated, status_answer, titled};
 ghost use Rattle.read_set.specs.Stops.{Follows};
 
 use circ_policy::Policy;
@@ -13,7 +13,7 @@ use sip_reader::{ItemStatus, Stamp};
 use std::alloc::{AllocError, Global};
 
 /// An item status update (message 19).
-#[tactic(auto, unfolding(crate::specs::Rules::item_status_rule), using(read_set::proofs::Following::follow_wants))]
+#[tactic(auto, unfolding(crate::specs::Rules::item_status_rule), using(read_set::proofs::Gaining::gains_none, read_set::proofs::Gaining::gains_first, read_set::proofs::Following::follow_wants))]
 pub fn update<S: Source>(
     alloc: Global,
     policy: &Policy,
@@ -21,8 +21,8 @@ pub fn update<S: Source>(
     date: Stamp,
     source: &mut S,
 ) -> Result<Effect, Stop>
-    ensures gives { Follows result (follow (S.has source.old) (item_status_rule policy.now request.now date)) }
-    ensures keeps { S.has source.new ≡ S.has source.old }
+    ensures gives { Follows result (follow (S.has source.new) (item_status_rule policy.now request.now date)) }
+    ensures keeps { Gains (S.has source.old) (S.has source.new) (item_status_rule policy.now request.now date) }
 {
     let found = item_of(alloc, policy, source, &request.item)?;
     Ok(update_found(alloc, request, date, found)?)
@@ -38,29 +38,30 @@ fn update_found(
 ) -> Result<Effect, AllocError>
     ensures { IfOk result (λ e. e ≡ updated request.now date found) }
 {
-    let Some(Article { item, media: _ }) = found else {
+    let Some(article) = found else {
         return Ok(Effect::unwritten(alloc, Some(answer(request, date, None))));
     };
+    let mut item = article.into_item();
     let Some(given) = &request.properties else {
-        let Item {
-            title,
-            properties,
-            ..
-        } = item;
-        let known = Some(TitledItem { title, properties });
+        let known = show(alloc, &item)?;
         return Ok(Effect::unwritten(alloc, Some(answer(request, date, known))));
     };
-    let known = Some(TitledItem {
-        title: item.title.copy(alloc)?,
-        properties: given.copy(alloc)?,
-    });
-    let properties = given.copy(alloc)?;
-    let item = Item { properties, ..item };
+    item.properties = given.copy(alloc)?;
+    let known = show(alloc, &item)?;
     let writes = Writes::one(alloc, Key::Item(request.item), Record::Item(item))?;
     Ok(Effect {
         writes,
         answer: Some(answer(request, date, known)),
     })
+}
+
+fn show(alloc: Global, item: &Item) -> Result<Option<TitledItem>, AllocError>
+    ensures { IfOk result (λ t. t ≡ titled item.now.title item.now.properties) }
+{
+    Ok(Some(TitledItem {
+        title: item.title.copy(alloc)?,
+        properties: item.properties.copy(alloc)?,
+    }))
 }
 
 fn answer(request: &ItemStatus, date: Stamp, known: Option<TitledItem>) -> Answer

@@ -1,6 +1,6 @@
 ghost use Rattle.std.specs.Prelude.{◌≡◌, IfOk, IfErr};
 ghost use Rattle.message_meaning.specs.Rules.{rule, rule_of, rule_at};
-ghost use Rattle.read_set.specs.Asks.{follow};
+ghost use Rattle.read_set.specs.Asks.{follow, Gains};
 ghost use Rattle.read_set.specs.Maps.{Map, Agrees};
 ghost use Rattle.read_set.specs.Replay.{GivesAt};
 ghost use Rattle.read_set.specs.Stops.{Follows, LacksAt};
@@ -17,31 +17,33 @@ use sip_answer::Answer;
 use sip_reader::{Act, Reading, Request};
 use std::alloc::Global;
 
-/// What a line of a plan does, by the records that the source has. It stops only where the source does, or for want of
-/// memory. A line that the plan doesn't have does nothing.
+/// What a line of a plan does, by the records that the source has. It asks for them in the order of the line's rule
+/// (`specs/Rules`), and stops only where the source does, or for want of memory. A line that the plan doesn't have does
+/// nothing.
 pub fn perform<S: Source>(
     alloc: Global,
     plan: &Plan,
     line: u64,
     source: &mut S,
 ) -> Result<Effect, Stop>
-    ensures gives { IfOk result (λ e. (M : Map) → Agrees (S.has source.old) M → GivesAt plan.now line M e) }
-    ensures lacks { IfErr result (LacksAt (S.has source.old)) }
-    ensures wanted { IfErr result (WantsAt plan.now line (S.has source.old)) }
-    ensures keeps { S.has source.new ≡ S.has source.old }
+    ensures gives { IfOk result (λ e. (M : Map) → Agrees (S.has source.new) M → GivesAt plan.now line M e) }
+    ensures order { Follows result (follow (S.has source.new) (rule_at plan.now line)) }
+    ensures lacks { IfErr result (LacksAt (S.has source.new)) }
+    ensures wanted { IfErr result (WantsAt plan.now line (S.has source.new)) }
+    ensures keeps { Gains (S.has source.old) (S.has source.new) (rule_at plan.now line) }
 {
     follow_line(alloc, plan, line, source)
 }
 
-#[tactic(auto, unfolding(crate::specs::Rules::rule_at))]
+#[tactic(auto, unfolding(crate::specs::Rules::rule_at), using(read_set::proofs::Gaining::gains_none))]
 fn follow_line<S: Source>(
     alloc: Global,
     plan: &Plan,
     line: u64,
     source: &mut S,
 ) -> Result<Effect, Stop>
-    ensures gives { Follows result (follow (S.has source.old) (rule_at plan.now line)) }
-    ensures keeps { S.has source.new ≡ S.has source.old }
+    ensures gives { Follows result (follow (S.has source.new) (rule_at plan.now line)) }
+    ensures keeps { Gains (S.has source.old) (S.has source.new) (rule_at plan.now line) }
 {
     match plan.reading(line) {
         Some(reading) => follow_reading(alloc, plan.policy(), line, reading, source),
@@ -49,7 +51,7 @@ fn follow_line<S: Source>(
     }
 }
 
-#[tactic(auto, unfolding(crate::specs::Rules::rule))]
+#[tactic(auto, unfolding(crate::specs::Rules::rule), using(read_set::proofs::Gaining::gains_none))]
 fn follow_reading<S: Source>(
     alloc: Global,
     policy: &Policy,
@@ -57,8 +59,8 @@ fn follow_reading<S: Source>(
     reading: &Reading,
     source: &mut S,
 ) -> Result<Effect, Stop>
-    ensures gives { Follows result (follow (S.has source.old) (rule policy.now line reading.now)) }
-    ensures keeps { S.has source.new ≡ S.has source.old }
+    ensures gives { Follows result (follow (S.has source.new) (rule policy.now line reading.now)) }
+    ensures keeps { Gains (S.has source.old) (S.has source.new) (rule policy.now line reading.now) }
 {
     match reading {
         Reading::Asked(request) => follow_request(alloc, policy, line, request, source),
@@ -67,7 +69,7 @@ fn follow_reading<S: Source>(
     }
 }
 
-#[tactic(auto, unfolding(crate::specs::Rules::rule_of))]
+#[tactic(auto, unfolding(crate::specs::Rules::rule_of), using(read_set::proofs::Gaining::gains_none))]
 fn follow_request<S: Source>(
     alloc: Global,
     policy: &Policy,
@@ -75,8 +77,8 @@ fn follow_request<S: Source>(
     request: &Request,
     source: &mut S,
 ) -> Result<Effect, Stop>
-    ensures gives { Follows result (follow (S.has source.old) (rule_of policy.now line request.now.date request.now.act)) }
-    ensures keeps { S.has source.new ≡ S.has source.old }
+    ensures gives { Follows result (follow (S.has source.new) (rule_of policy.now line request.now.date request.now.act)) }
+    ensures keeps { Gains (S.has source.old) (S.has source.new) (rule_of policy.now line request.now.date request.now.act) }
 {
     match &request.act {
         Act::BlockPatron(asked) => block(alloc, policy, true, &asked.patron, request.date, source),

@@ -2,7 +2,7 @@
 
 ghost use Rattle.std.specs.Prelude.{◌≡◌, ◌≤◌, ◌<◌, ◌-◌, ◌+◌, [], not, IfOk, Some, true, false};
 ghost use Rattle.message_meaning.specs.Paying.{pay_rule_each, named, meant_at, payment_rule, fee_paid_rule_known, fee_paid_rule};
-ghost use Rattle.read_set.specs.Asks.{follow};
+ghost use Rattle.read_set.specs.Asks.{follow, Gains};
 ghost use Rattle.read_set.specs.Effects.{unwritten};
 ghost use Rattle.read_set.specs.Ids.{same, is_any, without_all};
 ghost use Rattle.read_set.specs.Payments.{part_of, part_paid, pay_one, only_known, payment_answer, all_paid};
@@ -86,10 +86,10 @@ fn pay(id: &Id, done: Payments, fee: Option<Fee>) -> Result<Payments, AllocError
 }
 
 /// The fee that is named, where it has a record; else all.
-#[tactic(auto, using(read_set::proofs::Following::follow_wants))]
+#[tactic(auto, using(read_set::proofs::Gaining::gains_none, read_set::proofs::Gaining::gains_first, read_set::proofs::Following::follow_wants))]
 fn named_ids<S: Source>(alloc: Global, id: &Id, fees: &Ids, source: &mut S) -> Result<Ids, Stop>
-    ensures gives { Follows result (follow (S.has source.old) (named true id.now fees.now)) }
-    ensures keeps { S.has source.new ≡ S.has source.old }
+    ensures gives { Follows result (follow (S.has source.new) (named true id.now fees.now)) }
+    ensures keeps { Gains (S.has source.old) (S.has source.new) (named true id.now fees.now) }
 {
     let fee = fee_of(alloc, source, id)?;
     Ok(only(alloc, id, fees, fee)?)
@@ -109,15 +109,15 @@ fn only(alloc: Global, id: &Id, fees: &Ids, fee: Option<Fee>) -> Result<Ids, All
 }
 
 /// The fees that are meant.
-#[tactic(auto, unfolding(crate::specs::Paying::meant_at))]
+#[tactic(auto, unfolding(crate::specs::Paying::meant_at), using(read_set::proofs::Gaining::gains_none, read_set::proofs::Gaining::gains_first))]
 fn meant_ids<S: Source>(
     alloc: Global,
     fee: &Option<Id>,
     fees: &Ids,
     source: &mut S,
 ) -> Result<Ids, Stop>
-    ensures gives { Follows result (follow (S.has source.old) (meant_at fee.now fees.now)) }
-    ensures keeps { S.has source.new ≡ S.has source.old }
+    ensures gives { Follows result (follow (S.has source.new) (meant_at fee.now fees.now)) }
+    ensures keeps { Gains (S.has source.old) (S.has source.new) (meant_at fee.now fees.now) }
 {
     match fee {
         Some(id) => {
@@ -132,14 +132,15 @@ fn meant_ids<S: Source>(
 }
 
 /// Pays the fees of a list, in order, until nothing is left.
+#[tactic(auto, using(read_set::proofs::Gaining::gains_none, read_set::proofs::Gaining::gains_first))]
 fn pay_all<S: Source>(
     alloc: Global,
     ids: &[Id],
     amount: u64,
     source: &mut S,
 ) -> Result<Payments, Stop>
-    ensures gives { Follows result (follow (S.has source.old) (pay_rule_each ids.now (record { left = amount; writes = []; closed = [] }))) }
-    ensures keeps { S.has source.new ≡ S.has source.old }
+    ensures gives { Follows result (follow (S.has source.new) (pay_rule_each ids.now (record { left = amount; writes = []; closed = [] }))) }
+    ensures keeps { Gains (S.has source.old) (S.has source.new) (pay_rule_each ids.now (record { left = amount; writes = []; closed = [] })) }
 {
     let mut done = Payments {
         left: amount,
@@ -176,22 +177,9 @@ fn refuse(alloc: Global, policy: &Policy, request: &FeePaid, date: Stamp) -> Eff
 fn close(alloc: Global, closed: &Ids, member: Member) -> Result<Patron, AllocError>
     ensures { IfOk result (λ p. p ≡ record member.patron { fees = without_all closed.now member.patron.fees }) }
 {
-    let Member { patron, class: _ } = member;
-    let Patron {
-        name,
-        class,
-        blocked,
-        loans,
-        fees,
-    } = patron;
-    let fees = without_all(alloc, &fees, closed.as_slice())?;
-    Ok(Patron {
-        name,
-        class,
-        blocked,
-        loans,
-        fees,
-    })
+    let mut patron = member.into_patron();
+    patron.fees = without_all(alloc, &patron.fees, closed.as_slice())?;
+    Ok(patron)
 }
 
 fn is_some_id(ids: &[Id]) -> bool
@@ -226,7 +214,7 @@ fn finish(
     })
 }
 
-#[tactic(auto, unfolding(crate::specs::Paying::payment_rule), using(read_set::proofs::Following::follow_wants))]
+#[tactic(auto, unfolding(crate::specs::Paying::payment_rule), using(read_set::proofs::Gaining::gains_none, read_set::proofs::Gaining::gains_first, read_set::proofs::Following::follow_wants))]
 fn pay_fees<S: Source>(
     alloc: Global,
     policy: &Policy,
@@ -235,8 +223,8 @@ fn pay_fees<S: Source>(
     member: Member,
     source: &mut S,
 ) -> Result<Effect, Stop>
-    ensures gives { Follows result (follow (S.has source.old) (payment_rule policy.now request.now date member.patron)) }
-    ensures keeps { S.has source.new ≡ S.has source.old }
+    ensures gives { Follows result (follow (S.has source.new) (payment_rule policy.now request.now date member.patron)) }
+    ensures keeps { Gains (S.has source.old) (S.has source.new) (payment_rule policy.now request.now date member.patron) }
 {
     let ids = meant_ids(alloc, &request.fee, &member.patron.fees, source)?;
     let done = pay_all(alloc, ids.as_slice(), request.amount.hundredths(), source)?;
@@ -249,6 +237,7 @@ fn is_other_currency(a: [u8; 3], b: [u8; 3]) -> bool
     a.as_slice().cmp(b.as_slice()).is_ne()
 }
 
+#[tactic(auto, using(read_set::proofs::Gaining::gains_none, read_set::proofs::Gaining::gains_first))]
 fn pay_known<S: Source>(
     alloc: Global,
     policy: &Policy,
@@ -257,8 +246,8 @@ fn pay_known<S: Source>(
     member: Option<Member>,
     source: &mut S,
 ) -> Result<Effect, Stop>
-    ensures gives { Follows result (follow (S.has source.old) (fee_paid_rule_known policy.now request.now date member)) }
-    ensures keeps { S.has source.new ≡ S.has source.old }
+    ensures gives { Follows result (follow (S.has source.new) (fee_paid_rule_known policy.now request.now date member)) }
+    ensures keeps { Gains (S.has source.old) (S.has source.new) (fee_paid_rule_known policy.now request.now date member) }
 {
     let Some(member) = member else {
         return Ok(refuse(alloc, policy, request, date));
@@ -273,7 +262,7 @@ fn pay_known<S: Source>(
 }
 
 /// A payment (message 37).
-#[tactic(auto, unfolding(crate::specs::Paying::fee_paid_rule), using(read_set::proofs::Following::follow_wants))]
+#[tactic(auto, unfolding(crate::specs::Paying::fee_paid_rule), using(read_set::proofs::Gaining::gains_none, read_set::proofs::Gaining::gains_first, read_set::proofs::Following::follow_wants))]
 pub fn take_payment<S: Source>(
     alloc: Global,
     policy: &Policy,
@@ -281,8 +270,8 @@ pub fn take_payment<S: Source>(
     date: Stamp,
     source: &mut S,
 ) -> Result<Effect, Stop>
-    ensures gives { Follows result (follow (S.has source.old) (fee_paid_rule policy.now request.now date)) }
-    ensures keeps { S.has source.new ≡ S.has source.old }
+    ensures gives { Follows result (follow (S.has source.new) (fee_paid_rule policy.now request.now date)) }
+    ensures keeps { Gains (S.has source.old) (S.has source.new) (fee_paid_rule policy.now request.now date) }
 {
     let member = patron_of(alloc, policy, source, &request.patron)?;
     pay_known(alloc, policy, request, date, member, source)

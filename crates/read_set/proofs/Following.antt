@@ -3,7 +3,7 @@ use Rattle.std.specs.Prelude.{IfErr}
 use Rattle.std.specs.Option.{option_map_or}
 use Rattle.read_set.specs.Asks.{Asks, Give, Ask, ◌>>=◌, Done, Wants, follow, over}
 use Rattle.read_set.specs.Stops.{StopsAt, Follows, LacksAt}
-use Rattle.read_set.specs.Maps.{Agrees}
+use Rattle.read_set.specs.Maps.{Part, Agrees, Grows}
 use Rattle.read_set.specs.declared.source.Stop.{Stop}
 use Rattle.read_set.specs.declared.source.Stop.TheVariants.{Unnoted, Memory}
 use Rattle.circ_records.specs.declared.key.Key.{Key}
@@ -38,6 +38,23 @@ follow_wants has (Ask k rule) f j e = lacked has (has k) k rule f j (λ r. follo
 pub follow_then : {A B : Type 0} (has : Key → Option (Option Record)) (m : Asks A) (f : A → Asks B) (x : A) (y : B) → follow has m ≡ Done x → follow has (f x) ≡ Done y → follow has (m >>= f) ≡ Done y
 follow_then has m f x y first second = follow_done has m f x first ∙ second
 
+more_met : {A : Type 0} (old new : Part) (o : Option (Option Record)) (k : Key) (rule : Option Record → Asks A) (x : A)
+    → ((r : Option Record) → follow old (rule r) ≡ Done x → follow new (rule r) ≡ Done x)
+    → ((r : Option Record) → o ≡ Some r → new k ≡ Some r)
+    → option_map_or (λ r. follow old (rule r)) o (Wants k) ≡ Done x
+    → option_map_or (λ r. follow new (rule r)) (new k) (Wants k) ≡ Done x
+more_met old new None k rule x ih grows e = cc
+more_met old new (Some r) k rule x ih grows e = rw (grows r refl) (ih r e)
+
+-- What a rule comes to on less it comes to on more.
+pub follow_more : {A : Type 0} (old new : Part) (m : Asks A) (x : A) → Grows old new → follow old m ≡ Done x → follow new m ≡ Done x
+follow_more old new (Give y) x grows e = e
+follow_more old new (Ask k rule) x grows e = more_met old new (old k) k rule x (λ r. follow_more old new (rule r) x grows) (grows k) e
+
+-- one that came to its end on less, and then the next to its end on more
+pub follow_next : {A B : Type 0} (old new : Part) (m : Asks A) (f : A → Asks B) (x : A) (y : B) → Grows old new → follow old m ≡ Done x → follow new (f x) ≡ Done y → follow new (m >>= f) ≡ Done y
+follow_next old new m f x y grows first second = follow_then new m f x y (follow_more old new m x grows first) second
+
 ends : {A : Type 0} (has : Key → Option (Option Record)) (M : Key → Option Record) (k : Key) (rule : Option Record → Asks A) (x : A) (o : Option (Option Record))
     → ((r : Option Record) → follow has (rule r) ≡ Done x → over M (rule r) ≡ x)
     → ((r : Option Record) → o ≡ Some r → M k ≡ r)
@@ -51,9 +68,9 @@ pub settles : {A : Type 0} (has : Key → Option (Option Record)) (M : Key → O
 settles has M (Give y) x a e = cc
 settles has M (Ask k rule) x a e = ends has M k rule x (has k) (λ r. settles has M (rule r) x a) (a k) e
 
--- the same of a rule that stops at its second part, and of one that stops at its first
-pub stop_next : {A B : Type 0} (has : Key → Option (Option Record)) (m : Asks A) (f : A → Asks B) (x : A) (stop : Stop) → follow has m ≡ Done x → StopsAt stop (follow has (f x)) → StopsAt stop (follow has (m >>= f))
-stop_next has m f x stop first second = rw (follow_done has m f x first) second
+-- the same of a rule that stops at its second part, on more, and of one that stops at its first
+pub stop_next : {A B : Type 0} (old new : Part) (m : Asks A) (f : A → Asks B) (x : A) (stop : Stop) → Grows old new → follow old m ≡ Done x → StopsAt stop (follow new (f x)) → StopsAt stop (follow new (m >>= f))
+stop_next old new m f x stop grows first second = rw (follow_done new m f x (follow_more old new m x grows first)) second
 
 pub stop_then : {A B : Type 0} (has : Key → Option (Option Record)) (m : Asks A) (f : A → Asks B) (stop : Stop) → StopsAt stop (follow has m) → StopsAt stop (follow has (m >>= f))
 stop_then has m f (Unnoted k) h = follow_wants has m f k h
@@ -88,6 +105,6 @@ pub over_then : {A B : Type 0} (M : Key → Option Record) (m : Asks A) (f : A �
 over_then M (Give x) f = refl
 over_then M (Ask k rule) f = over_then M (rule (M k)) f
 
--- one that comes to its end goes on with what a call returned of the next
-pub goes_on : {A B : Type 0} (has : Key → Option (Option Record)) (m : Asks A) (f : A → Asks B) (x : A) (r : Result B Stop) → follow has m ≡ Done x → Follows r (follow has (f x)) → Follows r (follow has (m >>= f))
-goes_on has m f x r first second = rw (follow_done has m f x first) second
+-- one that comes to its end goes on with what a call returned of the next, on more
+pub goes_on : {A B : Type 0} (old new : Part) (m : Asks A) (f : A → Asks B) (x : A) (r : Result B Stop) → Grows old new → follow old m ≡ Done x → Follows r (follow new (f x)) → Follows r (follow new (m >>= f))
+goes_on old new m f x r grows first second = rw (follow_done new m f x (follow_more old new m x grows first)) second

@@ -57,7 +57,7 @@ found-step true true n note o p h ih = absurd (let no : Some n ≡ None = h refl
 found-step true false n note o p h ih = refl
 found-step false c n note o p h ih = ih h
 
-found-more : (notes : List Note) (note : Note) (k : Key) → (is_at (key_cmp k) note.key ≡ true → note_of notes k ≡ None)
+pub found-more : (notes : List Note) (note : Note) (k : Key) → (is_at (key_cmp k) note.key ≡ true → note_of notes k ≡ None)
     → note_of (notes ++ note ∷ []) k ≡ cond (is_at (key_cmp k) note.key) (Some note) (note_of notes k)
 found-more [] note k h = refl
 found-more (n ∷ more) note k h =

@@ -2,6 +2,7 @@ pub mod Drafting
 pub mod DueDays
 pub mod FeeNumbers
 pub mod Following
+pub mod Gaining
 pub mod IdLists
 pub mod Keeping
 pub mod Kept
@@ -10,6 +11,7 @@ pub mod Lent
 pub mod Line
 pub mod Listing
 pub mod MapParts
+pub mod More
 pub mod Numbers
 pub mod OneRecord
 pub mod Paid

@@ -1,9 +1,9 @@
--- A device of proofs: a rule as a small program that asks for one record at a time.
-use Rattle.std.specs.Prelude.{Option}
+-- A rule as a small program that asks for one record at a time: the order of asking is the program's.
+use Rattle.std.specs.Prelude.{◌≡◌, ◌⊎◌, Option, Some, None}
 use Rattle.std.specs.Option.{option_map_or}
 use Rattle.circ_records.specs.declared.key.Key.{Key}
 use Rattle.circ_records.specs.declared.record.Record.{Record}
-use Rattle.read_set.specs.Maps.{Map, Part}
+use Rattle.read_set.specs.Maps.{Map, Part, Grows}
 
 -- It gives its outcome at once, or by the record at a key.
 pub data Asks (A : Type 0) : Type 0 where
@@ -29,3 +29,18 @@ infixl 10 ◌>>=◌
 abbrev pub ◌>>=◌ : {A B : Type 0} → Asks A → (A → Asks B) → Asks B
 (Give x) >>= f = f x
 (Ask k rule) >>= f = Ask k (λ r. rule r >>= f)
+
+-- what holds of what is found at a key that is had
+abbrev pub OnHad : Option (Option Record) → (Option Record → Type 0) → Type 0
+OnHad None P = ⊥
+OnHad (Some r) P = P r
+
+-- a key for which it asks on what is had: on its way to its end, or to the first key that is wanted
+abbrev pub IsAsked : {A : Type 0} → Part → Asks A → Key → Type 0
+IsAsked has (Give x) k = ⊥
+IsAsked has (Ask j rule) k = (k ≡ j) ⊎ OnHad (has j) (λ r. IsAsked has (rule r) k)
+
+-- What comes to be had while a rule is followed: what was had stays, and what is new is what the rule asks for.
+pub record Gains {A : Type 0} (old new : Part) (m : Asks A) : Type 0 where
+  pub grows : Grows old new
+  pub asked : (k : Key) → (new k ≡ old k) ⊎ IsAsked new m k

@@ -10,7 +10,6 @@ pub mod Known
 pub mod Loans
 pub mod Maps
 pub mod Meaning
-pub mod Needs
 pub mod Notes
 pub mod Patrons
 pub mod Payments

@@ -7,17 +7,50 @@ use circ_policy::{Class, Media, Policy};
 use circ_records::{Fee, Item, Patron, Record};
 
 /// An item with the terms of its media type.
-#[derive(Drop)]
 pub struct Article {
     pub item: Item,
     pub media: Media,
 }
 
+impl Drop for Article {
+    fn drop(self) {
+        let Article { item: _, media: _ } = self;
+    }
+}
+
+impl Article {
+    /// The item alone.
+    pub fn into_item(self) -> Item
+        ensures { result ≡ self.item }
+    {
+        let Article { item, media: _ } = self;
+        item
+    }
+}
+
 /// A patron with the limits of its class.
-#[derive(Drop)]
 pub struct Member {
     pub patron: Patron,
     pub class: Class,
+}
+
+impl Drop for Member {
+    fn drop(self) {
+        let Member {
+            patron: _,
+            class: _,
+        } = self;
+    }
+}
+
+impl Member {
+    /// The patron alone.
+    pub fn into_patron(self) -> Patron
+        ensures { result ≡ self.patron }
+    {
+        let Member { patron, class: _ } = self;
+        patron
+    }
 }
 
 /// The item that a record is: a record of another kind, and an item whose media type the policy lacks, count as unknown.

@@ -8,6 +8,7 @@ mod effect;
 mod known;
 mod laws;
 mod notes;
+mod noting;
 mod plan;
 mod progress;
 mod sorted;
@@ -21,7 +22,8 @@ pub use laws::{
     final_tables_read_back, meaning_keeps_coherence, read_plans_stay_coherent,
     replay_keeps_coherence,
 };
-pub use notes::{Name, Note, Notes, NotesSource};
+pub use notes::{Name, Note, Notes};
+pub use noting::{Looks, NotesName, NotesSource, Noting};
 pub use plan::{Plan, PlanName};
 pub use progress::{Payments, Renewals};
 pub use source::{Source, Stop};

@@ -2,11 +2,8 @@
 
 ghost use Rattle.std.specs.Prelude.{◌≡◌, ◌++◌, ◌∷◌, [], None, IfOk, OnOk, OnErr};
 ghost use Rattle.std.specs.Option.{option_copied};
-ghost use Rattle.read_set.specs.Asks.{follow, Ask, Give};
 ghost use Rattle.read_set.specs.Notes.{note_of, IsOnceEach};
-ghost use Rattle.read_set.specs.Stops.{Follows};
 
-use crate::source::{Source, Stop};
 use circ_records::{Key, Record};
 use std::alloc::{AllocError, Global};
 use std::collections::BTreeMap;
@@ -20,11 +17,20 @@ pub enum Name {
 }
 
 /// What was found at a key, a record or none, under its name.
-#[derive(Drop)]
 pub struct Note {
     pub key: Key,
     pub name: Name,
     pub found: Option<Record>,
+}
+
+impl Drop for Note {
+    fn drop(self) {
+        let Note {
+            key: _,
+            name: _,
+            found: _,
+        } = self;
+    }
 }
 
 impl Note {
@@ -40,7 +46,11 @@ impl Note {
     }
 }
 
-fn copy_found(alloc: Global, found: &Option<Record>) -> Result<Option<Record>, AllocError>
+/// The same record, or none.
+pub(crate) fn copy_found(
+    alloc: Global,
+    found: &Option<Record>,
+) -> Result<Option<Record>, AllocError>
     ensures { IfOk result (λ r. r ≡ found.now) }
 {
     match found {
@@ -50,11 +60,19 @@ fn copy_found(alloc: Global, found: &Option<Record>) -> Result<Option<Record>, A
 }
 
 /// What a line has read, in the order of reading. No key is noted twice.
-#[derive(Drop)]
 pub struct Notes {
     entries: Vec<Note>,
     /// Where the note of each key stands.
     places: BTreeMap<Key, usize>,
+}
+
+impl Drop for Notes {
+    fn drop(self) {
+        let Notes {
+            entries: _,
+            places: _,
+        } = self;
+    }
 }
 
 impl Model for Notes {
@@ -134,23 +152,4 @@ fn copy_notes(alloc: Global, notes: &[Note]) -> Result<Notes, AllocError>
         copies.add(note.copy(alloc)?)?;
     }
     Ok(copies)
-}
-
-/// Notes as a source of records: it stops at a key that isn't noted.
-#[derive(Clone, Copy)]
-pub struct NotesSource<'n> {
-    pub notes: &'n Notes,
-}
-
-impl Source for NotesSource<'_> {
-    ghost use Rattle.read_set.specs.Notes.{noted};
-
-    ghost has = { λ s. noted s.notes.now };
-
-    fn read(&mut self, alloc: Global, key: &Key) -> Result<Option<Record>, Stop> {
-        match self.notes.get(key) {
-            Some(note) => Ok(copy_found(alloc, &note.found)?),
-            None => Err(Stop::Unnoted(*key)),
-        }
-    }
 }

@@ -25,12 +25,22 @@ use std::ops::Range;
 const BEHIND_LAST: u64 = 10_000_000_000;
 
 /// The policy, the records before the first line, and the reading of each line.
-#[derive(Drop)]
 pub struct Plan {
     policy: Policy,
     base: Base,
     first: u64,
     readings: Readings,
+}
+
+impl Drop for Plan {
+    fn drop(self) {
+        let Plan {
+            policy: _,
+            base: _,
+            first: _,
+            readings: _,
+        } = self;
+    }
 }
 
 impl Model for Plan {

@@ -1,7 +1,7 @@
-ghost use Rattle.std.specs.Prelude.{◌≡◌, Option};
+ghost use Rattle.std.specs.Prelude.{Option};
 ghost use Rattle.circ_records.specs.declared.key.Key.{Key};
 ghost use Rattle.circ_records.specs.declared.record.Record.{Record};
-ghost use Rattle.read_set.specs.Asks.{follow, Ask, Give};
+ghost use Rattle.read_set.specs.Asks.{follow, Ask, Give, Gains};
 ghost use Rattle.read_set.specs.Stops.{Follows};
 
 use circ_records::{Key, Record};
@@ -27,13 +27,14 @@ impl From<AllocError> for Stop {
     }
 }
 
-/// Where the meaning of a line reads the records that it asks for.
+/// Where the meaning of a line reads the records that it asks for. It may come to have what is read, keeps what it has,
+/// and has nothing else anew.
 pub trait Source {
     /// What it has at each key: nothing, or the record there, or that there is none.
     ghost has: { Self → Key → Option (Option Record) };
 
     /// The record at a key, or that there is none; a stop where the source has nothing there.
     fn read(&mut self, alloc: Global, key: &Key) -> Result<Option<Record>, Stop>
-        ensures gives { Follows result (follow (has self.old) (Ask key.now Give)) }
-        ensures keeps { has self.new ≡ has self.old };
+        ensures gives { Follows result (follow (has self.new) (Ask key.now Give)) }
+        ensures keeps { Gains (has self.old) (has self.new) (Ask key.now Give) };
 }

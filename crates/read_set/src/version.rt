@@ -13,7 +13,6 @@ use sip_answer::Answer;
 use std::marker::{Model, PhantomData};
 
 /// What a line of a plan writes and answers, and the notes that settle it.
-#[derive(Drop)]
 pub struct Version<J: PlanName> {
     line: u64,
     attempt: u32,
@@ -21,6 +20,19 @@ pub struct Version<J: PlanName> {
     writes: Writes,
     answer: Option<Answer>,
     of: PhantomData<J>,
+}
+
+impl<J: PlanName> Drop for Version<J> {
+    fn drop(self) {
+        let Version {
+            line: _,
+            attempt: _,
+            reads: _,
+            writes: _,
+            answer: _,
+            of: _,
+        } = self;
+    }
 }
 
 impl<J: PlanName> Model for Version<J> {

@@ -1,7 +1,6 @@
 //! What the command line asks for.
 
 /// The files and folders of a run, as the words name them, and how many workers are wanted.
-#[derive(Drop)]
 pub struct Options {
     /// The policy, a TOML file.
     pub policy: String,
@@ -13,4 +12,16 @@ pub struct Options {
     pub out: String,
     /// How many workers, of which 1 to 64 are taken.
     pub workers: u32,
+}
+
+impl Drop for Options {
+    fn drop(self) {
+        let Options {
+            policy: _,
+            base: _,
+            journal: _,
+            out: _,
+            workers: _,
+        } = self;
+    }
 }

@@ -29,13 +29,22 @@ fn read_tables<R: Files + AllocGlobal>(rt: &R, folder: &str) -> Result<Tables, S
 }
 
 /// A file of the output that isn't written yet.
-#[derive(Drop)]
 struct Unwritten<'a> {
     /// Where it is to stand.
     path: String,
     /// Where it stands until it is whole, beside that place.
     part: String,
     text: &'a [u8],
+}
+
+impl Drop for Unwritten<'_> {
+    fn drop(self) {
+        let Unwritten {
+            path: _,
+            part: _,
+            text: _,
+        } = self;
+    }
 }
 
 /// Writes the tables, then the answers, the report and the passed lines. Each stands under its name only when it is whole;

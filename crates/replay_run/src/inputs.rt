@@ -4,16 +4,24 @@ use circ_records::Tables;
 use result_report::Sizes;
 
 /// What a run is given, as the bytes of its files.
-#[derive(Drop)]
 pub struct Inputs {
     pub policy: Vec<u8>,
     pub tables: Tables,
     pub journal: Vec<u8>,
 }
 
+impl Drop for Inputs {
+    fn drop(self) {
+        let Inputs {
+            policy: _,
+            tables: _,
+            journal: _,
+        } = self;
+    }
+}
+
 /// What a run gives: the tables after the last line and the result tables, as the bytes of their files, the numbers of
 /// rows, and of each line the number of the attempt whose answer counts, from 0.
-#[derive(Drop)]
 pub struct Output {
     pub tables: Tables,
     pub answers: Vec<u8>,
@@ -21,4 +29,17 @@ pub struct Output {
     pub passed: Vec<u8>,
     pub sizes: Sizes,
     pub attempts: Vec<u32>,
+}
+
+impl Drop for Output {
+    fn drop(self) {
+        let Output {
+            tables: _,
+            answers: _,
+            report: _,
+            passed: _,
+            sizes: _,
+            attempts: _,
+        } = self;
+    }
 }

@@ -7,9 +7,14 @@ use std::collections::BTreeMap;
 
 /// The records as they stand: those before the first line, and over them what the lines so far wrote. They are one map,
 /// so that each is found by one look-up.
-#[derive(Drop)]
 pub struct Live {
     pub records: BTreeMap<Key, Record>,
+}
+
+impl Drop for Live {
+    fn drop(self) {
+        let Live { records: _ } = self;
+    }
 }
 
 impl Live {
@@ -49,8 +54,9 @@ impl Live {
     pub fn into_records(self) -> Records
         ensures { AreEntries (standing self) result }
     {
-        let _count = self.records.len();
-        Records::from_map(self.records)
+        let Live { records } = self;
+        let _count = records.len();
+        Records::from_map(records)
     }
 
     /// Puts one record over the records.
@@ -68,6 +74,7 @@ impl Source for Live {
 
     ghost has = { λ live k. Some (standing live k) };
 
+    #[tactic(auto, using(read_set::proofs::Gaining::gains_none))]
     fn read(&mut self, alloc: Global, key: &Key) -> Result<Option<Record>, Stop> {
         match self.at(key) {
             Some(found) => Ok(Some(found.copy(alloc)?)),

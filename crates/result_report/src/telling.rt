@@ -20,11 +20,20 @@ const REPORT_HEADER: [&str; 3] = ["line", "connection", "fields"];
 const PASSED_HEADER: [&str; 3] = ["line", "connection", "why"];
 
 /// The result tables while they are written.
-#[derive(Drop)]
 pub struct Telling {
     pub answers: Listing,
     pub report: Listing,
     pub passed: Listing,
+}
+
+impl Drop for Telling {
+    fn drop(self) {
+        let Telling {
+            answers: _,
+            report: _,
+            passed: _,
+        } = self;
+    }
 }
 
 impl Telling {

@@ -5,7 +5,6 @@ use circ_policy::{DueForm, MediaType};
 use sip_reader::{Amount, Day, Id, Stamp, Text};
 
 /// What is answered to a request.
-#[derive(Drop)]
 pub enum Answer {
     /// Response 24, to a block patron.
     BlockPatron(PatronAnswer),
@@ -29,8 +28,24 @@ pub enum Answer {
     Resend,
 }
 
+impl Drop for Answer {
+    fn drop(self) {
+        match self {
+            Answer::BlockPatron(_) => {}
+            Answer::Checkin(_) => {}
+            Answer::Checkout(_) => {}
+            Answer::Hold(_) => {}
+            Answer::ItemStatus(_) => {}
+            Answer::PatronEnable(_) => {}
+            Answer::Renew(_) => {}
+            Answer::FeePaid(_) => {}
+            Answer::RenewAll(_) => {}
+            Answer::Resend => {}
+        }
+    }
+}
+
 /// The answer to a block patron or a patron enable.
-#[derive(Drop)]
 pub struct PatronAnswer {
     /// The request's transaction date.
     pub date: Stamp,
@@ -42,6 +57,19 @@ pub struct PatronAnswer {
     pub currency: [u8; 3],
     /// Where the patron is known.
     pub known: Option<KnownPatron>,
+}
+
+impl Drop for PatronAnswer {
+    fn drop(self) {
+        let PatronAnswer {
+            date: _,
+            institution: _,
+            patron: _,
+            status: _,
+            currency: _,
+            known: _,
+        } = self;
+    }
 }
 
 /// The positions of a patron status that can be set here.
@@ -60,15 +88,19 @@ pub struct PatronStatus {
 }
 
 /// What an answer shows of a patron that is known.
-#[derive(Drop)]
 pub struct KnownPatron {
     pub name: Text,
     /// What is owed, in hundredths.
     pub owed: u128,
 }
 
+impl Drop for KnownPatron {
+    fn drop(self) {
+        let KnownPatron { name: _, owed: _ } = self;
+    }
+}
+
 /// The answer to a checkin. Its ok is 1 where the item is known.
-#[derive(Drop)]
 pub struct CheckinAnswer {
     /// The request's transaction date.
     pub date: Stamp,
@@ -82,8 +114,20 @@ pub struct CheckinAnswer {
     pub alert: bool,
 }
 
+impl Drop for CheckinAnswer {
+    fn drop(self) {
+        let CheckinAnswer {
+            date: _,
+            institution: _,
+            item: _,
+            known: _,
+            borrower: _,
+            alert: _,
+        } = self;
+    }
+}
+
 /// What the answer to a checkin shows of an item that is known.
-#[derive(Drop)]
 pub struct ReturnedItem {
     pub location: Text,
     pub title: Text,
@@ -91,8 +135,18 @@ pub struct ReturnedItem {
     pub properties: Text,
 }
 
+impl Drop for ReturnedItem {
+    fn drop(self) {
+        let ReturnedItem {
+            location: _,
+            title: _,
+            media: _,
+            properties: _,
+        } = self;
+    }
+}
+
 /// The answer to a checkout or a renewal. Its ok is 1 where there is a due day.
-#[derive(Drop)]
 pub struct LoanAnswer {
     /// The request's transaction date.
     pub date: Stamp,
@@ -113,16 +167,41 @@ pub struct LoanAnswer {
     pub currency: [u8; 3],
 }
 
+impl Drop for LoanAnswer {
+    fn drop(self) {
+        let LoanAnswer {
+            date: _,
+            institution: _,
+            patron: _,
+            item: _,
+            known: _,
+            due: _,
+            due_form: _,
+            renewed: _,
+            rental: _,
+            currency: _,
+        } = self;
+    }
+}
+
 /// What the answer to a checkout or a renewal shows of an item that is known.
-#[derive(Drop)]
 pub struct KnownItem {
     pub title: Text,
     pub media: MediaType,
     pub properties: Text,
 }
 
+impl Drop for KnownItem {
+    fn drop(self) {
+        let KnownItem {
+            title: _,
+            media: _,
+            properties: _,
+        } = self;
+    }
+}
+
 /// The answer to an item status update. Its ok is 1 where the item is known.
-#[derive(Drop)]
 pub struct ItemStatusAnswer {
     /// The request's transaction date.
     pub date: Stamp,
@@ -131,16 +210,33 @@ pub struct ItemStatusAnswer {
     pub known: Option<TitledItem>,
 }
 
+impl Drop for ItemStatusAnswer {
+    fn drop(self) {
+        let ItemStatusAnswer {
+            date: _,
+            item: _,
+            known: _,
+        } = self;
+    }
+}
+
 /// What the answer to an item status update shows of an item that is known.
-#[derive(Drop)]
 pub struct TitledItem {
     pub title: Text,
     /// The properties after the change.
     pub properties: Text,
 }
 
+impl Drop for TitledItem {
+    fn drop(self) {
+        let TitledItem {
+            title: _,
+            properties: _,
+        } = self;
+    }
+}
+
 /// The answer to a payment.
-#[derive(Drop)]
 pub struct FeePaidAnswer {
     /// The request's transaction date.
     pub date: Stamp,
@@ -149,8 +245,18 @@ pub struct FeePaidAnswer {
     pub accepted: bool,
 }
 
+impl Drop for FeePaidAnswer {
+    fn drop(self) {
+        let FeePaidAnswer {
+            date: _,
+            institution: _,
+            patron: _,
+            accepted: _,
+        } = self;
+    }
+}
+
 /// The answer to a renewal of all items.
-#[derive(Drop)]
 pub struct RenewAllAnswer {
     /// The request's transaction date.
     pub date: Stamp,
@@ -162,8 +268,19 @@ pub struct RenewAllAnswer {
     pub unrenewed: ItemIds,
 }
 
+impl Drop for RenewAllAnswer {
+    fn drop(self) {
+        let RenewAllAnswer {
+            date: _,
+            institution: _,
+            ok: _,
+            renewed: _,
+            unrenewed: _,
+        } = self;
+    }
+}
+
 /// The answer to a hold.
-#[derive(Drop)]
 pub struct HoldAnswer {
     /// The request's transaction date.
     pub date: Stamp,
@@ -179,10 +296,33 @@ pub struct HoldAnswer {
     pub title: Option<Text>,
 }
 
+impl Drop for HoldAnswer {
+    fn drop(self) {
+        let HoldAnswer {
+            date: _,
+            institution: _,
+            patron: _,
+            item: _,
+            ok: _,
+            available: _,
+            place: _,
+            title: _,
+        } = self;
+    }
+}
+
 /// A place in an item's queue.
-#[derive(Drop)]
 pub struct HoldPlace {
     /// Counted from 1.
     pub number: usize,
     pub pickup: Text,
+}
+
+impl Drop for HoldPlace {
+    fn drop(self) {
+        let HoldPlace {
+            number: _,
+            pickup: _,
+        } = self;
+    }
 }

@@ -5,9 +5,14 @@ use std::alloc::{AllocError, Global};
 use std::marker::Model;
 
 /// The ids of items, in order.
-#[derive(Drop)]
 pub struct ItemIds {
     ids: Vec<Id>,
+}
+
+impl Drop for ItemIds {
+    fn drop(self) {
+        let ItemIds { ids: _ } = self;
+    }
 }
 
 impl Model for ItemIds {

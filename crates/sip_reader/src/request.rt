@@ -107,7 +107,6 @@ impl Why {
 }
 
 /// What a message is.
-#[derive(Drop)]
 pub enum Reading {
     /// A request of a kind that the rules know.
     Asked(Request),
@@ -119,8 +118,18 @@ pub enum Reading {
     Unread(Why),
 }
 
+impl Drop for Reading {
+    fn drop(self) {
+        match self {
+            Reading::Asked(_) => {}
+            Reading::Passed(_) => {}
+            Reading::BadSum => {}
+            Reading::Unread(_) => {}
+        }
+    }
+}
+
 /// A request.
-#[derive(Drop)]
 pub struct Request {
     /// The digit of its error detection, in ASCII.
     pub sequence: Option<u8>,
@@ -129,8 +138,17 @@ pub struct Request {
     pub act: Act,
 }
 
+impl Drop for Request {
+    fn drop(self) {
+        let Request {
+            sequence: _,
+            date: _,
+            act: _,
+        } = self;
+    }
+}
+
 /// What is asked.
-#[derive(Drop)]
 pub enum Act {
     BlockPatron(BlockPatron),
     Checkin(Checkin),
@@ -141,6 +159,22 @@ pub enum Act {
     Renew(Renew),
     FeePaid(FeePaid),
     RenewAll(RenewAll),
+}
+
+impl Drop for Act {
+    fn drop(self) {
+        match self {
+            Act::BlockPatron(_) => {}
+            Act::Checkin(_) => {}
+            Act::Checkout(_) => {}
+            Act::Hold(_) => {}
+            Act::ItemStatus(_) => {}
+            Act::PatronEnable(_) => {}
+            Act::Renew(_) => {}
+            Act::FeePaid(_) => {}
+            Act::RenewAll(_) => {}
+        }
+    }
 }
 
 impl Act {
@@ -206,7 +240,6 @@ pub enum HoldMode {
 }
 
 /// A patron's place in an item's queue is made, taken away or changed (SIP 2.00, Hold).
-#[derive(Drop)]
 pub struct HoldRequest {
     pub mode: HoldMode,
     pub patron: Id,
@@ -215,12 +248,31 @@ pub struct HoldRequest {
     pub pickup: Text,
 }
 
+impl Drop for HoldRequest {
+    fn drop(self) {
+        let HoldRequest {
+            mode: _,
+            patron: _,
+            item: _,
+            pickup: _,
+        } = self;
+    }
+}
+
 /// An item's properties are set (SIP 2.00, Item Status Update).
-#[derive(Drop)]
 pub struct ItemStatus {
     pub item: Id,
     /// The properties that replace the item's.
     pub properties: Option<Text>,
+}
+
+impl Drop for ItemStatus {
+    fn drop(self) {
+        let ItemStatus {
+            item: _,
+            properties: _,
+        } = self;
+    }
 }
 
 /// A patron's block is taken away (SIP 2.00, Patron Enable).

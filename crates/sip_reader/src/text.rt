@@ -11,9 +11,14 @@ use std::marker::Model;
 pub const TEXT_MAX: usize = 1024;
 
 /// A text of a record or a message: at most 1,024 bytes without a bar, CR or LF.
-#[derive(Drop)]
 pub struct Text {
     bytes: Vec<u8>,
+}
+
+impl Drop for Text {
+    fn drop(self) {
+        let Text { bytes: _ } = self;
+    }
 }
 
 impl Model for Text {

@@ -7,7 +7,7 @@ use Rattle.std.proofs.lemmas.List.{get_or-replicate, get_or_past, length-replica
 use Rattle.std.proofs.lemmas.Option.{none-some, same_Some}
 use Rattle.circ_records.specs.Keys.{key_cmp}
 use Rattle.circ_records.specs.declared.key.Key.{Key}
-use Rattle.read_set.specs.Needs.{IsNeed}
+use Rattle.message_meaning.specs.Needs.{IsNeed}
 use Rattle.read_set.specs.Notes.{note_of, noted}
 use Rattle.read_set.specs.Plans.{Planned}
 use Rattle.read_set.specs.Settling.{Told}
@@ -133,7 +133,8 @@ appears_of plan b line notes v reads of_it settles = record {
 -- the version that a line needs may be published
 pub done_appears : {J : Type 0} (plan : Planned) (b : Board) (line : ℕ) (notes : List Note) (next : Need J) (v : Told) → Reads plan b line notes → IsNeed plan line 0 notes next → SettlesIfDone plan next → next ≡ needs.Done v → Appears plan b line v
 done_appears plan b line notes next v reads need settles is =
-    appears_of plan b line notes v reads (subst (λ x. IsNeed plan line 0 notes x) is need) (subst (λ x. SettlesIfDone plan x) is settles)
+    let done = subst (λ x. IsNeed plan line 0 notes x) is need in
+    appears_of plan b line notes v reads (done.1, done.2, done.3) (subst (λ x. SettlesIfDone plan x) is settles)
 
 -- ---- publish
 pub spent_stops : (plan : Planned) (b new : Board) (v : Told) → Step plan b (Publish 0 v) Spent new → HasRoom new → ⊥

@@ -20,7 +20,7 @@ publishes_reached : (plan : Planned) (old new : Board) (w : ℕ) (reply : Reply)
 publishes_reached plan old new w reply reached (inl (v, ready, settles, step)) = step_reached plan old new (ThePublish w v) reply reached settles step
 publishes_reached plan old new w reply reached (inr (why, idle, same)) = subst (Reached plan) (sym same) reached
 
-step_of_reached : (plan : Planned) (old new : Board) (step : WorkerStep) (reply : Reply) → Reached plan old → StepOf plan old step reply new → Reached plan new
+pub step_of_reached : (plan : Planned) (old new : Board) (step : WorkerStep) (reply : Reply) → Reached plan old → StepOf plan old step reply new → Reached plan new
 step_of_reached plan old new (steps.Take w n) reply reached h = step_reached plan old new (TheTake w n) reply reached tt h
 step_of_reached plan old new (steps.Look w) reply reached h = looks_reached plan old new w reply reached h
 step_of_reached plan old new (steps.Publish w) reply reached h = publishes_reached plan old new w reply reached h

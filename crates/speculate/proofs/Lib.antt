@@ -1,5 +1,6 @@
 pub mod Calling
 pub mod Choosing
+pub mod Determined
 pub mod Drives
 pub mod Finishes
 pub mod Flags

@@ -2,7 +2,7 @@
 use Rattle.std.proofs.Common.{◌≡◌, ◌≢◌, ℕ, suc, List, [], ◌∷◌, ◌++◌, Option, Some, None, Result, Ok, Err, OnOk, IfErr, option_map, refl, sym, subst, ◌⊎◌, inl, inr}
 use Rattle.circ_records.specs.declared.key.Key.{Key}
 use Rattle.read_set.specs.Plans.{Planned}
-use Rattle.read_set.specs.Needs.{IsNeed}
+use Rattle.message_meaning.specs.Needs.{IsNeed}
 use Rattle.read_set.specs.Settling.{Told}
 use Rattle.read_set.specs.declared.notes.Note.{Note}
 use Rattle.read_set.specs.declared.version.Need.{Need}
@@ -17,7 +17,7 @@ use Rattle.speculate.specs.Ending.{ended_by}
 use Rattle.board_lines.specs.Hands.{HasNoLine, notes_of}
 use Rattle.speculate.specs.Needed.{IsNext, IsToPublish, SettlesIfDone, needed_key, needed_version}
 use Rattle.board_lines.specs.Notes.{found_by, told_at}
-use Rattle.speculate.specs.Playing.{Goes, HasLast, HasVersion, InHand, IsRefused, Plays, ToPublish, Wants, refusal}
+use Rattle.speculate.specs.Playing.{Goes, HasLast, HasVersion, InHand, IsRefused, Plays, Rests, ToPublish, Wants, refusal}
 use Rattle.board_lines.specs.Replies.{Answers, Grows}
 use Rattle.board_lines.specs.declared.reply.Reply.{Reply as CodeReply}
 use Rattle.board_lines.specs.declared.reply.Reply.TheVariants as replies
@@ -119,7 +119,7 @@ publish_ends plan old new w v (Err (faults.Attempts m)) ready settles h = (inl (
 publish_ends plan old new w v (Err faults.ClockSpent) ready settles h = (inl (v, ready, settles, h.0), h.1)
 publish_ends plan old new w v (Err faults.Memory) ready settles h = (tt, h.1)
 
-pub publish_idle : (plan : Planned) (old : Board) (w : ℕ) → HasNoLine old w ⊎ ((k : Key) × Wants plan old w k) → Goes plan old (steps.Publish w) old
+pub publish_idle : (plan : Planned) (old : Board) (w : ℕ) → Rests plan old w → Goes plan old (steps.Publish w) old
 publish_idle plan old w why = (Idle, inr (why, refl, refl), refl)
 
 -- a call whose reply was judged
@@ -147,8 +147,8 @@ in_hand plan b w n a notes reached held next (m, holds, noted) =
     record { held = held; attempt = next; noted = subst (λ x. notes_of (row_at b x).state ≡ notes) same noted }
 
 pub next_is : {J : Type 0} (plan : Planned) (b : Board) (w n a : ℕ) (notes : List Note) (next : Need J) → InHand b w n a notes → IsNeed plan n a notes next → SettlesIfDone plan next → IsNext plan b w (Some next)
-next_is plan b w n a notes (needs.Key k) hand need settles = (n, a, notes, hand, need)
-next_is plan b w n a notes (needs.Done v) hand need settles = (n, a, notes, hand, need.0, need.1, need.2, settles)
+next_is plan b w n a notes (needs.Key k) hand need settles = (n, a, notes, hand, need.1)
+next_is plan b w n a notes (needs.Done v) hand need settles = (n, a, notes, hand, need.1, need.2, need.3, need.0, settles)
 
 pub look_rests : {J : Type 0} (plan : Planned) (b : Board) (w : ℕ) (next : Option (Need J)) → IsNext plan b w next → None ≡ needed_key next → Goes plan b (steps.Look w) b
 look_rests plan b w None is e = look_idle plan b w (inl is)
@@ -160,14 +160,14 @@ look_wants plan b w None k is e = absurd (cc)
 look_wants plan b w (Some (needs.Key q)) k is e = let same : q ≡ k = cc in subst (λ x. Wants plan b w x) same is
 look_wants plan b w (Some (needs.Done v)) k is e = absurd (cc)
 
-pub none_to_publish : {J : Type 0} (plan : Planned) (b : Board) (w : ℕ) (next : Option (Need J)) → IsNext plan b w next → None ≡ needed_version next → HasNoLine b w ⊎ ((k : Key) × Wants plan b w k)
-none_to_publish plan b w None is e = inl is
-none_to_publish plan b w (Some (needs.Key k)) is e = inr (k, is)
-none_to_publish plan b w (Some (needs.Done v)) is e = absurd (cc)
-
 -- no line is being published by the worker
 none_placing : (b : Board) (w : ℕ) → ((n : ℕ) (notes : List Note) (last : Option Told) → (row_at b n).state ≢ Placing w notes last) → (u : Told) → HasLast b w u → ⊥
 none_placing b w not u (n, notes, is) = not n notes (Some u) is
+
+pub none_to_publish : {J : Type 0} (plan : Planned) (b : Board) (w : ℕ) (next : Option (Need J)) → ((n : ℕ) (notes : List Note) (last : Option Told) → (row_at b n).state ≢ Placing w notes last) → IsNext plan b w next → None ≡ needed_version next → Rests plan b w
+none_to_publish plan b w None none is e = inl is
+none_to_publish plan b w (Some (needs.Key k)) none is e = inr (none_placing b w none, k, is)
+none_to_publish plan b w (Some (needs.Done v)) none is e = absurd (cc)
 
 one_to_publish : {J : Type 0} (plan : Planned) (b : Board) (w : ℕ) (next : Option (Need J)) (v : Told) → IsNext plan b w next → Some v ≡ needed_version next → HasVersion plan b w v
 one_to_publish plan b w None v is e = absurd (cc)
@@ -177,4 +177,4 @@ one_to_publish plan b w (Some (needs.Done u)) v is e = let same : u ≡ v = cc i
 pub new_to_publish : {J : Type 0} (plan : Planned) (b : Board) (w : ℕ) (next : Option (Need J)) (v u : Told) → ((n : ℕ) (notes : List Note) (last : Option Told) → (row_at b n).state ≢ Placing w notes last) → IsNext plan b w next → Some v ≡ needed_version next → u ≡ v → IsToPublish plan b w (Some u)
 new_to_publish plan b w next v u none is e same =
     let has = one_to_publish plan b w next v is e in
-    subst (λ x. IsToPublish plan b w (Some x)) (sym same) (inr (none_placing b w none, has), has.7)
+    subst (λ x. IsToPublish plan b w (Some x)) (sym same) (inr (none_placing b w none, has), has.8)

@@ -1,5 +1,5 @@
 -- What a worker's line in hand needs next.
-use Rattle.std.specs.Prelude.{◌⊎◌, Option, Some, None, ℕ}
+use Rattle.std.specs.Prelude.{Option, Some, None, ℕ}
 use Rattle.circ_records.specs.declared.key.Key.{Key}
 use Rattle.read_set.specs.Plans.{Planned}
 use Rattle.read_set.specs.Settling.{Told}
@@ -8,9 +8,9 @@ use Rattle.read_set.specs.declared.version.Need.TheVariants as needs
 use Rattle.board_steps.specs.Board.{Board}
 use Rattle.board_steps.specs.Steps.{IsVersion}
 use Rattle.board_lines.specs.Hands.{HasNoLine}
-use Rattle.speculate.specs.Playing.{HasVersion, ToPublish, Wants}
+use Rattle.speculate.specs.Playing.{HasVersion, Rests, ToPublish, Wants}
 
--- a key that it wants, or its version; nothing where the worker has none in hand
+-- the key for which its rule asks, or its version; nothing where the worker has none in hand
 abbrev pub IsNext : {J : Type 0} → Planned → Board → ℕ → Option (Need J) → Type 0
 IsNext plan b w None = HasNoLine b w
 IsNext plan b w (Some (needs.Key k)) = Wants plan b w k
@@ -23,7 +23,7 @@ SettlesIfDone plan (needs.Done v) = IsVersion plan v
 
 -- the version to be published, if there is one
 abbrev pub IsToPublish : Planned → Board → ℕ → Option Told → Type 0
-IsToPublish plan b w None = HasNoLine b w ⊎ ((k : Key) × Wants plan b w k)
+IsToPublish plan b w None = Rests plan b w
 IsToPublish plan b w (Some v) = ToPublish plan b w v × IsVersion plan v
 
 abbrev pub needed_key : {J : Type 0} → Option (Need J) → Option Key

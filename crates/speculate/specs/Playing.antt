@@ -1,10 +1,12 @@
 -- A list of steps of workers, played one after another (the board; the headline over lists of steps).
 use Rattle.std.specs.Prelude.{◌≡◌, ℕ, suc, ◌⊎◌, List, [], ◌∷◌, Option, Some, None, slice_get, take}
 use Rattle.circ_records.specs.declared.key.Key.{Key}
+use Rattle.message_meaning.specs.Rules.{rule_at}
+use Rattle.read_set.specs.Asks.{follow, Reached as Outcome, Done as EndsIn, Wants as AsksFor}
 use Rattle.read_set.specs.Notes.{noted}
 use Rattle.read_set.specs.Plans.{Planned}
 use Rattle.read_set.specs.Settling.{Told}
-use Rattle.read_set.specs.Wanted.{Wanted}
+use Rattle.read_set.specs.declared.effect.Effect.{Effect}
 use Rattle.read_set.specs.declared.notes.Note.{Note}
 use Rattle.board_steps.specs.Board.{Board, row_at, holder}
 use Rattle.board_steps.specs.Board.State.{Placing}
@@ -24,15 +26,20 @@ pub record InHand (b : Board) (w n a : ℕ) (notes : List Note) : Type 0 where
   pub attempt : suc a ≡ (row_at b n).next
   pub noted : notes_of (row_at b n).state ≡ notes
 
--- the line in hand wants the record at a key
-abbrev pub Wants : Planned → Board → ℕ → Key → Type 0
-Wants plan b w k = (n : ℕ) × (a : ℕ) × (notes : List Note) × InHand b w n a notes × Wanted plan n (noted notes) k
+-- how far the rule of line n comes on what is noted for it (the order of asking)
+abbrev pub stands_at : Planned → ℕ → List Note → Outcome Effect
+stands_at plan n notes = follow (noted notes) (rule_at plan n)
 
--- a version of the line in hand: of its number, its attempt and its notes, which settle it
+-- the rule of the line in hand asks for the record at a key
+abbrev pub Wants : Planned → Board → ℕ → Key → Type 0
+Wants plan b w k = (n : ℕ) × (a : ℕ) × (notes : List Note) × InHand b w n a notes × (stands_at plan n notes ≡ AsksFor k)
+
+-- The version of the line in hand: its number, its attempt, its notes, and what its rule comes to on them. So it settles.
 abbrev pub HasVersion : Planned → Board → ℕ → Told → Type 0
 HasVersion plan b w v =
     (n : ℕ) × (a : ℕ) × (notes : List Note) × InHand b w n a notes
-    × (v.line ≡ n) × (v.attempt ≡ a) × (v.reads ≡ notes) × IsVersion plan v
+    × (v.line ≡ n) × (v.attempt ≡ a) × (v.reads ≡ notes)
+    × (stands_at plan n notes ≡ EndsIn (record { writes = v.writes; answer = v.answer })) × IsVersion plan v
 
 -- the version of the last act of publication of the line in hand
 abbrev pub HasLast : Board → ℕ → Told → Type 0
@@ -42,17 +49,21 @@ HasLast b w v = (n : ℕ) × (notes : List Note) × ((row_at b n).state ≡ Plac
 abbrev pub ToPublish : Planned → Board → ℕ → Told → Type 0
 ToPublish plan b w v = HasLast b w v ⊎ (((u : Told) → HasLast b w u → ⊥) × HasVersion plan b w v)
 
--- A look: at a key that the line in hand wants. It is idle where nothing is in hand, or a version is ready.
+-- there is nothing to publish: no line is in hand, or one of which nothing is published yet and whose rule asks for a record
+abbrev pub Rests : Planned → Board → ℕ → Type 0
+Rests plan b w = HasNoLine b w ⊎ (((u : Told) → HasLast b w u → ⊥) × (k : Key) × Wants plan b w k)
+
+-- A look: at the key for which the rule of the line in hand asks. It is idle where nothing is in hand, or the rule has come to its end.
 abbrev pub Looks : Planned → Board → ℕ → Reply → Board → Type 0
 Looks plan old w reply new =
     ((k : Key) × Wants plan old w k × Step plan old (Look w k) reply new)
     ⊎ ((HasNoLine old w ⊎ ((v : Told) × HasVersion plan old w v)) × (reply ≡ Idle) × (new ≡ old))
 
--- A publication: of a version that settles. It is idle where nothing is in hand, or the line wants a key.
+-- A publication: of the version of the last act, else of the one that the line in hand has. It is idle where there is nothing to publish.
 abbrev pub Publishes : Planned → Board → ℕ → Reply → Board → Type 0
 Publishes plan old w reply new =
     ((v : Told) × ToPublish plan old w v × IsVersion plan v × Step plan old (Publish w v) reply new)
-    ⊎ ((HasNoLine old w ⊎ ((k : Key) × Wants plan old w k)) × (reply ≡ Idle) × (new ≡ old))
+    ⊎ (Rests plan old w × (reply ≡ Idle) × (new ≡ old))
 
 -- what a worker's step does
 abbrev pub StepOf : Planned → Board → WorkerStep → Reply → Board → Type 0

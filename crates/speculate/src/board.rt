@@ -24,10 +24,15 @@ use version_store::Place;
 
 /// The lines of a plan while workers run them, and which of them a free worker chooses. Each call is one step of the
 /// board's rules; none looks at more lines than its own and those whose stamps it ends.
-#[derive(Drop)]
 pub struct Board<'p, 't, J: PlanName> {
     pub(crate) lines: Lines<'p, 't, J>,
     ready: Ready,
+}
+
+impl<J: PlanName> Drop for Board<'_, '_, J> {
+    fn drop(self) {
+        let Board { lines: _, ready: _ } = self;
+    }
 }
 
 impl<'p, 't, J: PlanName> Model for Board<'p, 't, J> {

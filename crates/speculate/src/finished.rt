@@ -15,9 +15,14 @@ use sip_answer::Answer;
 use std::marker::Model;
 
 /// A board on which all lines are committed: what a replay has come to.
-#[derive(Drop)]
 pub struct Finished<'p, 't, J: PlanName> {
     board: Board<'p, 't, J>,
+}
+
+impl<J: PlanName> Drop for Finished<'_, '_, J> {
+    fn drop(self) {
+        let Finished { board: _ } = self;
+    }
 }
 
 impl<'p, 't, J: PlanName> Model for Finished<'p, 't, J> {
@@ -37,10 +42,18 @@ impl<'p, 't, J: PlanName> Model for Finished<'p, 't, J> {
 }
 
 /// A board on which a line isn't committed yet, and how many are.
-#[derive(Drop)]
 pub struct Open<'p, 't, J: PlanName> {
     pub board: Board<'p, 't, J>,
     pub committed: u64,
+}
+
+impl<J: PlanName> Drop for Open<'_, '_, J> {
+    fn drop(self) {
+        let Open {
+            board: _,
+            committed: _,
+        } = self;
+    }
 }
 
 impl<'p, 't, J: PlanName> Board<'p, 't, J> {

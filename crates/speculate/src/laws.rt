@@ -1,10 +1,11 @@
 //! What holds of every board to which lists of steps lead.
 
-ghost use Rattle.std.specs.Prelude.{List};
+ghost use Rattle.std.specs.Prelude.{◌≡◌, List};
 ghost use Rattle.board_steps.specs.Board.{Board};
 ghost use Rattle.board_steps.specs.Reached.{Reached};
 ghost use Rattle.read_set.specs.Plans.{Planned};
 ghost use Rattle.speculate.specs.Playing.{Halts, Plays};
+ghost use Rattle.speculate.specs.declared.steps.BoardFault.TheVariants as faults;
 ghost use Rattle.speculate.specs.declared.steps.Halt.{Halt};
 ghost use Rattle.speculate.specs.declared.steps.Step.{Step as WorkerStep};
 
@@ -12,4 +13,11 @@ ghost use Rattle.speculate.specs.declared.steps.Step.{Step as WorkerStep};
 pub fn plays_are_reached()
     ensures all { (plan : Planned) (old new : Board) (steps : List WorkerStep) → Reached plan old → Plays plan old steps new → Reached plan new }
     ensures halt { (plan : Planned) (old new : Board) (steps : List WorkerStep) (halt : Halt) → Reached plan old → Halts plan old steps halt new → Reached plan new }
+{}
+
+/// A list of steps leads from such a board to one board: each look is at the one key for which the line's rule asks, each
+/// publication of the one version that it comes to, and each other step is idle. Such a list stops for want of memory alone.
+pub fn plays_lead_to_one_board()
+    ensures one { (plan : Planned) (old new other : Board) (steps : List WorkerStep) → Reached plan old → Plays plan old steps new → Plays plan old steps other → new ≡ other }
+    ensures memory { (plan : Planned) (old new stopped : Board) (steps : List WorkerStep) (halt : Halt) → Reached plan old → Plays plan old steps new → Halts plan old steps halt stopped → halt.fault ≡ faults.Memory }
 {}

@@ -59,12 +59,22 @@ impl Mark {
 }
 
 /// The lines by their marks; a line goes by its place, from 0 on. Nothing but `new` takes memory.
-#[derive(Drop)]
 pub struct Ready {
     pub waiting: LineSet,
     pub unchecked: LineSet,
     pub checked: LineSet,
     pub checking: LineSet,
+}
+
+impl Drop for Ready {
+    fn drop(self) {
+        let Ready {
+            waiting: _,
+            unchecked: _,
+            checked: _,
+            checking: _,
+        } = self;
+    }
 }
 
 impl Ready {

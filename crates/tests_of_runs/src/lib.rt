@@ -1,10 +1,15 @@
-//! Tests of the upper rooms, `result_report`, `replay_run` and `replay_command`: what is told of a run, runs by lists of steps,
-//! and runs of the words of a command line on files that the tests write.
+//! Tests of whole runs. By workers in threads: what they give is proved; shown here is that workers run at once, that a run
+//! tells its gate of each step, and how workers end where a fault was left. And what is collected of an end that lends other
+//! things than a replay comes to. Runs by lists of steps stand in `worked_rows`, those of the program in `cases`.
 #![tactic(auto)]
 
 #[cfg(test)]
-mod program;
+mod ends;
 #[cfg(test)]
-mod reports;
+mod faults;
 #[cfg(test)]
-mod steps;
+mod gates;
+#[cfg(test)]
+mod library;
+#[cfg(test)]
+mod workers;

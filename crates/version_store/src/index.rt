@@ -9,9 +9,14 @@ use std::alloc::{AllocError, Global};
 use std::collections::{BTreeMap, BTreeSet};
 
 /// For each key the lines that have an entry there.
-#[derive(Drop)]
 pub struct KeyIndex {
     columns: BTreeMap<Key, BTreeSet<u64>>,
+}
+
+impl Drop for KeyIndex {
+    fn drop(self) {
+        let KeyIndex { columns: _ } = self;
+    }
 }
 
 impl KeyIndex {

@@ -17,9 +17,14 @@ use std::collections::BTreeMap;
 use std::marker::Model;
 
 /// The entries of one line by their keys.
-#[derive(Drop)]
 pub struct LineEntries<'t, J: PlanName> {
     entries: BTreeMap<Key, Entry<'t, J>>,
+}
+
+impl<J: PlanName> Drop for LineEntries<'_, J> {
+    fn drop(self) {
+        let LineEntries { entries: _ } = self;
+    }
 }
 
 impl<'t, J: PlanName> Model for LineEntries<'t, J> {

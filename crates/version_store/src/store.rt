@@ -14,11 +14,20 @@ use std::alloc::{AllocError, Global};
 use std::marker::Model;
 
 /// The entries of the lines of a journal, which go by their numbers.
-#[derive(Drop)]
 pub struct EntryStore<'t, J: PlanName> {
     first: u64,
     lines: Vec<LineEntries<'t, J>>,
     index: KeyIndex,
+}
+
+impl<J: PlanName> Drop for EntryStore<'_, J> {
+    fn drop(self) {
+        let EntryStore {
+            first: _,
+            lines: _,
+            index: _,
+        } = self;
+    }
 }
 
 impl<'t, J: PlanName> Model for EntryStore<'t, J> {

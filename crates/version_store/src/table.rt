@@ -8,9 +8,14 @@ use std::alloc::{AllocError, Global};
 use std::sync::Wait;
 
 /// The versions that were made. None is changed or leaves before the table does.
-#[derive(Drop)]
 pub struct VersionTable<J: PlanName> {
     versions: Vec<Version<J>>,
+}
+
+impl<J: PlanName> Drop for VersionTable<J> {
+    fn drop(self) {
+        let VersionTable { versions: _ } = self;
+    }
 }
 
 /// A version in the table.

@@ -1,13 +1,14 @@
 //! A row of a book: the inputs of a run, and what must come out.
 
-use crate::by_steps::tell_rounds;
-use crate::driven::drive_journal;
+use crate::by_steps::{run_lists, tell_rounds};
+use crate::driven::drive;
 use circ_policy::Policy;
 use circ_records::Base;
 use journal_table::Journal;
 use read_set::Plan;
 use replay_run::{Inputs, Tables, one_thread};
 use std::alloc::{AllocError, AllocGlobal, Global};
+use std::marker::Brand;
 use std::process::Abort;
 use std::str::from_utf8;
 use std::sync::Wait;
@@ -38,10 +39,19 @@ late = 0
 cap = 0
 "#;
 
-const PATRONS: &str = "id,name,class,blocked\nP1,Ann,A,N\nP2,Bob,A,N\n";
+/// The rows of the tables with which each run begins.
+const FIRST: &str = "\
+patrons P1,Ann,A,N
+patrons P2,Bob,A,N
+items I1,One,001,Main,
+items V1,Two,005,Main,
+items V2,Three,005,Main,
+loans
+fees
+closed";
 
-const ITEMS: &str =
-    "id,title,media,location,properties\nI1,One,001,Main,\nV1,Two,005,Main,\nV2,Three,005,Main,\n";
+/// The number of the lines of a plan that has none: one past the greatest.
+const NO_LINE: u64 = 10_000_000_000;
 
 const JOURNAL: &str = "line,connection,request,response\n";
 
@@ -87,29 +97,36 @@ fn no_tables(alloc: Global) -> Tables {
     }
 }
 
-/// The tables that each row begins with.
-fn first_tables(alloc: Global) -> Result<Tables, AllocError> {
-    let mut tables = no_tables(alloc);
-    tables.patrons.extend_from_slice(PATRONS.as_bytes())?;
-    tables.items.extend_from_slice(ITEMS.as_bytes())?;
-    for table in ["loans", "fees", "closed"] {
-        table_of(&mut tables, table).extend_from_slice(header(table).as_bytes())?;
+/// A row more of a table, or that it has none.
+fn add_row(tables: &mut Tables, rest: &str) -> Result<(), AllocError> {
+    let (table, row) = rest.split_once(' ').unwrap_or((rest, ""));
+    let rows = table_of(tables, table);
+    if rows.is_empty() {
+        rows.extend_from_slice(header(table).as_bytes())?;
     }
-    Ok(tables)
+    if !row.is_empty() {
+        rows.extend_from_slice(row.as_bytes())?;
+        rows.extend_from_slice(b"\n")?;
+    }
+    Ok(())
+}
+
+/// So many patrons, all of whom wait for the item I1; their ids are a W and a number.
+fn add_waiting(alloc: Global, tables: &mut Tables, count: &str) -> Result<(), AllocError> {
+    for n in 1..=count.parse::<u32>().unwrap_or(0) {
+        add_row(tables, format!(in alloc; "patrons W{n},Wes,A,N")?.as_str())?;
+        add_row(tables, format!(in alloc; "holds I1,W{n},Main")?.as_str())?;
+    }
+    Ok(())
 }
 
 /// A row of a book: the inputs of its run so far, and what must come out.
-#[derive(Drop)]
 pub(crate) struct Row {
-    policy: Vec<u8>,
-    base: Tables,
-    journal: String,
+    pub(crate) inputs: Inputs,
     /// The number of the last line, or the one before the first.
     line: u64,
     /// How many lines the journal has.
-    asked: u64,
-    /// Whether the last line still wants its recorded response.
-    open: bool,
+    pub(crate) asked: u64,
     answers: String,
     passed: String,
     /// No text where the row says nothing of the report.
@@ -118,33 +135,77 @@ pub(crate) struct Row {
     after: Tables,
     /// No text where the run gives an output.
     fault: String,
+    /// What the board tells that is driven in order: its counts and the clock, then what its lines have left. No text where the
+    /// row says nothing of it.
+    driven: String,
+    /// Lists of steps, and what each of their runs gives.
+    lists: String,
+}
+
+impl Drop for Row {
+    fn drop(self) {
+        let Row {
+            inputs: _,
+            line: _,
+            asked: _,
+            answers: _,
+            passed: _,
+            report: _,
+            after: _,
+            fault: _,
+            driven: _,
+            lists: _,
+        } = self;
+    }
 }
 
 impl Row {
     pub(crate) fn new(alloc: Global) -> Result<Row, AllocError> {
-        Ok(Row {
-            policy: Vec::from_slice(alloc, POLICY.as_bytes())?,
-            base: first_tables(alloc)?,
-            journal: String::from_str(alloc, JOURNAL)?,
+        let mut row = Row {
+            inputs: Inputs {
+                policy: Vec::new(alloc),
+                tables: no_tables(alloc),
+                journal: Vec::new(alloc),
+            },
             line: 0,
             asked: 0,
-            open: false,
-            answers: String::from_str(alloc, ANSWERS)?,
-            passed: String::from_str(alloc, PASSED)?,
+            answers: String::new(alloc),
+            passed: String::new(alloc),
             report: String::new(alloc),
             after: no_tables(alloc),
             fault: String::new(alloc),
-        })
+            driven: String::new(alloc),
+            lists: String::new(alloc),
+        };
+        row.begin()?;
+        Ok(row)
+    }
+
+    /// The library with which each run begins, and the headers of what comes out.
+    fn begin(&mut self) -> Result<(), AllocError> {
+        self.inputs.policy.extend_from_slice(POLICY.as_bytes())?;
+        self.inputs.journal.extend_from_slice(JOURNAL.as_bytes())?;
+        self.answers.push_str(ANSWERS)?;
+        self.passed.push_str(PASSED)?;
+        for row in FIRST.split('\n') {
+            add_row(&mut self.inputs.tables, row)?;
+        }
+        Ok(())
     }
 
     /// Takes in a line of the book. False where it is none.
-    pub(crate) fn take(&mut self, line: &str) -> Result<bool, AllocError> {
+    pub(crate) fn take(&mut self, alloc: Global, line: &str) -> Result<bool, AllocError> {
         let (word, rest) = line.split_once(' ').unwrap_or((line, ""));
         match word {
-            "base" => self.begin_with(rest)?,
-            "after" => self.end_with(rest)?,
+            "policy" => {
+                self.inputs.policy.clear();
+                self.inputs.policy.extend_from_slice(rest.as_bytes())?;
+            }
+            "base" => add_row(&mut self.inputs.tables, rest)?,
+            "waiting" => add_waiting(alloc, &mut self.inputs.tables, rest)?,
+            "after" => add_row(&mut self.after, rest)?,
             "first" => self.line = rest.parse::<u64>().unwrap_or(1).saturating_sub(1),
-            "asked" => self.ask(rest)?,
+            "asked" => self.ask(alloc, rest)?,
             "recorded" => self.record(rest)?,
             "fault" => self.fault.push_str(rest)?,
             _ => return self.tell(word, rest),
@@ -152,63 +213,29 @@ impl Row {
         Ok(true)
     }
 
-    /// A row more of a table at first.
-    fn begin_with(&mut self, rest: &str) -> Result<(), AllocError> {
-        let (table, row) = rest.split_once(' ').unwrap_or((rest, ""));
-        let rows = table_of(&mut self.base, table);
-        if rows.is_empty() {
-            rows.extend_from_slice(header(table).as_bytes())?;
-        }
-        rows.extend_from_slice(row.as_bytes())?;
-        rows.extend_from_slice(b"\n")?;
-        Ok(())
-    }
-
-    /// A row of a table after the last line, or that it has none.
-    fn end_with(&mut self, rest: &str) -> Result<(), AllocError> {
-        let (table, row) = rest.split_once(' ').unwrap_or((rest, ""));
-        let rows = table_of(&mut self.after, table);
-        if rows.is_empty() {
-            rows.extend_from_slice(header(table).as_bytes())?;
-        }
-        if !row.is_empty() {
-            rows.extend_from_slice(row.as_bytes())?;
-            rows.extend_from_slice(b"\n")?;
-        }
-        Ok(())
-    }
-
-    /// The next line of the journal.
-    fn ask(&mut self, request: &str) -> Result<(), AllocError> {
-        self.close()?;
+    /// The next line of the journal, with nothing recorded.
+    pub(crate) fn ask(&mut self, alloc: Global, request: &str) -> Result<(), AllocError> {
         self.line = self.line.saturating_add(1);
         self.asked = self.asked.saturating_add(1);
-        write!(self.journal, "{},C1,{request}", self.line)?;
-        self.open = true;
-        Ok(())
+        let line = format!(in alloc; "{},C1,{request},\n", self.line)?;
+        self.inputs.journal.extend_from_slice(line.as_bytes())
     }
 
+    /// The recorded response of the last line, before its end.
     fn record(&mut self, response: &str) -> Result<(), AllocError> {
-        writeln!(self.journal, ",{response}")?;
-        self.open = false;
-        Ok(())
+        let _ = self.inputs.journal.pop();
+        self.inputs.journal.extend_from_slice(response.as_bytes())?;
+        self.inputs.journal.extend_from_slice(b"\n")
     }
 
-    /// Ends the last line of the journal, with nothing recorded.
-    fn close(&mut self) -> Result<(), AllocError> {
-        if self.open {
-            writeln!(self.journal, ",")?;
-        }
-        self.open = false;
-        Ok(())
-    }
-
-    /// What the last line gives.
+    /// What the run gives, or its last line.
     fn tell(&mut self, word: &str, rest: &str) -> Result<bool, AllocError> {
         let line = self.line;
         match word {
             "answer" => writeln!(self.answers, "{line},C1,{rest}")?,
             "passed" => writeln!(self.passed, "{line},C1,{rest}")?,
+            "counts" | "left" => writeln!(self.driven, "{rest}")?,
+            "list" => writeln!(self.lists, "{rest}")?,
             "differs" | "agrees" => {
                 if self.report.is_empty() {
                     self.report.push_str(REPORT)?;
@@ -222,47 +249,23 @@ impl Row {
         Ok(true)
     }
 
-    /// How many lines the row's journal has.
-    pub(crate) fn asked(&self) -> u64 {
-        self.asked
-    }
-
-    /// The inputs of the row's run.
-    pub(crate) fn inputs(mut self) -> Result<Inputs, AllocError> {
-        self.close()?;
-        Ok(Inputs {
-            policy: self.policy,
-            tables: self.base,
-            journal: self.journal.into_bytes(),
-        })
-    }
-
-    /// The plan of the row's inputs, where they are right.
-    pub(crate) fn plan(mut self, alloc: Global) -> Result<Option<Plan>, AllocError> {
-        self.close()?;
-        plan_over(alloc, &self.base, self.journal.as_bytes())
-    }
-
-    /// Runs the row and compares what came out: by one thread, by steps, and driven in order.
+    /// Runs the row and compares what came out: by its lists of steps, driven in order, in rounds, and by one thread.
     pub(crate) fn run<R: Wait + AllocGlobal + Abort>(
-        mut self,
+        &self,
         rt: &R,
         title: &str,
     ) -> Result<(), Fail> {
         let alloc = rt.alloc();
-        self.close()?;
+        run_lists(rt, &self.inputs, self.lists.as_str())?;
+        if self.fault.is_empty() {
+            compare_driven(rt, title, self)?;
+        }
         let first = self.line.saturating_sub(self.asked).saturating_add(1);
-        let inputs = Inputs {
-            policy: self.policy,
-            tables: self.base,
-            journal: self.journal.into_bytes(),
-        };
-        let rounds = tell_rounds(rt, alloc, &inputs, first, self.asked)?;
-        match one_thread(alloc, &inputs) {
+        let rounds = tell_rounds(rt, alloc, &self.inputs, first, self.asked)?;
+        match one_thread(alloc, &self.inputs) {
             Ok(output) => {
                 assert!(rt; self.fault.is_empty(), "{title}");
                 assert!(rt; rounds.as_str().starts_with("output"), "{title}: {rounds}");
-                compare_driven(rt, title, &inputs, self.answers.as_str())?;
                 compare(rt, title, &output.answers, self.answers.as_str());
                 compare(rt, title, &output.passed, self.passed.as_str());
                 if !self.report.is_empty() {
@@ -280,16 +283,35 @@ impl Row {
     }
 }
 
-/// Compares the answers of a board that is driven in order with what was wanted.
+/// Compares the answers of a board that is driven in order, and what else it tells, with what a row wants.
 fn compare_driven<R: Wait + AllocGlobal + Abort>(
     rt: &R,
     title: &str,
-    inputs: &Inputs,
-    wanted: &str,
+    row: &Row,
 ) -> Result<(), Fail> {
-    let driven = drive_journal(rt, inputs)?;
-    let answers = format!(in rt.alloc(); "{ANSWERS}{}", driven.answers.as_str())?;
-    assert_eq!(rt; answers.as_str(), wanted, "{title}");
+    let plan = plan_over(rt.alloc(), &row.inputs)?.expect(rt, "a plan");
+    let numbers = plan.numbers();
+    let end = if row.asked == 0 {
+        NO_LINE
+    } else {
+        row.line.saturating_add(1)
+    };
+    let first = end.saturating_sub(row.asked);
+    assert!(rt;
+        numbers.start == first && numbers.end == end,
+        "{title}: numbers"
+    );
+    let driven = drive::<Brand, R>(rt, &plan)?;
+    assert_eq!(rt;
+        Some(driven.answers.as_str()),
+        row.answers.as_str().strip_prefix(ANSWERS),
+        "{title}"
+    );
+    assert!(rt;
+        row.driven.is_empty() || driven.told.as_str() == row.driven.as_str(),
+        "{title}: {}",
+        driven.told
+    );
     Ok(())
 }
 
@@ -315,29 +337,15 @@ fn compare_tables(rt: &impl Abort, title: &str, given: &Tables, wanted: &Tables)
     }
 }
 
-/// A journal of one line.
-pub(crate) fn journal_of(alloc: Global, request: &str) -> Result<String, AllocError> {
-    format!(in alloc; "{JOURNAL}1,C1,{request},\n")
-}
-
-/// The plan of a journal over the tables that each row begins with.
-pub(crate) fn plan_of(alloc: Global, journal: &[u8]) -> Result<Option<Plan>, AllocError> {
-    plan_over(alloc, &first_tables(alloc)?, journal)
-}
-
-/// The plan of a journal over tables.
-pub(crate) fn plan_over(
-    alloc: Global,
-    tables: &Tables,
-    journal: &[u8],
-) -> Result<Option<Plan>, AllocError> {
-    let Ok(policy) = Policy::read(alloc, POLICY.as_bytes()) else {
+/// The plan of a run, where its inputs are right.
+pub(crate) fn plan_over(alloc: Global, inputs: &Inputs) -> Result<Option<Plan>, AllocError> {
+    let Ok(policy) = Policy::read(alloc, inputs.policy.as_slice()) else {
         return Ok(None);
     };
-    let Ok(journal) = Journal::read(alloc, journal) else {
+    let Ok(journal) = Journal::read(alloc, inputs.journal.as_slice()) else {
         return Ok(None);
     };
-    match Base::read(alloc, &policy, tables, journal.first()) {
+    match Base::read(alloc, &policy, &inputs.tables, journal.first()) {
         Ok(base) => Ok(Some(Plan::new(alloc, policy, base, &journal)?)),
         Err(_) => Ok(None),
     }

@@ -2,6 +2,7 @@
 
 use crate::book::Row;
 use crate::lists::step_of;
+use crate::script::Script;
 use crate::sight::WORKERS;
 use replay_run::{Inputs, Output, Run, Step, Tables, one_thread, rebuild_by_steps};
 use std::alloc::{AllocError, AllocGlobal, Global};
@@ -25,19 +26,21 @@ fn tell_run<R: Wait>(
     steps: &[Step],
 ) -> Result<String, AllocError> {
     match rebuild_by_steps(rt, alloc, inputs, workers, steps) {
-        Ok(Run::Output(output)) => {
-            if !is_that_of_one_thread(alloc, inputs, &output) {
-                return String::from_str(alloc, "another output");
-            }
-            let mut text = String::from_str(alloc, "output")?;
-            for attempt in output.attempts.as_slice() {
-                write!(text, " {attempt}")?;
-            }
-            Ok(text)
-        }
+        Ok(Run::Output(output)) => tell_output(alloc, inputs, &output),
         Ok(Run::Unfinished { committed }) => format!(in alloc; "unfinished {committed}"),
         Err(fault) => fault.to_string(alloc),
     }
+}
+
+fn tell_output(alloc: Global, inputs: &Inputs, output: &Output) -> Result<String, AllocError> {
+    if !is_that_of_one_thread(alloc, inputs, output) {
+        return String::from_str(alloc, "another output");
+    }
+    let mut text = String::from_str(alloc, "output")?;
+    for attempt in output.attempts.as_slice() {
+        write!(text, " {attempt}")?;
+    }
+    Ok(text)
 }
 
 /// Whether an output is that of one thread, but for the attempts.
@@ -67,59 +70,53 @@ fn same_tables(one: &Tables, other: &Tables) -> bool {
 /// what is wanted, else how many they say are.
 pub(crate) fn run_beginnings<R: Wait + AllocGlobal + Abort>(
     rt: &R,
-    script: &str,
-    wanted: &str,
+    row: &Row,
+    script: &Script<'_>,
 ) -> Result<(), Fail> {
     let alloc = rt.alloc();
-    let (title, lines) = script.split_once('\n').unwrap_or((script, ""));
-    let (inputs, asked) = inputs_of(rt, title, lines)?;
     let mut steps = Vec::new(alloc);
     let mut committed: u64 = 0;
-    for line in lines.split('\n') {
+    for line in script.lines.split('\n') {
         if let Some((call, reply)) = line.split_once(" = ")
             && let Some(step) = step_of(call)
         {
             steps.push(step)?;
             committed = committed.saturating_add(u64::from(reply == "committed"));
-            let told = tell_run(rt, alloc, &inputs, WORKERS, steps.as_slice())?;
+            let told = tell_run(rt, alloc, &row.inputs, WORKERS, steps.as_slice())?;
             let open = format!(in alloc; "unfinished {committed}")?;
-            let wanted = if committed < asked {
+            let wanted = if committed < row.asked {
                 open.as_str()
             } else {
-                wanted
+                script.given
             };
-            assert_eq!(rt; told.as_str(), wanted, "{title}: {line}");
+            assert_eq!(rt; told.as_str(), wanted, "{}: {line}", script.title);
         }
     }
     Ok(())
 }
 
-/// The inputs that a script's lines tell, and how many lines its journal has.
-fn inputs_of<R: AllocGlobal + Abort>(
+/// Runs lists of steps, each of which stands between the number of workers and what the run gives.
+pub(crate) fn run_lists<R: Wait + AllocGlobal + Abort>(
     rt: &R,
-    title: &str,
-    lines: &str,
-) -> Result<(Inputs, u64), Fail> {
-    let mut row = Row::new(rt.alloc())?;
-    for line in lines.split('\n') {
-        if !line.is_empty() && !line.contains(" = ") {
-            assert!(rt; row.take(line)?, "{title}: {line}");
+    inputs: &Inputs,
+    lists: &str,
+) -> Result<(), Fail> {
+    for list in lists.split('\n') {
+        if !list.is_empty() {
+            run_list(rt, inputs, list)?;
         }
     }
-    let asked = row.asked();
-    Ok((row.inputs()?, asked))
+    Ok(())
 }
 
-/// Runs a list of steps, which stand between the number of workers and what the run gives, over a row's lines.
-pub(crate) fn run_list<R: Wait + AllocGlobal + Abort>(
+fn run_list<R: Wait + AllocGlobal + Abort>(
     rt: &R,
-    lines: &str,
+    inputs: &Inputs,
     list: &str,
 ) -> Result<(), Fail> {
     let alloc = rt.alloc();
     let (run, wanted) = list.split_once(" => ").unwrap_or((list, ""));
     let (workers, words) = run.split_once(": ").unwrap_or((run, ""));
-    let (inputs, _asked) = inputs_of(rt, list, lines)?;
     let mut steps = Vec::new(alloc);
     for word in words.split(", ") {
         match step_of(word) {
@@ -128,7 +125,7 @@ pub(crate) fn run_list<R: Wait + AllocGlobal + Abort>(
         }
     }
     let workers = workers.parse::<u32>().unwrap_or(0);
-    let told = tell_run(rt, alloc, &inputs, workers, steps.as_slice())?;
+    let told = tell_run(rt, alloc, inputs, workers, steps.as_slice())?;
     assert_eq!(rt; told.as_str(), wanted, "{list}");
     Ok(())
 }
@@ -144,10 +141,20 @@ pub(crate) fn tell_rounds<R: Wait>(
 ) -> Result<String, AllocError> {
     let mut steps = Vec::new(alloc);
     for _ in 0..lines {
-        begin_all(&mut steps, first, lines)?;
-        end_all(&mut steps, first, lines)?;
+        add_round(&mut steps, first, lines)?;
     }
     tell_run(rt, alloc, inputs, MOST_WORKERS, steps.as_slice())
+}
+
+/// A round: each line is begun, the last first, and then ended, the first first.
+fn add_round(steps: &mut Vec<Step>, first: u64, lines: u64) -> Result<(), AllocError> {
+    for turn in 0..lines.saturating_mul(2) {
+        match lines.saturating_sub(turn).checked_sub(1) {
+            Some(place) => begin(steps, first, place)?,
+            None => end(steps, first, turn.saturating_sub(lines))?,
+        }
+    }
+    Ok(())
 }
 
 /// The worker of the line at a place.
@@ -155,37 +162,24 @@ fn worker_of(place: u64) -> u32 {
     u32::try_from(place).unwrap_or(0) % MOST_WORKERS
 }
 
-/// Takes each line, the last first, looks at all that it needs, and publishes one write.
-fn begin_all(steps: &mut Vec<Step>, first: u64, lines: u64) -> Result<(), AllocError> {
-    for back in 0..lines {
-        let place = lines.saturating_sub(back).saturating_sub(1);
-        let worker = worker_of(place);
-        let line = first.saturating_add(place);
-        steps.push(Step::Take { worker, line })?;
-        push_many(steps, &[Step::Look { worker }])?;
-        steps.push(Step::Publish { worker })?;
-    }
+/// Takes the line at a place, looks at all that it needs, and publishes one write.
+fn begin(steps: &mut Vec<Step>, first: u64, place: u64) -> Result<(), AllocError> {
+    let worker = worker_of(place);
+    let line = first.saturating_add(place);
+    steps.push(Step::Take { worker, line })?;
+    steps.extend_from_slice(&[Step::Look { worker }; MANY])?;
+    steps.push(Step::Publish { worker })?;
     Ok(())
 }
 
-/// Publishes the rest of each line, the first first, checks it and commits it.
-fn end_all(steps: &mut Vec<Step>, first: u64, lines: u64) -> Result<(), AllocError> {
-    for place in 0..lines {
-        let worker = worker_of(place);
-        let line = first.saturating_add(place);
-        push_many(steps, &[Step::Publish { worker }])?;
-        push_many(
-            steps,
-            &[Step::Check { worker, line }, Step::Commit { line }],
-        )?;
-    }
-    Ok(())
-}
-
-/// Steps as often as a line can want them; they are idle where it wants them no more.
-fn push_many(steps: &mut Vec<Step>, more: &[Step]) -> Result<(), AllocError> {
+/// Publishes the rest of the line at a place, checks it and commits it, in as many steps as a line can want; they are idle where
+/// it wants them no more.
+fn end(steps: &mut Vec<Step>, first: u64, place: u64) -> Result<(), AllocError> {
+    let worker = worker_of(place);
+    let line = first.saturating_add(place);
+    steps.extend_from_slice(&[Step::Publish { worker }; MANY])?;
     for _ in 0..MANY {
-        steps.extend_from_slice(more)?;
+        steps.extend_from_slice(&[Step::Check { worker, line }, Step::Commit { line }])?;
     }
     Ok(())
 }

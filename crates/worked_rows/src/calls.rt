@@ -1,8 +1,9 @@
 //! The calls of a script, and what the board replies.
 
 use crate::again::writing_again;
-use crate::replies::{tell, tell_choice, tell_look, tell_version};
+use crate::replies::{id_of, tell, tell_choice, tell_version};
 use crate::shelf::key_in;
+use crate::sight::tell_counts;
 use circ_records::Key;
 use message_meaning::need;
 use read_set::{Need, PlanName, Version};
@@ -33,11 +34,11 @@ pub(crate) fn reply_to<'t, J: PlanName, R: Wait + AllocGlobal + Abort>(
     match word {
         "take" => {
             let reply = board.take(worker, number(rest));
-            tell(alloc, &reply)
+            tell(alloc, "", &reply)
         }
         "look" => look(alloc, board, worker, rest),
         "keep" => {
-            *kept = placed(rt, table, board, worker)?;
+            *kept = put(rt, table, version_of(alloc, board, worker, "")?);
             Ok(String::from_str(alloc, "kept")?)
         }
         "publish" => {
@@ -46,11 +47,11 @@ pub(crate) fn reply_to<'t, J: PlanName, R: Wait + AllocGlobal + Abort>(
         }
         "check" => {
             let reply = board.check(worker, number(rest));
-            tell(alloc, &reply)
+            tell(alloc, "", &reply)
         }
         "commit" => {
             let reply = board.commit(first);
-            tell(alloc, &reply)
+            tell(alloc, "", &reply)
         }
         "begin" => begin(alloc, board, worker),
         _ => tell_of(alloc, board, word, worker),
@@ -69,14 +70,13 @@ fn tell_of<J: PlanName>(
         "clock" => Ok(format!(in alloc; "{}", board.clock())?),
         "committed" => Ok(format!(in alloc; "{}", board.committed())?),
         "does" => match next_need(alloc, board, worker)? {
-            Some(Need::Done(version)) => Ok(tell_version(alloc, &version)?),
+            Some(Need::Done(version)) => tell_version(alloc, &version),
             _ => Ok(String::from_str(alloc, "nothing yet")?),
         },
         _ => {
-            let counts = board.counts();
-            let (takes, failed, stops) = (counts.takes, counts.failed, counts.stops);
-            let (commits, live) = (counts.commits, counts.live);
-            Ok(format!(in alloc; "{takes} {failed} {stops} {commits} {live}")?)
+            let mut text = String::new(alloc);
+            tell_counts(&mut text, board)?;
+            Ok(text)
         }
     }
 }
@@ -110,7 +110,7 @@ fn look<J: PlanName>(
         return Ok(String::from_str(alloc, "idle")?);
     };
     let reply = board.look(worker, &key);
-    tell_look(alloc, &key, &reply)
+    tell(alloc, id_of(&key), &reply)
 }
 
 /// The key that is needed, if it is one.
@@ -121,9 +121,8 @@ fn key_of<J: PlanName>(next: &Option<Need<J>>) -> Option<Key> {
     }
 }
 
-/// The place of the version to be published: that of the last act, else of the version that is needed; the one that was
-/// `kept`; the version that is needed anew, `of` this worker or another; or one of equal notes that is `writing` a record
-/// again as it is noted.
+/// The place of the version to be published: that of the last act, the one that was `kept`, or that of a version that is put
+/// into the table.
 fn place_of<'t, J: PlanName, R: Wait + AllocGlobal + Abort>(
     rt: &R,
     table: &'t VersionTable<J>,
@@ -135,56 +134,46 @@ fn place_of<'t, J: PlanName, R: Wait + AllocGlobal + Abort>(
     if rest == "kept" {
         return Ok(kept);
     }
-    if let Some(other) = rest.strip_prefix("of ") {
-        let other = other.parse::<u32>().unwrap_or(u32::MAX);
-        return placed(rt, table, board, other);
+    let placing = board.placing(worker);
+    if rest.is_empty() && placing.is_some() {
+        return Ok(placing);
     }
-    if let Some(key) = rest.strip_prefix("writing ") {
-        return placed_again(rt, table, board, worker, key);
-    }
-    match board.placing(worker) {
-        Some(place) => Ok(Some(place)),
-        None => placed(rt, table, board, worker),
-    }
+    Ok(put(rt, table, version_of(rt.alloc(), board, worker, rest)?))
 }
 
-/// Puts the version that is needed into the table.
-fn placed<'t, J: PlanName, R: Wait + AllocGlobal + Abort>(
-    rt: &R,
-    table: &'t VersionTable<J>,
-    board: &Board<'_, 't, J>,
-    worker: u32,
-) -> Result<Option<Place<'t, J>>, Fail> {
-    match next_need(rt.alloc(), board, worker)? {
-        Some(Need::Done(version)) => Ok(Some(put(rt, table, version))),
-        _ => Ok(None),
-    }
-}
-
-/// Puts a version into the table that also writes a noted record again.
-fn placed_again<'t, J: PlanName, R: Wait + AllocGlobal + Abort>(
-    rt: &R,
-    table: &'t VersionTable<J>,
-    board: &Board<'_, 't, J>,
-    worker: u32,
-    key: &str,
-) -> Result<Option<Place<'t, J>>, Fail> {
-    let alloc = rt.alloc();
-    match (next_need(alloc, board, worker)?, key_in(key)) {
-        (Some(Need::Done(version)), Some(key)) => match writing_again(alloc, &version, &key)? {
-            Some(version) => Ok(Some(put(rt, table, version))),
-            None => Ok(None),
-        },
-        _ => Ok(None),
-    }
-}
-
+/// Puts a version into the table, if there is one.
 fn put<'t, J: PlanName, R: Wait + Abort>(
     rt: &R,
     table: &'t VersionTable<J>,
-    version: Version<J>,
-) -> Place<'t, J> {
-    table.put(rt, version).ok().expect(rt, "a place")
+    version: Option<Version<J>>,
+) -> Option<Place<'t, J>> {
+    match version {
+        Some(version) => Some(table.put(rt, version).ok().expect(rt, "a place")),
+        None => None,
+    }
+}
+
+/// The version that is needed, `of` this worker or another; or one of equal notes that is `writing` a record again as it is noted.
+fn version_of<J: PlanName>(
+    alloc: Global,
+    board: &Board<'_, '_, J>,
+    worker: u32,
+    rest: &str,
+) -> Result<Option<Version<J>>, AllocError> {
+    let other = match rest.strip_prefix("of ") {
+        Some(other) => other.parse::<u32>().unwrap_or(u32::MAX),
+        None => worker,
+    };
+    let Some(Need::Done(version)) = next_need(alloc, board, other)? else {
+        return Ok(None);
+    };
+    match rest.strip_prefix("writing ") {
+        Some(key) => match key_in(key) {
+            Some(key) => writing_again(alloc, &version, &key),
+            None => Ok(None),
+        },
+        None => Ok(Some(version)),
+    }
 }
 
 /// An act of publication of the version at a place, if there is one.
@@ -197,7 +186,7 @@ fn publish<'t, J: PlanName>(
     match place {
         Some(place) => {
             let reply = board.publish(worker, place);
-            tell(alloc, &reply)
+            tell(alloc, "", &reply)
         }
         None => Ok(String::from_str(alloc, "idle")?),
     }
@@ -212,7 +201,7 @@ fn begin<J: PlanName>(
     let (choice, reply) = board.begin(worker);
     let mut text = tell_choice(alloc, choice)?;
     if let Some(reply) = &reply {
-        write!(text, ": {}", tell(alloc, reply)?)?;
+        write!(text, ": {}", tell(alloc, "", reply)?)?;
     }
     Ok(text)
 }

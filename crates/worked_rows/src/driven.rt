@@ -2,15 +2,13 @@
 
 ghost use Rattle.std.specs.Prelude.{◌≡◌};
 
-use crate::book::plan_over;
 use crate::shelf::tell_record;
+use crate::sight::tell_counts;
 use read_set::{Plan, PlanName};
-use replay_run::Inputs;
 use sip_answer::write_answer;
 use sip_reader::Reading;
 use speculate::{Board, Choice, Finished, drive_in_order};
 use std::alloc::{AllocError, AllocGlobal, Global};
-use std::marker::Brand;
 use std::process::Abort;
 use std::str::from_utf8;
 use std::sync::Wait;
@@ -21,28 +19,27 @@ use version_store::VersionTable;
 const MANY: usize = 20;
 
 /// What a driven board comes to.
-#[derive(Drop)]
 pub(crate) struct Driven {
-    /// The counts and the clock.
-    pub(crate) counts: String,
     /// The answers, as lines of their table.
     pub(crate) answers: String,
-    /// For each key at which a line left a record the line, its attempt and the record at the end.
-    pub(crate) left: String,
+    /// The counts and the clock, then for each key at which a line left a record the line, its attempt and the record at the end.
+    pub(crate) told: String,
 }
 
-/// Drives the journal of some inputs.
-pub(crate) fn drive_journal<R: Wait + AllocGlobal + Abort>(
-    rt: &R,
-    inputs: &Inputs,
-) -> Result<Driven, Fail> {
-    let alloc = rt.alloc();
-    let plan = plan_over(alloc, &inputs.tables, inputs.journal.as_slice())?.expect(rt, "a plan");
-    drive::<Brand, R>(rt, &plan)
+impl Drop for Driven {
+    fn drop(self) {
+        let Driven {
+            answers: _,
+            told: _,
+        } = self;
+    }
 }
 
 /// Drives a plan on a new board.
-fn drive<J: PlanName, R: Wait + AllocGlobal + Abort>(rt: &R, plan: &Plan) -> Result<Driven, Fail>
+pub(crate) fn drive<J: PlanName, R: Wait + AllocGlobal + Abort>(
+    rt: &R,
+    plan: &Plan,
+) -> Result<Driven, Fail>
     requires { plan.now ≡ J.plan }
 {
     let alloc = rt.alloc();
@@ -50,60 +47,38 @@ fn drive<J: PlanName, R: Wait + AllocGlobal + Abort>(rt: &R, plan: &Plan) -> Res
     let mut board: Board<'_, '_, J> = Board::new(alloc, plan, 1)?;
     assert!(rt; drive_in_order(rt, alloc, &table, &mut board).is_ok());
     assert!(rt; board.choose() == Choice::End);
-    let counts = tell_counts(alloc, &board)?;
+    let told = told_counts(alloc, &board)?;
     match board.finish() {
-        Ok(finished) => tell_driven(alloc, plan, &finished, counts),
+        Ok(finished) => tell_driven(alloc, &finished, told),
         Err(_) => panic!(rt; "a finished board"),
     }
 }
 
-/// What a finished board tells, beside its counts.
+/// The counts and the clock.
+fn told_counts<J: PlanName>(alloc: Global, board: &Board<'_, '_, J>) -> Result<String, AllocError> {
+    let mut text = String::new(alloc);
+    tell_counts(&mut text, board)?;
+    writeln!(text, " at {}", board.clock())?;
+    Ok(text)
+}
+
+/// What a finished board tells, behind its counts.
 fn tell_driven<J: PlanName>(
     alloc: Global,
-    plan: &Plan,
     finished: &Finished<'_, '_, J>,
-    counts: String,
+    mut told: String,
 ) -> Result<Driven, Fail> {
     let mut answers = String::new(alloc);
-    let mut left = String::new(alloc);
+    let plan = finished.plan();
     for line in (plan.first()..).take(plan.readings().len()) {
-        tell_answer(alloc, &mut answers, finished, line)?;
-        tell_left(&mut left, finished, line)?;
+        if let Some(answer) = finished.answer(line) {
+            let bytes = write_answer(alloc, answer, sequence_of(plan.reading(line)))?;
+            let text = from_utf8(bytes.as_slice()).unwrap_or("?");
+            writeln!(answers, "{line},C1,{text}")?;
+        }
+        tell_left(&mut told, finished, line)?;
     }
-    Ok(Driven {
-        counts,
-        answers,
-        left,
-    })
-}
-
-/// Takes, failed checks, stops, commits and live lines, and the clock.
-fn tell_counts<J: PlanName>(alloc: Global, board: &Board<'_, '_, J>) -> Result<String, AllocError> {
-    let counts = board.counts();
-    let (takes, failed, stops) = (counts.takes, counts.failed, counts.stops);
-    let (commits, live) = (counts.commits, counts.live);
-    format!(in alloc;
-        "{takes} {failed} {stops} {commits} {live} at {}",
-        board.clock()
-    )
-}
-
-fn tell_answer<J: PlanName>(
-    alloc: Global,
-    text: &mut String,
-    finished: &Finished<'_, '_, J>,
-    line: u64,
-) -> Result<(), AllocError> {
-    if let Some(answer) = finished.answer(line) {
-        let sequence = sequence_of(finished.plan().reading(line));
-        let bytes = write_answer(alloc, answer, sequence)?;
-        writeln!(
-            text,
-            "{line},C1,{}",
-            from_utf8(bytes.as_slice()).unwrap_or("?")
-        )?;
-    }
-    Ok(())
+    Ok(Driven { answers, told })
 }
 
 /// The digit that a line's request counts it by.

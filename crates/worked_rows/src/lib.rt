@@ -13,6 +13,11 @@
 //! | `differs WORDS` | the line's row in the report; `agrees` says that no line has one |
 //! | `after TABLE ROW` | a row of a table after the last line, all of whose rows are told so; `after TABLE` tells that it has none |
 //! | `fault TEXT` | the run gives this fault |
+//! | `counts NUMBERS` | the counts and the clock of the board that is driven in order |
+//! | `left LINE.ATTEMPT RECORD` | the next record that a line has left on it, as it stands at the end |
+//! | `policy TEXT` | another policy |
+//! | `waiting NUMBER` | so many patrons more, W1 and so on, all of whom wait for the book |
+//! | `list WORKERS: STEPS => TEXT` | what a run by this list of steps gives: `output` and the attempts, `unfinished` and how many lines are committed, or the fault |
 //!
 //! Each run begins with the same library: patrons P1 (Ann) and P2 (Bob) of class A, the book I1 and the video tapes V1
 //! and V2, closed on Sundays. Whoever is of class C borrows nothing.
@@ -22,7 +27,8 @@
 //!
 //! A script of the board begins as a row does, with `base`, `first` and `asked` lines. `starting ATTEMPT CLOCK` tells with which
 //! attempt and at which clock its board begins, else 0 and 0. Then come calls, each with the reply that must come behind ` = `,
-//! and what is refused must leave the board as it was:
+//! and what is refused must leave the board as it was. `given TEXT` tells, of a script that is steps alone, what the run by them gives
+//! as soon as all lines are committed; each beginning of the script is run:
 //!
 //! | Call | What it does |
 //! |---|---|
@@ -39,12 +45,16 @@
 //!
 //! A script is played call by call, and then its steps as lists, whole and in parts; the same must be seen at the end.
 //!
-//! In a book of single lines a row tells records that need not fit together, one line, the records for which it asks, in the
-//! order of asking, and what it does.
+//! A single line tells records that need not fit together, one line, the records for which it asks (`wants`), in the order of
+//! asking, and what it does. `{9998}` stands for so many places of P2 in a queue.
+//!
+//! Beside the books stand tests of the rooms that a board is made of: `attempts`, `line_set` and `version_store`.
 #![tactic(auto)]
 
 #[cfg(test)]
 mod again;
+#[cfg(test)]
+mod attempt_table;
 #[cfg(test)]
 mod book;
 #[cfg(test)]
@@ -55,6 +65,8 @@ mod calls;
 mod driven;
 #[cfg(test)]
 mod lists;
+#[cfg(test)]
+mod places;
 #[cfg(test)]
 mod replies;
 #[cfg(test)]
@@ -67,3 +79,5 @@ mod sight;
 mod single;
 #[cfg(test)]
 mod tests;
+#[cfg(test)]
+mod versions;

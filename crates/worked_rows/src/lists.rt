@@ -30,11 +30,16 @@ pub(crate) fn step_of(call: &str) -> Option<Step> {
 }
 
 /// Steps that stand one after another in a script, and where they must halt.
-#[derive(Drop)]
 struct List {
     steps: Vec<Step>,
     /// For each step that must be refused its place in the list, from 0, and its reply.
     halts: String,
+}
+
+impl Drop for List {
+    fn drop(self) {
+        let List { steps: _, halts: _ } = self;
+    }
 }
 
 impl List {
@@ -59,14 +64,14 @@ pub(crate) fn play_lists<'t, J: PlanName, R: Wait + AllocGlobal + Abort>(
     rt: &R,
     table: &'t VersionTable<J>,
     board: &mut Board<'_, 't, J>,
-    script: &Script,
+    script: &Script<'_>,
     size: usize,
 ) -> Result<String, Fail> {
     let alloc = rt.alloc();
-    let title = script.title.as_str();
+    let title = script.title;
     let mut kept: Option<Place<'t, J>> = None;
     let mut list = List::new(alloc);
-    for line in script.lines.as_str().split('\n') {
+    for line in script.lines.split('\n') {
         if let Some((call, wanted)) = line.split_once(" = ") {
             if let Some(step) = step_of(call) {
                 list.push(step, wanted)?;

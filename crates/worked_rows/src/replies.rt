@@ -41,24 +41,17 @@ fn tell_found(alloc: Global, found: Found) -> Result<String, AllocError> {
     }
 }
 
-/// The reply to a look, with the key.
-pub(crate) fn tell_look<J: PlanName>(
+/// A reply; to a look, with the id of the key that was looked at.
+pub(crate) fn tell<J: PlanName>(
     alloc: Global,
-    key: &Key,
+    id: &str,
     reply: &Reply<'_, J>,
 ) -> Result<String, Fail> {
     match reply {
         Reply::Seen { name, .. } => {
             let name = tell_name(alloc, *name)?;
-            Ok(format!(in alloc; "seen {} {name}", id_of(key))?)
+            Ok(format!(in alloc; "seen {id} {name}")?)
         }
-        _ => tell(alloc, reply),
-    }
-}
-
-/// A reply.
-pub(crate) fn tell<J: PlanName>(alloc: Global, reply: &Reply<'_, J>) -> Result<String, Fail> {
-    match reply {
         Reply::Taken { attempt } => Ok(format!(in alloc; "taken {attempt}")?),
         Reply::Suspect { line } => Ok(format!(in alloc; "suspect {line}")?),
         Reply::Attempts { line } => Ok(format!(in alloc; "attempts {line}")?),
@@ -92,7 +85,7 @@ fn word_of<J: PlanName>(reply: &Reply<'_, J>) -> &'static str {
 pub(crate) fn tell_version<J: PlanName>(
     alloc: Global,
     version: &Version<J>,
-) -> Result<String, AllocError> {
+) -> Result<String, Fail> {
     let mut text = String::new(alloc);
     if let Some(answer) = version.answer() {
         let bytes = write_answer(alloc, answer, None)?;

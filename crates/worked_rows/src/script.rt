@@ -2,47 +2,60 @@
 
 ghost use Rattle.std.specs.Prelude.{◌≡◌};
 
-use crate::book::Row;
+use crate::book::{Row, plan_over};
+use crate::by_steps::run_beginnings;
 use crate::calls::reply_to;
 use crate::lists::play_lists;
 use crate::sight::{WORKERS, sight};
 use read_set::{Plan, PlanName};
 use speculate::Board;
-use std::alloc::{AllocError, AllocGlobal, Global};
+use std::alloc::AllocGlobal;
 use std::marker::Brand;
 use std::process::Abort;
 use std::sync::Wait;
 use std::test::Fail;
 use version_store::{Place, VersionTable};
 
-/// A script: its lines, and with which attempt and at which clock its board begins.
-#[derive(Drop)]
-pub(crate) struct Script {
-    pub(crate) title: String,
-    pub(crate) lines: String,
+/// A script: its lines, what the run by its steps gives, and with which attempt and at which clock its board begins.
+pub(crate) struct Script<'a> {
+    pub(crate) title: &'a str,
+    pub(crate) lines: &'a str,
+    /// No text where the script isn't steps alone.
+    pub(crate) given: &'a str,
     attempt: u32,
     clock: u64,
 }
 
-impl Script {
-    fn new(alloc: Global, title: &str, lines: &str) -> Result<Script, AllocError> {
-        Ok(Script {
-            title: String::from_str(alloc, title)?,
-            lines: String::from_str(alloc, lines)?,
-            attempt: 0,
-            clock: 0,
-        })
-    }
-
-    /// The script with the attempt and the clock that a line tells.
-    fn starting(&mut self, numbers: &str) {
-        let (attempt, clock) = numbers.split_once(' ').unwrap_or((numbers, "0"));
-        self.attempt = attempt.parse::<u32>().unwrap_or(0);
-        self.clock = clock.parse::<u64>().unwrap_or(0);
+impl Drop for Script<'_> {
+    fn drop(self) {
+        let Script {
+            title: _,
+            lines: _,
+            given: _,
+            attempt: _,
+            clock: _,
+        } = self;
     }
 }
 
-/// Runs a script: the lines that a row knows make the plan, the others are calls.
+impl<'a> Script<'a> {
+    /// Takes in a line that is no call. False where it isn't the script's own.
+    fn take(&mut self, line: &'a str) -> bool {
+        let (word, rest) = line.split_once(' ').unwrap_or((line, ""));
+        match word {
+            "given" => self.given = rest,
+            "starting" => {
+                let (attempt, clock) = rest.split_once(' ').unwrap_or((rest, "0"));
+                self.attempt = attempt.parse::<u32>().unwrap_or(0);
+                self.clock = clock.parse::<u64>().unwrap_or(0);
+            }
+            _ => return line.is_empty(),
+        }
+        true
+    }
+}
+
+/// Runs a script: the lines that a row knows make the plan, those with a reply behind ` = ` are calls.
 pub(crate) fn run_script<R: Wait + AllocGlobal + Abort>(
     rt: &R,
     title: &str,
@@ -50,32 +63,37 @@ pub(crate) fn run_script<R: Wait + AllocGlobal + Abort>(
 ) -> Result<(), Fail> {
     let alloc = rt.alloc();
     let mut row = Row::new(alloc)?;
-    let mut script = Script::new(alloc, title, lines)?;
+    let mut script = Script {
+        title,
+        lines,
+        given: "",
+        attempt: 0,
+        clock: 0,
+    };
     for line in lines.split('\n') {
-        if let Some(numbers) = line.strip_prefix("starting ") {
-            script.starting(numbers);
-        } else if !is_call(line) {
-            assert!(rt; line.is_empty() || row.take(line)?, "{title}: {line}");
+        if !line.contains(" = ") {
+            assert!(rt;
+                script.take(line) || row.take(alloc, line)?,
+                "{title}: {line}"
+            );
         }
     }
-    let plan = row.plan(alloc)?.expect(rt, "a plan");
+    if !script.given.is_empty() {
+        run_beginnings(rt, &row, &script)?;
+    }
+    let plan = plan_over(alloc, &row.inputs)?.expect(rt, "a plan");
     play_calls::<Brand, R>(rt, &plan, &script)
-}
-
-/// A call stands before its reply.
-fn is_call(line: &str) -> bool {
-    line.contains(" = ")
 }
 
 /// Plays the calls of a script one after another, and then as lists in parts of so many: what is seen at the end is the same.
 fn play_calls<J: PlanName, R: Wait + AllocGlobal + Abort>(
     rt: &R,
     plan: &Plan,
-    script: &Script,
+    script: &Script<'_>,
 ) -> Result<(), Fail>
     requires { plan.now ≡ J.plan }
 {
-    let title = script.title.as_str();
+    let title = script.title;
     let called = play::<J, R>(rt, plan, script, 0)?;
     for size in [1, 3, usize::MAX] {
         let listed = play::<J, R>(rt, plan, script, size)?;
@@ -88,7 +106,7 @@ fn play_calls<J: PlanName, R: Wait + AllocGlobal + Abort>(
 fn play<J: PlanName, R: Wait + AllocGlobal + Abort>(
     rt: &R,
     plan: &Plan,
-    script: &Script,
+    script: &Script<'_>,
     size: usize,
 ) -> Result<String, Fail>
     requires { plan.now ≡ J.plan }
@@ -109,11 +127,11 @@ fn play_on<'t, J: PlanName, R: Wait + AllocGlobal + Abort>(
     rt: &R,
     table: &'t VersionTable<J>,
     board: &mut Board<'_, 't, J>,
-    script: &Script,
+    script: &Script<'_>,
 ) -> Result<String, Fail> {
-    let title = script.title.as_str();
+    let title = script.title;
     let mut kept: Option<Place<'t, J>> = None;
-    for line in script.lines.as_str().split('\n') {
+    for line in script.lines.split('\n') {
         if let Some((call, wanted)) = line.split_once(" = ") {
             let before = sight(rt.alloc(), board)?;
             let told = reply_to(rt, table, board, &mut kept, call)?;

@@ -7,16 +7,21 @@
 
 use circ_policy::MediaType;
 use circ_records::{Fee, FeeType, Hold, Holds, Ids, Item, Key, Loan, Patron, Record};
-use read_set::{Source, Stop};
+use read_set::{Looks, Name, Source, Stop};
 use sip_reader::{Amount, Day, Id, Text};
 use std::alloc::{AllocError, Global};
 use std::collections::BTreeMap;
 use std::str::from_utf8;
 
 /// Records by their keys, of which none need fit to another.
-#[derive(Drop)]
 pub(crate) struct Shelf {
     records: BTreeMap<Key, Record>,
+}
+
+impl Drop for Shelf {
+    fn drop(self) {
+        let Shelf { records: _ } = self;
+    }
 }
 
 impl Source for Shelf {
@@ -25,11 +30,23 @@ impl Source for Shelf {
 
     ghost has = { λ shelf k. Some (record_at shelf.records.entries k) };
 
+    #[tactic(auto, using(read_set::proofs::Gaining::gains_none))]
     fn read(&mut self, alloc: Global, key: &Key) -> Result<Option<Record>, Stop> {
         match self.records.get(key) {
             Some(found) => Ok(Some(found.copy(alloc)?)),
             None => Ok(None),
         }
+    }
+}
+
+impl Looks for Shelf {
+    fn look(
+        &mut self,
+        alloc: Global,
+        key: &Key,
+    ) -> Result<Option<(Name, Option<Record>)>, AllocError> {
+        let found = self.copy_at(alloc, key)?;
+        Ok(Some((Name::Base, found)))
     }
 }
 

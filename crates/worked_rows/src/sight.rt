@@ -3,7 +3,7 @@
 use crate::replies::{id_of, tell_choice, tell_name};
 use read_set::PlanName;
 use speculate::{Board, Hand};
-use std::alloc::Global;
+use std::alloc::{AllocError, Global};
 use std::test::Fail;
 
 /// How many workers each script has: 0, 1 and 2.
@@ -12,18 +12,24 @@ pub(crate) const WORKERS: u32 = 3;
 /// What is seen of a board: its counts, its clock, the choice of a free worker, and what each worker has in hand.
 pub(crate) fn sight<J: PlanName>(alloc: Global, board: &Board<'_, '_, J>) -> Result<String, Fail> {
     let mut text = tell_choice(alloc, board.choose())?;
-    let counts = board.counts();
-    let (takes, failed, stops) = (counts.takes, counts.failed, counts.stops);
-    write!(
-        text,
-        ", {takes} {failed} {stops} {} {}",
-        counts.commits, counts.live
-    )?;
+    text.push_str(", ")?;
+    tell_counts(&mut text, board)?;
     write!(text, ", {} at {}", board.committed(), board.clock())?;
     for worker in 0..WORKERS {
         tell_hand(alloc, &mut text, board, worker)?;
     }
     Ok(text)
+}
+
+/// Takes, failed checks, stops, commits and live lines.
+pub(crate) fn tell_counts<J: PlanName>(
+    text: &mut String,
+    board: &Board<'_, '_, J>,
+) -> Result<(), AllocError> {
+    let counts = board.counts();
+    let (takes, failed, stops) = (counts.takes, counts.failed, counts.stops);
+    let (commits, live) = (counts.commits, counts.live);
+    write!(text, "{takes} {failed} {stops} {commits} {live}")
 }
 
 /// The worker's line in hand and its attempt, what it has noted, and the version whose publication was begun.

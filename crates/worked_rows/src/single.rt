@@ -3,14 +3,15 @@
 ghost use Rattle.std.specs.Prelude.{◌≡◌, None};
 ghost use Rattle.read_set.specs.Notes.{noted};
 
-use crate::book::{journal_of, plan_of};
+use crate::book::{Row, plan_over};
 use crate::shelf::{Shelf, tell};
 use circ_records::{Key, Record};
 use message_meaning::{need, perform};
-use read_set::{Name, Need, Note, Notes, Plan, PlanName};
+use read_set::{Name, Need, Note, Notes, Noting, Plan, PlanName};
 use sip_answer::{Answer, write_answer};
 use std::alloc::{AllocError, Global};
 use std::marker::Brand;
+use std::mem::replace;
 use std::process::Abort;
 use std::str::from_utf8;
 use std::test::Fail;
@@ -19,7 +20,6 @@ use std::test::Fail;
 const MANY: usize = 20;
 
 /// A line and its records, and what must come out.
-#[derive(Drop)]
 pub(crate) struct Single {
     shelf: Shelf,
     request: String,
@@ -27,6 +27,17 @@ pub(crate) struct Single {
     wants: String,
     /// The answer, then each record that is written.
     told: String,
+}
+
+impl Drop for Single {
+    fn drop(self) {
+        let Single {
+            shelf: _,
+            request: _,
+            wants: _,
+            told: _,
+        } = self;
+    }
 }
 
 impl Single {
@@ -51,47 +62,73 @@ impl Single {
         Ok(true)
     }
 
-    /// Performs the line over the records, and once more on notes that grow by what it asks for. Both must do the same.
-    pub(crate) fn run(mut self, rt: &impl Abort, alloc: Global, title: &str) -> Result<(), Fail> {
-        let journal = journal_of(alloc, self.request.as_str())?;
-        let Some(plan) = plan_of(alloc, journal.as_bytes())? else {
-            panic!(rt; "{title}");
-        };
-        let Ok(effect) = perform(alloc, &plan, 1, &mut self.shelf) else {
-            panic!(rt; "{title}");
-        };
-        let done = told(alloc, &effect.answer, effect.writes.as_slice())?;
+    /// Performs the line over the records, once more on notes that grow by what it asks for, and once over a source that
+    /// looks at the records and notes them. All must do the same, and ask in the same order.
+    pub(crate) fn run(&mut self, rt: &impl Abort, alloc: Global, title: &str) -> Result<(), Fail> {
+        let mut row = Row::new(alloc)?;
+        row.ask(alloc, self.request.as_str())?;
+        let plan = plan_over(alloc, &row.inputs)?.expect(rt, "a plan");
+        let done = self.performed(alloc, &plan)?;
         assert_eq!(rt; done.as_str(), self.told.as_str(), "{title}");
-        let (wants, done) = ask::<Brand>(alloc, &plan, &self.shelf)?;
+        let mut wants = String::new(alloc);
+        let done = ask::<Brand>(alloc, &plan, &self.shelf, &mut wants)?;
         assert_eq!(rt; wants.as_str(), self.wants.as_str(), "{title}");
+        assert_eq!(rt; done.as_str(), self.told.as_str(), "{title}");
+        let mut seen = String::new(alloc);
+        let shelf = replace(&mut self.shelf, Shelf::new(alloc));
+        let done = look_once(alloc, &plan, shelf, &mut seen)?;
+        assert_eq!(rt; seen.as_str(), self.wants.as_str(), "{title}");
         assert_eq!(rt; done.as_str(), self.told.as_str(), "{title}");
         Ok(())
     }
+
+    /// What the line does over the records.
+    fn performed(&mut self, alloc: Global, plan: &Plan) -> Result<String, AllocError> {
+        match perform(alloc, plan, 1, &mut self.shelf) {
+            Ok(effect) => told(alloc, &effect.answer, effect.writes.as_slice()),
+            Err(_) => Err(AllocError),
+        }
+    }
 }
 
-/// The ids of the records for which the line 1 asks, joined by blanks, and what its version tells.
+/// What the one run of the line 1 tells over records at which it looks. Their ids, joined by blanks, are put behind `seen`.
+fn look_once(
+    alloc: Global,
+    plan: &Plan,
+    looks: Shelf,
+    seen: &mut String,
+) -> Result<String, AllocError> {
+    let notes = Notes::new(alloc);
+    let mut source = Noting { notes, looks };
+    let Ok(effect) = perform(alloc, plan, 1, &mut source) else {
+        return Ok(String::new(alloc));
+    };
+    for note in source.notes.as_slice() {
+        tell_want(seen, &note.key)?;
+    }
+    told(alloc, &effect.answer, effect.writes.as_slice())
+}
+
+/// What the version of the line 1 tells. The ids of the records for which the line asks, joined by blanks, are put behind `wants`.
 fn ask<J: PlanName>(
     alloc: Global,
     plan: &Plan,
     shelf: &Shelf,
-) -> Result<(String, String), AllocError>
+    wants: &mut String,
+) -> Result<String, AllocError>
     requires { plan.now ≡ J.plan }
 {
     let mut notes = Notes::new(alloc);
-    let mut wants = String::new(alloc);
     for _ in 0..MANY {
         match need::<J>(alloc, plan, 1, 0, &notes)? {
             Need::Key(key) => {
-                tell_want(&mut wants, &key)?;
+                tell_want(wants, &key)?;
                 look(alloc, shelf, key, &mut notes)?;
             }
-            Need::Done(version) => {
-                let done = told(alloc, version.answer(), version.writes())?;
-                return Ok((wants, done));
-            }
+            Need::Done(version) => return told(alloc, version.answer(), version.writes()),
         }
     }
-    Ok((wants, String::new(alloc)))
+    Ok(String::new(alloc))
 }
 
 /// Notes the record at a key that isn't noted yet.

@@ -6,6 +6,7 @@
 
 mod gate;
 mod held;
+mod looking;
 mod shared;
 mod told;
 mod workers;

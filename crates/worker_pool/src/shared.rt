@@ -7,8 +7,13 @@ use crate::told::{Begun, Course, Left, Sight};
 use circ_records::Key;
 use read_set::{Plan, PlanName};
 use speculate::{Board, BoardFault, Finished};
-use std::sync::{Mutex, Wait};
+use std::hint::spin_loop;
+use std::sync::{Mutex, MutexGuard, Wait};
 use version_store::{Place, VersionTable};
+
+/// How often a worker tries the lock before it sleeps. A hold is a microsecond or two; to sleep and be woken costs far more, and
+/// keeps the line that the worker has in hand from being published.
+const TRIES: u32 = 1000;
 
 /// A board under a lock, with the plan and the table of the versions beside it. Each step is one hold of the lock: one call of
 /// the board, with what its reply says, or, once a fault was left, no call and that fault.
@@ -60,14 +65,25 @@ impl<'p, 't, J: PlanName + 'static> SharedBoard<'p, 't, J> {
         self.workers
     }
 
+    /// Takes the lock, where it can without sleeping, also while others sleep: `lock` alone sleeps at once behind a sleeper.
+    fn hold<R: Wait>(&self, rt: &R) -> MutexGuard<'_, Held<'p, 't, J>> {
+        for _ in 0..TRIES {
+            if let Some(held) = self.held.try_lock() {
+                return held;
+            }
+            spin_loop();
+        }
+        self.held.lock(rt)
+    }
+
     /// What a free worker does next, done.
     pub fn begin<R: Wait>(&self, rt: &R, worker: u32) -> Result<Begun, Left> {
-        self.held.lock(rt).begin(worker)
+        self.hold(rt).begin(worker)
     }
 
     /// A worker looks at a key for its line.
     pub fn look<R: Wait>(&self, rt: &R, worker: u32, key: &Key) -> Result<Sight<'t, J>, Left> {
-        self.held.lock(rt).look(worker, key)
+        self.hold(rt).look(worker, key)
     }
 
     /// The first act of the publication of the version at a place.
@@ -77,32 +93,32 @@ impl<'p, 't, J: PlanName + 'static> SharedBoard<'p, 't, J> {
         worker: u32,
         place: Place<'t, J>,
     ) -> Result<Course, Left> {
-        self.held.lock(rt).publish(worker, place)
+        self.hold(rt).publish(worker, place)
     }
 
     /// One more act of the publication that the worker's line is in.
     pub fn publish_more<R: Wait>(&self, rt: &R, worker: u32) -> Result<Course, Left> {
-        self.held.lock(rt).publish_more(worker)
+        self.hold(rt).publish_more(worker)
     }
 
     /// Begins to check a line that is done, or goes on with it, by one noted name.
     pub fn check<R: Wait>(&self, rt: &R, worker: u32, line: u64) -> Result<Course, Left> {
-        self.held.lock(rt).check(worker, line)
+        self.hold(rt).check(worker, line)
     }
 
     /// The place of the version that the worker's line publishes.
     pub fn placing<R: Wait>(&self, rt: &R, worker: u32) -> Option<Place<'t, J>> {
-        self.held.lock(rt).board.placing(worker)
+        self.hold(rt).board.placing(worker)
     }
 
     /// All workers are to end for this fault, unless one was left before.
     pub fn leave<R: Wait>(&self, rt: &R, fault: BoardFault) {
-        self.held.lock(rt).leave(fault);
+        self.hold(rt).leave(fault);
     }
 
     /// The first fault that was left.
     pub fn left<R: Wait>(&self, rt: &R) -> Option<BoardFault> {
-        self.held.lock(rt).left
+        self.hold(rt).left
     }
 
     /// What the workers have come to.

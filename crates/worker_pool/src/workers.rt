@@ -1,23 +1,27 @@
 //! What each worker does.
 
-ghost use Rattle.std.specs.Prelude.{◌≡◌};
-ghost use Rattle.read_set.specs.Notes.{noted};
-ghost use Rattle.read_set.specs.Wanted.{Wanted};
+ghost use Rattle.std.specs.Prelude.{◌≡◌, IfOk, IfSome};
+ghost use Rattle.message_meaning.specs.Needs.{AreAsked};
+ghost use Rattle.read_set.specs.Settling.{Settles};
 ghost use Rattle.worker_pool.specs.Rows.{IsStatic};
 
 use crate::gate::{Gate, Moment};
+use crate::looking::OnBoard;
 use crate::shared::SharedBoard;
-use crate::told::{Begun, Course, Left, Sight};
-use board_lines::{copied, record_seen};
-use circ_records::{Key, Record};
-use message_meaning::need;
-use read_set::{Need, Note, Notes, Plan, PlanName, Version};
+use crate::told::{Begun, Course, Left};
+use message_meaning::perform;
+use read_set::{Effect, Notes, Noting, PlanName, Stop, Version};
 use speculate::BoardFault;
-use std::alloc::{AllocError, Global};
+use std::alloc::Global;
+use std::hint::spin_loop;
 use std::sync::Wait;
 use std::thread;
 use std::thread::Threads;
 use version_store::Place;
+
+/// How many pauses of the processor, of 5 to 50 nanoseconds each, a worker stands back before it chooses again where its choice
+/// waits for others: as long as a few lines take. Without it a worker on a core of its own takes the same line over and over.
+const PAUSES: u32 = 5000;
 
 /// A line that a worker has in hand.
 #[derive(Clone, Copy)]
@@ -93,7 +97,7 @@ fn work<J: PlanName + 'static, G: Gate, R: Wait>(
     for _ in rt.forever() {
         match take_turn(rt, alloc, shared, gate, worker) {
             Ok(Turn::Next) => {}
-            Ok(Turn::Yield) => thread::yield_now(),
+            Ok(Turn::Yield) => stand_back(),
             Ok(Turn::Last) => return,
             Err(Left(fault)) => {
                 shared.leave(rt, fault);
@@ -101,6 +105,14 @@ fn work<J: PlanName + 'static, G: Gate, R: Wait>(
             }
         }
     }
+}
+
+/// Lets other workers go first. To yield alone does nothing where no one else wants the core.
+fn stand_back() {
+    for _ in 0..PAUSES {
+        spin_loop();
+    }
+    thread::yield_now();
 }
 
 /// What a free worker does next: a commit, a check of a line, or an attempt at a line.
@@ -172,62 +184,42 @@ fn run_line<J: PlanName + 'static, G: Gate, R: Wait>(
     publish_line(rt, shared, gate, task, place)
 }
 
-/// Looks at all that a line wants: its version; None where the attempt has ended.
+/// Runs the rule of a line over what is looked at on the board, and noted: its version, which has read nothing but what
+/// the rule asks for; None where the attempt has ended.
 fn read_line<J: PlanName + 'static, R: Wait>(
     rt: &R,
     alloc: Global,
     shared: &SharedBoard<'_, '_, J>,
     task: Task,
-) -> Result<Option<Version<J>>, Left> {
-    let plan = shared.plan();
-    let mut notes = Notes::new(alloc);
-    for _ in rt.forever() {
-        match need(alloc, plan, task.line, task.attempt, &notes)? {
-            Need::Done(version) => return Ok(Some(version)),
-            Need::Key(key) => {
-                let goes_on = look_at(rt, alloc, shared, task, &key, &mut notes)?;
-                if !goes_on {
-                    return Ok(None);
-                }
-            }
-        }
-    }
-    unreachable!()
-}
-
-/// Looks at a key that the line wants, and notes what was seen; whether the attempt goes on.
-fn look_at<J: PlanName + 'static, R: Wait>(
-    rt: &R,
-    alloc: Global,
-    shared: &SharedBoard<'_, '_, J>,
-    task: Task,
-    key: &Key,
-    notes: &mut Notes,
-) -> Result<bool, Left>
-    requires { Wanted J.plan task.line (noted notes.old) key.now }
+) -> Result<Option<Version<J>>, Left>
+    ensures { IfOk result (λ o. IfSome o (λ v. AreAsked J.plan task.line v.reads)) }
 {
-    let plan = shared.plan();
-    let (name, place) = match shared.look(rt, task.worker, key)? {
-        Sight::Seen { name, place } => (name, place),
-        Sight::Over => return Ok(false),
+    let mut source = Noting {
+        notes: Notes::new(alloc),
+        looks: OnBoard {
+            rt,
+            shared,
+            worker: task.worker,
+            left: None,
+        },
     };
-    let found = found(alloc, plan, key, place)?;
-    notes.add(Note {
-        key: *key,
-        name,
-        found,
-    })?;
-    Ok(true)
+    match perform(alloc, shared.plan(), task.line, &mut source) {
+        Ok(effect) => Ok(Some(version_of(task, source.notes, effect))),
+        Err(Stop::Unnoted(_)) => match source.looks.left {
+            Some(left) => Err(left),
+            None => Ok(None),
+        },
+        Err(Stop::Memory) => Err(Left(BoardFault::Memory)),
+    }
 }
 
-/// The record that was seen.
-fn found<'s, J: PlanName>(
-    alloc: Global,
-    plan: &'s Plan,
-    key: &Key,
-    place: Option<Place<'s, J>>,
-) -> Result<Option<Record>, AllocError> {
-    copied(alloc, record_seen(plan, key, place))
+/// The version that a line's rule came to on these notes.
+fn version_of<J: PlanName>(task: Task, notes: Notes, effect: Effect) -> Version<J>
+    requires { Settles J.plan task.line notes effect.writes effect.answer }
+    ensures { result ≡ record { line = task.line; attempt = task.attempt; reads = notes; writes = effect.writes; answer = effect.answer } }
+{
+    let Effect { writes, answer } = effect;
+    Version::new(task.line, task.attempt, notes, writes, answer)
 }
 
 /// Publishes the version at a place, act by act.

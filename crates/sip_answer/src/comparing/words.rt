@@ -6,9 +6,14 @@ use std::alloc::{AllocError, Global};
 use std::marker::Model;
 
 /// The words that were found so far.
-#[derive(Drop)]
 pub struct Words {
     fields: Vec<Field>,
+}
+
+impl Drop for Words {
+    fn drop(self) {
+        let Words { fields: _ } = self;
+    }
 }
 
 impl Model for Words {

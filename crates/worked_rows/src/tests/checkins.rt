@@ -1,9 +1,6 @@
 //! Checkins.
 
-use super::run_book;
-use std::test::Fail;
-
-const BACK: &str = "
+pub(super) const BACK: &str = "
 # a late fee of four days
 first 7
 base loans P1,I1,20260316,0
@@ -85,8 +82,3 @@ answer 26              00020260320    100000AOL1|AAP1|AEAnn|BLY|
 after loans
 after fees
 ";
-
-#[test]
-fn checkins(rt: HostRuntime) -> Result<(), Fail> {
-    run_book(&rt, BACK)
-}

@@ -1,9 +1,6 @@
 //! Checkouts.
 
-use super::run_book;
-use std::test::Fail;
-
-const MADE: &str = "
+pub(super) const MADE: &str = "
 # a book is lent for fourteen days
 asked 11NN20260302    101500                  AOL1|AAP1|ABI1|ACx|
 answer 121NUY20260302    101500AOL1|AAP1|ABI1|AJOne|AH20260316    235900|CK001|
@@ -58,7 +55,7 @@ answer 121NUY20260302    101500AOL1|AAP3|ABI1|AJOne|AH20260316    235900|CK001|
 after loans P3,I1,20260316,0
 ";
 
-const REFUSED: &str = "
+pub(super) const REFUSED: &str = "
 # a rental without the patron's word
 asked 11NN20260302    101500                  AOL1|AAP1|ABV1|
 answer 120NUN20260302    101500AOL1|AAP1|ABV1|AJTwo|AH|BT06|BHUSD|BV1.00|CK005|
@@ -111,7 +108,7 @@ after loans P2,V1,20260310,0
 ";
 
 /// An own loan that is asked for again.
-const OWN: &str = "
+pub(super) const OWN: &str = "
 # it is renewed even by force, with the day that was sent, and keeps its place
 base loans P1,I1,20260310,0
 base loans P1,V1,20260310,0
@@ -150,14 +147,3 @@ answer 121YUY20260302    101500AOL1|AAP1|ABV1|AJTwo|AH20260309    235900|CK005|
 after loans P1,V1,20260309,1
 after fees
 ";
-
-#[test]
-fn own_loans(rt: HostRuntime) -> Result<(), Fail> {
-    run_book(&rt, OWN)
-}
-
-#[test]
-fn checkouts(rt: HostRuntime) -> Result<(), Fail> {
-    run_book(&rt, MADE)?;
-    run_book(&rt, REFUSED)
-}

@@ -1,17 +1,9 @@
 //! Journals driven through a board, line by line in their order.
 
-use super::run_row;
-use crate::book::Row;
-use crate::driven::drive_journal;
-use std::alloc::AllocGlobal;
-use std::process::Abort;
-use std::sync::Wait;
-use std::test::Fail;
-
 /// An item's properties, a checkout, a tape with its rental, an item brought late, a patron blocked and enabled again. Behind
-/// each journal stand its answers, the counts and the clock, and for each record that a line and its attempt left the record
+/// each journal stand the counts and the clock of its board, and for each record that a line and its attempt left the record
 /// at the end.
-const DAYS: &str = "
+pub(super) const DAYS: &str = "
 # a day
 asked 1920260302    101500AOL1|ABI1|ACx|CHtorn|
 answer 20120260302    101500ABI1|AJOne|CHtorn|
@@ -25,18 +17,18 @@ asked 01N20260302    101500AOL1|ALlost|AAP1|ACx|
 answer 24YY Y          00020260302    101500AOL1|AAP1|AEAnn|BLY|BHUSD|BV2.00|
 asked 2520260302    101500AOL1|AAP1|
 answer 26              00020260302    101500AOL1|AAP1|AEAnn|BLY|
-= 6 0 0 6 0 at 11
-1.0 item I1: item, One, 001, Main, -, -
-2.0 patron P1: patron, Ann, A, N, V1, R3-0+R4-0
-2.0 item I1: item, One, 001, Main, -, -
-3.0 patron P1: patron, Ann, A, N, V1, R3-0+R4-0
-3.0 item V1: item, Two, 005, Main, P1 20260309 0, -
-3.0 fee R3-0: fee, P1, 06, 1.00, 0.00
-4.0 patron P1: patron, Ann, A, N, V1, R3-0+R4-0
-4.0 item I1: item, One, 001, Main, -, -
-4.0 fee R4-0: fee, P1, 04, 1.00, 0.00
-5.0 patron P1: patron, Ann, A, N, V1, R3-0+R4-0
-6.0 patron P1: patron, Ann, A, N, V1, R3-0+R4-0
+counts 6 0 0 6 0 at 11
+left 1.0 item I1: item, One, 001, Main, -, -
+left 2.0 patron P1: patron, Ann, A, N, V1, R3-0+R4-0
+left 2.0 item I1: item, One, 001, Main, -, -
+left 3.0 patron P1: patron, Ann, A, N, V1, R3-0+R4-0
+left 3.0 item V1: item, Two, 005, Main, P1 20260309 0, -
+left 3.0 fee R3-0: fee, P1, 06, 1.00, 0.00
+left 4.0 patron P1: patron, Ann, A, N, V1, R3-0+R4-0
+left 4.0 item I1: item, One, 001, Main, -, -
+left 4.0 fee R4-0: fee, P1, 04, 1.00, 0.00
+left 5.0 patron P1: patron, Ann, A, N, V1, R3-0+R4-0
+left 6.0 patron P1: patron, Ann, A, N, V1, R3-0+R4-0
 # a tape and an item brought late, at the greatest numbers of lines, and a line without an answer
 base loans P1,I1,20260316,0
 first 9999999997
@@ -46,40 +38,13 @@ asked 88
 passed unknown_kind
 asked 09N20260320    09000020260320    090000APx|AOL1|ABI1|ACx|
 answer 101YUN20260320    090000AOL1|ABI1|AQMain|AJOne|AAP1|CK001|
-= 3 0 0 3 0 at 6
-9999999997.0 patron P1: patron, Ann, A, N, V1, R9999999997-0+R9999999999-0
-9999999997.0 item V1: item, Two, 005, Main, P1 20260309 0, -
-9999999997.0 fee R9999999997-0: fee, P1, 06, 1.00, 0.00
-9999999999.0 patron P1: patron, Ann, A, N, V1, R9999999997-0+R9999999999-0
-9999999999.0 item I1: item, One, 001, Main, -, -
-9999999999.0 fee R9999999999-0: fee, P1, 04, 1.00, 0.00
+counts 3 0 0 3 0 at 6
+left 9999999997.0 patron P1: patron, Ann, A, N, V1, R9999999997-0+R9999999999-0
+left 9999999997.0 item V1: item, Two, 005, Main, P1 20260309 0, -
+left 9999999997.0 fee R9999999997-0: fee, P1, 06, 1.00, 0.00
+left 9999999999.0 patron P1: patron, Ann, A, N, V1, R9999999997-0+R9999999999-0
+left 9999999999.0 item I1: item, One, 001, Main, -, -
+left 9999999999.0 fee R9999999999-0: fee, P1, 04, 1.00, 0.00
 # no line
-= 0 0 0 0 0 at 0
+counts 0 0 0 0 0 at 0
 ";
-
-/// Runs a row, drives its journal, and compares what came out.
-fn drive_row<R: Wait + AllocGlobal + Abort>(rt: &R, row: &str) -> Result<(), Fail> {
-    let alloc = rt.alloc();
-    let (lines, wanted) = row.split_once("\n= ").unwrap_or((row, ""));
-    let (title, lines) = lines.split_once('\n').unwrap_or((lines, ""));
-    run_row(rt, title, lines)?;
-    let mut row = Row::new(alloc)?;
-    for line in lines.split('\n') {
-        assert!(rt; line.is_empty() || row.take(line)?, "{title}: {line}");
-    }
-    let driven = drive_journal(rt, &row.inputs()?)?;
-    let (counts, left) = (driven.counts.as_str(), driven.left.as_str());
-    let told = format!(in alloc; "{counts}\n{left}")?;
-    assert_eq!(rt; told.as_str(), wanted, "{title}");
-    Ok(())
-}
-
-#[test]
-fn drives_in_order(rt: HostRuntime) -> Result<(), Fail> {
-    for row in DAYS.split('#') {
-        if row.contains('=') {
-            drive_row(&rt, row)?;
-        }
-    }
-    Ok(())
-}

@@ -1,9 +1,6 @@
 //! Fees paid.
 
-use super::run_book;
-use std::test::Fail;
-
-const PAID: &str = "
+pub(super) const PAID: &str = "
 # the oldest first
 base fees F1,P1,01,1.00,0.00
 base fees F2,P1,01,2.00,0.00
@@ -55,8 +52,3 @@ answer 38Y20260302    120000AOL1|AAP1|
 after fees F2,P1,01,2.00,1.00
 after closed F1,P1,01,1.00
 ";
-
-#[test]
-fn fees_are_paid(rt: HostRuntime) -> Result<(), Fail> {
-    run_book(&rt, PAID)
-}

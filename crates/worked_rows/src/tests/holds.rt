@@ -1,11 +1,6 @@
 //! Holds.
 
-use super::run_book;
-use crate::book::Row;
-use std::alloc::{AllocError, Global};
-use std::test::Fail;
-
-const QUEUES: &str = "
+pub(super) const QUEUES: &str = "
 # the first in the queue
 asked 15+20260302    101500AOL1|AAP2|ABI1|BSMain|
 answer 161Y20260302    101500BR1|BSMain|AOL1|AAP2|ABI1|AJOne|
@@ -95,15 +90,8 @@ base holds I1,P1,Main
 asked 11NY20260302    101500                  AOL1|AAP1|ABI1|ACx|
 answer 121NUY20260302    101500AOL1|AAP1|ABI1|AJOne|AH20260316    235900|CK001|
 after holds I1,P2,East
-";
-
-#[test]
-fn queues(rt: HostRuntime) -> Result<(), Fail> {
-    run_book(&rt, QUEUES)
-}
-
-/// What becomes of a queue in which 98 patrons wait; their ids are a W and a number.
-const LONG: &str = "
+# of a hundred places; 98 patrons wait at first
+waiting 98
 asked 15+20260302    101500AOL1|AAP1|ABI1|BSEast|
 answer 161N20260302    101500BR99|BSEast|AOL1|AAP1|ABI1|AJOne|
 asked 15+20260302    101500AOL1|AAP2|ABI1|BSMain|
@@ -125,24 +113,3 @@ answer 161N20260302    101500BR1|BSEast|AOL1|AAW2|ABI1|AJOne|
 asked 15*20260302    101500AOL1|AAW10|ABI1|BSEast|
 answer 161N20260302    101500BR99|BSEast|AOL1|AAW10|ABI1|AJOne|
 ";
-
-/// A row in which so many patrons wait for an item.
-fn waiting(alloc: Global, count: u32) -> Result<Row, AllocError> {
-    let mut row = Row::new(alloc)?;
-    for n in 1..=count {
-        let patron = format!(in alloc; "base patrons W{n},Wes,A,N")?;
-        let hold = format!(in alloc; "base holds I1,W{n},Main")?;
-        let _ = row.take(patron.as_str())?;
-        let _ = row.take(hold.as_str())?;
-    }
-    Ok(row)
-}
-
-#[test]
-fn places_of_a_long_queue(rt: HostRuntime) -> Result<(), Fail> {
-    let mut row = waiting(rt.alloc(), 98)?;
-    for line in LONG.split('\n') {
-        assert!(rt; line.is_empty() || row.take(line)?, "{line}");
-    }
-    row.run(&rt, "a hundred wait")
-}

@@ -1,11 +1,6 @@
 //! Lines over records that no moment ever had: the rules are total, and each says what counts as what.
 
-use super::run_lines;
-use crate::single::Single;
-use std::alloc::{AllocError, Global};
-use std::test::Fail;
-
-const ODD: &str = "
+pub(super) const ODD: &str = "
 # an item of the list that is not lent isn't renewed
 patron P1: patron, Ann, A, N, I1, -
 item I1: item, One, 001, Main, -, -
@@ -145,50 +140,17 @@ asked 15*20260302    101500AAP1|ABI1|BSEast|
 wants P1 I1
 answer 161N20260302    101500BR2|BSEast|AOL1|AAP1|ABI1|AJOne|
 writes item I1: item, One, 001, Main, -, P2+P1 East+P1
+# 9,999 places are taken: there are no more
+patron P1: patron, Ann, A, N, -, -
+item I1: item, One, 001, Main, -, {9998}+P2
+asked 15+20260302    101500AAP1|ABI1|
+wants P1 I1
+answer 160N20260302    101500AOL1|AAP1|ABI1|AJOne|
+# 9,998 places are taken: there is one more
+patron P1: patron, Ann, A, N, -, -
+item I1: item, One, 001, Main, -, {9998}
+asked 15+20260302    101500AAP1|ABI1|
+wants P1 I1
+answer 161N20260302    101500BR9999|AOL1|AAP1|ABI1|AJOne|
+writes item I1: item, One, 001, Main, -, {9998}+P1
 ";
-
-#[test]
-fn odd_records(rt: HostRuntime) -> Result<(), Fail> {
-    run_lines(&rt, rt.alloc(), ODD)
-}
-
-/// A queue of so many places, each of P2.
-fn queue_of(alloc: Global, count: usize) -> Result<String, AllocError> {
-    let mut queue = String::from_str(alloc, "P2")?;
-    for _ in 1..count {
-        queue.push_str("+P2")?;
-    }
-    Ok(queue)
-}
-
-/// A hold of P1 on I1, for which so many wait.
-fn held(alloc: Global, queue: &str) -> Result<Single, AllocError> {
-    let mut single = Single::new(alloc);
-    let item = format!(in alloc; "item I1: item, One, 001, Main, -, {queue}")?;
-    let _ = single.take(alloc, "patron P1: patron, Ann, A, N, -, -")?;
-    let _ = single.take(alloc, item.as_str())?;
-    let _ = single.take(alloc, "asked 15+20260302    101500AAP1|ABI1|")?;
-    let _ = single.take(alloc, "wants P1 I1")?;
-    Ok(single)
-}
-
-#[test]
-fn no_queue_is_longer_than_9999(rt: HostRuntime) -> Result<(), Fail> {
-    let queue = queue_of(rt.alloc(), 9_999)?;
-    let mut single = held(rt.alloc(), queue.as_str())?;
-    let answer = "answer 160N20260302    101500AOL1|AAP1|ABI1|AJOne|";
-    assert!(rt; single.take(rt.alloc(), answer)?);
-    single.run(&rt, rt.alloc(), "9999 wait")
-}
-
-#[test]
-fn the_last_place_is_the_9999th(rt: HostRuntime) -> Result<(), Fail> {
-    let queue = queue_of(rt.alloc(), 9_998)?;
-    let queue = queue.as_str();
-    let mut single = held(rt.alloc(), queue)?;
-    let answer = "answer 161N20260302    101500BR9999|AOL1|AAP1|ABI1|AJOne|";
-    assert!(rt; single.take(rt.alloc(), answer)?);
-    let writes = format!(in rt.alloc(); "writes item I1: item, One, 001, Main, -, {queue}+P1")?;
-    assert!(rt; single.take(rt.alloc(), writes.as_str())?);
-    single.run(&rt, rt.alloc(), "9998 wait")
-}

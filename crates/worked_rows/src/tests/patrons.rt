@@ -1,9 +1,6 @@
 //! Blocks, and item statuses.
 
-use super::run_book;
-use std::test::Fail;
-
-const STATUS: &str = "
+pub(super) const STATUS: &str = "
 # a block
 asked 01N20260302    101500AOL1|ALlost|AAP1|ACx|
 answer 24YY Y          00020260302    101500AOL1|AAP1|AEAnn|BLY|BHUSD|BV0.00|
@@ -37,7 +34,7 @@ asked 01N20260302    101500AOL1|AL|AAP1|
 answer 24YY Y       Y  00020260302    101500AOL1|AAP1|AEAnn|BLY|BHUSD|BV10.01|
 ";
 
-const ITEMS: &str = "
+pub(super) const ITEMS: &str = "
 # properties are replaced
 asked 1920260302    101500AOL1|ABI1|ACx|CHtorn|
 answer 20120260302    101500ABI1|AJOne|CHtorn|
@@ -59,9 +56,3 @@ answer 20120260302    101500ABI1|AJOne|CHtorn|AY3AZF463
 asked 1920260302    101500AOL1|ABI1|ACx|CHtorn|AY3AZf3b4
 answer 20120260302    101500ABI1|AJOne|CHtorn|AY3AZF463
 ";
-
-#[test]
-fn patrons_and_items(rt: HostRuntime) -> Result<(), Fail> {
-    run_book(&rt, STATUS)?;
-    run_book(&rt, ITEMS)
-}

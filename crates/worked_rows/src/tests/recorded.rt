@@ -1,9 +1,6 @@
 //! Recorded responses.
 
-use super::run_book;
-use std::test::Fail;
-
-const RESPONSES: &str = "
+pub(super) const RESPONSES: &str = "
 # refused by the other server
 asked 11NN20260302    101500                  AOL1|AAP1|ABI1|ACx|
 recorded 120NUN20260302    101500AOL1|AAP1|ABI1|AJOne|AH|
@@ -51,8 +48,3 @@ recorded 20
 answer 20120260302    101500ABI1|AJOne|
 differs unreadable
 ";
-
-#[test]
-fn recorded_responses(rt: HostRuntime) -> Result<(), Fail> {
-    run_book(&rt, RESPONSES)
-}

@@ -1,9 +1,6 @@
 //! Renewals of one item and of all.
 
-use super::run_book;
-use std::test::Fail;
-
-const ONE: &str = "
+pub(super) const ONE: &str = "
 # once, and not above the class's renewals
 base loans P1,I1,20260316,0
 asked 29NN20260316    100000                  AOL1|AAP1|ABI1|
@@ -88,7 +85,7 @@ after holds V1,P2,Main
 after fees R1-0,P1,06,1.00,0.00
 ";
 
-const ALL: &str = "
+pub(super) const ALL: &str = "
 # the first rental makes the second one too much
 base loans P1,V1,20260310,0
 base loans P1,V2,20260310,0
@@ -140,9 +137,3 @@ asked 6520260309    120000AOL1|AAP1|
 answer 6610001000020260309    120000AOL1|BMI1|
 after loans P1,I1,20260323,1
 ";
-
-#[test]
-fn renewals(rt: HostRuntime) -> Result<(), Fail> {
-    run_book(&rt, ONE)?;
-    run_book(&rt, ALL)
-}

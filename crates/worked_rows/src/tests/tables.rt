@@ -1,9 +1,6 @@
 //! Tables that make no base.
 
-use super::run_book;
-use std::test::Fail;
-
-const BROKEN: &str = r##"
+pub(super) const BROKEN: &str = r##"
 # an item on two loans
 base loans P1,I1,20260316,0
 base loans P2,I1,20260316,0
@@ -48,8 +45,3 @@ after fees F1,P1,01,0.50,0.00
 after closed F2,P2,06,2.00
 after holds V1,P2,
 "##;
-
-#[test]
-fn tables(rt: HostRuntime) -> Result<(), Fail> {
-    run_book(&rt, BROKEN)
-}

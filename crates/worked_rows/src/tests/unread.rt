@@ -1,9 +1,6 @@
 //! Lines without an answer.
 
-use super::run_book;
-use std::test::Fail;
-
-const PASSED: &str = "
+pub(super) const PASSED: &str = "
 # requests that are no requests
 asked 11NN20260231    101500                  AOL1|AAP1|ABI1|
 passed bad_date
@@ -32,8 +29,3 @@ passed 99
 asked 9900302.00AY1AZFCA6
 answer 96AZFEF6
 ";
-
-#[test]
-fn lines_without_an_answer(rt: HostRuntime) -> Result<(), Fail> {
-    run_book(&rt, PASSED)
-}

@@ -3,12 +3,24 @@ use Rattle.read_set.specs.Asks.{Give, Done}
 use Rattle.loan_meaning.specs.Owing.{owed_at, owing_tests}
 use Rattle.read_set.specs.Fees.{owing_verdict}
 use Rattle.read_set.proofs.Following.{follow_then}
+use Rattle.read_set.proofs.Gaining.{gains_first}
 use Rattle.loan_meaning.proofs.fees.test_owing.Goals as goal
 
 pub returns-clause-gives : goal.returns-clause-gives
 unfolding owing_tests
 returns-clause-gives g c =
-    let had = g.S.Source.has c.args.source.now in
     let first = rw c.as_slice.ensures at c.in_ok-owes.ensures.gives in
-    follow_then had (owed_at c.args.writes.now c.args.member.now.patron.fees) (λ owes. Give (owing_verdict owes c.args.agreed c.args.member.now c.args.article.now)) c.in_ok-owes.owes _
+    follow_then _ (owed_at c.args.writes.now c.args.member.now.patron.fees) (λ owes. Give (owing_verdict owes c.args.agreed c.args.member.now c.args.article.now)) c.in_ok-owes.owes _
     first (ap Done (sym c.owing.ensures))
+
+pub returns-in_err-owes-clause-keeps : goal.returns-in_err-owes-clause-keeps
+unfolding owing_tests
+returns-in_err-owes-clause-keeps g c =
+    let first = rw c.as_slice.ensures at c.in_err-owes.ensures.keeps in
+    gains_first _ _ (owed_at c.args.writes.now c.args.member.now.patron.fees) (λ owes. Give (owing_verdict owes c.args.agreed c.args.member.now c.args.article.now)) first
+
+pub returns-clause-keeps : goal.returns-clause-keeps
+unfolding owing_tests
+returns-clause-keeps g c =
+    let first = rw c.as_slice.ensures at c.in_ok-owes.ensures.keeps in
+    gains_first _ _ (owed_at c.args.writes.now c.args.member.now.patron.fees) (λ owes. Give (owing_verdict owes c.args.agreed c.args.member.now c.args.article.now)) first

@@ -4,6 +4,7 @@ use Rattle.message_meaning.specs.Rules.{item_status_rule}
 use Rattle.read_set.specs.Asks.{Give, Done}
 use Rattle.read_set.specs.ItemStatuses.{updated}
 use Rattle.read_set.proofs.Following.{follow_then}
+use Rattle.read_set.proofs.Gaining.{gains_first}
 use Rattle.message_meaning.proofs.item_status.update.Goals as goal
 
 pub returns-clause-gives : goal.returns-clause-gives
@@ -11,3 +12,18 @@ unfolding item_status_rule
 returns-clause-gives g c =
     follow_then _ (item_at c.args.policy.now c.args.request.now.item) (λ item. Give (updated c.args.request.now c.args.date item)) _ _
     c.in_ok-found.ensures.gives (ap Done (sym c.in_ok-update_found.ensures))
+
+pub returns-in_err-found-clause-keeps : goal.returns-in_err-found-clause-keeps
+unfolding item_status_rule
+returns-in_err-found-clause-keeps g c =
+    gains_first _ _ (item_at c.args.policy.now c.args.request.now.item) (λ item. Give (updated c.args.request.now c.args.date item)) c.in_err-found.ensures.keeps
+
+pub returns-in_err-update_found-clause-keeps : goal.returns-in_err-update_found-clause-keeps
+unfolding item_status_rule
+returns-in_err-update_found-clause-keeps g c =
+    gains_first _ _ (item_at c.args.policy.now c.args.request.now.item) (λ item. Give (updated c.args.request.now c.args.date item)) c.in_ok-found.ensures.keeps
+
+pub returns-clause-keeps : goal.returns-clause-keeps
+unfolding item_status_rule
+returns-clause-keeps g c =
+    gains_first _ _ (item_at c.args.policy.now c.args.request.now.item) (λ item. Give (updated c.args.request.now c.args.date item)) c.in_ok-found.ensures.keeps

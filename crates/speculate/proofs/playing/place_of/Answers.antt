@@ -4,7 +4,7 @@ use Rattle.speculate.proofs.playing.place_of.Goals as goal
 
 pub returns-in_default : goal.returns-in_default
 returns-in_default g c =
-    none_to_publish g.J.PlanName.plan c.args.board.now c.args.worker c.in_ok-next.next c.in_ok-next.ensures c.in_default.ensures
+    none_to_publish g.J.PlanName.plan c.args.board.now c.args.worker c.in_ok-next.next c.requires c.in_ok-next.ensures c.in_default.ensures
 
 pub returns : goal.returns
 returns g c =

@@ -1,9 +1,6 @@
 //! The choice of a free worker.
 
-use super::run_scripts;
-use std::test::Fail;
-
-const CHOICES: &str = "
+pub(crate) const CHOICES: &str = "
 # commit, check, take, nothing, end
 asked 2520260302    100000AOL1|AAP1|
 asked 2520260302    100000AOL1|AAP2|
@@ -100,8 +97,3 @@ publish 1 = whole
 choose = check 1
 counts = 4 1 1 0 2
 ";
-
-#[test]
-fn choices(rt: HostRuntime) -> Result<(), Fail> {
-    run_scripts(&rt, CHOICES)
-}

@@ -1,78 +1,52 @@
-//! Whole runs by lists of steps: the scripts that are steps alone, each beginning of them, and lists that are strange.
+//! Runs by lists of steps that are strange, in rows whose inputs are right and others.
 
-use super::checked::CHANGES;
-use super::refused::STRANGE;
-use super::rows::{EARLY, IN_PART, STALE, SUSPECT};
-use super::spared::SPARED;
-use crate::by_steps::{run_beginnings, run_list};
-use std::alloc::AllocGlobal;
-use std::process::Abort;
-use std::sync::Wait;
-use std::test::Fail;
-
-/// Books of scripts, and what the run of each script gives where all its lines are committed: the attempts.
-const RUNS: [(&str, &str); 7] = [
-    (STALE, "never\nnever"),
-    (IN_PART, "output 0 0 1"),
-    (SUSPECT, "output 0 1 1\noutput 0 1 1\noutput 0 1 2"),
-    (EARLY, "output 0 1\noutput 0 1"),
-    (CHANGES, "output 0 0\noutput 0 1\noutput 0 0"),
-    (SPARED, "output 0 0\noutput 0 0 0\nnever"),
-    (STRANGE, "output 0\nnever"),
-];
-
-/// Runs each beginning of each script of a book; in the same order, what each whole one gives.
-fn run_book<R: Wait + AllocGlobal + Abort>(rt: &R, book: &str, given: &str) -> Result<(), Fail> {
-    let mut given = given.split('\n');
-    for script in book.split('#') {
-        if script.contains('=') {
-            run_beginnings(rt, script, given.next().unwrap_or("nothing more"))?;
-        }
-    }
-    assert!(rt; given.next().is_none());
-    Ok(())
-}
-
-#[test]
-fn runs_scripts_by_steps(rt: HostRuntime) -> Result<(), Fail> {
-    for (book, given) in RUNS {
-        run_book(&rt, book, given)?;
-    }
-    Ok(())
-}
-
-/// A line that is answered, and one that is passed over.
-const TWO: &str = "
+pub(crate) const LISTS: &str = "
+# a line that is answered, and one that is passed over
 asked 1920260302    101500AOL1|ABI1|ACx|CHtorn|
 recorded 20120260302    101500ABI1|AJOne|
+answer 20120260302    101500ABI1|AJOne|CHtorn|
 asked 9900302.00AY1AZFCA5
-";
-
-/// A loan that the base can't have.
-const BROKEN: &str = "
+passed 99
+list 0: take 0 1 => workers must be 1 to 64
+list 65: take 0 1 => workers must be 1 to 64
+list 1:  => unfinished 0
+list 64:  => unfinished 0
+list 1: take 0 1, take 0 1, look 0, look 0, publish 0, publish 0, publish 0, check 0 1, check 0 1, commit 1, commit 1 => unfinished 1
+list 1: take 0 1, look 0, publish 0, publish 0, check 0 1, commit 1, check 0 1 => unfinished 0
+list 1: take 1 1, take 64 1, take 0 0, take 0 7, look 64, publish 64, check 64 1, commit 7, commit 0, check 0 1 => unfinished 0
+list 64: take 64 1, look 64, publish 64, take 63 1, look 63, take 63 2, check 64 1, commit 64 => unfinished 0
+list 64: take 63 2, publish 63, check 0 2, take 63 1, look 63, publish 63, publish 63, check 62 1, check 62 1, commit 1, commit 2, check 1 2, commit 2 => output 0 0
+list 1: take 0 2, publish 0, check 0 2, commit 2, take 0 1, look 0, publish 0, publish 0, check 0 1, check 0 1, commit 1, check 0 2, commit 2 => output 0 0
+# other words for an item, and then its loan; in the last but one list the loan is taken on the item as it was, and again
+asked 1920260302    101500AOL1|ABI1|ACx|CHtorn|
+recorded 20120260302    101500ABI1|AJOne|CHtorn|
+answer 20120260302    101500ABI1|AJOne|CHtorn|
+asked 11NN20260302    101500                  AOL1|AAP1|ABI1|ACx|
+answer 121NUY20260302    101500AOL1|AAP1|ABI1|AJOne|AH20260316    235900|CK001|CHtorn|
+differs missing
+list 0: take 0 1 => workers must be 1 to 64
+list 65: take 0 1 => workers must be 1 to 64
+list 1:  => unfinished 0
+list 64:  => unfinished 0
+list 1: take 0 1, look 0, publish 0, publish 0, check 0 1, check 0 1 => unfinished 0
+list 1: take 0 1, look 0, publish 0, publish 0, check 0 1, check 0 1, commit 1 => unfinished 1
+list 1: take 0 1, look 0, publish 0, publish 0, check 0 1, check 0 1, commit 1, take 0 2, look 0, look 0, publish 0, publish 0, publish 0, check 0 2, check 0 2, check 0 2, commit 2 => output 0 0
+list 2: take 0 1, take 1 2, look 1, look 1, publish 1, publish 1, publish 1, look 0, publish 0, publish 0, check 0 1, check 0 1, commit 1, check 1 2, check 1 2, take 1 2, look 1, look 1, publish 1, publish 1, publish 1, check 1 2, check 1 2, check 1 2, commit 2 => output 0 1
+list 1: take 1 1, take 0 2, take 0 1, look 0, look 0, look 0, commit 7, commit 1, publish 5, check 0 1 => unfinished 0
+# a loan that the base can't have
 base loans P9,I1,20260316,0
 asked 9900302.00AY1AZFCA5
+fault base rule loans row 1 patron
+list 0:  => workers must be 1 to 64
+list 1: take 0 1 => base rule loans row 1 patron
+# the workers are told before the policy, and the policy before the journal
+policy a =
+asked a row,of other fields
+fault policy is not TOML
+list 0:  => workers must be 1 to 64
+list 65:  => workers must be 1 to 64
+list 1:  => policy is not TOML
+# nothing is to be committed without lines
+list 1:  => output
+list 1: take 0 1, commit 1 => output
 ";
-
-const LISTS: &str = "
-0: take 0 1 => workers must be 1 to 64
-65: take 0 1 => workers must be 1 to 64
-1:  => unfinished 0
-64:  => unfinished 0
-1: take 0 1, take 0 1, look 0, look 0, publish 0, publish 0, publish 0, check 0 1, check 0 1, commit 1, commit 1 => unfinished 1
-1: take 0 1, look 0, publish 0, publish 0, check 0 1, commit 1, check 0 1 => unfinished 0
-1: take 1 1, take 64 1, take 0 0, take 0 7, look 64, publish 64, check 64 1, commit 7, commit 0, check 0 1 => unfinished 0
-64: take 63 2, publish 63, check 0 2, take 63 1, look 63, publish 63, publish 63, check 62 1, check 62 1, commit 1, commit 2, check 1 2, commit 2 => output 0 0
-1: take 0 2, publish 0, check 0 2, commit 2, take 0 1, look 0, publish 0, publish 0, check 0 1, check 0 1, commit 1, check 0 2, commit 2 => output 0 0
-";
-
-#[test]
-fn runs_lists_of_steps(rt: HostRuntime) -> Result<(), Fail> {
-    for list in LISTS.split('\n') {
-        if !list.is_empty() {
-            run_list(&rt, TWO, list)?;
-        }
-    }
-    run_list(&rt, BROKEN, "0:  => workers must be 1 to 64")?;
-    run_list(&rt, BROKEN, "1: take 0 1 => base rule loans row 1 patron")
-}

@@ -1,10 +1,8 @@
 //! Steps that are refused. The runner of scripts sees that each leaves the board as it was.
 
-use super::run_scripts;
-use std::test::Fail;
-
-pub(super) const STRANGE: &str = "
+pub(crate) const STRANGE: &str = "
 # steps that are nobody's
+given output 0
 asked 1920260302    101500AOL1|ABI1|ACx|CHtorn|
 take 64 1 = idle
 take 3 1 = idle
@@ -59,6 +57,7 @@ take 0 1 = idle
 begin 0 = end
 counts = 1 0 0 1 0
 # a worker with a line in hand takes and checks no other
+given never
 asked 2520260302    100000AOL1|AAP1|
 asked 2520260302    100000AOL1|AAP2|
 asked 2520260302    100000AOL1|AAP2|
@@ -85,7 +84,7 @@ commit 1 = committed
 counts = 2 0 0 1 1
 ";
 
-const STRANGERS: &str = "
+pub(crate) const STRANGERS: &str = "
 # a version of another line, and one of fewer reads
 asked 2520260302    100000AOL1|AAP1|
 asked 9900302.00AY1AZFCA5
@@ -136,7 +135,7 @@ publish 0 = whole
 counts = 4 1 1 0 2
 ";
 
-const SPENT: &str = "
+pub(crate) const SPENT: &str = "
 # the clock is at its end: no placing
 starting 0 18446744073709551615
 asked 1920260302    101500AOL1|ABI1|ACx|CHtorn|
@@ -206,18 +205,3 @@ commit 1 = committed
 begin 0 = take 2: attempts 2
 counts = 2 1 0 1 0
 ";
-
-#[test]
-fn strange_steps(rt: HostRuntime) -> Result<(), Fail> {
-    run_scripts(&rt, STRANGE)
-}
-
-#[test]
-fn strangers(rt: HostRuntime) -> Result<(), Fail> {
-    run_scripts(&rt, STRANGERS)
-}
-
-#[test]
-fn what_is_spent(rt: HostRuntime) -> Result<(), Fail> {
-    run_scripts(&rt, SPENT)
-}

@@ -1,10 +1,8 @@
 //! Lines that run early on what lines before them change.
 
-use super::run_scripts;
-use std::test::Fail;
-
-pub(super) const STALE: &str = "
+pub(crate) const STALE: &str = "
 # a version that stood on the base is found changed, and so is what stood on it
+given never
 asked 2520260302    100000AOL1|AAP1|
 asked 11NN20260302    101500                  AOL1|AAP1|ABI1|ACx|
 asked 09N20260302    11000020260302    110000AOL1|ABI1|
@@ -55,6 +53,7 @@ check 0 3 = changed I1 2.0 2.1
 counts = 4 2 0 2 0
 committed = 2
 # the same, at the greatest numbers of lines
+given never
 first 9999999990
 asked 2520260302    100000AOL1|AAP1|
 asked 11NN20260302    101500                  AOL1|AAP1|ABI1|ACx|
@@ -106,8 +105,9 @@ counts = 4 2 0 2 0
 committed = 2
 ";
 
-pub(super) const IN_PART: &str = "
+pub(crate) const IN_PART: &str = "
 # a line sees what another has placed in part, and is sent back when the rest comes
+given output 0 0 1
 asked 11NN20260302    101500                  AOL1|AAP1|ABI1|ACx|
 asked 9900302.00AY1AZFCA5
 asked 6520260309    120000AOL1|AAP1|
@@ -148,8 +148,9 @@ choose = end
 counts = 4 1 0 3 0
 ";
 
-pub(super) const SUSPECT: &str = "
+pub(crate) const SUSPECT: &str = "
 # a suspect entry stops a look, and what an attempt leaves is lifted by the next
+given output 0 1 1
 base loans P1,I1,20260316,0
 asked 29NN20260316    100000                  AOL1|AAP1|ABI1|
 asked 09N20260320    09000020260320    090000APx|AOL1|ABI1|ACx|
@@ -199,6 +200,7 @@ check 1 3 = whole
 commit 3 = committed
 counts = 5 1 1 3 0
 # the same, at the greatest numbers of lines
+given output 0 1 1
 base loans P1,I1,20260316,0
 first 9999999990
 asked 29NN20260316    100000                  AOL1|AAP1|ABI1|
@@ -248,6 +250,7 @@ commit 9999999992 = committed
 choose = end
 counts = 5 1 1 3 0
 # a line that stood on a suspect entry is found changed, and stops where it looks at it again
+given output 0 1 2
 asked 2520260302    100000AOL1|AAP1|
 asked 11NN20260302    101500                  AOL1|AAP1|ABI1|ACx|
 asked 09N20260302    11000020260302    110000AOL1|ABI1|
@@ -300,8 +303,9 @@ commit 3 = committed
 counts = 6 2 1 3 0
 ";
 
-pub(super) const EARLY: &str = "
+pub(crate) const EARLY: &str = "
 # a checkin that ran before a line changed the item's properties tells them the second time
+given output 0 1
 base loans P1,I1,20260316,0
 asked 1920260302    101500AOL1|ABI1|ACx|CHtorn|
 asked 09N20260302    11000020260302    110000AOL1|ABI1|
@@ -336,6 +340,7 @@ commit 2 = committed
 choose = end
 counts = 3 1 0 2 0
 # a checkout that ran before another patron's hold is refused the second time, and what it wrote is lifted
+given output 0 1
 asked 15+20260302    101500AOL1|AAP2|ABI1|BSMain|
 asked 11NN20260302    101500                  AOL1|AAP1|ABI1|ACx|
 take 0 2 = taken 0
@@ -370,23 +375,3 @@ commit 2 = committed
 choose = end
 counts = 3 1 0 2 0
 ";
-
-#[test]
-fn what_stood_on_the_base(rt: HostRuntime) -> Result<(), Fail> {
-    run_scripts(&rt, STALE)
-}
-
-#[test]
-fn what_was_placed_in_part(rt: HostRuntime) -> Result<(), Fail> {
-    run_scripts(&rt, IN_PART)
-}
-
-#[test]
-fn what_is_suspect(rt: HostRuntime) -> Result<(), Fail> {
-    run_scripts(&rt, SUSPECT)
-}
-
-#[test]
-fn what_ran_early(rt: HostRuntime) -> Result<(), Fail> {
-    run_scripts(&rt, EARLY)
-}

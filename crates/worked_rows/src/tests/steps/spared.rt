@@ -1,10 +1,8 @@
 //! What a line doesn't look at may change: the line isn't sent back.
 
-use super::run_scripts;
-use std::test::Fail;
-
-pub(super) const SPARED: &str = "
+pub(crate) const SPARED: &str = "
 # a checkout of a patron who has a loan looks at the patron and the item alone
+given output 0 0
 base loans P1,V1,20260309,0
 asked 1920260302    101500AOL1|ABV1|ACx|CHtorn|
 asked 11NN20260302    101500                  AOL1|AAP1|ABI1|ACx|
@@ -34,6 +32,7 @@ choose = end
 counts = 2 0 0 2 0
 clock = 3
 # a checkin of a borrower who owes a fee and has another loan looks at the item and the borrower alone
+given output 0 0 0
 base loans P1,V1,20260309,0
 base loans P1,I1,20260316,0
 base fees F1,P1,01,1.00,0.00
@@ -74,6 +73,7 @@ commit 3 = committed
 choose = end
 counts = 3 0 0 3 0
 # a renewal of all looks at each item of the list, and a change of one of them sends it back
+given never
 base loans P1,V1,20260309,0
 base loans P1,I1,20260310,0
 asked 29NN20260309    110000                  AOL1|AAP1|ABV1|BOY|
@@ -97,8 +97,3 @@ publish 1 = whole
 check 0 2 = changed P1 base 1.0
 counts = 2 1 0 0 1
 ";
-
-#[test]
-fn what_is_not_looked_at(rt: HostRuntime) -> Result<(), Fail> {
-    run_scripts(&rt, SPARED)
-}

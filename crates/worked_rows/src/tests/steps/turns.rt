@@ -1,9 +1,6 @@
 //! Versions of equal notes that write differently, published in turn in one attempt.
 
-use super::run_scripts;
-use std::test::Fail;
-
-const TURNS: &str = "
+pub(crate) const TURNS: &str = "
 # each places its own write; at the next attempt each lifts what it doesn't write
 asked 2520260302    100000AOL1|AAP1|
 asked 9900302.00AY1AZFCA5
@@ -77,8 +74,3 @@ commit 2 = committed
 choose = end
 counts = 2 0 0 2 0
 ";
-
-#[test]
-fn equal_notes_and_other_writes(rt: HostRuntime) -> Result<(), Fail> {
-    run_scripts(&rt, TURNS)
-}

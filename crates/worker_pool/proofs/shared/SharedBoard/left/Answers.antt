@@ -2,5 +2,5 @@ use mathlib.Core.List.{not-mem-nil}
 use Rattle.worker_pool.proofs.shared.SharedBoard.left.Goals as goal
 
 -- a plan's name lives as long as any place
-pub drop-lock-requires-lives-T-Destruct : goal.drop-lock-requires-lives-T-Destruct
-drop-lock-requires-lives-T-Destruct g c κs within = λ a m. absurd (not-mem-nil (c.type_bounds.static-J a m))
+pub drop-hold-requires-lives-T-Destruct : goal.drop-hold-requires-lives-T-Destruct
+drop-hold-requires-lives-T-Destruct g c κs within = λ a m. absurd (not-mem-nil (c.type_bounds.static-J a m))

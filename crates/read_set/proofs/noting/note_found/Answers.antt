@@ -1,0 +1,20 @@
+use Rattle.std.proofs.Common.{ap, sym, ◌∙◌}
+use Rattle.read_set.specs.declared.notes.Note.{Note}
+use Rattle.read_set.specs.Asks.{Ask, Give, Done}
+use Rattle.read_set.specs.Notes.{noted}
+use Rattle.read_set.proofs.Gaining.{gains_none}
+use Rattle.read_set.proofs.More.{asked_there, noted_gains}
+use Rattle.read_set.proofs.noting.note_found.Goals as goal
+
+pub returns-in_err-add-clause-keeps : goal.returns-in_err-add-clause-keeps
+returns-in_err-add-clause-keeps c = rw c.in_err-add.ensures.err (gains_none (noted c.args.notes.now) (Ask c.args.key.now Give))
+
+pub returns-clause-gives : goal.returns-clause-gives
+returns-clause-gives c =
+    let note : Note = record { key = c.args.key.now; name = c.args.name; found = c.args.found } in
+    rw c.in_ok-add.ensures.ok (asked_there c.args.notes.now note c.requires ∙ ap Done (sym c.in_ok-copy.ensures))
+
+pub returns-clause-keeps : goal.returns-clause-keeps
+returns-clause-keeps c =
+    let note : Note = record { key = c.args.key.now; name = c.args.name; found = c.args.found } in
+    rw c.in_ok-add.ensures.ok (noted_gains c.args.notes.now note c.requires)

@@ -1,0 +1,133 @@
+//! Notes as sources of records: those that stand, and those that grow by what is looked at.
+
+ghost use Rattle.std.specs.Prelude.{◌≡◌, None};
+ghost use Rattle.read_set.specs.Asks.{follow, Ask, Give, Gains};
+ghost use Rattle.read_set.specs.Notes.{note_of, noted};
+ghost use Rattle.read_set.specs.Stops.{Follows};
+
+use crate::notes::{Name, Note, Notes, copy_found};
+use crate::source::{Source, Stop};
+use circ_records::{Key, Record};
+use std::alloc::{AllocError, Global};
+use std::marker::{Brand, PhantomData};
+
+/// Which notes they are. Each use picks it.
+pub trait NotesName {
+    ghost use Rattle.std.specs.Prelude.{List};
+    ghost use Rattle.read_set.specs.declared.notes.Note.{Note};
+
+    ghost notes: { List Note };
+}
+
+impl NotesName for Brand {
+    ghost use Rattle.std.specs.Prelude.{[]};
+
+    ghost notes = { [] };
+}
+
+/// Notes that stand, as a source of records: it stops at a key that isn't noted. Its type names the notes, so it has the
+/// same whatever is read.
+#[derive(Drop)]
+pub struct NotesSource<'n, N: NotesName> {
+    notes: &'n Notes,
+    of: PhantomData<N>,
+    ghost named: { notes.now ≡ N.notes },
+}
+
+impl<'n, N: NotesName> NotesSource<'n, N> {
+    /// The notes that the type names.
+    pub fn new(notes: &'n Notes) -> NotesSource<'n, N>
+        requires { notes.now ≡ N.notes }
+    {
+        NotesSource {
+            notes,
+            of: PhantomData,
+        }
+    }
+}
+
+impl<N: NotesName> Source for NotesSource<'_, N> {
+    ghost use Rattle.read_set.specs.Notes.{noted};
+
+    ghost has = { λ s. noted N.notes };
+
+    #[tactic(auto, using(crate::proofs::Gaining::gains_none))]
+    fn read(&mut self, alloc: Global, key: &Key) -> Result<Option<Record>, Stop> {
+        match self.notes.get(key) {
+            Some(note) => Ok(copy_found(alloc, &note.found)?),
+            None => Err(Stop::Unnoted(*key)),
+        }
+    }
+}
+
+/// Where one looks for a record that isn't noted yet.
+pub trait Looks {
+    /// What stands at a key now, a record or none, and whose it is; None where there is nothing more to be seen.
+    fn look(
+        &mut self,
+        alloc: Global,
+        key: &Key,
+    ) -> Result<Option<(Name, Option<Record>)>, AllocError>;
+}
+
+/// A source that looks for what isn't noted yet, and notes what it sees. It stops where there is nothing more to be seen.
+#[derive(Drop)]
+pub struct Noting<L: Looks> {
+    pub notes: Notes,
+    pub looks: L,
+}
+
+impl<L: Looks> Source for Noting<L> {
+    ghost use Rattle.read_set.specs.Notes.{noted};
+
+    ghost has = { λ s. noted s.notes };
+
+    #[tactic(auto, using(crate::proofs::Gaining::gains_none))]
+    fn read(&mut self, alloc: Global, key: &Key) -> Result<Option<Record>, Stop> {
+        match self.notes.get(key) {
+            Some(note) => Ok(copy_found(alloc, &note.found)?),
+            None => look_for(alloc, &mut self.notes, &mut self.looks, key),
+        }
+    }
+}
+
+/// Looks for a record, notes it and gives it.
+#[tactic(auto, using(crate::proofs::Gaining::gains_none))]
+fn look_for<L: Looks>(
+    alloc: Global,
+    notes: &mut Notes,
+    looks: &mut L,
+    key: &Key,
+) -> Result<Option<Record>, Stop>
+    requires { note_of notes.old key.now ≡ None }
+    ensures gives { Follows result (follow (noted notes.new) (Ask key.now Give)) }
+    ensures keeps { Gains (noted notes.old) (noted notes.new) (Ask key.now Give) }
+{
+    let Some(seen) = looks.look(alloc, key)? else {
+        return Err(Stop::Unnoted(*key));
+    };
+    let (name, found) = seen;
+    note_found(alloc, notes, key, name, found)
+}
+
+/// Notes what was found, and gives it.
+#[tactic(auto, using(crate::proofs::Gaining::gains_none))]
+fn note_found(
+    alloc: Global,
+    notes: &mut Notes,
+    key: &Key,
+    name: Name,
+    found: Option<Record>,
+) -> Result<Option<Record>, Stop>
+    requires { note_of notes.old key.now ≡ None }
+    ensures gives { Follows result (follow (noted notes.new) (Ask key.now Give)) }
+    ensures keeps { Gains (noted notes.old) (noted notes.new) (Ask key.now Give) }
+{
+    let copy = copy_found(alloc, &found)?;
+    notes.add(Note {
+        key: *key,
+        name,
+        found,
+    })?;
+    Ok(copy)
+}

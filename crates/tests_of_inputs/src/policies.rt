@@ -1,0 +1,105 @@
+//! What a policy has, and the due days and late fees that it gives. Which rule a policy breaks stands in `books`.
+
+use circ_policy::{DueForm, LoanDays, MediaType, Policy, late_fee};
+use sip_reader::{Day, Id};
+use std::alloc::AllocGlobal;
+use std::process::Abort;
+
+/// A library that is closed on Sundays and at Christmas, with one class and two types of media.
+const SMALL: &str = "institution = \"L1\"
+currency = \"USD\"
+due_form = \"sip\"
+closed_weekdays = [\"sunday\"]
+closed_dates = [\"2026-12-25\"]
+[class.A]
+max_loans = 2
+max_fees = 1000
+max_renewals = 1
+[media.001]
+days = 14
+rental = 0
+late = 25
+cap = 500
+[media.005]
+days = 7
+rental = 100
+late = 0
+cap = 0
+";
+
+fn policy<R: AllocGlobal + Abort>(rt: &R) -> Policy {
+    Policy::read(rt.alloc(), SMALL.as_bytes())
+        .ok()
+        .expect(rt, "a policy")
+}
+
+#[test]
+fn values(rt: HostRuntime) {
+    let policy = policy(&rt);
+    assert!(rt; policy.institution().as_bytes() == b"L1".as_slice());
+    assert!(rt; policy.currency() == *b"USD" && policy.due_form() == DueForm::Sip);
+    let id = Id::new(b"A").expect(&rt, "an id");
+    let class = policy.class(&id).expect(&rt, "a class");
+    let numbers = [class.max_loans, class.max_renewals];
+    assert!(rt; numbers == [2, 1] && class.max_fees.hundredths() == 1000);
+    let media = policy.media(MediaType::VideoTape).expect(&rt, "a type");
+    assert!(rt; media.days.count() == 7 && media.rental.hundredths() == 100);
+    assert!(rt; media.late.hundredths() == 0 && media.cap.hundredths() == 0);
+}
+
+#[test]
+fn what_is_not_there(rt: HostRuntime) {
+    let policy = policy(&rt);
+    let id = Id::new(b"a").expect(&rt, "an id");
+    assert!(rt; policy.class(&id).is_none() && policy.media(MediaType::Cd).is_none());
+    assert!(rt; MediaType::of_code(b"010") == Some(MediaType::BookWithTape));
+    assert!(rt; MediaType::of_code(b"011").is_none() && LoanDays::new(3651).is_none());
+    assert!(rt; MediaType::Magazine.code() == *b"002");
+}
+
+type Date = (u16, u8, u8);
+
+#[test]
+fn due_days(rt: HostRuntime) {
+    let policy = policy(&rt);
+    let rows: [(Date, MediaType, Date); 6] = [
+        ((2026, 3, 2), MediaType::Book, (2026, 3, 16)),
+        ((2026, 3, 1), MediaType::VideoTape, (2026, 3, 9)),
+        ((2026, 12, 11), MediaType::Book, (2026, 12, 26)),
+        ((2026, 12, 13), MediaType::Book, (2026, 12, 28)),
+        ((2024, 2, 22), MediaType::VideoTape, (2024, 2, 29)),
+        ((9900, 12, 31), MediaType::Book, (9901, 1, 14)),
+    ];
+    for ((year, month, day), media, want) in rows {
+        let day = Day::of(year, month, day).expect(&rt, "a day");
+        assert!(rt; day.number() <= 7_268_324);
+        let media = policy.media(media).expect(&rt, "a type");
+        assert!(rt;
+            policy.due(day, &media).parts() == want,
+            "of {year}-{month}"
+        );
+    }
+}
+
+#[test]
+fn late_fees(rt: HostRuntime) {
+    let policy = policy(&rt);
+    let media = policy.media(MediaType::Book).expect(&rt, "a type");
+    let due = Day::of(2026, 3, 16).expect(&rt, "a day");
+    let rows: [(Date, u64); 7] = [
+        ((2026, 3, 1), 0),
+        ((2026, 3, 16), 0),
+        ((2026, 3, 17), 25),
+        ((2026, 3, 20), 100),
+        ((2026, 4, 5), 500),
+        ((2026, 4, 6), 500),
+        ((9999, 12, 31), 500),
+    ];
+    for ((year, month, day), fee) in rows {
+        let back = Day::of(year, month, day).expect(&rt, "a day");
+        assert!(rt;
+            late_fee(due, back, &media).hundredths() == fee,
+            "on {month}-{day}"
+        );
+    }
+}

@@ -1,0 +1,126 @@
+//! Faults that were left.
+
+ghost use Rattle.std.specs.Prelude.{◌≡◌};
+ghost use Rattle.worker_pool.specs.Rows.{IsStatic};
+
+use crate::gates::{Watch, wait_for};
+use crate::library::plan_of;
+use circ_records::Key;
+use message_meaning::need;
+use read_set::{Need, Notes, Plan, PlanName};
+use replay_run::{Moment, NoGate};
+use sip_reader::Id;
+use speculate::{Board, BoardFault};
+use std::alloc::{AllocGlobal, Global};
+use std::marker::Brand;
+use std::process::Abort;
+use std::sync::Wait;
+use std::sync::atomic::Ordering;
+use std::test::Fail;
+use std::thread;
+use std::thread::Threads;
+use version_store::VersionTable;
+use worker_pool::{Closed, Left, SharedBoard, Sight, run_workers};
+
+/// Other words for an item, and then its loan.
+const STATUS_AND_LOAN: &str = "\
+1920260302    101500AOL1|ABI1|ACx|CHtorn|,
+11NN20260302    101500                  AOL1|AAP1|ABI1|ACx|,";
+
+#[test]
+fn ends_where_a_fault_was_left(rt: HostRuntime) -> Result<(), Fail> {
+    let plan = plan_of(rt.alloc(), 2, STATUS_AND_LOAN)?.expect(&rt, "a plan");
+    leave_two::<Brand, HostRuntime>(&rt, &plan)?;
+    hold_one::<Brand, HostRuntime>(&rt, &plan)
+}
+
+/// Whether a step tells want of memory.
+fn tells_memory<T: Copy>(told: Result<T, Left>) -> bool {
+    matches!(told, Err(Left(BoardFault::Memory)))
+}
+
+/// Leaves two faults while a worker has a line in hand.
+fn leave_two<J: PlanName + Send + Sync + 'static, R: Threads + Wait + Sync + AllocGlobal + Abort>(
+    rt: &R,
+    plan: &Plan,
+) -> Result<(), Fail>
+    requires { plan.now ≡ J.plan }
+{
+    let alloc = rt.alloc();
+    let table: VersionTable<J> = VersionTable::new(alloc)?;
+    let shared = SharedBoard::new(Board::new(alloc, plan, 2)?, &table);
+    assert!(rt; shared.begin(rt, 0).is_ok());
+    shared.leave(rt, BoardFault::Memory);
+    shared.leave(rt, BoardFault::ClockSpent);
+    assert!(rt; tells_memory(shared.begin(rt, 1)), "begin");
+    let key = Key::Item(Id::new(b"I1").expect(rt, "an id"));
+    match shared.look(rt, 0, &key) {
+        Ok(Sight::Seen { .. }) => panic!(rt; "seen"),
+        Ok(Sight::Over) => panic!(rt; "over"),
+        Err(left) => assert!(rt; tells_memory::<()>(Err(left)), "look"),
+    }
+    assert!(rt; tells_memory(shared.publish_more(rt, 0)), "publish_more");
+    assert!(rt; tells_memory(shared.check(rt, 0, 1)), "check");
+    // A line that the journal lacks wants nothing.
+    let Need::Done(version) = need(alloc, plan, 3, 0, &Notes::new(alloc))? else {
+        panic!(rt; "a version")
+    };
+    let Ok(place) = table.put(rt, version) else {
+        panic!(rt; "a place")
+    };
+    assert!(rt; tells_memory(shared.publish(rt, 0, place)), "publish");
+    let run = run_workers(rt, alloc, &shared, &NoGate);
+    assert!(rt; matches!(run, Err(BoardFault::Memory)), "run_workers");
+    match shared.close() {
+        Closed::Finished(_) => panic!(rt; "no line is committed"),
+        Closed::Open { committed } => assert_eq!(rt; committed, 0),
+    }
+    Ok(())
+}
+
+/// Leaves a fault while a gate holds the worker that has taken a line.
+fn hold_one<J: PlanName + Send + Sync + 'static, R: Threads + Wait + Sync + AllocGlobal + Abort>(
+    rt: &R,
+    plan: &Plan,
+) -> Result<(), Fail>
+    requires { plan.now ≡ J.plan }
+{
+    let alloc = rt.alloc();
+    let table: VersionTable<J> = VersionTable::new(alloc)?;
+    let board = Board::new(alloc, plan, 1)?;
+    let shared = SharedBoard::new(board, &table);
+    let gate = Watch::new(true, Moment::Committed);
+    leave_while_held(rt, alloc, &shared, &gate);
+    assert!(rt; matches!(shared.left(rt), Some(BoardFault::Memory)), "left");
+    let seen = gate.seen(alloc).ok().expect(rt, "memory");
+    assert_eq!(rt; seen.as_str(), "1 0 0 0 0");
+    Ok(())
+}
+
+/// Runs a worker that the gate holds once it has taken a line, and meanwhile leaves want of memory.
+fn leave_while_held<J: PlanName + Send + Sync + 'static, R: Threads + Wait + Sync>(
+    rt: &R,
+    alloc: Global,
+    shared: &SharedBoard<'_, '_, J>,
+    gate: &Watch,
+) {
+    thread::scope(
+        thread::scope_env(),
+        rt,
+        |scope|
+            requires { IsStatic J.row }
+        {
+            let _ = scope.spawn(
+                move ||
+                    requires { IsStatic J.row }
+                {
+                    let _ = run_workers(rt, alloc, shared, gate);
+                },
+            );
+            if wait_for(&gate.taken) {
+                shared.leave(rt, BoardFault::Memory);
+            }
+            gate.free.store(1, Ordering::SeqCst);
+        },
+    );
+}

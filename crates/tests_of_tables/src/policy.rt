@@ -1,4 +1,0 @@
-//! Policies as files, and the days and fees that they give.
-
-mod days;
-mod files;

@@ -1,0 +1,39 @@
+//! Looking at the board for what a line wants.
+
+use crate::shared::SharedBoard;
+use crate::told::{Left, Sight};
+use board_lines::{copied, record_seen};
+use circ_records::{Key, Record};
+use read_set::{Looks, Name, PlanName};
+use std::alloc::{AllocError, Global};
+use std::sync::Wait;
+
+/// Where a worker looks for its line's records: the board, one hold of the lock for each.
+#[derive(Drop)]
+pub struct OnBoard<'a, 'p, 't, J: PlanName + 'static, R: Wait> {
+    pub rt: &'a R,
+    pub shared: &'a SharedBoard<'p, 't, J>,
+    pub worker: u32,
+    /// Why nothing more can be seen, if it isn't that the attempt has ended.
+    pub left: Option<Left>,
+}
+
+impl<J: PlanName + 'static, R: Wait> Looks for OnBoard<'_, '_, '_, J, R> {
+    fn look(
+        &mut self,
+        alloc: Global,
+        key: &Key,
+    ) -> Result<Option<(Name, Option<Record>)>, AllocError> {
+        match self.shared.look(self.rt, self.worker, key) {
+            Ok(Sight::Seen { name, place }) => {
+                let found = copied(alloc, record_seen(self.shared.plan(), key, place))?;
+                Ok(Some((name, found)))
+            }
+            Ok(Sight::Over) => Ok(None),
+            Err(left) => {
+                self.left = Some(left);
+                Ok(None)
+            }
+        }
+    }
+}

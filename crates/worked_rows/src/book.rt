@@ -1,6 +1,7 @@
 //! A row of a book: the inputs of a run, and what must come out.
 
 use crate::by_steps::{run_lists, tell_rounds};
+use crate::checked::must_be;
 use crate::driven::drive;
 use circ_policy::Policy;
 use circ_records::Base;
@@ -275,8 +276,8 @@ impl Row {
             }
             Err(fault) => {
                 let told = fault.to_string(alloc)?;
-                assert_eq!(rt; told.as_str(), self.fault.as_str(), "{title}");
-                assert_eq!(rt; rounds.as_str(), self.fault.as_str(), "{title}");
+                must_be(rt, told.as_str(), self.fault.as_str(), title, "one thread");
+                must_be(rt, rounds.as_str(), self.fault.as_str(), title, "rounds");
             }
         }
         Ok(())

@@ -1,6 +1,7 @@
 //! Whole runs by lists of workers' steps.
 
 use crate::book::Row;
+use crate::checked::must_be;
 use crate::lists::step_of;
 use crate::script::Script;
 use crate::sight::WORKERS;
@@ -89,7 +90,7 @@ pub(crate) fn run_beginnings<R: Wait + AllocGlobal + Abort>(
             } else {
                 script.given
             };
-            assert_eq!(rt; told.as_str(), wanted, "{}: {line}", script.title);
+            must_be(rt, told.as_str(), wanted, script.title, line);
         }
     }
     Ok(())
@@ -126,7 +127,7 @@ fn run_list<R: Wait + AllocGlobal + Abort>(
     }
     let workers = workers.parse::<u32>().unwrap_or(0);
     let told = tell_run(rt, alloc, inputs, workers, steps.as_slice())?;
-    assert_eq!(rt; told.as_str(), wanted, "{list}");
+    must_be(rt, told.as_str(), wanted, "list", list);
     Ok(())
 }
 

@@ -47,14 +47,10 @@
 //!
 //! A single line tells records that need not fit together, one line, the records for which it asks (`wants`), in the order of
 //! asking, and what it does. `{9998}` stands for so many places of P2 in a queue.
-//!
-//! Beside the books stand tests of the rooms that a board is made of: `attempts`, `line_set` and `version_store`.
 #![tactic(auto)]
 
 #[cfg(test)]
 mod again;
-#[cfg(test)]
-mod attempt_table;
 #[cfg(test)]
 mod book;
 #[cfg(test)]
@@ -62,11 +58,11 @@ mod by_steps;
 #[cfg(test)]
 mod calls;
 #[cfg(test)]
+mod checked;
+#[cfg(test)]
 mod driven;
 #[cfg(test)]
 mod lists;
-#[cfg(test)]
-mod places;
 #[cfg(test)]
 mod replies;
 #[cfg(test)]
@@ -79,5 +75,3 @@ mod sight;
 mod single;
 #[cfg(test)]
 mod tests;
-#[cfg(test)]
-mod versions;

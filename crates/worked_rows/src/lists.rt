@@ -1,6 +1,7 @@
 //! The calls of a script as lists of steps.
 
 use crate::calls::reply_to;
+use crate::checked::must_be;
 use crate::script::Script;
 use crate::sight::sight;
 use read_set::PlanName;
@@ -79,7 +80,7 @@ pub(crate) fn play_lists<'t, J: PlanName, R: Wait + AllocGlobal + Abort>(
                 play_list(rt, table, board, &list, size, title)?;
                 list = List::new(alloc);
                 let told = reply_to(rt, table, board, &mut kept, call)?;
-                assert_eq!(rt; told.as_str(), wanted, "{title}: {line}");
+                must_be(rt, told.as_str(), wanted, title, line);
             }
         }
     }
@@ -113,7 +114,7 @@ fn play_list<'t, J: PlanName, R: Wait + AllocGlobal + Abort>(
             }
         }
     }
-    assert_eq!(rt; halts.as_str(), list.halts.as_str(), "{title}");
+    must_be(rt, halts.as_str(), list.halts.as_str(), title, "halts");
     Ok(())
 }
 
@@ -139,7 +140,13 @@ fn take_up<'t, J: PlanName, R: Wait + AllocGlobal + Abort>(
     };
     assert!(rt; again.done == 0 && again.fault == halt.fault);
     let after = sight(alloc, board)?;
-    assert_eq!(rt; after.as_str(), before.as_str());
+    must_be(
+        rt,
+        after.as_str(),
+        before.as_str(),
+        "refused again",
+        "sight",
+    );
     Ok(())
 }
 

@@ -5,6 +5,7 @@ ghost use Rattle.std.specs.Prelude.{◌≡◌};
 use crate::book::{Row, plan_over};
 use crate::by_steps::run_beginnings;
 use crate::calls::reply_to;
+use crate::checked::must_be;
 use crate::lists::play_lists;
 use crate::sight::{WORKERS, sight};
 use read_set::{Plan, PlanName};
@@ -97,7 +98,7 @@ fn play_calls<J: PlanName, R: Wait + AllocGlobal + Abort>(
     let called = play::<J, R>(rt, plan, script, 0)?;
     for size in [1, 3, usize::MAX] {
         let listed = play::<J, R>(rt, plan, script, size)?;
-        assert_eq!(rt; listed.as_str(), called.as_str(), "{title}: {size}");
+        must_be(rt, listed.as_str(), called.as_str(), title, "in lists");
     }
     Ok(())
 }
@@ -135,10 +136,10 @@ fn play_on<'t, J: PlanName, R: Wait + AllocGlobal + Abort>(
         if let Some((call, wanted)) = line.split_once(" = ") {
             let before = sight(rt.alloc(), board)?;
             let told = reply_to(rt, table, board, &mut kept, call)?;
-            assert_eq!(rt; told.as_str(), wanted, "{title}: {line}");
+            must_be(rt, told.as_str(), wanted, title, line);
             if is_refusal(wanted) {
                 let after = sight(rt.alloc(), board)?;
-                assert_eq!(rt; after.as_str(), before.as_str(), "{title}: {line}");
+                must_be(rt, after.as_str(), before.as_str(), title, line);
             }
         }
     }

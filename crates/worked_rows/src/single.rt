@@ -4,6 +4,7 @@ ghost use Rattle.std.specs.Prelude.{◌≡◌, None};
 ghost use Rattle.read_set.specs.Notes.{noted};
 
 use crate::book::{Row, plan_over};
+use crate::checked::must_be;
 use crate::shelf::{Shelf, tell};
 use circ_records::{Key, Record};
 use message_meaning::{need, perform};
@@ -69,16 +70,16 @@ impl Single {
         row.ask(alloc, self.request.as_str())?;
         let plan = plan_over(alloc, &row.inputs)?.expect(rt, "a plan");
         let done = self.performed(alloc, &plan)?;
-        assert_eq!(rt; done.as_str(), self.told.as_str(), "{title}");
+        must_be(rt, done.as_str(), self.told.as_str(), title, "does");
         let mut wants = String::new(alloc);
         let done = ask::<Brand>(alloc, &plan, &self.shelf, &mut wants)?;
-        assert_eq!(rt; wants.as_str(), self.wants.as_str(), "{title}");
-        assert_eq!(rt; done.as_str(), self.told.as_str(), "{title}");
+        must_be(rt, wants.as_str(), self.wants.as_str(), title, "asks");
+        must_be(rt, done.as_str(), self.told.as_str(), title, "does");
         let mut seen = String::new(alloc);
         let shelf = replace(&mut self.shelf, Shelf::new(alloc));
         let done = look_once(alloc, &plan, shelf, &mut seen)?;
-        assert_eq!(rt; seen.as_str(), self.wants.as_str(), "{title}");
-        assert_eq!(rt; done.as_str(), self.told.as_str(), "{title}");
+        must_be(rt, seen.as_str(), self.wants.as_str(), title, "looks");
+        must_be(rt, done.as_str(), self.told.as_str(), title, "does");
         Ok(())
     }
 

@@ -20,8 +20,9 @@ use std::thread::Threads;
 use version_store::Place;
 
 /// How many pauses of the processor, of 5 to 50 nanoseconds each, a worker stands back before it chooses again where its choice
-/// waits for others: as long as a few lines take. Without it a worker on a core of its own takes the same line over and over.
-const PAUSES: u32 = 5000;
+/// waits for others: as long as some dozens of lines take. One that comes back at once takes the same line over and over, or one
+/// whose records others are still about to write: a tenth of that costs takes and no run is faster for it (`bench/threads`).
+const PAUSES: u32 = 150_000;
 
 /// A line that a worker has in hand.
 #[derive(Clone, Copy)]

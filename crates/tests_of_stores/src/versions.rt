@@ -47,7 +47,61 @@ fn made(line: u64, attempt: u32) -> Found {
     Found::Named(Name::Made { line, attempt })
 }
 
-/// Line 8 places at a patron and an item, is made suspect, places the item alone again, and lifts the patron.
+/// Line 8 places at an item and a patron, and is made suspect. Gives where its version stands.
+fn place_first<'t, J: PlanName, R: Wait + AllocGlobal + Abort>(
+    rt: &R,
+    table: &'t VersionTable<J>,
+    store: &mut EntryStore<'t, J>,
+) -> Result<Place<'t, J>, AllocError>
+    requires named { J.plan ≡ no_plan }
+    requires line { IsLine store.old 8 }
+    ensures { IsLine store.new 8 }
+{
+    let (item, patron) = (key(rt, 1), key(rt, 3));
+    let first = put_version(rt, table, 8, 0)?;
+    store.place(rt.alloc(), 8, 0, &item, first)?;
+    store.place(rt.alloc(), 8, 0, &patron, first)?;
+    assert!(rt; store.name(&item, 8) == Found::Named(Name::Base));
+    assert!(rt; store.name(&item, 9) == made(8, 0) && store.name(&patron, 10) == made(8, 0));
+    store.suspect_all(8);
+    assert!(rt; store.name(&patron, 9) == Found::Suspect { line: 8 });
+    Ok(first)
+}
+
+/// The line's next attempt places the item alone: the patron is left.
+fn place_again<'t, J: PlanName, R: Wait + AllocGlobal + Abort>(
+    rt: &R,
+    table: &'t VersionTable<J>,
+    store: &mut EntryStore<'t, J>,
+) -> Result<(), AllocError>
+    requires named { J.plan ≡ no_plan }
+    requires line { IsLine store.old 8 }
+    ensures { IsLine store.new 8 }
+{
+    let (item, patron) = (key(rt, 1), key(rt, 3));
+    let second = put_version(rt, table, 8, 1)?;
+    store.place(rt.alloc(), 8, 1, &item, second)?;
+    assert!(rt; store.name(&item, 9) == made(8, 1));
+    assert!(rt; store.name(&patron, 9) == Found::Suspect { line: 8 });
+    assert!(rt; store.attempt_at(8, &item) == Some(1) && store.attempt_at(8, &patron) == Some(0));
+    assert!(rt; is_key(store.left(8, 1), &patron) && is_key(store.left(8, 0), &item));
+    Ok(())
+}
+
+/// What was left is lifted; what touches no entry changes nothing.
+fn lift_left<J: PlanName>(rt: &impl Abort, store: &mut EntryStore<'_, J>)
+    requires { IsLine store.old 8 }
+{
+    let (item, patron) = (key(rt, 1), key(rt, 3));
+    store.lift(8, &patron);
+    assert!(rt; store.left(8, 1).is_none() && store.attempt_at(8, &patron).is_none());
+    store.lift(10, &item);
+    store.suspect_all(6);
+    assert!(rt; store.name(&patron, 9) == Found::Named(Name::Base));
+    assert!(rt; attempt_of(store.see(&item, 9)) == Some(1));
+}
+
+/// The three in turn; the first version is as it was.
 fn two_attempts<'t, J: PlanName, R: Wait + AllocGlobal + Abort>(
     rt: &R,
     table: &'t VersionTable<J>,
@@ -56,27 +110,9 @@ fn two_attempts<'t, J: PlanName, R: Wait + AllocGlobal + Abort>(
     requires named { J.plan ≡ no_plan }
     requires line { IsLine store.old 8 }
 {
-    let (item, patron) = (key(rt, 1), key(rt, 3));
-    let first = put_version(rt, table, 8, 0)?;
-    store.place(rt.alloc(), 8, 0, &item, first)?;
-    store.place(rt.alloc(), 8, 0, &patron, first)?;
-    assert!(rt; store.name(&item, 8) == Found::Named(Name::Base));
-    assert!(rt; store.name(&item, 9) == made(8, 0));
-    assert!(rt; store.name(&patron, 10) == made(8, 0));
-    store.suspect_all(8);
-    assert!(rt; store.name(&patron, 9) == Found::Suspect { line: 8 });
-    let second = put_version(rt, table, 8, 1)?;
-    store.place(rt.alloc(), 8, 1, &item, second)?;
-    assert!(rt; store.name(&item, 9) == made(8, 1));
-    assert!(rt; store.name(&patron, 9) == Found::Suspect { line: 8 });
-    assert!(rt; store.attempt_at(8, &item) == Some(1) && store.attempt_at(8, &patron) == Some(0));
-    assert!(rt; is_key(store.left(8, 1), &patron) && is_key(store.left(8, 0), &item));
-    store.lift(8, &patron);
-    assert!(rt; store.left(8, 1).is_none() && store.attempt_at(8, &patron).is_none());
-    store.lift(10, &item);
-    store.suspect_all(6);
-    assert!(rt; store.name(&patron, 9) == Found::Named(Name::Base));
-    assert!(rt; attempt_of(store.see(&item, 9)) == Some(1));
+    let first = place_first(rt, table, store)?;
+    place_again(rt, table, store)?;
+    lift_left(rt, store);
     assert!(rt; first.show().attempt() == 0);
     Ok(())
 }

@@ -16,13 +16,18 @@ use std::alloc::Global;
 use std::hint::spin_loop;
 use std::sync::Wait;
 use std::thread;
-use std::thread::Threads;
+use std::thread::{Parker, Threads};
+use std::time::Duration;
 use version_store::Place;
 
-/// How many pauses of the processor, of 5 to 50 nanoseconds each, a worker stands back before it chooses again where its choice
-/// waits for others: as long as some dozens of lines take. One that comes back at once takes the same line over and over, or one
-/// whose records others are still about to write: a tenth of that costs takes and no run is faster for it (`bench/threads`).
-const PAUSES: u32 = 150_000;
+/// How many microseconds a worker stands back before it chooses again where its choice waits for others: as long as some dozens
+/// of lines take. One that comes back at once takes the same line over and over, or one whose records others are still about to
+/// write (`bench/threads`).
+const STAND_BACK: u64 = 800;
+
+/// How many pauses of the processor, of 5 to 50 nanoseconds each, the first worker stands back. It never sleeps, so that a line that
+/// everybody waits for is soon in hand.
+const PAUSES: u32 = 5_000;
 
 /// A line that a worker has in hand.
 #[derive(Clone, Copy)]
@@ -98,7 +103,7 @@ fn work<J: PlanName + 'static, G: Gate, R: Wait>(
     for _ in rt.forever() {
         match take_turn(rt, alloc, shared, gate, worker) {
             Ok(Turn::Next) => {}
-            Ok(Turn::Yield) => stand_back(),
+            Ok(Turn::Yield) => stand_back(rt, worker),
             Ok(Turn::Last) => return,
             Err(Left(fault)) => {
                 shared.leave(rt, fault);
@@ -109,7 +114,11 @@ fn work<J: PlanName + 'static, G: Gate, R: Wait>(
 }
 
 /// Lets other workers go first. To yield alone does nothing where no one else wants the core.
-fn stand_back() {
+fn stand_back<R: Wait>(rt: &R, worker: u32) {
+    if worker > 0 {
+        Parker::new().park_timeout(rt, Duration::from_micros(STAND_BACK));
+        return;
+    }
     for _ in 0..PAUSES {
         spin_loop();
     }

@@ -1,0 +1,91 @@
+"""The module that the command rt is, for the scripts beside this file: what rt does to a crate they do by rt's own code. And tasks side by side."""
+import importlib.machinery
+import importlib.util
+import os
+import queue
+import shutil
+import sys
+import threading
+
+ROOT = os.path.dirname(os.path.dirname(os.path.abspath(__file__)))
+# what the chains of tasks that take longest leave of the processors
+BESIDE = 5
+# a chain is long that has so much of the longest one's work
+LONG = 0.85
+
+
+def tool():
+    """Returns the module that the command rt is."""
+    loader = importlib.machinery.SourceFileLoader("rt", os.path.realpath(shutil.which("rt") or sys.exit("the command rt of the Rattle kit is needed")))
+    spec = importlib.util.spec_from_loader("rt", loader)
+    made = sys.modules["rt"] = importlib.util.module_from_spec(spec)
+    loader.exec_module(made)
+    return made
+
+
+def once(method):
+    """Returns a method of a crate that asks each crate once in a call: rt asks it anew for each way that leads to the crate."""
+    kept = threading.local()
+
+    def answer(crate):
+        if not hasattr(kept, "answers"):
+            kept.answers = {}
+            try:
+                return answer(crate)
+            finally:
+                del kept.answers
+        if crate.folder not in kept.answers:
+            kept.answers[crate.folder] = method(crate)
+        return kept.answers[crate.folder]
+
+    return answer
+
+
+def chains(tasks):
+    """Returns for each task the work of the longest chain of tasks that begins with it and goes on with those that wait for it."""
+    behind = dict.fromkeys(tasks, 0)
+    # (a task comes after those that it waits for)
+    for key in reversed([*tasks]):
+        waits, work, _ = tasks[key]
+        behind[key] += work
+        for it in waits:
+            behind[it] = max(behind[it], behind[key])
+    return behind
+
+
+def side_by_side(tasks):
+    """Runs tasks side by side, one a processor, each once those that it waits for have ended, and returns what each gave. A task is what it waits for, a
+    measure of its work, and a call that gets what was given and how many jobs it may use.
+
+    The end waits for the longest chain. So a task on a long chain begins first and has several jobs, and the others have what it leaves of the processors."""
+    processors, behind = RT.processors(), chains(tasks)
+    left, running, given, ended = sorted(tasks, key=lambda it: -behind[it]), {}, {}, queue.SimpleQueue()
+
+    def run(key, jobs, is_beside):
+        # a thread of its own for each task: what it starts inherits its priority
+        if is_beside:
+            os.setpriority(os.PRIO_PROCESS, threading.get_native_id(), BESIDE)
+        try:
+            ended.put((key, tasks[key][2](given, jobs), None))
+        except BaseException as error:
+            ended.put((key, None, error))
+
+    while left or running:
+        ready = [it for it in left if all(below in given for below in tasks[it][0])]
+        for key in ready[: processors - len(running)]:
+            left.remove(key)
+            longest = max([behind[key], *(behind[it] for it in running)])
+            is_beside = behind[key] < LONG * longest
+            jobs = 1 if is_beside or not tasks[key][1] else max(2, processors - len(running) - len(ready) + 1)
+            running[key] = threading.Thread(target=run, args=(key, jobs, is_beside), daemon=True)
+            running[key].start()
+        key, given[key], error = ended.get()
+        running.pop(key).join()
+        if error:
+            raise error
+    return given
+
+
+RT = tool()
+RT.rtlib.Crate.stamp = once(RT.rtlib.Crate.stamp)
+RT.rtlib.Crate.below = once(RT.rtlib.Crate.below)

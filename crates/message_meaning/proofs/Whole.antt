@@ -41,11 +41,11 @@ use Rattle.read_set.specs.declared.progress.Payments.{Payments}
 use Rattle.read_set.specs.declared.source.Stop.{Stop}
 use Rattle.read_set.proofs.Following.{settles, over_then}
 
-status_whole : (M : Map) (p : Terms) (q : ItemStatus) (date : List ℕ) → over M (item_status_rule p q date) ≡ item_status p q date M
+pub status_whole : (M : Map) (p : Terms) (q : ItemStatus) (date : List ℕ) → over M (item_status_rule p q date) ≡ item_status p q date M
 unfolding item_status_rule item_at
 status_whole M p q date = refl
 
-hold_whole : (M : Map) (p : Terms) (q : HoldRequest) (date : List ℕ) → over M (hold_rule p q date) ≡ hold p q date M
+pub hold_whole : (M : Map) (p : Terms) (q : HoldRequest) (date : List ℕ) → over M (hold_rule p q date) ≡ hold p q date M
 unfolding hold_rule patron_at item_at
 hold_whole M p q date = refl
 
@@ -56,7 +56,7 @@ blocks_known M p blocks id date (Some member) =
     over_then M (owed_at [] member.patron.fees) (λ o. Give (blocked_by p blocks id date member o))
     ∙ ap (blocked_by p blocks id date member) (owes M [] member.patron.fees)
 
-block_whole : (M : Map) (p : Terms) (blocks : Bool) (id : List ℕ) (date : List ℕ) → over M (block_rule p blocks id date) ≡ block p blocks id date M
+pub block_whole : (M : Map) (p : Terms) (blocks : Bool) (id : List ℕ) (date : List ℕ) → over M (block_rule p blocks id date) ≡ block p blocks id date M
 unfolding block_rule patron_at
 block_whole M p blocks id date = blocks_known M p blocks id date (patron_in p M id)
 
@@ -116,7 +116,7 @@ paid_known M p q date (Some member) =
     no (cond (q.amount == 0) no (payment p q date M member.patron)) refl
     (either M (q.amount == 0) (Give no) (payment_rule p q date member.patron) no (payment p q date M member.patron) refl (paid M p q date member.patron))
 
-fee_paid_whole : (M : Map) (p : Terms) (q : FeePaid) (date : List ℕ) → over M (fee_paid_rule p q date) ≡ fee_paid p q date M
+pub fee_paid_whole : (M : Map) (p : Terms) (q : FeePaid) (date : List ℕ) → over M (fee_paid_rule p q date) ≡ fee_paid p q date M
 unfolding fee_paid_rule patron_at
 fee_paid_whole M p q date = paid_known M p q date (patron_in p M q.patron)
 

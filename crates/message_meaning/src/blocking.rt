@@ -3,7 +3,8 @@
 ghost use Rattle.std.specs.Prelude.{◌≡◌, IfOk, Some};
 ghost use Rattle.message_meaning.specs.Blocking.{block_rule_known, block_rule};
 ghost use Rattle.read_set.specs.Asks.{follow, Gains};
-ghost use Rattle.read_set.specs.Patrons.{status_of, member_status, no_status, patron_answer, told, blocked_by};
+ghost use Rattle.read_set.specs.Maps.{Map, Agrees};
+ghost use Rattle.read_set.specs.Patrons.{status_of, member_status, no_status, patron_answer, told, blocked_by, block};
 ghost use Rattle.read_set.specs.Stops.{Follows};
 
 use circ_policy::Policy;
@@ -159,6 +160,7 @@ pub fn block<S: Source>(
     source: &mut S,
 ) -> Result<Effect, Stop>
     ensures gives { Follows result (follow (S.has source.new) (block_rule policy.now blocks id.now date)) }
+    ensures means { IfOk result (λ e. (M : Map) → Agrees (S.has source.new) M → e ≡ block policy.now blocks id.now date M) }
     ensures keeps { Gains (S.has source.old) (S.has source.new) (block_rule policy.now blocks id.now date) }
 {
     let member = patron_of(alloc, policy, source, id)?;

@@ -3,7 +3,8 @@
 ghost use Rattle.std.specs.Prelude.{◌≡◌, ◌++◌, ◌∷◌, [], IfOk, option_map};
 ghost use Rattle.message_meaning.specs.Queueing.{hold_rule};
 ghost use Rattle.read_set.specs.Asks.{follow, Gains};
-ghost use Rattle.read_set.specs.Holding.{refuses_hold, queue_after, hold_place, is_available, told_hold, hold_kept, hold_known, held};
+ghost use Rattle.read_set.specs.Holding.{refuses_hold, queue_after, hold_place, is_available, told_hold, hold_kept, hold_known, held, hold};
+ghost use Rattle.read_set.specs.Maps.{Map, Agrees};
 ghost use Rattle.read_set.specs.Stops.{Follows};
 
 use circ_policy::Policy;
@@ -225,6 +226,7 @@ pub fn hold<S: Source>(
     source: &mut S,
 ) -> Result<Effect, Stop>
     ensures gives { Follows result (follow (S.has source.new) (hold_rule policy.now request.now date)) }
+    ensures means { IfOk result (λ e. (M : Map) → Agrees (S.has source.new) M → e ≡ hold policy.now request.now date M) }
     ensures keeps { Gains (S.has source.old) (S.has source.new) (hold_rule policy.now request.now date) }
 {
     let member = patron_of(alloc, policy, source, &request.patron)?;

@@ -1,7 +1,8 @@
 ghost use Rattle.std.specs.Prelude.{◌≡◌, IfOk};
 ghost use Rattle.message_meaning.specs.Rules.{item_status_rule};
 ghost use Rattle.read_set.specs.Asks.{follow, Gains};
-ghost use Rattle.read_set.specs.ItemStatuses.{updated, status_answer, titled};
+ghost use Rattle.read_set.specs.ItemStatuses.{updated, status_answer, titled, item_status};
+ghost use Rattle.read_set.specs.Maps.{Map, Agrees};
 ghost use Rattle.read_set.specs.Stops.{Follows};
 
 use circ_policy::Policy;
@@ -22,6 +23,7 @@ pub fn update<S: Source>(
     source: &mut S,
 ) -> Result<Effect, Stop>
     ensures gives { Follows result (follow (S.has source.new) (item_status_rule policy.now request.now date)) }
+    ensures means { IfOk result (λ e. (M : Map) → Agrees (S.has source.new) M → e ≡ item_status policy.now request.now date M) }
     ensures keeps { Gains (S.has source.old) (S.has source.new) (item_status_rule policy.now request.now date) }
 {
     let found = item_of(alloc, policy, source, &request.item)?;

@@ -5,7 +5,8 @@ ghost use Rattle.message_meaning.specs.Paying.{pay_rule_each, named, meant_at, p
 ghost use Rattle.read_set.specs.Asks.{follow, Gains};
 ghost use Rattle.read_set.specs.Effects.{unwritten};
 ghost use Rattle.read_set.specs.Ids.{same, is_any, without_all};
-ghost use Rattle.read_set.specs.Payments.{part_of, part_paid, pay_one, only_known, payment_answer, all_paid};
+ghost use Rattle.read_set.specs.Maps.{Map, Agrees};
+ghost use Rattle.read_set.specs.Payments.{part_of, part_paid, pay_one, only_known, payment_answer, all_paid, fee_paid};
 ghost use Rattle.read_set.specs.Stops.{Follows};
 
 use circ_policy::Policy;
@@ -271,6 +272,7 @@ pub fn take_payment<S: Source>(
     source: &mut S,
 ) -> Result<Effect, Stop>
     ensures gives { Follows result (follow (S.has source.new) (fee_paid_rule policy.now request.now date)) }
+    ensures means { IfOk result (λ e. (M : Map) → Agrees (S.has source.new) M → e ≡ fee_paid policy.now request.now date M) }
     ensures keeps { Gains (S.has source.old) (S.has source.new) (fee_paid_rule policy.now request.now date) }
 {
     let member = patron_of(alloc, policy, source, &request.patron)?;

@@ -1,11 +1,13 @@
-use Rattle.std.proofs.Common.{ap, sym}
+use Rattle.std.proofs.Common.{ap, sym, Ok}
 use Rattle.std.proofs.lemmas.Result.{err_from_is_err_and}
 use Rattle.loan_meaning.specs.Lookups.{patron_at, item_at}
 use Rattle.message_meaning.specs.Queueing.{hold_rule}
 use Rattle.read_set.specs.Asks.{Give, Done}
-use Rattle.read_set.specs.Holding.{held}
+use Rattle.read_set.specs.Holding.{held, hold}
 use Rattle.read_set.proofs.Following.{follow_next, follow_then, stop_next, stop_then}
 use Rattle.read_set.proofs.Gaining.{gains_first, gains_then}
+use Rattle.loan_meaning.proofs.Whole.{meant}
+use Rattle.message_meaning.proofs.Whole.{hold_whole}
 use Rattle.message_meaning.proofs.holding.hold.Goals as goal
 
 pub returns-in_err-article-clause-gives : goal.returns-in_err-article-clause-gives
@@ -20,6 +22,11 @@ unfolding hold_rule
 returns-clause-gives g c =
     follow_next _ _ (patron_at c.args.policy.now c.args.request.now.patron) _ c.in_ok-member.member _ c.in_ok-article.ensures.keeps.grows c.in_ok-member.ensures.gives
     (follow_then _ (item_at c.args.policy.now c.args.request.now.item) (λ item. Give (held c.args.policy.now c.args.request.now c.args.date c.in_ok-member.member item)) c.in_ok-article.article _ c.in_ok-article.ensures.gives (ap Done (sym c.in_ok-hold_both.ensures)))
+
+pub returns-clause-means : goal.returns-clause-means
+returns-clause-means g c =
+    meant (g.S.Source.has c.item_of.new.source) (hold_rule c.args.policy.now c.args.request.now c.args.date) (hold c.args.policy.now c.args.request.now c.args.date) (Ok c.in_ok-hold_both.field-0)
+    (λ M. hold_whole M c.args.policy.now c.args.request.now c.args.date) (returns-clause-gives g c)
 
 pub returns-in_err-article-clause-keeps : goal.returns-in_err-article-clause-keeps
 unfolding hold_rule

@@ -12,6 +12,8 @@ ROOT = os.path.dirname(os.path.dirname(os.path.abspath(__file__)))
 BESIDE = 5
 # a chain is long that has so much of the longest one's work
 LONG = 0.85
+# how many lines of code a second of processor time proves, about
+LINES_A_SECOND = 4
 
 
 def tool():
@@ -21,6 +23,17 @@ def tool():
     made = sys.modules["rt"] = importlib.util.module_from_spec(spec)
     loader.exec_module(made)
     return made
+
+
+def seconds():
+    """Returns the seconds of processor time that the proof of a crate took once, and that of its tests, as .ci/seconds has them: a crate's name, then both."""
+    with open(f"{ROOT}/.ci/seconds", encoding="utf-8") as it:
+        return {(name, what): int(taken) for name, *both in map(str.split, it) for what, taken in zip(("proof", "tests"), both)}
+
+
+def work_of(name, what, lines):
+    """Returns a measure of the work of a crate's proof or tests: the seconds that it took once, else by its lines of code."""
+    return SECONDS.get((name, what), lines / LINES_A_SECOND)
 
 
 def once(method):
@@ -86,6 +99,7 @@ def side_by_side(tasks):
     return given
 
 
+SECONDS = seconds()
 RT = tool()
 RT.rtlib.Crate.stamp = once(RT.rtlib.Crate.stamp)
 RT.rtlib.Crate.below = once(RT.rtlib.Crate.below)

@@ -2,17 +2,20 @@
 use Rattle.std.proofs.Common.{◌≡◌, ◌≢◌, ℕ, zero, suc, ◌+◌, ◌<◌, cond, [], ◌∷◌, map, slice_get, Option, Some, None, Less, refl, sym, ap, subst, ◌∙◌, inl, inr, arith}
 use Rattle.std.specs.Prelude.{option_map}
 use Rattle.std.specs.FinMap.{get, insert, remove}
+use Rattle.std.specs.List.{AllByRecursion}
 use Rattle.std.specs.List.Sorted.{IsStrictlySortedBy}
+use Rattle.std.specs.Map.{keys_of}
 use Rattle.std.specs.BTreeMap.{is_at}
 use Rattle.std.proofs.lemmas.Option.{none-some, same_Some}
 use Rattle.std.proofs.lemmas.Bool.{cases_Bool, cases_eq}
+use Rattle.std.proofs.lemmas.Map.Keys.{sorted_head, sorted_tail}
 use Rattle.circ_records.specs.Keys.{key_cmp}
 use Rattle.circ_records.specs.Records.{Entries, record_at}
 use Rattle.circ_records.specs.declared.key.Key.{Key}
 use Rattle.circ_records.specs.declared.record.Record.{Record}
 use Rattle.read_set.specs.Settling.{Told}
 use Rattle.version_store.specs.Entries.{Shown, Line, AllOf, IsLeastLeft, shown_by}
-use Rattle.version_store.proofs.Walks.{Rising, rising, not_below, not_both, head_or_tail, at_head, same_key}
+use Rattle.version_store.proofs.Walks.{Rising, not_below, not_both, head_or_tail, at_head, same_key}
 use Rattle.board_steps.specs.Board.{Row}
 use Rattle.board_steps.specs.Steps.{IsNextWrite, AllPlaced, IsNextLeft, NoneLeft}
 use Rattle.board_steps.proofs.Entries.{cases_key, get_insert_same, get_insert_other, get_remove_other}
@@ -47,8 +50,16 @@ stands_before (w ∷ ws) up zero (suc j) x y hi hj lt =
 stands_before (w ∷ ws) up (suc i) zero x y hi hj lt = omega arith
 stands_before (w ∷ ws) up (suc i) (suc j) x y hi hj lt = (let less = stands_before ws up.1 i j x y hi hj lt in omega (arith, less))
 
+above_all : (x : Key) (ws : Entries) → AllByRecursion (λ y. key_cmp x y ≡ Less) (keys_of ws) → (q : Key) (u : Record) → record_at ws q ≡ Some u → key_cmp x q ≡ Less
+above_all x [] all q u h = absurd (none-some u h)
+above_all x (w ∷ ws) all q u h = elim (head_or_tail q w.0 w.1 u ws h) [
+  | inl i ↦ subst (λ y. key_cmp x y ≡ Less) (sym i.0) all.0
+  | inr t ↦ above_all x ws all.1 q u t
+]
+
 pub writes_rise : (ws : Entries) → IsStrictlySortedBy key_cmp (map (λ (e : Key × Record). e.0) ws) → Rising ws
-writes_rise ws h = rising ws h
+writes_rise [] h = tt
+writes_rise (w ∷ ws) h = (above_all w.0 ws (sorted_head key_cmp w.0 (keys_of ws) h), writes_rise ws (sorted_tail key_cmp w.0 (keys_of ws) h))
 
 -- ---- an entry of the attempt, as the store tells its attempt
 pub placed_if : (o : Option Shown) (own a : ℕ) → Some own ≡ option_map (λ (e : Shown). e.attempt) o → own ≡ a → (e : Shown) × (o ≡ Some e) × (e.attempt ≡ a)

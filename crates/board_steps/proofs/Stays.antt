@@ -7,10 +7,13 @@ use Rattle.circ_records.specs.declared.key.Key.{Key}
 use Rattle.sip_answer.specs.declared.answer.Answer.{Answer}
 use Rattle.read_set.specs.Plans.{Planned}
 use Rattle.read_set.specs.Settling.{Told}
+use Rattle.read_set.specs.declared.notes.Name.{Name}
 use Rattle.read_set.specs.declared.notes.Note.{Note}
-use Rattle.board_steps.specs.Board.{Row, Board, blank, row_at, IsCommitted}
+use Rattle.version_store.specs.declared.entry.Found.{Found}
+use Rattle.version_store.specs.declared.entry.Found.TheVariants.{Suspect}
+use Rattle.board_steps.specs.Board.{Row, Board, blank, row_at, found, IsCommitted}
 use Rattle.board_steps.specs.Board.State.{Waiting}
-use Rattle.board_steps.specs.Steps.{Call, Reply, put_row, MayPublish, Compares, TakeStep, LookStep, PublishStep, CheckStep, CommitStep, Step, SendsBack}
+use Rattle.board_steps.specs.Steps.{Call, Reply, put_row, MayLook, MayPublish, Compares, Differs, TakeStep, LookStep, PublishStep, CheckStep, CommitStep, Step, SendsBack}
 use Rattle.board_steps.specs.Steps.Call.{Take, Look, Publish, Check, Commit}
 use Rattle.board_steps.specs.Steps.Reply.{Idle, Taken, Seen, Stopped, Stranger, Placed, Lifted, Whole, Same, Changed, Commits, Later, Attempts, ClockSpent}
 use Rattle.board_steps.proofs.Lines.{row_before, row_from, row_put, row_put_off}
@@ -111,13 +114,37 @@ module _ (old : Board) (m : ℕ) (busy : (row_at old m).state ≢ Waiting) where
   none : {A : Type 0} {b new : Board} → new ≡ b → ((row_at b m).state ≡ Waiting → ⊥) → (row_at new m).state ≡ Waiting → A
   none e no_way h = absurd (no_way (ap (λ (x : Board). (row_at x m).state) (sym e) ∙ h))
 
-  pub sent_back : (plan : Planned) (call : Call) (reply : Reply) (new : Board) → Step plan old call reply new → (row_at new m).state ≡ Waiting → SendsBack reply
+  -- it is the line that is put
+  put_one : (n : ℕ) (r : Row) → (row_at (put_row old n r) m).state ≡ Waiting → n ≡ m
+  put_one n r h = elim (cases_eq m n) [
+    | inl e ↦ sym e
+    | inr ne ↦ absurd (busy (ap (λ (l : Row). l.state) (sym (row_put_off old n r m ne)) ∙ h))
+  ]
+
+  one : {b new : Board} (n : ℕ) → new ≡ b → ((row_at b m).state ≡ Waiting → n ≡ m) → (row_at new m).state ≡ Waiting → n ≡ m
+  one n e is h = is (ap (λ (x : Board). (row_at x m).state) (sym e) ∙ h)
+
+  -- a check that failed is one of the line that waits
+  failed : (w n : ℕ) (key : Key) (noted : Name) (now : Found) (new : Board) → CheckStep old w n (Changed key noted now) new → (row_at new m).state ≡ Waiting → n ≡ m
+  failed w n key noted now new h z = elim h.6 [
+    | inl g ↦ one n g.1 (put_one n _) z
+    | inr g ↦ one n g.2 (put_one n _) z
+  ]
+
+  by_check : (w n : ℕ) (key : Key) (noted : Name) (now : Found) (new : Board) → CheckStep old w n (Changed key noted now) new → n ≡ m → SendsBack old m (Check w n) (Changed key noted now)
+  by_check w n key noted now new h e =
+      (e, h.0, h.1, h.2, h.3, subst (λ x. Compares old w x h.0 h.1 h.2 h.3) e h.4, subst (λ x. Differs old x h.0 h.3 key noted now) e h.5)
+
+  by_look : (plan : Planned) (w : ℕ) (k : Key) (line : ℕ) (new : Board) → (h : LookStep plan old w k (Stopped line) new) → h.0 ≡ m → SendsBack old m (Look w k) (Stopped line)
+  by_look plan w k line new h e = (h.1, subst (λ x. MayLook old w k x h.1) e h.2, subst (λ x. found (row_at old) x k ≡ Suspect line) e h.3)
+
+  pub sent_back : (plan : Planned) (call : Call) (reply : Reply) (new : Board) → Step plan old call reply new → (row_at new m).state ≡ Waiting → SendsBack old m call reply
   sent_back plan (Take w n) (Taken a) new h z = none h.3 (put_waits n _ (λ e. cc)) z
   sent_back plan (Take w n) (Attempts q) new h z = none h.3 busy z
   sent_back plan (Take w n) Idle new h z = none h.1 busy z
   sent_back plan (Take w n) _ new h z = absurd h
   sent_back plan (Look w k) (Seen name value) new h z = none h.5 (put_waits h.0 _ (λ e. cc)) z
-  sent_back plan (Look w k) (Stopped q) new h z = tt
+  sent_back plan (Look w k) (Stopped q) new h z = by_look plan w k q new h (one h.0 h.4 (put_one h.0 _) z)
   sent_back plan (Look w k) Idle new h z = none h.1 busy z
   sent_back plan (Look w k) _ new h z = absurd h
   sent_back plan (Publish w v) Placed new h z = none h.8 (put_waits h.0 _ (λ e. cc)) z
@@ -128,7 +155,7 @@ module _ (old : Board) (m : ℕ) (busy : (row_at old m).state ≢ Waiting) where
   sent_back plan (Publish w v) Idle new h z = none h.1 busy z
   sent_back plan (Publish w v) _ new h z = absurd h
   sent_back plan (Check w n) Same new h z = none h.8 (put_waits n _ (λ e. cc)) z
-  sent_back plan (Check w n) (Changed key noted now) new h z = tt
+  sent_back plan (Check w n) (Changed key noted now) new h z = by_check w n key noted now new h (failed w n key noted now new h z)
   sent_back plan (Check w n) Whole new h z = none h.6 (put_waits n _ (λ e. cc)) z
   sent_back plan (Check w n) ClockSpent new h z = none h.8 busy z
   sent_back plan (Check w n) Idle new h z = none h.1 busy z

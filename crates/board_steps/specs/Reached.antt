@@ -43,6 +43,11 @@ IsNow rows n x = found rows n x.key ≡ Named x.name
 abbrev pub Held : (ℕ → Row) → ℕ → List Note → ℕ → ℕ → Type 0
 Held rows n notes t i = ((m : ℕ) × (m < n) × (t < (rows m).changed)) ⊎ FirstNotes i notes (IsNow rows n)
 
+-- Of each line that is done with a stamp, all names are held since it; of each that is being checked, those that were compared.
+pub record EachHeld (b : Board) : Type 0 where
+  pub done : (n : ℕ) (notes : List Note) (answer : Option Answer) (t : ℕ) → (row_at b n).state ≡ Done notes answer (Some t) → Held (row_at b) n notes t (length notes)
+  pub checking : (w n : ℕ) (notes : List Note) (answer : Option Answer) (t i : ℕ) → (row_at b n).state ≡ Checking w notes answer t i → Held (row_at b) n notes t i
+
 -- the entries and the answer are what the line gives on every map in which its notes are true
 pub record Settled (plan : Planned) (n : ℕ) (r : Row) (notes : List Note) (answer : Option Answer) : Type 0 where
   pub map : (M : Map) → AreTrue notes M → (k : Key) → (one_at plan n M).0 k ≡ entry_over (entry r k) k (M k)

@@ -253,8 +253,11 @@ abbrev pub Run : Planned → Board → List (Call × Reply) → Board → Type 0
 Run plan old [] new = new ≡ old
 Run plan old (step ∷ steps) new = ByVersion plan step.0 × ((mid : Board) × Step plan old step.0 step.1 mid × Run plan mid steps new)
 
--- the replies after which a line waits again
-abbrev pub SendsBack : Reply → Type 0
-SendsBack (Changed key noted now) = Unit {0}
-SendsBack (Stopped line) = Unit {0}
-SendsBack _ = ⊥
+-- Why line m waits again. A check of it compared a note that it has, and failed: the reply says the key, the name that was noted
+-- there, and the name that is found there now, which is another. Or the line looked at a key that it hasn't noted, and the entry
+-- that is found there, of the line that the reply names, is suspect.
+abbrev pub SendsBack : Board → ℕ → Call → Reply → Type 0
+SendsBack old m (Check w n) (Changed key noted now) =
+    (n ≡ m) × (notes : List Note) × (answer : Option Answer) × (t : ℕ) × (i : ℕ) × Compares old w m notes answer t i × Differs old m notes i key noted now
+SendsBack old m (Look w k) (Stopped line) = (notes : List Note) × MayLook old w k m notes × (found (row_at old) m k ≡ Suspect line)
+SendsBack old m call reply = ⊥

@@ -15,7 +15,7 @@ ghost use Rattle.read_set.specs.declared.notes.Note.{Note};
 ghost use Rattle.board_steps.specs.Board.{Board, IsCommitted, IsLine, Row, entry, entry_over, row_at, value_at};
 ghost use Rattle.board_steps.specs.Board.State.{Waiting, Done, Checking, Committed};
 ghost use Rattle.board_steps.specs.Choice.{NeedsCheck, StampCounts};
-ghost use Rattle.board_steps.specs.Reached.{Counted, Held, Reached};
+ghost use Rattle.board_steps.specs.Reached.{Counted, EachHeld, Held, Reached};
 ghost use Rattle.board_steps.specs.Steps.{ByVersion, Call, CheckStep, CommitStep, IsVersion, LookStep, PublishStep, Reply, Run, SendsBack, Step, TakeStep, changing, opening};
 
 /// An opening board is reached.
@@ -30,6 +30,15 @@ pub fn calls_keep()
     ensures publish { (plan : Planned) (old : Board) (w : ℕ) (v : Told) (reply : Reply) (new : Board) → Reached plan old → IsVersion plan v → PublishStep old w v reply new → Reached plan new }
     ensures check { (plan : Planned) (old : Board) (w n : ℕ) (reply : Reply) (new : Board) → Reached plan old → CheckStep old w n reply new → Reached plan new }
     ensures commit { (plan : Planned) (old : Board) (n : ℕ) (reply : Reply) (new : Board) → Reached plan old → CommitStep old n reply new → Reached plan new }
+{}
+
+/// After each of the five calls on a reached board, whatever it answers, what was held since a stamp is held.
+pub fn calls_hold()
+    ensures take { (plan : Planned) (old : Board) (w n : ℕ) (reply : Reply) (new : Board) → Reached plan old → TakeStep old w n reply new → EachHeld new }
+    ensures look { (plan : Planned) (old : Board) (w : ℕ) (k : Key) (reply : Reply) (new : Board) → Reached plan old → LookStep plan old w k reply new → EachHeld new }
+    ensures publish { (plan : Planned) (old : Board) (w : ℕ) (v : Told) (reply : Reply) (new : Board) → Reached plan old → IsVersion plan v → PublishStep old w v reply new → EachHeld new }
+    ensures check { (plan : Planned) (old : Board) (w n : ℕ) (reply : Reply) (new : Board) → Reached plan old → CheckStep old w n reply new → EachHeld new }
+    ensures commit { (plan : Planned) (old : Board) (n : ℕ) (reply : Reply) (new : Board) → Reached plan old → CommitStep old n reply new → EachHeld new }
 {}
 
 /// Each step keeps a reached board.
@@ -58,11 +67,12 @@ pub fn committed_lines()
     ensures last { (plan : Planned) (b : Board) → Reached plan b → ((m : ℕ) → IsLine b m → IsCommitted (row_at b m).state) → (k : Key) → value_at plan (row_at b) (b.first + length b.rows) k ≡ last plan k }
 {}
 
-/// No step changes a committed line; and a line waits again only after a reply that says which name changed, or which line is
-/// suspect.
+/// No step changes a committed line; and a line waits again only after a check of it that failed, whose reply says the key, the
+/// name that was noted there and the other that is found there, or after a look at a key where the entry of the line that the
+/// reply names is suspect.
 pub fn steps_spare()
     ensures committed { (plan : Planned) (old new : Board) (call : Call) (reply : Reply) (m : ℕ) → IsCommitted (row_at old m).state → Step plan old call reply new → row_at new m ≡ row_at old m }
-    ensures sent_back { (plan : Planned) (old new : Board) (call : Call) (reply : Reply) (m : ℕ) → (row_at old m).state ≢ Waiting → Step plan old call reply new → (row_at new m).state ≡ Waiting → SendsBack reply }
+    ensures sent_back { (plan : Planned) (old new : Board) (call : Call) (reply : Reply) (m : ℕ) → (row_at old m).state ≢ Waiting → Step plan old call reply new → (row_at new m).state ≡ Waiting → SendsBack old m call reply }
 {}
 
 /// A reached board and a call fix the reply and the board after it.

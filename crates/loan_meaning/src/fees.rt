@@ -1,6 +1,6 @@
 //! What is owed, and what is charged.
 
-ghost use Rattle.std.specs.Prelude.{◌≡◌, nat_lt, OnOk};
+ghost use Rattle.std.specs.Prelude.{◌≡◌, nat_lt, OnOk, OnErr};
 ghost use Rattle.loan_meaning.specs.Owing.{owed_at, owed_from, owing_tests};
 ghost use Rattle.loan_meaning.specs.Sums.{IsKnown};
 ghost use Rattle.read_set.specs.Asks.{follow, Gains};
@@ -75,7 +75,7 @@ pub fn has_amount(amount: Amount) -> bool
     amount.hundredths() > 0
 }
 
-/// A fee above 0 is written: the k-th of its line, counted from 0.
+/// A fee above 0 is written: the k-th of its line, counted from 0. Without memory nothing is.
 pub fn make_fee(
     line: u64,
     k: u64,
@@ -84,7 +84,8 @@ pub fn make_fee(
     amount: Amount,
     writes: &mut Draft,
 ) -> Result<(), AllocError>
-    ensures { OnOk result (writes.new ≡ written writes.old (fee_made line k patron kind amount)) }
+    ensures ok { OnOk result (writes.new ≡ written writes.old (fee_made line k patron kind amount)) }
+    ensures err { OnErr result (writes.new ≡ writes.old) }
 {
     if has_amount(amount) {
         let fee = Fee {
@@ -105,9 +106,10 @@ pub fn nothing() -> Amount
     Amount::new(0).unwrap()
 }
 
-/// It goes last in the patron's list.
+/// It goes last in the patron's list. Without memory the list stays.
 pub fn list_fee(line: u64, k: u64, amount: Amount, fees: &mut Ids) -> Result<(), AllocError>
-    ensures { OnOk result (fees.new ≡ with_fee line k amount fees.old) }
+    ensures ok { OnOk result (fees.new ≡ with_fee line k amount fees.old) }
+    ensures err { OnErr result (fees.new ≡ fees.old) }
 {
     if has_amount(amount) {
         fees.push(Id::of_fee(line, k))?;

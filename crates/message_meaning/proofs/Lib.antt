@@ -3,4 +3,5 @@ pub mod LoanReach
 pub mod Paying
 pub mod Reach
 pub mod Wanting
+pub mod WhatIsPaid
 pub mod Whole

@@ -3,3 +3,4 @@ pub mod Needs
 pub mod Paying
 pub mod Queueing
 pub mod Rules
+pub mod WhatIsPaid

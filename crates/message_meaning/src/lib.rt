@@ -6,9 +6,11 @@
 mod blocking;
 mod holding;
 mod item_status;
+mod laws;
 mod lines;
 mod needs;
 mod payment;
 
+pub use laws::payments_pay_what_is_meant;
 pub use lines::perform;
 pub use needs::need;

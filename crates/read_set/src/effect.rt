@@ -1,6 +1,6 @@
 //! What a line does.
 
-ghost use Rattle.std.specs.Prelude.{◌≡◌, ◌∷◌, [], map, IfOk, OnOk};
+ghost use Rattle.std.specs.Prelude.{◌≡◌, ◌∷◌, [], map, IfOk, OnOk, OnErr};
 ghost use Rattle.std.specs.BTreeMap.{insert_entry};
 ghost use Rattle.std.specs.List.Sorted.{IsStrictlySortedBy};
 ghost use Rattle.std.specs.Option.{option_copied};
@@ -8,13 +8,12 @@ ghost use Rattle.circ_records.specs.Keys.{key_cmp};
 ghost use Rattle.circ_records.specs.Records.{record_at};
 ghost use Rattle.read_set.specs.Effects.{unwritten};
 
-use crate::sorted::{found_in, map_of, put_in, put_over};
+use crate::sorted::{copied, found_in, map_of, put_in, put_over};
 use circ_records::{Key, Record};
 use sip_answer::Answer;
 use std::alloc::{AllocError, Global};
 use std::collections::BTreeMap;
 use std::marker::Model;
-use std::mem::replace;
 
 /// Up to so many records are kept as a list, which costs less than a map.
 const FEW: usize = 8;
@@ -64,9 +63,10 @@ impl Draft {
         }
     }
 
-    /// One more record.
+    /// One more record. Without memory nothing changes.
     pub fn put(&mut self, key: Key, written: Record) -> Result<(), AllocError>
-        ensures { OnOk result (self.new ≡ insert_entry key_cmp self.old key written) }
+        ensures ok { OnOk result (self.new ≡ insert_entry key_cmp self.old key written) }
+        ensures err { OnErr result (self.new ≡ self.old) }
     {
         self.make_room()?;
         match &mut self.kept {
@@ -75,9 +75,10 @@ impl Draft {
         }
     }
 
-    /// Makes a map of the records, where they are no longer few.
+    /// Makes a map of the records, where they are no longer few. It is made of copies, so that the list stands where
+    /// memory runs out on the way.
     fn make_room(&mut self) -> Result<(), AllocError>
-        ensures { OnOk result (self.new ≡ self.old) }
+        ensures { self.new ≡ self.old }
     {
         let Kept::Few(list) = &mut self.kept else {
             return Ok(());
@@ -86,8 +87,8 @@ impl Draft {
             return Ok(());
         }
         let alloc = *list.allocator();
-        let list = replace(list, Vec::new(alloc));
-        self.kept = Kept::Many(map_of(alloc, list)?);
+        let map = map_of(alloc, copied(alloc, list.as_slice())?)?;
+        self.kept = Kept::Many(map);
         Ok(())
     }
 

@@ -1,6 +1,6 @@
 //! A few records as a list, rising by key.
 
-ghost use Rattle.std.specs.Prelude.{◌≡◌, IfOk, OnOk, option_copied};
+ghost use Rattle.std.specs.Prelude.{◌≡◌, IfOk, OnOk, OnErr, option_copied};
 ghost use Rattle.std.specs.BTreeMap.{insert_entry};
 ghost use Rattle.circ_records.specs.Keys.{key_cmp};
 ghost use Rattle.circ_records.specs.Records.{record_at};
@@ -37,10 +37,11 @@ fn place_of(entries: &[(Key, Record)], key: &Key) -> Result<usize, usize>
     Err(entries.len())
 }
 
-/// Puts a record under its key.
+/// Puts a record under its key. Without memory nothing changes.
 pub fn put_in(entries: &mut Vec<(Key, Record)>, key: Key, written: Record) -> Result<(), AllocError>
     requires { Rise entries.old.items }
     ensures ok { OnOk result (entries.new.items ≡ insert_entry key_cmp entries.old.items key written) }
+    ensures err { OnErr result (entries.new.items ≡ entries.old.items) }
     ensures rising { Rise entries.new.items }
 {
     match place_of(entries.as_slice(), &key) {
@@ -50,19 +51,31 @@ pub fn put_in(entries: &mut Vec<(Key, Record)>, key: Key, written: Record) -> Re
     Ok(())
 }
 
-/// Puts a record under its key in a map.
+/// Puts a record under its key in a map. Without memory nothing changes.
 pub fn put_over(
     map: &mut BTreeMap<Key, Record>,
     key: Key,
     written: Record,
 ) -> Result<(), AllocError>
     ensures ok { OnOk result (map.new.entries ≡ insert_entry key_cmp map.old.entries key written) }
+    ensures err { OnErr result (map.new.entries ≡ map.old.entries) }
     ensures rising { Rise map.new.entries }
 {
     match map.insert(key, written) {
         Ok(_) => Ok(()),
         Err(_) => Err(AllocError),
     }
+}
+
+/// The same records.
+pub fn copied(alloc: Global, entries: &[(Key, Record)]) -> Result<Vec<(Key, Record)>, AllocError>
+    ensures { IfOk result (λ v. v.items ≡ entries.now) }
+{
+    let mut copies = Vec::with_capacity(alloc, entries.len())?;
+    for entry in entries {
+        copies.push((entry.0, entry.1.copy(alloc)?))?;
+    }
+    Ok(copies)
 }
 
 /// The map of the records.

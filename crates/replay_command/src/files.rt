@@ -1,7 +1,7 @@
 //! The files of a run: what it reads before anything is judged, and what it writes at its end.
 
-use crate::chosen::Options;
 use crate::stop::Stop;
+use command_line::Options;
 use replay_run::{Inputs, Output, Tables};
 use std::alloc::{AllocError, Global};
 use std::io::Write;

@@ -3,13 +3,9 @@
 //! and below.
 #![tactic(auto)]
 
-mod chosen;
-mod command_line;
 mod files;
 mod replaying;
 mod stop;
 
-pub use chosen::Options;
-pub use command_line::options;
 pub use replaying::run;
 pub use stop::{REFUSED, Stop};

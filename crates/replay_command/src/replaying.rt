@@ -3,11 +3,9 @@
 ghost use Rattle.std.specs.Prelude.{◌≡◌};
 ghost use Rattle.replay_command.specs.Statuses.{ended_status};
 
-use crate::chosen::Options;
-use crate::command_line::options;
 use crate::files::{read_inputs, write_output};
 use crate::stop::{FAILED, REFUSED, Stop};
-use clap::error::ErrorKind;
+use command_line::{Options, Refusal, options};
 use replay_run::{Fault, NoGate, Sizes, rebuild};
 use std::convert::AsStr;
 use std::io::Write;
@@ -41,7 +39,7 @@ pub fn run<R: Files + AllocGlobal + Threads + Wait + Sync, S: AsStr, W: Write, E
             Ok(sizes) => status_of_end(sizes.differences),
             Err(stop) => stop.tell(err),
         },
-        Err(error) => refuse(&error, out, err),
+        Err(refusal) => refuse(&refusal, out, err),
     }
 }
 
@@ -52,18 +50,18 @@ fn status_of_end(differences: u64) -> u8
     if differences == 0 { SAME } else { DIFFERENT }
 }
 
-/// Prints what clap says of the words: help to `out`, a refusal to `err`.
-fn refuse<W: Write, E: Write>(error: &clap::Error, out: &mut W, err: &mut E) -> u8 {
-    if error.kind() == ErrorKind::OutOfMemory {
-        return Stop::Fault(Fault::Memory).tell(err);
-    }
-    if error.use_stderr() {
-        let _ = write!(err, "{error}");
-        return REFUSED;
-    }
-    match write!(out, "{error}") {
-        Ok(()) => SAME,
-        Err(_) => FAILED,
+/// Prints what stands against the words: help to `out`, a refusal to `err`.
+fn refuse<W: Write, E: Write>(refusal: &Refusal, out: &mut W, err: &mut E) -> u8 {
+    match refusal {
+        Refusal::Help(text) => match write!(out, "{text}") {
+            Ok(()) => SAME,
+            Err(_) => FAILED,
+        },
+        Refusal::Words(text) => {
+            let _ = write!(err, "{text}");
+            REFUSED
+        }
+        Refusal::Memory => Stop::Fault(Fault::Memory).tell(err),
     }
 }
 

@@ -19,21 +19,22 @@ use Rattle.version_store.specs.declared.table.Place.{Place}
 use Rattle.board_steps.specs.Board.{Board, EachNote, IsLine, Row, blank, entry, row_at}
 use Rattle.board_steps.specs.Board.State.{Running}
 use Rattle.board_steps.specs.Reached.{Reached}
-use Rattle.board_steps.specs.Steps.{ByVersion, Call, HasRoom, IsVersion, Reply, Run, Step, opening, opening_row}
+use Rattle.board_steps.specs.Steps.{ByVersion, Call, IsVersion, Reply, Run, Step, opening, opening_row}
 use Rattle.board_steps.specs.Steps.Call.{Take, Look, Publish, Check, Commit}
 use Rattle.board_steps.specs.Steps.Reply.{ClockSpent as Spent}
 use Rattle.board_steps.proofs.Entries.{same_keys}
 use Rattle.board_steps.proofs.Histories.{opening_reached}
 use Rattle.board_steps.proofs.Lines.{row_before, row_from}
-use Rattle.speculate.specs.Driving.{IsDriven, IsNew, RunsTo}
+use Rattle.speculate.specs.Driving.{IsDriven, IsNew, MayStop, RunsTo}
 use Rattle.speculate.specs.Ending.{ended_by}
 use Rattle.speculate.specs.Needed.{SettlesIfDone}
 use Rattle.board_lines.specs.Notes.{found_by, told_at}
-use Rattle.speculate.specs.Phases.{Appears, GoesOn, Holds, Proves, Reads, Waits}
-use Rattle.board_lines.specs.Replies.{Answers}
+use Rattle.speculate.specs.Phases.{Appears, GoesOn, Holds, IsAppearing, Proves, Reads, Waits}
+use Rattle.board_lines.specs.Replies.{Answers, Grows}
 use Rattle.board_lines.specs.declared.reply.Reply.{Reply as CodeReply}
 use Rattle.board_lines.specs.declared.reply.Reply.TheVariants as replies
 use Rattle.speculate.specs.declared.steps.BoardFault.{BoardFault}
+use Rattle.speculate.specs.declared.steps.BoardFault.TheVariants as faults
 use Rattle.speculate.proofs.Phases.{check_never_changes, check_never_idle, check_never_spent, commit_never_idle, commit_never_later, look_goes, look_never_idle, look_never_stops, publish_never_idle, publish_no_stranger, take_never, take_never_idle}
 use Rattle.speculate.proofs.Plays.{CallEnds, call_ends}
 
@@ -137,8 +138,24 @@ done_appears plan b line notes next v reads need settles is =
     appears_of plan b line notes v reads (done.1, done.2, done.3) (subst (λ x. SettlesIfDone plan x) is settles)
 
 -- ---- publish
-pub spent_stops : (plan : Planned) (b new : Board) (v : Told) → Step plan b (Publish 0 v) Spent new → HasRoom new → ⊥
-spent_stops plan b new v h room = h.5 (subst HasRoom h.6 room)
+pub spent_stops : (plan : Planned) (b new : Board) (v : Told) → IsVersion plan v → Step plan b (Publish 0 v) Spent new → MayStop plan new faults.ClockSpent
+spent_stops plan b new v settles h = (v, settles, subst (λ x. Step plan x (Publish 0 v) Spent x) (sym h.6) (subst (λ x. Step plan b (Publish 0 v) Spent x) h.6 h))
+
+-- want of memory, where the line runs
+pub reads_stops : (plan : Planned) (b : Board) (line : ℕ) (notes : List Note) → Reads plan b line notes → MayStop plan b faults.Memory
+reads_stops plan b line notes reads = inl (line, notes, reads.state)
+
+-- so also once a look has noted what it saw
+pub seen_stops : {J : Type 0} (plan : Planned) (b new : Board) (line : ℕ) (notes : List Note) (k : Key) (name : Name) (place : Option (Place J)) → Reads plan b line notes → Answers plan b (Look 0 k) (replies.Seen name place) new → MayStop plan new faults.Memory
+seen_stops plan b new line notes k name place reads h = reads_stops plan new line _ (look_seen plan b new line notes k name place reads h)
+
+-- and at an act of its publication, which leaves the board
+appears_stops : (plan : Planned) (b : Board) (line : ℕ) (v : Told) → Appears plan b line v → Grows plan b (Publish 0 v) → IsAppearing (row_at b line).state v → MayStop plan b faults.Memory
+appears_stops plan b line v appears grows (inl runs) = inl (line, v.reads, runs)
+appears_stops plan b line v appears grows (inr is) = inr (v, (line, v.reads, is), appears.settles, grows)
+
+pub act_stops : (plan : Planned) (b new : Board) (line : ℕ) (v : Told) → Appears plan b line v → Grows plan b (Publish 0 v) × (new ≡ b) → MayStop plan new faults.Memory
+act_stops plan b new line v appears h = subst (λ x. MayStop plan x faults.Memory) (sym h.1) (appears_stops plan b line v appears h.0 appears.state)
 
 pub publish_other : {J : Type 0} (plan : Planned) (b new : Board) (line : ℕ) (v : Told) (reply : CodeReply J) → Appears plan b line v → Answers plan b (Publish 0 v) reply new
     → (reply ≢ replies.Placed) → (reply ≢ replies.Lifted) → (reply ≢ replies.Whole) → (reply ≢ replies.ClockSpent) → (reply ≢ replies.Memory) → ⊥

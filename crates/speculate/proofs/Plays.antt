@@ -17,7 +17,7 @@ use Rattle.speculate.specs.Ending.{ended_by}
 use Rattle.board_lines.specs.Hands.{HasNoLine, notes_of}
 use Rattle.speculate.specs.Needed.{IsNext, IsToPublish, SettlesIfDone, needed_key, needed_version}
 use Rattle.board_lines.specs.Notes.{found_by, told_at}
-use Rattle.speculate.specs.Playing.{Goes, HasLast, HasVersion, InHand, IsRefused, Plays, Rests, ToPublish, Wants, refusal}
+use Rattle.speculate.specs.Playing.{Goes, HasLast, HasLine, HasVersion, InHand, IsRefused, MayWant, Plays, Rests, ToPublish, Wants, refusal}
 use Rattle.board_lines.specs.Replies.{Answers, Grows}
 use Rattle.board_lines.specs.declared.reply.Reply.{Reply as CodeReply}
 use Rattle.board_lines.specs.declared.reply.Reply.TheVariants as replies
@@ -107,17 +107,21 @@ pub look_ends : (plan : Planned) (old new : Board) (w : ℕ) (k : Key) (r : Resu
 look_ends plan old new w k (Ok u) wants h = (h.0, inl (k, wants, h.1), h.2)
 look_ends plan old new w k (Err (faults.Attempts m)) wants h = (inl (k, wants, h.0), h.1)
 look_ends plan old new w k (Err faults.ClockSpent) wants h = (inl (k, wants, h.0), h.1)
-look_ends plan old new w k (Err faults.Memory) wants h = (tt, h.1)
+look_ends plan old new w k (Err faults.Memory) wants h = ((wants.0, wants.3.held), h.1)
 
 pub look_idle : (plan : Planned) (old : Board) (w : ℕ) → HasNoLine old w ⊎ ((v : Told) × HasVersion plan old w v) → Goes plan old (steps.Look w) old
 look_idle plan old w why = (Idle, inr (why, refl, refl), refl)
+
+publish_wants : (plan : Planned) (b : Board) (w : ℕ) (v : Told) → ToPublish plan b w v → IsVersion plan v → Grows plan b (ThePublish w v) → MayWant plan b (steps.Publish w)
+publish_wants plan b w v (inl last) settles grows = inr (v, last, settles, grows)
+publish_wants plan b w v (inr (none, has)) settles grows = inl ((has.0, has.3.held), none)
 
 -- an act of publication of a version that settles
 pub publish_ends : (plan : Planned) (old new : Board) (w : ℕ) (v : Told) (r : Result (Unit {0}) BoardFault) → ToPublish plan old w v → IsVersion plan v → CallEnds plan old (ThePublish w v) r new → StepEnds plan old (steps.Publish w) r new
 publish_ends plan old new w v (Ok u) ready settles h = (h.0, inl (v, ready, settles, h.1), h.2)
 publish_ends plan old new w v (Err (faults.Attempts m)) ready settles h = (inl (v, ready, settles, h.0), h.1)
 publish_ends plan old new w v (Err faults.ClockSpent) ready settles h = (inl (v, ready, settles, h.0), h.1)
-publish_ends plan old new w v (Err faults.Memory) ready settles h = (tt, h.1)
+publish_ends plan old new w v (Err faults.Memory) ready settles h = (publish_wants plan old w v ready settles h.0, h.1)
 
 pub publish_idle : (plan : Planned) (old : Board) (w : ℕ) → Rests plan old w → Goes plan old (steps.Publish w) old
 publish_idle plan old w why = (Idle, inr (why, refl, refl), refl)
@@ -178,3 +182,7 @@ pub new_to_publish : {J : Type 0} (plan : Planned) (b : Board) (w : ℕ) (next :
 new_to_publish plan b w next v u none is e same =
     let has = one_to_publish plan b w next v is e in
     subst (λ x. IsToPublish plan b w (Some x)) (sym same) (inr (none_placing b w none, has), has.8)
+
+-- what a line in hand needs can't be told for want of memory, and nothing of it is published yet
+pub begun_wants : (plan : Planned) (b : Board) (w : ℕ) → ((n : ℕ) (notes : List Note) (last : Option Told) → (row_at b n).state ≢ Placing w notes last) → HasLine b w → MayWant plan b (steps.Publish w)
+begun_wants plan b w none line = inl (line, none_placing b w none)

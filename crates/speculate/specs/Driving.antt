@@ -1,8 +1,14 @@
 -- The lines of a board, one after another in the order of the journal, by one worker (the board: driving in order).
-use Rattle.std.specs.Prelude.{◌≡◌, ℕ, ◌<◌, List, length}
+use Rattle.std.specs.Prelude.{◌≡◌, ℕ, ◌<◌, ◌⊎◌, List, length}
 use Rattle.read_set.specs.Plans.{Planned}
+use Rattle.read_set.specs.Settling.{Told}
+use Rattle.read_set.specs.declared.notes.Note.{Note}
 use Rattle.board_steps.specs.Board.{Board, IsCommitted, IsLine, row_at}
-use Rattle.board_steps.specs.Steps.{Call, HasRoom, Reply, Run, opening}
+use Rattle.board_steps.specs.Board.State.{Running}
+use Rattle.board_steps.specs.Steps.{Call, IsVersion, Reply, Run, Step, opening}
+use Rattle.board_steps.specs.Steps.Call.{Publish}
+use Rattle.board_steps.specs.Steps.Reply.{ClockSpent}
+use Rattle.speculate.specs.Playing.{WouldPlace}
 use Rattle.speculate.specs.declared.steps.BoardFault.{BoardFault}
 use Rattle.speculate.specs.declared.steps.BoardFault.TheVariants as faults
 
@@ -22,8 +28,14 @@ pub record IsDriven (plan : Planned) (b : Board) : Type 0 where
 abbrev pub RunsTo : Planned → Board → Board → Type 0
 RunsTo plan old new = (steps : List (Call × Reply)) × Run plan old steps new
 
--- what may stop it: want of memory, or the clock where it is at its end
-abbrev pub MayStop : Board → BoardFault → Type 0
-MayStop b (faults.Attempts line) = ⊥
-MayStop b faults.ClockSpent = HasRoom b → ⊥
-MayStop b faults.Memory = Unit {0}
+-- the worker's line runs: what it needs is asked and noted, and nothing of it is published yet
+abbrev pub HasRunning : Board → ℕ → Type 0
+HasRunning b w = (n : ℕ) × (notes : List Note) × ((row_at b n).state ≡ Running w notes)
+
+-- What may stop it: the clock, just where the board's reply to the next act of publication says so; or want of memory, where the
+-- line runs, or where the publication that is to go on would place an entry. So neither a take, a lifting, the end of a
+-- publication, a check nor a commit stops it.
+abbrev pub MayStop : Planned → Board → BoardFault → Type 0
+MayStop plan b (faults.Attempts line) = ⊥
+MayStop plan b faults.ClockSpent = (v : Told) × IsVersion plan v × Step plan b (Publish 0 v) ClockSpent b
+MayStop plan b faults.Memory = HasRunning b 0 ⊎ WouldPlace plan b 0

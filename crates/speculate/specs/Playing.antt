@@ -14,6 +14,7 @@ use Rattle.board_steps.specs.Steps.{IsVersion, Reply, Step}
 use Rattle.board_steps.specs.Steps.Call.{Check, Commit, Look, Publish, Take}
 use Rattle.board_steps.specs.Steps.Reply.{Attempts, ClockSpent, Idle}
 use Rattle.board_lines.specs.Hands.{HasNoLine, notes_of}
+use Rattle.board_lines.specs.Replies.{Grows}
 use Rattle.speculate.specs.declared.steps.BoardFault.{BoardFault}
 use Rattle.speculate.specs.declared.steps.BoardFault.TheVariants as faults
 use Rattle.speculate.specs.declared.steps.Halt.{Halt}
@@ -88,19 +89,29 @@ abbrev pub Plays : Planned → Board → List WorkerStep → Board → Type 0
 Plays plan old [] new = new ≡ old
 Plays plan old (step ∷ more) new = (mid : Board) × Goes plan old step mid × Plays plan mid more new
 
--- the steps that can want memory
-abbrev pub MayWant : WorkerStep → Type 0
-MayWant (steps.Look w) = Unit {0}
-MayWant (steps.Publish w) = Unit {0}
-MayWant (steps.Take w n) = ⊥
-MayWant (steps.Check w n) = ⊥
-MayWant (steps.Commit n) = ⊥
+-- the worker has a line in hand
+abbrev pub HasLine : Board → ℕ → Type 0
+HasLine b w = (n : ℕ) × (holder (row_at b n).state ≡ Some w)
 
--- A step is refused: it has no attempt left, or no clock, just where the board's reply says so, which leaves the board.
+-- a publication is to go on that would place an entry: so its next act is no lifting and no end, and the clock can be raised
+abbrev pub WouldPlace : Planned → Board → ℕ → Type 0
+WouldPlace plan b w = (v : Told) × HasLast b w v × IsVersion plan v × Grows plan b (Publish w v)
+
+-- Where a step can want memory: a look, and a publication that is to begin, ask what the line in hand needs, and that takes
+-- memory; a publication that is to go on asks nothing, and wants memory just where it would place an entry.
+abbrev pub MayWant : Planned → Board → WorkerStep → Type 0
+MayWant plan b (steps.Look w) = HasLine b w
+MayWant plan b (steps.Publish w) = (HasLine b w × ((u : Told) → HasLast b w u → ⊥)) ⊎ WouldPlace plan b w
+MayWant plan b (steps.Take w n) = ⊥
+MayWant plan b (steps.Check w n) = ⊥
+MayWant plan b (steps.Commit n) = ⊥
+
+-- A step is refused: it has no attempt left, or no clock, just where the board's reply says so, which leaves the board; or it
+-- lacks memory where it can want it.
 abbrev pub Refuses : Planned → Board → WorkerStep → BoardFault → Type 0
 Refuses plan b step (faults.Attempts n) = StepOf plan b step (Attempts n) b
 Refuses plan b step faults.ClockSpent = StepOf plan b step ClockSpent b
-Refuses plan b step faults.Memory = MayWant step
+Refuses plan b step faults.Memory = MayWant plan b step
 
 -- a step that is refused leaves the board as it was
 abbrev pub IsRefused : Planned → Board → WorkerStep → BoardFault → Board → Type 0

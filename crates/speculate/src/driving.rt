@@ -5,7 +5,7 @@ ghost use Rattle.board_steps.specs.Board.{IsLine};
 ghost use Rattle.board_steps.specs.Steps.Call.{Publish};
 ghost use Rattle.read_set.specs.Notes.{noted};
 ghost use Rattle.read_set.specs.Wanted.{Wanted};
-ghost use Rattle.speculate.specs.Driving.{IsDriven, IsNew, MayStop, RunsTo};
+ghost use Rattle.speculate.specs.Driving.{HasRunning, IsDriven, IsNew, MayStop, RunsTo};
 ghost use Rattle.board_lines.specs.Notes.{told_at};
 ghost use Rattle.board_lines.specs.Replies.{Answers};
 ghost use Rattle.speculate.specs.Phases.{Appears, Holds, Proves, Reads, Waits};
@@ -31,7 +31,7 @@ pub fn drive_in_order<'t, J: PlanName, R: Wait>(
     requires { IsNew J.plan board.old }
     ensures all { OnOk result (IsDriven J.plan board.new) }
     ensures led { RunsTo J.plan board.old board.new }
-    ensures fault { IfErr result (MayStop board.new) }
+    ensures fault { IfErr result (MayStop J.plan board.new) }
 {
     let plan = board.plan();
     let first = plan.first();
@@ -54,7 +54,7 @@ fn drive_line<'t, J: PlanName, R: Wait>(
     requires there { IsLine board.old line }
     ensures next { OnOk result (Waits J.plan board.new (line + 1)) }
     ensures led { RunsTo J.plan board.old board.new }
-    ensures fault { IfErr result (MayStop board.new) }
+    ensures fault { IfErr result (MayStop J.plan board.new) }
 {
     take_line(board, line);
     let version = read_line(alloc, board, line)?;
@@ -85,8 +85,9 @@ fn read_line<J: PlanName>(
 ) -> Result<Version<J>, BoardFault>
     requires { Reads J.plan board.old line [] }
     ensures ready { IfOk result (Appears J.plan board.new line) }
+    ensures runs { OnOk result (HasRunning board.new 0) }
     ensures led { RunsTo J.plan board.old board.new }
-    ensures fault { IfErr result (MayStop board.new) }
+    ensures fault { IfErr result (MayStop J.plan board.new) }
 {
     let plan = board.plan();
     let mut notes = Notes::new(alloc);
@@ -115,7 +116,7 @@ fn look_at<J: PlanName>(
     ensures reads { OnOk result (Reads J.plan board.new line notes.new) }
     ensures more { OnOk result (length notes.new ≡ suc (length notes.old)) }
     ensures led { RunsTo J.plan board.old board.new }
-    ensures fault { IfErr result (MayStop board.new) }
+    ensures fault { IfErr result (MayStop J.plan board.new) }
 {
     let plan = board.plan();
     let (name, place) = match board.look(0, key) {
@@ -141,7 +142,7 @@ fn publish_line<'t, J: PlanName>(
     requires { Appears J.plan board.old line (told_at place) }
     ensures whole { OnOk result (Proves J.plan board.new line) }
     ensures led { RunsTo J.plan board.old board.new }
-    ensures fault { IfErr result (MayStop board.new) }
+    ensures fault { IfErr result (MayStop J.plan board.new) }
 {
     'acts: loop {
         match act(board, line, place) {

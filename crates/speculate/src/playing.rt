@@ -1,10 +1,10 @@
 //! A list of steps of workers, played one after another.
 
-ghost use Rattle.std.specs.Prelude.{◌≡◌, IfOk, IfErr, None, OnOk, option_map};
+ghost use Rattle.std.specs.Prelude.{◌≡◌, IfOk, IfErr, None, OnErr, OnOk, option_map};
 ghost use Rattle.board_lines.specs.Acts.{IsPlacing};
 ghost use Rattle.speculate.specs.Needed.{IsNext, IsToPublish, SettlesIfDone, needed_key, needed_version};
 ghost use Rattle.board_lines.specs.Notes.{told_at};
-ghost use Rattle.speculate.specs.Playing.{Goes, Halts, IsRefused, Plays};
+ghost use Rattle.speculate.specs.Playing.{Goes, Halts, HasLine, IsRefused, Plays};
 ghost use Rattle.speculate.specs.declared.steps.Step.TheVariants as steps;
 
 use crate::board::Board;
@@ -145,7 +145,8 @@ fn place_of<'t, J: PlanName, R: Wait>(
     worker: u32,
 ) -> Result<Option<Place<'t, J>>, AllocError>
     requires { IsPlacing board.now worker None }
-    ensures { IfOk result (λ place. IsToPublish J.plan board.now worker (option_map told_at place)) }
+    ensures place { IfOk result (λ place. IsToPublish J.plan board.now worker (option_map told_at place)) }
+    ensures line { OnErr result (HasLine board.now worker) }
 {
     let next = next_need(alloc, board, worker)?;
     let Some(version) = version_in(next) else {
@@ -181,7 +182,8 @@ fn next_need<J: PlanName>(
     board: &Board<'_, '_, J>,
     worker: u32,
 ) -> Result<Option<Need<J>>, AllocError>
-    ensures { IfOk result (IsNext J.plan board.now worker) }
+    ensures next { IfOk result (IsNext J.plan board.now worker) }
+    ensures line { OnErr result (HasLine board.now worker) }
 {
     let Some(hand) = board.hand(worker) else {
         return Ok(None);

@@ -27,7 +27,7 @@ pub(crate) struct Watch {
     pub(crate) taken: AtomicU64,
     whole: AtomicU64,
     checked: AtomicU64,
-    committed: AtomicU64,
+    pub(crate) committed: AtomicU64,
     pub(crate) free: AtomicU64,
     gave_up: AtomicU64,
 }

@@ -96,7 +96,11 @@ pub(crate) fn plan_of(
     lines: u32,
     by_turns: &str,
 ) -> Result<Option<Plan>, AllocError> {
-    let inputs = inputs_of(alloc, lines, by_turns)?;
+    plan_over(alloc, &inputs_of(alloc, lines, by_turns)?)
+}
+
+/// The plan of inputs; none where they are refused, or where memory is wanted.
+pub(crate) fn plan_over(alloc: Global, inputs: &Inputs) -> Result<Option<Plan>, AllocError> {
     let Ok(policy) = Policy::read(alloc, inputs.policy.as_slice()) else {
         return Ok(None);
     };
@@ -136,7 +140,7 @@ pub(crate) fn attempts_of<G: Gate + Sync, R: Threads + Wait + Sync + AllocGlobal
 }
 
 /// All that a run gives but its attempts, which are put behind others; no bytes where it gives nothing.
-fn told(
+pub(crate) fn told(
     alloc: Global,
     run: Result<Output, Fault>,
     attempts: &mut String,

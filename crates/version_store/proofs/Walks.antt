@@ -1,20 +1,19 @@
 -- A walk over the entries of a line in the order of their keys: what is left, and what was left behind.
 use Rattle.std.proofs.Common.{◌≡◌, ◌≢◌, ℕ, true, cond, List, [], ◌∷◌, Option, Some, None, Ordering, Less, Equal, Greater, refl, sym, ap, subst, ◌∙◌, ◌⊎◌, inl, inr}
-use Rattle.std.specs.Prelude.{option_map}
+use Rattle.std.specs.Prelude.{T, option_map}
 use Rattle.std.proofs.lemmas.Option.{none-some, same_Some}
 use Rattle.std.proofs.lemmas.Bool.{cases_Bool}
 use Rattle.std.proofs.lemmas.Cmp.{tied_itself, eq_by_cmp_equiv}
-use Rattle.std.specs.List.{AllByRecursion}
-use Rattle.std.specs.List.Sorted.{IsStrictlySortedBy}
 use Rattle.std.specs.Ordering.{is_eq, ordering_reverse}
-use Rattle.std.specs.BTreeMap.{BTreeMap, is_at}
+use Rattle.std.specs.BTreeMap.{is_at}
 use Rattle.std.specs.FinMap.{get}
-use Rattle.std.specs.Map.{lookup, keys_of}
-use Rattle.std.proofs.lemmas.Map.Keys.{sorted_head, sorted_tail}
+use Rattle.std.specs.FinMap.Entries.{below_all, find}
 use Rattle.circ_records.specs.Keys.{key_cmp, key_cmp_total, key_cmp-IsAntisymmetric}
 use Rattle.circ_records.specs.declared.key.Key.{Key}
 use Rattle.version_store.specs.Entries.{Shown, shown, line_of, AllOf, IsLeastLeft}
 use Rattle.version_store.specs.declared.entry.Entry.{Entry}
+use Rattle.version_store.specs.Places.{Rise}
+use Rattle.version_store.proofs.Places.{first, second, less}
 use Rattle.version_store.proofs.Views.{get_shown}
 
 is_eq_true : (o : Ordering) → is_eq o ≡ true → o ≡ Equal
@@ -36,7 +35,7 @@ not_both q k lt gt = (let z : Less ≡ Greater = sym lt ∙ key_cmp_total.antisy
 
 module _ {X : Type 0} where
   abbrev pub look : Key → List (Key × X) → Option X
-  look q es = lookup (is_at (key_cmp q)) es
+  look q es = find key_cmp q es
 
   pub at_head : (k : Key) (v : X) (es : List (Key × X)) → look k ((k, v) ∷ es) ≡ Some v
   at_head k v es = ap (λ b. cond b (Some v) (look k es)) (key_here k)
@@ -52,16 +51,16 @@ module _ {X : Type 0} where
   Rising [] = Unit {0}
   Rising (e ∷ es) = ((q : Key) (u : X) → look q es ≡ Some u → key_cmp e.0 q ≡ Less) × Rising es
 
-  above_all : (x : Key) (es : List (Key × X)) → AllByRecursion (λ y. key_cmp x y ≡ Less) (keys_of es) → (q : Key) (u : X) → look q es ≡ Some u → key_cmp x q ≡ Less
+  above_all : (x : Key) (es : List (Key × X)) → T (below_all key_cmp x es) → (q : Key) (u : X) → look q es ≡ Some u → key_cmp x q ≡ Less
   above_all x [] all q u h = absurd (none-some u h)
   above_all x (e ∷ es) all q u h = elim (head_or_tail q e.0 e.1 u es h) [
-    | inl i ↦ subst (λ y. key_cmp x y ≡ Less) (sym i.0) all.0
-    | inr t ↦ above_all x es all.1 q u t
+    | inl i ↦ subst (λ y. key_cmp x y ≡ Less) (sym i.0) (less (key_cmp x e.0) (first _ _ all))
+    | inr t ↦ above_all x es (second _ _ all) q u t
   ]
 
-  pub rising : (es : List (Key × X)) → IsStrictlySortedBy key_cmp (keys_of es) → Rising es
+  pub rising : (es : List (Key × X)) → Rise es → Rising es
   rising [] h = tt
-  rising (e ∷ es) h = (above_all e.0 es (sorted_head key_cmp e.0 (keys_of es) h), rising es (sorted_tail key_cmp e.0 (keys_of es) h))
+  rising (e ∷ es) h = (above_all e.0 es (first _ _ h), rising es (second _ _ h))
 
   -- all was walked as far as what is left, and what was left behind was good
   pub record Went (Good : Key → X → Type 0) (all rest : List (Key × X)) : Type 0 where
@@ -70,7 +69,7 @@ module _ {X : Type 0} where
     pub gone : (q : Key) (u : X) → look q all ≡ Some u → (look q rest ≡ Some u) ⊎ Good q u
 
   module _ (Good : Key → X → Type 0) (all : List (Key × X)) where
-    pub went_start : (rest : List (Key × X)) → rest ≡ all → IsStrictlySortedBy key_cmp (keys_of all) → Went Good all rest
+    pub went_start : (rest : List (Key × X)) → rest ≡ all → Rise all → Went Good all rest
     went_start rest e h =
         subst (λ x. Went Good all x) (sym e) (record { ordered = rising all h; here = λ q u g. g; gone = λ q u g. inl g })
 
@@ -121,15 +120,15 @@ shown_some (Some e) s h = (e, refl, same_Some (shown e) s h)
 abbrev pub IsOwn : {J : Type 0} → ℕ → Key → Entry J → Type 0
 IsOwn a q e = e.attempt ≡ a
 
-own_shown : {J : Type 0} (m : BTreeMap Key (Entry J)) (a : ℕ) (q : Key) → ((e : Entry J) → look q m.entries ≡ Some e → e.attempt ≡ a) → (s : Shown) → get (line_of m) q ≡ Some s → s.attempt ≡ a
-own_shown m a q own s h =
-    let x = shown_some (look q m.entries) s (sym (get_shown m q) ∙ h) in
+own_shown : {J : Type 0} (es : List (Key × Entry J)) (a : ℕ) (q : Key) → ((e : Entry J) → look q es ≡ Some e → e.attempt ≡ a) → (s : Shown) → get (line_of es) q ≡ Some s → s.attempt ≡ a
+own_shown es a q own s h =
+    let x = shown_some (look q es) s (sym (get_shown es q) ∙ h) in
     ap (λ (y : Shown). y.attempt) (sym x.2) ∙ own x.0 x.1
 
-pub all_own : {J : Type 0} (m : BTreeMap Key (Entry J)) (a : ℕ) → ((q : Key) (e : Entry J) → look q m.entries ≡ Some e → e.attempt ≡ a) → AllOf (line_of m) a
-all_own m a own = λ q s h. own_shown m a q (own q) s h
+pub all_own : {J : Type 0} (es : List (Key × Entry J)) (a : ℕ) → ((q : Key) (e : Entry J) → look q es ≡ Some e → e.attempt ≡ a) → AllOf (line_of es) a
+all_own es a own = λ q s h. own_shown es a q (own q) s h
 
-pub least_left : {J : Type 0} (m : BTreeMap Key (Entry J)) (a : ℕ) (k : Key) (e : Entry J) → look k m.entries ≡ Some e → e.attempt ≢ a
-    → ((q : Key) (u : Entry J) → key_cmp q k ≡ Less → look q m.entries ≡ Some u → u.attempt ≡ a) → IsLeastLeft (line_of m) a k
-least_left m a k e here apart below =
-    ((shown e, get_shown m k ∙ ap (option_map shown) here, apart), λ q s lt h. own_shown m a q (λ u g. below q u lt g) s h)
+pub least_left : {J : Type 0} (es : List (Key × Entry J)) (a : ℕ) (k : Key) (e : Entry J) → look k es ≡ Some e → e.attempt ≢ a
+    → ((q : Key) (u : Entry J) → key_cmp q k ≡ Less → look q es ≡ Some u → u.attempt ≡ a) → IsLeastLeft (line_of es) a k
+least_left es a k e here apart below =
+    ((shown e, get_shown es k ∙ ap (option_map shown) here, apart), λ q s lt h. own_shown es a q (λ u g. below q u lt g) s h)

@@ -1,7 +1,6 @@
 -- The entries of the lines, and what a line sees (the board: the visible entry).
 use denote.Ref.{Bor}
 use Rattle.std.specs.Prelude.{◌≡◌, ◌≢◌, ℕ, zero, suc, ◌+◌, ◌-◌, ◌<◌, ◌≤◌, Bool, true, false, List, map, length, replicate, nat_lt, slice_index_or, slice_set, Option, Some, None, option_map, if◌then◌else◌}
-use Rattle.std.specs.BTreeMap.{BTreeMap}
 use Rattle.std.specs.FinMap.{FinMap, get, empty, entries, from_entries}
 use Rattle.std.specs.declared.cmp.Ordering.TheVariants.{Less}
 use Rattle.circ_records.specs.Keys.{key_cmp}
@@ -129,8 +128,8 @@ told_in place = place.version.now
 abbrev pub shown_pair : {J : Type 0} → Key × Entry J → Key × Shown
 shown_pair e = (e.0, shown e.1)
 
-abbrev pub line_of : {J : Type 0} → BTreeMap Key (Entry J) → Line
-line_of m = from_entries (map shown_pair m.entries)
+abbrev pub line_of : {J : Type 0} → List (Key × Entry J) → Line
+line_of es = from_entries (map shown_pair es)
 
 -- the key and the attempt of an entry
 abbrev pub IsNamedAt : Option (Key × Shown) → Option (Bor Key × ℕ) → Type 0

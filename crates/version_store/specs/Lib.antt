@@ -1,3 +1,4 @@
 pub mod Index
 pub mod Entries
 pub mod Indexed
+pub mod Places

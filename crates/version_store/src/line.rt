@@ -1,24 +1,22 @@
 //! The entries of one line.
 
-ghost use Rattle.std.specs.Prelude.{◌≡◌, ◌^◌, ◌<◌, OnOk, OnErr, Some, None, MatchOption, length, slice_get, cond, option_map};
-ghost use Rattle.std.specs.BTreeMap as tree;
+ghost use Rattle.std.specs.Prelude.{◌≡◌, ◌^◌, ◌<◌, OnOk, OnErr, None, MatchOption, MatchResult, length, slice_get, option_copied, option_map};
 ghost use Rattle.std.specs.FinMap as fin;
-ghost use Rattle.std.specs.Map.Iter.{deref_pair};
-ghost use Rattle.std.specs.Ordering.{eq_by_cmp};
 ghost use Rattle.circ_records.specs.Keys.{key_cmp};
-ghost use Rattle.circ_records.specs.declared.key.Key.{Key};
 ghost use Rattle.version_store.specs.Entries.{AllOf, IsLeastLeft, IsNamedAt, line_of, no_entries, shown, suspected};
+ghost use Rattle.version_store.specs.Places.{IsAt, IsGap, Rise, all_marked};
 
 use crate::entry::Entry;
 use circ_records::Key;
 use read_set::PlanName;
 use std::alloc::{AllocError, Global};
-use std::collections::BTreeMap;
+use std::collections::VecDeque;
 use std::marker::Model;
 
-/// The entries of one line by their keys.
+/// The entries of one line as a list that rises by key. A version's writes rise too, so most entries go behind the last,
+/// and those that are lifted stand near an end: there a queue moves few others.
 pub struct LineEntries<'t, J: PlanName> {
-    entries: BTreeMap<Key, Entry<'t, J>>,
+    entries: VecDeque<(Key, Entry<'t, J>)>,
 }
 
 impl<J: PlanName> Drop for LineEntries<'_, J> {
@@ -38,7 +36,11 @@ impl<'t, J: PlanName> Model for LineEntries<'t, J> {
 
     ghost use Rattle.version_store.specs.Entries.{line_of};
 
-    ghost view = { λ l. line_of l.entries };
+    ghost view = { λ l. line_of l.entries.items };
+
+    ghost use Rattle.version_store.specs.Places.{Rise};
+
+    ghost invariant = { λ l. Rise l.entries.items };
 }
 
 impl<'t, J: PlanName> LineEntries<'t, J> {
@@ -47,7 +49,7 @@ impl<'t, J: PlanName> LineEntries<'t, J> {
         ensures { result ≡ no_entries }
     {
         LineEntries {
-            entries: BTreeMap::new(alloc),
+            entries: VecDeque::new(alloc),
         }
     }
 
@@ -55,9 +57,9 @@ impl<'t, J: PlanName> LineEntries<'t, J> {
     pub fn get(&self, key: &Key) -> Option<Entry<'t, J>>
         ensures { option_map shown result ≡ fin.get self.now key.now }
     {
-        match self.entries.get(key) {
-            Some(made) => Some(*made),
-            None => None,
+        match place_of(&self.entries, key) {
+            Ok(place) => Some(self.entries[place].1),
+            Err(_) => None,
         }
     }
 
@@ -74,17 +76,16 @@ impl<'t, J: PlanName> LineEntries<'t, J> {
     pub fn take_out(&mut self, key: &Key)
         ensures { self.new ≡ fin.remove self.old key.now }
     {
-        let _ = self.entries.remove(key);
+        if let Ok(place) = place_of(&self.entries, key) {
+            let _ = self.entries.remove(place);
+        }
     }
 
     /// Makes each entry suspect.
     pub fn suspect_all(&mut self)
         ensures { self.new ≡ suspected self.old }
     {
-        self.entries.retain(|_key, made| {
-            made.suspect = true;
-            true
-        });
+        mark_all(&mut self.entries);
     }
 
     /// The i-th key, rising, and the attempt of its entry.
@@ -92,10 +93,10 @@ impl<'t, J: PlanName> LineEntries<'t, J> {
         ensures value { IsNamedAt (slice_get (fin.entries self.now) i) result }
         ensures few { length (fin.entries self.now) < 2 ^ 64 }
     {
-        let Some((key, made)) = nth_entry(&self.entries, i) else {
+        let Some(entry) = nth_entry(&self.entries, i) else {
             return None;
         };
-        Some((key, made.attempt))
+        Some((&entry.0, entry.1.attempt))
     }
 
     /// The least key whose entry isn't of this attempt.
@@ -106,45 +107,69 @@ impl<'t, J: PlanName> LineEntries<'t, J> {
     }
 }
 
+/// The place of a key, or else the place to which it goes.
+fn place_of<J: PlanName>(entries: &VecDeque<(Key, Entry<'_, J>)>, key: &Key) -> Result<usize, usize>
+    requires { Rise entries.now.items }
+    ensures { MatchResult result (IsAt entries.now.items key.now) (IsGap entries.now.items key.now) }
+{
+    entries.binary_search_by_key(key, |entry| entry.0)
+}
+
 /// Puts an entry at the key.
 fn put_entry<'t, J: PlanName>(
-    entries: &mut BTreeMap<Key, Entry<'t, J>>,
+    entries: &mut VecDeque<(Key, Entry<'t, J>)>,
     key: &Key,
     made: Entry<'t, J>,
 ) -> Result<(), AllocError>
-    ensures put { OnOk result ((q : Key) → tree.get key_cmp entries.new q ≡ cond (eq_by_cmp key_cmp key.now q) (Some made.entry) (tree.get key_cmp entries.old q)) }
-    ensures same { OnErr result (entries.new.entries ≡ entries.old.entries) }
-    ensures absent { OnErr result (tree.get key_cmp entries.old key.now ≡ None) }
+    requires { Rise entries.old.items }
+    ensures put { OnOk result (entries.new.items ≡ fin.put key_cmp key.now made.entry entries.old.items) }
+    ensures same { OnErr result (entries.new.items ≡ entries.old.items) }
+    ensures absent { OnErr result (fin.find key_cmp key.now entries.old.items ≡ None) }
+    ensures rising { Rise entries.new.items }
 {
-    match entries.insert(*key, made) {
-        Ok(_) => Ok(()),
-        Err(_) => Err(AllocError),
+    match place_of(entries, key) {
+        Ok(place) => {
+            entries[place] = (*key, made);
+            Ok(())
+        }
+        Err(place) => match entries.insert(place, (*key, made)) {
+            Ok(()) => Ok(()),
+            Err(_) => Err(AllocError),
+        },
+    }
+}
+
+/// Makes each entry suspect.
+fn mark_all<J: PlanName>(entries: &mut VecDeque<(Key, Entry<'_, J>)>)
+    ensures { entries.new.items ≡ all_marked entries.old.items }
+{
+    for i in 0..entries.len() {
+        let entry = &mut entries[i];
+        entry.1.suspect = true;
     }
 }
 
 /// The i-th entry, by keys.
 fn nth_entry<'m, 't, J: PlanName>(
-    entries: &'m BTreeMap<Key, Entry<'t, J>>,
+    entries: &'m VecDeque<(Key, Entry<'t, J>)>,
     i: usize,
-) -> Option<(&'m Key, &'m Entry<'t, J>)>
-    ensures nth { option_map deref_pair result ≡ slice_get entries.now.entries i }
-    ensures ordered { tree.IsOrdered key_cmp entries.now }
-    ensures few { length entries.now.entries < 2 ^ 64 }
+) -> Option<&'m (Key, Entry<'t, J>)>
+    ensures nth { option_copied result ≡ slice_get entries.now.items i }
+    ensures few { length entries.now.items < 2 ^ 64 }
 {
-    // Its contract says that they are few.
-    let _count = entries.len();
-    entries.iter().nth(i)
+    entries.get(i)
 }
 
 /// The least key whose entry isn't of this attempt.
 fn left_key<'m, 't, J: PlanName>(
-    entries: &'m BTreeMap<Key, Entry<'t, J>>,
+    entries: &'m VecDeque<(Key, Entry<'t, J>)>,
     attempt: u32,
 ) -> Option<&'m Key>
-    ensures { MatchOption result (AllOf (line_of entries.now) attempt) (λ k. IsLeastLeft (line_of entries.now) attempt k.now) }
+    requires { Rise entries.now.items }
+    ensures { MatchOption result (AllOf (line_of entries.now.items) attempt) (λ k. IsLeastLeft (line_of entries.now.items) attempt k.now) }
 {
-    for (key, made) in entries.iter() {
-        let made = *made;
+    for i in 0..entries.len() {
+        let (key, made) = &entries[i];
         if made.attempt != attempt {
             return Some(key);
         }

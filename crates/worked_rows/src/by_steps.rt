@@ -1,15 +1,15 @@
 //! Whole runs by lists of workers' steps.
 
-use crate::book::Row;
+use crate::book::inputs_of;
 use crate::checked::must_be;
-use crate::lists::step_of;
-use crate::script::Script;
-use crate::sight::WORKERS;
 use replay_run::{Inputs, Output, Run, Step, Tables, one_thread, rebuild_by_steps};
 use std::alloc::{AllocError, AllocGlobal, Global};
 use std::process::Abort;
 use std::sync::Wait;
 use std::test::Fail;
+use worked_texts::call::step_of;
+use worked_texts::row::Row;
+use worked_texts::script::{Script, WORKERS};
 
 /// The most workers of a run.
 const MOST_WORKERS: u32 = 64;
@@ -71,10 +71,11 @@ fn same_tables(one: &Tables, other: &Tables) -> bool {
 /// what is wanted, else how many they say are.
 pub(crate) fn run_beginnings<R: Wait + AllocGlobal + Abort>(
     rt: &R,
-    row: &Row,
+    row: &mut Row,
     script: &Script<'_>,
 ) -> Result<(), Fail> {
     let alloc = rt.alloc();
+    let inputs = inputs_of(alloc, row);
     let mut steps = Vec::new(alloc);
     let mut committed: u64 = 0;
     for line in script.lines.split('\n') {
@@ -83,7 +84,7 @@ pub(crate) fn run_beginnings<R: Wait + AllocGlobal + Abort>(
         {
             steps.push(step)?;
             committed = committed.saturating_add(u64::from(reply == "committed"));
-            let told = tell_run(rt, alloc, &row.inputs, WORKERS, steps.as_slice())?;
+            let told = tell_run(rt, alloc, &inputs, WORKERS, steps.as_slice())?;
             let open = format!(in alloc; "unfinished {committed}")?;
             let wanted = if committed < row.asked {
                 open.as_str()

@@ -3,9 +3,7 @@
 ghost use Rattle.std.specs.Prelude.{◌≡◌, None};
 ghost use Rattle.read_set.specs.Notes.{noted};
 
-use crate::book::{Row, plan_over};
 use crate::checked::must_be;
-use crate::shelf::{Shelf, tell};
 use circ_records::{Key, Record};
 use message_meaning::{need, perform};
 use read_set::{Name, Need, Note, Notes, Noting, Plan, PlanName};
@@ -16,6 +14,8 @@ use std::mem::replace;
 use std::process::Abort;
 use std::str::from_utf8;
 use std::test::Fail;
+use worked_texts::row::Row;
+use worked_texts::shelf::{Shelf, tell};
 
 /// More records than any line of a book asks for.
 const MANY: usize = 20;
@@ -68,7 +68,7 @@ impl Single {
     pub(crate) fn run(&mut self, rt: &impl Abort, alloc: Global, title: &str) -> Result<(), Fail> {
         let mut row = Row::new(alloc)?;
         row.ask(alloc, self.request.as_str())?;
-        let plan = plan_over(alloc, &row.inputs)?.expect(rt, "a plan");
+        let plan = row.plan(alloc)?.expect(rt, "a plan");
         let done = self.performed(alloc, &plan)?;
         must_be(rt, done.as_str(), self.told.as_str(), title, "does");
         let mut wants = String::new(alloc);

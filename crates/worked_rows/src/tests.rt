@@ -1,27 +1,19 @@
-//! The books, and the tests that run them.
+//! The tests that run the books.
 
-mod checkins;
-mod checkouts;
-mod driving;
-mod fees;
-mod holds;
-mod odd;
-mod patrons;
-mod recorded;
-mod renewals;
-mod steps;
-mod tables;
-mod unread;
-mod wants;
-
-use self::steps::{checked, choices, lists, refused, rows, spared, turns};
-use crate::book::Row;
-use crate::script::run_script;
+use crate::book::run_row;
+use crate::by_steps::run_beginnings;
 use crate::single::Single;
 use std::alloc::{AllocGlobal, Global};
 use std::process::Abort;
 use std::sync::Wait;
 use std::test::Fail;
+use worked_texts::books::{
+    checkins, checkouts, driving, fees, holds, odd, patrons, recorded, renewals, tables, unread,
+    wants,
+};
+use worked_texts::row::Row;
+use worked_texts::script::Script;
+use worked_texts::steps::{checked, choices, lists, refused, rows, spared, turns};
 
 /// Runs some books.
 fn run_books<R: Wait + AllocGlobal + Abort>(rt: &R, books: &[&str]) -> Result<(), Fail> {
@@ -38,16 +30,16 @@ fn run_book<R: Wait + AllocGlobal + Abort>(rt: &R, book: &str) -> Result<(), Fai
         if lines.contains("\nwants") {
             run_line(rt, rt.alloc(), title, lines)?;
         } else if lines.contains(" = ") {
-            run_script(rt, title, lines)?;
+            take_script(rt, title, lines)?;
         } else if !lines.is_empty() {
-            run_row(rt, title, lines)?;
+            take_row(rt, title, lines)?;
         }
     }
     Ok(())
 }
 
 /// Runs a row of a book.
-fn run_row<R: Wait + AllocGlobal + Abort>(rt: &R, title: &str, lines: &str) -> Result<(), Fail> {
+fn take_row<R: Wait + AllocGlobal + Abort>(rt: &R, title: &str, lines: &str) -> Result<(), Fail> {
     let alloc = rt.alloc();
     let mut row = Row::new(alloc)?;
     for line in lines.split('\n') {
@@ -56,7 +48,7 @@ fn run_row<R: Wait + AllocGlobal + Abort>(rt: &R, title: &str, lines: &str) -> R
             "{title}: {line}"
         );
     }
-    row.run(rt, title)
+    run_row(rt, title, &mut row)
 }
 
 /// Runs a single line. `{9998}` stands for so many places of P2 in a queue.
@@ -73,6 +65,29 @@ fn run_line(rt: &impl Abort, alloc: Global, title: &str, lines: &str) -> Result<
         );
     }
     single.run(rt, alloc, title)
+}
+
+/// Runs the beginnings of a script, where it is steps alone. Its other lines make the inputs.
+fn take_script<R: Wait + AllocGlobal + Abort>(
+    rt: &R,
+    title: &str,
+    lines: &str,
+) -> Result<(), Fail> {
+    let alloc = rt.alloc();
+    let mut row = Row::new(alloc)?;
+    let mut script = Script::new(title, lines);
+    for line in lines.split('\n') {
+        if !line.contains(" = ") {
+            assert!(rt;
+                script.take(line) || row.take(alloc, line)?,
+                "{title}: {line}"
+            );
+        }
+    }
+    if script.given.is_empty() {
+        return Ok(());
+    }
+    run_beginnings(rt, &mut row, &script)
 }
 
 #[test]

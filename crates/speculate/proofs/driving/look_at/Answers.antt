@@ -1,17 +1,28 @@
 use Rattle.std.proofs.Common.{◌≡◌, List, ◌∷◌, [], ◌++◌, Option, ap, option_map, subst, sym, ◌∙◌}
 use Rattle.circ_records.specs.declared.record.Record.{Record}
+use Rattle.std.proofs.lemmas.Result.{err_from_is_err_and}
 use Rattle.read_set.specs.Plans.{Planned}
 use Rattle.read_set.specs.declared.notes.Note.{Note}
 use Rattle.board_steps.specs.Steps.Call.{Look}
 use Rattle.board_lines.specs.Notes.{found_by, told_at}
 use Rattle.speculate.specs.Phases.{Reads}
-use Rattle.speculate.proofs.Drives.{led, look_only, look_seen}
+use Rattle.speculate.proofs.Drives.{led, look_only, look_seen, seen_stops}
 use Rattle.speculate.proofs.driving.look_at.Goals as goal
 
 pub unreachable-requires : goal.unreachable-requires
 unreachable-requires g c =
     look_only g.J.PlanName.plan c.args.board.now c.look.new.self c.args.line c.args.notes.now c.args.key.now c.look.result
     c.requires.reads c.requires.wanted.0 c.look.ensures c.in_default.not-Seen c.in_default.not-Memory
+
+pub returns-in_err-found-clause-fault : goal.returns-in_err-found-clause-fault
+returns-in_err-found-clause-fault g c =
+    let p = err_from_is_err_and c.from_residual.result c.from_residual.ensures.1 in
+    rw (p.1, p.2) (seen_stops g.J.PlanName.plan c.args.board.now c.look.new.self c.args.line c.args.notes.now c.args.key.now c.in-Seen.name c.in-Seen.place c.requires.reads c.in-Seen.ensures)
+
+pub returns-in_err-add-clause-fault : goal.returns-in_err-add-clause-fault
+returns-in_err-add-clause-fault g c =
+    let p = err_from_is_err_and c.from_residual-in_err-add.result c.from_residual-in_err-add.ensures.1 in
+    rw (p.1, p.2) (seen_stops g.J.PlanName.plan c.args.board.now c.look.new.self c.args.line c.args.notes.now c.args.key.now c.in-Seen.name c.in-Seen.place c.requires.reads c.in-Seen.ensures)
 
 pub returns-in_err-found-clause-led : goal.returns-in_err-found-clause-led
 returns-in_err-found-clause-led g c = led g.J.PlanName.plan c.args.board.now c.look.new.self (Look 0 c.args.key.now) c.look.result tt c.look.ensures

@@ -1,7 +1,7 @@
 use Rattle.std.proofs.Common.{arith}
 use Rattle.board_steps.specs.Steps.Call.{Publish}
 use Rattle.board_lines.specs.Notes.{told_at}
-use Rattle.speculate.proofs.Drives.{led, publish_other, runs_on, spent_stops}
+use Rattle.speculate.proofs.Drives.{act_stops, led, publish_other, runs_on, spent_stops}
 use Rattle.speculate.proofs.Phases.{lifted_goes, placed_goes, whole_goes}
 use Rattle.speculate.proofs.driving.publish_line.Goals as goal
 
@@ -56,7 +56,7 @@ returns-in-ClockSpent-clause-led g c =
     runs_on plan c.args.board.now b new c.acts.invariant.led (led plan b new (Publish 0 (told_at c.args.place)) c.act.result c.acts.invariant.appears.settles c.act.ensures)
 
 pub returns-in-ClockSpent-clause-fault : goal.returns-in-ClockSpent-clause-fault
-returns-in-ClockSpent-clause-fault g c = spent_stops g.J.PlanName.plan c.acts.board c.act.new.board (told_at c.args.place) c.in-ClockSpent.ensures
+returns-in-ClockSpent-clause-fault g c = spent_stops g.J.PlanName.plan c.acts.board c.act.new.board (told_at c.args.place) c.acts.invariant.appears.settles c.in-ClockSpent.ensures
 
 pub returns-in-Memory-clause-led : goal.returns-in-Memory-clause-led
 returns-in-Memory-clause-led g c =
@@ -64,6 +64,10 @@ returns-in-Memory-clause-led g c =
     let b = c.acts.board in
     let new = c.act.new.board in
     runs_on plan c.args.board.now b new c.acts.invariant.led (led plan b new (Publish 0 (told_at c.args.place)) c.act.result c.acts.invariant.appears.settles c.act.ensures)
+
+pub returns-in-Memory-clause-fault : goal.returns-in-Memory-clause-fault
+returns-in-Memory-clause-fault g c =
+    act_stops g.J.PlanName.plan c.acts.board c.act.new.board c.args.line (told_at c.args.place) c.acts.invariant.appears c.in-Memory.ensures
 
 pub unreachable-requires : goal.unreachable-requires
 unreachable-requires g c =

@@ -4,8 +4,8 @@ use Rattle.board_lines.specs.Notes.{notes_by}
 use Rattle.speculate.proofs.Plays.{in_hand, next_is}
 use Rattle.speculate.proofs.playing.next_need.Goals as goal
 
-pub returns : goal.returns
-returns g c =
+pub returns-clause-next : goal.returns-clause-next
+returns-clause-next g c =
     let plan = g.J.PlanName.plan in
     let b = c.args.board.now in
     let notes = c.in_ok-notes.notes in

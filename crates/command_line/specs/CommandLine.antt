@@ -1,0 +1,61 @@
+-- What the words of the command line mean, by clap's own definition.
+use Rattle.std.specs.Prelude.{◌≡◌, ◌<◌, ◌^◌, ℕ, List, Option, Some, None, codes, is_some, false, true, pos}
+use Rattle.std.specs.Prelude.{string_bytes}
+use Rattle.std.specs.Str.Parse.{IsNumeral, digits_value, without_leading_plus}
+use Rattle.clap.specs.Words.{App, Row, Rule, Text, first_of, one_of, new_app, new_rule}
+use Rattle.clap.specs.Words.{with_rule}
+use Rattle.clap.specs.Words.{IsParsedFrom, IsPlainArg, first_value, found_of}
+use Rattle.clap.specs.declared.builder.action.ArgAction.TheVariants.{Set}
+use Rattle.clap.specs.declared.builder.arg.Arg.{Arg}
+use Rattle.clap.specs.declared.builder.command.Command.{Command}
+use Rattle.clap.specs.declared.parser.matches.ArgMatches.{ArgMatches}
+use Rattle.clap.specs.declared.builder.value_parser.ValueParser.TheVariants.{Signed}
+use Rattle.command_line.specs.declared.chosen.Options.{Options}
+
+-- an argument that must be given and takes a path
+abbrev pub path_rule : Text → Rule
+path_rule name = record (new_rule name) { long = Some name; value_names = 1; required = true; action = Some Set }
+
+-- how many workers, a u32
+abbrev pub workers_rule : Rule
+workers_rule = record (new_rule (codes "workers")) {
+  long = Some (codes "workers");
+  value_names = 1;
+  parser = Some (Signed (pos 0) (pos 4294967295));
+}
+
+-- the command line of the program
+unfoldable pub sip_replay_line : App
+sip_replay_line = with_rule (with_rule (with_rule (with_rule (with_rule (new_app (codes "sip_replay"))
+    (path_rule (codes "policy"))) (path_rule (codes "base"))) (path_rule (codes "journal")))
+    (path_rule (codes "out"))) workers_rule
+
+-- the number of workers: that of the text that clap reads, and 4 where there is none
+abbrev pub CountsWorkers : Option Text → ℕ → Type 0
+CountsWorkers None n = n ≡ 4
+CountsWorkers (Some t) n = IsNumeral 10 (without_leading_plus t)
+    → digits_value 10 (without_leading_plus t) < 2 ^ 32
+    → n ≡ digits_value 10 (without_leading_plus t)
+
+-- the options are what clap's own definition gives the words
+pub record GivesOptions (rows : List Row) (o : Options) : Type 0 where
+  pub policy : Some (string_bytes o.policy) ≡ first_of (codes "policy") rows
+  pub base : Some (string_bytes o.base) ≡ first_of (codes "base") rows
+  pub journal : Some (string_bytes o.journal) ≡ first_of (codes "journal") rows
+  pub out : Some (string_bytes o.out) ≡ first_of (codes "out") rows
+  pub workers : CountsWorkers (one_of (codes "workers") rows) o.workers
+
+-- an argument of this name that stands for itself
+abbrev pub IsOwnArg : Text → Arg → Type 0
+IsOwnArg name a = (a.id.now ≡ name) × (a.global ≡ false) × IsPlainArg a
+
+-- an accepted line has a text for each path
+abbrev pub HasPath : Command → Text → Type 0
+HasPath c name = (m : ArgMatches) → IsParsedFrom c m
+    → is_some (first_value (found_of m) name) ≡ true
+
+pub record HasPaths (c : Command) : Type 0 where
+  pub policy : HasPath c (codes "policy")
+  pub base : HasPath c (codes "base")
+  pub journal : HasPath c (codes "journal")
+  pub out : HasPath c (codes "out")

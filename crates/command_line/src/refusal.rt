@@ -1,0 +1,44 @@
+//! Why words give no options.
+ghost use Rattle.std.specs.Prelude.{◌≡◌};
+ghost use Rattle.clap.specs.Words.{kind_of};
+ghost use Rattle.clap.specs.declared.error.kind.ErrorKind.TheVariants.{OutOfMemory};
+ghost use Rattle.command_line.specs.declared.refusal.Refusal.TheVariants as refusals;
+
+use clap::Error;
+use clap::error::ErrorKind;
+use std::alloc::{AllocError, Global};
+
+/// What words come to that give no options.
+#[derive(Drop)]
+pub enum Refusal {
+    /// They ask for help: its text.
+    Help(String),
+    /// They are refused: what is told of them.
+    Words(String),
+    /// Memory ran out.
+    Memory,
+}
+
+impl From<AllocError> for Refusal {
+    ghost from_gives = { λ e r. r ≡ refusals.Memory };
+
+    fn from(_error: AllocError) -> Refusal {
+        Refusal::Memory
+    }
+}
+
+impl Refusal {
+    /// What clap's error tells.
+    pub(crate) fn of_error(alloc: Global, error: &Error) -> Refusal
+        ensures memory { kind_of error.now ≡ OutOfMemory → result ≡ refusals.Memory }
+    {
+        if error.kind() == ErrorKind::OutOfMemory {
+            return Refusal::Memory;
+        }
+        match format!(in alloc; "{error}") {
+            Ok(text) if error.use_stderr() => Refusal::Words(text),
+            Ok(text) => Refusal::Help(text),
+            Err(_) => Refusal::Memory,
+        }
+    }
+}

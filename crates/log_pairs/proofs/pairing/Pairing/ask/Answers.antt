@@ -1,0 +1,44 @@
+use Rattle.std.proofs.Common.{◌≡◌, ◌+◌, ◌<◌, ◌++◌, ◌∷◌, [], List, None, length, ap, sym, subst, ◌∙◌}
+use Rattle.journal_table.specs.declared.TheConstants.{LINE_LIMIT}
+use Rattle.log_pairs.specs.Pairs.{Open, Pair, to_come}
+use Rattle.log_pairs.proofs.Steps.{ask-kept, ask-pairs, longer, more-kept, opened}
+use Rattle.log_pairs.proofs.pairing.Pairing.ask.Goals as goal
+
+pub invariant_of-self : goal.invariant_of-self
+invariant_of-self c =
+    let same = c.in_err-push_back.ensures.items in
+    record { few = rw same c.self.invariant.few; places = λ d i at. rw same (c.self.invariant.places d i at) }
+
+pub invariant_of-self-in_err-insert : goal.invariant_of-self-in_err-insert
+invariant_of-self-in_err-insert c =
+    let a = c.self.inside in
+    let room : a.taken + length a.waiting.items < LINE_LIMIT = subst (λ (o : Open). o.asked < LINE_LIMIT) (sym c.self.view_is) c.requires in
+    let is = c.in_ok-push_back.ensures.items in
+    record {
+      few = longer a.taken a.waiting.items c.push_back.new.self.items c.in_ok-exchange.exchange LINE_LIMIT is room;
+      places = more-kept a.taken a.waiting.items c.push_back.new.self.items c.in_ok-exchange.exchange a.«open» c.insert.new.self is c.in_err-insert.ensures.err c.self.invariant.places;
+    }
+
+pub invariant_of-self-2 : goal.invariant_of-self-2
+invariant_of-self-2 c =
+    let a = c.self.inside in
+    let room : a.taken + length a.waiting.items < LINE_LIMIT = subst (λ (o : Open). o.asked < LINE_LIMIT) (sym c.self.view_is) c.requires in
+    let is = c.in_ok-push_back.ensures.items in
+    let place : c.asked-place.result ≡ a.taken + length a.waiting.items = c.asked-place.ensures ∙ ap (λ (o : Open). o.asked) (sym c.self.view_is) in
+    let new : c.push_back.new.self.items ≡ a.waiting.items ++ record { connection = c.args.connection.now; request = c.args.request.now; response = None } ∷ [] =
+    is ∙ ap (λ (p : Pair). a.waiting.items ++ p ∷ []) c.in_ok-exchange.ensures in
+    record {
+      few = longer a.taken a.waiting.items c.push_back.new.self.items c.in_ok-exchange.exchange LINE_LIMIT is room;
+      places = λ d i at. rw new (ask-kept a.taken a.waiting.items a.«open» c.insert.new.self c.in_ok-name.name.items c.args.connection.now c.args.request.now c.asked-place.result
+          c.in_ok-name.ensures.items place c.self.invariant.places c.in_ok-insert.ensures.updates d i at);
+    }
+
+pub returns-clause-pairs : goal.returns-clause-pairs
+returns-clause-pairs c rest =
+    let a = c.self.inside in
+    let place : c.asked-place.result ≡ a.taken + length a.waiting.items = c.asked-place.ensures ∙ ap (λ (o : Open). o.asked) (sym c.self.view_is) in
+    let new : c.push_back.new.self.items ≡ a.waiting.items ++ record { connection = c.args.connection.now; request = c.args.request.now; response = None } ∷ [] =
+    c.in_ok-push_back.ensures.items ∙ ap (λ (p : Pair). a.waiting.items ++ p ∷ []) c.in_ok-exchange.ensures in
+    rw (← c.self.view_is) (ap (λ (l : List Pair). to_come (opened a.taken l c.insert.new.self) rest) new
+    ∙ ask-pairs a.taken a.waiting.items a.«open» c.insert.new.self c.in_ok-name.name.items c.args.connection.now c.args.request.now c.asked-place.result
+    c.in_ok-name.ensures.items place c.self.invariant.places c.in_ok-insert.ensures.updates rest)

@@ -1,0 +1,74 @@
+-- What the text of a message in a log spells, by how the log spells bytes.
+use Rattle.std.specs.Prelude.{◌+◌, ◌-◌, ◌*◌, ◌&&◌, ℕ, suc, zero, Bool, nat_le, List, [], ◌∷◌, Option, Some, None, option_map, slice_get, codes, if◌then◌else◌, nat_eq}
+use Rattle.std.specs.List.{starts_with}
+use Rattle.std.specs.Option.{option_and_then}
+use Rattle.log_pairs.specs.declared.escapes.Escapes.{Escapes}
+use Rattle.log_pairs.specs.declared.escapes.Escapes.TheVariants.{Bare, Backslash, Angle, Hexadecimal}
+
+-- a byte, and how many bytes behind the first its spelling has
+abbrev pub Spelling : Type 0
+Spelling = ℕ × ℕ
+
+abbrev pub bare : List ℕ → Option Spelling
+bare [] = None
+bare (b ∷ rest) = Some (b, 0)
+
+abbrev pub in_range : ℕ → ℕ → ℕ → Bool
+in_range low high b = nat_le low b && nat_le b high
+
+-- a hexadecimal digit, in either case
+abbrev pub digit : ℕ → Option ℕ
+digit b = if in_range 48 57 b then Some (b - 48) else if in_range 65 70 b then Some (b - 55) else if in_range 97 102 b then Some (b - 87) else None
+
+abbrev pub of_digits : ℕ → Option ℕ → Option ℕ → Option Spelling
+of_digits at None low = None
+of_digits at (Some high) None = None
+of_digits at (Some high) (Some low) = Some (16 * high + low, at + 1)
+
+abbrev pub digit_at : Option ℕ → Option ℕ
+digit_at None = None
+digit_at (Some b) = digit b
+
+-- two hexadecimal digits at a place
+abbrev pub pair : List ℕ → ℕ → Option Spelling
+pair text at = of_digits at (digit_at (slice_get text at)) (digit_at (slice_get text (at + 1)))
+
+abbrev pub else_bare : List ℕ → Option Spelling → Option Spelling
+else_bare text None = bare text
+else_bare text (Some s) = Some s
+
+abbrev pub has_front : List ℕ → List ℕ → Bool
+has_front text front = starts_with nat_eq text front
+
+-- \r, \n, \t, \\ and \x with two hexadecimal digits
+abbrev pub backslash : List ℕ → Option Spelling
+backslash text =
+    if has_front text (92 ∷ codes "r") then Some (13, 1)
+    else if has_front text (92 ∷ codes "n") then Some (10, 1)
+    else if has_front text (92 ∷ codes "t") then Some (9, 1)
+    else if has_front text (92 ∷ 92 ∷ []) then Some (92, 1)
+    else if has_front text (92 ∷ codes "x") then else_bare text (pair text 2)
+    else bare text
+
+-- <CR> and <LF>
+abbrev pub angle : List ℕ → Option Spelling
+angle text =
+    if has_front text (codes "<CR>") then Some (13, 3)
+    else if has_front text (codes "<LF>") then Some (10, 3)
+    else bare text
+
+abbrev pub spelled : Escapes → List ℕ → Option Spelling
+spelled Bare text = bare text
+spelled Backslash text = backslash text
+spelled Angle text = angle text
+spelled Hexadecimal text = pair text 0
+
+-- what a text spells behind so many bytes that are spelled already
+abbrev pub message_from : Escapes → ℕ → List ℕ → Option (List ℕ)
+message_from e more [] = Some []
+message_from e (suc more) (b ∷ rest) = message_from e more rest
+message_from e zero (b ∷ rest) = option_and_then (λ (s : Spelling). option_map (λ (m : List ℕ). s.0 ∷ m) (message_from e s.1 rest)) (spelled e (b ∷ rest))
+
+-- the message that a text spells
+abbrev pub message_of : Escapes → List ℕ → Option (List ℕ)
+message_of e text = message_from e 0 text

@@ -1,0 +1,4 @@
+pub mod Escapes
+pub mod Pairs
+pub mod Places
+pub mod Rows

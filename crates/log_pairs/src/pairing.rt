@@ -1,0 +1,153 @@
+//! Requests and responses in the order of a log, put together.
+
+ghost use Rattle.std.specs.Prelude.{◌≡◌, ◌+◌, ◌<◌, ◌≤◌, ◌∷◌, [], true, false, IfOk, OnOk, IfSome, IfNone, List, ℕ, length};
+ghost use Rattle.std.specs.List.{AllByRecursion};
+ghost use Rattle.journal_table.specs.declared.TheConstants.{LINE_LIMIT};
+ghost use Rattle.log_pairs.specs.Pairs.{Said, Request, Response, has_open, begins_open, to_come};
+ghost use Rattle.log_pairs.specs.Places.{is_place, place_in};
+
+use crate::exchange::Exchange;
+use journal_table::LINE_LIMIT;
+use std::alloc::{AllocError, Global};
+use std::collections::{BTreeMap, VecDeque};
+use std::marker::Model;
+
+/// The requests of a log that weren't taken yet, and which of them are open: the last one of its connection, where no
+/// response came since. Requests count from 0.
+pub struct Pairing {
+    taken: usize,
+    waiting: VecDeque<Exchange>,
+    open: BTreeMap<Vec<u8>, usize>,
+}
+
+impl Drop for Pairing {
+    fn drop(self) {
+        let Pairing {
+            taken: _,
+            waiting: _,
+            open: _,
+        } = self;
+    }
+}
+
+impl Model for Pairing {
+    ghost use Rattle.log_pairs.specs.Pairs.{Open};
+
+    ghost Value = { Open };
+
+    ghost use Rattle.log_pairs.specs.Places.{IsKept, open_of};
+
+    ghost view = { open_of };
+
+    ghost invariant = { IsKept };
+}
+
+impl Pairing {
+    /// Before the first line of a log.
+    pub fn new(alloc: Global) -> Pairing
+        ensures { result ≡ record { asked = 0; pending = [] } }
+    {
+        Pairing {
+            taken: 0,
+            waiting: VecDeque::new(alloc),
+            open: BTreeMap::new(alloc),
+        }
+    }
+
+    /// How many requests came.
+    pub fn asked(&self) -> usize
+        ensures { result ≡ self.now.asked }
+    {
+        self.taken + self.waiting()
+    }
+
+    /// How many of them weren't taken.
+    pub fn waiting(&self) -> usize
+        ensures { result ≡ length self.now.pending }
+    {
+        self.waiting.len()
+    }
+
+    /// The next line of the log is a request. One before it on its connection that is still open stays without a response.
+    pub fn ask(
+        &mut self,
+        alloc: Global,
+        connection: &[u8],
+        request: &[u8],
+    ) -> Result<(), AllocError>
+        requires { self.old.asked < LINE_LIMIT }
+        ensures counted { OnOk result (self.new.asked ≡ self.old.asked + 1) }
+        ensures pairs { OnOk result ((rest : List Said) → to_come self.new rest ≡ to_come self.old (Request connection.now request.now ∷ rest)) }
+    {
+        let place = self.asked();
+        let name = Vec::from_slice(alloc, connection)?;
+        let exchange = Exchange::asked(alloc, connection, request)?;
+        self.waiting.push_back(exchange)?;
+        self.open.insert(name, place)?;
+        Ok(())
+    }
+
+    /// The next line of the log is a response. Gives whether it belongs to a request; else it changes nothing.
+    pub fn answer(
+        &mut self,
+        alloc: Global,
+        connection: &[u8],
+        response: &[u8],
+    ) -> Result<bool, AllocError>
+        ensures belongs { IfOk result (λ found. found ≡ has_open connection.now self.old.pending) }
+        ensures counted { self.new.asked ≡ self.old.asked }
+        ensures pairs { OnOk result ((rest : List Said) → to_come self.new rest ≡ to_come self.old (Response connection.now response.now ∷ rest)) }
+    {
+        let bytes = Vec::from_slice(alloc, response)?;
+        let place = match self.open.remove(connection) {
+            Some(place) => place,
+            None => return Ok(false),
+        };
+        let at = place - self.taken;
+        self.waiting[at].answer(bytes);
+        Ok(true)
+    }
+
+    /// Takes the first request that wasn't taken yet, with its response, where that can't change any more.
+    pub fn next(&mut self) -> Option<Exchange>
+        ensures some { IfSome result (λ e. (rest : List Said) → to_come self.old rest ≡ e ∷ to_come self.new rest) }
+        ensures none { IfNone result ((begins_open self.old.pending ≡ true) × (self.new ≡ self.old)) }
+        ensures counted { self.new.asked ≡ self.old.asked }
+    {
+        if self.begins_open() {
+            return None;
+        }
+        let first = self.waiting.pop_front()?;
+        self.taken += 1;
+        Some(first)
+    }
+
+    /// Whether none was asked that wasn't taken, or the first of them is open.
+    fn begins_open(&self) -> bool
+        ensures { result ≡ begins_open self.now.pending }
+    {
+        match self.waiting.front() {
+            Some(first) => has_place(&self.open, first.connection(), self.taken),
+            None => true,
+        }
+    }
+
+    /// The log is at its end: what is open stays without a response.
+    pub fn close(&mut self)
+        ensures pairs { to_come self.new [] ≡ to_come self.old [] }
+        ensures closed { AllByRecursion (λ p. p.is_open ≡ false) self.new.pending }
+        ensures counted { self.new.asked ≡ self.old.asked }
+    {
+        self.open.clear();
+    }
+}
+
+/// Whether the open request of a connection has this place.
+fn has_place(places: &BTreeMap<Vec<u8>, usize>, connection: &[u8], place: usize) -> bool
+    ensures { result ≡ is_place (place_in places.now connection.now) place }
+{
+    match places.get(connection) {
+        Some(&found) => found == place,
+        None => false,
+    }
+}

@@ -3,6 +3,7 @@
 
 mod checkins;
 mod driving;
+mod files;
 mod journals;
 mod library;
 mod outcomes;
@@ -29,7 +30,8 @@ const USAGE: &str = "bench MEASURE N..  prints a cost for each number N
   needs     all that it wants, asked for record by record and noted: nanoseconds a record
   fees      the same of a payment of N fees
   report    the result tables of N lines, by one thread and by all cores
-  drive     nanoseconds a line of N lines, driven in order through a board, and of a whole run by one thread";
+  drive     nanoseconds a line of N lines, driven in order through a board, and of a whole run by one thread
+bench files POLICY BASE JOURNAL OUT  a whole run by one thread, from files to files: microseconds of its parts, peak memory";
 
 /// What is measured.
 #[derive(Clone, Copy)]
@@ -84,6 +86,9 @@ fn main(rt: HostRuntime) -> Result<()> {
         println!(rt; "{USAGE}")?;
         return Ok(());
     };
+    if name.as_str() == "files" {
+        return files::measure(&rt, &words[2..]);
+    }
     let Some(measure) = Measure::named(name.as_str()) else {
         bail!("no such measure: {name}");
     };

@@ -1,5 +1,5 @@
 -- A line commits.
-use Rattle.std.proofs.Common.{◌≡◌, ◌≢◌, ℕ, ◌+◌, ◌-◌, ◌<◌, ◌≤◌, max, List, Option, Some, length, get_or, refl, sym, ap, subst, ◌∙◌, inl, inr, arith}
+use Rattle.std.proofs.Common.{◌≡◌, ◌≢◌, ℕ, ◌+◌, ◌-◌, ◌<◌, ◌≤◌, max, List, [], Option, Some, length, set, get_or, refl, sym, ap, subst, ◌∙◌, inl, inr, arith}
 use Rattle.std.proofs.lemmas.Bool.{cases_order}
 use Rattle.std.proofs.lemmas.List.{set-get_or}
 use Rattle.sip_answer.specs.declared.answer.Answer.{Answer}
@@ -18,7 +18,7 @@ use Rattle.board_steps.specs.Steps.{MayCommit, CommitStep, put_row, with_state}
 use Rattle.board_steps.specs.Steps.Reply.{Commits, Later, Idle}
 use Rattle.board_steps.proofs.Steps.{commit_step}
 use Rattle.board_lines.specs.Notes.{notes_by}
-use Rattle.board_lines.specs.Parts.{Parts, no_notes, row_with, row_by, state_of, answer_by, board_of, HandsHold, IsKept}
+use Rattle.board_lines.specs.Parts.{Kept, Parts, no_notes, row_with, row_by, state_of, answer_by, board_of, HandsHold, IsKept}
 use Rattle.board_lines.proofs.Boards.{Puts, is_there, row_there, board_is, row_new, row_old, kept_commit}
 use Rattle.board_lines.proofs.Hands.{hand_same}
 use Rattle.board_lines.proofs.Moves.{state_is, puts_of, board_eq}
@@ -114,26 +114,31 @@ module _ (plan : Planned) (a : Parts) (kept : IsKept plan a) (n : ℕ) (state : 
       unchanged = λ m lt. (let h = kept.below m (omega (arith, lt, next)) in omega (arith, h, still));
     }
 
-    module _ (q : Parts) (states_is : q.states ≡ committed a.states n) (store_is : q.store ≡ a.store) (rows_is : q.rows ≡ a.rows) (hands_is : q.hands ≡ a.hands) (clock_is : q.clock ≡ a.clock)
+    -- its notes are given up
+    module _ (q : Parts) (k : Kept) (states_is : q.states ≡ committed a.states n) (store_is : q.store ≡ a.store) (rows_is : q.rows ≡ set a.rows (n - a.states.first) k)
+        (k_is : k ≡ record { notes = []; told = (get_or a.rows (n - a.states.first) no_notes).told; course = (get_or a.rows (n - a.states.first) no_notes).course; changed = (get_or a.rows (n - a.states.first) no_notes).changed })
+        (hands_is : q.hands ≡ a.hands) (clock_is : q.clock ≡ a.clock)
         (latest_is : q.latest ≡ max a.latest (get_or a.rows (n - a.states.first) no_notes).changed) where
       s : attempt.Row
       s = record { state = states.Committed; next = (get_or a.states.rows (n - a.states.first) no_row).next }
 
       r : Row
-      r = row_with plan.base s (get_or a.rows (n - a.states.first) no_notes) (get_or a.store.lines (n - a.states.first) store.no_entries)
+      r = row_with plan.base s k (get_or a.store.lines (n - a.states.first) store.no_entries)
 
       puts : Puts plan.base a q n r
       unfolding s r
-      puts = puts_of plan.base a q n s (get_or a.rows (n - a.states.first) no_notes) (get_or a.store.lines (n - a.states.first) store.no_entries) kept.all_states kept.all_entries (omega (arith, told.1, kept.all_states))
+      puts = puts_of plan.base a q n s k (get_or a.store.lines (n - a.states.first) store.no_entries) kept.all_states kept.all_entries (omega (arith, told.1, kept.all_states))
           (ap (λ (x : States). x.first) states_is)
           (ap (λ (x : States). x.rows) states_is)
           (ap (λ (x : store.Store). x.first) store_is)
           (ap (λ (x : store.Store). x.lines) store_is ∙ sym (set-get_or a.store.lines (n - a.states.first) store.no_entries))
-          (rows_is ∙ sym (set-get_or a.rows (n - a.states.first) no_notes))
+          rows_is
 
       r_is : r ≡ with_state (row_at (board_of plan.base a) n) (Committed (answer_by (get_or a.rows (n - a.states.first) no_notes).told))
       unfolding s r
-      r_is = ap (λ (x : Row). with_state x (Committed (answer_by (get_or a.rows (n - a.states.first) no_notes).told))) (sym at)
+      r_is =
+          ap (λ (x : Kept). row_with plan.base s x (get_or a.store.lines (n - a.states.first) store.no_entries)) k_is
+          ∙ ap (λ (x : Row). with_state x (Committed (answer_by (get_or a.rows (n - a.states.first) no_notes).told))) (sym at)
 
       pub commit_board : board_of plan.base q
           ≡ record (put_row (board_of plan.base a) n (with_state (row_at (board_of plan.base a) n) (Committed (answer_by (get_or a.rows (n - a.states.first) no_notes).told)))) { committed = a.states.counts.commits + 1 }
@@ -159,6 +164,6 @@ module _ (plan : Planned) (a : Parts) (kept : IsKept plan a) (n : ℕ) (state : 
           (sym (ap holder may_commit.done))))
           next
           (ap (λ (x : States). x.counts.commits) states_is)
-          (ap (λ (x : Row). x.changed) (sym at))
-          latest_is
-          (λ v notes last h. (let z : Committed (answer_by (get_or a.rows (n - a.states.first) no_notes).told) ≡ Placing v notes last = h in absurd (cc)))
+          (ap (λ (x : Kept). x.changed) k_is ∙ ap (λ (x : Row). x.changed) (sym at))
+          (latest_is ∙ ap (λ (x : Kept). max a.latest x.changed) (sym k_is))
+          (λ v notes last h. (let z : Committed (answer_by k.told) ≡ Placing v notes last = h in absurd (cc)))

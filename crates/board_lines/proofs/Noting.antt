@@ -1,18 +1,19 @@
 -- Keys with their names: one more, and the i-th.
-use Rattle.std.proofs.Common.{◌≡◌, ℕ, zero, suc, Bool, true, false, cond, List, [], ◌∷◌, ◌++◌, length, slice_get, refl, sym, ap, ◌∙◌, arith, Some, None, ap₂, ◌⊎◌, inl, inr, map, subst}
+use Rattle.std.proofs.Common.{◌≡◌, ℕ, zero, suc, ◌<◌, ◌≤◌, Bool, true, false, cond, List, [], ◌∷◌, ◌++◌, length, slice_get, refl, sym, ap, ◌∙◌, arith, Some, None, ap₂, ◌⊎◌, inl, inr, map, subst}
 use Rattle.std.specs.Prelude.{option_map, ◌||◌}
 use Rattle.std.specs.BTreeMap.{is_at}
 use Rattle.std.specs.BTreeSet.{BTreeSet, contains}
 use Rattle.std.specs.List.{list_any, IsDistinct}
 use Rattle.std.specs.Ordering.{eq_by_cmp}
-use Rattle.std.proofs.Common.{length-append}
+use Rattle.std.proofs.Common.{length-append, take_all}
+use Rattle.std.proofs.lemmas.List.{take-append-le}
 use Rattle.std.proofs.lemmas.Option.{none-some, same_Some}
 use Rattle.std.proofs.lemmas.Cmp.{eq_by_cmp_equiv}
 use Rattle.std.proofs.lemmas.Map.Keys.{IsDistinct-push}
 use Rattle.circ_records.specs.Keys.{key_cmp, key_cmp_total}
 use Rattle.circ_records.specs.declared.key.Key.{Key}
 use Rattle.board_lines.specs.declared.notes.PlacedName.{PlacedName}
-use Rattle.board_lines.specs.Notes.{Noted, note_with, noted_from, by_place, named_in, is_noted, AreNoted, AreOnce}
+use Rattle.board_lines.specs.Notes.{Noted, note_with, noted_from, by_place, named_in, few, is_key_in, is_noted, AreNoted, AreOnce, ArePlaced, IsPlaced}
 
 pub length_noted : {J : Type 0} (ks : List Key) (ns : List (PlacedName J)) → length ks ≡ length ns → length (noted_from ks ns) ≡ length ks
 length_noted [] ns h = refl
@@ -89,19 +90,64 @@ none_once = tt
 pub none_noted : {J : Type 0} (ks : List Key) (ns : List (PlacedName J)) → ks ≡ [] → AreOnce (noted_from ks ns)
 none_noted ks ns e = subst (λ xs. AreOnce (noted_from xs ns)) (sym e) none_once
 
--- one more key, with its name, and found
-pub noted_more : {J : Type 0} (ks : List Key) (ns : List (PlacedName J)) (old new : BTreeSet Key) (k : Key) (n : PlacedName J)
-    → AreNoted ks ns old
+-- no keys, so no places
+pub none_placed : {J : Type 0} (ks : List Key) (ns : List (PlacedName J)) → ks ≡ [] → ArePlaced (noted_from ks ns)
+none_placed ks ns e = subst (λ xs. ArePlaced (noted_from xs ns)) (sym e) (λ i n g. absurd (none-some n g))
+
+-- one more note, which has a place or is the base's
+placed_more : (notes : List Noted) (x : Noted) → ArePlaced notes → IsPlaced x → ArePlaced (notes ++ x ∷ [])
+placed_more [] x each here zero n e = subst IsPlaced (same_Some x n e) here
+placed_more [] x each here (suc i) n e = absurd (none-some n e)
+placed_more (m ∷ notes) x each here zero n e = each zero n e
+placed_more (m ∷ notes) x each here (suc i) n e = placed_more notes x (λ j y g. each (suc j) y g) here i n e
+
+-- a key is among the keys that are so many at most, or it is the new one
+few_more : (ks : List Key) (k q : Key) → length ks < 8 → is_key_in (few (ks ++ k ∷ [])) q ≡ cond (eq_by_cmp key_cmp q k) true (is_key_in (few ks) q)
+few_more ks k q short =
+    ap (λ js. is_key_in js q) (take_all 8 (ks ++ k ∷ []) (omega (arith, length-append ks (k ∷ []))))
+    ∙ any_push (eq_by_cmp key_cmp q) ks k
+    ∙ ap (λ js. cond (eq_by_cmp key_cmp q k) true (is_key_in js q)) (sym (take_all 8 ks (omega arith)))
+
+if_either : (a b c : Bool) → (cond b true a || c) ≡ cond b true (a || c)
+if_either a true c = refl
+if_either a false c = refl
+
+-- one more key among the first few, with its name
+pub noted_few : {J : Type 0} (ks : List Key) (ns : List (PlacedName J)) (index : BTreeSet Key) (k : Key) (n : PlacedName J)
+    → AreNoted ks ns index
     → is_noted (noted_from ks ns) k ≡ false
-    → ((q : Key) → contains key_cmp new q ≡ cond (eq_by_cmp key_cmp k q) true (contains key_cmp old q))
-    → AreNoted (ks ++ k ∷ []) (ns ++ n ∷ []) new
-noted_more ks ns old new k n kept fresh u = record {
+    → IsPlaced (note_with k n)
+    → length ks < 8
+    → AreNoted (ks ++ k ∷ []) (ns ++ n ∷ []) index
+noted_few ks ns index k n kept fresh here short = record {
   as_many = omega (arith, kept.as_many, length-append ks (k ∷ []), length-append ns (n ∷ []));
   each = λ q.
-      u q
-      ∙ ap (λ b. cond b true (contains key_cmp old q)) ((eq_by_cmp_equiv key_cmp_total).symm k q)
+      ap (λ b. b || contains key_cmp index q) (few_more ks k q short)
+      ∙ if_either (is_key_in (few ks) q) (eq_by_cmp key_cmp q k) (contains key_cmp index q)
       ∙ ap (λ b. cond (eq_by_cmp key_cmp q k) true b) (kept.each q)
       ∙ sym (any_push (λ (x : Noted). is_at (key_cmp q) x.key) (noted_from ks ns) (note_with k n))
       ∙ ap (λ notes. is_noted notes q) (sym (noted_push ks ns k n kept.as_many));
   once = subst AreOnce (sym (noted_push ks ns k n kept.as_many)) (once_more (noted_from ks ns) (note_with k n) kept.once fresh);
+  placed = subst ArePlaced (sym (noted_push ks ns k n kept.as_many)) (placed_more (noted_from ks ns) (note_with k n) kept.placed here);
+}
+
+-- one more key behind them, with its name, and found
+pub noted_more : {J : Type 0} (ks : List Key) (ns : List (PlacedName J)) (old new : BTreeSet Key) (k : Key) (n : PlacedName J)
+    → AreNoted ks ns old
+    → is_noted (noted_from ks ns) k ≡ false
+    → IsPlaced (note_with k n)
+    → 8 ≤ length ks
+    → ((q : Key) → contains key_cmp new q ≡ cond (eq_by_cmp key_cmp k q) true (contains key_cmp old q))
+    → AreNoted (ks ++ k ∷ []) (ns ++ n ∷ []) new
+noted_more ks ns old new k n kept fresh here long u = record {
+  as_many = omega (arith, kept.as_many, length-append ks (k ∷ []), length-append ns (n ∷ []));
+  each = λ q.
+      ap (λ js. is_key_in js q || contains key_cmp new q) (take-append-le 8 ks (k ∷ []) long)
+      ∙ ap (λ b. is_key_in (few ks) q || b) (u q ∙ ap (λ b. cond b true (contains key_cmp old q)) ((eq_by_cmp_equiv key_cmp_total).symm k q))
+      ∙ any_if (is_key_in (few ks) q) (eq_by_cmp key_cmp q k) (contains key_cmp old q)
+      ∙ ap (λ b. cond (eq_by_cmp key_cmp q k) true b) (kept.each q)
+      ∙ sym (any_push (λ (x : Noted). is_at (key_cmp q) x.key) (noted_from ks ns) (note_with k n))
+      ∙ ap (λ notes. is_noted notes q) (sym (noted_push ks ns k n kept.as_many));
+  once = subst AreOnce (sym (noted_push ks ns k n kept.as_many)) (once_more (noted_from ks ns) (note_with k n) kept.once fresh);
+  placed = subst ArePlaced (sym (noted_push ks ns k n kept.as_many)) (placed_more (noted_from ks ns) (note_with k n) kept.placed here);
 }

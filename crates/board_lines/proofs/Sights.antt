@@ -9,7 +9,7 @@ use Rattle.circ_records.specs.Records.{Entries, record_at}
 use Rattle.circ_records.specs.declared.key.Key.{Key}
 use Rattle.circ_records.specs.declared.record.Record.{Record}
 use Rattle.read_set.specs.Plans.{Planned}
-use Rattle.read_set.specs.declared.notes.Name.TheVariants.{Made}
+use Rattle.read_set.specs.declared.notes.Name.TheVariants.{Base, Made}
 use Rattle.read_set.specs.declared.notes.Note.{Note}
 use Rattle.version_store.specs.Entries as store
 use Rattle.version_store.specs.Entries.{Shown, SeesBase, Sees, SeesSuspect, Sight, sight_of, sight_at, found_of, found_at, visible}
@@ -17,7 +17,7 @@ use Rattle.version_store.specs.declared.entry.Found.TheVariants.{Named, Suspect}
 use Rattle.board_steps.specs.Board.{Row, EachNote, row_at, found, record_of, seen_entry, value_at, written_at}
 use Rattle.board_steps.specs.Steps.{HasNone}
 use Rattle.board_steps.proofs.Entries.{same_keys}
-use Rattle.board_lines.specs.Notes.{Noted, found_by, is_noted, key_and_name, key_and_name_of, note_by, notes_by, note_with, told_at}
+use Rattle.board_lines.specs.Notes.{Noted, found_by, is_noted, IsPlaced, key_and_name, key_and_name_of, note_by, notes_by, note_with, told_at}
 use Rattle.board_lines.specs.Parts.{Parts, board_of, IsKept}
 use Rattle.board_lines.specs.Sights.{IsNameOf}
 use Rattle.board_lines.specs.declared.notes.PlacedName.{PlacedName}
@@ -34,6 +34,19 @@ pub sight_named : {J : Type 0} (base : Entries) (k : Key) (o : Option (ℕ × Sh
     → IsNameOf (sight_of o) x → (found_of o ≡ Named x.name) × (found_by base k (option_map told_at x.place) ≡ record_of k o (record_at base k))
 sight_named base k None x h = (ap Named (sym h.0), ap (λ p. found_by base k (option_map told_at p)) h.1)
 sight_named base k (Some p) x h = sight_some p.1.suspect base k p x h
+
+placed_some : {J : Type 0} (b : Bool) (k : Key) (p : ℕ × Shown) (x : PlacedName J)
+    → IsNameOf (if b then SeesSuspect p.0 else Sees (Made p.0 p.1.attempt) p.1.told) x → IsPlaced (note_with k x)
+placed_some true k p x h = absurd h
+placed_some false k p x h = (
+  λ e. absurd (let z : Made p.0 p.1.attempt ≡ Base = sym h.0 ∙ e in cc),
+  λ e. absurd (none-some p.1.told (sym e ∙ h.1)),
+)
+
+-- what is seen has no place just where it is the base's
+pub sight_placed : {J : Type 0} (k : Key) (o : Option (ℕ × Shown)) (x : PlacedName J) → IsNameOf (sight_of o) x → IsPlaced (note_with k x)
+sight_placed k None x h = (λ e. ap (option_map told_at) h.1, λ e. h.0)
+sight_placed k (Some p) x h = placed_some p.1.suspect k p x h
 
 suspect_some : (b : Bool) (p : ℕ × Shown) (m : ℕ) → if b then SeesSuspect p.0 else Sees (Made p.0 p.1.attempt) p.1.told ≡ SeesSuspect m
     → if b then Suspect p.0 else Named (Made p.0 p.1.attempt) ≡ Suspect m

@@ -1,5 +1,5 @@
 -- What a line has noted, by places: the base's record, or what the version at a place writes.
-use Rattle.std.specs.Prelude.{◌≡◌, Bool, List, [], ◌∷◌, map, length, Option, Some, None, option_map}
+use Rattle.std.specs.Prelude.{◌≡◌, ◌↔◌, ◌||◌, ℕ, Bool, List, [], ◌∷◌, map, length, slice_get, take, Option, Some, None, option_map}
 use Rattle.std.specs.BTreeMap.{is_at}
 use Rattle.std.specs.BTreeSet.{BTreeSet, contains}
 use Rattle.std.specs.List.{list_any, IsDistinct}
@@ -10,6 +10,7 @@ use Rattle.circ_records.specs.declared.key.Key.{Key}
 use Rattle.circ_records.specs.declared.record.Record.{Record}
 use Rattle.read_set.specs.Settling.{Told}
 use Rattle.read_set.specs.declared.notes.Name.{Name}
+use Rattle.read_set.specs.declared.notes.Name.TheVariants as names
 use Rattle.read_set.specs.declared.notes.Note.{Note}
 use Rattle.version_store.specs.declared.table.Place.{Place}
 use Rattle.board_lines.specs.declared.notes.PlacedName.{PlacedName}
@@ -61,12 +62,30 @@ notes_by base notes = map (note_by base) notes
 abbrev pub is_noted : List Noted → Key → Bool
 is_noted notes k = list_any (λ n. is_at (key_cmp k) n.key) notes
 
+-- a note has no place just where its name is the base's: the base's record stands in no version
+abbrev pub IsPlaced : Noted → Type 0
+IsPlaced n = (n.name ≡ names.Base) ↔ (n.told ≡ None)
+
+-- of each note
+abbrev pub ArePlaced : List Noted → Type 0
+ArePlaced notes = (i : ℕ) (n : Noted) → slice_get notes i ≡ Some n → IsPlaced n
+
 -- each key is noted once
 abbrev pub AreOnce : List Noted → Type 0
 AreOnce notes = IsDistinct (eq_by_cmp key_cmp) (map (λ n. n.key) notes)
 
--- each key has a name, and the keys, of which each is there once, can be found
+-- the first few keys
+abbrev pub few : List Key → List Key
+few keys = take 8 keys
+
+-- whether a key is one of these
+abbrev pub is_key_in : List Key → Key → Bool
+is_key_in keys k = list_any (eq_by_cmp key_cmp k) keys
+
+-- each key has a name, and the keys, of which each is there once, can be found: among the first few, or by the index; a name has no
+-- place just where it is the base's
 pub record AreNoted {J : Type 0} (keys : List Key) (names : List (PlacedName J)) (index : BTreeSet Key) : Type 0 where
   pub as_many : length keys ≡ length names
-  pub each : (k : Key) → contains key_cmp index k ≡ is_noted (noted_from keys names) k
+  pub each : (k : Key) → (is_key_in (few keys) k || contains key_cmp index k) ≡ is_noted (noted_from keys names) k
   pub once : AreOnce (noted_from keys names)
+  pub placed : ArePlaced (noted_from keys names)

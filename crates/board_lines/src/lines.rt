@@ -133,7 +133,10 @@ impl<'p, 't, J: PlanName> Lines<'p, 't, J> {
         if stamp < self.latest {
             return Reply::Later;
         }
-        let changed = self.rows[position as usize].changed;
+        // nobody reads the notes of a line that is committed
+        let row = &mut self.rows[position as usize];
+        row.notes.clear();
+        let changed = row.changed;
         self.attempts.commit(line);
         self.latest = later(self.latest, changed);
         Reply::Committed
@@ -490,8 +493,8 @@ impl<'p, 't, J: PlanName> Lines<'p, 't, J> {
         self.rows[(line - self.plan.first()) as usize].version
     }
 
-    /// The worker's line in hand, where it is to be published.
-    fn to_publish(&self, worker: u32) -> Option<Hand>
+    /// The worker's line in hand with its attempt, where it is to be published: it runs, or its publication goes on.
+    pub fn to_publish(&self, worker: u32) -> Option<Hand>
         ensures { IsToPublish self.now worker result }
     {
         let Some(hand) = self.hand(worker) else {

@@ -1,7 +1,7 @@
 //! What a line has noted while it runs.
 
 ghost use Rattle.std.specs.Prelude.{◌≡◌, ◌++◌, ◌∷◌, [], OnOk, OnErr, length, slice_get, map, true, false, option_copied, option_map};
-ghost use Rattle.board_lines.specs.Notes.{by_place, is_noted, key_and_name_of, named_in, note_with, AreOnce};
+ghost use Rattle.board_lines.specs.Notes.{by_place, few, is_key_in, is_noted, key_and_name_of, named_in, note_with, AreOnce, ArePlaced, IsPlaced};
 
 use circ_records::Key;
 use read_set::{Name, PlanName};
@@ -30,11 +30,15 @@ impl<'t, J: PlanName> Clone for PlacedName<'t, J> {
 
 impl<'t, J: PlanName> Copy for PlacedName<'t, J> {}
 
+/// Among so many notes a key is looked for one by one: most lines have no more, and an index of them would take more memory
+/// than they do.
+const FEW: usize = 8;
+
 /// What a line has noted, in the order of looking: keys, names and places. It holds no record.
 pub struct PlaceNotes<'t, J: PlanName> {
     keys: Vec<Key>,
     names: Vec<PlacedName<'t, J>>,
-    /// The keys again, to be found.
+    /// The keys again that aren't among the first few, to be found.
     index: BTreeSet<Key>,
 }
 
@@ -77,15 +81,18 @@ impl<'t, J: PlanName> PlaceNotes<'t, J> {
     pub fn has(&self, key: &Key) -> bool
         ensures { result ≡ is_noted self.now key.now }
     {
-        self.index.contains(key)
+        is_among(first_few(&self.keys), key) || self.index.contains(key)
     }
 
-    /// One more note, of a key that isn't noted. Without memory nothing changes.
-    pub fn add(&mut self, key: &Key, seen: PlacedName<'t, J>) -> Result<(), AllocError>
-        requires { is_noted self.old key.now ≡ false }
+    /// One more note, of a key that isn't noted; it has no place just where its name is the base's. Without memory nothing
+    /// changes.
+    pub(crate) fn add(&mut self, key: &Key, seen: PlacedName<'t, J>) -> Result<(), AllocError>
+        requires fresh { is_noted self.old key.now ≡ false }
+        requires placed { IsPlaced (note_with key.now seen) }
         ensures ok { OnOk result (self.new ≡ self.old ++ note_with key.now seen.entry ∷ []) }
         ensures err { OnErr result (self.new ≡ self.old) }
     {
+        let place = self.keys.len();
         let Ok(()) = self.keys.push(*key) else {
             return Err(AllocError);
         };
@@ -93,6 +100,9 @@ impl<'t, J: PlanName> PlaceNotes<'t, J> {
             self.keys.pop();
             return Err(AllocError);
         };
+        if place < FEW {
+            return Ok(());
+        }
         match self.index.insert(*key) {
             Ok(_) => Ok(()),
             Err(_) => {
@@ -103,19 +113,22 @@ impl<'t, J: PlanName> PlaceNotes<'t, J> {
         }
     }
 
-    /// No notes any more.
+    /// No notes any more. Their memory is given back.
     pub fn clear(&mut self)
         ensures { self.new ≡ [] }
     {
         self.keys.clear();
+        self.keys.shrink_to_fit();
         self.names.clear();
+        self.names.shrink_to_fit();
         self.index.clear();
     }
 
-    /// How many there are. No key is noted twice.
+    /// How many there are. No key is noted twice, and a note has no place just where its name is the base's.
     pub fn len(&self) -> usize
         ensures count { result ≡ length self.now }
         ensures once { AreOnce self.now }
+        ensures placed { ArePlaced self.now }
     {
         self.keys.len()
     }
@@ -146,6 +159,24 @@ impl<'t, J: PlanName> PlaceNotes<'t, J> {
     {
         nth_name(&self.names, i)
     }
+}
+
+/// The first few keys.
+fn first_few(keys: &[Key]) -> &[Key]
+    ensures { result.now ≡ few keys.now }
+{
+    if keys.len() <= FEW {
+        keys
+    } else {
+        &keys[..FEW]
+    }
+}
+
+/// Whether a key is one of these.
+fn is_among(keys: &[Key], key: &Key) -> bool
+    ensures { result ≡ is_key_in keys.now key.now }
+{
+    keys.iter().any(|other| *key == *other)
 }
 
 fn nth_key(keys: &[Key], i: usize) -> Option<&Key>

@@ -29,19 +29,24 @@ required-some : {X : Type 0} (key : List ℕ) (o : Option X) (x : X) → require
 required-some key None x h = absurd (cc h)
 required-some key (Some y) x h = cc h
 
-range-bound : (low high : ℕ) (z : ℤ) (n : ℕ) → in_range low high z ≡ Some n → n ≤ high
+range-bound : (low high : ℕ) (z : ℤ) (n : ℕ) → in_range low high z ≡ Some n → (low ≤ n) × (n ≤ high)
 range-bound low high (negsuc m) n h = absurd (cc h)
 range-bound low high (pos m) n h = by (nat_le low m && nat_le m high) refl h
   where
-    by : (b : Bool) → (nat_le low m && nat_le m high) ≡ b → cond b (Some m) None ≡ Some n → n ≤ high
-    by true e g = let same : m ≡ n = cc g in let le = leb-true m high (and_parts (nat_le low m) (nat_le m high) e).1 in omega (arith, same, le)
+    by : (b : Bool) → (nat_le low m && nat_le m high) ≡ b → cond b (Some m) None ≡ Some n → (low ≤ n) × (n ≤ high)
+    by true e g =
+        let same : m ≡ n = cc g in
+        let both = and_parts (nat_le low m) (nat_le m high) e in
+        let least = leb-true low m both.0 in
+        let most = leb-true m high both.1 in
+        (omega (arith, same, least), omega (arith, same, most))
     by false e g = absurd (cc g)
 
-within-bound : (low high : ℕ) (o : Option ℤ) (n : ℕ) → option_and_then (in_range low high) o ≡ Some n → n ≤ high
+within-bound : (low high : ℕ) (o : Option ℤ) (n : ℕ) → option_and_then (in_range low high) o ≡ Some n → (low ≤ n) × (n ≤ high)
 within-bound low high None n h = absurd (cc h)
 within-bound low high (Some z) n h = range-bound low high z n h
 
-whole-bound : (low high : ℕ) (entry : List ℕ) (ms : Members) (key : List ℕ) (n : ℕ) → whole low high entry ms key ≡ Ok n → n ≤ high
+whole-bound : (low high : ℕ) (entry : List ℕ) (ms : Members) (key : List ℕ) (n : ℕ) → whole low high entry ms key ≡ Ok n → (low ≤ n) × (n ≤ high)
 unfolding whole
 whole-bound low high entry ms key n h =
     within-bound low high (option_and_then as_integer (get_member key ms)) n (required-some (within entry key) (whole_of low high (get_member key ms)) n h)
@@ -57,8 +62,9 @@ lending-fits entry ms m h =
     let same : record { days = days.0; rental = rental.0; late = late.0; cap = cap.0 } ≡ m = same_ok _ m cap.2 in
     let a = whole-bound 1 3650 entry ms (codes "days") days.0 days.1 in
     let b = whole-bound 0 99_999_999_999 entry ms (codes "rental") rental.0 rental.1 in
-    let c = whole-bound 0 99_999_999_999 entry ms (codes "cap") cap.0 cap.1 in
-    subst FitsMedia same (record { days = a; rental = b; cap = c })
+    let c = whole-bound 0 99_999_999_999 entry ms (codes "late") late.0 late.1 in
+    let d = whole-bound 0 99_999_999_999 entry ms (codes "cap") cap.0 cap.1 in
+    subst FitsMedia same (record { least = a.0; days = a.1; rental = b.1; late = c.1; cap = d.1 })
 
 media-fits : (name : List ℕ) (d : Data) (e : MediaType × Media) → media_in name d ≡ Ok e → FitsMedia e.1
 unfolding media_in

@@ -5,10 +5,12 @@ use Rattle.circ_policy.specs.Terms.{Terms}
 use Rattle.circ_policy.specs.declared.media.Media.{Media}
 use Rattle.circ_policy.specs.declared.media_type.MediaType.{MediaType}
 
--- loans of at most 3,650 days, amounts of at most 999,999,999.99
+-- loans of 1 to 3,650 days, amounts of at most 999,999,999.99
 pub record FitsMedia (m : Media) : Type 0 where
+  pub least : 1 ≤ m.days
   pub days : m.days ≤ 3650
   pub rental : m.rental ≤ 99999999999
+  pub late : m.late ≤ 99999999999
   pub cap : m.cap ≤ 99999999999
 
 -- the terms of each type of media of a list

@@ -1,6 +1,6 @@
 -- A map in which one record was changed.
 use Rattle.std.proofs.Common.{◌≡◌, Bool, true, false, cond, Option, Some, None, refl, sym, ap, ◌∙◌}
-use Rattle.std.specs.Prelude.{IsSome, option_map}
+use Rattle.std.specs.Prelude.{IsSome, OnErr, Result, Ok, Err, option_map}
 use Rattle.std.specs.BTreeMap.{BTreeMap, get}
 use Rattle.std.specs.Ordering.{eq_by_cmp}
 use Rattle.circ_records.specs.Changes.{IsChanged, changed}
@@ -32,6 +32,19 @@ unchanged-there old k c there q = by (eq_by_cmp key_cmp k q) refl
         let none : None ≡ get key_cmp old q = there ∙ ap (get key_cmp old) (same-key k q e) in
         sym none ∙ ap (option_map (changed c)) none
     by false e = refl
+
+-- the record that was there is put back as it was
+pub same-there : (old new : BTreeMap Key Record) (k : Key) (was is : Record) → Some was ≡ get key_cmp old k → is ≡ was
+    → ((q : Key) → get key_cmp new q ≡ cond (eq_by_cmp key_cmp k q) (Some is) (get key_cmp old q)) → (q : Key) → get key_cmp new q ≡ get key_cmp old q
+same-there old new k was is there same updates q = updates q ∙ by (eq_by_cmp key_cmp k q) refl
+  where
+    by : (b : Bool) → eq_by_cmp key_cmp k q ≡ b → cond b (Some is) (get key_cmp old q) ≡ get key_cmp old q
+    by true e = ap Some same ∙ there ∙ ap (get key_cmp old) (same-key k q e)
+    by false e = refl
+
+pub on-err : {A E P : Type 0} (r : Result A E) → P → OnErr r P
+on-err (Ok x) p = tt
+on-err (Err e) p = p
 
 pub some-is : {A : Type 0} (o : Option A) (x : A) → o ≡ Some x → IsSome o
 some-is o x e = rw e refl

@@ -90,7 +90,8 @@ impl Base {
     }
 }
 
-/// The records that the rows of the tables tell, table by table, or the first rule that a row breaks.
+/// The records that the rows of the tables tell, table by table, or the first rule that a row breaks. What the tables
+/// before a fault have put there is dropped with it: so the `add_` of each table says nothing of the records behind one.
 fn records_of(
     alloc: Global,
     policy: &Policy,

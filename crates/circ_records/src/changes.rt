@@ -1,10 +1,11 @@
 //! What a row changes of a record that an earlier table told.
 
-ghost use Rattle.std.specs.Prelude.{◌≡◌, OnOk};
-ghost use Rattle.std.specs.BTreeMap.{IsOrdered};
+ghost use Rattle.std.specs.Prelude.{◌≡◌, OnOk, OnErr};
+ghost use Rattle.std.specs.BTreeMap.{IsOrdered, get};
 ghost use Rattle.circ_records.specs.Changes.{IsChanged, changed};
 ghost use Rattle.circ_records.specs.Keys.{key_cmp};
 ghost use Rattle.circ_records.specs.declared.changes.Change.TheVariants as change;
+ghost use Rattle.circ_records.specs.declared.key.Key.{Key};
 
 use crate::holds::Hold;
 use crate::key::Key;
@@ -26,13 +27,14 @@ pub(crate) enum Change {
     Awaited(Hold),
 }
 
-/// Changes the record at a key, where there is one.
+/// Changes the record at a key, where there is one. Without memory nothing changes.
 pub(crate) fn change_at(
     records: &mut BTreeMap<Key, Record>,
     key: Key,
     what: Change,
 ) -> Result<(), AllocError>
     ensures ok { OnOk result (IsChanged key what records.old records.new) }
+    ensures err { OnErr result ((q : Key) → get key_cmp records.new q ≡ get key_cmp records.old q) }
     ensures rising { IsOrdered key_cmp records.new }
 {
     match records.get_mut(&key) {
@@ -43,7 +45,8 @@ pub(crate) fn change_at(
 }
 
 fn apply(target: &mut Record, what: Change) -> Result<(), AllocError>
-    ensures { OnOk result (target.new ≡ changed what target.old) }
+    ensures ok { OnOk result (target.new ≡ changed what target.old) }
+    ensures err { OnErr result (target.new ≡ target.old) }
 {
     match what {
         Change::Borrows(item) => borrow(target, item),
@@ -57,7 +60,8 @@ fn apply(target: &mut Record, what: Change) -> Result<(), AllocError>
 }
 
 fn borrow(target: &mut Record, item: Id) -> Result<(), AllocError>
-    ensures { OnOk result (target.new ≡ changed (change.Borrows item) target.old) }
+    ensures ok { OnOk result (target.new ≡ changed (change.Borrows item) target.old) }
+    ensures err { OnErr result (target.new ≡ target.old) }
 {
     match target {
         Record::Patron(patron) => patron.loans.push(item),
@@ -66,7 +70,8 @@ fn borrow(target: &mut Record, item: Id) -> Result<(), AllocError>
 }
 
 fn owe(target: &mut Record, fee: Id) -> Result<(), AllocError>
-    ensures { OnOk result (target.new ≡ changed (change.Owes fee) target.old) }
+    ensures ok { OnOk result (target.new ≡ changed (change.Owes fee) target.old) }
+    ensures err { OnErr result (target.new ≡ target.old) }
 {
     match target {
         Record::Patron(patron) => patron.fees.push(fee),
@@ -83,7 +88,8 @@ fn lend(target: &mut Record, loan: Loan)
 }
 
 fn wait(target: &mut Record, hold: Hold) -> Result<(), AllocError>
-    ensures { OnOk result (target.new ≡ changed (change.Awaited hold) target.old) }
+    ensures ok { OnOk result (target.new ≡ changed (change.Awaited hold) target.old) }
+    ensures err { OnErr result (target.new ≡ target.old) }
 {
     match target {
         Record::Item(item) => item.holds.push(hold),

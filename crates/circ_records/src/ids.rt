@@ -40,7 +40,7 @@ impl Ids {
         Ids { ids }
     }
 
-    /// One more id at the end.
+    /// One more id at the end. Without memory the list stays.
     pub fn push(&mut self, id: Id) -> Result<(), AllocError>
         ensures ok { OnOk result (self.new ≡ self.old ++ id ∷ []) }
         ensures err { OnErr result (self.new ≡ self.old) }

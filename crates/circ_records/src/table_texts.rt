@@ -19,7 +19,8 @@ use csv_table::TableText;
 use sip_reader::Id;
 use std::alloc::{AllocError, Global};
 
-/// The texts of the tables while they are written.
+/// The texts of the tables while they are written. Where memory runs out all six are dropped (`written.rt`), so nothing is
+/// said of what they then hold.
 #[derive(Drop)]
 pub(crate) struct TableTexts {
     pub(crate) patrons: TableText,

@@ -1,11 +1,12 @@
 -- What the words of the command line mean, by clap's own definition.
-use Rattle.std.specs.Prelude.{◌≡◌, ◌<◌, ◌^◌, ℕ, List, Option, Some, None, codes, is_some, false, true, pos}
+use Rattle.std.specs.Prelude.{◌≡◌, ◌<◌, ◌^◌, ℕ, Bool, List, Option, Some, None, codes, is_some, false, true, pos}
 use Rattle.std.specs.Prelude.{string_bytes}
 use Rattle.std.specs.Str.Parse.{IsNumeral, digits_value, without_leading_plus}
 use Rattle.clap.specs.Words.{App, Row, Rule, Text, first_of, one_of, new_app, new_rule}
 use Rattle.clap.specs.Words.{with_rule}
+use Rattle.clap.specs.Simple.{on_top}
 use Rattle.clap.specs.Words.{IsParsedFrom, IsPlainArg, first_value, found_of}
-use Rattle.clap.specs.declared.builder.action.ArgAction.TheVariants.{Set}
+use Rattle.clap.specs.declared.builder.action.ArgAction.TheVariants.{Set, SetTrue}
 use Rattle.clap.specs.declared.builder.arg.Arg.{Arg}
 use Rattle.clap.specs.declared.builder.command.Command.{Command}
 use Rattle.clap.specs.declared.parser.matches.ArgMatches.{ArgMatches}
@@ -24,11 +25,20 @@ workers_rule = record (new_rule (codes "workers")) {
   parser = Some (Signed (pos 0) (pos 4294967295));
 }
 
+-- whether what to do is told too: a flag
+abbrev pub explain_rule : Rule
+explain_rule = record (new_rule (codes "explain")) { long = Some (codes "explain"); action = Some SetTrue }
+
+-- a command line that tells its version
+abbrev pub versioned : App → App
+versioned = on_top (λ shape. record shape { has_version = true })
+
 -- the command line of the program
 unfoldable pub sip_replay_line : App
-sip_replay_line = with_rule (with_rule (with_rule (with_rule (with_rule (new_app (codes "sip_replay"))
+sip_replay_line =
+    with_rule (with_rule (with_rule (with_rule (with_rule (with_rule (versioned (new_app (codes "sip_replay")))
     (path_rule (codes "policy"))) (path_rule (codes "base"))) (path_rule (codes "journal")))
-    (path_rule (codes "out"))) workers_rule
+    (path_rule (codes "out"))) workers_rule) explain_rule
 
 -- the number of workers: that of the text that clap reads, and 4 where there is none
 abbrev pub CountsWorkers : Option Text → ℕ → Type 0
@@ -37,6 +47,11 @@ CountsWorkers (Some t) n = IsNumeral 10 (without_leading_plus t)
     → digits_value 10 (without_leading_plus t) < 2 ^ 32
     → n ≡ digits_value 10 (without_leading_plus t)
 
+-- what a flag says: the truth that clap reads, and no where there is none
+abbrev pub Says : Option Text → Bool → Type 0
+Says None b = b ≡ false
+Says (Some t) b = (t ≡ codes "true" → b ≡ true) × (t ≡ codes "false" → b ≡ false)
+
 -- the options are what clap's own definition gives the words
 pub record GivesOptions (rows : List Row) (o : Options) : Type 0 where
   pub policy : Some (string_bytes o.policy) ≡ first_of (codes "policy") rows
@@ -44,6 +59,7 @@ pub record GivesOptions (rows : List Row) (o : Options) : Type 0 where
   pub journal : Some (string_bytes o.journal) ≡ first_of (codes "journal") rows
   pub out : Some (string_bytes o.out) ≡ first_of (codes "out") rows
   pub workers : CountsWorkers (one_of (codes "workers") rows) o.workers
+  pub explain : Says (one_of (codes "explain") rows) o.explain
 
 -- an argument of this name that stands for itself
 abbrev pub IsOwnArg : Text → Arg → Type 0

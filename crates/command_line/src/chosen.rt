@@ -1,6 +1,6 @@
 //! What the command line asks for.
 
-/// The files and folders of a run, as the words name them, and how many workers are wanted.
+/// The files and folders of a run, as the words name them, how many workers are wanted, and how much is told.
 pub struct Options {
     /// The policy, a TOML file.
     pub policy: String,
@@ -12,6 +12,8 @@ pub struct Options {
     pub out: String,
     /// How many workers, of which 1 to 64 are taken.
     pub workers: u32,
+    /// Whether what to do about a fault is told too.
+    pub explain: bool,
 }
 
 impl Drop for Options {
@@ -22,6 +24,7 @@ impl Drop for Options {
             journal: _,
             out: _,
             workers: _,
+            explain: _,
         } = self;
     }
 }

@@ -11,7 +11,7 @@ use std::alloc::{AllocError, Global};
 /// What words come to that give no options.
 #[derive(Drop)]
 pub enum Refusal {
-    /// They ask for help: its text.
+    /// They ask for help or for the version: its text.
     Help(String),
     /// They are refused: what is told of them.
     Words(String),

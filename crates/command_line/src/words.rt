@@ -3,7 +3,8 @@ ghost use Rattle.std.specs.Prelude.{◌≡◌, IfErr, IfOk, Some, codes, is_some
 ghost use Rattle.clap.specs.Words.{app_of, first_value, found_of, matches_of};
 ghost use Rattle.clap.specs.Words.{rule_of, takes};
 ghost use Rattle.clap.specs.Built.{TakesValue};
-ghost use Rattle.command_line.specs.CommandLine.{path_rule, sip_replay_line, workers_rule, GivesOptions};
+ghost use Rattle.command_line.specs.CommandLine.{explain_rule, path_rule, sip_replay_line, workers_rule};
+ghost use Rattle.command_line.specs.CommandLine.{GivesOptions};
 ghost use Rattle.command_line.specs.CommandLine.{HasPaths, IsOwnArg};
 ghost use Rattle.command_line.specs.declared.refusal.Refusal.TheVariants.{Memory};
 
@@ -14,6 +15,9 @@ use std::alloc::{AllocError, Global};
 use std::convert::AsStr;
 
 const DEFAULT_WORKERS: u32 = 4;
+
+/// The version that the program tells of itself.
+const VERSION: &str = "0.1.0";
 
 const ABOUT: &str =
     "Replays a journal of SIP2 messages over the tables of a library's circulation, and reports where \
@@ -37,6 +41,10 @@ report.csv and passed.csv";
 const WORKERS_HELP: &str =
     "How many workers take the messages side by side, each in a thread, 1 to 64; 4 if left out. What \
 comes out is the same with any number";
+
+const EXPLAIN_HELP: &str =
+    "Where an input is refused or a file fails, a second line on standard error says what to do; on a \
+terminal it always does";
 
 const AFTER_HELP: &str = "Example:
   sip_replay --policy policy.toml --base tables --journal journal.csv --out result
@@ -63,12 +71,14 @@ pub fn options<S: AsStr>(alloc: Global, words: &[S]) -> Result<Options, Refusal>
     let journal = text_of(alloc, &matches, "journal")?;
     let out = text_of(alloc, &matches, "out")?;
     let workers = matches.get_one::<u32>("workers").unwrap_or(DEFAULT_WORKERS);
+    let explain = matches.get_flag("explain");
     Ok(Options {
         policy,
         base,
         journal,
         out,
         workers,
+        explain,
     })
 }
 
@@ -106,6 +116,17 @@ fn workers<'a>(alloc: Global) -> Arg<'a>
         .help(WORKERS_HELP)
 }
 
+/// Whether what to do is told too.
+fn explain<'a>(alloc: Global) -> Arg<'a>
+    ensures rule { rule_of result ≡ explain_rule }
+    ensures own { IsOwnArg (codes "explain") result }
+{
+    Arg::new(alloc, "explain")
+        .long("explain")
+        .action(ArgAction::SetTrue)
+        .help(EXPLAIN_HELP)
+}
+
 /// The command line of the program.
 fn command<'a>(alloc: Global) -> Result<Command<'a>, AllocError>
     ensures line { IfOk result (λ c. app_of c ≡ sip_replay_line) }
@@ -116,12 +137,15 @@ fn command<'a>(alloc: Global) -> Result<Command<'a>, AllocError>
     let journal = path(alloc, "journal", "F", JOURNAL_HELP);
     let out = path(alloc, "out", "DIR", OUT_HELP);
     let workers = workers(alloc);
+    let explain = explain(alloc);
     Command::new(alloc, "sip_replay")
+        .version(VERSION)
         .about(ABOUT)
         .after_help(AFTER_HELP)
         .arg(policy)?
         .arg(base)?
         .arg(journal)?
         .arg(out)?
-        .arg(workers)
+        .arg(workers)?
+        .arg(explain)
 }

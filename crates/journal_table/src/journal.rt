@@ -90,7 +90,7 @@ fn read_lines(alloc: Global, rows: &mut RowReader) -> Result<Vec<Line>, JournalE
     Ok(lines)
 }
 
-/// Reads on to the end of the text, for what is left may be no table.
+/// Reads on to the end of the text, for what is left may be no table. Nobody reads from the rows behind an error.
 fn read_to_end(alloc: Global, rows: &mut RowReader) -> Result<(), TableError>
     ensures ok { OnOk result (IsSome rows.old.rows) }
     ensures table { IfErr result (λ e. e ≡ table.Table → rows.old.rows ≡ None) }

@@ -1,9 +1,11 @@
 //! One line of the journal.
 
-ghost use Rattle.std.specs.Prelude.{◌≡◌, ◌≤◌, IfOk};
+ghost use Rattle.std.specs.Prelude.{◌≡◌, ◌≤◌, IfOk, length};
+ghost use Rattle.std.specs.Int.{IsInRange};
 ghost use Rattle.csv.specs.Records.{fields_of};
 ghost use Rattle.journal_table.specs.Journal.{Gives, line_at};
 ghost use Rattle.journal_table.specs.Journal as Journal;
+ghost use Rattle.journal_table.specs.declared.TheConstants.{CONNECTION_LIMIT};
 
 use crate::error::{JournalError, JournalRule};
 use crate::number::number_of;
@@ -54,6 +56,8 @@ impl Line {
         request: &[u8],
         response: &[u8],
     ) -> Result<Line, AllocError>
+        requires number { IsInRange 1 9_999_999_999 number }
+        requires short { length connection.now ≤ CONNECTION_LIMIT }
         ensures { IfOk result (λ line. line ≡ record { number = number; connection = connection.now; request = request.now; response = response.now }) }
     {
         let length = connection
@@ -76,14 +80,16 @@ impl Line {
 
     /// The number, from 1 to 9,999,999,999.
     pub fn number(&self) -> u64
-        ensures { result ≡ self.now.number }
+        ensures value { result ≡ self.now.number }
+        ensures range { IsInRange 1 9_999_999_999 result }
     {
         self.number
     }
 
     /// The name of the connection, of 0 to 64 bytes of any value.
     pub fn connection(&self) -> &[u8]
-        ensures { result.now ≡ self.now.connection }
+        ensures value { result.now ≡ self.now.connection }
+        ensures short { length self.now.connection ≤ CONNECTION_LIMIT }
     {
         &self.bytes[..self.connection_end]
     }

@@ -47,6 +47,7 @@ pub fn owed_of<S: Source>(
 }
 
 /// What is owed over a list of fees after the writes so far, where it is known already; else it is summed, and known.
+/// Behind an error nobody asks for the sum again: the rule's run is at its end.
 #[tactic(auto, using(read_set::proofs::Gaining::gains_none, read_set::proofs::Gaining::gains_first))]
 pub fn owed_once<S: Source>(
     alloc: Global,

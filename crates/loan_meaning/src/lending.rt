@@ -1,6 +1,6 @@
 //! Checkout.
 
-ghost use Rattle.std.specs.Prelude.{◌≡◌, ◌&&◌, IfOk, OnOk, Some};
+ghost use Rattle.std.specs.Prelude.{◌≡◌, ◌&&◌, IfOk, OnOk, OnErr, Some};
 ghost use Rattle.loan_meaning.specs.Lending.{lending_tests, other_at, lending_of, lending_rule_by, lending_rule, checkout_rule_known, checkout_rule};
 ghost use Rattle.read_set.specs.Asks.{follow, Gains};
 ghost use Rattle.read_set.specs.Effects.{written};
@@ -81,7 +81,7 @@ fn other_of<S: Source>(
     patron_of(alloc, policy, source, &loan.patron)
 }
 
-/// The other borrower's record, without the item among the loans.
+/// The other borrower's record, without the item among the loans. Without memory nothing is written.
 fn free(
     alloc: Global,
     item: &Id,
@@ -89,7 +89,8 @@ fn free(
     other: Option<Member>,
     writes: &mut Draft,
 ) -> Result<(), AllocError>
-    ensures { OnOk result (writes.new ≡ written writes.old (freed item.now borrower other)) }
+    ensures ok { OnOk result (writes.new ≡ written writes.old (freed item.now borrower other)) }
+    ensures err { OnErr result (writes.new ≡ writes.old) }
 {
     let Some(other) = other else {
         return Ok(());
@@ -114,7 +115,8 @@ fn free_by(
     other: Option<Member>,
     writes: &mut Draft,
 ) -> Result<(), AllocError>
-    ensures { OnOk result (writes.new ≡ written writes.old (freed_by item.now loan other)) }
+    ensures ok { OnOk result (writes.new ≡ written writes.old (freed_by item.now loan other)) }
+    ensures err { OnErr result (writes.new ≡ writes.old) }
 {
     match loan {
         Some(loan) => free(alloc, item, loan.patron, other, writes),
@@ -135,18 +137,22 @@ fn lent_item(alloc: Global, a: &LoanRequest, due: Day, article: Article) -> Resu
     Ok(item)
 }
 
+/// The item goes last in the patron's list, once. Without memory the list stays.
 fn list_loan(
     alloc: Global,
     a: &LoanRequest,
     loan: Option<Loan>,
     loans: &mut Ids,
 ) -> Result<(), AllocError>
-    ensures { OnOk result (loans.new ≡ lent_list a.now loan loans.old) }
+    ensures ok { OnOk result (loans.new ≡ lent_list a.now loan loans.old) }
+    ensures err { OnErr result (loans.new ≡ loans.old) }
 {
-    if has_lent_to(&a.patron, loan) {
-        *loans = without(alloc, loans, &a.item)?;
+    if !has_lent_to(&a.patron, loan) {
+        return loans.push(a.item);
     }
-    loans.push(a.item)?;
+    let mut others = without(alloc, loans, &a.item)?;
+    others.push(a.item)?;
+    *loans = others;
     Ok(())
 }
 
@@ -166,7 +172,8 @@ fn lend_to(
     Ok(patron)
 }
 
-/// The patron and the item are written after what is written already.
+/// The patron and the item are written after what is written already. Where memory runs out between the two, the patron
+/// stands alone: no clause says so, since the caller then drops all that is written.
 fn write_loan(
     alloc: Global,
     n: u64,

@@ -1,6 +1,6 @@
 //! Renewal.
 
-ghost use Rattle.std.specs.Prelude.{◌≡◌, IfOk, OnOk, Some};
+ghost use Rattle.std.specs.Prelude.{◌≡◌, IfOk, OnOk, OnErr, Some};
 ghost use Rattle.loan_meaning.specs.Lending.{renewal_tests, renewal_rule, renew_rule_known, renew_rule};
 ghost use Rattle.loan_meaning.specs.Sums.{IsKnown};
 ghost use Rattle.read_set.specs.Asks.{follow, Gains};
@@ -107,6 +107,7 @@ fn add_fee(n: u64, charge: Amount, member: Member) -> Result<Patron, AllocError>
     Ok(patron)
 }
 
+/// The patron's record with the fee, where one is charged. Without memory nothing is written.
 fn charge_patron(
     n: u64,
     id: Id,
@@ -114,7 +115,8 @@ fn charge_patron(
     member: Member,
     writes: &mut Draft,
 ) -> Result<(), AllocError>
-    ensures { OnOk result (writes.new ≡ written writes.old (charged n id charge member.patron)) }
+    ensures ok { OnOk result (writes.new ≡ written writes.old (charged n id charge member.patron)) }
+    ensures err { OnErr result (writes.new ≡ writes.old) }
 {
     let patron = add_fee(n, charge, member)?;
     if has_amount(charge) {

@@ -43,6 +43,8 @@ fn ask_for(request: &RenewAll, item: Id) -> LoanRequest
     }
 }
 
+/// The renewed item and its fee. Where memory runs out between the two, the item stands alone: no clause says so, since the
+/// caller then drops all that is written.
 fn write_turn(
     n: u64,
     k: u64,

@@ -97,7 +97,8 @@ fn return_from(
     Ok(patron)
 }
 
-/// The borrower's record without the loan and with its late fee, and that fee.
+/// The borrower's record without the loan and with its late fee, and that fee. Where memory runs out between the two, the
+/// record stands alone: no clause says so, since the caller then drops all that is written.
 fn return_by(
     alloc: Global,
     n: u64,

@@ -1,5 +1,5 @@
 -- Notes, and the places of their keys.
-use Rattle.std.proofs.Common.{◌≡◌, ℕ, zero, suc, ◌+◌, ◌<◌, List, [], ◌∷◌, ◌++◌, Bool, true, false, cond, Option, Some, None, length, get_or, map, take, arith, refl, sym, ap, ◌∙◌, subst}
+use Rattle.std.proofs.Common.{◌≡◌, ℕ, zero, suc, ◌+◌, ◌<◌, ◌≤◌, List, [], ◌∷◌, ◌++◌, Bool, true, false, cond, Option, Some, None, length, get_or, map, take, take_all, arith, refl, sym, ap, ◌∙◌, subst}
 use Rattle.std.specs.Prelude.{slice_get, ◌||◌}
 use Rattle.std.specs.BTreeMap.{is_at}
 use Rattle.std.specs.Cmp.{eq_by_cmp_equiv}
@@ -9,6 +9,8 @@ use Rattle.std.specs.Option.{option_map}
 use Rattle.std.specs.Ordering.{eq_by_cmp, is_eq, ordering_reverse}
 use Rattle.std.specs.declared.cmp.Ordering.{Ordering}
 use Rattle.std.specs.declared.cmp.Ordering.TheVariants.{Less, Equal, Greater}
+use Rattle.std.proofs.lemmas.List.{take-append-le}
+use Rattle.std.proofs.lemmas.Option.{slice_get-get_or}
 use Rattle.std.proofs.lemmas.Map.Keys.{IsDistinct-head, IsDistinct-push, IsDistinct-tail}
 use Rattle.circ_records.specs.Keys.{key_cmp, key_cmp_total, key_cmp-IsAntisymmetric}
 use Rattle.circ_records.specs.declared.key.Key.{Key}
@@ -76,19 +78,36 @@ longer : (notes : List Note) (note : Note) → length (notes ++ note ∷ []) ≡
 longer [] note = refl
 longer (n ∷ more) note = let e : length (more ++ note ∷ []) ≡ length more + 1 = longer more note in omega arith
 
--- a place that a key had, or that of the new note
-place-step : (notes : List Note) (note : Note) (k : Key) (b : Bool) (old new : Option ℕ)
+-- a note that stands somewhere is one
+no-note : (notes : List Note) (note : Note) (i : ℕ) (k : Key) → i < length notes → slice_get notes i ≡ note_of notes k → note_of notes k ≡ None → ⊥
+no-note notes note i k h e none = let some : Some (get_or notes i note) ≡ None = sym (slice_get-get_or notes i note h) ∙ e ∙ none in cc
+
+-- a place that a key had, where the new note is one of the first few
+few-step : (notes : List Note) (note : Note) (k : Key) (b : Bool) (place : Option ℕ) → length notes < 8
+    → (b ≡ true → note_of notes k ≡ None) → note_of (notes ++ note ∷ []) k ≡ cond b (Some note) (note_of notes k)
+    → IsPlace notes k place → IsPlace (notes ++ note ∷ []) k place
+few-step notes note k b None short fresh found h =
+    let more : length (notes ++ note ∷ []) ≡ length notes + 1 = longer notes note in
+    ap (λ ns. note_of ns k) (sym (take_all 8 (notes ++ note ∷ []) (omega arith)))
+few-step notes note k true (Some i) short fresh found h = absurd (no-note notes note i k h.0 h.1 (fresh refl))
+few-step notes note k false (Some i) short fresh found h =
+    let more : length (notes ++ note ∷ []) ≡ length notes + 1 = longer notes note in
+    let within : i < length notes = h.0 in
+    (omega arith, before-end notes note i within ∙ h.1 ∙ sym found)
+
+-- a place that a key had, or that of the new note, where it is none of the first few
+place-step : (notes : List Note) (note : Note) (k : Key) (b : Bool) (old new : Option ℕ) → 8 ≤ length notes
     → note_of (notes ++ note ∷ []) k ≡ cond b (Some note) (note_of notes k) → new ≡ cond b (Some (length notes)) old
     → IsPlace notes k old → IsPlace (notes ++ note ∷ []) k new
-place-step notes note k true old None found e h = cc
-place-step notes note k true old (Some i) found e h =
+place-step notes note k true old None long found e h = cc
+place-step notes note k true old (Some i) long found e h =
     let same : i ≡ length notes = cc in
     let more : length (notes ++ note ∷ []) ≡ length notes + 1 = longer notes note in
     (omega arith, ap (slice_get (notes ++ note ∷ [])) same ∙ at-end notes note ∙ sym found)
-place-step notes note k false None None found e h = found ∙ h
-place-step notes note k false None (Some i) found e h = cc
-place-step notes note k false (Some j) None found e h = cc
-place-step notes note k false (Some j) (Some i) found e h =
+place-step notes note k false None None long found e h = found ∙ h ∙ ap (λ ns. note_of ns k) (sym (take-append-le 8 notes (note ∷ []) long))
+place-step notes note k false None (Some i) long found e h = cc
+place-step notes note k false (Some j) None long found e h = cc
+place-step notes note k false (Some j) (Some i) long found e h =
     let same : i ≡ j = cc in
     let within : i < length notes = let at = h.0 in omega arith in
     let more : length (notes ++ note ∷ []) ≡ length notes + 1 = longer notes note in
@@ -101,14 +120,28 @@ none-distinct = tt
 pub kept-none : AreKept [] []
 kept-none = record { once = none-distinct; kept = λ k. refl }
 
--- one more note, and its place
-pub kept-more : (notes : List Note) (note : Note) (old new : List (Key × ℕ)) → AreKept notes old → note_of notes note.key ≡ None
+once-more : (notes : List Note) (note : Note) → IsOnceEach notes → note_of notes note.key ≡ None → IsOnceEach (notes ++ note ∷ [])
+once-more notes note once fresh =
+    subst (λ (ks : List Key). IsDistinct (eq_by_cmp key_cmp) ks) (sym (keys-append notes note)) (IsDistinct-push (eq_by_cmp_equiv key_cmp_total) (map (λ (n : Note). n.key) notes) note.key once (unnoted notes note.key fresh))
+
+unnoted-there : (notes : List Note) (note : Note) (k : Key) → note_of notes note.key ≡ None → is_at (key_cmp k) note.key ≡ true → note_of notes k ≡ None
+unnoted-there notes note k fresh e = ap (note_of notes) (one-key k note.key e) ∙ fresh
+
+-- one more note among the first few
+pub kept-few : (notes : List Note) (note : Note) (places : List (Key × ℕ)) → AreKept notes places → note_of notes note.key ≡ None → length notes < 8 → AreKept (notes ++ note ∷ []) places
+kept-few notes note places h fresh short = record {
+  once = once-more notes note h.once fresh;
+  kept = λ k. few-step notes note k (is_at (key_cmp k) note.key) (lookup (is_at (key_cmp k)) places) short (unnoted-there notes note k fresh) (found-more notes note k (unnoted-there notes note k fresh)) (h.kept k);
+}
+
+-- one more note behind them, and its place
+pub kept-more : (notes : List Note) (note : Note) (old new : List (Key × ℕ)) → AreKept notes old → note_of notes note.key ≡ None → 8 ≤ length notes
     → ((k : Key) → lookup (is_at (key_cmp k)) new ≡ cond (is_at (key_cmp note.key) k) (Some (length notes)) (lookup (is_at (key_cmp k)) old))
     → AreKept (notes ++ note ∷ []) new
-kept-more notes note old new h fresh updates = record {
-  once = subst (λ (ks : List Key). IsDistinct (eq_by_cmp key_cmp) ks) (sym (keys-append notes note)) (IsDistinct-push (eq_by_cmp_equiv key_cmp_total) (map (λ (n : Note). n.key) notes) note.key h.once (unnoted notes note.key fresh));
-  kept = λ k. place-step notes note k (is_at (key_cmp k) note.key) (lookup (is_at (key_cmp k)) old) (lookup (is_at (key_cmp k)) new)
-      (found-more notes note k (λ e. ap (note_of notes) (one-key k note.key e) ∙ fresh))
+kept-more notes note old new h fresh long updates = record {
+  once = once-more notes note h.once fresh;
+  kept = λ k. place-step notes note k (is_at (key_cmp k) note.key) (lookup (is_at (key_cmp k)) old) (lookup (is_at (key_cmp k)) new) long
+      (found-more notes note k (unnoted-there notes note k fresh))
       (updates k ∙ ap (λ b. cond b (Some (length notes)) (lookup (is_at (key_cmp k)) old)) (either-way note.key k))
       (h.kept k);
 }

@@ -161,6 +161,13 @@ impl Writes {
         self.entries.as_slice()
     }
 
+    /// Gives back the room for more records.
+    pub(crate) fn shrink_to_fit(&mut self)
+        ensures { self.new ≡ self.old }
+    {
+        self.entries.shrink_to_fit();
+    }
+
     /// The records with their keys, rising, given away.
     pub fn into_vec(self) -> Vec<(Key, Record)>
         ensures { result.items ≡ self }

@@ -3,6 +3,7 @@
 ghost use Rattle.std.specs.Prelude.{◌≡◌, ◌++◌, ◌∷◌, [], None, IfOk, OnOk, OnErr};
 ghost use Rattle.std.specs.Option.{option_copied};
 ghost use Rattle.read_set.specs.Notes.{note_of, IsOnceEach};
+ghost use Rattle.read_set.specs.Places.{few};
 
 use circ_records::{Key, Record};
 use std::alloc::{AllocError, Global};
@@ -59,10 +60,14 @@ pub(crate) fn copy_found(
     }
 }
 
+/// Among so many notes a key is looked for one by one: most lines have no more, and a map of them would take more memory
+/// than they do.
+const FEW: usize = 8;
+
 /// What a line has read, in the order of reading. No key is noted twice.
 pub struct Notes {
     entries: Vec<Note>,
-    /// Where the note of each key stands.
+    /// Where the note of each key stands that isn't among the first few.
     places: BTreeMap<Key, usize>,
 }
 
@@ -108,6 +113,9 @@ impl Notes {
         let key = note.key;
         let place = self.entries.len();
         self.entries.push(note)?;
+        if place < FEW {
+            return Ok(());
+        }
         match self.places.insert(key, place) {
             Ok(_) => Ok(()),
             Err(_) => {
@@ -123,8 +131,15 @@ impl Notes {
     {
         match self.places.get(key) {
             Some(place) => self.entries.get(*place),
-            None => None,
+            None => note_among(first_few(&self.entries), key),
         }
+    }
+
+    /// Gives back the room for more notes.
+    pub(crate) fn shrink_to_fit(&mut self)
+        ensures { self.new ≡ self.old }
+    {
+        self.entries.shrink_to_fit();
     }
 
     /// The notes in the order of reading.
@@ -141,6 +156,29 @@ impl Notes {
     {
         copy_notes(alloc, self.as_slice())
     }
+}
+
+/// The first few notes.
+fn first_few(notes: &[Note]) -> &[Note]
+    ensures { result.now ≡ few notes.now }
+{
+    if notes.len() <= FEW {
+        notes
+    } else {
+        &notes[..FEW]
+    }
+}
+
+/// The note of a key, looked for one by one.
+fn note_among<'n>(notes: &'n [Note], key: &Key) -> Option<&'n Note>
+    ensures { option_copied result ≡ note_of notes.now key.now }
+{
+    for note in notes {
+        if *key == note.key {
+            return Some(note);
+        }
+    }
+    None
 }
 
 fn copy_notes(alloc: Global, notes: &[Note]) -> Result<Notes, AllocError>

@@ -4,6 +4,8 @@
 #![tactic(auto)]
 
 mod files;
+mod progress;
+mod remedy;
 mod replaying;
 mod stop;
 

@@ -4,12 +4,13 @@ ghost use Rattle.std.specs.Prelude.{◌≡◌};
 ghost use Rattle.replay_command.specs.Statuses.{ended_status};
 
 use crate::files::{read_inputs, write_output};
+use crate::progress::Progress;
 use crate::stop::{FAILED, REFUSED, Stop};
 use command_line::{Options, Refusal, options};
-use replay_run::{Fault, NoGate, Sizes, rebuild};
+use replay_run::{Fault, Sizes, rebuild};
 use std::convert::AsStr;
-use std::io::Write;
-use std::rt::Files;
+use std::io::{IsTerminal, Write};
+use std::rt::{Clock, Files};
 use std::sync::Wait;
 use std::thread::Threads;
 
@@ -27,19 +28,28 @@ const DIFFERENT: u8 = 1;
 /// - 2 where the command line, the workers, the policy, a table or the journal is refused;
 /// - 3 where a file can't be read or written, `out` takes no text, or memory ran out.
 ///
-/// What stopped the run is told on `err`.
-pub fn run<R: Files + AllocGlobal + Threads + Wait + Sync, S: AsStr, W: Write, E: Write>(
-    rt: &R,
-    words: &[S],
-    out: &mut W,
-    err: &mut E,
-) -> u8 {
+/// What stopped the run is told on `err`, and what to do too where `err` is a terminal or the words ask for it.
+pub fn run<
+    R: Files + AllocGlobal + Threads + Wait + Sync + Clock + Eprint,
+    S: AsStr,
+    W: Write,
+    E: Write + IsTerminal,
+>(rt: &R, words: &[S], out: &mut W, err: &mut E) -> u8 {
     match options(rt.alloc(), words) {
-        Ok(options) => match replay(rt, &options, out) {
+        Ok(options) => match replay(rt, &options, err.is_terminal(), out) {
             Ok(sizes) => status_of_end(sizes.differences),
-            Err(stop) => stop.tell(err),
+            Err(stop) => stop.tell(asked(&options, err), err),
         },
         Err(refusal) => refuse(&refusal, out, err),
+    }
+}
+
+/// What the run was asked for, where what to do about a stop is to be told too.
+fn asked<'a, E: IsTerminal>(options: &'a Options, err: &E) -> Option<&'a Options> {
+    if options.explain || err.is_terminal() {
+        Some(options)
+    } else {
+        None
     }
 }
 
@@ -61,20 +71,35 @@ fn refuse<W: Write, E: Write>(refusal: &Refusal, out: &mut W, err: &mut E) -> u8
             let _ = write!(err, "{text}");
             REFUSED
         }
-        Refusal::Memory => Stop::Fault(Fault::Memory).tell(err),
+        Refusal::Memory => Stop::Fault(Fault::Memory).tell(None, err),
     }
 }
 
-/// Reads all files before any of them is judged, replays the journal by the workers, writes all files and prints the line.
-fn replay<R: Files + AllocGlobal + Threads + Wait + Sync, W: Write>(
+/// Does the run, shows meanwhile how far it has come where that is to be seen, and prints the line.
+fn replay<R: Files + AllocGlobal + Threads + Wait + Sync + Clock + Eprint, W: Write>(
     rt: &R,
     options: &Options,
+    shown: bool,
     out: &mut W,
 ) -> Result<Sizes, Stop> {
+    let progress = Progress::new(rt, shown);
+    let ended = rewrite(rt, options, &progress);
+    progress.clear();
+    let sizes = ended?;
+    print_sizes(sizes, out)?;
+    Ok(sizes)
+}
+
+/// Reads all files before any of them is judged, replays the journal by the workers, and writes all files.
+fn rewrite<R: Files + AllocGlobal + Threads + Wait + Sync + Clock + Eprint>(
+    rt: &R,
+    options: &Options,
+    progress: &Progress<'_, R>,
+) -> Result<Sizes, Stop> {
     let inputs = read_inputs(rt, options)?;
-    let output = rebuild(rt, rt.alloc(), &inputs, options.workers, &NoGate)?;
+    progress.expect(inputs.journal.as_slice());
+    let output = rebuild(rt, rt.alloc(), &inputs, options.workers, progress)?;
     write_output(rt, options.out.as_str(), &output)?;
-    print_sizes(output.sizes, out)?;
     Ok(output.sizes)
 }
 

@@ -1,12 +1,15 @@
 //! What ends a run before its last line is printed, and the status that tells it.
 
-ghost use Rattle.std.specs.Prelude.{◌≡◌};
+ghost use Rattle.std.specs.Prelude.{◌≡◌, Some};
 ghost use Rattle.replay_command.specs.Statuses.{status_of};
+ghost use Rattle.replay_command.specs.Telling.{line_of};
 
+use crate::remedy::Told;
+use command_line::Options;
 use replay_run::Fault;
 use std::alloc::{AllocError, Global};
-use std::io;
 use std::io::Write;
+use std::{fmt, io};
 
 /// The status of a command line, a policy, a table or a journal that is refused.
 pub const REFUSED: u8 = 2;
@@ -26,6 +29,19 @@ pub enum Stop {
     File(String),
     /// Standard output takes nothing more.
     Output,
+}
+
+/// The line that is told of a stop; nothing of standard output that fails.
+impl fmt::Display for Stop {
+    ghost output = { λ stop. Some (line_of stop) };
+
+    fn fmt<W: fmt::Write>(&self, f: &mut fmt::Formatter<W>) -> fmt::Result {
+        match self {
+            Stop::Fault(fault) => write!(f, "fault {}: {fault}\n", fault.number()),
+            Stop::File(path) => write!(f, "file: {path}\n"),
+            Stop::Output => f.write_str(""),
+        }
+    }
 }
 
 impl From<AllocError> for Stop {
@@ -52,15 +68,12 @@ impl Stop {
         }
     }
 
-    /// Prints what stopped the run, and gives its status. A failed write to `err` changes no status.
-    pub fn tell<E: Write>(&self, err: &mut E) -> u8
+    /// Prints what stopped the run, and gives its status. Where what was asked for is given, what to do is printed too.
+    /// A failed write to `err` changes no status.
+    pub fn tell<E: Write>(&self, asked: Option<&Options>, err: &mut E) -> u8
         ensures { result ≡ status_of self.now }
     {
-        let _ = match self {
-            Stop::Fault(fault) => writeln!(err, "fault {}: {fault}", fault.number()),
-            Stop::File(path) => writeln!(err, "file: {path}"),
-            Stop::Output => Ok(()),
-        };
+        let _ = write!(err, "{}", Told { stop: self, asked });
         self.status()
     }
 

@@ -1,5 +1,7 @@
 //! The records as they stand while lines are replayed.
 
+ghost use Rattle.std.specs.Prelude.{◌≡◌};
+
 use circ_records::{Key, Record, Records};
 use read_set::{Source, Stop, Writes};
 use std::alloc::{AllocError, Global};
@@ -18,7 +20,7 @@ impl Drop for Live {
 }
 
 impl Live {
-    ghost use Rattle.std.specs.Prelude.{◌≡◌, ◌∷◌, [], OnOk, option_copied};
+    ghost use Rattle.std.specs.Prelude.{◌∷◌, [], OnOk, option_copied};
     ghost use Rattle.circ_records.specs.Records.{record_at};
     ghost use Rattle.circ_records.specs.declared.key.Key.{Key};
     ghost use Rattle.read_set.specs.Maps.{put};
@@ -59,13 +61,28 @@ impl Live {
         Records::from_map(records)
     }
 
-    /// Puts one record over the records.
+    /// Puts one record over the records: most stand already, and are changed in place.
     fn write(&mut self, key: Key, written: Record) -> Result<(), AllocError>
         ensures { OnOk result ((k : Key) → standing self.new k ≡ put ((key, written) ∷ []) (standing self.old) k) }
     {
-        self.records.insert(key, written)?;
-        Ok(())
+        match self.records.get_mut(&key) {
+            Some(there) => {
+                set(there, written);
+                Ok(())
+            }
+            None => {
+                self.records.insert(key, written)?;
+                Ok(())
+            }
+        }
     }
+}
+
+/// Puts a record in the place of another.
+fn set(there: &mut Record, written: Record)
+    ensures { there.new ≡ written }
+{
+    *there = written;
 }
 
 impl Source for Live {

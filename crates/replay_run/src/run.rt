@@ -17,24 +17,29 @@ use crate::inputs::{Inputs, Output};
 use crate::judge::judge;
 use crate::judged::{Judged, Sound};
 use crate::replay::{ReplayEnd, replay};
-use circ_records::write_records;
+use circ_records::{Tables, write_records};
 use journal_table::{Journal, read_all};
 use read_set::Plan;
-use result_report::{Outcome, report};
+use result_report::{Outcome, Texts, report};
 use sip_answer::Answer;
 use std::alloc::{AllocError, Global};
+use std::mem::forget;
 use std::thread::Threads;
 
 /// The output of one thread that takes the lines in the order of the journal, or the first fault of the inputs: first
 /// the policy, then the tables, then the journal. Each line is attempted once.
+///
+/// What an output was made of is not torn down: its memory stays taken until the process ends, which gives all of it back
+/// at once.
 pub fn one_thread(alloc: Global, inputs: &Inputs) -> Result<Output, Fault>
     ensures { IsOneThread inputs.now result }
 {
     match judge_inputs(alloc, inputs) {
-        Ok(Judged { plan, journal }) => match output(alloc, plan, &journal) {
-            Ok(output) => Ok(output),
-            Err(error) => Err(Fault::from(error)),
-        },
+        Ok(Judged { plan, journal }) => {
+            let output = output(alloc, plan, &journal)?;
+            forget(journal);
+            Ok(output)
+        }
         Err(fault) => Err(fault),
     }
 }
@@ -112,7 +117,31 @@ fn output(alloc: Global, plan: Plan, journal: &Journal) -> Result<Output, AllocE
         answers: lend(alloc, answers.as_slice())?,
         attempts,
     };
-    write_outcome(alloc, &plan, journal, outcome)
+    let output = write_and_leave(alloc, &plan, journal, outcome)?;
+    forget(answers);
+    forget(plan);
+    Ok(output)
+}
+
+/// What `write_outcome` gives; the records are not torn down.
+fn write_and_leave(
+    alloc: Global,
+    plan: &Plan,
+    journal: &Journal,
+    outcome: Outcome<'_>,
+) -> Result<Output, AllocError>
+    requires planned { plan.now.readings ≡ readings_of journal.now }
+    requires answered { AreAnswers (readings_of journal.now) (lent outcome.answers.items) }
+    ensures tables { IfOk result (λ o. texts_of o.tables ≡ tables_of outcome.entry.records) }
+    ensures results { IfOk result (λ o. AreTexts (told journal.now (readings_of journal.now) (lent outcome.entry.answers.items)) (results_of o)) }
+    ensures each_once { IfOk result (λ o. o.sizes.answered + o.sizes.passed ≡ length journal.now) }
+    ensures attempts { IfOk result (λ o. o.attempts.items ≡ outcome.entry.attempts.items) }
+{
+    let tables = write_records(alloc, &outcome.records)?;
+    let texts = report(alloc, journal, plan, &outcome)?;
+    let attempts = outcome.attempts;
+    forget(outcome.records);
+    Ok(put_together(tables, texts, attempts))
 }
 
 /// The output of a run over the plan of a journal that came to the records and the answers of one thread.
@@ -147,14 +176,23 @@ fn write_outcome(
 {
     let tables = write_records(alloc, &outcome.records)?;
     let texts = report(alloc, journal, plan, &outcome)?;
-    Ok(Output {
+    Ok(put_together(tables, texts, outcome.attempts))
+}
+
+/// The output of these tables and texts.
+fn put_together(tables: Tables, texts: Texts, attempts: Vec<u32>) -> Output
+    ensures tables { result.tables ≡ tables }
+    ensures results { results_of result ≡ texts }
+    ensures attempts { result.attempts ≡ attempts }
+{
+    Output {
         tables,
         answers: texts.answers,
         report: texts.report,
         passed: texts.passed,
         sizes: texts.sizes,
-        attempts: outcome.attempts,
-    })
+        attempts,
+    }
 }
 
 /// The answers, lent.

@@ -1,5 +1,5 @@
 -- Lines that are told at their places, and in parts.
-use Rattle.std.proofs.Common.{◌≡◌, ◌∙◌, ◌<◌, ◌≤◌, ◌^◌, ◌-◌, ◌+◌, ◌*◌, ℕ, zero, suc, List, [], ◌∷◌, ◌++◌, length, slice_index_or, take, drop, map, min, Option, Some, None, Result, Ok, Bor, arith, refl, sym, ap, inl, inr, append_assoc}
+use Rattle.std.proofs.Common.{◌≡◌, ◌∙◌, ◌<◌, ◌≤◌, ◌^◌, ◌-◌, ◌+◌, ◌*◌, ℕ, zero, suc, List, [], ◌∷◌, ◌++◌, length, take, drop, map, min, Option, Some, None, Result, Ok, Bor, arith, refl, sym, ap, inl, inr, append_assoc}
 use Rattle.std.specs.Prelude.{IfOk, option_copied, option_map, slice_get}
 use Rattle.std.specs.List.{AllZip, filter_map, range_with_len}
 use Rattle.std.specs.Slice.{IsItemAt}
@@ -159,9 +159,6 @@ stretch-few size k xs =
     let more = ap length (stretch-next size k xs) in
     let both = length-append (take (k * size) xs) (take size (drop (k * size) xs)) in
     omega (arith, few-taken ((k + 1) * size) xs, more, both)
-
-pub part-at : (parts : List Texts) (k : ℕ) (t : Texts) → k < length parts → t ≡ slice_index_or parts k t → slice_get parts k ≡ Some t
-part-at parts k t within is = slice_get_read parts (length parts) k t refl within is
 
 -- a stretch lies between two places
 pub stretch-between : {X : Type 0} (size k from to most : ℕ) (xs : List X) → length xs ≤ most → from ≡ min (k * size) most → to ≡ min (from + size) most → between from to xs ≡ take size (drop (k * size) xs)

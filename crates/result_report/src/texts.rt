@@ -80,7 +80,7 @@ pub fn report_parallel(
         )
         .with_min_len(1)
         .collect(rt, alloc)?;
-    join(alloc, parts?.as_slice())
+    join(alloc, parts?)
 }
 
 /// The result tables of one stretch of lines; stretches count from 0.
@@ -147,9 +147,9 @@ fn reading_at(plan: &Plan, place: usize) -> Option<&Reading>
     plan.readings().get(place)
 }
 
-/// The result tables of all stretches, from those of each.
-fn join(alloc: Global, parts: &[Texts]) -> Result<Texts, AllocError>
-    ensures { IfOk result (λ t. (lines : List Told) → length lines < 2 ^ 64 → AreParts lines parts.now → AreTexts lines t) }
+/// The result tables of all stretches, from those of each. A part is given back once it is joined.
+fn join(alloc: Global, parts: Vec<Texts>) -> Result<Texts, AllocError>
+    ensures { IfOk result (λ t. (lines : List Told) → length lines < 2 ^ 64 → AreParts lines parts.items → AreTexts lines t) }
 {
     let mut whole = Telling::new(alloc)?.finish()?;
     let heads = Heads {
@@ -158,7 +158,7 @@ fn join(alloc: Global, parts: &[Texts]) -> Result<Texts, AllocError>
         passed: whole.passed.len(),
     };
     for part in parts {
-        whole.add(heads, part)?;
+        whole.add(heads, &part)?;
     }
     Ok(whole)
 }

@@ -1,4 +1,4 @@
-ghost use Rattle.std.specs.Prelude.{◌≡◌, ◌++◌, ◌∷◌, [], OnOk};
+ghost use Rattle.std.specs.Prelude.{◌≡◌, ◌++◌, ◌∷◌, [], OnOk, OnErr};
 
 use sip_reader::Id;
 use std::alloc::{AllocError, Global};
@@ -33,9 +33,10 @@ impl ItemIds {
         }
     }
 
-    /// Adds an id at the end.
+    /// Adds an id at the end. Without memory nothing changes.
     pub fn push(&mut self, id: Id) -> Result<(), AllocError>
-        ensures { OnOk result (self.new ≡ self.old ++ id ∷ []) }
+        ensures ok { OnOk result (self.new ≡ self.old ++ id ∷ []) }
+        ensures err { OnErr result (self.new ≡ self.old) }
     {
         self.ids.push(id)?;
         Ok(())

@@ -1,4 +1,7 @@
 //! Answers as bytes.
+//!
+//! Where memory runs out a part of an answer may stand in the text: `write_answer` drops it, so the functions that put the
+//! parts there say nothing of it.
 
 ghost use Rattle.std.specs.Prelude.{◌≡◌, ◌++◌, IfOk, OnOk};
 ghost use Rattle.sip_answer.specs.Texts.{answer_text};

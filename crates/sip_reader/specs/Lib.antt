@@ -3,6 +3,7 @@ pub mod Dates
 pub mod Days
 pub mod Fields
 pub mod Fits
+pub mod Held
 pub mod Kinds
 pub mod Laws
 pub mod Padding

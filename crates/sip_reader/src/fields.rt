@@ -1,6 +1,6 @@
 //! The variable fields of a request.
 
-ghost use Rattle.std.specs.Prelude.{◌≡◌};
+ghost use Rattle.std.specs.Prelude.{◌≡◌, ◌||◌, ◌==◌, get_or, length};
 ghost use Rattle.std.specs.Option.{option_copied};
 ghost use Rattle.sip_reader.specs.Fields.{text_after, or_else, pieces, texts};
 ghost use Rattle.sip_reader.specs.Views.{lent, with_piece};
@@ -53,22 +53,54 @@ impl<'a> Fields<'a> {
         fields
     }
 
+    /// The same with one piece more. Its first letter tells which few of the fields it may be.
     fn with(self, piece: &'a [u8]) -> Fields<'a>
         ensures { lent result ≡ with_piece (lent self.entry) piece.now }
     {
-        Fields {
-            patron: first(self.patron, b'A', b'A', piece),
-            item: first(self.item, b'A', b'B', piece),
-            title: first(self.title, b'A', b'J', piece),
-            cancel: first(self.cancel, b'B', b'I', piece),
-            agreed: first(self.agreed, b'B', b'O', piece),
-            pickup: first(self.pickup, b'B', b'S', piece),
-            amount: first(self.amount, b'B', b'V', piece),
-            fee: first(self.fee, b'C', b'G', piece),
-            properties: first(self.properties, b'C', b'H', piece),
-            short: self.short || piece.len() == 1,
+        let letter = first_byte(piece);
+        let short = is_short_so_far(self.short, piece);
+        if letter == b'A' {
+            Fields {
+                patron: first(self.patron, b'A', b'A', piece),
+                item: first(self.item, b'A', b'B', piece),
+                title: first(self.title, b'A', b'J', piece),
+                short,
+                ..self
+            }
+        } else if letter == b'B' {
+            Fields {
+                cancel: first(self.cancel, b'B', b'I', piece),
+                agreed: first(self.agreed, b'B', b'O', piece),
+                pickup: first(self.pickup, b'B', b'S', piece),
+                amount: first(self.amount, b'B', b'V', piece),
+                short,
+                ..self
+            }
+        } else if letter == b'C' {
+            Fields {
+                fee: first(self.fee, b'C', b'G', piece),
+                properties: first(self.properties, b'C', b'H', piece),
+                short,
+                ..self
+            }
+        } else {
+            Fields { short, ..self }
         }
     }
+}
+
+/// Whether a piece has one byte, this one or one before it.
+fn is_short_so_far(before: bool, piece: &[u8]) -> bool
+    ensures { result ≡ (before || (length piece.now == 1)) }
+{
+    before || piece.len() == 1
+}
+
+/// The first byte of a piece, 0 where it has none.
+fn first_byte(piece: &[u8]) -> u8
+    ensures { result ≡ get_or piece.now 0 0 }
+{
+    if piece.is_empty() { 0 } else { piece[0] }
 }
 
 /// The text that was found before, or else that of this piece where it has the identifier.

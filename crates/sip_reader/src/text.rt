@@ -1,6 +1,7 @@
 //! Texts of records and messages.
 
-ghost use Rattle.std.specs.Prelude.{◌≡◌, true, IfOk, if◌then◌else◌, Some, None};
+ghost use Rattle.std.specs.Prelude.{◌≡◌, ◌≤◌, ◌++◌, ◌-◌, true, IfOk, if◌then◌else◌, Some, None, length, replicate};
+ghost use Rattle.sip_reader.specs.Held.{IsWithin, bytes_held};
 ghost use Rattle.sip_reader.specs.Texts.{is_text};
 
 use crate::id::has_barred;
@@ -10,26 +11,46 @@ use std::marker::Model;
 /// The longest text, in bytes.
 pub const TEXT_MAX: usize = 1024;
 
+/// The longest text that takes no memory of its own, in bytes: most names, titles and places are no longer.
+const FEW_MAX: usize = 23;
+
 /// A text of a record or a message: at most 1,024 bytes without a bar, CR or LF.
 pub struct Text {
-    bytes: Vec<u8>,
+    held: Held,
 }
 
 impl Drop for Text {
     fn drop(self) {
-        let Text { bytes: _ } = self;
+        let Text { held: _ } = self;
+    }
+}
+
+/// Where the bytes of a text stand.
+enum Held {
+    /// In place: the first `len` of these.
+    Few { bytes: [u8; 23], len: u8 },
+    Many(Vec<u8>),
+}
+
+impl Drop for Held {
+    fn drop(self) {
+        match self {
+            Held::Few { bytes: _, len: _ } => {}
+            Held::Many(_) => {}
+        }
     }
 }
 
 impl Model for Text {
     ghost use Rattle.std.specs.Prelude.{ℕ, List, ◌≡◌, true};
+    ghost use Rattle.sip_reader.specs.Held.{IsWithin, bytes_held};
     ghost use Rattle.sip_reader.specs.Texts.{is_text};
 
     ghost Value = { List ℕ };
 
-    ghost view = { λ t. t.bytes.items };
+    ghost view = { λ t. bytes_held t.held };
 
-    ghost invariant = { λ t. is_text t.bytes.items ≡ true };
+    ghost invariant = { λ t. (is_text (bytes_held t.held) ≡ true) × IsWithin t.held };
 }
 
 impl Text {
@@ -38,8 +59,8 @@ impl Text {
         requires { is_text bytes.now ≡ true }
         ensures { IfOk result (λ t. t ≡ bytes.now) }
     {
-        let bytes = Vec::from_slice(alloc, bytes)?;
-        Ok(Text { bytes })
+        let held = Held::of(alloc, bytes)?;
+        Ok(Text { held })
     }
 
     /// The text that these bytes are.
@@ -58,16 +79,71 @@ impl Text {
     pub fn as_bytes(&self) -> &[u8]
         ensures { result.now ≡ self.now }
     {
-        self.bytes.as_slice()
+        self.held.as_slice()
     }
 
     /// The same text.
     pub fn copy(&self, alloc: Global) -> Result<Text, AllocError>
         ensures { IfOk result (λ t. t ≡ self.now) }
     {
-        let bytes = Vec::from_slice(alloc, &self.bytes)?;
-        Ok(Text { bytes })
+        let held = self.held.copy(alloc)?;
+        Ok(Text { held })
     }
+}
+
+impl Held {
+    fn of(alloc: Global, bytes: &[u8]) -> Result<Held, AllocError>
+        ensures within { IfOk result IsWithin }
+        ensures bytes { IfOk result (λ held. bytes_held held ≡ bytes.now) }
+    {
+        if bytes.len() <= FEW_MAX {
+            return Ok(Held::Few {
+                bytes: in_front(bytes),
+                len: bytes.len() as u8,
+            });
+        }
+        let bytes = Vec::from_slice(alloc, bytes)?;
+        Ok(Held::Many(bytes))
+    }
+
+    fn as_slice(&self) -> &[u8]
+        requires { IsWithin self.now }
+        ensures { result.now ≡ bytes_held self.now }
+    {
+        match self {
+            Held::Few { bytes, len } => &bytes[..*len as usize],
+            Held::Many(bytes) => bytes.as_slice(),
+        }
+    }
+
+    fn copy(&self, alloc: Global) -> Result<Held, AllocError>
+        requires { IsWithin self.now }
+        ensures within { IfOk result IsWithin }
+        ensures bytes { IfOk result (λ held. bytes_held held ≡ bytes_held self.now) }
+    {
+        match self {
+            Held::Few { bytes, len } => Ok(Held::Few {
+                bytes: *bytes,
+                len: *len,
+            }),
+            Held::Many(bytes) => {
+                let bytes = Vec::from_slice(alloc, bytes.as_slice())?;
+                Ok(Held::Many(bytes))
+            }
+        }
+    }
+}
+
+/// The bytes, and zeros behind them.
+fn in_front(bytes: &[u8]) -> [u8; 23]
+    requires { length bytes.now ≤ 23 }
+    ensures { result ≡ bytes.now ++ replicate (23 - length bytes.now) 0 }
+{
+    let mut whole = [0; 23];
+    for (i, b) in bytes.iter().enumerate() {
+        whole[i] = *b;
+    }
+    whole
 }
 
 #[tactic(auto, unfolding(crate::specs::Texts::is_text))]

@@ -24,7 +24,7 @@ fn words<R: Env + AllocGlobal>(rt: &R) -> io::Result<Vec<String>> {
 
 fn refuse_words<E: io::Write>(error: &io::Error, err: &mut E) -> u8 {
     if error.kind() == io::ErrorKind::OutOfMemory {
-        return Stop::Fault(Fault::Memory).tell(err);
+        return Stop::Fault(Fault::Memory).tell(None, err);
     }
     let _ = writeln!(err, "error: a word of the command line isn't text");
     REFUSED

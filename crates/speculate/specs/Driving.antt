@@ -2,13 +2,11 @@
 use Rattle.std.specs.Prelude.{◌≡◌, ℕ, ◌<◌, ◌⊎◌, List, length}
 use Rattle.read_set.specs.Plans.{Planned}
 use Rattle.read_set.specs.Settling.{Told}
-use Rattle.read_set.specs.declared.notes.Note.{Note}
 use Rattle.board_steps.specs.Board.{Board, IsCommitted, IsLine, row_at}
-use Rattle.board_steps.specs.Board.State.{Running}
 use Rattle.board_steps.specs.Steps.{Call, IsVersion, Reply, Run, Step, opening}
 use Rattle.board_steps.specs.Steps.Call.{Publish}
 use Rattle.board_steps.specs.Steps.Reply.{ClockSpent}
-use Rattle.speculate.specs.Playing.{WouldPlace}
+use Rattle.speculate.specs.Playing.{HasRunning, WouldPlace}
 use Rattle.speculate.specs.declared.steps.BoardFault.{BoardFault}
 use Rattle.speculate.specs.declared.steps.BoardFault.TheVariants as faults
 
@@ -27,10 +25,6 @@ pub record IsDriven (plan : Planned) (b : Board) : Type 0 where
 -- some steps lead from a board to another
 abbrev pub RunsTo : Planned → Board → Board → Type 0
 RunsTo plan old new = (steps : List (Call × Reply)) × Run plan old steps new
-
--- the worker's line runs: what it needs is asked and noted, and nothing of it is published yet
-abbrev pub HasRunning : Board → ℕ → Type 0
-HasRunning b w = (n : ℕ) × (notes : List Note) × ((row_at b n).state ≡ Running w notes)
 
 -- What may stop it: the clock, just where the board's reply to the next act of publication says so; or want of memory, where the
 -- line runs, or where the publication that is to go on would place an entry. So neither a take, a lifting, the end of a

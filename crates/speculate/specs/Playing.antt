@@ -9,7 +9,7 @@ use Rattle.read_set.specs.Settling.{Told}
 use Rattle.read_set.specs.declared.effect.Effect.{Effect}
 use Rattle.read_set.specs.declared.notes.Note.{Note}
 use Rattle.board_steps.specs.Board.{Board, row_at, holder}
-use Rattle.board_steps.specs.Board.State.{Placing}
+use Rattle.board_steps.specs.Board.State.{Placing, Running}
 use Rattle.board_steps.specs.Steps.{IsVersion, Reply, Step}
 use Rattle.board_steps.specs.Steps.Call.{Check, Commit, Look, Publish, Take}
 use Rattle.board_steps.specs.Steps.Reply.{Attempts, ClockSpent, Idle}
@@ -89,19 +89,20 @@ abbrev pub Plays : Planned → Board → List WorkerStep → Board → Type 0
 Plays plan old [] new = new ≡ old
 Plays plan old (step ∷ more) new = (mid : Board) × Goes plan old step mid × Plays plan mid more new
 
--- the worker has a line in hand
-abbrev pub HasLine : Board → ℕ → Type 0
-HasLine b w = (n : ℕ) × (holder (row_at b n).state ≡ Some w)
+-- the worker's line runs: what it needs is asked and noted, and nothing of it is published yet
+abbrev pub HasRunning : Board → ℕ → Type 0
+HasRunning b w = (n : ℕ) × (notes : List Note) × ((row_at b n).state ≡ Running w notes)
 
 -- a publication is to go on that would place an entry: so its next act is no lifting and no end, and the clock can be raised
 abbrev pub WouldPlace : Planned → Board → ℕ → Type 0
 WouldPlace plan b w = (v : Told) × HasLast b w v × IsVersion plan v × Grows plan b (Publish w v)
 
--- Where a step can want memory: a look, and a publication that is to begin, ask what the line in hand needs, and that takes
--- memory; a publication that is to go on asks nothing, and wants memory just where it would place an entry.
+-- Where a step can want memory: where the worker's line runs, a look and a publication ask what it needs, and to follow its rule
+-- over what it has noted takes memory, whatever the rule comes to. Nothing else asks: a publication that is to go on wants memory
+-- just where it would place an entry, and a step for a line that is published in part or is being checked wants none.
 abbrev pub MayWant : Planned → Board → WorkerStep → Type 0
-MayWant plan b (steps.Look w) = HasLine b w
-MayWant plan b (steps.Publish w) = (HasLine b w × ((u : Told) → HasLast b w u → ⊥)) ⊎ WouldPlace plan b w
+MayWant plan b (steps.Look w) = HasRunning b w
+MayWant plan b (steps.Publish w) = HasRunning b w ⊎ WouldPlace plan b w
 MayWant plan b (steps.Take w n) = ⊥
 MayWant plan b (steps.Check w n) = ⊥
 MayWant plan b (steps.Commit n) = ⊥

@@ -8,7 +8,7 @@ ghost use Rattle.board_steps.specs.Steps.Call.{Check, Commit, Look, Publish, Tak
 ghost use Rattle.speculate.specs.Choices.{Begins, chosen};
 ghost use Rattle.board_lines.specs.Courses.{PublishesMore};
 ghost use Rattle.board_lines.specs.Hands.{AreCounts, AreNotesOf, IsHand};
-ghost use Rattle.board_lines.specs.Acts.{IsPlacing};
+ghost use Rattle.board_lines.specs.Acts.{IsPlacing, IsToPublish};
 ghost use Rattle.board_lines.specs.Notes.{told_at};
 ghost use Rattle.board_lines.specs.Replies.{Answers};
 
@@ -233,6 +233,13 @@ impl<'p, 't, J: PlanName> Board<'p, 't, J> {
         ensures { IsPlacing self.now worker (option_map told_at result) }
     {
         self.lines.placing(worker)
+    }
+
+    /// The worker's line in hand with its attempt, where it is to be published: it runs, or its publication goes on.
+    pub(crate) fn to_publish(&self, worker: u32) -> Option<Hand>
+        ensures { IsToPublish self.now worker result }
+    {
+        self.lines.to_publish(worker)
     }
 
     /// How often lines were taken, and what became of it.

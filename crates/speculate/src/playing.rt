@@ -2,15 +2,15 @@
 
 ghost use Rattle.std.specs.Prelude.{◌≡◌, IfOk, IfErr, None, OnErr, OnOk, option_map};
 ghost use Rattle.board_lines.specs.Acts.{IsPlacing};
-ghost use Rattle.speculate.specs.Needed.{IsNext, IsToPublish, SettlesIfDone, needed_key, needed_version};
+ghost use Rattle.speculate.specs.Needed.{IsNext, IsRunning, IsToPublish, SettlesIfDone, needed_key, needed_version};
 ghost use Rattle.board_lines.specs.Notes.{told_at};
-ghost use Rattle.speculate.specs.Playing.{Goes, Halts, HasLine, IsRefused, Plays};
+ghost use Rattle.speculate.specs.Playing.{Goes, Halts, HasRunning, IsRefused, Plays};
 ghost use Rattle.speculate.specs.declared.steps.Step.TheVariants as steps;
 
 use crate::board::Board;
 use crate::ending::ended;
 use crate::steps::{BoardFault, Halt, Step};
-use board_lines::read_notes;
+use board_lines::{Hand, read_notes};
 use circ_records::Key;
 use message_meaning::need;
 use read_set::{Need, PlanName, Version};
@@ -146,7 +146,7 @@ fn place_of<'t, J: PlanName, R: Wait>(
 ) -> Result<Option<Place<'t, J>>, AllocError>
     requires { IsPlacing board.now worker None }
     ensures place { IfOk result (λ place. IsToPublish J.plan board.now worker (option_map told_at place)) }
-    ensures line { OnErr result (HasLine board.now worker) }
+    ensures runs { OnErr result (HasRunning board.now worker) }
 {
     let next = next_need(alloc, board, worker)?;
     let Some(version) = version_in(next) else {
@@ -176,16 +176,16 @@ fn version_in<J: PlanName>(next: Option<Need<J>>) -> Option<Version<J>>
     }
 }
 
-/// What the worker's line in hand needs next; None where it has none in hand.
+/// What the worker's line in hand needs next, where that line runs; else None, and no memory is taken.
 fn next_need<J: PlanName>(
     alloc: Global,
     board: &Board<'_, '_, J>,
     worker: u32,
 ) -> Result<Option<Need<J>>, AllocError>
     ensures next { IfOk result (IsNext J.plan board.now worker) }
-    ensures line { OnErr result (HasLine board.now worker) }
+    ensures runs { OnErr result (HasRunning board.now worker) }
 {
-    let Some(hand) = board.hand(worker) else {
+    let Some(hand) = running(board, worker) else {
         return Ok(None);
     };
     let Some(noted) = board.notes(worker) else {
@@ -196,6 +196,23 @@ fn next_need<J: PlanName>(
     let next = need(alloc, plan, hand.line, hand.attempt, &notes)?;
     settled_if_done(&next);
     Ok(Some(next))
+}
+
+/// The worker's line in hand with its attempt, where it runs: no part of it is published yet, and it isn't being checked.
+fn running<J: PlanName>(board: &Board<'_, '_, J>, worker: u32) -> Option<Hand>
+    ensures { IsRunning board.now worker result }
+{
+    let _plan = board.plan();
+    let Some(hand) = board.hand(worker) else {
+        return None;
+    };
+    let None = board.placing(worker) else {
+        return None;
+    };
+    let Some(_) = board.to_publish(worker) else {
+        return None;
+    };
+    Some(hand)
 }
 
 /// A version that a line needs settles.

@@ -1,7 +1,8 @@
 //! The entries of one line.
 
-ghost use Rattle.std.specs.Prelude.{◌≡◌, ◌^◌, ◌<◌, OnOk, OnErr, None, MatchOption, MatchResult, length, slice_get, option_copied, option_map};
+ghost use Rattle.std.specs.Prelude.{◌≡◌, ◌^◌, ◌<◌, ◌≤◌, OnOk, OnErr, None, MatchOption, MatchResult, length, slice_get, option_copied, option_map};
 ghost use Rattle.std.specs.FinMap as fin;
+ghost use Rattle.std.specs.List.{insert};
 ghost use Rattle.circ_records.specs.Keys.{key_cmp};
 ghost use Rattle.version_store.specs.Entries.{AllOf, IsLeastLeft, IsNamedAt, line_of, no_entries, shown, suspected};
 ghost use Rattle.version_store.specs.Places.{IsAt, IsGap, Rise, all_marked};
@@ -12,6 +13,9 @@ use read_set::PlanName;
 use std::alloc::{AllocError, Global};
 use std::collections::VecDeque;
 use std::marker::Model;
+
+/// Up to so many entries take no more room than they need.
+const FEW: usize = 8;
 
 /// The entries of one line as a list that rises by key. A version's writes rise too, so most entries go behind the last,
 /// and those that are lifted stand near an end: there a queue moves few others.
@@ -132,10 +136,30 @@ fn put_entry<'t, J: PlanName>(
             entries[place] = (*key, made);
             Ok(())
         }
-        Err(place) => match entries.insert(place, (*key, made)) {
+        Err(place) => match insert_at(entries, place, key, made) {
             Ok(()) => Ok(()),
-            Err(_) => Err(AllocError),
+            Err(refused) => Err(refused),
         },
+    }
+}
+
+/// Puts an entry at a place, and makes no more room than it needs while they are few: entries stay until the run ends.
+fn insert_at<'t, J: PlanName>(
+    entries: &mut VecDeque<(Key, Entry<'t, J>)>,
+    place: usize,
+    key: &Key,
+    made: Entry<'t, J>,
+) -> Result<(), AllocError>
+    requires { place ≤ length entries.old.items }
+    ensures items { OnOk result (entries.new.items ≡ insert entries.old.items place (key.now, made.entry)) }
+    ensures same { OnErr result (entries.new.items ≡ entries.old.items) }
+{
+    if entries.len() < FEW {
+        entries.reserve_exact(1)?;
+    }
+    match entries.insert(place, (*key, made)) {
+        Ok(()) => Ok(()),
+        Err(_) => Err(AllocError),
     }
 }
 

@@ -1,10 +1,10 @@
-use Rattle.std.proofs.Common.{refl, ap, subst, ◌∙◌, ◌≡◌, ℕ, List, Option, Some, None, Result, Ok, Err, true, codes, map}
+use Rattle.std.proofs.Common.{refl, ap, subst, ◌∙◌, ◌≡◌, ℕ, Bool, List, Option, Some, None, Result, Ok, Err, true, false, codes, map}
 use Rattle.std.specs.Prelude.{unwrap_or}
 use Rattle.std.specs.Str.Parse.{ParsesUnsigned, ExplainsUnsignedError, HasUnsignedDigitsIfOk}
 use Rattle.clap.specs.Words.{Row, ReadsOne, Text, first_of, first_value, found_of, is_simple, matches_of, one_of, one_text, rows_of}
 use Rattle.clap.specs.declared.parser.matches.Found.{Found}
 use Rattle.clap.proofs.WalkLemmas.{first_value-rows, one_text-rows}
-use Rattle.command_line.specs.CommandLine.{CountsWorkers, sip_replay_line}
+use Rattle.command_line.specs.CommandLine.{CountsWorkers, Says, sip_replay_line}
 use Rattle.command_line.proofs.words.options.Goals as goal
 
 line_is_simple : is_simple sip_replay_line ≡ true
@@ -24,6 +24,12 @@ counts E G only (Some t) None none value = λ numeral small.
     let failed = value t refl in
     absurd (only t (Err failed.0) failed.1 (numeral, small))
 
+-- what is read of a flag
+says : (o : Option Text) (b : Bool) → (o ≡ None → b ≡ false) → (o ≡ Some (codes "true") → b ≡ true)
+    → (o ≡ Some (codes "false") → b ≡ false) → Says o b
+says None b none is isnt = none refl
+says (Some t) b none is isnt = (λ e. is (ap Some e), λ e. isnt (ap Some e))
+
 pub returns-clause-given : goal.returns-clause-given
 returns-clause-given g c =
     let f = found_of c.in-Ok.matches in
@@ -38,4 +44,7 @@ returns-clause-given g c =
       out = of_rows f _ rows (codes "out") _ c.in_ok-out.ensures;
       workers = subst (λ o. CountsWorkers o c.unwrap_or-workers.result) (one_text-rows f (codes "workers") ∙ ap (one_of (codes "workers")) rows)
           (rw c.unwrap_or-workers.ensures read);
+      explain = subst (λ o. Says o c.get_flag-explain.result) (one_text-rows f (codes "explain") ∙ ap (one_of (codes "explain")) rows)
+          (says (one_text f (codes "explain")) c.get_flag-explain.result c.get_flag-explain.ensures.none c.get_flag-explain.ensures.value
+          c.get_flag-explain.ensures.other);
     }

@@ -29,10 +29,9 @@ returns-clause-texts g c =
     let places : given.0 ≡ range_with_len 0 n = given.1 ∙ (λ i. nat_range ((run i).start) ((run i).end)) ∙ (λ i. nat_range (ends.0 i) (ends.1 i)) ∙ ap (range_with_len 0) all_of in
     let (ys, read, items) = rw c.in_ok-parts-2.was at h.2 in
     let parts = are-parts all n given.0 ys _ places (omega arith) (subst (λ rs. AllZip (λ (k : ℕ) r. IfOk r (AreTexts (stretch k all))) given.0 rs) read each) in
-    let shown = c.as_slice.ensures.value ∙ items in
     let same : all ≡ told c.args.journal.now (readings_of c.args.journal.now) (lent c.args.outcome.now.answers.items) =
     λ i. told (c.lines-lines.ensures.lines i) (c.requires.planned i) (lent (c.as_slice-answers.ensures.value i)) in
-    IfOk-weaker c.join.result _ _ (λ t made. subst (λ ls. AreTexts ls t) same (made all (omega arith) (subst (λ ps. AreParts all ps) (sym shown) parts))) c.join.ensures
+    IfOk-weaker c.join.result _ _ (λ t made. subst (λ ls. AreTexts ls t) same (made all (omega arith) (subst (λ ps. AreParts all ps) (sym items) parts))) c.join.ensures
 
 pub returns-clause-each_once : goal.returns-clause-each_once
 returns-clause-each_once g c =

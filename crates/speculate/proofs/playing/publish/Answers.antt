@@ -1,4 +1,4 @@
-use Rattle.std.proofs.Common.{None, Some, sym, subst, inl}
+use Rattle.std.proofs.Common.{None, Some, sym, subst, inl, inr}
 use Rattle.std.specs.Prelude.{OnOk}
 use Rattle.board_steps.specs.Board.{Board}
 use Rattle.board_steps.specs.Steps.Call.{Publish}
@@ -17,7 +17,7 @@ returns-in-Some g c =
     let new = c.publish_more.new.self in
     let more : PublishesMore plan b w (Some c.in-Some.reply) new = c.in-Some.ensures in
     ends plan b new (steps.Publish w) c.ended.result
-    (publish_ends plan b new w more.0 c.ended.result (inl more.1) more.2
+    (publish_ends plan b new w more.0 c.ended.result (λ grows. inr (more.0, more.1, more.2, grows)) (inl more.1) more.2
     (call_judged plan b new (Publish w more.0) c.in-Some.reply c.ended.result more.3 c.ended.ensures))
 
 pub place_of-requires : goal.place_of-requires

@@ -1,4 +1,4 @@
-use Rattle.std.proofs.Common.{option_map, subst}
+use Rattle.std.proofs.Common.{option_map, subst, inl}
 use Rattle.board_steps.specs.Steps.Call.{Publish}
 use Rattle.speculate.specs.Needed.{IsToPublish}
 use Rattle.board_lines.specs.Notes.{told_at}
@@ -20,5 +20,5 @@ returns-in-Some g c =
     let v = told_at c.in-Some.place in
     let is = subst (λ place. IsToPublish plan b w (option_map told_at place)) c.in-Some.is c.requires in
     ends plan b new (steps.Publish w) c.ended.result
-    (publish_ends plan b new w v c.ended.result is.0 is.1
+    (publish_ends plan b new w v c.ended.result (λ grows. inl is.0) is.1 is.2
     (call_judged plan b new (Publish w v) c.publish.result c.ended.result c.publish.ensures c.ended.ensures))

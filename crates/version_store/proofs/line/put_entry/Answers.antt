@@ -14,14 +14,14 @@ returns-in-Ok-clause-rising g c =
     subst Rise (sym (set_put es c.args.key.now c.args.made c.in-Ok.place c.requires c.in-Ok.ensures))
     (is_sorted-put key_cmp key_cmp_total c.args.key.now c.args.made es c.requires)
 
-pub returns-in-Ok-insert-clause-put : goal.returns-in-Ok-insert-clause-put
-returns-in-Ok-insert-clause-put g c = c.in-Ok-insert.ensures.items ∙ gap_put c.args.entries.now.items c.args.key.now c.args.made c.in-Err.place c.in-Err.ensures
+pub returns-in-Ok-insert_at-clause-put : goal.returns-in-Ok-insert_at-clause-put
+returns-in-Ok-insert_at-clause-put g c = c.in-Ok-insert_at.ensures.items ∙ gap_put c.args.entries.now.items c.args.key.now c.args.made c.in-Err.place c.in-Err.ensures
 
-pub returns-in-Ok-insert-clause-rising : goal.returns-in-Ok-insert-clause-rising
-returns-in-Ok-insert-clause-rising g c =
+pub returns-in-Ok-insert_at-clause-rising : goal.returns-in-Ok-insert_at-clause-rising
+returns-in-Ok-insert_at-clause-rising g c =
     let es = c.args.entries.now.items in
-    subst Rise (sym (c.in-Ok-insert.ensures.items ∙ gap_put es c.args.key.now c.args.made c.in-Err.place c.in-Err.ensures))
+    subst Rise (sym (c.in-Ok-insert_at.ensures.items ∙ gap_put es c.args.key.now c.args.made c.in-Err.place c.in-Err.ensures))
     (is_sorted-put key_cmp key_cmp_total c.args.key.now c.args.made es c.requires)
 
-pub returns-in-Err-insert-clause-absent : goal.returns-in-Err-insert-clause-absent
-returns-in-Err-insert-clause-absent g c = gap_find c.args.entries.now.items c.args.key.now c.in-Err.place c.in-Err.ensures
+pub returns-in-Err-insert_at-clause-absent : goal.returns-in-Err-insert_at-clause-absent
+returns-in-Err-insert_at-clause-absent g c = gap_find c.args.entries.now.items c.args.key.now c.in-Err.place c.in-Err.ensures

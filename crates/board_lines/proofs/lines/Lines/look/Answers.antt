@@ -9,12 +9,12 @@ use Rattle.board_steps.specs.Steps.Call.{Look}
 use Rattle.board_lines.specs.Replies.{Grows}
 use Rattle.version_store.specs.declared.entry.Found.TheVariants.{Named, Suspect}
 use Rattle.board_lines.specs.Notes.{is_noted}
-use Rattle.board_lines.proofs.Sights.{suspect_seen, named_seen}
+use Rattle.board_lines.proofs.Sights.{suspect_seen, named_seen, sight_placed}
 use Rattle.board_lines.proofs.Looks.{look_line, look_unnoted, seen_returns, seen_kept}
 use Rattle.std.specs.Prelude.{option_map}
 use Rattle.board_steps.specs.Steps.{LookStep}
 use Rattle.board_steps.specs.Steps.Reply.{Seen as TheSeen}
-use Rattle.version_store.specs.Entries.{Sight}
+use Rattle.version_store.specs.Entries.{Sight, line_at, visible}
 use Rattle.board_lines.specs.Notes.{Noted, note_with, found_by, told_at}
 use Rattle.board_lines.specs.Sights.{IsNameOf}
 use Rattle.board_lines.specs.declared.row.Row.{Row}
@@ -59,8 +59,14 @@ index_mut-row-requires g c =
     let h : line - c.first.result < length a.rows.items = omega (arith, l, m, f) in
     search (rules, h)
 
-pub add-requires : goal.add-requires
-add-requires g c =
+pub add-requires-clause-placed : goal.add-requires-clause-placed
+add-requires-clause-placed g c =
+    let seen = c.in-Ok.seen in
+    sight_placed c.args.key.now (visible (line_at c.self.inside.entries) c.in-Some.line c.args.key.now) seen
+    (subst (λ (y : Sight). IsNameOf y seen) c.see.ensures c.in-Ok.ensures.named)
+
+pub add-requires-clause-fresh : goal.add-requires-clause-fresh
+add-requires-clause-fresh g c =
     let a = c.self.inside in
     let plan = g.J.PlanName.plan in
     let parts : Parts = record { states = a.attempts; store = a.entries; rows = map row_shown a.rows.items; hands = a.hands.items; clock = a.clock; latest = a.latest } in

@@ -29,6 +29,7 @@ const USAGE: &str = "bench MEASURE N..  prints a cost for each number N
   renewals  a renewal of all of N items with a rental each: milliseconds
   needs     all that it wants, asked for record by record and noted: nanoseconds a record
   fees      the same of a payment of N fees
+  looks     the same of each look, driven in order through a board and by a list of steps
   report    the result tables of N lines, by one thread and by all cores
   drive     nanoseconds a line of N lines, driven in order through a board, and of a whole run by one thread
 bench files POLICY BASE JOURNAL OUT  a whole run by one thread, from files to files: microseconds of its parts, peak memory";
@@ -42,6 +43,7 @@ enum Measure {
     Renewals,
     Needs,
     Fees,
+    Looks,
     Report,
     Drive,
 }
@@ -56,6 +58,7 @@ impl Measure {
             "renewals" => Some(Measure::Renewals),
             "needs" => Some(Measure::Needs),
             "fees" => Some(Measure::Fees),
+            "looks" => Some(Measure::Looks),
             "report" => Some(Measure::Report),
             "drive" => Some(Measure::Drive),
             _ => None,
@@ -74,6 +77,7 @@ impl Measure {
             Measure::Renewals => renewals::measure(rt, count as u64),
             Measure::Needs => renewals::measure_needs(rt, count as u64),
             Measure::Fees => renewals::measure_fees(rt, count as u64),
+            Measure::Looks => driving::measure_looks(rt, count as u64),
             Measure::Report => reporting::measure(rt, count),
             Measure::Drive => driving::measure(rt, count as u64),
         }

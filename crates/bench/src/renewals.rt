@@ -22,6 +22,24 @@ const PAYMENT: &str =
     "line,connection,request,response\n1,C1,3720260309    1200000100USDBV99999.99|AOL1|AAP1|,\n";
 
 fn planned(alloc: Global, journal: &str) -> Result<Plan> {
+    let patrons = bytes(alloc, b"id,name,class,blocked\n")?;
+    let fees = bytes(alloc, b"id,patron,type,amount,paid\n")?;
+    planned_over(alloc, journal, patrons, fees)
+}
+
+/// The plan of a payment over the tables of so many fees of a patron.
+pub(crate) fn owing(alloc: Global, count: u64) -> Result<Plan> {
+    let mut fees = String::new(alloc);
+    fees.push_str("id,patron,type,amount,paid\n")?;
+    for number in 0..count {
+        writeln!(fees, "F{number},P1,01,0.01,0.00")?;
+    }
+    let patrons = bytes(alloc, b"id,name,class,blocked\nP1,Ann,A,N\n")?;
+    planned_over(alloc, PAYMENT, patrons, fees.into_bytes())
+}
+
+/// The plan of a journal over these patrons and fees.
+fn planned_over(alloc: Global, journal: &str, patrons: Vec<u8>, fees: Vec<u8>) -> Result<Plan> {
     let Ok(policy) = Policy::read(alloc, POLICY.as_bytes()) else {
         bail!("the policy isn't read");
     };
@@ -29,10 +47,10 @@ fn planned(alloc: Global, journal: &str) -> Result<Plan> {
         bail!("the journal isn't read");
     };
     let tables = Tables {
-        patrons: bytes(alloc, b"id,name,class,blocked\n")?,
+        patrons,
         items: bytes(alloc, b"id,title,media,location,properties\n")?,
         loans: bytes(alloc, b"patron,item,due,renewals\n")?,
-        fees: bytes(alloc, b"id,patron,type,amount,paid\n")?,
+        fees,
         closed: bytes(alloc, b"id,patron,type,amount\n")?,
         holds: Vec::new(alloc),
     };

@@ -2,6 +2,7 @@ pub mod Base
 pub mod Changes
 pub mod Coherent
 pub mod FeeTypes
+pub mod IdLists
 pub mod Keys
 pub mod Laws
 pub mod MadeFees

@@ -150,6 +150,16 @@ impl Record {
             Record::Fee(fee) => Ok(Record::Fee(*fee)),
         }
     }
+
+    /// From now on its copies have the memory of its lists together with it.
+    pub fn share(&mut self)
+        ensures { self.new ≡ self.old }
+    {
+        if let Record::Patron(patron) = self {
+            patron.loans.share();
+            patron.fees.share();
+        }
+    }
 }
 
 /// A clone is the same record. So a whole map of records is copied as it is built, with no look-up.

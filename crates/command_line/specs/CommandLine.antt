@@ -40,10 +40,10 @@ sip_replay_line =
     (path_rule (codes "policy"))) (path_rule (codes "base"))) (path_rule (codes "journal")))
     (path_rule (codes "out"))) workers_rule) explain_rule
 
--- the number of workers: that of the text that clap reads, and 4 where there is none
-abbrev pub CountsWorkers : Option Text → ℕ → Type 0
-CountsWorkers None n = n ≡ 4
-CountsWorkers (Some t) n = IsNumeral 10 (without_leading_plus t)
+-- a number: that of the text that clap reads, and this one where there is none
+abbrev pub Counts : ℕ → Option Text → ℕ → Type 0
+Counts default None n = n ≡ default
+Counts default (Some t) n = IsNumeral 10 (without_leading_plus t)
     → digits_value 10 (without_leading_plus t) < 2 ^ 32
     → n ≡ digits_value 10 (without_leading_plus t)
 
@@ -58,7 +58,7 @@ pub record GivesOptions (rows : List Row) (o : Options) : Type 0 where
   pub base : Some (string_bytes o.base) ≡ first_of (codes "base") rows
   pub journal : Some (string_bytes o.journal) ≡ first_of (codes "journal") rows
   pub out : Some (string_bytes o.out) ≡ first_of (codes "out") rows
-  pub workers : CountsWorkers (one_of (codes "workers") rows) o.workers
+  pub workers : Counts 4 (one_of (codes "workers") rows) o.workers
   pub explain : Says (one_of (codes "explain") rows) o.explain
 
 -- an argument of this name that stands for itself

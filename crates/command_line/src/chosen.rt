@@ -1,4 +1,4 @@
-//! What the command line asks for.
+//! What the command lines ask for.
 
 /// The files and folders of a run, as the words name them, how many workers are wanted, and how much is told.
 pub struct Options {
@@ -25,6 +25,29 @@ impl Drop for Options {
             out: _,
             workers: _,
             explain: _,
+        } = self;
+    }
+}
+
+/// The files and folders of a page, as the words name them, and how much of them it shows.
+pub struct PageOptions {
+    /// The journal of the run, a CSV file.
+    pub journal: String,
+    /// The folder of the tables that the run began with.
+    pub base: String,
+    /// The folder that has the files of the run.
+    pub out: String,
+    /// How many wrong responses, and how many changes, are shown.
+    pub limit: u32,
+}
+
+impl Drop for PageOptions {
+    fn drop(self) {
+        let PageOptions {
+            journal: _,
+            base: _,
+            out: _,
+            limit: _,
         } = self;
     }
 }

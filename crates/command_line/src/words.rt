@@ -1,4 +1,4 @@
-//! The words of the command line, read by `clap`.
+//! The words of the command line of `sip_replay`, read by `clap`.
 ghost use Rattle.std.specs.Prelude.{◌≡◌, IfErr, IfOk, Some, codes, is_some, map, string_bytes, true};
 ghost use Rattle.clap.specs.Words.{app_of, first_value, found_of, matches_of};
 ghost use Rattle.clap.specs.Words.{rule_of, takes};
@@ -16,8 +16,8 @@ use std::convert::AsStr;
 
 const DEFAULT_WORKERS: u32 = 4;
 
-/// The version that the program tells of itself.
-const VERSION: &str = "0.1.0";
+/// The version that the programs tell of themselves.
+pub(crate) const VERSION: &str = "0.1.0";
 
 const ABOUT: &str =
     "Replays a journal of SIP2 messages over the tables of a library's circulation, and reports where \
@@ -83,7 +83,11 @@ pub fn options<S: AsStr>(alloc: Global, words: &[S]) -> Result<Options, Refusal>
 }
 
 /// The first value of `id`, copied.
-fn text_of(alloc: Global, matches: &ArgMatches<'_>, id: &str) -> Result<String, AllocError>
+pub(crate) fn text_of(
+    alloc: Global,
+    matches: &ArgMatches<'_>,
+    id: &str,
+) -> Result<String, AllocError>
     requires { is_some (first_value (found_of matches.now) id.now) ≡ true }
     ensures { IfOk result (λ s. Some (string_bytes s) ≡ first_value (found_of matches.now) id.now) }
 {
@@ -91,7 +95,7 @@ fn text_of(alloc: Global, matches: &ArgMatches<'_>, id: &str) -> Result<String, 
 }
 
 /// An argument that must be given and takes a path.
-fn path<'a>(alloc: Global, name: &'a str, value: &'a str, help: &'a str) -> Arg<'a>
+pub(crate) fn path<'a>(alloc: Global, name: &'a str, value: &'a str, help: &'a str) -> Arg<'a>
     ensures rule { rule_of result ≡ path_rule name.entry.now }
     ensures own { IsOwnArg name.entry.now result }
     ensures takes { TakesValue result }

@@ -3,12 +3,13 @@
 ghost use Rattle.std.specs.Prelude.{◌≡◌};
 ghost use Rattle.read_set.specs.Loans.{by_checkout, by_renew, due_for, charge_for, is_lent, lent_to};
 
+use crate::asked::Asked;
 use crate::fees::nothing;
 use crate::lists::is_same;
-use circ_policy::{Media, Policy};
+use circ_policy::Media;
 use circ_records::Loan;
 use read_set::{Article, LoanRequest};
-use sip_reader::{Amount, Checkout, Day, Id, Renew, Stamp};
+use sip_reader::{Amount, Checkout, Day, Id, Renew};
 
 /// The loan or the renewal for which a checkout asks: it is forced by no block Y or by BI Y, and BI Y makes it free.
 pub fn ask_checkout(request: &Checkout) -> LoanRequest
@@ -44,10 +45,11 @@ pub fn ask_renew(request: &Renew) -> LoanRequest
 
 /// The due day of the loan or renewal.
 #[tactic(auto, unfolding(read_set::specs::Loans::due_for))]
-pub fn due_of(policy: &Policy, a: &LoanRequest, date: Stamp, media: &Media) -> Day
-    ensures { result ≡ due_for policy.now a.now date media.now }
+pub fn due_of(asked: &Asked<'_>, media: &Media) -> Day
+    ensures { result ≡ due_for asked.now.policy.now asked.now.request asked.now.date media.now }
 {
-    let due = policy.due(date.day(), media);
+    let a = &asked.request;
+    let due = asked.policy.due(asked.date.day(), media);
     match a.given {
         Some(given) => { if a.forced { given } else { due } }
         None => due,

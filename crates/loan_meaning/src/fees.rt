@@ -8,6 +8,7 @@ ghost use Rattle.read_set.specs.Effects.{written};
 ghost use Rattle.read_set.specs.Fees.{rest_of, fee_made, with_fee, owing_verdict};
 ghost use Rattle.read_set.specs.Stops.{Follows};
 
+use crate::asked::Asked;
 use crate::lookup::read_after;
 use circ_records::{Fee, FeeType, Ids, Key, Record};
 use read_set::{Article, Draft, Member, Source, Stop, Verdict, known_fee};
@@ -134,19 +135,19 @@ fn owing(owes: u128, agreed: bool, member: &Member, article: &Article) -> Verdic
 /// The last tests of a loan and of a renewal. `sum` is what is known of the sum that is owed.
 #[tactic(auto, unfolding(crate::specs::Owing::owing_tests), using(read_set::proofs::Gaining::gains_none, read_set::proofs::Gaining::gains_first, read_set::proofs::Following::follow_wants))]
 pub fn test_owing<S: Source>(
-    alloc: Global,
-    source: &mut S,
+    asked: &Asked<'_>,
     writes: &Draft,
-    agreed: bool,
     member: &Member,
     article: &Article,
     sum: &mut Option<u128>,
+    source: &mut S,
 ) -> Result<Verdict, Stop>
     requires { IsKnown (S.has source.old) writes.now member.now.patron.fees sum.old }
-    ensures gives { Follows result (follow (S.has source.new) (owing_tests writes.now agreed member.now article.now)) }
-    ensures keeps { Gains (S.has source.old) (S.has source.new) (owing_tests writes.now agreed member.now article.now) }
+    ensures gives { Follows result (follow (S.has source.new) (owing_tests writes.now asked.now.request.agreed member.now article.now)) }
+    ensures keeps { Gains (S.has source.old) (S.has source.new) (owing_tests writes.now asked.now.request.agreed member.now article.now) }
     ensures known { OnOk result (IsKnown (S.has source.new) writes.now member.now.patron.fees sum.new) }
 {
-    let owes = owed_once(alloc, source, writes, member.patron.fees.as_slice(), sum)?;
-    Ok(owing(owes, agreed, member, article))
+    let fees = member.patron.fees.as_slice();
+    let owes = owed_once(asked.alloc, source, writes, fees, sum)?;
+    Ok(owing(owes, asked.request.agreed, member, article))
 }

@@ -1,14 +1,19 @@
 //! Checkout.
 
-ghost use Rattle.std.specs.Prelude.{◌≡◌, ◌&&◌, IfOk, OnOk, OnErr, Some};
-ghost use Rattle.loan_meaning.specs.Lending.{lending_tests, other_at, lending_of, lending_rule_by, lending_rule, checkout_rule_known, checkout_rule};
+ghost use Rattle.std.specs.Prelude.{◌≡◌, ◌&&◌, ◌∷◌, [], IfOk, OnOk, OnErr, Some};
+ghost use Rattle.circ_records.specs.declared.key.Key.TheVariants as keys;
+ghost use Rattle.circ_records.specs.declared.record.FeeType.TheVariants as fee_types;
+ghost use Rattle.circ_records.specs.declared.record.Record.TheVariants as records;
+ghost use Rattle.loan_meaning.specs.Lending.{lending_tests, other_at, lending_rule_by, lending_rule, checkout_rule_known, checkout_rule};
 ghost use Rattle.read_set.specs.Asks.{follow, Gains};
-ghost use Rattle.read_set.specs.Effects.{written};
+ghost use Rattle.read_set.specs.Effects.{written, ◌⊕◌};
+ghost use Rattle.read_set.specs.Fees.{fee_made};
 ghost use Rattle.read_set.specs.Ids.{without};
-ghost use Rattle.read_set.specs.Loans.{lent_to, freed, freed_by, lent, lent_list, lending_patron, lending_records, lending_writes, lending_made, checkout};
+ghost use Rattle.read_set.specs.Loans.{lent_to, freed, freed_by, lent, lent_list, lending_made, checkout};
 ghost use Rattle.read_set.specs.Maps.{Map, Agrees};
 ghost use Rattle.read_set.specs.Stops.{Follows};
 
+use crate::asked::{Asked, Line};
 use crate::asking::{ask_checkout, charge_of, due_of, has_lent_to, has_loan, loan_in, rental_in};
 use crate::fees::{list_fee, make_fee, test_owing};
 use crate::lists::{is_first_another, is_same, without, without_hold};
@@ -23,15 +28,15 @@ use std::alloc::{AllocError, Global};
 
 #[tactic(auto, unfolding(crate::specs::Lending::lending_tests), using(read_set::proofs::Gaining::gains_none, read_set::proofs::Gaining::gains_first))]
 fn test_lending<S: Source>(
-    alloc: Global,
-    a: &LoanRequest,
+    asked: &Asked<'_>,
     member: &Member,
     article: &Article,
     source: &mut S,
 ) -> Result<Verdict, Stop>
-    ensures gives { Follows result (follow (S.has source.new) (lending_tests a.now member.now article.now)) }
-    ensures keeps { Gains (S.has source.old) (S.has source.new) (lending_tests a.now member.now article.now) }
+    ensures gives { Follows result (follow (S.has source.new) (lending_tests asked.now.request member.now article.now)) }
+    ensures keeps { Gains (S.has source.old) (S.has source.new) (lending_tests asked.now.request member.now article.now) }
 {
+    let a = &asked.request;
     if a.forced {
         return Ok(Verdict::Made);
     }
@@ -50,35 +55,26 @@ fn test_lending<S: Source>(
     if member.class.max_loans as usize <= member.patron.loans.len() {
         return Ok(Verdict::Refused);
     }
-    test_owing(
-        alloc,
-        source,
-        &Draft::new(alloc),
-        a.agreed,
-        member,
-        article,
-        &mut None,
-    )
+    let writes = Draft::new(asked.alloc);
+    test_owing(asked, &writes, member, article, &mut None, source)
 }
 
 #[tactic(auto, using(read_set::proofs::Gaining::gains_none, read_set::proofs::Gaining::gains_first))]
 fn other_of<S: Source>(
-    alloc: Global,
-    policy: &Policy,
-    patron: &Id,
+    asked: &Asked<'_>,
     loan: Option<Loan>,
     source: &mut S,
 ) -> Result<Option<Member>, Stop>
-    ensures gives { Follows result (follow (S.has source.new) (other_at policy.now patron.now loan)) }
-    ensures keeps { Gains (S.has source.old) (S.has source.new) (other_at policy.now patron.now loan) }
+    ensures gives { Follows result (follow (S.has source.new) (other_at asked.now.policy.now asked.now.request.patron loan)) }
+    ensures keeps { Gains (S.has source.old) (S.has source.new) (other_at asked.now.policy.now asked.now.request.patron loan) }
 {
     let Some(loan) = loan else {
         return Ok(None);
     };
-    if is_same(&loan.patron, patron) {
+    if is_same(&loan.patron, &asked.request.patron) {
         return Ok(None);
     }
-    patron_of(alloc, policy, source, &loan.patron)
+    patron_of(asked.alloc, asked.policy, source, &loan.patron)
 }
 
 /// The other borrower's record, without the item among the loans. Without memory nothing is written.
@@ -156,143 +152,89 @@ fn list_loan(
     Ok(())
 }
 
-fn lend_to(
-    alloc: Global,
-    n: u64,
-    a: &LoanRequest,
-    charge: Amount,
-    loan: Option<Loan>,
-    member: Member,
-) -> Result<Patron, AllocError>
-    ensures { IfOk result (λ p. p ≡ lending_patron n a.now charge loan member.patron) }
-{
-    let mut patron = member.into_patron();
-    list_loan(alloc, a, loan, &mut patron.loans)?;
-    list_fee(n, 0, charge, &mut patron.fees)?;
-    Ok(patron)
-}
-
-/// The patron and the item are written after what is written already. Where memory runs out between the two, the patron
-/// stands alone: no clause says so, since the caller then drops all that is written.
-fn write_loan(
-    alloc: Global,
-    n: u64,
-    a: &LoanRequest,
-    due: Day,
-    charge: Amount,
-    member: Member,
-    article: Article,
-    writes: &mut Draft,
-) -> Result<(), AllocError>
-    ensures { OnOk result (writes.new ≡ written writes.old (lending_records n a.now due charge member article)) }
-{
-    let patron = lend_to(alloc, n, a, charge, loan_in(&article), member)?;
-    let item = lent_item(alloc, a, due, article)?;
-    writes.put(Key::Patron(a.patron), Record::Patron(patron))?;
-    writes.put(Key::Item(a.item), Record::Item(item))?;
-    Ok(())
-}
-
+/// The patron and the item are written after the other borrower, and the rental's fee last.
 fn write_lending(
-    alloc: Global,
-    n: u64,
-    a: &LoanRequest,
+    asked: &Asked<'_>,
     due: Day,
     charge: Amount,
-    member: Member,
+    patron: Patron,
     article: Article,
     other: Option<Member>,
 ) -> Result<Draft, AllocError>
-    ensures { IfOk result (λ w. w ≡ lending_writes n a.now due charge member article other) }
+    ensures { IfOk result (λ w. w ≡ [] ⊕ freed_by asked.now.request.item article.item.loan other ⊕ ((keys.Patron asked.now.request.patron, records.Patron patron) ∷ (keys.Item asked.now.request.item, records.Item (lent asked.now.request due article.item)) ∷ []) ⊕ fee_made asked.now.number 0 asked.now.request.patron fee_types.Rental charge) }
 {
+    let alloc = asked.alloc;
+    let n = asked.number;
+    let a = &asked.request;
     let mut writes = Draft::new(alloc);
     free_by(alloc, &a.item, loan_in(&article), other, &mut writes)?;
-    write_loan(alloc, n, a, due, charge, member, article, &mut writes)?;
+    let item = lent_item(alloc, a, due, article)?;
+    writes.put(Key::Patron(a.patron), Record::Patron(patron))?;
+    writes.put(Key::Item(a.item), Record::Item(item))?;
     make_fee(n, 0, a.patron, FeeType::Rental, charge, &mut writes)?;
     Ok(writes)
 }
 
 #[tactic(auto, unfolding(read_set::specs::Loans::lending_made))]
 fn make_loan(
-    alloc: Global,
-    policy: &Policy,
-    n: u64,
-    a: &LoanRequest,
-    date: Stamp,
+    asked: &Asked<'_>,
     member: Member,
     article: Article,
     other: Option<Member>,
 ) -> Result<Effect, AllocError>
-    ensures { IfOk result (λ e. e ≡ lending_made policy.now n a.now date member article other) }
+    ensures { IfOk result (λ e. e ≡ lending_made asked.now.policy.now asked.now.number asked.now.request asked.now.date member article other) }
 {
-    let due = due_of(policy, a, date, &article.media);
+    let alloc = asked.alloc;
+    let a = &asked.request;
+    let due = due_of(asked, &article.media);
     let charge = charge_of(a, &article.media);
-    let answer = tell_made(alloc, policy, a, date, &article, due, false, charge)?;
-    let writes = write_lending(alloc, n, a, due, charge, member, article, other)?;
+    let answer = tell_made(asked, &article, due, false, charge)?;
+    let mut patron = member.into_patron();
+    list_loan(alloc, a, loan_in(&article), &mut patron.loans)?;
+    list_fee(asked.number, 0, charge, &mut patron.fees)?;
+    let writes = write_lending(asked, due, charge, patron, article, other)?;
     Ok(Effect {
         writes: writes.finish(alloc)?,
         answer: Some(answer),
     })
 }
 
+/// Where the loan is made, the record of the other patron whose loan ends is read first.
 #[tactic(auto, unfolding(crate::specs::Lending::lending_of), using(read_set::proofs::Gaining::gains_none, read_set::proofs::Gaining::gains_first, read_set::proofs::Following::follow_wants))]
-fn lend_in_any_case<S: Source>(
-    alloc: Global,
-    policy: &Policy,
-    n: u64,
-    a: &LoanRequest,
-    date: Stamp,
-    member: Member,
-    article: Article,
-    source: &mut S,
-) -> Result<Effect, Stop>
-    ensures gives { Follows result (follow (S.has source.new) (lending_of policy.now n a.now date member article)) }
-    ensures keeps { Gains (S.has source.old) (S.has source.new) (lending_of policy.now n a.now date member article) }
-{
-    let loan = loan_in(&article);
-    let other = other_of(alloc, policy, &a.patron, loan, source)?;
-    Ok(make_loan(alloc, policy, n, a, date, member, article, other)?)
-}
-
-#[tactic(auto, using(read_set::proofs::Gaining::gains_none, read_set::proofs::Gaining::gains_first))]
 fn lend_by<S: Source>(
-    alloc: Global,
-    policy: &Policy,
-    n: u64,
-    a: &LoanRequest,
-    date: Stamp,
+    asked: &Asked<'_>,
     member: Member,
     article: Article,
     verdict: Verdict,
     source: &mut S,
 ) -> Result<Effect, Stop>
-    ensures gives { Follows result (follow (S.has source.new) (lending_rule_by policy.now n a.now date member article verdict)) }
-    ensures keeps { Gains (S.has source.old) (S.has source.new) (lending_rule_by policy.now n a.now date member article verdict) }
+    ensures gives { Follows result (follow (S.has source.new) (lending_rule_by asked.now.policy.now asked.now.number asked.now.request asked.now.date member article verdict)) }
+    ensures keeps { Gains (S.has source.old) (S.has source.new) (lending_rule_by asked.now.policy.now asked.now.number asked.now.request asked.now.date member article verdict) }
 {
     let rental = rental_in(&article);
     match verdict {
-        Verdict::Refused => Ok(refuse(alloc, policy, a, date, Some(article))?),
-        Verdict::Unpaid => Ok(refuse_for(alloc, policy, a, date, Some(article), rental)?),
-        Verdict::Made => lend_in_any_case(alloc, policy, n, a, date, member, article, source),
+        Verdict::Refused => Ok(refuse(asked, Some(article))?),
+        Verdict::Unpaid => Ok(refuse_for(asked, Some(article), rental)?),
+        Verdict::Made => {
+            let loan = loan_in(&article);
+            let other = other_of(asked, loan, source)?;
+            Ok(make_loan(asked, member, article, other)?)
+        }
     }
 }
 
 #[tactic(auto, unfolding(crate::specs::Lending::lending_rule), using(read_set::proofs::Gaining::gains_none, read_set::proofs::Gaining::gains_first, read_set::proofs::Following::follow_wants))]
 fn lend<S: Source>(
-    alloc: Global,
-    policy: &Policy,
-    n: u64,
-    a: &LoanRequest,
-    date: Stamp,
+    asked: &Asked<'_>,
     member: Member,
     article: Article,
     source: &mut S,
 ) -> Result<Effect, Stop>
-    ensures gives { Follows result (follow (S.has source.new) (lending_rule policy.now n a.now date member article)) }
-    ensures keeps { Gains (S.has source.old) (S.has source.new) (lending_rule policy.now n a.now date member article) }
+    ensures gives { Follows result (follow (S.has source.new) (lending_rule asked.now.policy.now asked.now.number asked.now.request asked.now.date member article)) }
+    ensures keeps { Gains (S.has source.old) (S.has source.new) (lending_rule asked.now.policy.now asked.now.number asked.now.request asked.now.date member article) }
 {
-    let verdict = test_lending(alloc, a, &member, &article, source)?;
-    lend_by(alloc, policy, n, a, date, member, article, verdict, source)
+    let verdict = test_lending(asked, &member, &article, source)?;
+    lend_by(asked, member, article, verdict, source)
 }
 
 /// Whether the item is renewed: it is on loan to the same patron, and the terminal allows it.
@@ -303,48 +245,35 @@ fn is_renewal(request: &Checkout, article: &Article) -> bool
 }
 
 #[tactic(auto, using(read_set::proofs::Gaining::gains_none, read_set::proofs::Gaining::gains_first))]
-fn lend_or_renew<S: Source>(
-    alloc: Global,
-    policy: &Policy,
-    n: u64,
-    request: &Checkout,
-    date: Stamp,
-    member: Member,
-    article: Article,
-    source: &mut S,
-) -> Result<Effect, Stop>
-    ensures gives { Follows result (follow (S.has source.new) (checkout_rule_known policy.now n request.now date (Some member) (Some article))) }
-    ensures keeps { Gains (S.has source.old) (S.has source.new) (checkout_rule_known policy.now n request.now date (Some member) (Some article)) }
-{
-    let a = ask_checkout(request);
-    if is_renewal(request, &article) {
-        renew_one(alloc, policy, n, &a, date, member, article, source)
-    } else {
-        lend(alloc, policy, n, &a, date, member, article, source)
-    }
-}
-
-#[tactic(auto, using(read_set::proofs::Gaining::gains_none, read_set::proofs::Gaining::gains_first))]
 fn lend_both<S: Source>(
-    alloc: Global,
-    policy: &Policy,
-    n: u64,
+    line: &Line<'_>,
     request: &Checkout,
-    date: Stamp,
     member: Option<Member>,
     article: Option<Article>,
     source: &mut S,
 ) -> Result<Effect, Stop>
-    ensures gives { Follows result (follow (S.has source.new) (checkout_rule_known policy.now n request.now date member article)) }
-    ensures keeps { Gains (S.has source.old) (S.has source.new) (checkout_rule_known policy.now n request.now date member article) }
+    ensures gives { Follows result (follow (S.has source.new) (checkout_rule_known line.now.policy.now line.now.number request.now line.now.date member article)) }
+    ensures keeps { Gains (S.has source.old) (S.has source.new) (checkout_rule_known line.now.policy.now line.now.number request.now line.now.date member article) }
 {
+    let a = ask_checkout(request);
+    let asked = Asked {
+        alloc: line.alloc,
+        policy: line.policy,
+        number: line.number,
+        date: line.date,
+        request: a,
+    };
     let Some(member) = member else {
-        return Ok(refuse(alloc, policy, &ask_checkout(request), date, article)?);
+        return Ok(refuse(&asked, article)?);
     };
     let Some(article) = article else {
-        return Ok(refuse(alloc, policy, &ask_checkout(request), date, None)?);
+        return Ok(refuse(&asked, None)?);
     };
-    lend_or_renew(alloc, policy, n, request, date, member, article, source)
+    if is_renewal(request, &article) {
+        renew_one(&asked, member, article, source)
+    } else {
+        lend(&asked, member, article, source)
+    }
 }
 
 /// A checkout (message 11) on line n.
@@ -363,5 +292,11 @@ pub fn check_out<S: Source>(
 {
     let member = patron_of(alloc, policy, source, &request.patron)?;
     let article = item_of(alloc, policy, source, &request.item)?;
-    lend_both(alloc, policy, n, request, date, member, article, source)
+    let line = Line {
+        alloc,
+        policy,
+        number: n,
+        date,
+    };
+    lend_both(&line, request, member, article, source)
 }

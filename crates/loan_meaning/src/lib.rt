@@ -3,6 +3,7 @@
 //! stands on it, puts all kinds together.
 #![tactic(auto)]
 
+mod asked;
 mod asking;
 mod fees;
 mod lending;

@@ -10,6 +10,7 @@ ghost use Rattle.read_set.specs.Fees.{with_fee};
 ghost use Rattle.read_set.specs.Maps.{Map, Agrees};
 ghost use Rattle.read_set.specs.Stops.{Follows};
 
+use crate::asked::Asked;
 use crate::asking::{ask_renew, charge_of, due_of, rental_in};
 use crate::fees::{has_amount, list_fee, make_fee, test_owing};
 use crate::lists::{has_queue, is_same};
@@ -42,23 +43,22 @@ fn renewals(loan: Option<Loan>) -> u32
 /// The tests of a renewal, after the writes so far. `sum` is what is known of the sum that is owed.
 #[tactic(auto, unfolding(crate::specs::Lending::renewal_tests), using(read_set::proofs::Gaining::gains_none, read_set::proofs::Gaining::gains_first))]
 pub fn test_renewal<S: Source>(
-    alloc: Global,
+    asked: &Asked<'_>,
     writes: &Draft,
-    a: &LoanRequest,
     member: &Member,
     article: &Article,
     sum: &mut Option<u128>,
     source: &mut S,
 ) -> Result<Verdict, Stop>
     requires { IsKnown (S.has source.old) writes.now member.now.patron.fees sum.old }
-    ensures gives { Follows result (follow (S.has source.new) (renewal_tests writes.now a.now member.now article.now)) }
-    ensures keeps { Gains (S.has source.old) (S.has source.new) (renewal_tests writes.now a.now member.now article.now) }
+    ensures gives { Follows result (follow (S.has source.new) (renewal_tests writes.now asked.now.request member.now article.now)) }
+    ensures keeps { Gains (S.has source.old) (S.has source.new) (renewal_tests writes.now asked.now.request member.now article.now) }
     ensures known { OnOk result (IsKnown (S.has source.new) writes.now member.now.patron.fees sum.new) }
 {
-    if !is_renewable(a, article.item.loan) {
+    if !is_renewable(&asked.request, article.item.loan) {
         return Ok(Verdict::Refused);
     }
-    if a.forced {
+    if asked.request.forced {
         return Ok(Verdict::Made);
     }
     if member.patron.blocked {
@@ -70,7 +70,7 @@ pub fn test_renewal<S: Source>(
     if member.class.max_renewals <= renewals(article.item.loan) {
         return Ok(Verdict::Refused);
     }
-    test_owing(alloc, source, writes, a.agreed, member, article, sum)
+    test_owing(asked, writes, member, article, sum, source)
 }
 
 fn renew_loan(due: Day, loan: Option<Loan>) -> Option<Loan>
@@ -126,106 +126,87 @@ fn charge_patron(
 }
 
 #[tactic(auto, unfolding(read_set::specs::Loans::renewal_made))]
-fn make_renewal(
-    alloc: Global,
-    policy: &Policy,
-    n: u64,
-    a: &LoanRequest,
-    date: Stamp,
-    member: Member,
-    article: Article,
-) -> Result<Effect, AllocError>
-    ensures { IfOk result (λ e. e ≡ renewal_made policy.now n a.now date member article) }
+fn make_renewal(asked: &Asked<'_>, member: Member, article: Article) -> Result<Effect, AllocError>
+    ensures { IfOk result (λ e. e ≡ renewal_made asked.now.policy.now asked.now.number asked.now.request asked.now.date member article) }
 {
-    let due = due_of(policy, a, date, &article.media);
-    let charge = charge_of(a, &article.media);
-    let answer = tell_made(alloc, policy, a, date, &article, due, true, charge)?;
-    let writes = write_renewal(alloc, n, a, due, charge, member, article)?;
+    let due = due_of(asked, &article.media);
+    let charge = charge_of(&asked.request, &article.media);
+    let answer = tell_made(asked, &article, due, true, charge)?;
+    let writes = write_renewal(asked, due, charge, member, article)?;
     Ok(Effect {
-        writes: writes.finish(alloc)?,
+        writes: writes.finish(asked.alloc)?,
         answer: Some(answer),
     })
 }
 
 fn write_renewal(
-    alloc: Global,
-    n: u64,
-    a: &LoanRequest,
+    asked: &Asked<'_>,
     due: Day,
     charge: Amount,
     member: Member,
     article: Article,
 ) -> Result<Draft, AllocError>
-    ensures { IfOk result (λ w. w ≡ renewal_writes n a.now due charge member article) }
+    ensures { IfOk result (λ w. w ≡ renewal_writes asked.now.number asked.now.request due charge member article) }
 {
-    let mut writes = Draft::new(alloc);
-    charge_patron(n, a.patron, charge, member, &mut writes)?;
-    writes.put(Key::Item(a.item), Record::Item(renew_loan_of(due, article)))?;
-    make_fee(n, 0, a.patron, FeeType::Rental, charge, &mut writes)?;
+    let n = asked.number;
+    let patron = asked.request.patron;
+    let item = renew_loan_of(due, article);
+    let mut writes = Draft::new(asked.alloc);
+    charge_patron(n, patron, charge, member, &mut writes)?;
+    writes.put(Key::Item(asked.request.item), Record::Item(item))?;
+    make_fee(n, 0, patron, FeeType::Rental, charge, &mut writes)?;
     Ok(writes)
 }
 
 fn renew_by(
-    alloc: Global,
-    policy: &Policy,
-    n: u64,
-    a: &LoanRequest,
-    date: Stamp,
+    asked: &Asked<'_>,
     member: Member,
     article: Article,
     verdict: Verdict,
 ) -> Result<Effect, AllocError>
-    ensures { IfOk result (λ e. e ≡ renewal_by policy.now n a.now date member article verdict) }
+    ensures { IfOk result (λ e. e ≡ renewal_by asked.now.policy.now asked.now.number asked.now.request asked.now.date member article verdict) }
 {
     let rental = rental_in(&article);
     match verdict {
-        Verdict::Refused => refuse(alloc, policy, a, date, Some(article)),
-        Verdict::Unpaid => refuse_for(alloc, policy, a, date, Some(article), rental),
-        Verdict::Made => make_renewal(alloc, policy, n, a, date, member, article),
+        Verdict::Refused => refuse(asked, Some(article)),
+        Verdict::Unpaid => refuse_for(asked, Some(article), rental),
+        Verdict::Made => make_renewal(asked, member, article),
     }
 }
 
 /// A renewal of a known item by a known patron.
 #[tactic(auto, unfolding(crate::specs::Lending::renewal_rule), using(read_set::proofs::Gaining::gains_none, read_set::proofs::Gaining::gains_first, read_set::proofs::Following::follow_wants))]
 pub fn renew_one<S: Source>(
-    alloc: Global,
-    policy: &Policy,
-    n: u64,
-    a: &LoanRequest,
-    date: Stamp,
+    asked: &Asked<'_>,
     member: Member,
     article: Article,
     source: &mut S,
 ) -> Result<Effect, Stop>
-    ensures gives { Follows result (follow (S.has source.new) (renewal_rule policy.now n a.now date member article)) }
-    ensures keeps { Gains (S.has source.old) (S.has source.new) (renewal_rule policy.now n a.now date member article) }
+    ensures gives { Follows result (follow (S.has source.new) (renewal_rule asked.now.policy.now asked.now.number asked.now.request asked.now.date member article)) }
+    ensures keeps { Gains (S.has source.old) (S.has source.new) (renewal_rule asked.now.policy.now asked.now.number asked.now.request asked.now.date member article) }
 {
-    let writes = Draft::new(alloc);
-    let verdict = test_renewal(alloc, &writes, a, &member, &article, &mut None, source)?;
-    Ok(renew_by(alloc, policy, n, a, date, member, article, verdict)?)
+    let writes = Draft::new(asked.alloc);
+    let verdict = test_renewal(asked, &writes, &member, &article, &mut None, source)?;
+    Ok(renew_by(asked, member, article, verdict)?)
 }
 
 #[tactic(auto, using(read_set::proofs::Gaining::gains_none, read_set::proofs::Gaining::gains_first))]
 fn renew_both<S: Source>(
-    alloc: Global,
-    policy: &Policy,
-    n: u64,
-    a: &LoanRequest,
-    date: Stamp,
+    asked: &Asked<'_>,
     member: Option<Member>,
     article: Option<Article>,
     source: &mut S,
 ) -> Result<Effect, Stop>
-    ensures gives { Follows result (follow (S.has source.new) (renew_rule_known policy.now n a.now date member article)) }
-    ensures keeps { Gains (S.has source.old) (S.has source.new) (renew_rule_known policy.now n a.now date member article) }
+    ensures gives { Follows result (follow (S.has source.new) (renew_rule_known asked.now.policy.now asked.now.number asked.now.request asked.now.date member article)) }
+    ensures keeps { Gains (S.has source.old) (S.has source.new) (renew_rule_known asked.now.policy.now asked.now.number asked.now.request asked.now.date member article) }
 {
     let Some(member) = member else {
-        return Ok(refuse(alloc, policy, a, date, article)?);
+        return Ok(refuse(asked, article)?);
     };
     let Some(article) = article else {
-        return Ok(refuse(alloc, policy, a, date, None)?);
+        return Ok(refuse(asked, None)?);
     };
-    renew_one(alloc, policy, n, a, date, member, article, source)
+    renew_one(asked, member, article, source)
 }
 
 /// A renewal (message 29) on line n.
@@ -245,5 +226,12 @@ pub fn renew_item<S: Source>(
     let member = patron_of(alloc, policy, source, &request.patron)?;
     let article = item_of(alloc, policy, source, &request.item)?;
     let a = ask_renew(request);
-    renew_both(alloc, policy, n, &a, date, member, article, source)
+    let asked = Asked {
+        alloc,
+        policy,
+        number: n,
+        date,
+        request: a,
+    };
+    renew_both(&asked, member, article, source)
 }

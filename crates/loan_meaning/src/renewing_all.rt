@@ -8,12 +8,13 @@ ghost use Rattle.loan_meaning.specs.RenewingAll.{turn_rule_known, turn_rule, tur
 ghost use Rattle.loan_meaning.specs.Sums.{Runs};
 ghost use Rattle.read_set.specs.Asks.{follow, Gains};
 ghost use Rattle.read_set.specs.Effects.{written};
-ghost use Rattle.read_set.specs.Fees.{fee_made, with_fee};
+ghost use Rattle.read_set.specs.Fees.{fee_made};
 ghost use Rattle.read_set.specs.Loans.{renewed};
 ghost use Rattle.read_set.specs.Maps.{Map, Agrees};
 ghost use Rattle.read_set.specs.RenewAlls.{by_renew_all, one_renewed, one_left, turn_by, none_renewed, renew_all_answer, all_renewed, renew_all};
 ghost use Rattle.read_set.specs.Stops.{Follows};
 
+use crate::asked::{Asked, Line};
 use crate::asking::{due_of, rental_in};
 use crate::fees::{has_amount, list_fee, make_fee};
 use crate::lookup::{patron_of, read_after};
@@ -46,26 +47,19 @@ fn ask_for(request: &RenewAll, item: Id) -> LoanRequest
 /// The renewed item and its fee. Where memory runs out between the two, the item stands alone: no clause says so, since the
 /// caller then drops all that is written.
 fn write_turn(
-    n: u64,
+    asked: &Asked<'_>,
     k: u64,
-    a: &LoanRequest,
     due: Day,
     rental: Amount,
     article: Article,
     writes: &mut Draft,
 ) -> Result<(), AllocError>
-    ensures { OnOk result (writes.new ≡ written (written writes.old ((keys.Item a.now.item, records.Item (renewed due article.item)) ∷ [])) (fee_made n k a.now.patron fee_types.Rental rental)) }
+    ensures { OnOk result (writes.new ≡ written (written writes.old ((keys.Item asked.now.request.item, records.Item (renewed due article.item)) ∷ [])) (fee_made asked.now.number k asked.now.request.patron fee_types.Rental rental)) }
 {
-    writes.put(Key::Item(a.item), Record::Item(renew_loan_of(due, article)))?;
-    make_fee(n, k, a.patron, FeeType::Rental, rental, writes)
-}
-
-fn charge_member(n: u64, k: u64, rental: Amount, member: Member) -> Result<Member, AllocError>
-    ensures { IfOk result (λ m. m ≡ record member { patron = record member.patron { fees = with_fee n k rental member.patron.fees } }) }
-{
-    let mut member = member;
-    list_fee(n, k, rental, &mut member.patron.fees)?;
-    Ok(member)
+    let n = asked.number;
+    let item = renew_loan_of(due, article);
+    writes.put(Key::Item(asked.request.item), Record::Item(item))?;
+    make_fee(n, k, asked.request.patron, FeeType::Rental, rental, writes)
 }
 
 fn count(made: u64, rental: Amount) -> u64
@@ -76,87 +70,52 @@ fn count(made: u64, rental: Amount) -> u64
     if has_amount(rental) { made + 1 } else { made }
 }
 
-fn renew_next(
-    policy: &Policy,
-    n: u64,
-    a: &LoanRequest,
-    date: Stamp,
-    article: Article,
-    done: Renewals,
-) -> Result<Renewals, AllocError>
+fn renew_next(asked: &Asked<'_>, article: Article, done: Renewals) -> Result<Renewals, AllocError>
     requires { done.made + 1 < 2 ^ 64 }
-    ensures value { IfOk result (λ next. next ≡ one_renewed policy.now n a.now date article done) }
+    ensures value { IfOk result (λ next. next ≡ one_renewed asked.now.policy.now asked.now.number asked.now.request asked.now.date article done) }
     ensures few { IfOk result (λ next. next.made ≤ done.made + 1) }
 {
-    let due = due_of(policy, a, date, &article.media);
+    let n = asked.number;
+    let due = due_of(asked, &article.media);
     let rental = rental_in(&article);
-    let Renewals {
-        mut writes,
-        member,
-        made,
-        mut renewed,
-        others,
-    } = done;
-    write_turn(n, made, a, due, rental, article, &mut writes)?;
-    let member = charge_member(n, made, rental, member)?;
-    renewed.push(a.item)?;
-    Ok(Renewals {
-        writes,
-        member,
-        made: count(made, rental),
-        renewed,
-        others,
-    })
+    let made = done.made;
+    let mut done = done;
+    write_turn(asked, made, due, rental, article, &mut done.writes)?;
+    list_fee(n, made, rental, &mut done.member.patron.fees)?;
+    done.renewed.push(asked.request.item)?;
+    done.made = count(made, rental);
+    Ok(done)
 }
 
 fn leave(item: Id, done: Renewals) -> Result<Renewals, AllocError>
     ensures value { IfOk result (λ next. next ≡ one_left item done) }
     ensures few { IfOk result (λ next. next.made ≤ done.made + 1) }
 {
-    let Renewals {
-        writes,
-        member,
-        made,
-        renewed,
-        mut others,
-    } = done;
-    others.push(item)?;
-    Ok(Renewals {
-        writes,
-        member,
-        made,
-        renewed,
-        others,
-    })
+    let mut done = done;
+    done.others.push(item)?;
+    Ok(done)
 }
 
 #[tactic(auto, unfolding(read_set::specs::RenewAlls::turn_by))]
 fn end_turn(
-    policy: &Policy,
-    n: u64,
-    a: &LoanRequest,
-    date: Stamp,
+    asked: &Asked<'_>,
     article: Article,
     done: Renewals,
     verdict: Verdict,
 ) -> Result<Renewals, AllocError>
     requires { done.made + 1 < 2 ^ 64 }
-    ensures value { IfOk result (λ next. next ≡ turn_by policy.now n a.now date article done verdict) }
+    ensures value { IfOk result (λ next. next ≡ turn_by asked.now.policy.now asked.now.number asked.now.request asked.now.date article done verdict) }
     ensures few { IfOk result (λ next. next.made ≤ done.made + 1) }
 {
     match verdict {
-        Verdict::Made => renew_next(policy, n, a, date, article, done),
-        Verdict::Refused | Verdict::Unpaid => leave(a.item, done),
+        Verdict::Made => renew_next(asked, article, done),
+        Verdict::Refused | Verdict::Unpaid => leave(asked.request.item, done),
     }
 }
 
 #[tactic(auto, using(read_set::proofs::Gaining::gains_none, read_set::proofs::Gaining::gains_first, read_set::proofs::Following::follow_wants))]
 fn turn_known<S: Source>(
-    alloc: Global,
-    policy: &Policy,
-    n: u64,
-    a: &LoanRequest,
-    date: Stamp,
+    asked: &Asked<'_>,
     done: Renewals,
     article: Article,
     fresh: bool,
@@ -164,25 +123,21 @@ fn turn_known<S: Source>(
     source: &mut S,
 ) -> Result<Renewals, Stop>
     requires small { done.made + 1 < 2 ^ 64 }
-    requires runs { Runs (S.has source.old) n fresh done sum.old }
-    ensures gives { Follows result (follow (S.has source.new) (turn_rule_known policy.now n a.now date done (Some article))) }
-    ensures keeps { Gains (S.has source.old) (S.has source.new) (turn_rule_known policy.now n a.now date done (Some article)) }
+    requires runs { Runs (S.has source.old) asked.now.number fresh done sum.old }
+    ensures gives { Follows result (follow (S.has source.new) (turn_rule_known asked.now.policy.now asked.now.number asked.now.request asked.now.date done (Some article))) }
+    ensures keeps { Gains (S.has source.old) (S.has source.new) (turn_rule_known asked.now.policy.now asked.now.number asked.now.request asked.now.date done (Some article)) }
     ensures few { IfOk result (λ next. next.made ≤ done.made + 1) }
-    ensures runs { IfOk result (λ next. Runs (S.has source.new) n fresh next sum.new) }
+    ensures runs { IfOk result (λ next. Runs (S.has source.new) asked.now.number fresh next sum.new) }
 {
-    let verdict = test_renewal(alloc, &done.writes, a, &done.member, &article, sum, source)?;
+    let verdict = test_renewal(asked, &done.writes, &done.member, &article, sum, source)?;
     let charge = charge_by(verdict, rental_in(&article));
     *sum = owed_with(fresh, charge, *sum);
-    Ok(end_turn(policy, n, a, date, article, done, verdict)?)
+    Ok(end_turn(asked, article, done, verdict)?)
 }
 
 #[tactic(auto, using(read_set::proofs::Gaining::gains_none, read_set::proofs::Gaining::gains_first))]
 fn turn_any<S: Source>(
-    alloc: Global,
-    policy: &Policy,
-    n: u64,
-    a: &LoanRequest,
-    date: Stamp,
+    asked: &Asked<'_>,
     done: Renewals,
     article: Option<Article>,
     fresh: bool,
@@ -190,41 +145,38 @@ fn turn_any<S: Source>(
     source: &mut S,
 ) -> Result<Renewals, Stop>
     requires small { done.made + 1 < 2 ^ 64 }
-    requires runs { Runs (S.has source.old) n fresh done sum.old }
-    ensures gives { Follows result (follow (S.has source.new) (turn_rule_known policy.now n a.now date done article)) }
-    ensures keeps { Gains (S.has source.old) (S.has source.new) (turn_rule_known policy.now n a.now date done article) }
+    requires runs { Runs (S.has source.old) asked.now.number fresh done sum.old }
+    ensures gives { Follows result (follow (S.has source.new) (turn_rule_known asked.now.policy.now asked.now.number asked.now.request asked.now.date done article)) }
+    ensures keeps { Gains (S.has source.old) (S.has source.new) (turn_rule_known asked.now.policy.now asked.now.number asked.now.request asked.now.date done article) }
     ensures few { IfOk result (λ next. next.made ≤ done.made + 1) }
-    ensures runs { IfOk result (λ next. Runs (S.has source.new) n fresh next sum.new) }
+    ensures runs { IfOk result (λ next. Runs (S.has source.new) asked.now.number fresh next sum.new) }
 {
     match article {
-        Some(article) => turn_known(alloc, policy, n, a, date, done, article, fresh, sum, source),
-        None => Ok(leave(a.item, done)?),
+        Some(article) => turn_known(asked, done, article, fresh, sum, source),
+        None => Ok(leave(asked.request.item, done)?),
     }
 }
 
 /// An item's turn, after the ones before it.
 #[tactic(auto, unfolding(crate::specs::RenewingAll::turn_rule), using(read_set::proofs::Gaining::gains_none, read_set::proofs::Gaining::gains_first, read_set::proofs::Following::follow_wants))]
 fn take_turn<S: Source>(
-    alloc: Global,
-    policy: &Policy,
-    n: u64,
-    a: &LoanRequest,
-    date: Stamp,
+    asked: &Asked<'_>,
     done: Renewals,
     fresh: bool,
     sum: &mut Option<u128>,
     source: &mut S,
 ) -> Result<Renewals, Stop>
     requires small { done.made + 1 < 2 ^ 64 }
-    requires runs { Runs (S.has source.old) n fresh done sum.old }
-    ensures gives { Follows result (follow (S.has source.new) (turn_rule policy.now n a.now date done)) }
-    ensures keeps { Gains (S.has source.old) (S.has source.new) (turn_rule policy.now n a.now date done) }
+    requires runs { Runs (S.has source.old) asked.now.number fresh done sum.old }
+    ensures gives { Follows result (follow (S.has source.new) (turn_rule asked.now.policy.now asked.now.number asked.now.request asked.now.date done)) }
+    ensures keeps { Gains (S.has source.old) (S.has source.new) (turn_rule asked.now.policy.now asked.now.number asked.now.request asked.now.date done) }
     ensures few { IfOk result (λ next. next.made ≤ done.made + 1) }
-    ensures runs { IfOk result (λ next. Runs (S.has source.new) n fresh next sum.new) }
+    ensures runs { IfOk result (λ next. Runs (S.has source.new) asked.now.number fresh next sum.new) }
 {
-    let found = read_after(alloc, source, &done.writes, &Key::Item(a.item))?;
-    let article = known_item(policy, found);
-    turn_any(alloc, policy, n, a, date, done, article, fresh, sum, source)
+    let key = Key::Item(asked.request.item);
+    let found = read_after(asked.alloc, source, &done.writes, &key)?;
+    let article = known_item(asked.policy, found);
+    turn_any(asked, done, article, fresh, sum, source)
 }
 
 fn begin(alloc: Global, member: Member) -> Renewals
@@ -242,34 +194,38 @@ fn begin(alloc: Global, member: Member) -> Renewals
 /// The items of a list, each after the ones before it.
 #[tactic(auto, using(read_set::proofs::Gaining::gains_none, read_set::proofs::Gaining::gains_first))]
 fn take_turns<S: Source>(
-    alloc: Global,
-    policy: &Policy,
-    n: u64,
+    line: &Line<'_>,
     request: &RenewAll,
-    date: Stamp,
     items: &[Id],
     member: Member,
     source: &mut S,
 ) -> Result<Renewals, Stop>
-    ensures gives { Follows result (follow (S.has source.new) (turns_rule policy.now n request.now date items.now (none_renewed member))) }
-    ensures keeps { Gains (S.has source.old) (S.has source.new) (turns_rule policy.now n request.now date items.now (none_renewed member)) }
+    ensures gives { Follows result (follow (S.has source.new) (turns_rule line.now.policy.now line.now.number request.now line.now.date items.now (none_renewed member))) }
+    ensures keeps { Gains (S.has source.old) (S.has source.new) (turns_rule line.now.policy.now line.now.number request.now line.now.date items.now (none_renewed member)) }
 {
-    let fresh = are_new(n, member.patron.fees.as_slice());
+    let fresh = are_new(line.number, member.patron.fees.as_slice());
     let mut sum = None;
-    let mut done = begin(alloc, member);
+    let mut done = begin(line.alloc, member);
     for item in items {
         let a = ask_for(request, *item);
-        done = take_turn(alloc, policy, n, &a, date, done, fresh, &mut sum, source)?;
+        let asked = Asked {
+            alloc: line.alloc,
+            policy: line.policy,
+            number: line.number,
+            date: line.date,
+            request: a,
+        };
+        done = take_turn(&asked, done, fresh, &mut sum, source)?;
     }
     Ok(done)
 }
 
-fn tell(policy: &Policy, date: Stamp, ok: bool, renewed: ItemIds, unrenewed: ItemIds) -> Answer
-    ensures { result ≡ renew_all_answer policy.now date ok renewed unrenewed }
+fn tell(line: &Line<'_>, ok: bool, renewed: ItemIds, unrenewed: ItemIds) -> Answer
+    ensures { result ≡ renew_all_answer line.now.policy.now line.now.date ok renewed unrenewed }
 {
     Answer::RenewAll(RenewAllAnswer {
-        date,
-        institution: policy.institution(),
+        date: line.date,
+        institution: line.policy.institution(),
         ok,
         renewed,
         unrenewed,
@@ -277,14 +233,8 @@ fn tell(policy: &Policy, date: Stamp, ok: bool, renewed: ItemIds, unrenewed: Ite
 }
 
 #[tactic(auto, unfolding(read_set::specs::RenewAlls::all_renewed))]
-fn finish(
-    alloc: Global,
-    policy: &Policy,
-    request: &RenewAll,
-    date: Stamp,
-    done: Renewals,
-) -> Result<Effect, AllocError>
-    ensures { IfOk result (λ e. e ≡ all_renewed policy.now request.now date done) }
+fn finish(line: &Line<'_>, request: &RenewAll, done: Renewals) -> Result<Effect, AllocError>
+    ensures { IfOk result (λ e. e ≡ all_renewed line.now.policy.now request.now line.now.date done) }
 {
     let Renewals {
         mut writes,
@@ -300,61 +250,41 @@ fn finish(
         )?;
     }
     Ok(Effect {
-        writes: writes.finish(alloc)?,
-        answer: Some(tell(policy, date, true, renewed, others)),
+        writes: writes.finish(line.alloc)?,
+        answer: Some(tell(line, true, renewed, others)),
     })
 }
 
 #[tactic(auto, using(read_set::proofs::Gaining::gains_none, read_set::proofs::Gaining::gains_first, read_set::proofs::Following::follow_wants))]
 fn renew_each<S: Source>(
-    alloc: Global,
-    policy: &Policy,
-    n: u64,
+    line: &Line<'_>,
     request: &RenewAll,
-    date: Stamp,
     member: Member,
     source: &mut S,
 ) -> Result<Effect, Stop>
-    ensures gives { Follows result (follow (S.has source.new) (renew_all_rule_known policy.now n request.now date (Some member))) }
-    ensures keeps { Gains (S.has source.old) (S.has source.new) (renew_all_rule_known policy.now n request.now date (Some member)) }
+    ensures gives { Follows result (follow (S.has source.new) (renew_all_rule_known line.now.policy.now line.now.number request.now line.now.date (Some member))) }
+    ensures keeps { Gains (S.has source.old) (S.has source.new) (renew_all_rule_known line.now.policy.now line.now.number request.now line.now.date (Some member)) }
 {
-    let items = member.patron.loans.copy(alloc)?;
-    let done = take_turns(
-        alloc,
-        policy,
-        n,
-        request,
-        date,
-        items.as_slice(),
-        member,
-        source,
-    )?;
-    Ok(finish(alloc, policy, request, date, done)?)
+    let items = member.patron.loans.copy(line.alloc)?;
+    let done = take_turns(line, request, items.as_slice(), member, source)?;
+    Ok(finish(line, request, done)?)
 }
 
 #[tactic(auto, using(read_set::proofs::Gaining::gains_none, read_set::proofs::Gaining::gains_first))]
 fn renew_any<S: Source>(
-    alloc: Global,
-    policy: &Policy,
-    n: u64,
+    line: &Line<'_>,
     request: &RenewAll,
-    date: Stamp,
     member: Option<Member>,
     source: &mut S,
 ) -> Result<Effect, Stop>
-    ensures gives { Follows result (follow (S.has source.new) (renew_all_rule_known policy.now n request.now date member)) }
-    ensures keeps { Gains (S.has source.old) (S.has source.new) (renew_all_rule_known policy.now n request.now date member) }
+    ensures gives { Follows result (follow (S.has source.new) (renew_all_rule_known line.now.policy.now line.now.number request.now line.now.date member)) }
+    ensures keeps { Gains (S.has source.old) (S.has source.new) (renew_all_rule_known line.now.policy.now line.now.number request.now line.now.date member) }
 {
     match member {
-        Some(member) => renew_each(alloc, policy, n, request, date, member, source),
+        Some(member) => renew_each(line, request, member, source),
         None => {
-            let none = tell(
-                policy,
-                date,
-                false,
-                ItemIds::new(alloc),
-                ItemIds::new(alloc),
-            );
+            let alloc = line.alloc;
+            let none = tell(line, false, ItemIds::new(alloc), ItemIds::new(alloc));
             Ok(Effect::unwritten(alloc, Some(none)))
         }
     }
@@ -375,5 +305,11 @@ pub fn renew_all<S: Source>(
     ensures keeps { Gains (S.has source.old) (S.has source.new) (renew_all_rule policy.now n request.now date) }
 {
     let member = patron_of(alloc, policy, source, &request.patron)?;
-    renew_any(alloc, policy, n, request, date, member, source)
+    let line = Line {
+        alloc,
+        policy,
+        number: n,
+        date,
+    };
+    renew_any(&line, request, member, source)
 }

@@ -8,6 +8,7 @@ ghost use Rattle.read_set.specs.Maps.{Map, Agrees};
 ghost use Rattle.read_set.specs.Returns.{returned_item, checkin_answer, day_back, lateness, returner, returned_by, returned_writes, returned, checked_in, loan_of, checkin};
 ghost use Rattle.read_set.specs.Stops.{Follows};
 
+use crate::asked::Line;
 use crate::asking::loan_in;
 use crate::fees::{list_fee, make_fee, nothing};
 use crate::lists::{has_queue, without};
@@ -19,12 +20,12 @@ use sip_answer::{Answer, CheckinAnswer, ReturnedItem};
 use sip_reader::{Amount, Checkin, Day, Id, Stamp};
 use std::alloc::{AllocError, Global};
 
-fn tell_unknown(policy: &Policy, request: &Checkin, date: Stamp) -> Answer
-    ensures { result ≡ checkin_answer policy.now request.now date None None }
+fn tell_unknown(line: &Line<'_>, request: &Checkin) -> Answer
+    ensures { result ≡ checkin_answer line.now.policy.now request.now line.now.date None None }
 {
     Answer::Checkin(CheckinAnswer {
-        date,
-        institution: policy.institution(),
+        date: line.date,
+        institution: line.policy.institution(),
         item: request.item,
         known: None,
         borrower: None,
@@ -44,20 +45,18 @@ fn show(alloc: Global, item: &Item) -> Result<ReturnedItem, AllocError>
 }
 
 fn tell(
-    alloc: Global,
-    policy: &Policy,
+    line: &Line<'_>,
     request: &Checkin,
-    date: Stamp,
     article: &Article,
     borrower: Option<Id>,
 ) -> Result<Answer, AllocError>
-    ensures { IfOk result (λ a. a ≡ checkin_answer policy.now request.now date (Some article.now.item) borrower) }
+    ensures { IfOk result (λ a. a ≡ checkin_answer line.now.policy.now request.now line.now.date (Some article.now.item) borrower) }
 {
     Ok(Answer::Checkin(CheckinAnswer {
-        date,
-        institution: policy.institution(),
+        date: line.date,
+        institution: line.policy.institution(),
         item: request.item,
-        known: Some(show(alloc, &article.item)?),
+        known: Some(show(line.alloc, &article.item)?),
         borrower,
         alert: has_queue(article.item.holds.as_slice()),
     }))
@@ -100,22 +99,21 @@ fn return_from(
 /// The borrower's record without the loan and with its late fee, and that fee. Where memory runs out between the two, the
 /// record stands alone: no clause says so, since the caller then drops all that is written.
 fn return_by(
-    alloc: Global,
-    n: u64,
+    line: &Line<'_>,
     item: &Id,
     borrower: Id,
     fee: Amount,
     member: Option<Member>,
     writes: &mut Draft,
 ) -> Result<(), AllocError>
-    ensures { OnOk result (writes.new ≡ written writes.old (returned_by n item.now borrower fee member)) }
+    ensures { OnOk result (writes.new ≡ written writes.old (returned_by line.now.number item.now borrower fee member)) }
 {
     let Some(member) = member else {
         return Ok(());
     };
-    let patron = return_from(alloc, n, item, fee, member)?;
+    let patron = return_from(line.alloc, line.number, item, fee, member)?;
     writes.put(Key::Patron(borrower), Record::Patron(patron))?;
-    make_fee(n, 0, borrower, FeeType::Overdue, fee, writes)
+    make_fee(line.number, 0, borrower, FeeType::Overdue, fee, writes)
 }
 
 fn unlent(article: Article) -> Item
@@ -127,82 +125,72 @@ fn unlent(article: Article) -> Item
 }
 
 fn write_return(
-    alloc: Global,
-    n: u64,
+    line: &Line<'_>,
     item: &Id,
     fee: Amount,
     article: Article,
     member: Option<Member>,
     loan: &Loan,
 ) -> Result<Draft, AllocError>
-    ensures { IfOk result (λ w. w ≡ returned_writes n item.now fee article member loan.now) }
+    ensures { IfOk result (λ w. w ≡ returned_writes line.now.number item.now fee article member loan.now) }
 {
-    let mut writes = Draft::new(alloc);
-    return_by(alloc, n, item, loan.patron, fee, member, &mut writes)?;
+    let mut writes = Draft::new(line.alloc);
+    return_by(line, item, loan.patron, fee, member, &mut writes)?;
     writes.put(Key::Item(*item), Record::Item(unlent(article)))?;
     Ok(writes)
 }
 
 fn end_loan(
-    alloc: Global,
-    policy: &Policy,
-    n: u64,
+    line: &Line<'_>,
     request: &Checkin,
-    date: Stamp,
     article: Article,
     loan: &Loan,
     member: Option<Member>,
 ) -> Result<Effect, AllocError>
-    ensures { IfOk result (λ e. e ≡ returned policy.now n request.now date article member (Some loan.now)) }
+    ensures { IfOk result (λ e. e ≡ returned line.now.policy.now line.now.number request.now line.now.date article member (Some loan.now)) }
 {
-    let answer = tell(alloc, policy, request, date, &article, Some(loan.patron))?;
-    let fee = lateness_of(request, date, loan, &article.media);
-    let writes = write_return(alloc, n, &request.item, fee, article, member, loan)?;
+    let answer = tell(line, request, &article, Some(loan.patron))?;
+    let fee = lateness_of(request, line.date, loan, &article.media);
+    let writes = write_return(line, &request.item, fee, article, member, loan)?;
     Ok(Effect {
-        writes: writes.finish(alloc)?,
+        writes: writes.finish(line.alloc)?,
         answer: Some(answer),
     })
 }
 
 fn end_any(
-    alloc: Global,
-    policy: &Policy,
-    n: u64,
+    line: &Line<'_>,
     request: &Checkin,
-    date: Stamp,
     article: Article,
     loan: Option<Loan>,
     member: Option<Member>,
 ) -> Result<Effect, AllocError>
-    ensures { IfOk result (λ e. e ≡ returned policy.now n request.now date article member loan) }
+    ensures { IfOk result (λ e. e ≡ returned line.now.policy.now line.now.number request.now line.now.date article member loan) }
 {
     match loan {
-        Some(loan) => end_loan(alloc, policy, n, request, date, article, &loan, member),
+        Some(loan) => end_loan(line, request, article, &loan, member),
         None => {
-            let answer = tell(alloc, policy, request, date, &article, None)?;
-            Ok(Effect::unwritten(alloc, Some(answer)))
+            let answer = tell(line, request, &article, None)?;
+            Ok(Effect::unwritten(line.alloc, Some(answer)))
         }
     }
 }
 
 #[tactic(auto, unfolding(read_set::specs::Returns::checked_in))]
 fn end(
-    alloc: Global,
-    policy: &Policy,
-    n: u64,
+    line: &Line<'_>,
     request: &Checkin,
-    date: Stamp,
     article: Option<Article>,
     member: Option<Member>,
 ) -> Result<Effect, AllocError>
-    ensures { IfOk result (λ e. e ≡ checked_in policy.now n request.now date article member) }
+    ensures { IfOk result (λ e. e ≡ checked_in line.now.policy.now line.now.number request.now line.now.date article member) }
 {
     let Some(article) = article else {
-        let answer = tell_unknown(policy, request, date);
-        return Ok(Effect::unwritten(alloc, Some(answer)));
+        let answer = tell_unknown(line, request);
+        return Ok(Effect::unwritten(line.alloc, Some(answer)));
     };
     let loan = loan_in(&article);
-    end_any(alloc, policy, n, request, date, article, loan, member)
+    end_any(line, request, article, loan, member)
 }
 
 fn any_loan(article: &Option<Article>) -> Option<Loan>
@@ -231,5 +219,11 @@ pub fn check_in<S: Source>(
     let article = item_of(alloc, policy, source, &request.item)?;
     let loan = any_loan(&article);
     let member = borrower_of(alloc, policy, source, loan)?;
-    Ok(end(alloc, policy, n, request, date, article, member)?)
+    let line = Line {
+        alloc,
+        policy,
+        number: n,
+        date,
+    };
+    Ok(end(&line, request, article, member)?)
 }

@@ -3,12 +3,12 @@
 ghost use Rattle.std.specs.Prelude.{◌≡◌, IfOk, Some};
 ghost use Rattle.read_set.specs.Loans.{known_item, told_rental, told_loan, by_kind, loan_answer, refused};
 
+use crate::asked::Asked;
 use crate::fees::{has_amount, nothing};
-use circ_policy::Policy;
 use circ_records::Item;
-use read_set::{Article, Effect, LoanRequest};
+use read_set::{Article, Effect};
 use sip_answer::{Answer, KnownItem, LoanAnswer};
-use sip_reader::{Amount, Day, Stamp};
+use sip_reader::{Amount, Day};
 use std::alloc::{AllocError, Global};
 
 fn show(alloc: Global, item: &Item) -> Result<KnownItem, AllocError>
@@ -32,27 +32,25 @@ fn tell_rental(rental: Amount) -> Option<Amount>
 }
 
 fn tell(
-    policy: &Policy,
-    a: &LoanRequest,
-    date: Stamp,
+    asked: &Asked<'_>,
     known: Option<KnownItem>,
     due: Option<Day>,
     renewed: bool,
     rental: Amount,
 ) -> LoanAnswer
-    ensures { result ≡ told_loan policy.now a.now date known due renewed rental }
+    ensures { result ≡ told_loan asked.now.policy.now asked.now.request asked.now.date known due renewed rental }
 {
     LoanAnswer {
-        date,
-        institution: policy.institution(),
-        patron: a.patron,
-        item: a.item,
+        date: asked.date,
+        institution: asked.policy.institution(),
+        patron: asked.request.patron,
+        item: asked.request.item,
         known,
         due,
-        due_form: policy.due_form(),
+        due_form: asked.policy.due_form(),
         renewed,
         rental: tell_rental(rental),
-        currency: policy.currency(),
+        currency: asked.policy.currency(),
     }
 }
 
@@ -68,51 +66,40 @@ fn answer(checkout: bool, told: LoanAnswer) -> Answer
 
 /// The answer to a loan or a renewal that is made.
 pub fn tell_made(
-    alloc: Global,
-    policy: &Policy,
-    a: &LoanRequest,
-    date: Stamp,
+    asked: &Asked<'_>,
     article: &Article,
     due: Day,
     renewed: bool,
     charge: Amount,
 ) -> Result<Answer, AllocError>
-    ensures { IfOk result (λ answer. answer ≡ loan_answer policy.now a.now date (Some article.now.item) (Some due) renewed charge) }
+    ensures { IfOk result (λ answer. answer ≡ loan_answer asked.now.policy.now asked.now.request asked.now.date (Some article.now.item) (Some due) renewed charge) }
 {
-    let known = show(alloc, &article.item)?;
-    let told = tell(policy, a, date, Some(known), Some(due), renewed, charge);
-    Ok(answer(a.checkout, told))
+    let known = show(asked.alloc, &article.item)?;
+    let told = tell(asked, Some(known), Some(due), renewed, charge);
+    Ok(answer(asked.request.checkout, told))
 }
 
 /// A refusal, which tells a rental where it is for one.
 #[tactic(auto, unfolding(read_set::specs::Loans::refused))]
 pub fn refuse_for(
-    alloc: Global,
-    policy: &Policy,
-    a: &LoanRequest,
-    date: Stamp,
+    asked: &Asked<'_>,
     article: Option<Article>,
     rental: Amount,
 ) -> Result<Effect, AllocError>
-    ensures { IfOk result (λ e. e ≡ refused policy.now a.now date article rental) }
+    ensures { IfOk result (λ e. e ≡ refused asked.now.policy.now asked.now.request asked.now.date article rental) }
 {
     let known = match article {
-        Some(article) => Some(show(alloc, &article.item)?),
+        Some(article) => Some(show(asked.alloc, &article.item)?),
         None => None,
     };
-    let told = tell(policy, a, date, known, None, false, rental);
-    Ok(Effect::unwritten(alloc, Some(answer(a.checkout, told))))
+    let told = tell(asked, known, None, false, rental);
+    let answer = answer(asked.request.checkout, told);
+    Ok(Effect::unwritten(asked.alloc, Some(answer)))
 }
 
 /// A refusal for something else than a rental.
-pub fn refuse(
-    alloc: Global,
-    policy: &Policy,
-    a: &LoanRequest,
-    date: Stamp,
-    article: Option<Article>,
-) -> Result<Effect, AllocError>
-    ensures { IfOk result (λ e. e ≡ refused policy.now a.now date article 0) }
+pub fn refuse(asked: &Asked<'_>, article: Option<Article>) -> Result<Effect, AllocError>
+    ensures { IfOk result (λ e. e ≡ refused asked.now.policy.now asked.now.request asked.now.date article 0) }
 {
-    refuse_for(alloc, policy, a, date, article, nothing())
+    refuse_for(asked, article, nothing())
 }

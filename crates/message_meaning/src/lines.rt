@@ -1,5 +1,5 @@
 ghost use Rattle.std.specs.Prelude.{◌≡◌, IfOk, IfErr};
-ghost use Rattle.message_meaning.specs.Rules.{rule, rule_of, rule_at};
+ghost use Rattle.message_meaning.specs.Rules.{rule_of, rule_at};
 ghost use Rattle.read_set.specs.Asks.{follow, Gains};
 ghost use Rattle.read_set.specs.Maps.{Map, Agrees};
 ghost use Rattle.read_set.specs.Replay.{GivesAt};
@@ -35,7 +35,7 @@ pub fn perform<S: Source>(
     follow_line(alloc, plan, line, source)
 }
 
-#[tactic(auto, unfolding(crate::specs::Rules::rule_at), using(read_set::proofs::Gaining::gains_none))]
+#[tactic(auto, unfolding(crate::specs::Rules::rule_at, crate::specs::Rules::rule), using(read_set::proofs::Gaining::gains_none))]
 fn follow_line<S: Source>(
     alloc: Global,
     plan: &Plan,
@@ -45,25 +45,11 @@ fn follow_line<S: Source>(
     ensures gives { Follows result (follow (S.has source.new) (rule_at plan.now line)) }
     ensures keeps { Gains (S.has source.old) (S.has source.new) (rule_at plan.now line) }
 {
-    match plan.reading(line) {
-        Some(reading) => follow_reading(alloc, plan.policy(), line, reading, source),
-        None => Ok(Effect::unwritten(alloc, None)),
-    }
-}
-
-#[tactic(auto, unfolding(crate::specs::Rules::rule), using(read_set::proofs::Gaining::gains_none))]
-fn follow_reading<S: Source>(
-    alloc: Global,
-    policy: &Policy,
-    line: u64,
-    reading: &Reading,
-    source: &mut S,
-) -> Result<Effect, Stop>
-    ensures gives { Follows result (follow (S.has source.new) (rule policy.now line reading.now)) }
-    ensures keeps { Gains (S.has source.old) (S.has source.new) (rule policy.now line reading.now) }
-{
+    let Some(reading) = plan.reading(line) else {
+        return Ok(Effect::unwritten(alloc, None));
+    };
     match reading {
-        Reading::Asked(request) => follow_request(alloc, policy, line, request, source),
+        Reading::Asked(request) => follow_request(alloc, plan.policy(), line, request, source),
         Reading::BadSum => Ok(Effect::unwritten(alloc, Some(Answer::Resend))),
         Reading::Passed(_) | Reading::Unread(_) => Ok(Effect::unwritten(alloc, None)),
     }

@@ -1,6 +1,6 @@
 //! A page, and how it is written.
 
-ghost use Rattle.std.specs.Prelude.{◌≡◌, ◌++◌, ◌∷◌, [], IfOk, OnOk};
+ghost use Rattle.std.specs.Prelude.{◌≡◌, ◌++◌, ◌∷◌, [], IfOk, OnOk, OnErr};
 ghost use Rattle.std.specs.List.{filter};
 ghost use Rattle.page_text.specs.Page.{is_mark, markup_of, written};
 
@@ -43,9 +43,10 @@ impl Page {
         }
     }
 
-    /// Adds markup, which is a constant of the program, and the text behind it.
+    /// Adds markup, which is a constant of the program, and the text behind it. Without memory the page stays as it was.
     pub fn add(&mut self, markup: &'static str, text: &[u8]) -> Result<(), AllocError>
-        ensures { OnOk result (self.new ≡ self.old ++ record { markup = markup.now; text = text.now } ∷ []) }
+        ensures ok { OnOk result (self.new ≡ self.old ++ record { markup = markup.now; text = text.now } ∷ []) }
+        ensures err { OnErr result (self.new ≡ self.old) }
     {
         let piece = Piece::new(self.alloc, markup, text)?;
         self.pieces.push(piece)?;

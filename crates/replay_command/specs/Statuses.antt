@@ -7,6 +7,7 @@ use Rattle.replay_command.specs.declared.stop.Stop.TheVariants as stops
 -- a run that was stopped: 2 where an input is refused (faults 1 to 7), else 3
 abbrev pub status_of : Stop → ℕ
 status_of (stops.Fault fault) = if nat_lt (fault_number fault) 8 then 2 else 3
+status_of (stops.Uneven fault row) = 2
 status_of (stops.File path) = 3
 status_of stops.Output = 3
 

@@ -4,6 +4,7 @@
 #![tactic(auto)]
 
 mod files;
+mod place;
 mod progress;
 mod remedy;
 mod replaying;

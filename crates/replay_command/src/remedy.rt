@@ -1,7 +1,7 @@
 //! What to do about what stopped a run, in words that need no knowledge of this program.
 
-ghost use Rattle.std.specs.Prelude.{◌≡◌};
-ghost use Rattle.replay_command.specs.Telling.{key_remedy, line_remedy, row_remedy};
+ghost use Rattle.std.specs.Prelude.{◌≡◌, Some, option_map};
+ghost use Rattle.replay_command.specs.Telling.{fault_remedy, key_remedy, line_remedy, remedy_of, row_remedy, told_of};
 
 use crate::stop::Stop;
 use circ_records::BaseRule;
@@ -19,6 +19,8 @@ pub struct Told<'a> {
 }
 
 impl fmt::Display for Told<'_> {
+    ghost output = { λ told. Some (told_of told.stop.now (option_map (λ o. o.now) told.asked)) };
+
     fn fmt<W: fmt::Write>(&self, f: &mut fmt::Formatter<W>) -> fmt::Result {
         let stop = self.stop;
         match self.asked {
@@ -36,10 +38,17 @@ struct Remedy<'a> {
 }
 
 impl fmt::Display for Remedy<'_> {
+    ghost output = { λ remedy. Some (remedy_of remedy.options.now remedy.stop.now) };
+
     fn fmt<W: fmt::Write>(&self, f: &mut fmt::Formatter<W>) -> fmt::Result {
         let options = self.options;
         match self.stop {
             Stop::Fault(fault) => write!(f, "{}", FaultRemedy { fault, options }),
+            Stop::Uneven { fault, row } => write!(
+                f,
+                "Row {row} below the first one has another number of fields. {}",
+                FaultRemedy { fault, options }
+            ),
             Stop::File(path) => write!(
                 f,
                 "{path}: see that it is there, that you may read or write it, and that the disk has room.\n"
@@ -57,6 +66,8 @@ struct FaultRemedy<'a> {
 }
 
 impl fmt::Display for FaultRemedy<'_> {
+    ghost output = { λ remedy. Some (fault_remedy remedy.options.now remedy.fault.now) };
+
     fn fmt<W: fmt::Write>(&self, f: &mut fmt::Formatter<W>) -> fmt::Result {
         let Options {
             policy,
@@ -74,7 +85,7 @@ impl fmt::Display for FaultRemedy<'_> {
                 "{policy}: this is no TOML. Each line is a key, = and a value; texts stand in double quotes. FORMATS.md, section 4, has an example.\n"
             ),
             Fault::PolicyRule { key } => {
-                write!(f, "{policy}: {key}: {}\n", key_remedy(key.as_str()))
+                write!(f, "{policy}: {key}: {}\n", KeyRemedy { key: key.as_str() })
             }
             Fault::BaseTable { table } => write!(
                 f,
@@ -83,7 +94,7 @@ impl fmt::Display for FaultRemedy<'_> {
             Fault::BaseRule { table, row, rule } => write!(
                 f,
                 "{base}/{table}.csv, row {row} below the header: {}\n",
-                row_remedy(*rule)
+                RowRemedy { rule: *rule }
             ),
             Fault::JournalTable => write!(
                 f,
@@ -93,7 +104,7 @@ impl fmt::Display for FaultRemedy<'_> {
                 write!(
                     f,
                     "{journal}, row {row} below the header: {}\n",
-                    line_remedy(*rule)
+                    LineRemedy { rule: *rule }
                 )
             }
             Fault::Attempts { line } => write!(
@@ -115,52 +126,98 @@ impl fmt::Display for FaultRemedy<'_> {
 }
 
 /// What to do about a row of a table, by the rule that it breaks.
-fn row_remedy(rule: BaseRule) -> &'static str
-    ensures { result.now ≡ row_remedy rule }
-{
-    match rule {
-        BaseRule::Text =>
-            "an id is empty or longer than 64 bytes, another text is longer than 1,024, or one holds a | or a line end. Clean it where you export it.",
-        BaseRule::Value =>
-            "a value has another form. Write blocked as Y or N, a due day as 20260316, renewals as a whole number, a type as 01 to 09, an amount as 1.50.",
-        BaseRule::Double =>
-            "its id came before (fees.csv and closed.csv share their ids; in holds.csv it is the item with the patron). Keep one of the two rows.",
-        BaseRule::Class =>
-            "the policy has no such class. Add [class.NAME] to the policy, or give the patron a class that is there.",
-        BaseRule::Media =>
-            "the policy has no such media type. Add [media.NNN] to the policy, or give the item a type that is there.",
-        BaseRule::Patron =>
-            "patrons.csv has no such patron. Export the patron too, or leave this row out.",
-        BaseRule::Item => "items.csv has no such item. Export the item too, or leave this row out.",
-        BaseRule::Lent =>
-            "an earlier row lends the same item. Find out who has it, and keep that row alone.",
-        BaseRule::Paid =>
-            "the fee is paid in full. Move it to closed.csv, without the last column.",
-        BaseRule::Number =>
-            "a line of this journal can make a fee with this id. Take tables from before the first line, or let the line numbers go on from the last journal.",
-        BaseRule::Borrower => "the patron has the item on loan. Leave this hold out.",
-        BaseRule::Queue =>
-            "9,999 patrons wait for the item already, and no queue is longer. Leave this row out.",
+#[derive(Clone, Copy)]
+struct RowRemedy {
+    rule: BaseRule,
+}
+
+impl fmt::Display for RowRemedy {
+    ghost output = { λ remedy. Some (row_remedy remedy.rule) };
+
+    fn fmt<W: fmt::Write>(&self, f: &mut fmt::Formatter<W>) -> fmt::Result {
+        match self.rule {
+            BaseRule::Text => f.write_str(
+                "an id is empty or longer than 64 bytes, another text is longer than 1,024, or one holds a | or a line end. Clean it where you export it.",
+            ),
+            BaseRule::Value => f.write_str(
+                "a value has another form. Write blocked as Y or N, a due day as 20260316, renewals as a whole number, a type as 01 to 09, an amount as 1.50.",
+            ),
+            BaseRule::Double => f.write_str(
+                "its id came before (fees.csv and closed.csv share their ids; in holds.csv it is the item with the patron). Keep one of the two rows.",
+            ),
+            BaseRule::Class => f.write_str(
+                "the policy has no such class. Add [class.NAME] to the policy, or give the patron a class that is there.",
+            ),
+            BaseRule::Media => f.write_str(
+                "the policy has no such media type. Add [media.NNN] to the policy, or give the item a type that is there.",
+            ),
+            BaseRule::Patron => f.write_str(
+                "patrons.csv has no such patron. Export the patron too, or leave this row out.",
+            ),
+            BaseRule::Item => f.write_str(
+                "items.csv has no such item. Export the item too, or leave this row out.",
+            ),
+            BaseRule::Lent => f.write_str(
+                "an earlier row lends the same item. Find out who has it, and keep that row alone.",
+            ),
+            BaseRule::Paid => f.write_str(
+                "the fee is paid in full. Move it to closed.csv, without the last column.",
+            ),
+            BaseRule::Number => f.write_str(
+                "a line of this journal can make a fee with this id. Take tables from before the first line, or let the line numbers go on from the last journal.",
+            ),
+            BaseRule::Borrower => f.write_str(
+                "the patron has the item on loan. Leave this hold out.",
+            ),
+            BaseRule::Queue => f.write_str(
+                "9,999 patrons wait for the item already, and no queue is longer. Leave this row out.",
+            ),
+        }
     }
 }
 
 /// What to do about a row of the journal, by the rule that it breaks.
-fn line_remedy(rule: JournalRule) -> &'static str
-    ensures { result.now ≡ line_remedy rule }
-{
-    match rule {
-        JournalRule::Lines =>
-            "a run takes 1,000,000 lines at most. Cut the journal, and give each part the tables that the part before it wrote.",
-        JournalRule::Number =>
-            "the line's number must be 1 to 9999999999, in digits without leading zeros.",
-        JournalRule::Sequence =>
-            "each number must be the one before plus one. Look for a line that is missing or stands twice.",
-        JournalRule::Connection =>
-            "the name of the connection is longer than 64 bytes. Give it a shorter one.",
+#[derive(Clone, Copy)]
+struct LineRemedy {
+    rule: JournalRule,
+}
+
+impl fmt::Display for LineRemedy {
+    ghost output = { λ remedy. Some (line_remedy remedy.rule) };
+
+    fn fmt<W: fmt::Write>(&self, f: &mut fmt::Formatter<W>) -> fmt::Result {
+        match self.rule {
+            JournalRule::Lines => f.write_str(
+                "a run takes 1,000,000 lines at most. Cut the journal, and give each part the tables that the part before it wrote.",
+            ),
+            JournalRule::Number => f.write_str(
+                "the line's number must be 1 to 9999999999, in digits without leading zeros.",
+            ),
+            JournalRule::Sequence => f.write_str(
+                "each number must be the one before plus one. Look for a line that is missing or stands twice.",
+            ),
+            JournalRule::Connection => f.write_str(
+                "the name of the connection is longer than 64 bytes. Give it a shorter one.",
+            ),
+        }
     }
 }
 
 /// What to do about a policy, by the key whose rule it breaks.
+#[derive(Clone, Copy)]
+struct KeyRemedy<'a> {
+    key: &'a str,
+}
+
+impl fmt::Display for KeyRemedy<'_> {
+    ghost output = { λ remedy. Some (key_remedy remedy.key.now) };
+
+    fn fmt<W: fmt::Write>(&self, f: &mut fmt::Formatter<W>) -> fmt::Result {
+        f.write_str(key_remedy(self.key))
+    }
+}
+
+/// Its words.
 #[tactic(auto, unfolding(crate::specs::Telling::key_remedy))]
 fn key_remedy(key: &str) -> &'static str
     ensures { result.now ≡ key_remedy key.now }

@@ -4,6 +4,7 @@ ghost use Rattle.std.specs.Prelude.{◌≡◌};
 ghost use Rattle.replay_command.specs.Statuses.{ended_status};
 
 use crate::files::{read_inputs, write_output};
+use crate::place::placed;
 use crate::progress::Progress;
 use crate::stop::{FAILED, REFUSED, Stop};
 use command_line::{Options, Refusal, options};
@@ -98,7 +99,10 @@ fn rewrite<R: Files + AllocGlobal + Threads + Wait + Sync + Clock + Eprint>(
 ) -> Result<Sizes, Stop> {
     let inputs = read_inputs(rt, options)?;
     progress.expect(inputs.journal.as_slice());
-    let output = rebuild(rt, rt.alloc(), &inputs, options.workers, progress)?;
+    let output = match rebuild(rt, rt.alloc(), &inputs, options.workers, progress) {
+        Ok(output) => output,
+        Err(fault) => return Err(placed(rt.alloc(), fault, &inputs)),
+    };
     write_output(rt, options.out.as_str(), &output)?;
     Ok(output.sizes)
 }

@@ -1,8 +1,9 @@
 //! What ends a run before its last line is printed, and the status that tells it.
 
-ghost use Rattle.std.specs.Prelude.{◌≡◌, Some};
+ghost use Rattle.std.specs.Prelude.{◌≡◌, OnOk, Some, option_map};
+ghost use Rattle.std.specs.Io.KnownBytes.{Appends};
 ghost use Rattle.replay_command.specs.Statuses.{status_of};
-ghost use Rattle.replay_command.specs.Telling.{line_of};
+ghost use Rattle.replay_command.specs.Telling.{line_of, told_of};
 
 use crate::remedy::Told;
 use command_line::Options;
@@ -25,6 +26,9 @@ const LAST_REFUSAL: u8 = 7;
 pub enum Stop {
     /// The replay gave no output.
     Fault(Fault),
+    /// A text is no table, which is this fault, since a row has another number of fields than the first one. So many rows
+    /// stand before it.
+    Uneven { fault: Fault, row: u64 },
     /// The file of this path can't be read or written.
     File(String),
     /// Standard output takes nothing more.
@@ -38,6 +42,7 @@ impl fmt::Display for Stop {
     fn fmt<W: fmt::Write>(&self, f: &mut fmt::Formatter<W>) -> fmt::Result {
         match self {
             Stop::Fault(fault) => write!(f, "fault {}: {fault}\n", fault.number()),
+            Stop::Uneven { fault, .. } => write!(f, "fault {}: {fault}\n", fault.number()),
             Stop::File(path) => write!(f, "file: {path}\n"),
             Stop::Output => f.write_str(""),
         }
@@ -47,12 +52,6 @@ impl fmt::Display for Stop {
 impl From<AllocError> for Stop {
     fn from(_error: AllocError) -> Stop {
         Stop::Fault(Fault::Memory)
-    }
-}
-
-impl From<Fault> for Stop {
-    fn from(fault: Fault) -> Stop {
-        Stop::Fault(fault)
     }
 }
 
@@ -73,8 +72,14 @@ impl Stop {
     pub fn tell<E: Write>(&self, asked: Option<&Options>, err: &mut E) -> u8
         ensures { result ≡ status_of self.now }
     {
-        let _ = write!(err, "{}", Told { stop: self, asked });
+        let _ = self.print(asked, err);
         self.status()
+    }
+
+    fn print<E: Write>(&self, asked: Option<&Options>, err: &mut E) -> io::Result<()>
+        ensures { OnOk result (Appends (E.contents err.old) (E.contents err.new) (told_of self.now (option_map (λ o. o.now) asked.entry))) }
+    {
+        write!(err, "{}", Told { stop: self, asked })
     }
 
     fn status(&self) -> u8
@@ -82,6 +87,7 @@ impl Stop {
     {
         match self {
             Stop::Fault(fault) if fault.number() <= LAST_REFUSAL => REFUSED,
+            Stop::Uneven { .. } => REFUSED,
             _ => FAILED,
         }
     }

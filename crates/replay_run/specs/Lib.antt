@@ -5,5 +5,6 @@ pub mod Faults
 pub mod Judged
 pub mod Judging
 pub mod OneThread
+pub mod OwnEnd
 pub mod BySteps
 pub mod ByWorkers

@@ -17,12 +17,13 @@ use crate::fault::Fault;
 use crate::inputs::{Inputs, Output};
 use crate::judged::Judged;
 use crate::run::judge_parallel;
-use circ_records::write_records;
+use circ_records::{Records, write_records};
 use journal_table::Journal;
 use read_set::{Plan, PlanName};
 use result_report::{Outcome, collect, report_parallel};
 use speculate::{Board, Finished};
 use std::alloc::{AllocError, Global};
+use std::collections::BTreeMap;
 use std::marker::Brand;
 use std::sync::Wait;
 use std::thread::Threads;
@@ -141,14 +142,26 @@ fn write_parallel<R: Threads + Sync>(
     ensures each_once { IfOk result (λ o. o.sizes.answered + o.sizes.passed ≡ length journal.now) }
     ensures attempts { IfOk result (λ o. o.attempts.items ≡ outcome.entry.attempts.items) }
 {
-    let tables = write_records(alloc, &outcome.records)?;
-    let texts = report_parallel(rt, alloc, journal, plan, &outcome)?;
+    let Outcome {
+        records,
+        answers,
+        attempts,
+    } = outcome;
+    let tables = write_records(alloc, &records)?;
+    // their memory is wanted for the texts
+    drop(records);
+    let told = Outcome {
+        records: Records::from_map(BTreeMap::new(alloc)),
+        answers,
+        attempts,
+    };
+    let texts = report_parallel(rt, alloc, journal, plan, &told)?;
     Ok(Output {
         tables,
         answers: texts.answers,
         report: texts.report,
         passed: texts.passed,
         sizes: texts.sizes,
-        attempts: outcome.attempts,
+        attempts: told.attempts,
     })
 }

@@ -11,6 +11,9 @@ use std::convert::AsStr;
 /// The greatest number that a row of a journal has.
 pub const LAST_NUMBER: u64 = 9_999_999_999;
 
+/// The version that the program tells of itself.
+const VERSION: &str = "0.1.0";
+
 const ABOUT: &str =
     "Makes a journal for sip_replay from a server's log: each request with the response to it";
 
@@ -143,6 +146,7 @@ fn command<'a>(alloc: Global) -> Result<Command<'a>, AllocError> {
         .required(true)
         .help("The logs, in the order in which they were written");
     Command::new(alloc, "sip_journal")
+        .version(VERSION)
         .about(ABOUT)
         .after_help(AFTER_HELP)
         .arg(option(alloc, "preset", "NAME", PRESET_HELP))?

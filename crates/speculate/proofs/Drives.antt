@@ -1,14 +1,14 @@
 -- The board's replies while a line is run alone, and the steps that were made.
-use Rattle.std.proofs.Common.{◌≡◌, ◌≢◌, ℕ, suc, ◌+◌, ◌-◌, ◌<◌, List, [], ◌∷◌, ◌++◌, Option, Some, None, Result, Ok, Err, length, replicate, inl, inr, zero, refl, sym, ap, subst, ◌∙◌, arith, option_map, cond, true, false, Bool}
+use Rattle.std.proofs.Common.{◌≡◌, ◌≢◌, ℕ, suc, ◌+◌, ◌-◌, ◌<◌, List, [], ◌∷◌, ◌++◌, Option, Some, None, Result, Ok, Err, length, replicate, inl, inr, zero, refl, sym, ap, subst, ◌∙◌, arith, option_map, cond, get_or, map, take, true, false, Bool}
 use Rattle.std.specs.BTreeMap.{is_at}
 use Rattle.std.specs.FinMap.{get-empty}
 use Rattle.std.proofs.lemmas.Bool.{cases_lt}
-use Rattle.std.proofs.lemmas.List.{get_or-replicate, get_or_past, length-replicate}
+use Rattle.std.proofs.lemmas.List.{get_or-replicate, get_or_past, length-replicate, take_more}
 use Rattle.std.proofs.lemmas.Option.{none-some, same_Some}
 use Rattle.circ_records.specs.Keys.{key_cmp}
 use Rattle.circ_records.specs.declared.key.Key.{Key}
 use Rattle.message_meaning.specs.Needs.{IsNeed}
-use Rattle.read_set.specs.Notes.{note_of, noted}
+use Rattle.read_set.specs.Notes.{note_of, noted, IsOnceEach}
 use Rattle.read_set.specs.Plans.{Planned}
 use Rattle.read_set.specs.Settling.{Told}
 use Rattle.read_set.specs.declared.notes.Name.{Name}
@@ -35,6 +35,7 @@ use Rattle.board_lines.specs.declared.reply.Reply.{Reply as CodeReply}
 use Rattle.board_lines.specs.declared.reply.Reply.TheVariants as replies
 use Rattle.speculate.specs.declared.steps.BoardFault.{BoardFault}
 use Rattle.speculate.specs.declared.steps.BoardFault.TheVariants as faults
+use Rattle.read_set.proofs.Keeping.{fresh-at}
 use Rattle.speculate.proofs.Phases.{check_never_changes, check_never_idle, check_never_spent, commit_never_idle, commit_never_later, look_goes, look_never_idle, look_never_stops, publish_never_idle, publish_no_stranger, take_never, take_never_idle}
 use Rattle.speculate.proofs.Plays.{CallEnds, call_ends}
 
@@ -97,6 +98,36 @@ none_noted_so (Some x) e = absurd (cc)
 
 pub wanted_none : (notes : List Note) (k : Key) → noted notes k ≡ None → note_of notes k ≡ None
 wanted_none notes k e = none_noted_so (note_of notes k) e
+
+none_cons : (b : Bool) (x : Note) (rest : Option Note) → b ≡ false → rest ≡ None → cond b (Some x) rest ≡ None
+none_cons true x rest e r = absurd (cc)
+none_cons false x rest e r = r
+
+-- whether a key is noted is a matter of the keys alone
+pub none_by_keys : (a b : List Note) (k : Key) → map (λ (n : Note). n.key) a ≡ map (λ (n : Note). n.key) b → note_of a k ≡ None → note_of b k ≡ None
+none_by_keys a [] k e h = refl
+none_by_keys [] (n ∷ b) k e h = absurd (cc)
+none_by_keys (m ∷ a) (n ∷ b) k e h =
+    let head : m.key ≡ n.key = cc in
+    let tail : map (λ (x : Note). x.key) a ≡ map (λ (x : Note). x.key) b = cc in
+    let p = none_before (is_at (key_cmp k) m.key) m (note_of a k) h in
+    none_cons (is_at (key_cmp k) n.key) n (note_of b k) (sym (ap (λ (q : Key). is_at (key_cmp k) q) head) ∙ p.0) (none_by_keys a b k tail p.1)
+
+pub keys_more : (notes : List Note) (x : Note) → map (λ (n : Note). n.key) (notes ++ x ∷ []) ≡ map (λ (n : Note). n.key) notes ++ x.key ∷ []
+keys_more [] x = refl
+keys_more (n ∷ notes) x = ap (λ (ks : List Key). n.key ∷ ks) (keys_more notes x)
+
+-- the next key of a list in which each stands once, where those before it are noted
+pub next_unnoted : (notes asked : List Note) (i : ℕ) (x : Note) → map (λ (n : Note). n.key) notes ≡ map (λ (n : Note). n.key) (take i asked) → IsOnceEach asked → i < length asked → x ≡ get_or asked i x
+    → noted notes x.key ≡ None
+next_unnoted notes asked i x e once lt at =
+    ap (λ (o : Option Note). option_map (λ (n : Note). n.found) o) (none_by_keys (take i asked) notes x.key (sym e) (fresh-at asked i x once lt at))
+
+-- and the keys with it
+pub next_keys : (asked : List Note) (i : ℕ) (x : Note) → i < length asked → x ≡ get_or asked i x → map (λ (n : Note). n.key) (take (i + 1) asked) ≡ map (λ (n : Note). n.key) (take i asked) ++ x.key ∷ []
+next_keys asked i x lt at =
+    ap (λ (ns : List Note). map (λ (n : Note). n.key) ns) (take_more asked i x lt ∙ ap (λ (v : Note). take i asked ++ v ∷ []) (sym at))
+    ∙ keys_more (take i asked) x
 
 pub look_seen : {J : Type 0} (plan : Planned) (b new : Board) (line : ℕ) (notes : List Note) (k : Key) (name : Name) (place : Option (Place J)) → Reads plan b line notes → Answers plan b (Look 0 k) (replies.Seen name place) new
     → Reads plan new line (notes ++ record { key = k; name = name; found = found_by plan.base k (option_map told_at place) } ∷ [])

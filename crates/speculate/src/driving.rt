@@ -1,10 +1,9 @@
 //! The lines of a board, one after another in the order of the journal.
 
-ghost use Rattle.std.specs.Prelude.{◌≡◌, ◌+◌, [], suc, IfErr, IfOk, OnOk, length};
+ghost use Rattle.std.specs.Prelude.{◌≡◌, ◌+◌, ◌++◌, ◌∷◌, [], None, suc, IfErr, IfOk, OnOk, length, map};
 ghost use Rattle.board_steps.specs.Board.{IsLine};
 ghost use Rattle.board_steps.specs.Steps.Call.{Publish};
-ghost use Rattle.read_set.specs.Notes.{noted};
-ghost use Rattle.read_set.specs.Wanted.{Wanted};
+ghost use Rattle.read_set.specs.Notes.{noted, IsOnceEach};
 ghost use Rattle.speculate.specs.Driving.{IsDriven, IsNew, MayStop, RunsTo};
 ghost use Rattle.speculate.specs.Playing.{HasRunning};
 ghost use Rattle.board_lines.specs.Notes.{told_at};
@@ -15,15 +14,15 @@ use crate::board::{Board, lines_of};
 use crate::playing::{put, settled_if_done};
 use crate::steps::BoardFault;
 use board_lines::{Reply, copied, record_seen};
-use circ_records::Key;
-use message_meaning::need;
-use read_set::{Need, Note, Notes, PlanName, Version};
-use std::alloc::Global;
+use circ_records::{Key, Record};
+use message_meaning::{need, perform};
+use read_set::{Looks, Name, Need, Note, Notes, Noting, PlanName, Stop, Version};
+use std::alloc::{AllocError, Global};
 use std::sync::Wait;
 use version_store::{Place, VersionTable};
 
 /// Runs each line of a new board once, in the order of the journal, and commits it before the next begins. Worker 0 does it.
-pub fn drive_in_order<'t, J: PlanName, R: Wait>(
+pub fn drive_in_order<'t, J: PlanName + 'static, R: Wait>(
     rt: &R,
     alloc: Global,
     table: &'t VersionTable<J>,
@@ -44,7 +43,7 @@ pub fn drive_in_order<'t, J: PlanName, R: Wait>(
 }
 
 /// Runs the next line, and commits it.
-fn drive_line<'t, J: PlanName, R: Wait>(
+fn drive_line<'t, J: PlanName + 'static, R: Wait>(
     rt: &R,
     alloc: Global,
     table: &'t VersionTable<J>,
@@ -78,8 +77,9 @@ fn take_line<J: PlanName>(board: &mut Board<'_, '_, J>, line: u64)
     };
 }
 
-/// Looks at all that a line wants: its version.
-fn read_line<J: PlanName>(
+/// Looks at all that a line wants: its version. What the rule will ask for is foreseen, so the rule is followed twice, and not
+/// from its beginning at each look.
+fn read_line<J: PlanName + 'static>(
     alloc: Global,
     board: &mut Board<'_, '_, J>,
     line: u64,
@@ -91,7 +91,8 @@ fn read_line<J: PlanName>(
     ensures fault { IfErr result (MayStop J.plan board.new) }
 {
     let plan = board.plan();
-    let mut notes = Notes::new(alloc);
+    let asked = foreseen(alloc, board, line)?;
+    let mut notes = look_at_each(alloc, board, line, asked.as_slice())?;
     'keys: loop {
         // A usize counts them, so this ends.
         let _count = notes.as_slice().len();
@@ -104,7 +105,62 @@ fn read_line<J: PlanName>(
     }
 }
 
-/// Looks at a key that a line wants, and notes what was seen.
+/// The records for which the rule of a line asks, in its order, as they stand past the last line: those that the line will see,
+/// where none above it has an entry. Their names aren't told. Nothing rests on them but how often the rule is followed.
+fn foreseen<J: PlanName + 'static>(
+    alloc: Global,
+    board: &Board<'_, '_, J>,
+    line: u64,
+) -> Result<Notes, AllocError> {
+    let mut source = Noting {
+        notes: Notes::new(alloc),
+        looks: PastAll { board },
+    };
+    match perform(alloc, board.plan(), line, &mut source) {
+        Err(Stop::Memory) => Err(AllocError),
+        _ => Ok(source.notes),
+    }
+}
+
+/// Where the records stand past the last line.
+#[derive(Drop)]
+struct PastAll<'b, 'p, 't, J: PlanName> {
+    board: &'b Board<'p, 't, J>,
+}
+
+impl<J: PlanName> Looks for PastAll<'_, '_, '_, J> {
+    fn look(
+        &mut self,
+        alloc: Global,
+        key: &Key,
+    ) -> Result<Option<(Name, Option<Record>)>, AllocError> {
+        let found = copied(alloc, self.board.value_of(key))?;
+        // (a rule doesn't ask whose it is)
+        Ok(Some((Name::Base, found)))
+    }
+}
+
+/// Looks at each of these keys, and notes what was seen.
+fn look_at_each<J: PlanName>(
+    alloc: Global,
+    board: &mut Board<'_, '_, J>,
+    line: u64,
+    asked: &[Note],
+) -> Result<Notes, BoardFault>
+    requires reads { Reads J.plan board.old line [] }
+    requires once { IsOnceEach asked.now }
+    ensures reads { IfOk result (λ notes. Reads J.plan board.new line notes) }
+    ensures led { RunsTo J.plan board.old board.new }
+    ensures fault { IfErr result (MayStop J.plan board.new) }
+{
+    let mut notes = Notes::new(alloc);
+    for note in asked {
+        look_at(alloc, board, line, &note.key, &mut notes)?;
+    }
+    Ok(notes)
+}
+
+/// Looks at a key that isn't noted, and notes what was seen.
 fn look_at<J: PlanName>(
     alloc: Global,
     board: &mut Board<'_, '_, J>,
@@ -113,9 +169,10 @@ fn look_at<J: PlanName>(
     notes: &mut Notes,
 ) -> Result<(), BoardFault>
     requires reads { Reads J.plan board.old line notes.old }
-    requires wanted { Wanted J.plan line (noted notes.old) key.now }
+    requires fresh { noted notes.old key.now ≡ None }
     ensures reads { OnOk result (Reads J.plan board.new line notes.new) }
     ensures more { OnOk result (length notes.new ≡ suc (length notes.old)) }
+    ensures keys { OnOk result (map (λ n. n.key) notes.new ≡ map (λ n. n.key) notes.old ++ key.now ∷ []) }
     ensures led { RunsTo J.plan board.old board.new }
     ensures fault { IfErr result (MayStop J.plan board.new) }
 {

@@ -7,14 +7,19 @@ use read_set::{PlanName, Version};
 use std::alloc::{AllocError, Global};
 use std::sync::Wait;
 
-/// The versions that were made. None is changed or leaves before the table does.
+/// The versions that were made. None is changed or leaves before the table does. Each has memory of its own: the vector makes
+/// room for up to twice as many as there are, and writes to all of it, so what stands there is to be small.
 pub struct VersionTable<J: PlanName> {
-    versions: Vec<Version<J>>,
+    versions: Vec<Box<Version<J>>>,
+    alloc: Global,
 }
 
 impl<J: PlanName> Drop for VersionTable<J> {
     fn drop(self) {
-        let VersionTable { versions: _ } = self;
+        let VersionTable {
+            versions: _,
+            alloc: _,
+        } = self;
     }
 }
 
@@ -42,6 +47,7 @@ impl<J: PlanName> VersionTable<J> {
     pub fn new(alloc: Global) -> Result<VersionTable<J>, AllocError> {
         Ok(VersionTable {
             versions: Vec::new(alloc)?,
+            alloc,
         })
     }
 
@@ -54,10 +60,16 @@ impl<J: PlanName> VersionTable<J> {
         ensures put { IfOk result (λ p. p.version.now ≡ version) }
         ensures back { IfErr result (λ v. v ≡ version) }
     {
-        let pushed = self.versions.push_shown(rt, version)?;
-        Ok(Place {
-            version: self.versions.value(&pushed),
-        })
+        let boxed = match Box::new(self.alloc, version) {
+            Ok(boxed) => boxed,
+            Err(refused) => return Err(refused.value),
+        };
+        match self.versions.push_shown(rt, boxed) {
+            Ok(pushed) => Ok(Place {
+                version: self.versions.value(&pushed).as_ref(),
+            }),
+            Err(boxed) => Err(Box::into_inner(boxed)),
+        }
     }
 }
 

@@ -41,7 +41,10 @@ impl Drop for Driven {
 }
 
 /// Drives a plan on a new board.
-fn drive<J: PlanName, R: Wait + AllocGlobal + Abort>(rt: &R, plan: &Plan) -> Result<Driven, Fail>
+fn drive<J: PlanName + 'static, R: Wait + AllocGlobal + Abort>(
+    rt: &R,
+    plan: &Plan,
+) -> Result<Driven, Fail>
     requires { plan.now ≡ J.plan }
 {
     let alloc = rt.alloc();

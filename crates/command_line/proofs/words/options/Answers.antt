@@ -1,28 +1,14 @@
-use Rattle.std.proofs.Common.{refl, ap, subst, ◌∙◌, ◌≡◌, ℕ, Bool, List, Option, Some, None, Result, Ok, Err, true, false, codes, map}
-use Rattle.std.specs.Prelude.{unwrap_or}
+use Rattle.std.proofs.Common.{refl, ap, subst, ◌∙◌, ◌≡◌, Bool, Option, Some, None, true, false, codes, map}
 use Rattle.std.specs.Str.Parse.{ParsesUnsigned, ExplainsUnsignedError, HasUnsignedDigitsIfOk}
-use Rattle.clap.specs.Words.{Row, ReadsOne, Text, first_of, first_value, found_of, is_simple, matches_of, one_of, one_text, rows_of}
-use Rattle.clap.specs.declared.parser.matches.Found.{Found}
-use Rattle.clap.proofs.WalkLemmas.{first_value-rows, one_text-rows}
-use Rattle.command_line.specs.CommandLine.{CountsWorkers, Says, sip_replay_line}
+use Rattle.clap.specs.Words.{Text, found_of, is_simple, matches_of, one_of, one_text}
+use Rattle.clap.proofs.WalkLemmas.{one_text-rows}
+use Rattle.command_line.specs.CommandLine.{Counts, Says, sip_replay_line}
+use Rattle.command_line.proofs.Getters.{counts, of_rows}
 use Rattle.command_line.proofs.words.options.Goals as goal
 
 line_is_simple : is_simple sip_replay_line ≡ true
 unfolding sip_replay_line
 line_is_simple = refl
-
--- a text that a getter reads is one of the rows
-of_rows : (f : Found) (rows : List Row) → rows_of f ≡ rows → (id : Text) (t : Option Text) → t ≡ first_value f id → t ≡ first_of id rows
-of_rows f rows same id t is = is ∙ first_value-rows f id ∙ ap (first_of id) same
-
--- what is read of the number of workers
-counts : (E : Type 0) (G : List ℕ → Result ℕ E → Type 0) → ((u : List ℕ) (x : Result ℕ E) → G u x → ParsesUnsigned 32 10 u x)
-    → (o : Option Text) (r : Option ℕ) → (o ≡ None → r ≡ None) → ((t : Text) → o ≡ Some t → ReadsOne G t r) → CountsWorkers o (unwrap_or r 4)
-counts E G only None r none value = rw (none refl) refl
-counts E G only (Some t) (Some v) none value = λ numeral small. (only t (Ok v) (value t refl)).1
-counts E G only (Some t) None none value = λ numeral small.
-    let failed = value t refl in
-    absurd (only t (Err failed.0) failed.1 (numeral, small))
 
 -- what is read of a flag
 says : (o : Option Text) (b : Bool) → (o ≡ None → b ≡ false) → (o ≡ Some (codes "true") → b ≡ true)
@@ -35,14 +21,14 @@ returns-clause-given g c =
     let f = found_of c.in-Ok.matches in
     let line = c.in_ok-command.ensures.line in
     let rows = (c.in-Ok.ensures.matches (ap is_simple line ∙ line_is_simple)).0 ∙ ap (λ a. matches_of a (map g.S.AsStr.text c.args.words.now)) line in
-    let read = counts _ (λ bs r. ParsesUnsigned 32 10 bs r × ExplainsUnsignedError 10 bs r × HasUnsignedDigitsIfOk bs r) (λ u x h. h.0)
+    let read = counts 4 _ (λ bs r. ParsesUnsigned 32 10 bs r × ExplainsUnsignedError 10 bs r × HasUnsignedDigitsIfOk bs r) (λ u x h. h.0)
     (one_text f (codes "workers")) c.get_one.result c.get_one.ensures.none c.get_one.ensures.value in
     record {
       policy = of_rows f _ rows (codes "policy") _ c.in_ok-policy.ensures;
       base = of_rows f _ rows (codes "base") _ c.in_ok-base.ensures;
       journal = of_rows f _ rows (codes "journal") _ c.in_ok-journal.ensures;
       out = of_rows f _ rows (codes "out") _ c.in_ok-out.ensures;
-      workers = subst (λ o. CountsWorkers o c.unwrap_or-workers.result) (one_text-rows f (codes "workers") ∙ ap (one_of (codes "workers")) rows)
+      workers = subst (λ o. Counts 4 o c.unwrap_or-workers.result) (one_text-rows f (codes "workers") ∙ ap (one_of (codes "workers")) rows)
           (rw c.unwrap_or-workers.ensures read);
       explain = subst (λ o. Says o c.get_flag-explain.result) (one_text-rows f (codes "explain") ∙ ap (one_of (codes "explain")) rows)
           (says (one_text f (codes "explain")) c.get_flag-explain.result c.get_flag-explain.ensures.none c.get_flag-explain.ensures.value

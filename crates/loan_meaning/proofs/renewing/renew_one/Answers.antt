@@ -10,23 +10,23 @@ pub returns-clause-gives : goal.returns-clause-gives
 unfolding renewal_rule
 returns-clause-gives g c =
     let first = rw c.new-writes.ensures at c.in_ok-verdict.ensures.gives in
-    follow_then _ (renewal_tests [] c.args.a.now c.args.member c.args.article) (λ verdict. Give (renewal_by c.args.policy.now c.args.n c.args.a.now c.args.date c.args.member c.args.article verdict)) c.in_ok-verdict.verdict _
+    follow_then _ (renewal_tests [] c.args.asked.now.request c.args.member c.args.article) (λ verdict. Give (renewal_by c.args.asked.now.policy.now c.args.asked.now.number c.args.asked.now.request c.args.asked.now.date c.args.member c.args.article verdict)) c.in_ok-verdict.verdict _
     first (ap Done (sym c.in_ok-renew_by.ensures))
 
 pub returns-clause-keeps : goal.returns-clause-keeps
 unfolding renewal_rule
 returns-clause-keeps g c =
     let first = rw c.new-writes.ensures at c.in_ok-verdict.ensures.keeps in
-    gains_first _ _ (renewal_tests [] c.args.a.now c.args.member c.args.article) (λ verdict. Give (renewal_by c.args.policy.now c.args.n c.args.a.now c.args.date c.args.member c.args.article verdict)) first
+    gains_first _ _ (renewal_tests [] c.args.asked.now.request c.args.member c.args.article) (λ verdict. Give (renewal_by c.args.asked.now.policy.now c.args.asked.now.number c.args.asked.now.request c.args.asked.now.date c.args.member c.args.article verdict)) first
 
 pub returns-in_err-verdict-clause-keeps : goal.returns-in_err-verdict-clause-keeps
 unfolding renewal_rule
 returns-in_err-verdict-clause-keeps g c =
     let first = rw c.new-writes.ensures at c.in_err-verdict.ensures.keeps in
-    gains_first _ _ (renewal_tests [] c.args.a.now c.args.member c.args.article) (λ verdict. Give (renewal_by c.args.policy.now c.args.n c.args.a.now c.args.date c.args.member c.args.article verdict)) first
+    gains_first _ _ (renewal_tests [] c.args.asked.now.request c.args.member c.args.article) (λ verdict. Give (renewal_by c.args.asked.now.policy.now c.args.asked.now.number c.args.asked.now.request c.args.asked.now.date c.args.member c.args.article verdict)) first
 
 pub returns-in_err-renew_by-clause-keeps : goal.returns-in_err-renew_by-clause-keeps
 unfolding renewal_rule
 returns-in_err-renew_by-clause-keeps g c =
     let first = rw c.new-writes.ensures at c.in_ok-verdict.ensures.keeps in
-    gains_first _ _ (renewal_tests [] c.args.a.now c.args.member c.args.article) (λ verdict. Give (renewal_by c.args.policy.now c.args.n c.args.a.now c.args.date c.args.member c.args.article verdict)) first
+    gains_first _ _ (renewal_tests [] c.args.asked.now.request c.args.member c.args.article) (λ verdict. Give (renewal_by c.args.asked.now.policy.now c.args.asked.now.number c.args.asked.now.request c.args.asked.now.date c.args.member c.args.article verdict)) first

@@ -9,7 +9,7 @@ use Rattle.loan_meaning.proofs.renewing_all.turn_known.Goals as goal
 
 pub returns-clause-gives : goal.returns-clause-gives
 returns-clause-gives g c =
-    follow_then _ (renewal_tests c.args.done.writes c.args.a.now c.args.done.member c.args.article) (λ verdict. Give (turn_by c.args.policy.now c.args.n c.args.a.now c.args.date c.args.article c.args.done verdict)) c.in_ok-verdict.verdict _
+    follow_then _ (renewal_tests c.args.done.writes c.args.asked.now.request c.args.done.member c.args.article) (λ verdict. Give (turn_by c.args.asked.now.policy.now c.args.asked.now.number c.args.asked.now.request c.args.asked.now.date c.args.article c.args.done verdict)) c.in_ok-verdict.verdict _
     c.in_ok-verdict.ensures.gives (ap Done (sym c.in_ok-end_turn.ensures.value))
 
 pub returns-clause-runs : goal.returns-clause-runs
@@ -17,17 +17,17 @@ returns-clause-runs g c =
     let has = g.S.Source.has c.test_renewal.new.source in
     let more = rw (c.charge_by-charge.ensures, c.rental_in.ensures) at c.owed_with.ensures in
     rw c.in_ok-end_turn.ensures.value
-    (run_turn has c.args.policy.now c.args.n c.args.a.now c.args.date c.args.article c.args.done c.in_ok-verdict.verdict c.args.fresh c.test_renewal.new.sum c.owed_with.result (let s = c.requires.small in omega arith)
+    (run_turn has c.args.asked.now.policy.now c.args.asked.now.number c.args.asked.now.request c.args.asked.now.date c.args.article c.args.done c.in_ok-verdict.verdict c.args.fresh c.test_renewal.new.sum c.owed_with.result (let s = c.requires.small in omega arith)
     (record { known = c.in_ok-verdict.ensures.known; new = c.requires.runs.new }) more)
 
 pub returns-in_err-verdict-clause-keeps : goal.returns-in_err-verdict-clause-keeps
 returns-in_err-verdict-clause-keeps g c =
-    gains_first _ _ (renewal_tests c.args.done.writes c.args.a.now c.args.done.member c.args.article) (λ verdict. Give (turn_by c.args.policy.now c.args.n c.args.a.now c.args.date c.args.article c.args.done verdict)) c.in_err-verdict.ensures.keeps
+    gains_first _ _ (renewal_tests c.args.done.writes c.args.asked.now.request c.args.done.member c.args.article) (λ verdict. Give (turn_by c.args.asked.now.policy.now c.args.asked.now.number c.args.asked.now.request c.args.asked.now.date c.args.article c.args.done verdict)) c.in_err-verdict.ensures.keeps
 
 pub returns-in_err-end_turn-clause-keeps : goal.returns-in_err-end_turn-clause-keeps
 returns-in_err-end_turn-clause-keeps g c =
-    gains_first _ _ (renewal_tests c.args.done.writes c.args.a.now c.args.done.member c.args.article) (λ verdict. Give (turn_by c.args.policy.now c.args.n c.args.a.now c.args.date c.args.article c.args.done verdict)) c.in_ok-verdict.ensures.keeps
+    gains_first _ _ (renewal_tests c.args.done.writes c.args.asked.now.request c.args.done.member c.args.article) (λ verdict. Give (turn_by c.args.asked.now.policy.now c.args.asked.now.number c.args.asked.now.request c.args.asked.now.date c.args.article c.args.done verdict)) c.in_ok-verdict.ensures.keeps
 
 pub returns-clause-keeps : goal.returns-clause-keeps
 returns-clause-keeps g c =
-    gains_first _ _ (renewal_tests c.args.done.writes c.args.a.now c.args.done.member c.args.article) (λ verdict. Give (turn_by c.args.policy.now c.args.n c.args.a.now c.args.date c.args.article c.args.done verdict)) c.in_ok-verdict.ensures.keeps
+    gains_first _ _ (renewal_tests c.args.done.writes c.args.asked.now.request c.args.done.member c.args.article) (λ verdict. Give (turn_by c.args.asked.now.policy.now c.args.asked.now.number c.args.asked.now.request c.args.asked.now.date c.args.article c.args.done verdict)) c.in_ok-verdict.ensures.keeps

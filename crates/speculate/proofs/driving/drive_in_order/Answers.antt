@@ -18,11 +18,13 @@ drive_line-requires g c =
     let place = c.loop-place.place in
     let is : c.first-first.result + place ≡ plan.first + place = ap (λ x. x + place) (c.first-first.ensures ∙ ap (λ (p : Planned). p.first) c.plan-plan.ensures.plan) in
     let count = ap (λ (p : Planned). length p.readings) c.plan-plan.ensures.plan in
-    let within : place < length plan.readings = omega (arith, count) in
-    record {
-      waits = subst (λ n. Waits plan b n) (sym is) c.loop-place.invariant.waits;
-      there = subst (λ n. IsLine b n) (sym is) (line_there plan b place c.loop-place.invariant.waits.stands.reached within);
-    }
+    let within : place < length plan.readings = omega (arith, count) in (
+      c.type_bounds.static-J,
+      (
+        subst (λ n. Waits plan b n) (sym is) c.loop-place.invariant.waits,
+        subst (λ n. IsLine b n) (sym is) (line_there plan b place c.loop-place.invariant.waits.stands.reached within),
+      ),
+    )
 
 pub loop-place-preserved : goal.loop-place-preserved
 loop-place-preserved g c =

@@ -1,4 +1,4 @@
-use Rattle.std.proofs.Common.{◌≡◌, List, ◌∷◌, [], ◌++◌, Option, ap, option_map, subst, sym, ◌∙◌}
+use Rattle.std.proofs.Common.{◌≡◌, List, ◌∷◌, [], ◌++◌, Option, ap, option_map, map, subst, sym, ◌∙◌}
 use Rattle.circ_records.specs.declared.record.Record.{Record}
 use Rattle.std.proofs.lemmas.Result.{err_from_is_err_and}
 use Rattle.read_set.specs.Plans.{Planned}
@@ -6,13 +6,13 @@ use Rattle.read_set.specs.declared.notes.Note.{Note}
 use Rattle.board_steps.specs.Steps.Call.{Look}
 use Rattle.board_lines.specs.Notes.{found_by, told_at}
 use Rattle.speculate.specs.Phases.{Reads}
-use Rattle.speculate.proofs.Drives.{led, look_only, look_seen, seen_stops}
+use Rattle.speculate.proofs.Drives.{keys_more, led, look_only, look_seen, seen_stops}
 use Rattle.speculate.proofs.driving.look_at.Goals as goal
 
 pub unreachable-requires : goal.unreachable-requires
 unreachable-requires g c =
     look_only g.J.PlanName.plan c.args.board.now c.look.new.self c.args.line c.args.notes.now c.args.key.now c.look.result
-    c.requires.reads c.requires.wanted.0 c.look.ensures c.in_default.not-Seen c.in_default.not-Memory
+    c.requires.reads c.requires.fresh c.look.ensures c.in_default.not-Seen c.in_default.not-Memory
 
 pub returns-in_err-found-clause-fault : goal.returns-in_err-found-clause-fault
 returns-in_err-found-clause-fault g c =
@@ -46,3 +46,8 @@ returns-clause-reads g c =
 
 pub returns-clause-led : goal.returns-clause-led
 returns-clause-led g c = led g.J.PlanName.plan c.args.board.now c.look.new.self (Look 0 c.args.key.now) c.look.result tt c.look.ensures
+
+pub returns-clause-keys : goal.returns-clause-keys
+returns-clause-keys g c =
+    ap (λ (ns : List Note). map (λ (n : Note). n.key) ns) c.in_ok-add.ensures.ok
+    ∙ keys_more c.args.notes.now (record { key = c.args.key.now; name = c.in-Seen.name; found = c.in_ok-found.found })

@@ -1,5 +1,15 @@
-use Rattle.speculate.proofs.Drives.{done_appears, runs_on}
+use Rattle.speculate.proofs.Drives.{done_appears, reads_stops, runs_none, runs_on}
+use Rattle.std.proofs.Common.{[]}
+use Rattle.std.proofs.lemmas.Result.{err_from_is_err_and}
 use Rattle.speculate.proofs.driving.read_line.Goals as goal
+
+pub returns-in_err-asked-clause-led : goal.returns-in_err-asked-clause-led
+returns-in_err-asked-clause-led g c = runs_none g.J.PlanName.plan c.args.board.now
+
+pub returns-in_err-asked-clause-fault : goal.returns-in_err-asked-clause-fault
+returns-in_err-asked-clause-fault g c =
+    let p = err_from_is_err_and c.from_residual.result c.from_residual.ensures.1 in
+    rw (p.1, p.2) (reads_stops g.J.PlanName.plan c.args.board.now c.args.line [] c.requires)
 
 pub keys-preserved : goal.keys-preserved
 keys-preserved g c = record {

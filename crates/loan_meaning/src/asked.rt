@@ -1,0 +1,29 @@
+//! What stays the same while the rule of a line runs.
+
+use circ_policy::Policy;
+use read_set::LoanRequest;
+use sip_reader::Stamp;
+use std::alloc::Global;
+
+/// What stays the same while the rule of a line runs.
+#[derive(Clone, Copy)]
+pub struct Line<'p> {
+    pub alloc: Global,
+    pub policy: &'p Policy,
+    /// Its number in the journal, of which its fees have their ids.
+    pub number: u64,
+    /// The moment of its message.
+    pub date: Stamp,
+}
+
+/// The same, and the loan or renewal for which the line asks.
+#[derive(Clone, Copy)]
+pub struct Asked<'p> {
+    pub alloc: Global,
+    pub policy: &'p Policy,
+    /// The line's number in the journal, of which its fees have their ids.
+    pub number: u64,
+    /// The moment of its message.
+    pub date: Stamp,
+    pub request: LoanRequest,
+}

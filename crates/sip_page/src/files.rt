@@ -1,0 +1,72 @@
+//! The files of a run, and the rows of its tables.
+
+use crate::stop::Stop;
+use csv::ByteRecord;
+use csv_table::RowReader;
+use std::alloc::Global;
+use std::rt::Files;
+use std::{fs, io};
+
+/// A table: the name of its file, and its header.
+pub struct Table {
+    pub file: &'static str,
+    pub header: &'static [&'static str],
+}
+
+/// The bytes of a file.
+pub fn read<R: Files + AllocGlobal>(rt: &R, path: &str) -> Result<Vec<u8>, Stop> {
+    match fs::read(rt, path) {
+        Ok(bytes) => Ok(bytes),
+        Err(error) => Err(Stop::of_file(rt.alloc(), &error, path)),
+    }
+}
+
+/// The bytes of a table of a folder; none of `holds.csv` where it isn't there.
+pub fn read_in<R: Files + AllocGlobal>(
+    rt: &R,
+    folder: &str,
+    table: &Table,
+) -> Result<Vec<u8>, Stop> {
+    let name = table.file;
+    let path = format!(in rt.alloc(); "{folder}/{name}")?;
+    match fs::read(rt, path.as_str()) {
+        Ok(bytes) => Ok(bytes),
+        Err(error) if error.kind() == io::ErrorKind::NotFound && name == "holds.csv" => Ok(Vec::new(
+            rt.alloc(),
+        )),
+        Err(error) => Err(Stop::of_file(rt.alloc(), &error, path.as_str())),
+    }
+}
+
+/// The rows of a table under its header, read one at a time.
+pub struct Rows<'t> {
+    reader: RowReader<'t>,
+    file: &'static str,
+}
+
+impl Drop for Rows<'_> {
+    fn drop(self) {
+        let Rows { reader: _, file: _ } = self;
+    }
+}
+
+impl<'t> Rows<'t> {
+    /// The rows that a text spells.
+    pub fn under(alloc: Global, table: &Table, text: &'t [u8]) -> Result<Rows<'t>, Stop> {
+        match RowReader::under(alloc, table.header, text) {
+            Ok(reader) => Ok(Rows {
+                reader,
+                file: table.file,
+            }),
+            Err(error) => Err(Stop::of_table(error, table.file)),
+        }
+    }
+
+    /// Reads the next row. Without one, at the end, `row` means nothing.
+    pub fn next(&mut self, row: &mut ByteRecord) -> Result<bool, Stop> {
+        match self.reader.next(row) {
+            Ok(found) => Ok(found),
+            Err(error) => Err(Stop::of_table(error, self.file)),
+        }
+    }
+}

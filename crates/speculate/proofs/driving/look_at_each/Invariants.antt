@@ -1,0 +1,13 @@
+use Rattle.std.proofs.Common.{◌≡◌, map, take}
+use Rattle.read_set.specs.declared.notes.Note.{Note}
+use Rattle.speculate.specs.Driving.{RunsTo}
+use Rattle.speculate.specs.Phases.{Reads}
+use Rattle.speculate.proofs.driving.look_at_each.Given as goal
+
+-- the keys so far are noted
+abbrev pub invariant-loop-note : goal.invariant-loop-note
+invariant-loop-note g l = record {
+  reads : Reads g.J.PlanName.plan l.board l.line l.notes;
+  led : RunsTo g.J.PlanName.plan l.fn.board l.board;
+  keys : map (λ (n : Note). n.key) l.notes ≡ map (λ (n : Note). n.key) (take l.note-index l.asked);
+}

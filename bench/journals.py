@@ -10,7 +10,8 @@ import sys
 sys.dont_write_bytecode = True
 here = os.path.dirname(os.path.abspath(__file__))
 example = os.path.join(here, '..', 'examples', 'library-day')
-sys.path.insert(0, example)
+home = os.path.join(here, '..', 'model')
+sys.path.insert(0, home)
 
 import day
 import model
@@ -33,7 +34,7 @@ def unread(request):
 
 
 def stamp():
-    parts = [os.path.join(example, name) for name in ('model.py', 'day.py', 'policy.toml')] + [os.path.abspath(__file__)]
+    parts = [os.path.join(home, 'model.py'), os.path.join(home, 'day.py'), os.path.join(example, 'policy.toml'), os.path.abspath(__file__)]
     return hashlib.sha256(''.join(model.read(path) for path in parts).encode('latin-1')).hexdigest()
 
 

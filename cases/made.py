@@ -1,9 +1,9 @@
-"""For cases too long to be kept: a case's `make` writes its inputs, and what examples/library-day/model.py makes of them."""
+"""For cases too long to be kept: a case's `make` writes its inputs, and what model/model.py makes of them."""
 import os
 import sys
 
 sys.dont_write_bytecode = True
-sys.path.insert(0, os.path.join(os.path.dirname(os.path.abspath(__file__)), '..', 'examples', 'library-day'))
+sys.path.insert(0, os.path.join(os.path.dirname(os.path.abspath(__file__)), '..', 'model'))
 
 import model
 

@@ -1,7 +1,7 @@
 """The rules of docs/FORMATS.md once more, in plain Python: what each request is answered and what it changes.
 
 It was written from the rules and shares nothing with the proved program, so the two check each other. It makes the
-recorded responses of made-up days (make-day, ../../bench/run) and says what a replay of them has to give. It reads no
+recorded responses of made-up days (../examples/library-day/make-day, ../bench/run) and says what a replay of them has to give. It reads no
 broken policy, table or journal. Texts are str in latin-1: one character is one byte.
 """
 import csv

@@ -3,6 +3,7 @@
 ghost use Rattle.std.specs.Prelude.{◌≡◌, IfSome};
 ghost use Rattle.read_set.specs.Plans.{readings_of};
 
+use crate::policy::POLICY;
 use circ_policy::Policy;
 use circ_records::{Base, Tables};
 use journal_table::Journal;
@@ -10,13 +11,6 @@ use read_set::Plan;
 use sip_answer::{Answer, CheckinAnswer};
 use sip_reader::{Id, Stamp};
 use std::alloc::{AllocError, Global};
-
-const POLICY: &str = "institution = \"L1\"
-currency = \"USD\"
-due_form = \"sip\"
-[class]
-[media]
-";
 
 /// Lines in which an unknown item is brought back; of every fourth the recorded response is wrong.
 pub(crate) fn text(alloc: Global, count: usize) -> Result<String, AllocError> {

@@ -1,5 +1,6 @@
 //! A library and its journal: as many lines as are wanted over a tenth as many items.
 
+use crate::policy::POLICY;
 use anyhow::{Result, bail};
 use circ_policy::Policy;
 use circ_records::{Base, Tables};
@@ -7,10 +8,6 @@ use journal_table::Journal;
 use read_set::Plan;
 use replay_run::Inputs;
 use std::alloc::{AllocError, Global};
-
-const POLICY: &str = "institution = 'L1'\ncurrency = 'USD'\ndue_form = 'sip'\n\
-[class.A]\nmax_loans = 20\nmax_fees = 10000000\nmax_renewals = 1\n\
-[media.001]\ndays = 14\nrental = 0\nlate = 25\ncap = 500\n";
 
 /// How many lines there are of each item, and of each patron.
 const LINES_OF_ONE: u64 = 10;

@@ -7,6 +7,7 @@ mod files;
 mod journals;
 mod library;
 mod outcomes;
+mod policy;
 mod reading;
 mod renewals;
 mod reporting;

@@ -4,7 +4,7 @@ ghost use Rattle.std.specs.Prelude.{◌≡◌, IfOk, Some, option_copied, slice_
 ghost use Rattle.std.specs.Option.{is_some};
 ghost use Rattle.read_set.specs.Plans.{readings_of};
 ghost use Rattle.sip_reader.specs.declared.request.Reading.{Reading};
-ghost use Rattle.result_report.specs.Report.{AreAnswers, is_answered, lent};
+ghost use Rattle.result_report.specs.Report.{AreAnswers, is_answered, answers_behind};
 
 use circ_records::Records;
 use journal_table::Journal;
@@ -43,7 +43,7 @@ pub(crate) fn outcome_of<'e>(
     answer: &'e Answer,
 ) -> Result<Outcome<'e>, AllocError>
     requires { plan.now.readings ≡ readings_of journal.now }
-    ensures { IfOk result (λ o. AreAnswers (readings_of journal.now) (lent o.answers.items)) }
+    ensures { IfOk result (λ o. AreAnswers (readings_of journal.now) (answers_behind o.answers.items)) }
 {
     let count = plan.readings().len();
     let mut answers = Vec::with_capacity(alloc, count)?;

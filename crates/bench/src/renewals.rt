@@ -1,5 +1,6 @@
 //! What a renewal of all items costs, and what it costs to ask for all that it or a payment wants.
 
+use crate::policy::POLICY;
 use crate::shelf::{Shelf, lend, owe};
 use anyhow::{Result, bail};
 use circ_policy::Policy;
@@ -10,10 +11,6 @@ use read_set::{Effect, Notes, Noting, Plan};
 use std::alloc::Global;
 use std::io::Print;
 use std::time::{Clock, Instant};
-
-const POLICY: &str = "institution = 'L1'\ncurrency = 'USD'\ndue_form = 'sip'\n\
-[class.A]\nmax_loans = 20\nmax_fees = 10000000\nmax_renewals = 1\n\
-[media.005]\ndays = 7\nrental = 1\nlate = 0\ncap = 0\n";
 
 const RENEWAL: &str =
     "line,connection,request,response\n1,C1,6520260309    120000AOL1|AAP1|BOY|,\n";

@@ -1,5 +1,5 @@
--- Lists and options that are the same, place by place.
-use Rattle.std.proofs.Common.{◌≡◌, ℕ, suc, ◌<◌, true, List, [], ◌∷◌, length, slice_get, Option, Some, None, Ordering, Less, Equal, Greater, refl, sym, ap, ap₂, ◌∙◌, arith}
+-- Keys that are the same, and the note at a place.
+use Rattle.std.proofs.Common.{◌≡◌, ℕ, true, List, slice_get, Option, Some, None, Ordering, Less, Equal, Greater, refl, sym, ap, ap₂, ◌∙◌}
 use Rattle.std.specs.Prelude.{option_map}
 use Rattle.std.specs.Ordering.{eq_by_cmp, is_eq}
 use Rattle.std.proofs.lemmas.Cmp.{eq_by_cmp_equiv}
@@ -11,14 +11,6 @@ use Rattle.read_set.specs.Settling.{Told}
 use Rattle.read_set.specs.declared.notes.Name.{Name}
 use Rattle.read_set.specs.declared.notes.Note.{Note}
 use Rattle.board_lines.specs.Notes.{Noted, found_by, note_by, notes_by, named_in}
-
-pub same_lists : {X : Type 0} (xs ys : List X) → length xs ≡ length ys → ((j : ℕ) → j < length xs → slice_get xs j ≡ slice_get ys j) → xs ≡ ys
-same_lists [] [] len each = refl
-same_lists [] (y ∷ ys) len each = absurd (omega arith)
-same_lists (x ∷ xs) [] len each = absurd (omega arith)
-same_lists (x ∷ xs) (y ∷ ys) len each =
-    let tails : xs ≡ ys = same_lists xs ys (omega arith) (λ j lt. each (suc j) (omega arith)) in
-    ap₂ (λ a b. a ∷ b) (same_Some x y (each 0 (omega arith))) tails
 
 is_eq_true : (o : Ordering) → is_eq o ≡ true → o ≡ Equal
 is_eq_true Less h = absurd (cc)

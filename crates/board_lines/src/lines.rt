@@ -7,6 +7,7 @@ ghost use Rattle.board_steps.specs.Reached.{Reached};
 ghost use Rattle.board_steps.specs.Steps.{CheckStep, LookStep, AllPlaced, Fits, HasRoom, IsNextLeft, IsNextWrite, IsVersion, MayPublish, NoneLeft, lifted, opening, placed, put_row, with_state};
 ghost use Rattle.board_steps.specs.Steps.Call.{Check, Commit, Look, Take, Publish};
 ghost use Rattle.board_steps.specs.Steps.Reply.{Same as TheSame, Whole as TheWhole};
+ghost use Rattle.board_steps.specs.declared.TheConstants.{WORKERS_MAX};
 ghost use Rattle.version_store.specs.Entries.{SeesSuspect, seen};
 ghost use Rattle.version_store.specs.declared.entry.Found.TheVariants.{Named};
 ghost use Rattle.board_lines.specs.Hands.{AreCounts, AreNotesOf, IsHand, IsInHand, notes_of};
@@ -381,7 +382,7 @@ impl<'p, 't, J: PlanName> Lines<'p, 't, J> {
         clock: u64,
     ) -> Result<Lines<'p, 't, J>, AllocError>
         requires named { plan.now ≡ J.plan }
-        requires workers { (1 ≤ workers) × (workers ≤ 64) }
+        requires workers { (1 ≤ workers) × (workers ≤ WORKERS_MAX) }
         ensures { IfOk result (λ b. b ≡ opening J.plan workers attempt clock) }
     {
         let lines = plan.readings().len();

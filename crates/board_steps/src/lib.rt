@@ -18,6 +18,9 @@ ghost use Rattle.board_steps.specs.Choice.{NeedsCheck, StampCounts};
 ghost use Rattle.board_steps.specs.Reached.{Counted, EachHeld, Held, Reached};
 ghost use Rattle.board_steps.specs.Steps.{ByVersion, Call, CheckStep, CommitStep, IsVersion, LookStep, PublishStep, Reply, Run, SendsBack, Step, TakeStep, changing, opening};
 
+/// The most workers of a run.
+pub const WORKERS_MAX: u32 = 64;
+
 /// An opening board is reached.
 pub fn opening_is_reached()
     ensures { (plan : Planned) (workers attempt clock : ℕ) → Reached plan (opening plan workers attempt clock) }

@@ -4,6 +4,7 @@ use Rattle.std.specs.Prelude.{Result, Ok, Err, option_and_then, option_map, nat_
 use Rattle.std.specs.List.{find}
 use Rattle.std.proofs.lemmas.Bool.{and_parts, leb-true}
 use Rattle.toml.specs.Data.{Data, Members, no_members, member, as_integer, as_table, get_member}
+use Rattle.sip_reader.specs.declared.amount.TheConstants.{AMOUNT_MAX}
 use Rattle.circ_policy.specs.Medias.{media_index, media_of_code}
 use Rattle.circ_policy.specs.Order.{in_byte_order}
 use Rattle.circ_policy.specs.Policy.{media_of}
@@ -61,9 +62,9 @@ lending-fits entry ms m h =
     let cap = bound (amount entry ms (codes "cap")) _ m late.2 in
     let same : record { days = days.0; rental = rental.0; late = late.0; cap = cap.0 } ≡ m = same_ok _ m cap.2 in
     let a = whole-bound 1 3650 entry ms (codes "days") days.0 days.1 in
-    let b = whole-bound 0 99_999_999_999 entry ms (codes "rental") rental.0 rental.1 in
-    let c = whole-bound 0 99_999_999_999 entry ms (codes "late") late.0 late.1 in
-    let d = whole-bound 0 99_999_999_999 entry ms (codes "cap") cap.0 cap.1 in
+    let b = whole-bound 0 AMOUNT_MAX entry ms (codes "rental") rental.0 rental.1 in
+    let c = whole-bound 0 AMOUNT_MAX entry ms (codes "late") late.0 late.1 in
+    let d = whole-bound 0 AMOUNT_MAX entry ms (codes "cap") cap.0 cap.1 in
     subst FitsMedia same (record { least = a.0; days = a.1; rental = b.1; late = c.1; cap = d.1 })
 
 media-fits : (name : List ℕ) (d : Data) (e : MediaType × Media) → media_in name d ≡ Ok e → FitsMedia e.1

@@ -23,6 +23,10 @@ IsLeastOpen closed first day = (first ≤ day) × (is_open closed day ≡ true) 
 unfoldable pub next_open : Closed → ℕ → ℕ
 next_open closed first = unwrap_or (find (is_open closed) (range_with_len first 2807)) first
 
+-- the number of 1 January 9999, before which each due day lies
+abbrev pub FIRST_DAY_OF_9999 : ℕ
+FIRST_DAY_OF_9999 = 7_304_119
+
 -- Due day: the first open day at or after the day of the loan and the days of the media type
 unfoldable pub due_day : Terms → ℕ → Media → ℕ
 due_day p day media = next_open p.closed (day + media.days)

@@ -1,5 +1,6 @@
 -- In which ranges the terms of a policy lie (the policy file, its types of media).
 use Rattle.std.specs.Prelude.{◌≡◌, ◌≤◌, List, [], ◌∷◌, Some}
+use Rattle.sip_reader.specs.declared.amount.TheConstants.{AMOUNT_MAX}
 use Rattle.circ_policy.specs.Policy.{media_of}
 use Rattle.circ_policy.specs.Terms.{Terms}
 use Rattle.circ_policy.specs.declared.media.Media.{Media}
@@ -9,9 +10,9 @@ use Rattle.circ_policy.specs.declared.media_type.MediaType.{MediaType}
 pub record FitsMedia (m : Media) : Type 0 where
   pub least : 1 ≤ m.days
   pub days : m.days ≤ 3650
-  pub rental : m.rental ≤ 99999999999
-  pub late : m.late ≤ 99999999999
-  pub cap : m.cap ≤ 99999999999
+  pub rental : m.rental ≤ AMOUNT_MAX
+  pub late : m.late ≤ AMOUNT_MAX
+  pub cap : m.cap ≤ AMOUNT_MAX
 
 -- the terms of each type of media of a list
 abbrev pub AllFit : List (MediaType × Media) → Type 0

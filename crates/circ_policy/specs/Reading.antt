@@ -1,6 +1,7 @@
 -- The policy that the bytes of a file say, or the first rule that they break.
 use Rattle.std.specs.Prelude.{◌≡◌, ℕ, List, [], ◌∷◌, ◌++◌, Option, Some, None, Result, Ok, Err, codes, string_bytes, option_and_then, option_map, if◌then◌else◌}
 use Rattle.std.specs.Str.{is_utf8}
+use Rattle.sip_reader.specs.declared.amount.TheConstants.{AMOUNT_MAX}
 use Rattle.toml.specs.Data.{Data, Members, no_members, member, as_table, get_member}
 use Rattle.toml.specs.Parse.{parse_document}
 use Rattle.circ_policy.specs.Medias.{media_of_code}
@@ -52,7 +53,7 @@ limit = whole 0 9_999
 
 -- an amount in an entry, in hundredths
 abbrev pub amount : List ℕ → Members → List ℕ → Result ℕ Refusal
-amount = whole 0 99_999_999_999
+amount = whole 0 AMOUNT_MAX
 
 abbrev pub class_keys : List (List ℕ)
 class_keys = codes "max_loans" ∷ codes "max_fees" ∷ codes "max_renewals" ∷ []

@@ -5,6 +5,7 @@ use Rattle.std.specs.Char.{is_ascii_digit}
 use Rattle.std.specs.Cmp.Lexicographic.{pointwise}
 use Rattle.std.specs.List.{list_all}
 use Rattle.std.specs.Ordering.{nat_cmp}
+use Rattle.sip_reader.specs.Bytes as byte
 use Rattle.sip_reader.specs.Days.{day_at}
 use Rattle.sip_reader.specs.Texts.{is_id}
 use Rattle.toml.specs.Data.{Data, Items, no_items, item, as_array, as_integer, as_str}
@@ -28,7 +29,7 @@ abbrev pub id_in : List ℕ → Option (List ℕ)
 id_in s = if is_id s then Some s else None
 
 abbrev pub is_capital : ℕ → Bool
-is_capital b = nat_le 65 b && nat_le b 90
+is_capital b = nat_le byte.A b && nat_le b byte.Z
 
 -- Currency (SIP 2.00, currency type): three letters A to Z
 unfoldable pub currency_in : List ℕ → Option (List ℕ)
@@ -47,7 +48,7 @@ weekday_in s = position (pointwise ◌==◌ s) weekday_names
 
 -- the number that two digits spell
 abbrev pub two_digits : ℕ → ℕ → Option ℕ
-two_digits a b = if is_ascii_digit a && is_ascii_digit b then Some (10 * (a - 48) + (b - 48)) else None
+two_digits a b = if is_ascii_digit a && is_ascii_digit b then Some (10 * (a - byte.zero) + (b - byte.zero)) else None
 
 abbrev pub two_at : List ℕ → ℕ → Option ℕ
 two_at s i = two_digits (slice_index s i) (slice_index s (i + 1))
@@ -67,7 +68,7 @@ written_day s = do
 
 -- a date `YYYY-MM-DD`: a real day in the years 1900 to 9999, as its number
 unfoldable pub date_in : List ℕ → Option ℕ
-date_in s = if (length s == 10) && ((slice_index s 4 == 45) && (slice_index s 7 == 45)) then written_day s else None
+date_in s = if (length s == 10) && ((slice_index s 4 == byte.hyphen) && (slice_index s 7 == byte.hyphen)) then written_day s else None
 
 -- what each item of a list says, where each of them says anything
 abbrev pub each : {X : Type 0} → (Data → Option X) → Items → Option (List X)

@@ -2,6 +2,8 @@
 
 ghost use Rattle.std.specs.Prelude.{◌≡◌, ◌≤◌, ◌<◌, ◌+◌, true, not, length};
 ghost use Rattle.std.specs.List.{list_any};
+ghost use Rattle.sip_reader.specs.Days.{LAST_STAMP_DAY};
+ghost use Rattle.circ_policy.specs.Due.{FIRST_DAY_OF_9999};
 
 use crate::loan_days::LoanDays;
 use sip_reader::Day;
@@ -39,10 +41,10 @@ impl Calendar {
 
     /// The first open day so many days after a day, or later.
     pub fn due(&self, day: Day, days: LoanDays) -> Day
-        requires { day ≤ 7_268_324 }
+        requires { day ≤ LAST_STAMP_DAY }
         ensures least { IsLeastOpen (closed_of self.now) (day + days) result }
         ensures soon { result < day + days + 2807 }
-        ensures early { result < 7_304_119 }
+        ensures early { result < FIRST_DAY_OF_9999 }
     {
         let first = day.number() + u32::from(days.count());
         for number in first..first + 2807 {

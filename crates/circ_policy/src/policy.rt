@@ -1,6 +1,8 @@
 //! The policy of a library.
 
 ghost use Rattle.std.specs.Prelude.{◌≡◌, ◌≤◌, ◌<◌, ◌+◌};
+ghost use Rattle.sip_reader.specs.Days.{LAST_STAMP_DAY};
+ghost use Rattle.circ_policy.specs.Due.{FIRST_DAY_OF_9999};
 
 use crate::calendar::Calendar;
 use crate::class::Class;
@@ -95,10 +97,10 @@ impl Policy {
     /// The due day of a loan of that day: the first open day at or after the day and the days of the media type. It
     /// stays before the year 9999.
     pub fn due(&self, day: Day, media: &Media) -> Day
-        requires { day ≤ 7_268_324 }
+        requires { day ≤ LAST_STAMP_DAY }
         ensures least { IsLeastOpen self.now.closed (day + media.now.days) result }
         ensures value { result ≡ due_day self.now day media.now }
-        ensures early { result < 7_304_119 }
+        ensures early { result < FIRST_DAY_OF_9999 }
     {
         self.calendar.due(day, media.days)
     }

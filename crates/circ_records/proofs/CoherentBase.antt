@@ -10,6 +10,8 @@ use Rattle.circ_policy.specs.Terms.{Terms}
 use Rattle.circ_policy.specs.declared.media_type.MediaType.{MediaType}
 use Rattle.circ_policy.specs.declared.media_type.MediaType.TheVariants as media
 use Rattle.sip_reader.specs.Texts.{is_id, is_text}
+use Rattle.sip_reader.specs.declared.amount.TheConstants.{AMOUNT_MAX}
+use Rattle.circ_records.specs.declared.holds.TheConstants.{QUEUE_MAX}
 use Rattle.circ_records.specs.Base.{broken_closed, broken_fees, broken_holds, broken_items, broken_loans, broken_patrons}
 use Rattle.circ_records.specs.MadeFees.{is_taken, may_be_made}
 use Rattle.circ_records.specs.Coherent.{IsCoherentFee, IsCoherentItem, IsCoherentLoan, IsCoherentMap, IsCoherentPatron, Map, are_distinct, as_fee, as_item, as_patron, has_id, is_hold, is_known, is_lent_to, is_loan_of, is_of_kind, is_owed_by, number_before}
@@ -231,7 +233,7 @@ coherent-item policy first rows m kept tells id i e = by (row_with 0 id rows.ite
               ap (λ (q : List Hold). are_distinct (map (λ (h : Hold). h.patron) q)) holds
               ∙ ap are_distinct (queue-patrons (rows_with 0 id rows.holds))
               ∙ distinct-held id rows.holds (once-held [] rows.holds (kept-less _ _ (λ b r k. k.fresh) [] rows.holds kept.holds));
-          few = subst (λ (n : ℕ). n ≤ 9999) (sym (ap length holds ∙ as-many (rows_with 0 id rows.holds))) (few-rows id [] rows.holds (omega arith) (kept-less _ _ (λ b r k. k.few) [] rows.holds kept.holds));
+          few = subst (λ (n : ℕ). n ≤ QUEUE_MAX) (sym (ap length holds ∙ as-many (rows_with 0 id rows.holds))) (few-rows id [] rows.holds (omega arith) (kept-less _ _ (λ b r k. k.few) [] rows.holds kept.holds));
         }
 
 -- FEES
@@ -266,7 +268,7 @@ coherent-fee policy first rows m kept tells id f e = by (row_with 0 id rows.fees
           id_text = subst (λ (t : List ℕ). is_id t ≡ true) own (fee-texts row h.0.0);
           patron = subst (λ (t : List ℕ). is_known m t ≡ true) patron (known rows m tells (field 1 row) h.0.1);
           paid = omega arith;
-          amount = subst (λ (n : ℕ). n ≤ 99999999999) amount (hundredths-bound (field 3 row));
+          amount = subst (λ (n : ℕ). n ≤ AMOUNT_MAX) amount (hundredths-bound (field 3 row));
           number = subst (λ (t : List ℕ). may_be_made (number_before first) t ≡ false) own (made-before first (field 0 row) h.0.2);
         }
     by (Some row) g p k e =
@@ -281,7 +283,7 @@ coherent-fee policy first rows m kept tells id f e = by (row_with 0 id rows.fees
           id_text = subst (λ (t : List ℕ). is_id t ≡ true) own (fee-texts row h.0.0);
           patron = subst (λ (t : List ℕ). is_known m t ≡ true) patron (known rows m tells (field 1 row) h.0.1);
           paid = omega arith;
-          amount = subst (λ (n : ℕ). n ≤ 99999999999) amount (hundredths-bound (field 3 row));
+          amount = subst (λ (n : ℕ). n ≤ AMOUNT_MAX) amount (hundredths-bound (field 3 row));
           number = subst (λ (t : List ℕ). may_be_made (number_before first) t ≡ false) own (made-before first (field 0 row) h.0.2);
         }
 

@@ -1,6 +1,7 @@
 -- The item that rows tell.
 use Rattle.std.proofs.Common.{◌≡◌, ℕ, suc, List, [], ◌∷◌, Bool, true, false, Option, Some, None, length, map, refl, sym, ap, ◌∙◌}
 use Rattle.std.specs.Prelude.{is_some, option_map, nat_le, ◌&&◌}
+use Rattle.circ_records.specs.declared.holds.TheConstants.{QUEUE_MAX}
 use Rattle.circ_records.specs.Coherent.{as_item, is_loan_of}
 use Rattle.circ_records.specs.Rules.{has_row, is_borrower, is_full, is_of_patron}
 use Rattle.circ_records.specs.Tables.{Row, Rows}
@@ -50,11 +51,11 @@ as-many : (rows : List Row) → length (map hold_in rows) ≡ length rows
 as-many [] = refl
 as-many (row ∷ rows) = ap suc (as-many rows)
 
-pub full-told : (r : Rows) (id : List ℕ) (item : Item) → IsTold r id item → nat_le 9999 (length item.holds) ≡ (has_row 0 id r.items && is_full id r.holds)
+pub full-told : (r : Rows) (id : List ℕ) (item : Item) → IsTold r id item → nat_le QUEUE_MAX (length item.holds) ≡ (has_row 0 id r.items && is_full id r.holds)
 unfolding is_full
 full-told r id item h =
-    ap (λ (l : List Hold). nat_le 9999 (length l)) h.holds ∙ ap (nat_le 9999) (as-many (rows_with 0 id r.holds))
-    ∙ ap (λ b. b && nat_le 9999 (length (rows_with 0 id r.holds))) (sym h.there)
+    ap (λ (l : List Hold). nat_le QUEUE_MAX (length l)) h.holds ∙ ap (nat_le QUEUE_MAX) (as-many (rows_with 0 id r.holds))
+    ∙ ap (λ b. b && nat_le QUEUE_MAX (length (rows_with 0 id r.holds))) (sym h.there)
 
 -- where there is no such item, none of this holds
 pub none-told : (b c : Bool) → b ≡ false → false ≡ (b && c)

@@ -3,6 +3,7 @@ use Rattle.std.proofs.Common.{◌≡◌, ◌≤◌, ◌<◌, ℕ, suc, List, [],
 use Rattle.std.specs.Prelude.{is_some, ◌&&◌, ◌||◌, nat_le}
 use Rattle.std.specs.List.{AllByRecursion, list_all}
 use Rattle.std.proofs.lemmas.Bool.{leb-false}
+use Rattle.circ_records.specs.declared.holds.TheConstants.{QUEUE_MAX}
 use Rattle.circ_records.specs.Coherent.{are_distinct, has_id}
 use Rattle.circ_records.specs.Rules.{has_hold, has_row, is_borrower, is_full, is_of_patron}
 use Rattle.circ_records.specs.Tables.{Row, field}
@@ -124,23 +125,23 @@ longer : (rows : List Row) (row : Row) → length (rows ++ row ∷ []) ≡ suc (
 longer [] row = refl
 longer (x ∷ xs) row = ap suc (longer xs row)
 
-few-more : (id : List ℕ) (before : List Row) (row : Row) → length (rows_with 0 id before) ≤ 9999 → is_full (field 0 row) before ≡ false → length (rows_with 0 id (before ++ row ∷ [])) ≤ 9999
+few-more : (id : List ℕ) (before : List Row) (row : Row) → length (rows_with 0 id before) ≤ QUEUE_MAX → is_full (field 0 row) before ≡ false → length (rows_with 0 id (before ++ row ∷ [])) ≤ QUEUE_MAX
 unfolding is_full
-few-more id before row few free = subst (λ (l : List Row). length l ≤ 9999) (sym (rows_with-more 0 id before row)) (by (is_same id (field 0 row)) refl)
+few-more id before row few free = subst (λ (l : List Row). length l ≤ QUEUE_MAX) (sym (rows_with-more 0 id before row)) (by (is_same id (field 0 row)) refl)
   where
-    by : (b : Bool) → is_same id (field 0 row) ≡ b → length (cond b (rows_with 0 id before ++ row ∷ []) (rows_with 0 id before)) ≤ 9999
+    by : (b : Bool) → is_same id (field 0 row) ≡ b → length (cond b (rows_with 0 id before ++ row ∷ []) (rows_with 0 id before)) ≤ QUEUE_MAX
     by true e =
-        let below : nat_le 9999 (length (rows_with 0 id before)) ≡ false = subst (λ (t : List ℕ). nat_le 9999 (length (rows_with 0 t before)) ≡ false) (sym (same-text id (field 0 row) e)) free in
-        let less : length (rows_with 0 id before) < 9999 = leb-false 9999 (length (rows_with 0 id before)) below in
+        let below : nat_le QUEUE_MAX (length (rows_with 0 id before)) ≡ false = subst (λ (t : List ℕ). nat_le QUEUE_MAX (length (rows_with 0 t before)) ≡ false) (sym (same-text id (field 0 row) e)) free in
+        let less : length (rows_with 0 id before) < QUEUE_MAX = leb-false QUEUE_MAX (length (rows_with 0 id before)) below in
         let more : length (rows_with 0 id before ++ row ∷ []) ≡ suc (length (rows_with 0 id before)) = longer (rows_with 0 id before) row in
         omega arith
     by false e = few
 
-pub few-rows : (id : List ℕ) (before rows : List Row) → length (rows_with 0 id before) ≤ 9999 → KeptFrom (λ (b : List Row) (row : Row). is_full (field 0 row) b ≡ false) before rows
-    → length (rows_with 0 id (before ++ rows)) ≤ 9999
-few-rows id before [] few k = subst (λ (l : List Row). length (rows_with 0 id l) ≤ 9999) (sym (append-nil before)) few
+pub few-rows : (id : List ℕ) (before rows : List Row) → length (rows_with 0 id before) ≤ QUEUE_MAX → KeptFrom (λ (b : List Row) (row : Row). is_full (field 0 row) b ≡ false) before rows
+    → length (rows_with 0 id (before ++ rows)) ≤ QUEUE_MAX
+few-rows id before [] few k = subst (λ (l : List Row). length (rows_with 0 id l) ≤ QUEUE_MAX) (sym (append-nil before)) few
 few-rows id before (row ∷ rows) few k =
-    subst (λ (l : List Row). length (rows_with 0 id l) ≤ 9999) (append_assoc before (row ∷ []) rows) (few-rows id (before ++ row ∷ []) rows (few-more id before row few k.0) k.1)
+    subst (λ (l : List Row). length (rows_with 0 id l) ≤ QUEUE_MAX) (append_assoc before (row ∷ []) rows) (few-rows id (before ++ row ∷ []) rows (few-more id before row few k.0) k.1)
 
 pub as-many : (rows : List Row) → length (map hold_in rows) ≡ length rows
 as-many [] = refl

@@ -12,6 +12,7 @@ use Rattle.circ_policy.specs.declared.media_type.MediaType.{MediaType}
 use Rattle.circ_policy.specs.declared.media_type.MediaType.TheVariants as media
 use Rattle.sip_reader.proofs.AmountTexts.{amount_of-amount_text}
 use Rattle.sip_reader.specs.Texts.{is_barred, is_id, is_text}
+use Rattle.circ_records.specs.declared.holds.TheConstants.{QUEUE_MAX}
 use Rattle.circ_records.specs.Base.{first_broken}
 use Rattle.circ_records.specs.Coherent.{Coherent, are_distinct, as_fee, as_item, as_patron, has_id, is_hold, is_known, is_lent_to, is_loan_of, is_owed_by}
 use Rattle.circ_records.specs.Laws.{AreRising}
@@ -464,7 +465,7 @@ module _ (policy : Terms) (n : ℕ) (es : Entries) (rising : AreRising es) (co :
   unfolding is_full
   has-room x i h front back at is =
       let size : length (rows_with 0 x front ++ hold_row x h ∷ rows_with 0 x back) ≡ length i.holds = ap length (queue-split x i h front back at is) ∙ length-queued x i.holds in
-      lt-leb 9999 (length (rows_with 0 x front)) (omega (arith, size, length-append (rows_with 0 x front) (hold_row x h ∷ rows_with 0 x back), (co.items x i (ap as_item at)).few))
+      lt-leb QUEUE_MAX (length (rows_with 0 x front)) (omega (arith, size, length-append (rows_with 0 x front) (hold_row x h ∷ rows_with 0 x back), (co.items x i (ap as_item at)).few))
 
   borrows : (x : List ℕ) (i : Item) (h : Hold) → record_at es (key.Item x) ≡ Some (record_of.Item i) → has_id h.patron (map (λ h. h.patron) i.holds) ≡ true → (o : Option Loan) → i.loan ≡ o
       → is_borrower h.patron x (flat_map (loan_rows es) es) ≡ false

@@ -5,11 +5,13 @@ use Rattle.circ_policy.specs.Policy.{media_of}
 use Rattle.circ_policy.specs.Terms.{Terms}
 use Rattle.sip_reader.specs.Days.{day_at}
 use Rattle.sip_reader.specs.Texts.{is_id, is_text}
+use Rattle.sip_reader.specs.declared.amount.TheConstants.{AMOUNT_MAX}
 use Rattle.circ_records.specs.MadeFees.{may_be_made}
 use Rattle.circ_records.specs.Records.{Entries, record_at}
 use Rattle.circ_records.specs.Rules.{has_class}
 use Rattle.circ_records.specs.Values.{is_same}
 use Rattle.circ_records.specs.declared.holds.Hold.{Hold}
+use Rattle.circ_records.specs.declared.holds.TheConstants.{QUEUE_MAX}
 use Rattle.circ_records.specs.declared.key.Key.{Key}
 use Rattle.circ_records.specs.declared.key.Key.TheVariants as key
 use Rattle.circ_records.specs.declared.record.Fee.{Fee}
@@ -100,14 +102,14 @@ pub record IsCoherentItem (policy : Terms) (m : Map) (id : List ℕ) (i : Item) 
   pub loan : (l : Loan) → i.loan ≡ Some l → IsCoherentLoan m i.holds l
   pub holds : list_all (is_hold m) i.holds ≡ true
   pub holds_once : are_distinct (map (λ h. h.patron) i.holds) ≡ true
-  pub few : length i.holds ≤ 9999
+  pub few : length i.holds ≤ QUEUE_MAX
 
 -- a fee is a patron's, no more is paid than the amount, and no line from n on may make one of its id
 pub record IsCoherentFee (n : ℕ) (m : Map) (id : List ℕ) (f : Fee) : Type 0 where
   pub id_text : is_id id ≡ true
   pub patron : is_known m f.patron ≡ true
   pub paid : f.paid ≤ f.amount
-  pub amount : f.amount ≤ 99999999999
+  pub amount : f.amount ≤ AMOUNT_MAX
   pub number : may_be_made n id ≡ false
 
 -- a map of coherent records

@@ -1,8 +1,8 @@
 pub mod Base
 pub mod Changes
 pub mod Coherent
+pub mod Devices
 pub mod FeeTypes
-pub mod IdLists
 pub mod Keys
 pub mod Laws
 pub mod MadeFees

@@ -16,6 +16,7 @@ use Rattle.circ_records.specs.declared.fault.BaseError.{BaseError}
 use Rattle.circ_records.specs.declared.fault.BaseError.TheVariants as error
 use Rattle.circ_records.specs.declared.fault.BaseRule.{BaseRule}
 use Rattle.circ_records.specs.declared.fault.BaseRule.TheVariants as rule
+use Rattle.circ_records.specs.declared.holds.TheConstants.{QUEUE_MAX}
 use Rattle.circ_records.specs.declared.tables.TableName.{TableName}
 
 -- whether some row has a text in a column
@@ -134,7 +135,7 @@ is_borrower patron item loans = is_of_patron patron (row_with 1 item loans)
 
 -- the rule `queue`: 9,999 wait for the item already
 unfoldable pub is_full : List ℕ → List Row → Bool
-is_full item holds = nat_le 9999 (length (rows_with 0 item holds))
+is_full item holds = nat_le QUEUE_MAX (length (rows_with 0 item holds))
 
 -- the first rule that a row of holds breaks
 unfoldable pub hold_rule : List Row → List Row → List Row → List Row → Row → Option BaseRule

@@ -5,6 +5,7 @@ use Rattle.std.specs.Cmp.Lexicographic.{pointwise}
 use Rattle.std.specs.List.{find, list_all}
 use Rattle.std.specs.Str.Parse.{digits_value}
 use Rattle.sip_reader.specs.Amounts.{amount_of}
+use Rattle.sip_reader.specs.Bytes as byte
 use Rattle.sip_reader.specs.Dates.{two_at, year_at}
 use Rattle.sip_reader.specs.Days.{day_at}
 use Rattle.circ_records.specs.FeeTypes.{fee_type_code}
@@ -20,7 +21,7 @@ unfoldable pub flag_of : List ℕ → Option Bool
 flag_of text = if is_same text (codes "Y") then Some true else if is_same text (codes "N") then Some false else None
 
 abbrev pub has_leading_zero : List ℕ → Bool
-has_leading_zero text = nat_le 2 (length text) && (slice_index text 0 == 48)
+has_leading_zero text = nat_le 2 (length text) && (slice_index text 0 == byte.zero)
 
 -- at least one digit and at most so many, without leading zeros
 unfoldable pub is_decimal : ℕ → List ℕ → Bool

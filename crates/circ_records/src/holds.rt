@@ -32,6 +32,9 @@ impl Hold {
     }
 }
 
+/// The longest queue of an item, in holds: positions in it have four digits.
+pub const QUEUE_MAX: usize = 9_999;
+
 /// The queue of an item: who waits for it, in order.
 pub struct Holds {
     holds: Vec<Hold>,

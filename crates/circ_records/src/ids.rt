@@ -1,5 +1,5 @@
 ghost use Rattle.std.specs.Prelude.{◌≡◌, ◌++◌, ◌∷◌, [], IfOk, OnOk, OnErr, length, IsTrue, ◌↔◌};
-ghost use Rattle.circ_records.specs.IdLists.{ids_held};
+ghost use Rattle.circ_records.specs.Devices.IdLists.{ids_held};
 
 use sip_reader::Id;
 use std::alloc::{AllocError, Global};
@@ -41,7 +41,7 @@ impl Drop for Held {
 
 impl Model for Ids {
     ghost use Rattle.std.specs.Prelude.{ℕ, List};
-    ghost use Rattle.circ_records.specs.IdLists.{ids_held};
+    ghost use Rattle.circ_records.specs.Devices.IdLists.{ids_held};
 
     ghost Value = { List (List ℕ) };
 

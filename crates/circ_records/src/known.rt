@@ -11,6 +11,7 @@ ghost use Rattle.circ_records.specs.Rules as Rules;
 ghost use Rattle.circ_records.specs.Tables.{Rows};
 ghost use Rattle.circ_records.specs.declared.key.Key.TheVariants as key;
 
+use crate::holds::QUEUE_MAX;
 use crate::key::Key;
 use crate::record::{Item, Loan, Record};
 use sip_reader::Id;
@@ -85,12 +86,12 @@ fn is_loan_of(patron: Id, loan: Option<Loan>) -> bool
     }
 }
 
-/// Whether there is an item with this id and 9,999 wait for it.
+/// Whether there is an item with this id and as many wait for it as may.
 pub(crate) fn is_full(records: &BTreeMap<Key, Record>, id: Id) -> bool
     ensures { (r : Rows) → Tells r records.now → result ≡ (has_row 0 id r.items && Rules.is_full id r.holds) }
 {
     match item_at(records, id) {
-        Some(item) => item.holds.len() >= 9999,
+        Some(item) => item.holds.len() >= QUEUE_MAX,
         None => false,
     }
 }

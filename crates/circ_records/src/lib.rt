@@ -27,6 +27,7 @@ mod record;
 mod records;
 mod row_texts;
 mod rows;
+mod same;
 mod table_texts;
 mod tables;
 mod texts;
@@ -35,7 +36,7 @@ mod written;
 
 pub use base::Base;
 pub use fault::{BaseError, BaseRule};
-pub use holds::{Hold, Holds};
+pub use holds::{Hold, Holds, QUEUE_MAX};
 pub use ids::Ids;
 pub use key::Key;
 pub use laws::{written_is_told, written_reads_back};

@@ -9,10 +9,7 @@ ghost use Rattle.circ_records.specs.Tables.{field};
 
 use csv::ByteRecord;
 use csv_table::column;
-use sip_reader::Id;
-
-/// The longest text, in bytes.
-const TEXT_MAX: usize = 1024;
+use sip_reader::{Id, TEXT_MAX};
 
 /// Whether bytes are a text: at most 1,024, without a bar, CR or LF.
 #[tactic(auto, unfolding(sip_reader::specs::Texts::is_text))]

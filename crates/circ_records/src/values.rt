@@ -1,14 +1,13 @@
 //! The values of rows.
 
-ghost use Rattle.std.specs.Prelude.{◌≡◌, ◌≤◌, ◌+◌, ◌<◌, ◌^◌, true, Some, IsTrue, length};
-ghost use Rattle.std.specs.Char.{digit_value, is_ascii_digit};
+ghost use Rattle.std.specs.Prelude.{◌≡◌, ◌≤◌, ◌+◌, ◌<◌, true, Some, IsTrue, length};
+ghost use Rattle.std.specs.Char.{is_ascii_digit};
 ghost use Rattle.std.specs.List.{list_all};
-ghost use Rattle.std.specs.Str.Parse.{digits_value};
 ghost use Rattle.sip_reader.specs.Dates.{two_at, year_at};
 ghost use Rattle.sip_reader.specs.Days.{day_at};
 ghost use Rattle.circ_records.specs.Values as Values;
 
-use sip_reader::Day;
+use sip_reader::{Day, all_digits, number_of_digits};
 
 /// The flag that a text is: `Y` or `N`.
 #[tactic(auto, unfolding(crate::specs::Values::flag_of))]
@@ -30,7 +29,7 @@ pub(crate) fn decimal_of(text: &[u8]) -> Option<u64>
     ensures { result ≡ Values.decimal_of 10 text.now }
 {
     if is_decimal(text, 10) {
-        Some(number_of(text))
+        Some(number_of_digits(text))
     } else {
         None
     }
@@ -46,39 +45,10 @@ pub(crate) fn is_decimal(text: &[u8], most: usize) -> bool
     !text.is_empty() && text.len() <= most && all_digits(text) && !has_leading_zero(text)
 }
 
-fn all_digits(text: &[u8]) -> bool
-    ensures { result ≡ list_all is_ascii_digit text.now }
-{
-    text.iter().all(|b| b.is_ascii_digit())
-}
-
 fn has_leading_zero(text: &[u8]) -> bool
     ensures { result ≡ Values.has_leading_zero text.now }
 {
     text.len() >= 2 && text[0] == b'0'
-}
-
-/// The number that at most ten digits spell.
-fn number_of(digits: &[u8]) -> u64
-    requires few { length digits.now ≤ 10 }
-    requires digits { list_all is_ascii_digit digits.now ≡ true }
-    ensures value { result ≡ digits_value 10 digits.now }
-    ensures small { result < 10 ^ 10 }
-{
-    let mut number = 0;
-    for b in digits {
-        number = number * 10 + digit(*b);
-    }
-    number
-}
-
-/// The value of a digit.
-fn digit(b: u8) -> u64
-    requires { is_ascii_digit b ≡ true }
-    ensures value { result ≡ digit_value b }
-    ensures small { result < 10 }
-{
-    u64::from(b - b'0')
 }
 
 /// How often a loan was renewed: 0 to 4,294,967,295 without leading zeros.

@@ -12,7 +12,7 @@ pub use error::{JournalError, JournalRule};
 pub use journal::Journal;
 pub use line::Line;
 pub use number::{number_of, spells_decimal};
-pub use readings::{Readings, read_all, read_in_turn};
+pub use readings::{Readings, STRETCH, read_all, read_in_turn};
 
 /// The most lines that a journal has.
 pub const LINE_LIMIT: usize = 1_000_000;

@@ -15,8 +15,8 @@ use std::alloc::{AllocError, Global};
 use std::marker::Model;
 use std::thread::Threads;
 
-/// How many readings a stretch has. The last one may have fewer.
-const STRETCH: usize = 4096;
+/// How many lines a core takes at a time, where all cores read or tell them: a stretch. The last one may have fewer.
+pub const STRETCH: usize = 4096;
 
 /// What the request of each line is. The numbers of the lines rise by one from the first.
 ///

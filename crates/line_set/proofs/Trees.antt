@@ -3,7 +3,7 @@ use Rattle.std.proofs.Common.{◌≡◌, ◌≢◌, ℕ, zero, suc, ◌+◌, ◌
 use Rattle.std.proofs.lemmas.Bool.{cases_eq, cases_lt, lt-ltb, le-ltb}
 use Rattle.std.proofs.lemmas.List.{get_or_past}
 use Rattle.line_set.specs.Trees.{node_at, joined, AllBut, IsPower, IsTree, IsLeastFrom}
-use Rattle.line_set.specs.Rows.{below, IsAbove, IsInRow, NoneSet, IsNext}
+use Rattle.line_set.specs.Devices.Rows.{below, IsAbove, IsInRow, NoneSet, IsNext}
 
 -- ---- numbers below a node
 pub below_le : (i j k : ℕ) → i ≤ j → below i k ≤ below j k

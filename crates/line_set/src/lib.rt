@@ -4,4 +4,4 @@
 
 mod line_set;
 
-pub use line_set::LineSet;
+pub use line_set::{LineSet, PLACES_MAX};

@@ -1,11 +1,14 @@
 //! A set of lines by their places.
 
 ghost use Rattle.std.specs.Prelude.{◌≡◌, ℕ, ◌+◌, ◌/◌, ◌<◌, ◌≤◌, length, replicate, slice_set, slice_index_or, true, false, IfOk, Some};
-ghost use Rattle.line_set.specs.Rows.{IsNext, IsNextNode};
+ghost use Rattle.line_set.specs.Devices.Rows.{IsNext, IsNextNode};
 ghost use Rattle.line_set.specs.Trees.{AllBut, IsLeastFrom, IsPower, IsTree, joined, node_at};
 
 use std::alloc::{AllocError, Global};
 use std::marker::Model;
+
+/// The most places of a set.
+pub const PLACES_MAX: usize = 1_000_000;
 
 /// Some of the places 0 to so many. Over the flags of the places stands a tree, each node of which says whether there is
 /// one below it: node 1 is the root, nodes 2 n and 2 n + 1 are below node n, and the flags are the last row.
@@ -33,9 +36,9 @@ impl Model for LineSet {
 }
 
 impl LineSet {
-    /// A set of places below `len` (at most 1,000,000): all of them, or none.
+    /// A set of places below `len`, at most `PLACES_MAX`: all of them, or none.
     pub fn new(alloc: Global, len: usize, all: bool) -> Result<LineSet, AllocError>
-        requires { len ≤ 1000000 }
+        requires { len ≤ PLACES_MAX }
         ensures { IfOk result (λ s. s ≡ replicate len all) }
     {
         let width = row_width(len);
@@ -88,7 +91,7 @@ impl LineSet {
 
 /// The least power of two that is at least `len`.
 fn row_width(len: usize) -> usize
-    requires { len ≤ 1000000 }
+    requires { len ≤ PLACES_MAX }
     ensures covers { len ≤ result }
     ensures power { IsPower result }
     ensures few { result ≤ 2000000 }

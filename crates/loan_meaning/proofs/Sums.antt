@@ -1,19 +1,19 @@
 -- The running sum of what is owed is what asking fee by fee gives.
-use Rattle.std.proofs.Common.{◌≡◌, inl, inr, ℕ, ◌+◌, ◌-◌, ◌<◌, ◌≤◌, ◌^◌, Bool, true, false, cond, List, [], ◌∷◌, ◌++◌, length, take, Option, Some, None, add-one, refl, ap, sym, ◌∙◌, subst, arith}
-use Rattle.std.specs.Prelude.{nat_eq, nat_lt, Contains, codes, decimal, get_or}
+use Rattle.std.proofs.Common.{◌≡◌, inl, inr, ℕ, ◌+◌, ◌-◌, ◌<◌, ◌≤◌, ◌^◌, Bool, true, false, cond, List, [], ◌∷◌, ◌++◌, length, take, Option, Some, None, refl, ap, sym, ◌∙◌, subst, arith}
+use Rattle.std.specs.Prelude.{◌⊎◌, ◌==◌, not, nat_eq, nat_lt, Contains, codes, decimal, if◌then◌else◌}
 use Rattle.std.specs.Cmp.Lexicographic.{nat_list_eq_equiv, pointwise}
 use Rattle.std.proofs.Math.ListN.{length-append}
-use Rattle.std.proofs.Math.Seq.{take-append_seam, take-suc}
+use Rattle.std.proofs.Math.Seq.{take-append_seam}
 use Rattle.std.specs.BTreeMap.{is_at}
-use Rattle.std.specs.List.{starts_with}
 use Rattle.std.specs.Option.{option_map_or}
 use Rattle.std.specs.Ordering.{is_eq}
 use Rattle.std.specs.declared.cmp.Ordering.{Ordering}
 use Rattle.std.specs.declared.cmp.Ordering.TheVariants.{Less, Equal, Greater}
 use Rattle.std.proofs.lemmas.Fmt.{decimal_digit, decimal_injective}
 use Rattle.std.proofs.lemmas.Bool.Decides.{nat_tests}
-use Rattle.std.proofs.lemmas.List.{append_cancel_left, take_all}
+use Rattle.std.proofs.lemmas.List.{append_cancel_left}
 use Rattle.std.proofs.lemmas.List.Elements.{Contains-append_right, Contains-push_cases}
+use Rattle.std.proofs.lemmas.List.Folds.{list_all_at}
 use Rattle.circ_policy.specs.Terms.{Terms}
 use Rattle.circ_records.specs.Keys.{key_cmp, key_cmp-IsAntisymmetric}
 use Rattle.circ_records.specs.Records.{Entries, record_at}
@@ -26,12 +26,13 @@ use Rattle.circ_records.specs.declared.record.Record.TheVariants as records
 use Rattle.sip_reader.specs.Texts.{fee_id}
 use Rattle.loan_meaning.specs.Lookups.{ask_after}
 use Rattle.loan_meaning.specs.Owing.{owed_from, owed_at}
-use Rattle.loan_meaning.specs.Sums.{IsKnown, AreNew, Runs, IsMore, charged_by}
+use Rattle.loan_meaning.specs.Devices.Sums.{IsKnown, AreNew, Runs, fee_front, begins_as_made, none_begins_as_made, with_room, sum_with, charged_by}
 use Rattle.read_set.specs.Asks.{Asks, Give, Ask, ◌>>=◌, Reached, Done, Wants, follow}
 use Rattle.read_set.specs.Effects.{written}
 use Rattle.read_set.specs.Fees.{rest_of}
 use Rattle.read_set.specs.Known.{as_fee}
-use Rattle.read_set.specs.Loans.{renewed, due_for}
+use Rattle.read_set.specs.Loans.{due_for}
+use Rattle.read_set.specs.Renewals.{renewed}
 use Rattle.read_set.specs.Maps.{Part, Grows}
 use Rattle.read_set.specs.RenewAlls.{one_left, turn_by, none_renewed}
 use Rattle.read_set.specs.declared.known.Article.{Article}
@@ -117,6 +118,27 @@ none-above a e = grind (arith, nat_tests)
 some-above : (a : ℕ) → nat_lt 0 a ≡ true → a ≡ 0 → ⊥
 some-above a e z = absurd (grind (arith, nat_tests))
 
+-- A SUM WITH AN AMOUNT MORE
+
+-- what of it the rule needs: a sum that is known is the sum before and the amount, which is 0 where the fees of the line aren't new
+abbrev IsMore : Bool → ℕ → Option ℕ → Option ℕ → Type 0
+IsMore fresh amount sum None = Unit {0}
+IsMore fresh amount None (Some more) = ⊥
+IsMore fresh amount (Some sum) (Some more) = (more ≡ sum + amount) × ((amount ≡ 0) ⊎ (fresh ≡ true))
+
+more_room : (room : Bool) (amount sum : ℕ) → IsMore true amount (Some sum) (if room then Some (sum + amount) else None)
+more_room true amount sum = (refl, inr refl)
+more_room false amount sum = tt
+
+more_by : (zero fresh : Bool) (amount sum : ℕ) → (zero ≡ true → amount ≡ 0) → IsMore fresh amount (Some sum) (if zero then Some sum else if fresh then with_room (sum + amount) else None)
+more_by true fresh amount sum h = let none : amount ≡ 0 = h refl in (omega arith, inl none)
+more_by false true amount sum h = more_room (nat_lt (sum + amount) (2 ^ 128)) amount sum
+more_by false false amount sum h = tt
+
+is-more : (fresh : Bool) (amount : ℕ) (sum : Option ℕ) → IsMore fresh amount sum (sum_with fresh amount sum)
+is-more fresh amount None = tt
+is-more fresh amount (Some sum) = more_by (amount == 0) fresh amount sum (λ e. grind (arith, nat_tests))
+
 -- WHAT IS OWED AFTER A TURN
 
 unchanged : (has : Part) (w v : Entries) (fees : List (List ℕ)) (sum : ℕ) → ((id : List ℕ) → Contains fees id → record_at v (keys.Fee id) ≡ record_at w (keys.Fee id))
@@ -174,66 +196,62 @@ new_after true n made fees h k l s c =
       | inr e ↦ let same : made ≡ k = one_fee n made k (omega arith) s e in absurd (omega arith)
     ]
 
--- a turn, and the sum after it
-pub run_turn : (has : Part) (p : Terms) (n : ℕ) (a : LoanRequest) (date : List ℕ) (article : Article) (done : Renewals) (v : Verdict) (fresh : Bool) (sum more : Option ℕ) → done.made < 2 ^ 64
+turn_runs : (has : Part) (p : Terms) (n : ℕ) (a : LoanRequest) (date : List ℕ) (article : Article) (done : Renewals) (v : Verdict) (fresh : Bool) (sum more : Option ℕ) → done.made < 2 ^ 64
     → Runs has n fresh done sum → IsMore fresh (charged_by v article.media.rental) sum more → Runs has n fresh (turn_by p n a date article done v) more
 unfolding turn_by rest_of
-run_turn has p n a date article done verdicts.Refused fresh sum more s h m = record { known = less_known has fresh done.writes done.member.patron.fees sum more m h.known; new = h.new }
-run_turn has p n a date article done verdicts.Unpaid fresh sum more s h m = record { known = less_known has fresh done.writes done.member.patron.fees sum more m h.known; new = h.new }
-run_turn has p n a date article done verdicts.Made fresh sum more s h m = record {
+turn_runs has p n a date article done verdicts.Refused fresh sum more s h m = record { known = less_known has fresh done.writes done.member.patron.fees sum more m h.known; new = h.new }
+turn_runs has p n a date article done verdicts.Unpaid fresh sum more s h m = record { known = less_known has fresh done.writes done.member.patron.fees sum more m h.known; new = h.new }
+turn_runs has p n a date article done verdicts.Made fresh sum more s h m = record {
   known = made_known has (nat_lt 0 article.media.rental) fresh done.writes a.item (records.Item (renewed (due_for p a date article.media) article.item)) (fee_id n done.made)
       (record { patron = a.patron; kind = fee_types.Rental; amount = article.media.rental; paid = 0 }) done.member.patron.fees sum more article.media.rental refl (omega arith)
       (λ is c. h.new is done.made (omega arith) s c) m h.known;
   new = λ is. new_after (nat_lt 0 article.media.rental) n done.made done.member.patron.fees (h.new is);
 }
 
--- before the first turn
-pub run_none : (has : Part) (n : ℕ) (member : Member) (fresh : Bool) → (fresh ≡ true → AreNew n 0 member.patron.fees) → Runs has n fresh (none_renewed member) None
-run_none has n member fresh h = record { known = tt; new = h }
+-- a turn, and the sum after it
+pub run_turn : (has : Part) (p : Terms) (n : ℕ) (a : LoanRequest) (date : List ℕ) (article : Article) (done : Renewals) (v : Verdict) (fresh : Bool) (sum more : Option ℕ) → done.made < 2 ^ 64
+    → Runs has n fresh done sum → more ≡ sum_with fresh (charged_by v article.media.rental) sum → Runs has n fresh (turn_by p n a date article done v) more
+run_turn has p n a date article done v fresh sum more s h e =
+    turn_runs has p n a date article done v fresh sum more s h
+    (subst (IsMore fresh (charged_by v article.media.rental) sum) (sym e) (is-more fresh (charged_by v article.media.rental) sum))
 
 -- HOW THE IDS OF A LINE'S FEES BEGIN
 
-front : ℕ → List ℕ
-front n = codes "R" ++ decimal n ++ codes "-"
-
-fee-front : (n k : ℕ) → fee_id n k ≡ front n ++ decimal k
-unfolding fee_id front
+fee-front : (n k : ℕ) → fee_id n k ≡ fee_front n ++ decimal k
+unfolding fee_id
 fee-front n k = refl
 
-first-fee : (n : ℕ) → fee_id n 0 ≡ front n ++ 48 ∷ []
-first-fee n = fee-front n 0 ∙ ap (λ d. front n ++ d) (decimal_digit 0 (omega arith))
+first-fee : (n : ℕ) → fee_id n 0 ≡ fee_front n ++ 48 ∷ []
+first-fee n = fee-front n 0 ∙ ap (λ d. fee_front n ++ d) (decimal_digit 0 (omega arith))
+
+first-length : (n : ℕ) → length (fee_id n 0) ≡ length (fee_front n) + 1
+first-length n = ap length (first-fee n) ∙ length-append (fee_front n) (48 ∷ [])
 
 pub first-some : (n : ℕ) → 1 ≤ length (fee_id n 0)
-first-some n =
-    let len : length (fee_id n 0) ≡ length (front n) + 1 = ap length (first-fee n) ∙ length-append (front n) (48 ∷ []) in
-    omega arith
+first-some n = let len = first-length n in omega arith
 
-cut-front : (n : ℕ) → take (length (fee_id n 0) - 1) (fee_id n 0) ≡ front n
+-- without its last digit the first of them is how each begins
+pub cut-front : (n : ℕ) → take (length (fee_id n 0) - 1) (fee_id n 0) ≡ fee_front n
 cut-front n =
-    let len : length (fee_id n 0) ≡ length (front n) + 1 = ap length (first-fee n) ∙ length-append (front n) (48 ∷ []) in
-    let upto : length (fee_id n 0) - 1 ≡ length (front n) = omega arith in
-    ap (λ m. take m (fee_id n 0)) upto ∙ ap (λ ids. take (length (front n)) ids) (first-fee n) ∙ take-append_seam (front n) (48 ∷ [])
+    let len = first-length n in
+    let upto : length (fee_id n 0) - 1 ≡ length (fee_front n) = omega arith in
+    ap (λ m. take m (fee_id n 0)) upto ∙ ap (λ ids. take (length (fee_front n)) ids) (first-fee n) ∙ take-append_seam (fee_front n) (48 ∷ [])
 
--- each begins as the first does
-pub begins : (n k : ℕ) (id : List ℕ) → id ≡ fee_id n k → starts_with nat_eq id (take (length (fee_id n 0) - 1) (fee_id n 0)) ≡ true
-begins n k id e =
-    ap (λ p. starts_with nat_eq id p) (cut-front n)
-    ∙ ap (λ i. pointwise nat_eq (front n) (take (length (front n)) i)) (e ∙ fee-front n k)
-    ∙ ap (pointwise nat_eq (front n)) (take-append_seam (front n) (decimal k))
-    ∙ nat_list_eq_equiv.refl (front n)
+each-begins : (n k : ℕ) → begins_as_made n (fee_id n k) ≡ true
+each-begins n k =
+    ap (λ i. pointwise nat_eq (fee_front n) (take (length (fee_front n)) i)) (fee-front n k)
+    ∙ ap (pointwise nat_eq (fee_front n)) (take-append_seam (fee_front n) (decimal k))
+    ∙ nat_list_eq_equiv.refl (fee_front n)
 
--- an id that is none of them
-pub still_new : (n i : ℕ) (fees : List (List ℕ)) (d : List ℕ) → i < length fees → d ≡ get_or fees i d → ((k : ℕ) → d ≡ fee_id n k → ⊥)
-    → AreNew n 0 (take i fees) → AreNew n 0 (take (i + 1) fees)
-still_new n i fees d within at other h k l s c =
-    let cut : take (i + 1) fees ≡ take i fees ++ get_or fees i d ∷ [] = rw add-one (take-suc fees i d within) in
-    elim (Contains-push_cases (take i fees) (get_or fees i d) (fee_id n k) (subst (λ (ids : List (List ℕ)). Contains ids (fee_id n k)) cut c)) [
-      | inl a ↦ h k l s a
-      | inr e ↦ other k (at ∙ e)
-    ]
+-- where no id begins so, none is a fee of the line
+new_where : (n : ℕ) (fees : List (List ℕ)) → none_begins_as_made n fees ≡ true → AreNew n 0 fees
+new_where n fees e k l s c =
+    let not_all : none_begins_as_made n fees ≡ false = list_all_at (λ id. not (begins_as_made n id)) fees c.0 (fee_id n k) c.1 (ap (λ id. not (begins_as_made n id)) c.2 ∙ ap not (each-begins n k)) in
+    let clash : false ≡ true = sym not_all ∙ e in cc
 
-pub all_new : (n i : ℕ) (fees : List (List ℕ)) → length fees ≤ i → AreNew n 0 (take i fees) → AreNew n 0 fees
-all_new n i fees end h = subst (AreNew n 0) (take_all i fees end) h
+-- before the first turn
+pub run_none : (has : Part) (n : ℕ) (member : Member) (fresh : Bool) → fresh ≡ none_begins_as_made n member.patron.fees → Runs has n fresh (none_renewed member) None
+run_none has n member fresh h = record { known = tt; new = λ t. new_where n member.patron.fees (sym h ∙ t) }
 
 -- an item that is left
 pub run_left : (has : Part) (n : ℕ) (item : List ℕ) (done : Renewals) (fresh : Bool) (sum : Option ℕ) → Runs has n fresh done sum → Runs has n fresh (one_left item done) sum

@@ -13,22 +13,25 @@ use Rattle.sip_reader.specs.declared.request.Checkin.{Checkin}
 use Rattle.sip_reader.specs.declared.request.Checkout.{Checkout}
 use Rattle.sip_reader.specs.declared.request.Renew.{Renew}
 use Rattle.sip_reader.specs.declared.request.RenewAll.{RenewAll}
-use Rattle.loan_meaning.specs.Lending.{lending_tests, other_at, lending_of, lending_rule_by, lending_rule, renewal_tests, renewal_rule, renew_rule_known, renew_rule, checkout_rule_known, checkout_rule}
+use Rattle.loan_meaning.specs.Checkouts.{lending_tests, other_at, lending_of, lending_rule_by, lending_rule, checkout_rule_known, checkout_rule}
+use Rattle.loan_meaning.specs.Renewals.{renewal_tests, renewal_rule, renew_rule_known, renew_rule}
 use Rattle.loan_meaning.specs.Lookups.{patron_at, item_at, borrower_at, ask_after}
 use Rattle.loan_meaning.specs.Owing.{owed_from, owed_at, owing_tests}
-use Rattle.loan_meaning.specs.RenewingAll.{turn_rule_known, turn_rule, turns_rule, renew_all_rule_known, renew_all_rule}
-use Rattle.loan_meaning.specs.Returning.{checkin_rule}
+use Rattle.loan_meaning.specs.RenewAlls.{turn_rule_known, turn_rule, turns_rule, renew_all_rule_known, renew_all_rule}
+use Rattle.loan_meaning.specs.Checkins.{checkin_rule}
 use Rattle.read_set.specs.Asks.{Asks, Give, Ask, over, follow}
 use Rattle.read_set.specs.Fees.{rest_of, owed, owing_verdict}
 use Rattle.read_set.specs.Ids.{same}
 use Rattle.read_set.specs.Known.{as_fee, as_article, patron_in, item_in, fee_in, borrower_in}
-use Rattle.read_set.specs.Loans.{by_checkout, by_renew, is_lent, lent_to, may_renew, renewals_of, lending_verdict, lending_made, lending_by, lending, other_in, renewal_verdict, renewal_by, renewal, renew_known, renew, checkout_known, checkout}
+use Rattle.read_set.specs.Checkouts.{lending_verdict, lending_made, lending_by, lending, other_in, checkout_known, checkout}
+use Rattle.read_set.specs.Loans.{by_checkout, by_renew, is_lent, lent_to}
+use Rattle.read_set.specs.Renewals.{may_renew, renewals_of, renewal_verdict, renewal_by, renewal, renew_known, renew}
 use Rattle.read_set.specs.Maps.{Map, Part, Agrees, put}
 use Rattle.read_set.specs.Stops.{Follows}
 use Rattle.read_set.specs.declared.source.Stop.{Stop}
 use Rattle.read_set.specs.Queues.{has_queue, first_is_another}
 use Rattle.read_set.specs.RenewAlls.{by_renew_all, turn_by, turn_known, turn, turns, none_renewed, all_renewed, renew_all_known, renew_all}
-use Rattle.read_set.specs.Returns.{checked_in, loan_of, checkin}
+use Rattle.read_set.specs.Checkins.{checked_in, loan_of, checkin}
 use Rattle.read_set.specs.declared.known.Article.{Article}
 use Rattle.read_set.specs.declared.known.Member.{Member}
 use Rattle.read_set.specs.declared.progress.Renewals.{Renewals}

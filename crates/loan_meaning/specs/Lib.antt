@@ -1,6 +1,7 @@
-pub mod Lending
+pub mod Checkins
+pub mod Checkouts
+pub mod Devices
 pub mod Lookups
 pub mod Owing
-pub mod RenewingAll
-pub mod Returning
-pub mod Sums
+pub mod RenewAlls
+pub mod Renewals

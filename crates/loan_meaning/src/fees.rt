@@ -2,7 +2,7 @@
 
 ghost use Rattle.std.specs.Prelude.{◌≡◌, nat_lt, OnOk, OnErr};
 ghost use Rattle.loan_meaning.specs.Owing.{owed_at, owed_from, owing_tests};
-ghost use Rattle.loan_meaning.specs.Sums.{IsKnown};
+ghost use Rattle.loan_meaning.specs.Devices.Sums.{IsKnown};
 ghost use Rattle.read_set.specs.Asks.{follow, Gains};
 ghost use Rattle.read_set.specs.Effects.{written};
 ghost use Rattle.read_set.specs.Fees.{rest_of, fee_made, with_fee, owing_verdict};

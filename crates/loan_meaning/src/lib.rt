@@ -5,24 +5,24 @@
 
 mod asked;
 mod asking;
+mod checkins;
+mod checkouts;
 mod fees;
-mod lending;
 mod lists;
 mod lookup;
-mod renewing;
-mod renewing_all;
-mod returning;
+mod renew_alls;
+mod renewals;
 mod running;
 mod telling;
 
 pub use asking::{has_lent_to, has_loan};
+pub use checkins::check_in;
+pub use checkouts::check_out;
 pub use fees::owed_of;
-pub use lending::check_out;
 pub use lists::{
-    has_id, has_queue, is_first_another, is_same, place, waits, with_pickup, without, without_all,
-    without_hold,
+    has_id, has_queue, is_first_another, is_same, position, waits, with_pickup, without,
+    without_all, without_hold,
 };
 pub use lookup::{borrower_of, fee_of, item_of, patron_of, read_after};
-pub use renewing::renew_item;
-pub use renewing_all::renew_all;
-pub use returning::check_in;
+pub use renew_alls::renew_all;
+pub use renewals::renew_item;

@@ -5,7 +5,7 @@ ghost use Rattle.std.specs.BTreeSet.{contains};
 ghost use Rattle.std.specs.Cmp.Lexicographic.{slice_cmp};
 ghost use Rattle.std.specs.Ordering.{nat_cmp};
 ghost use Rattle.read_set.specs.Ids.{same, has_id, without, without_all};
-ghost use Rattle.read_set.specs.Queues.{place_from, waits, has_queue, first_is_another, without_hold, with_pickup};
+ghost use Rattle.read_set.specs.Queues.{position_from, waits, has_queue, first_is_another, without_hold, with_pickup};
 
 use circ_records::{Hold, Holds, Ids};
 use sip_reader::{Id, Text};
@@ -109,9 +109,9 @@ pub fn waits(holds: &[Hold], patron: &Id) -> bool
     holds.iter().any(|hold| is_same(&hold.patron, patron))
 }
 
-/// A patron's place in the queue, counted from 1.
-pub fn place(holds: &[Hold], patron: &Id) -> Option<usize>
-    ensures { result ≡ place_from 1 patron.now holds.now }
+/// A patron's position in the queue, counted from 1.
+pub fn position(holds: &[Hold], patron: &Id) -> Option<usize>
+    ensures { result ≡ position_from 1 patron.now holds.now }
 {
     for (i, hold) in holds.iter().enumerate() {
         if is_same(&hold.patron, patron) {

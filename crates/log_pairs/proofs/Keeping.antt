@@ -5,7 +5,7 @@ use Rattle.std.proofs.lemmas.Bool.{cases_Bool, eqb-true, eq-eqb}
 use Rattle.std.proofs.lemmas.List.{get_or_append_left, get_or_at, get_or-set_other, length-append, length-set}
 use Rattle.std.proofs.lemmas.Slice.Eq.{bytes_eq-Decides}
 use Rattle.log_pairs.specs.Pairs.{Pair}
-use Rattle.log_pairs.specs.Places.{IsWaiting, is_place, no_pair}
+use Rattle.log_pairs.specs.Devices.Places.{IsWaiting, is_place, no_pair}
 use Rattle.log_pairs.proofs.Waiting.{Moves, Unanswered}
 
 -- each place is that of a request that waits
@@ -23,9 +23,6 @@ waits-on n ps p c i w =
     let it : get_or (ps ++ p ∷ []) (i - n) no_pair ≡ get_or ps (i - n) no_pair = get_or_append_left ps (p ∷ []) no_pair (i - n) at in
     let more : length (ps ++ p ∷ []) ≡ length ps + 1 = simp length-append in
     record { from = from; below = omega arith; same = rw it w.same; still = rw it w.still }
-
-pub waiting-more : (f : List ℕ → Option ℕ) (n : ℕ) (ps : List Pair) (p : Pair) → AreWaiting f n ps → AreWaiting f n (ps ++ p ∷ [])
-waiting-more f n ps p are c i at = waits-on n ps p c i (are c i at)
 
 pub waiting-asked : (f g : List ℕ → Option ℕ) (c m : List ℕ) (n i : ℕ) (ps : List Pair) → Moves c (Some i) f g → i ≡ n + length ps → AreWaiting f n ps
     → AreWaiting g n (ps ++ record { connection = c; request = m; response = None } ∷ [])

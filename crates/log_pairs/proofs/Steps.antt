@@ -1,5 +1,5 @@
 -- Each call on what waits, over its parts: n requests were taken, ps wait, and m has the places of those that are open.
-use Rattle.std.proofs.Common.{◌≡◌, ◌+◌, ◌-◌, ◌<◌, ◌≤◌, ℕ, suc, zero, List, [], ◌∷◌, ◌++◌, length, set, get_or, Option, Some, None, Bool, true, false, Vec, refl, sym, ap, subst, arith, ◌∙◌}
+use Rattle.std.proofs.Common.{◌≡◌, ◌+◌, ◌-◌, ◌<◌, ◌≤◌, ℕ, suc, zero, List, [], ◌∷◌, ◌++◌, length, set, take, get_or, Option, Some, None, Bool, true, false, Vec, refl, sym, ap, subst, arith, ◌∙◌}
 use Rattle.std.specs.Prelude.{if◌then◌else◌}
 use Rattle.std.specs.BTreeMap.{BTreeMap, UpdatesBy}
 use Rattle.std.specs.Cmp.Lexicographic.{slice_cmp}
@@ -7,9 +7,10 @@ use Rattle.std.specs.List.{AllByRecursion}
 use Rattle.std.specs.Ordering.{nat_cmp}
 use Rattle.std.specs.Str.{bytes_eq}
 use Rattle.std.proofs.lemmas.List.{length-append}
+use Rattle.std.proofs.Math.Seq.{take-append_seam}
 use Rattle.log_pairs.specs.Pairs.{Open, Pair, Pending, Said, Request, Response, begins_open, has_open, pairs_of, to_come}
-use Rattle.log_pairs.specs.Places.{IsWaiting, is_place, no_pair, pending_from, place_in}
-use Rattle.log_pairs.proofs.Keeping.{AreWaiting, unanswered, waiting-answered, waiting-asked, waiting-more, waiting-taken}
+use Rattle.log_pairs.specs.Devices.Places.{IsWaiting, is_place, no_pair, pending_from, place_in}
+use Rattle.log_pairs.proofs.Keeping.{AreWaiting, unanswered, waiting-answered, waiting-asked, waiting-taken}
 use Rattle.log_pairs.proofs.Keys.{place-after}
 use Rattle.log_pairs.proofs.Waiting.{Moves, answered, asked, ends, one-open, others}
 
@@ -97,10 +98,21 @@ taken-kept f n ps qs p is closed are =
     waiting-taken f n p qs (subst (λ (l : List Pair). begins_open (pending_from f n l) ≡ false) is closed) (subst (λ (l : List Pair). AreWaiting f n l) is are)
 
 -- a request that waits, but has no place
-pub more-kept : {A : Type 0} (n : ℕ) (ps qs : List Pair) (p : Pair) (m w : BTreeMap (Vec ℕ A) ℕ) → qs ≡ ps ++ p ∷ [] → w.entries ≡ m.entries → AreWaiting (place_in m) n ps → AreWaiting (place_in w) n qs
-more-kept n ps qs p m w is same are c i at =
+pub same-kept : {A : Type 0} (n : ℕ) (ps qs : List Pair) (m w : BTreeMap (Vec ℕ A) ℕ) → qs ≡ ps → w.entries ≡ m.entries → AreWaiting (place_in m) n ps → AreWaiting (place_in w) n qs
+same-kept n ps qs m w is same are c i at =
     let there : place_in w c ≡ place_in m c = rw same refl in
-    rw is (waiting-more (place_in m) n ps p are c i (sym there ∙ at))
+    rw is (are c i (sym there ∙ at))
+
+pub same-opened : {A : Type 0} (n : ℕ) (ps qs : List Pair) (m w : BTreeMap (Vec ℕ A) ℕ) → qs ≡ ps → w.entries ≡ m.entries → opened n qs w ≡ opened n ps m
+same-opened n ps qs m w is same = rw (is, same) refl
+
+-- a request that was put behind the others and taken back
+pub taken-back : (ps qs ws : List Pair) (p : Pair) (k : ℕ) → qs ≡ ps ++ p ∷ [] → k ≡ length qs → ws ≡ take (k - 1) qs → ws ≡ ps
+taken-back ps qs ws p k is at rest =
+    let more : length (ps ++ p ∷ []) ≡ length ps + 1 = simp length-append in
+    let size : length qs ≡ length ps + 1 = rw is more in
+    let before : k - 1 ≡ length ps = omega (arith, at, size) in
+    rest ∙ rw (before, is) (take-append_seam ps (p ∷ []))
 
 pub any-default : (ps : List Pair) (k : ℕ) (p : Pair) → k < length ps → p ≡ get_or ps k p → p ≡ get_or ps k no_pair
 any-default [] k p below is = absurd (omega arith)

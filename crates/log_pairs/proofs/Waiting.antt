@@ -5,7 +5,7 @@ use Rattle.std.specs.Str.{bytes_eq}
 use Rattle.std.proofs.lemmas.Bool.{cases_Bool, ne_eqb, eq-eqb}
 use Rattle.std.proofs.lemmas.Slice.Eq.{bytes_eq-Decides}
 use Rattle.log_pairs.specs.Pairs.{Pair, Said, Request, Response, has_open, pairs_of, reply_in, settled}
-use Rattle.log_pairs.specs.Places.{is_place, no_pair, pending_from}
+use Rattle.log_pairs.specs.Devices.Places.{is_place, no_pair, pending_from}
 
 -- what an open request is settled as, and a closed one
 abbrev settle : Bool → Option (List ℕ) → Pair → Pair

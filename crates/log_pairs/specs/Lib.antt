@@ -1,4 +1,4 @@
+pub mod Devices
 pub mod Escapes
 pub mod Pairs
-pub mod Places
 pub mod Rows

@@ -1,10 +1,10 @@
 //! Requests and responses in the order of a log, put together.
 
-ghost use Rattle.std.specs.Prelude.{◌≡◌, ◌+◌, ◌<◌, ◌≤◌, ◌∷◌, [], true, false, IfOk, OnOk, IfSome, IfNone, List, ℕ, length};
+ghost use Rattle.std.specs.Prelude.{◌≡◌, ◌+◌, ◌<◌, ◌≤◌, ◌∷◌, [], true, false, IfOk, OnOk, OnErr, IfSome, IfNone, List, ℕ, length};
 ghost use Rattle.std.specs.List.{AllByRecursion};
 ghost use Rattle.journal_table.specs.declared.TheConstants.{LINE_LIMIT};
 ghost use Rattle.log_pairs.specs.Pairs.{Said, Request, Response, has_open, begins_open, to_come};
-ghost use Rattle.log_pairs.specs.Places.{is_place, place_in};
+ghost use Rattle.log_pairs.specs.Devices.Places.{is_place, place_in};
 
 use crate::exchange::Exchange;
 use journal_table::LINE_LIMIT;
@@ -35,7 +35,7 @@ impl Model for Pairing {
 
     ghost Value = { Open };
 
-    ghost use Rattle.log_pairs.specs.Places.{IsKept, open_of};
+    ghost use Rattle.log_pairs.specs.Devices.Places.{IsKept, open_of};
 
     ghost view = { open_of };
 
@@ -69,6 +69,7 @@ impl Pairing {
     }
 
     /// The next line of the log is a request. One before it on its connection that is still open stays without a response.
+    /// Where there is no memory for it nothing changes.
     pub fn ask(
         &mut self,
         alloc: Global,
@@ -78,16 +79,21 @@ impl Pairing {
         requires { self.old.asked < LINE_LIMIT }
         ensures counted { OnOk result (self.new.asked ≡ self.old.asked + 1) }
         ensures pairs { OnOk result ((rest : List Said) → to_come self.new rest ≡ to_come self.old (Request connection.now request.now ∷ rest)) }
+        ensures same { OnErr result (self.new ≡ self.old) }
     {
         let place = self.asked();
         let name = Vec::from_slice(alloc, connection)?;
         let exchange = Exchange::asked(alloc, connection, request)?;
         self.waiting.push_back(exchange)?;
-        self.open.insert(name, place)?;
+        let Ok(_) = self.open.insert(name, place) else {
+            self.waiting.pop_back();
+            return Err(AllocError);
+        };
         Ok(())
     }
 
-    /// The next line of the log is a response. Gives whether it belongs to a request; else it changes nothing.
+    /// The next line of the log is a response. Gives whether it belongs to a request; else, and where there is no memory for
+    /// it, nothing changes.
     pub fn answer(
         &mut self,
         alloc: Global,
@@ -97,6 +103,7 @@ impl Pairing {
         ensures belongs { IfOk result (λ found. found ≡ has_open connection.now self.old.pending) }
         ensures counted { self.new.asked ≡ self.old.asked }
         ensures pairs { OnOk result ((rest : List Said) → to_come self.new rest ≡ to_come self.old (Response connection.now response.now ∷ rest)) }
+        ensures same { OnErr result (self.new ≡ self.old) }
     {
         let bytes = Vec::from_slice(alloc, response)?;
         let place = match self.open.remove(connection) {

@@ -1,7 +1,7 @@
 use Rattle.std.proofs.Common.{◌≡◌, ℕ, ◌+◌, ◌<◌, List, length, get_or, drop, Option, true, false, refl}
 use Rattle.std.specs.Prelude.{◌==◌}
 use Rattle.read_set.specs.Asks.{Done, IsAsked, follow}
-use Rattle.message_meaning.specs.Paying.{pay_rule_each}
+use Rattle.message_meaning.specs.Payments.{pay_rule_each}
 use Rattle.read_set.specs.Payments.{pay_one}
 use Rattle.read_set.specs.Known.{as_fee}
 use Rattle.read_set.specs.Stops.{StopsAt}

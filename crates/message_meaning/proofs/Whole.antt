@@ -18,19 +18,20 @@ use Rattle.sip_reader.specs.declared.request.Reading.TheVariants as readings
 use Rattle.loan_meaning.specs.Lookups.{patron_at, item_at, fee_at, ask_after}
 use Rattle.loan_meaning.specs.Owing.{owed_at}
 use Rattle.loan_meaning.proofs.Whole.{checkin_whole, checkout_whole, renew_whole, renew_all_whole, either, asked, owes}
-use Rattle.message_meaning.specs.Blocking.{block_rule, block_rule_known}
-use Rattle.message_meaning.specs.Paying.{pay_rule_each, named, meant_at, payment_rule, fee_paid_rule_known, fee_paid_rule}
-use Rattle.message_meaning.specs.Queueing.{hold_rule}
-use Rattle.message_meaning.specs.Rules.{item_status_rule, rule_of, rule, rule_by, rule_at}
+use Rattle.message_meaning.specs.Blocks.{block_rule, block_rule_known}
+use Rattle.message_meaning.specs.Payments.{pay_rule_each, named, meant_at, payment_rule, fee_paid_rule_known, fee_paid_rule}
+use Rattle.message_meaning.specs.Holds.{hold_rule}
+use Rattle.message_meaning.specs.ItemStatuses.{item_status_rule}
+use Rattle.message_meaning.specs.Rules.{rule_of, rule, rule_by, rule_at}
 use Rattle.read_set.specs.Asks.{Asks, Give, over, follow, ◌>>=◌}
 use Rattle.read_set.specs.Effects.{unwritten}
-use Rattle.read_set.specs.Holding.{hold}
+use Rattle.read_set.specs.Holds.{hold}
 use Rattle.read_set.specs.Ids.{same, has_id}
 use Rattle.read_set.specs.ItemStatuses.{item_status}
 use Rattle.read_set.specs.Known.{as_fee, fee_in, patron_in}
 use Rattle.read_set.specs.Maps.{Map, Part, Agrees, put}
 use Rattle.read_set.specs.Meaning.{effect, effect_of}
-use Rattle.read_set.specs.Patrons.{block, block_known, blocked_by}
+use Rattle.read_set.specs.Blocks.{block, block_known, blocked_by}
 use Rattle.read_set.specs.Payments.{part_of, part_paid, pay_one, pay_each, only_known, meant, payment, payment_answer, all_paid, fee_paid, fee_paid_known}
 use Rattle.read_set.specs.Plans.{Planned, reading_at}
 use Rattle.read_set.specs.Replay.{one_by, GivesAt}

@@ -1,6 +1,7 @@
-pub mod Blocking
+pub mod Blocks
+pub mod Holds
+pub mod ItemStatuses
 pub mod Needs
-pub mod Paying
-pub mod Queueing
+pub mod Payments
 pub mod Rules
 pub mod WhatIsPaid

@@ -2,29 +2,23 @@
 -- That over a whole map they are the meaning of the line is proved in proofs/Whole.
 use Rattle.std.specs.Prelude.{ℕ, true, false, List, Option, Some, None}
 use Rattle.circ_policy.specs.Terms.{Terms}
-use Rattle.loan_meaning.specs.Lending.{checkout_rule, renew_rule}
-use Rattle.loan_meaning.specs.Lookups.{item_at}
-use Rattle.loan_meaning.specs.RenewingAll.{renew_all_rule}
-use Rattle.loan_meaning.specs.Returning.{checkin_rule}
-use Rattle.message_meaning.specs.Blocking.{block_rule}
-use Rattle.message_meaning.specs.Paying.{fee_paid_rule}
-use Rattle.message_meaning.specs.Queueing.{hold_rule}
+use Rattle.loan_meaning.specs.Checkouts.{checkout_rule}
+use Rattle.loan_meaning.specs.Renewals.{renew_rule}
+use Rattle.loan_meaning.specs.RenewAlls.{renew_all_rule}
+use Rattle.loan_meaning.specs.Checkins.{checkin_rule}
+use Rattle.message_meaning.specs.Blocks.{block_rule}
+use Rattle.message_meaning.specs.ItemStatuses.{item_status_rule}
+use Rattle.message_meaning.specs.Payments.{fee_paid_rule}
+use Rattle.message_meaning.specs.Holds.{hold_rule}
 use Rattle.sip_answer.specs.declared.answer.Answer.TheVariants as answers
 use Rattle.sip_reader.specs.declared.request.Act.{Act}
 use Rattle.sip_reader.specs.declared.request.Act.TheVariants as acts
-use Rattle.sip_reader.specs.declared.request.ItemStatus.{ItemStatus}
 use Rattle.sip_reader.specs.declared.request.Reading.{Reading}
 use Rattle.sip_reader.specs.declared.request.Reading.TheVariants as readings
-use Rattle.read_set.specs.Asks.{Asks, Give, ◌>>=◌}
+use Rattle.read_set.specs.Asks.{Asks, Give}
 use Rattle.read_set.specs.Effects.{unwritten}
-use Rattle.read_set.specs.ItemStatuses.{updated}
 use Rattle.read_set.specs.Plans.{Planned, reading_at}
 use Rattle.read_set.specs.declared.effect.Effect.{Effect}
-
-unfoldable pub item_status_rule : Terms → ItemStatus → List ℕ → Asks Effect
-item_status_rule p q date = do
-  item ← item_at p q.item
-  Give (updated q date item)
 
 unfoldable pub rule_of : Terms → ℕ → List ℕ → Act → Asks Effect
 rule_of p n date (acts.BlockPatron q) = block_rule p true q.patron date

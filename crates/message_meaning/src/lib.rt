@@ -3,13 +3,13 @@
 //! by many, stands on it.
 #![tactic(auto)]
 
-mod blocking;
-mod holding;
-mod item_status;
+mod blocks;
+mod holds;
+mod item_statuses;
 mod laws;
 mod lines;
 mod needs;
-mod payment;
+mod payments;
 
 pub use laws::payments_pay_what_is_meant;
 pub use lines::perform;

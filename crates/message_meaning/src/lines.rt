@@ -6,10 +6,10 @@ ghost use Rattle.read_set.specs.Replay.{GivesAt};
 ghost use Rattle.read_set.specs.Stops.{Follows, LacksAt};
 ghost use Rattle.read_set.specs.Wanted.{WantsAt};
 
-use crate::blocking::block;
-use crate::holding::hold;
-use crate::item_status::update;
-use crate::payment::take_payment;
+use crate::blocks::block;
+use crate::holds::hold;
+use crate::item_statuses::update;
+use crate::payments::take_payment;
 use circ_policy::Policy;
 use loan_meaning::{check_in, check_out, renew_all, renew_item};
 use read_set::{Effect, Plan, Source, Stop};

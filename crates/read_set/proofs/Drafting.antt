@@ -10,7 +10,7 @@ use Rattle.circ_records.specs.Keys.{key_cmp, key_cmp_total, key_cmp-IsAntisymmet
 use Rattle.circ_records.specs.Records.{Entries}
 use Rattle.circ_records.specs.declared.key.Key.{Key}
 use Rattle.circ_records.specs.declared.record.Record.{Record}
-use Rattle.read_set.specs.Drafts.{Rise, place_from}
+use Rattle.read_set.specs.Devices.Drafts.{Rise, place_from}
 
 abbrev keys_in : Entries → List Key
 keys_in es = map (λ e. e.0) es

@@ -17,7 +17,7 @@ use Rattle.circ_records.specs.declared.key.Key.{Key}
 use Rattle.circ_records.specs.declared.record.Record.{Record}
 use Rattle.read_set.specs.Maps.{Map, Agrees}
 use Rattle.read_set.specs.Notes.{note_of, noted, IsOnceEach}
-use Rattle.read_set.specs.Places.{IsPlace, AreKept}
+use Rattle.read_set.specs.Devices.Places.{IsPlace, AreKept}
 use Rattle.read_set.specs.Settling.{AreTrue}
 use Rattle.read_set.specs.declared.notes.Note.{Note}
 

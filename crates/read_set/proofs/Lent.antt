@@ -2,6 +2,7 @@
 use Rattle.std.proofs.Common.{◌≡◌, ◌≤◌, ◌+◌, ℕ, List, [], ◌∷◌, ◌++◌, Bool, true, false, cond, Option, Some, None, length, refl, subst, sym, ap, ◌∙◌, arith}
 use Rattle.std.specs.Prelude.{◌&&◌, IfSome}
 use Rattle.circ_policy.specs.Terms.{Terms}
+use Rattle.circ_records.specs.declared.holds.TheConstants.{QUEUE_MAX}
 use Rattle.circ_records.specs.Coherent.{IsCoherentItem, IsCoherentLoan, is_hold, is_known}
 use Rattle.circ_records.specs.Values.{is_same}
 use Rattle.circ_records.proofs.Lookups.{same-text}
@@ -19,7 +20,9 @@ use Rattle.read_set.specs.Coherence.{IsDay}
 use Rattle.read_set.specs.Fees.{fee_made}
 use Rattle.read_set.specs.Ids.{same, without}
 use Rattle.read_set.specs.Known.{item_in, patron_in}
-use Rattle.read_set.specs.Loans.{by_checkout, by_renew, charge_for, checkout, checkout_known, due_for, freed, freed_by, lending, lending_by, lending_made, lending_patron, lending_records, lending_verdict, lending_writes, lent, lent_to, other_in, refused, renew, renew_known, renewal}
+use Rattle.read_set.specs.Checkouts.{checkout, checkout_known, freed, freed_by, lending, lending_by, lending_made, lending_patron, lending_records, lending_verdict, lending_writes, lent, other_in}
+use Rattle.read_set.specs.Loans.{by_checkout, by_renew, charge_for, due_for, lent_to, refused}
+use Rattle.read_set.specs.Renewals.{renew, renew_known, renewal}
 use Rattle.read_set.specs.Maps.{Map, put}
 use Rattle.read_set.specs.Queues.{without_hold}
 use Rattle.read_set.specs.declared.known.Article.{Article}
@@ -53,7 +56,7 @@ lent-right p M a due i day known h = record {
       (record { patron = known; waits = gone-less a.patron i.holds h.holds_once; due = day; renewals = omega arith });
   holds = all-less (is_hold M) a.patron i.holds h.holds;
   holds_once = distinct-less a.patron i.holds h.holds_once;
-  few = let few : length i.holds ≤ 9999 = h.few in let less : length (without_hold a.patron i.holds) ≤ length i.holds = no-longer a.patron i.holds in omega arith;
+  few = let few : length i.holds ≤ QUEUE_MAX = h.few in let less : length (without_hold a.patron i.holds) ≤ length i.holds = no-longer a.patron i.holds in omega arith;
 }
 
 -- the patron's list before the item goes last in it

@@ -21,7 +21,8 @@ use Rattle.read_set.specs.Coherence.{IsDay}
 use Rattle.read_set.specs.Effects.{written}
 use Rattle.read_set.specs.Fees.{fee_made, with_fee}
 use Rattle.read_set.specs.Known.{item_in, patron_in}
-use Rattle.read_set.specs.Loans.{charge_for, charged, due_for, given_or, one_more, refused, renewal, renewal_by, renewal_made, renewal_verdict, renewal_writes, renewed, renewed_loan}
+use Rattle.read_set.specs.Loans.{charge_for, due_for, given_or, refused}
+use Rattle.read_set.specs.Renewals.{charged, one_more, renewal, renewal_by, renewal_made, renewal_verdict, renewal_writes, renewed, renewed_loan}
 use Rattle.read_set.specs.Maps.{Map, put}
 use Rattle.read_set.specs.declared.known.Article.{Article}
 use Rattle.read_set.specs.declared.known.Member.{Member}

@@ -17,7 +17,8 @@ use Rattle.circ_policy.specs.Ranges.{FitsMedia}
 use Rattle.read_set.specs.Effects.{written}
 use Rattle.read_set.specs.Fees.{fee_made, with_fee}
 use Rattle.read_set.specs.Known.{item_in, patron_in}
-use Rattle.read_set.specs.Loans.{due_for, renewal_verdict, renewed}
+use Rattle.read_set.specs.Loans.{due_for}
+use Rattle.read_set.specs.Renewals.{renewal_verdict, renewed}
 use Rattle.read_set.specs.Maps.{Map, put}
 use Rattle.read_set.specs.RenewAlls.{all_renewed, by_renew_all, none_renewed, one_left, one_renewed, renew_all, renew_all_known, turn, turn_by, turn_known, turns}
 use Rattle.read_set.specs.declared.known.Article.{Article}

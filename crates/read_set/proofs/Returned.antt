@@ -15,7 +15,7 @@ use Rattle.circ_policy.specs.Ranges.{FitsMedia}
 use Rattle.read_set.specs.Fees.{fee_made}
 use Rattle.read_set.specs.Known.{borrower_in, item_in}
 use Rattle.read_set.specs.Maps.{Map, put}
-use Rattle.read_set.specs.Returns.{checked_in, checkin, day_back, lateness, loan_of, returned, returned_by, returned_writes, returner}
+use Rattle.read_set.specs.Checkins.{checked_in, checkin, day_back, lateness, loan_of, returned, returned_by, returned_writes, returner}
 use Rattle.read_set.specs.declared.known.Article.{Article}
 use Rattle.read_set.specs.declared.known.Member.{Member}
 use Rattle.read_set.proofs.KnownParts.{article-known, article-there, known-member, member-known, member-there}

@@ -4,6 +4,7 @@ use Rattle.std.specs.Prelude.{◌||◌, IfSome, nat_le}
 use Rattle.std.specs.List.{list_all}
 use Rattle.std.proofs.lemmas.Bool.{and_from, leb-false}
 use Rattle.circ_policy.specs.Terms.{Terms}
+use Rattle.circ_records.specs.declared.holds.TheConstants.{QUEUE_MAX}
 use Rattle.circ_records.specs.Coherent.{IsCoherentItem, IsCoherentLoan, are_distinct, has_id, is_hold, is_known}
 use Rattle.circ_records.specs.Values.{is_same}
 use Rattle.circ_records.specs.declared.holds.Hold.{Hold}
@@ -16,12 +17,12 @@ use Rattle.sip_reader.specs.declared.request.HoldMode.{HoldMode}
 use Rattle.sip_reader.specs.declared.request.HoldMode.TheVariants as modes
 use Rattle.sip_reader.specs.declared.request.HoldRequest.{HoldRequest}
 use Rattle.sip_reader.specs.declared.request.ItemStatus.{ItemStatus}
-use Rattle.read_set.specs.Holding.{held, hold, hold_kept, queue_after, refuses_hold}
+use Rattle.read_set.specs.Holds.{held, hold, hold_kept, queue_after, refuses_hold}
 use Rattle.read_set.specs.ItemStatuses.{item_status, relabelled, updated}
 use Rattle.read_set.specs.Known.{item_in, patron_in}
 use Rattle.read_set.specs.Loans.{lent_to}
 use Rattle.read_set.specs.Maps.{Map, put}
-use Rattle.read_set.specs.Patrons.{block, block_known, blocked_by}
+use Rattle.read_set.specs.Blocks.{block, block_known, blocked_by}
 use Rattle.read_set.specs.Queues.{waits, with_pickup, without_hold}
 use Rattle.read_set.specs.declared.effect.Effect.{Effect}
 use Rattle.read_set.specs.declared.known.Article.{Article}
@@ -84,7 +85,7 @@ status-keeps p n q date M h fits = by (item_in p M q.item) refl
 
 -- an item with another queue
 pub queued : (p : Terms) (M : Map) (id : List ℕ) (i : Item) (holds : List Hold) → IsCoherentItem p M id i
-    → ((l : Loan) → i.loan ≡ Some l → has_id l.patron (patrons holds) ≡ false) → list_all (is_hold M) holds ≡ true → are_distinct (patrons holds) ≡ true → length holds ≤ 9999
+    → ((l : Loan) → i.loan ≡ Some l → has_id l.patron (patrons holds) ≡ false) → list_all (is_hold M) holds ≡ true → are_distinct (patrons holds) ≡ true → length holds ≤ QUEUE_MAX
     → IsCoherentItem p M id (record i { holds = holds })
 queued p M id i holds h apart all once few = record {
   id_text = h.id_text;
@@ -105,33 +106,33 @@ refusals false false true d e = cc e
 refusals false false false d e = (refl, refl, e)
 
 added : (p : Terms) (M : Map) (q : HoldRequest) (i : Item) (h : Hold) → h.patron ≡ q.patron → IsCoherentItem p M q.item i → is_known M q.patron ≡ true → is_text h.pickup ≡ true
-    → waits q.patron i.holds ≡ false → lent_to q.patron i.loan ≡ false → nat_le 9999 (length i.holds) ≡ false → IsCoherentItem p M q.item (record i { holds = i.holds ++ h ∷ [] })
+    → waits q.patron i.holds ≡ false → lent_to q.patron i.loan ≡ false → nat_le QUEUE_MAX (length i.holds) ≡ false → IsCoherentItem p M q.item (record i { holds = i.holds ++ h ∷ [] })
 added p M q i h own right known text free home few =
     queued p M q.item i (i.holds ++ h ∷ []) right
     (λ l e. ap (has_id l.patron) (patrons-more i.holds h) ∙ has-more l.patron h.patron (patrons i.holds) ∙ ap (λ b. b || is_same l.patron h.patron) (right.loan l e).waits
     ∙ ap (is_same l.patron) own ∙ sym (same-is l.patron q.patron) ∙ sym (ap (lent_to q.patron) e) ∙ home)
     (all-more (is_hold M) i.holds h right.holds (and_from (is_known M h.patron) (is_text h.pickup) (ap (is_known M) own ∙ known) text))
     (ap are_distinct (patrons-more i.holds h) ∙ distinct-more h.patron (patrons i.holds) right.holds_once (ap (λ x. has_id x (patrons i.holds)) own ∙ sym (waits-is q.patron i.holds) ∙ free))
-    (let less : length i.holds < 9999 = leb-false 9999 (length i.holds) few in let more : length (i.holds ++ h ∷ []) ≡ length i.holds + 1 = longer i.holds h in omega arith)
+    (let less : length i.holds < QUEUE_MAX = leb-false QUEUE_MAX (length i.holds) few in let more : length (i.holds ++ h ∷ []) ≡ length i.holds + 1 = longer i.holds h in omega arith)
 
 queue-right : (p : Terms) (M : Map) (q : HoldRequest) (i : Item) (mode : HoldMode) (blocked : Bool) → IsCoherentItem p M q.item i → is_known M q.patron ≡ true → is_text q.pickup ≡ true
     → refuses_hold mode q.patron blocked i ≡ false → IsCoherentItem p M q.item (record i { holds = queue_after q i.holds mode })
 unfolding refuses_hold queue_after
 queue-right p M q i modes.Add blocked right known text made =
-    let f = refusals blocked (waits q.patron i.holds) (lent_to q.patron i.loan) (nat_le 9999 (length i.holds)) made in
+    let f = refusals blocked (waits q.patron i.holds) (lent_to q.patron i.loan) (nat_le QUEUE_MAX (length i.holds)) made in
     added p M q i (record { patron = q.patron; pickup = q.pickup }) refl right known text f.0 f.1 f.2
 queue-right p M q i modes.Delete blocked right known text made =
     queued p M q.item i (without_hold q.patron i.holds) right
     (λ l e. none-less q.patron l.patron i.holds (right.loan l e).waits)
     (all-less (is_hold M) q.patron i.holds right.holds)
     (distinct-less q.patron i.holds right.holds_once)
-    (let few : length i.holds ≤ 9999 = right.few in let less : length (without_hold q.patron i.holds) ≤ length i.holds = no-longer q.patron i.holds in omega arith)
+    (let few : length i.holds ≤ QUEUE_MAX = right.few in let less : length (without_hold q.patron i.holds) ≤ length i.holds = no-longer q.patron i.holds in omega arith)
 queue-right p M q i modes.Change blocked right known text made =
     queued p M q.item i (with_pickup q.patron q.pickup i.holds) right
     (λ l e. ap (has_id l.patron) (patrons-pickup q.patron q.pickup i.holds) ∙ (right.loan l e).waits)
     (all-pickup M q.patron q.pickup i.holds text right.holds)
     (ap are_distinct (patrons-pickup q.patron q.pickup i.holds) ∙ right.holds_once)
-    (let few : length i.holds ≤ 9999 = right.few in let same : length (with_pickup q.patron q.pickup i.holds) ≡ length i.holds = length-pickup q.patron q.pickup i.holds in omega arith)
+    (let few : length i.holds ≤ QUEUE_MAX = right.few in let same : length (with_pickup q.patron q.pickup i.holds) ≡ length i.holds = length-pickup q.patron q.pickup i.holds in omega arith)
 
 -- either of two effects, by a test
 pub either-keeps : (p : Terms) (n : ℕ) (M : Map) (b : Bool) (x y : Effect) → (b ≡ true → Parts p n (put x.writes M)) → (b ≡ false → Parts p n (put y.writes M)) → Parts p n (put (cond b x y).writes M)

@@ -8,14 +8,15 @@ use Rattle.sip_reader.specs.declared.request.Act.TheVariants as acts
 use Rattle.sip_reader.specs.declared.request.Reading.{Reading}
 use Rattle.sip_reader.specs.declared.request.Reading.TheVariants as readings
 use Rattle.read_set.specs.Effects.{unwritten}
-use Rattle.read_set.specs.Holding.{hold}
+use Rattle.read_set.specs.Holds.{hold}
 use Rattle.read_set.specs.ItemStatuses.{item_status}
-use Rattle.read_set.specs.Loans.{checkout, renew}
+use Rattle.read_set.specs.Checkouts.{checkout}
+use Rattle.read_set.specs.Renewals.{renew}
 use Rattle.read_set.specs.Maps.{Map, put}
-use Rattle.read_set.specs.Patrons.{block}
+use Rattle.read_set.specs.Blocks.{block}
 use Rattle.read_set.specs.Payments.{fee_paid}
 use Rattle.read_set.specs.RenewAlls.{renew_all}
-use Rattle.read_set.specs.Returns.{checkin}
+use Rattle.read_set.specs.Checkins.{checkin}
 use Rattle.read_set.specs.declared.effect.Effect.{Effect}
 
 -- what a request does on line n

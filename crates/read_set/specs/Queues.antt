@@ -18,10 +18,10 @@ abbrev pub first_is_another : List ℕ → List Hold → Bool
 first_is_another patron [] = false
 first_is_another patron (h ∷ more) = not (same h.patron patron)
 
--- a patron's place, the first having this number
-abbrev pub place_from : ℕ → List ℕ → List Hold → Option ℕ
-place_from n patron [] = None
-place_from n patron (h ∷ more) = if same h.patron patron then Some n else place_from (n + 1) patron more
+-- a patron's position, the first having this number
+abbrev pub position_from : ℕ → List ℕ → List Hold → Option ℕ
+position_from n patron [] = None
+position_from n patron (h ∷ more) = if same h.patron patron then Some n else position_from (n + 1) patron more
 
 -- the queue without a patron's entry
 abbrev pub without_hold : List ℕ → List Hold → List Hold

@@ -10,7 +10,8 @@ use Rattle.sip_reader.specs.declared.request.RenewAll.{RenewAll}
 use Rattle.read_set.specs.Effects.{unwritten, ◌⊕◌}
 use Rattle.read_set.specs.Fees.{fee_made, with_fee}
 use Rattle.read_set.specs.Known.{item_in, patron_in}
-use Rattle.read_set.specs.Loans.{renewal_verdict, renewed, due_for}
+use Rattle.read_set.specs.Loans.{due_for}
+use Rattle.read_set.specs.Renewals.{renewal_verdict, renewed}
 use Rattle.read_set.specs.Maps.{Map, put}
 use Rattle.read_set.specs.declared.effect.Effect.{Effect}
 use Rattle.read_set.specs.declared.known.Article.{Article}

@@ -36,7 +36,7 @@ impl Model for Draft {
 
     ghost Value = { Entries };
 
-    ghost use Rattle.read_set.specs.Drafts.{Rise, entries_in};
+    ghost use Rattle.read_set.specs.Devices.Drafts.{Rise, entries_in};
 
     ghost view = { λ d. entries_in d.kept };
 

@@ -3,7 +3,7 @@
 ghost use Rattle.std.specs.Prelude.{◌≡◌, ◌++◌, ◌∷◌, [], None, IfOk, OnOk, OnErr};
 ghost use Rattle.std.specs.Option.{option_copied};
 ghost use Rattle.read_set.specs.Notes.{note_of, IsOnceEach};
-ghost use Rattle.read_set.specs.Places.{few};
+ghost use Rattle.read_set.specs.Devices.Places.{few};
 
 use circ_records::{Key, Record};
 use std::alloc::{AllocError, Global};
@@ -86,7 +86,7 @@ impl Model for Notes {
 
     ghost Value = { List Note };
 
-    ghost use Rattle.read_set.specs.Places.{AreKept};
+    ghost use Rattle.read_set.specs.Devices.Places.{AreKept};
 
     ghost view = { λ n. n.entries.items };
 

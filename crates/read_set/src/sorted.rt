@@ -4,7 +4,7 @@ ghost use Rattle.std.specs.Prelude.{◌≡◌, IfOk, OnOk, OnErr, option_copied}
 ghost use Rattle.std.specs.BTreeMap.{insert_entry};
 ghost use Rattle.circ_records.specs.Keys.{key_cmp};
 ghost use Rattle.circ_records.specs.Records.{record_at};
-ghost use Rattle.read_set.specs.Drafts.{Rise, place_from};
+ghost use Rattle.read_set.specs.Devices.Drafts.{Rise, place_from};
 
 use circ_records::{Key, Record};
 use std::alloc::{AllocError, Global};

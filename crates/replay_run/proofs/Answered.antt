@@ -18,19 +18,21 @@ use Rattle.sip_reader.specs.declared.request.Reading.{Reading}
 use Rattle.sip_reader.specs.declared.request.Reading.TheVariants as readings
 use Rattle.sip_reader.specs.declared.request.RenewAll.{RenewAll}
 use Rattle.read_set.specs.Effects.{unwritten}
-use Rattle.read_set.specs.Holding.{held, hold_kept, hold_known, queue_after, refuses_hold}
+use Rattle.read_set.specs.Holds.{held, hold_kept, hold_known, queue_after, refuses_hold}
 use Rattle.read_set.specs.ItemStatuses.{relabelled, updated}
 use Rattle.read_set.specs.Ids.{same}
 use Rattle.read_set.specs.Known.{borrower_in, item_in, patron_in}
-use Rattle.read_set.specs.Loans.{by_checkout, by_renew, checkout_known, lending, lending_by, lending_made, lending_verdict, refused, renew_known, renewal, renewal_by, renewal_made, renewal_verdict}
+use Rattle.read_set.specs.Checkouts.{checkout_known, lending, lending_by, lending_made, lending_verdict}
+use Rattle.read_set.specs.Loans.{by_checkout, by_renew, refused}
+use Rattle.read_set.specs.Renewals.{renew_known, renewal, renewal_by, renewal_made, renewal_verdict}
 use Rattle.read_set.specs.Maps.{Map}
 use Rattle.read_set.specs.Meaning.{effect, effect_of, one}
-use Rattle.read_set.specs.Patrons.{block_known, blocked_by}
+use Rattle.read_set.specs.Blocks.{block_known, blocked_by}
 use Rattle.read_set.specs.Payments.{all_paid, fee_paid_known, payment, payment_answer}
 use Rattle.read_set.specs.Plans.{Planned, reading_at}
 use Rattle.read_set.specs.RenewAlls.{all_renewed, renew_all_known}
 use Rattle.read_set.specs.Replay.{after, one_at, one_by}
-use Rattle.read_set.specs.Returns.{checked_in, loan_of, returned}
+use Rattle.read_set.specs.Checkins.{checked_in, loan_of, returned}
 use Rattle.read_set.specs.declared.effect.Effect.{Effect}
 use Rattle.read_set.specs.declared.known.Article.{Article}
 use Rattle.read_set.specs.declared.known.Member.{Member}

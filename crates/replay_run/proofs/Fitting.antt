@@ -10,12 +10,12 @@ use Rattle.journal_table.specs.Entry.{Entry}
 use Rattle.journal_table.specs.Journal.{journal_of}
 use Rattle.journal_table.specs.declared.error.JournalError.{JournalError}
 use Rattle.read_set.specs.Plans.{readings_of}
-use Rattle.replay_run.specs.Judged.{Judgement, Refused, first_read, judged, with_base, with_lines, with_policy}
-use Rattle.replay_run.specs.Judging.{Judges}
+use Rattle.replay_run.specs.Judgements.{Accepted, Refused, first_read, judgement_on, with_base, with_lines, with_policy}
+use Rattle.replay_run.specs.Prepared.{IsJudgement}
 use Rattle.replay_run.specs.declared.fault.Fault.{Fault}
-use Rattle.replay_run.specs.declared.judged.Judged.{Judged}
+use Rattle.replay_run.specs.declared.prepared.Prepared.{Prepared}
 
-abbrev pub Fits : Result Judgement Refused → Type 0
+abbrev pub Fits : Result Accepted Refused → Type 0
 Fits (Ok j) = j.plan.readings ≡ readings_of j.lines
 Fits (Err refused) = Unit {0}
 
@@ -31,11 +31,11 @@ policy-fits : (tables : Texts) (read : Result (List Entry) JournalError) (policy
 policy-fits tables read (Ok policy) = base-fits policy read (base_of policy tables (first_read read))
 policy-fits tables read (Err e) = tt
 
-pub judged-fits : (policy : List ℕ) (tables : Texts) (lines : List ℕ) → Fits (judged policy tables lines)
-unfolding judged
+pub judged-fits : (policy : List ℕ) (tables : Texts) (lines : List ℕ) → Fits (judgement_on policy tables lines)
+unfolding judgement_on
 judged-fits policy tables lines = policy-fits tables (journal_of lines) (policy_of policy)
 
 -- and so does the plan of what was judged
-pub fit : (r : Result Judged Fault) (due : Result Judgement Refused) → Judges r due → Fits due → IfOk r (λ j. j.plan.readings ≡ readings_of j.journal)
+pub fit : (r : Result Prepared Fault) (due : Result Accepted Refused) → IsJudgement r due → Fits due → IfOk r (λ j. j.plan.readings ≡ readings_of j.journal)
 fit (Ok j) due judges fits = subst Fits judges fits
 fit (Err fault) due judges fits = tt

@@ -9,12 +9,12 @@ use Rattle.speculate.specs.declared.steps.Step.{Step}
 use Rattle.replay_run.specs.BySteps.{AreWorkers, FailsBySteps, IsRunOf, first_board}
 use Rattle.replay_run.specs.ByWorkers.{IsMadeOf, MayFail}
 use Rattle.replay_run.specs.Faults.{board_fault}
-use Rattle.replay_run.specs.Judged.{Fails, Judgement, Refused}
+use Rattle.replay_run.specs.Judgements.{Fails, Accepted, Refused}
 use Rattle.replay_run.specs.declared.fault.Fault.{Fault}
 use Rattle.replay_run.specs.declared.fault.Fault.TheVariants as faults
 
 -- a list of steps that stopped
-pub stopped : (j : Judgement) (workers : ℕ) (steps : List Step) (halt : Halt) (board : Board) → Halts j.plan (first_board j.plan workers) steps halt board → FailsBySteps j workers steps (board_fault halt.fault)
+pub stopped : (j : Accepted) (workers : ℕ) (steps : List Step) (halt : Halt) (board : Board) → Halts j.plan (first_board j.plan workers) steps halt board → FailsBySteps j workers steps (board_fault halt.fault)
 stopped j workers steps halt board halts = by halt.fault refl
   where
     by : (f : BoardFault) → halt.fault ≡ f → FailsBySteps j workers steps (board_fault f)
@@ -23,7 +23,7 @@ stopped j workers steps halt board halts = by halt.fault refl
     by refusals.Memory e = tt
 
 -- inputs that are refused
-pub refused : (due : Result Judgement Refused) (workers : ℕ) (steps : List Step) (fault : Fault) → Fails fault due → IsRunOf due workers steps (Err fault)
+pub refused : (due : Result Accepted Refused) (workers : ℕ) (steps : List Step) (fault : Fault) → Fails fault due → IsRunOf due workers steps (Err fault)
 refused (Err e) workers steps fault fails = fails
 refused (Ok j) workers steps faults.BadWorkers fails = absurd fails
 refused (Ok j) workers steps faults.PolicyText fails = cc fails
@@ -36,7 +36,7 @@ refused (Ok j) workers steps (faults.Attempts line) fails = absurd fails
 refused (Ok j) workers steps faults.ClockSpent fails = absurd fails
 refused (Ok j) workers steps faults.Memory fails = tt
 
-pub unmade : (due : Result Judgement Refused) (fault : Fault) → Fails fault due → IsMadeOf due (Err fault)
+pub unmade : (due : Result Accepted Refused) (fault : Fault) → Fails fault due → IsMadeOf due (Err fault)
 unmade (Err e) fault fails = fails
 unmade (Ok j) faults.BadWorkers fails = absurd fails
 unmade (Ok j) faults.PolicyText fails = cc fails

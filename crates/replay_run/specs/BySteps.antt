@@ -3,6 +3,7 @@
 use Rattle.std.specs.Prelude.{◌≡◌, ℕ, ◌<◌, ◌≤◌, ◌⊎◌, List, length, map, Result, Ok, Err}
 use Rattle.board_steps.specs.Board.{Board}
 use Rattle.board_steps.specs.Steps.{opening}
+use Rattle.board_steps.specs.declared.TheConstants.{WORKERS_MAX}
 use Rattle.read_set.specs.Plans.{Planned}
 use Rattle.result_report.specs.BoardEnds.{attempt_on}
 use Rattle.result_report.specs.Ends.{numbers_of}
@@ -12,7 +13,7 @@ use Rattle.speculate.specs.declared.steps.BoardFault.{BoardFault}
 use Rattle.speculate.specs.declared.steps.BoardFault.TheVariants as refusals
 use Rattle.speculate.specs.declared.steps.Halt.{Halt}
 use Rattle.speculate.specs.declared.steps.Step.{Step}
-use Rattle.replay_run.specs.Judged.{Judgement, Refused, Fails}
+use Rattle.replay_run.specs.Judgements.{Accepted, Refused, Fails}
 use Rattle.replay_run.specs.OneThread.{IsOutputBy, judgement}
 use Rattle.replay_run.specs.declared.by_steps.Run.{Run}
 use Rattle.replay_run.specs.declared.by_steps.Run.TheVariants as runs
@@ -21,9 +22,9 @@ use Rattle.replay_run.specs.declared.fault.Fault.TheVariants as faults
 use Rattle.replay_run.specs.declared.inputs.Inputs.{Inputs}
 use Rattle.replay_run.specs.declared.inputs.Output.{Output}
 
--- 1 to 64 workers
+-- at least one worker, and no more than a run may have
 abbrev pub AreWorkers : ℕ → Type 0
-AreWorkers workers = (1 ≤ workers) × (workers ≤ 64)
+AreWorkers workers = (1 ≤ workers) × (workers ≤ WORKERS_MAX)
 
 -- the board before the first step: all lines wait for their first attempt
 abbrev pub first_board : Planned → ℕ → Board
@@ -34,37 +35,37 @@ abbrev pub attempts_on : Planned → Board → List ℕ
 attempts_on plan board = map (attempt_on board) (numbers_of plan)
 
 -- The steps commit every line: the output is that of one thread, but that the attempts are those of the board that the steps lead to.
-abbrev pub CommitAll : Judgement → ℕ → List Step → Output → Type 0
+abbrev pub CommitAll : Accepted → ℕ → List Step → Output → Type 0
 CommitAll j workers steps o =
     (after : Board) × Plays j.plan (first_board j.plan workers) steps after × IsWhole after
     × IsOutputBy j.plan j.lines (attempts_on j.plan after) o
 
 -- the steps commit so many lines, and there are more
-abbrev pub CommitSome : Judgement → ℕ → List Step → ℕ → Type 0
+abbrev pub CommitSome : Accepted → ℕ → List Step → ℕ → Type 0
 CommitSome j workers steps committed =
     (after : Board) × Plays j.plan (first_board j.plan workers) steps after × (after.committed ≡ committed)
     × (committed < length j.plan.readings)
 
 -- one of the steps is refused with this fault, after those before it were done
-abbrev pub StopAt : Judgement → ℕ → List Step → BoardFault → Type 0
+abbrev pub StopAt : Accepted → ℕ → List Step → BoardFault → Type 0
 StopAt j workers steps fault =
     (halt : Halt) × (board : Board) × Halts j.plan (first_board j.plan workers) steps halt board × (halt.fault ≡ fault)
 
 -- the faults of the steps, unless memory ran out
-abbrev pub FailsBySteps : Judgement → ℕ → List Step → Fault → Type 0
+abbrev pub FailsBySteps : Accepted → ℕ → List Step → Fault → Type 0
 FailsBySteps j workers steps (faults.Attempts line) = StopAt j workers steps (refusals.Attempts line)
 FailsBySteps j workers steps faults.ClockSpent = StopAt j workers steps refusals.ClockSpent
 FailsBySteps j workers steps faults.Memory = Unit {0}
 FailsBySteps j workers steps _ = ⊥
 
 -- what the steps give over a plan
-abbrev pub IsRun : Judgement → ℕ → List Step → Result Run Fault → Type 0
+abbrev pub IsRun : Accepted → ℕ → List Step → Result Run Fault → Type 0
 IsRun j workers steps (Ok (runs.Output o)) = CommitAll j workers steps o
 IsRun j workers steps (Ok (runs.Unfinished committed)) = CommitSome j workers steps committed
 IsRun j workers steps (Err fault) = FailsBySteps j workers steps fault
 
 -- before the steps the inputs are judged
-abbrev pub IsRunOf : Result Judgement Refused → ℕ → List Step → Result Run Fault → Type 0
+abbrev pub IsRunOf : Result Accepted Refused → ℕ → List Step → Result Run Fault → Type 0
 IsRunOf (Ok j) workers steps run = IsRun j workers steps run
 IsRunOf (Err refused) workers steps (Ok run) = ⊥
 IsRunOf (Err refused) workers steps (Err fault) = Fails fault (Err refused)

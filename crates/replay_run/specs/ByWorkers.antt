@@ -1,7 +1,7 @@
 -- The output of a run by workers in threads (the headline over threads): that of one thread, by whatever attempts.
 use Rattle.std.specs.Prelude.{◌≡◌, ℕ, ◌≤◌, ◌⊎◌, List, Result, Ok, Err}
 use Rattle.replay_run.specs.BySteps.{AreWorkers}
-use Rattle.replay_run.specs.Judged.{Judgement, Refused, Fails}
+use Rattle.replay_run.specs.Judgements.{Accepted, Refused, Fails}
 use Rattle.replay_run.specs.OneThread.{IsOutputBy, judgement}
 use Rattle.replay_run.specs.declared.fault.Fault.{Fault}
 use Rattle.replay_run.specs.declared.fault.Fault.TheVariants as faults
@@ -9,7 +9,7 @@ use Rattle.replay_run.specs.declared.inputs.Inputs.{Inputs}
 use Rattle.replay_run.specs.declared.inputs.Output.{Output}
 
 -- The output is that of one thread, but for the attempts.
-abbrev pub IsOutputOver : Judgement → Output → Type 0
+abbrev pub IsOutputOver : Accepted → Output → Type 0
 IsOutputOver j o = (tried : List ℕ) × IsOutputBy j.plan j.lines tried o
 
 -- Workers that have begun fail for want of attempts, of the clock or of memory alone.
@@ -20,12 +20,12 @@ MayFail faults.Memory = Unit {0}
 MayFail _ = ⊥
 
 -- what workers make of a plan
-abbrev pub IsMade : Judgement → Result Output Fault → Type 0
+abbrev pub IsMade : Accepted → Result Output Fault → Type 0
 IsMade j (Ok o) = IsOutputOver j o
 IsMade j (Err fault) = MayFail fault
 
 -- before they begin the inputs are judged
-abbrev pub IsMadeOf : Result Judgement Refused → Result Output Fault → Type 0
+abbrev pub IsMadeOf : Result Accepted Refused → Result Output Fault → Type 0
 IsMadeOf (Ok j) run = IsMade j run
 IsMadeOf (Err refused) (Ok o) = ⊥
 IsMadeOf (Err refused) (Err fault) = Fails fault (Err refused)

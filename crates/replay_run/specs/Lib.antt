@@ -1,10 +1,10 @@
-pub mod Live
-pub mod Entries
 pub mod Answers
-pub mod Faults
-pub mod Judged
-pub mod Judging
-pub mod OneThread
-pub mod OwnEnd
 pub mod BySteps
 pub mod ByWorkers
+pub mod Entries
+pub mod Faults
+pub mod Judgements
+pub mod Live
+pub mod OneThread
+pub mod OwnEnd
+pub mod Prepared

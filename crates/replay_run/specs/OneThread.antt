@@ -13,7 +13,7 @@ use Rattle.result_report.specs.Tables.{AreTexts}
 use Rattle.result_report.specs.declared.texts.Texts.{Texts as Results}
 use Rattle.replay_run.specs.Answers.{answers_of}
 use Rattle.replay_run.specs.Entries.{AreEntries}
-use Rattle.replay_run.specs.Judged.{Judgement, Refused, Fails, judged}
+use Rattle.replay_run.specs.Judgements.{Accepted, Refused, Fails, judgement_on}
 use Rattle.replay_run.specs.declared.fault.Fault.{Fault}
 use Rattle.replay_run.specs.declared.inputs.Inputs.{Inputs}
 use Rattle.replay_run.specs.declared.inputs.Output.{Output}
@@ -42,13 +42,13 @@ pub record IsOutputBy (plan : Planned) (lines : List Entry) (tried : List ℕ) (
 abbrev pub IsOutput : Planned → List Entry → Output → Type 0
 IsOutput plan lines o = IsOutputBy plan lines (replicate (length plan.readings) 0) o
 
-abbrev pub IsOutputOf : Result Judgement Refused → Output → Type 0
+abbrev pub IsOutputOf : Result Accepted Refused → Output → Type 0
 IsOutputOf (Ok j) o = IsOutput j.plan j.lines o
 IsOutputOf (Err refused) o = ⊥
 
 -- what inputs are judged as
-abbrev pub judgement : Inputs → Result Judgement Refused
-judgement i = judged i.policy.items (texts_of i.tables) i.journal.items
+abbrev pub judgement : Inputs → Result Accepted Refused
+judgement i = judgement_on i.policy.items (texts_of i.tables) i.journal.items
 
 abbrev pub IsOneThread : Inputs → Result Output Fault → Type 0
 IsOneThread i (Ok o) = IsOutputOf (judgement i) o

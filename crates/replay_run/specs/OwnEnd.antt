@@ -13,7 +13,7 @@ use Rattle.read_set.specs.Meaning.{effect}
 use Rattle.read_set.specs.Plans.{Planned, reading_at}
 use Rattle.read_set.specs.Replay.{answer_of, before, last}
 use Rattle.result_report.specs.Ends.{AreRecordsAt, named_keys, numbers_of}
-use Rattle.result_report.specs.Report.{lent, told}
+use Rattle.result_report.specs.Report.{answers_behind, told}
 use Rattle.result_report.specs.Tables.{AreTexts}
 use Rattle.result_report.specs.declared.outcome.Outcome.{Outcome}
 use Rattle.replay_run.specs.Answers.{answers_of}
@@ -33,7 +33,7 @@ entered_alone plan line = written_by plan line (reading_at plan line) (before pl
 -- What is collected of an end over a plan: each line's answer and attempt as that end lends them, and its records at the keys of
 -- the plan and of what the lines wrote. These are the clauses of `collect`.
 pub record IsCollected (plan : Planned) (answered : ℕ → Option Answer) (attempted : ℕ → ℕ) (entered : ℕ → List (Key × ℕ)) (left : Map) (o : Outcome) : Type 0 where
-  pub answers : lent o.answers.items ≡ map answered (numbers_of plan)
+  pub answers : answers_behind o.answers.items ≡ map answered (numbers_of plan)
   pub attempts : o.attempts.items ≡ map attempted (numbers_of plan)
   pub records : AreRecordsAt (named_keys plan entered) left o.records
 
@@ -44,7 +44,7 @@ IsCollectedAlone plan o = IsCollected plan (answer_of plan) (λ line. 0) (entere
 
 -- What the output of one thread is made of: the clauses of `replay`.
 pub record IsAlone (plan : Planned) (o : Outcome) : Type 0 where
-  pub answers : lent o.answers.items ≡ answers_of plan
+  pub answers : answers_behind o.answers.items ≡ answers_of plan
   pub attempts : o.attempts.items ≡ replicate (length plan.readings) 0
   pub records : AreEntries (last plan) o.records
 
@@ -52,6 +52,6 @@ pub record IsAlone (plan : Planned) (o : Outcome) : Type 0 where
 -- attempts.
 pub record IsMadeOf (plan : Planned) (lines : List Entry) (c : Outcome) (o : Output) : Type 0 where
   pub tables : texts_of o.tables ≡ tables_of c.records
-  pub results : AreTexts (told lines plan.readings (lent c.answers.items)) (results_of o)
+  pub results : AreTexts (told lines plan.readings (answers_behind c.answers.items)) (results_of o)
   pub each_once : o.sizes.answered + o.sizes.passed ≡ length lines
   pub attempts : o.attempts.items ≡ c.attempts.items

@@ -8,8 +8,9 @@ ghost use Rattle.speculate.specs.Finishing.{IsWhole};
 
 use crate::fault::Fault;
 use crate::inputs::{Inputs, Output};
-use crate::judged::Judged;
+use crate::prepared::Prepared;
 use crate::run::{judge_inputs, output_of};
+use board_steps::WORKERS_MAX;
 use journal_table::Journal;
 use read_set::{Plan, PlanName};
 use result_report::collect;
@@ -18,9 +19,6 @@ use std::alloc::{AllocError, Global};
 use std::marker::Brand;
 use std::sync::Wait;
 use version_store::VersionTable;
-
-/// The most workers of a run.
-const MOST_WORKERS: u32 = 64;
 
 /// What a run by a list of steps comes to.
 #[derive(Drop)]
@@ -47,11 +45,11 @@ pub fn rebuild_by_steps<R: Wait>(
     if workers == 0 {
         return Err(Fault::BadWorkers);
     }
-    if workers > MOST_WORKERS {
+    if workers > WORKERS_MAX {
         return Err(Fault::BadWorkers);
     }
     match judge_inputs(alloc, inputs) {
-        Ok(Judged { plan, journal }) => {
+        Ok(Prepared { plan, journal }) => {
             run_steps::<Brand, R>(rt, alloc, &plan, &journal, workers, steps)
         }
         Err(fault) => Err(fault),

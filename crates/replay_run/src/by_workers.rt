@@ -5,7 +5,7 @@ ghost use Rattle.circ_records.specs.Tables.{texts_of};
 ghost use Rattle.circ_records.specs.Written.{tables_of};
 ghost use Rattle.read_set.specs.Plans.{readings_of};
 ghost use Rattle.read_set.specs.Replay.{last};
-ghost use Rattle.result_report.specs.Report.{AreAnswers, lent, told};
+ghost use Rattle.result_report.specs.Report.{AreAnswers, answers_behind, told};
 ghost use Rattle.result_report.specs.Tables.{AreTexts};
 ghost use Rattle.replay_run.specs.Answers.{answers_of};
 ghost use Rattle.replay_run.specs.BySteps.{AreWorkers, attempts_on};
@@ -15,8 +15,9 @@ ghost use Rattle.replay_run.specs.OneThread.{IsOutputBy, results_of};
 
 use crate::fault::Fault;
 use crate::inputs::{Inputs, Output};
-use crate::judged::Judged;
+use crate::prepared::Prepared;
 use crate::run::judge_parallel;
+use board_steps::WORKERS_MAX;
 use circ_records::{Records, write_records};
 use journal_table::Journal;
 use read_set::{Plan, PlanName};
@@ -29,9 +30,6 @@ use std::sync::Wait;
 use std::thread::Threads;
 use version_store::VersionTable;
 use worker_pool::{Closed, Gate, SharedBoard, run_workers};
-
-/// The most workers of a run.
-const MOST_WORKERS: u32 = 64;
 
 /// The output of one thread, made by 1 to 64 workers in threads; its attempts are those that were committed. The faults: first
 /// the number of workers, then those of the inputs, then the first that a worker meets. The gate is told of each worker's
@@ -48,11 +46,11 @@ pub fn rebuild<G: Gate + Sync, R: Threads + Wait + Sync>(
     if workers == 0 {
         return Err(Fault::BadWorkers);
     }
-    if workers > MOST_WORKERS {
+    if workers > WORKERS_MAX {
         return Err(Fault::BadWorkers);
     }
     match judge_parallel(rt, alloc, inputs) {
-        Ok(Judged { plan, journal }) => {
+        Ok(Prepared { plan, journal }) => {
             run_named::<Brand, G, R>(rt, alloc, &plan, &journal, workers, gate)
         }
         Err(fault) => Err(fault),
@@ -120,7 +118,7 @@ fn output_parallel<R: Threads + Sync>(
     outcome: Outcome<'_>,
 ) -> Result<Output, AllocError>
     requires fits { plan.now.readings ≡ readings_of journal.now }
-    requires answers { lent outcome.answers.items ≡ answers_of plan.now }
+    requires answers { answers_behind outcome.answers.items ≡ answers_of plan.now }
     requires records { AreEntries (last plan.now) outcome.records }
     ensures { IfOk result (IsOutputBy plan.now journal.now outcome.entry.attempts.items) }
 {
@@ -136,9 +134,9 @@ fn write_parallel<R: Threads + Sync>(
     outcome: Outcome<'_>,
 ) -> Result<Output, AllocError>
     requires planned { plan.now.readings ≡ readings_of journal.now }
-    requires answered { AreAnswers (readings_of journal.now) (lent outcome.answers.items) }
+    requires answered { AreAnswers (readings_of journal.now) (answers_behind outcome.answers.items) }
     ensures tables { IfOk result (λ o. texts_of o.tables ≡ tables_of outcome.entry.records) }
-    ensures results { IfOk result (λ o. AreTexts (told journal.now (readings_of journal.now) (lent outcome.entry.answers.items)) (results_of o)) }
+    ensures results { IfOk result (λ o. AreTexts (told journal.now (readings_of journal.now) (answers_behind outcome.entry.answers.items)) (results_of o)) }
     ensures each_once { IfOk result (λ o. o.sizes.answered + o.sizes.passed ≡ length journal.now) }
     ensures attempts { IfOk result (λ o. o.attempts.items ≡ outcome.entry.attempts.items) }
 {

@@ -6,20 +6,20 @@ ghost use Rattle.circ_records.specs.Base.{base_of};
 ghost use Rattle.circ_records.specs.Tables.{texts_of};
 ghost use Rattle.journal_table.specs.Entry.{first_number};
 ghost use Rattle.journal_table.specs.Journal.{journal_of};
-ghost use Rattle.replay_run.specs.Judged.{Fails, first_read, judged, with_base, with_policy};
-ghost use Rattle.replay_run.specs.Judging.{IsSound};
+ghost use Rattle.replay_run.specs.Judgements.{Fails, first_read, judgement_on, with_base, with_policy};
+ghost use Rattle.replay_run.specs.Prepared.{IsSound};
 
 use crate::fault::Fault;
-use crate::judged::Sound;
+use crate::prepared::Sound;
 use circ_policy::Policy;
 use circ_records::{Base, Tables};
 use journal_table::{Journal, JournalError};
 use std::alloc::Global;
 
 /// The policy, the base and the journal that the inputs tell, or their first fault.
-#[tactic(auto, unfolding(crate::specs::Judged::judged))]
+#[tactic(auto, unfolding(crate::specs::Judgements::judgement_on))]
 pub fn judge(alloc: Global, policy: &[u8], tables: &Tables, journal: &[u8]) -> Result<Sound, Fault>
-    ensures { IsSound result (judged policy.now (texts_of tables.now) journal.now) }
+    ensures { IsSound result (judgement_on policy.now (texts_of tables.now) journal.now) }
 {
     match Policy::read(alloc, policy) {
         Ok(policy) => judge_journal(alloc, policy, tables, journal),

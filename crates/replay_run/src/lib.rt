@@ -8,9 +8,9 @@ mod by_workers;
 mod fault;
 mod inputs;
 mod judge;
-mod judged;
 mod laws;
 mod live;
+mod prepared;
 mod replay;
 mod run;
 

@@ -41,7 +41,7 @@ impl Live {
         self.records.get(key)
     }
 
-    /// Puts what a line writes over the records.
+    /// Puts what a line writes over the records. Where memory runs out part of it may stand there: `replay` drops them all then.
     pub fn put(&mut self, writes: Writes) -> Result<(), AllocError>
         ensures { OnOk result ((k : Key) → standing self.new k ≡ put writes (standing self.old) k) }
     {

@@ -5,19 +5,19 @@ ghost use Rattle.circ_records.specs.Tables.{texts_of};
 ghost use Rattle.circ_records.specs.Written.{tables_of};
 ghost use Rattle.read_set.specs.Plans.{readings_of};
 ghost use Rattle.read_set.specs.Replay.{last};
-ghost use Rattle.result_report.specs.Report.{AreAnswers, lent, told};
+ghost use Rattle.result_report.specs.Report.{AreAnswers, answers_behind, told};
 ghost use Rattle.result_report.specs.Tables.{AreTexts};
 ghost use Rattle.replay_run.specs.Answers.{answers_of};
 ghost use Rattle.replay_run.specs.Entries.{AreEntries};
-ghost use Rattle.replay_run.specs.Judging.{IsSound, Judges};
+ghost use Rattle.replay_run.specs.Prepared.{IsSound, IsJudgement};
 ghost use Rattle.replay_run.specs.OneThread.{IsOneThread, IsOutput, IsOutputBy, judgement, results_of};
 
 use crate::fault::Fault;
 use crate::inputs::{Inputs, Output};
 use crate::judge::judge;
-use crate::judged::{Judged, Sound};
+use crate::prepared::{Prepared, Sound};
 use crate::replay::{ReplayEnd, replay};
-use circ_records::{Tables, write_records};
+use circ_records::{Records, Tables, write_records};
 use journal_table::{Journal, read_all};
 use read_set::Plan;
 use result_report::{Outcome, Texts, report};
@@ -35,7 +35,7 @@ pub fn one_thread(alloc: Global, inputs: &Inputs) -> Result<Output, Fault>
     ensures { IsOneThread inputs.now result }
 {
     match judge_inputs(alloc, inputs) {
-        Ok(Judged { plan, journal }) => {
+        Ok(Prepared { plan, journal }) => {
             let output = output(alloc, plan, &journal)?;
             forget(journal);
             Ok(output)
@@ -45,8 +45,8 @@ pub fn one_thread(alloc: Global, inputs: &Inputs) -> Result<Output, Fault>
 }
 
 /// The plan and the journal that inputs make, or their first fault.
-pub fn judge_inputs(alloc: Global, inputs: &Inputs) -> Result<Judged, Fault>
-    ensures due { Judges result (judgement inputs.now) }
+pub fn judge_inputs(alloc: Global, inputs: &Inputs) -> Result<Prepared, Fault>
+    ensures due { IsJudgement result (judgement inputs.now) }
     ensures fits { IfOk result (λ j. j.plan.readings ≡ readings_of j.journal) }
 {
     match sound_inputs(alloc, inputs) {
@@ -58,7 +58,7 @@ pub fn judge_inputs(alloc: Global, inputs: &Inputs) -> Result<Judged, Fault>
             },
         ) => {
             let plan = Plan::new(alloc, policy, base, &journal)?;
-            Ok(Judged { plan, journal })
+            Ok(Prepared { plan, journal })
         }
         Err(fault) => Err(fault),
     }
@@ -69,8 +69,8 @@ pub fn judge_parallel<R: Threads + Sync>(
     rt: &R,
     alloc: Global,
     inputs: &Inputs,
-) -> Result<Judged, Fault>
-    ensures due { Judges result (judgement inputs.now) }
+) -> Result<Prepared, Fault>
+    ensures due { IsJudgement result (judgement inputs.now) }
     ensures fits { IfOk result (λ j. j.plan.readings ≡ readings_of j.journal) }
 {
     match sound_inputs(alloc, inputs) {
@@ -83,7 +83,7 @@ pub fn judge_parallel<R: Threads + Sync>(
         ) => {
             let readings = read_all(rt, alloc, &journal)?;
             let plan = Plan::from_readings(policy, base, readings);
-            Ok(Judged { plan, journal })
+            Ok(Prepared { plan, journal })
         }
         Err(fault) => Err(fault),
     }
@@ -114,34 +114,14 @@ fn output(alloc: Global, plan: Plan, journal: &Journal) -> Result<Output, AllocE
     } = replay(alloc, &mut plan)?;
     let outcome = Outcome {
         records,
-        answers: lend(alloc, answers.as_slice())?,
+        answers: references_to(alloc, answers.as_slice())?,
         attempts,
     };
-    let output = write_and_leave(alloc, &plan, journal, outcome)?;
+    let (output, records) = write_outcome(alloc, &plan, journal, outcome)?;
+    forget(records);
     forget(answers);
     forget(plan);
     Ok(output)
-}
-
-/// What `write_outcome` gives; the records are not torn down.
-fn write_and_leave(
-    alloc: Global,
-    plan: &Plan,
-    journal: &Journal,
-    outcome: Outcome<'_>,
-) -> Result<Output, AllocError>
-    requires planned { plan.now.readings ≡ readings_of journal.now }
-    requires answered { AreAnswers (readings_of journal.now) (lent outcome.answers.items) }
-    ensures tables { IfOk result (λ o. texts_of o.tables ≡ tables_of outcome.entry.records) }
-    ensures results { IfOk result (λ o. AreTexts (told journal.now (readings_of journal.now) (lent outcome.entry.answers.items)) (results_of o)) }
-    ensures each_once { IfOk result (λ o. o.sizes.answered + o.sizes.passed ≡ length journal.now) }
-    ensures attempts { IfOk result (λ o. o.attempts.items ≡ outcome.entry.attempts.items) }
-{
-    let tables = write_records(alloc, &outcome.records)?;
-    let texts = report(alloc, journal, plan, &outcome)?;
-    let attempts = outcome.attempts;
-    forget(outcome.records);
-    Ok(put_together(tables, texts, attempts))
 }
 
 /// The output of a run over the plan of a journal that came to the records and the answers of one thread.
@@ -152,31 +132,33 @@ pub fn output_of(
     outcome: Outcome<'_>,
 ) -> Result<Output, AllocError>
     requires fits { plan.now.readings ≡ readings_of journal.now }
-    requires answers { lent outcome.answers.items ≡ answers_of plan.now }
+    requires answers { answers_behind outcome.answers.items ≡ answers_of plan.now }
     requires records { AreEntries (last plan.now) outcome.records }
     ensures { IfOk result (IsOutputBy plan.now journal.now outcome.entry.attempts.items) }
 {
-    write_outcome(alloc, plan, journal, outcome)
+    let (output, _records) = write_outcome(alloc, plan, journal, outcome)?;
+    Ok(output)
 }
 
-/// The tables of the records that a run came to, and the result tables of the lines with its answers. Of the plan only the
-/// readings count.
+/// The tables of the records that a run came to, and the result tables of the lines with its answers; and the records, which
+/// whoever asked tears down or leaves. Of the plan only the readings count.
 fn write_outcome(
     alloc: Global,
     plan: &Plan,
     journal: &Journal,
     outcome: Outcome<'_>,
-) -> Result<Output, AllocError>
+) -> Result<(Output, Records), AllocError>
     requires planned { plan.now.readings ≡ readings_of journal.now }
-    requires answered { AreAnswers (readings_of journal.now) (lent outcome.answers.items) }
-    ensures tables { IfOk result (λ o. texts_of o.tables ≡ tables_of outcome.entry.records) }
-    ensures results { IfOk result (λ o. AreTexts (told journal.now (readings_of journal.now) (lent outcome.entry.answers.items)) (results_of o)) }
-    ensures each_once { IfOk result (λ o. o.sizes.answered + o.sizes.passed ≡ length journal.now) }
-    ensures attempts { IfOk result (λ o. o.attempts.items ≡ outcome.entry.attempts.items) }
+    requires answered { AreAnswers (readings_of journal.now) (answers_behind outcome.answers.items) }
+    ensures tables { IfOk result (λ w. texts_of w.0.tables ≡ tables_of outcome.entry.records) }
+    ensures results { IfOk result (λ w. AreTexts (told journal.now (readings_of journal.now) (answers_behind outcome.entry.answers.items)) (results_of w.0)) }
+    ensures each_once { IfOk result (λ w. w.0.sizes.answered + w.0.sizes.passed ≡ length journal.now) }
+    ensures attempts { IfOk result (λ w. w.0.attempts.items ≡ outcome.entry.attempts.items) }
 {
     let tables = write_records(alloc, &outcome.records)?;
     let texts = report(alloc, journal, plan, &outcome)?;
-    Ok(put_together(tables, texts, outcome.attempts))
+    let output = put_together(tables, texts, outcome.attempts);
+    Ok((output, outcome.records))
 }
 
 /// The output of these tables and texts.
@@ -195,13 +177,16 @@ fn put_together(tables: Tables, texts: Texts, attempts: Vec<u32>) -> Output
     }
 }
 
-/// The answers, lent.
-fn lend(alloc: Global, answers: &[Option<Answer>]) -> Result<Vec<Option<&Answer>>, AllocError>
-    ensures { IfOk result (λ v. lent v.items ≡ answers.now) }
+/// References to the answers.
+fn references_to(
+    alloc: Global,
+    answers: &[Option<Answer>],
+) -> Result<Vec<Option<&Answer>>, AllocError>
+    ensures { IfOk result (λ v. answers_behind v.items ≡ answers.now) }
 {
-    let mut lent = Vec::with_capacity(alloc, answers.len())?;
+    let mut references = Vec::with_capacity(alloc, answers.len())?;
     for answer in answers {
-        lent.push(answer.as_ref())?;
+        references.push(answer.as_ref())?;
     }
-    Ok(lent)
+    Ok(references)
 }

@@ -13,7 +13,7 @@ use Rattle.journal_table.specs.Entry.{Entry}
 use Rattle.rayon.specs.Shown.{take-add}
 use Rattle.sip_answer.specs.declared.answer.Answer.{Answer}
 use Rattle.sip_reader.specs.declared.request.Reading.{Reading}
-use Rattle.result_report.specs.Report.{Row, Told, lent, told, answer_row, answers_header, passed_header, passed_row, report_header, report_row}
+use Rattle.result_report.specs.Report.{Row, Told, answers_behind, told, answer_row, answers_header, passed_header, passed_row, report_header, report_row}
 use Rattle.result_report.specs.Stretches.{AreParts, between, stretch}
 use Rattle.result_report.specs.Tables.{AreHeads, AreTexts, sizes_of}
 use Rattle.result_report.specs.declared.texts.Heads.{Heads}
@@ -207,8 +207,8 @@ pub between-whole : {X : Type 0} (n : ℕ) (xs : List X) → length xs ≤ n →
 between-whole n xs le = take_all (n - 0) xs (omega arith)
 
 -- the answer that is lent at a place
-pub answer-at : (answers : List (Option (Bor Answer))) (i : ℕ) (a : Option (Bor Answer)) → Some a ≡ slice_get answers i → Some (option_copied a) ≡ slice_get (lent answers) i
+pub answer-at : (answers : List (Option (Bor Answer))) (i : ℕ) (a : Option (Bor Answer)) → Some a ≡ slice_get answers i → Some (option_copied a) ≡ slice_get (answers_behind answers) i
 answer-at answers i a e = ap (option_map option_copied) e ∙ sym (slice_get-map option_copied answers i)
 
-pub no-answer-at : (answers : List (Option (Bor Answer))) (i : ℕ) → None ≡ slice_get answers i → None ≡ slice_get (lent answers) i
+pub no-answer-at : (answers : List (Option (Bor Answer))) (i : ℕ) → None ≡ slice_get answers i → None ≡ slice_get (answers_behind answers) i
 no-answer-at answers i e = ap (option_map option_copied) e ∙ sym (slice_get-map option_copied answers i)

@@ -44,8 +44,8 @@ abbrev pub AreAnswers : List Reading → List (Option Answer) → Type 0
 AreAnswers readings answers = map is_some answers ≡ map is_answered readings
 
 -- the answers that a run lends
-abbrev pub lent : List (Option (Bor Answer)) → List (Option Answer)
-lent answers = map option_copied answers
+abbrev pub answers_behind : List (Option (Bor Answer)) → List (Option Answer)
+answers_behind answers = map option_copied answers
 
 abbrev pub told : List Entry → List Reading → List (Option Answer) → List Told
 told [] readings answers = []

@@ -1,8 +1,8 @@
 -- Lines that are told in parts, one stretch after the other.
 use Rattle.std.specs.Prelude.{◌≡◌, ◌≤◌, ◌-◌, ◌*◌, ℕ, List, Some, drop, length, slice_get, take}
+use Rattle.journal_table.specs.declared.readings.TheConstants.{STRETCH}
 use Rattle.result_report.specs.Report.{Told}
 use Rattle.result_report.specs.Tables.{AreTexts}
-use Rattle.result_report.specs.declared.texts.TheConstants.{STRETCH}
 use Rattle.result_report.specs.declared.texts.Texts.{Texts}
 
 -- from one place on up to another

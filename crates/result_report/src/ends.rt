@@ -7,7 +7,7 @@ ghost use Rattle.circ_records.specs.declared.record.Record.{Record};
 ghost use Rattle.read_set.specs.Plans.{Planned};
 ghost use Rattle.sip_answer.specs.declared.answer.Answer.{Answer};
 ghost use Rattle.result_report.specs.Ends.{AreRecordsAt, HasAt, keys_named, lines_keys, named_keys, numbers_of};
-ghost use Rattle.result_report.specs.Report.{lent};
+ghost use Rattle.result_report.specs.Report.{answers_behind};
 
 use crate::outcome::Outcome;
 use circ_records::{Key, Record, Records};
@@ -58,7 +58,7 @@ pub trait End {
 /// What a run comes to, exactly as its end lends it: each line's answer and attempt, and the records at the keys of the
 /// plan and of what the lines wrote.
 pub fn collect<'e, E: End>(alloc: Global, end: &'e E) -> Result<Outcome<'e>, AllocError>
-    ensures answers { IfOk result (λ o. lent o.answers.items ≡ map (E.answered end.now) (numbers_of (E.planned end.now))) }
+    ensures answers { IfOk result (λ o. answers_behind o.answers.items ≡ map (E.answered end.now) (numbers_of (E.planned end.now))) }
     ensures attempts { IfOk result (λ o. o.attempts.items ≡ map (E.attempted end.now) (numbers_of (E.planned end.now))) }
     ensures records { IfOk result (λ o. AreRecordsAt (named_keys (E.planned end.now) (E.entered end.now)) (E.left end.now) o.records) }
 {
@@ -81,7 +81,7 @@ fn collect_answers<'e, E: End>(
     count: usize,
 ) -> Result<Vec<Option<&'e Answer>>, AllocError>
     requires { first + count ≤ 2 ^ 64 }
-    ensures { IfOk result (λ v. lent v.items ≡ map (E.answered end.now) (range_with_len first count)) }
+    ensures { IfOk result (λ v. answers_behind v.items ≡ map (E.answered end.now) (range_with_len first count)) }
 {
     let mut answers = Vec::with_capacity(alloc, count)?;
     for i in 0..count {
@@ -106,7 +106,7 @@ fn collect_attempts<E: End>(
     Ok(attempts)
 }
 
-/// Takes the records at the keys of the plan.
+/// Takes the records at the keys of the plan. Where memory runs out `collect` drops the records, here and below.
 fn take_base<E: End>(
     alloc: Global,
     end: &E,

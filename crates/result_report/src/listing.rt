@@ -1,6 +1,6 @@
 //! A result table while it is written.
 
-ghost use Rattle.std.specs.Prelude.{[], Some, IfOk, OnOk};
+ghost use Rattle.std.specs.Prelude.{◌≡◌, [], None, Some, IfOk, OnOk, OnErr};
 ghost use Rattle.csv_table.specs.Text.{bytes_of};
 
 use csv_table::TableText;
@@ -29,10 +29,12 @@ impl Listing {
         })
     }
 
-    /// Writes the row of a line at the end: its number, its connection, and what is told of it.
+    /// Writes the row of a line at the end: its number, its connection, and what is told of it. Where memory runs out the
+    /// table can no longer be finished.
     pub fn row(&mut self, line: &Line, told: &[u8]) -> Result<(), AllocError>
         requires { HasRoomFor self.old }
-        ensures { OnOk result (Gains (Some (row_of line.now told.now)) self.old self.new) }
+        ensures ok { OnOk result (Gains (Some (row_of line.now told.now)) self.old self.new) }
+        ensures err { OnErr result (self.new.table ≡ None) }
     {
         let mut digits = Buffer::new();
         let number = digits.format(line.number());

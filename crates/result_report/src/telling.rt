@@ -74,7 +74,7 @@ impl Telling {
         })
     }
 
-    /// Tells one line.
+    /// Tells one line. Where memory runs out its caller drops all that is told, so nothing is said of it.
     pub fn line(
         &mut self,
         alloc: Global,

@@ -2,23 +2,20 @@
 
 ghost use Rattle.std.specs.Prelude.{◌≡◌, ◌<◌, ◌≤◌, ◌+◌, ◌++◌, ◌^◌, [], List, IfOk, OnOk, drop, length, option_copied, option_map, slice_get};
 ghost use Rattle.read_set.specs.Plans.{readings_of};
-ghost use Rattle.result_report.specs.Report.{AreAnswers, Told, lent, told};
+ghost use Rattle.result_report.specs.Report.{AreAnswers, Told, answers_behind, told};
 ghost use Rattle.result_report.specs.Stretches.{AreParts, between, stretch};
 ghost use Rattle.result_report.specs.Tables.{AreHeads, AreTexts};
 ghost use Rattle.result_report.specs.Tellings.{Tells};
 
 use crate::outcome::Outcome;
 use crate::telling::Telling;
-use journal_table::{Journal, Line};
+use journal_table::{Journal, Line, STRETCH};
 use rayon::prelude::*;
 use read_set::Plan;
 use sip_answer::Answer;
 use sip_reader::Reading;
 use std::alloc::{AllocError, Global};
 use std::thread::Threads;
-
-/// How many lines are told at a time where all cores tell them.
-const STRETCH: usize = 4096;
 
 /// How many rows stand under the header of each result table.
 #[derive(Clone, Copy, PartialEq, Eq)]
@@ -47,8 +44,8 @@ pub fn report(
     outcome: &Outcome<'_>,
 ) -> Result<Texts, AllocError>
     requires planned { plan.now.readings ≡ readings_of journal.now }
-    requires answered { AreAnswers (readings_of journal.now) (lent outcome.now.answers.items) }
-    ensures texts { IfOk result (AreTexts (told journal.now (readings_of journal.now) (lent outcome.now.answers.items))) }
+    requires answered { AreAnswers (readings_of journal.now) (answers_behind outcome.now.answers.items) }
+    ensures texts { IfOk result (AreTexts (told journal.now (readings_of journal.now) (answers_behind outcome.now.answers.items))) }
     ensures each_once { IfOk result (λ t. t.sizes.answered + t.sizes.passed ≡ length journal.now) }
 {
     let lines = journal.lines();
@@ -65,8 +62,8 @@ pub fn report_parallel(
     outcome: &Outcome<'_>,
 ) -> Result<Texts, AllocError>
     requires planned { plan.now.readings ≡ readings_of journal.now }
-    requires answered { AreAnswers (readings_of journal.now) (lent outcome.now.answers.items) }
-    ensures texts { IfOk result (AreTexts (told journal.now (readings_of journal.now) (lent outcome.now.answers.items))) }
+    requires answered { AreAnswers (readings_of journal.now) (answers_behind outcome.now.answers.items) }
+    ensures texts { IfOk result (AreTexts (told journal.now (readings_of journal.now) (answers_behind outcome.now.answers.items))) }
     ensures each_once { IfOk result (λ t. t.sizes.answered + t.sizes.passed ≡ length journal.now) }
 {
     let lines = journal.lines();
@@ -75,7 +72,7 @@ pub fn report_parallel(
         .into_par_iter()
         .map(
             |k: usize| -> Result<Texts, AllocError>
-                ensures { IfOk result (AreTexts (stretch k (told lines.entry.now plan.entry.now.readings (lent answers.entry.now)))) }
+                ensures { IfOk result (AreTexts (stretch k (told lines.entry.now plan.entry.now.readings (answers_behind answers.entry.now)))) }
             { tell_stretch(alloc, lines, plan, answers, k) },
         )
         .with_min_len(1)
@@ -91,7 +88,7 @@ fn tell_stretch<'e>(
     answers: &[Option<&'e Answer>],
     k: usize,
 ) -> Result<Texts, AllocError>
-    ensures { IfOk result (AreTexts (stretch k (told lines.now plan.now.readings (lent answers.now)))) }
+    ensures { IfOk result (AreTexts (stretch k (told lines.now plan.now.readings (answers_behind answers.now)))) }
 {
     let from = k.saturating_mul(STRETCH);
     tell(
@@ -114,7 +111,7 @@ fn tell<'e>(
     from: usize,
     to: usize,
 ) -> Result<Telling, AllocError>
-    ensures { IfOk result (Tells (between from to (told lines.now plan.now.readings (lent answers.now)))) }
+    ensures { IfOk result (Tells (between from to (told lines.now plan.now.readings (answers_behind answers.now)))) }
 {
     let mut telling = Telling::new(alloc)?;
     for place in from..to {
@@ -132,7 +129,7 @@ fn told_at<'l, 'e>(
     answers: &[Option<&'e Answer>],
     place: usize,
 ) -> Option<(&'l Line, &'l Reading, Option<&'e Answer>)>
-    ensures { option_map (λ t. (t.0.now, t.1.now, option_copied t.2)) result ≡ slice_get (told lines.now plan.now.readings (lent answers.now)) place }
+    ensures { option_map (λ t. (t.0.now, t.1.now, option_copied t.2)) result ≡ slice_get (told lines.now plan.now.readings (answers_behind answers.now)) place }
 {
     let line = lines.get(place)?;
     let reading = reading_at(plan, place)?;
@@ -172,7 +169,7 @@ pub(crate) struct Heads {
 }
 
 impl Texts {
-    /// Puts the rows of more lines behind its own.
+    /// Puts the rows of more lines behind its own. Where memory runs out its caller drops them all.
     fn add(&mut self, heads: Heads, more: &Texts) -> Result<(), AllocError>
         ensures { OnOk result ((front back : List Told) → length front + length back < 2 ^ 64 → AreHeads heads
             → AreTexts front self.old → AreTexts back more.now → AreTexts (front ++ back) self.new) }

@@ -11,7 +11,7 @@ use Rattle.sip_reader.specs.Reading.{trimmed}
 use Rattle.sip_reader.specs.Sum.{body, has_trailer}
 use Rattle.sip_answer.specs.Differ.{checkin_words, differ, differ_body, fee_paid_words, hold_words, is_response, item_status_words, words_of}
 use Rattle.sip_answer.specs.Parts.{digit, field, filled, flag, given, with_sequence}
-use Rattle.sip_answer.specs.Texts.{checkin_text, fee_paid_text, hold_text, item_status_text, place_text, resend_text}
+use Rattle.sip_answer.specs.Texts.{checkin_text, fee_paid_text, hold_text, item_status_text, position_text, resend_text}
 use Rattle.sip_answer.specs.declared.answer.Answer.{Answer}
 use Rattle.sip_answer.specs.declared.answer.Answer.TheVariants as answers
 use Rattle.sip_answer.specs.declared.answer.CheckinAnswer.{CheckinAnswer}
@@ -79,8 +79,8 @@ hold_none a more long =
 
 pub hold : (a : HoldAnswer) → length a.date ≡ 18 → Agreeing (answers.Hold a) (hold_text a)
 hold a date =
-    let place = option_map_or place_text a.place [] in
-    let names = λ (x : List ℕ). x ++ place ++ field (codes "AO") a.institution ++ field (codes "AA") a.patron in
+    let position = option_map_or position_text a.position [] in
+    let names = λ (x : List ℕ). x ++ position ++ field (codes "AO") a.institution ++ field (codes "AA") a.patron in
     let more = names a.date ++ field (codes "AB") a.item ++ given (codes "AJ") a.title in
     let long : 18 ≤ length more = simp length-append (omega arith) in
     let shape : hold_text a ≡ 49 ∷ 54 ∷ ok_byte a.ok ∷ flag_byte a.available ∷ more = rw (digit_is a.ok, flag_is a.available) refl in

@@ -4,7 +4,9 @@ use Rattle.std.specs.Char.{is_ascii_digit}
 use Rattle.std.specs.Int.{IsInRange}
 use Rattle.std.specs.List.{list_all, list_any}
 use Rattle.std.specs.Option.{option_map_or}
+use Rattle.sip_reader.specs.Days.{FIRST_DAY, LAST_DAY}
 use Rattle.sip_reader.specs.Texts.{is_barred}
+use Rattle.sip_reader.specs.declared.amount.TheConstants.{AMOUNT_MAX}
 use Rattle.sip_answer.specs.Differ.{Agrees}
 use Rattle.sip_answer.specs.Texts.{answer_text}
 use Rattle.sip_answer.specs.declared.answer.Answer.{Answer}
@@ -37,7 +39,7 @@ item_status_texts a = a.item ∷ option_map_or (λ i. i.title ∷ i.properties �
 
 abbrev pub hold_texts : HoldAnswer → List (List ℕ)
 hold_texts a =
-    a.institution ∷ a.patron ∷ a.item ∷ option_map_or (λ p. p.pickup ∷ []) a.place []
+    a.institution ∷ a.patron ∷ a.item ∷ option_map_or (λ p. p.pickup ∷ []) a.position []
     ++ option_map_or (λ t. t ∷ []) a.title []
 
 abbrev pub texts_of : Answer → List (List ℕ)
@@ -58,7 +60,7 @@ abbrev pub IsDate : List ℕ → Type 0
 IsDate date = length date ≡ 18
 
 abbrev pub LoanParts : LoanAnswer → Type 0
-LoanParts a = IsDate a.date × IfSome a.due (λ d. IsInRange 4_346_020 7_304_483 d) × IfSome a.rental (λ r. r ≤ 99_999_999_999)
+LoanParts a = IsDate a.date × IfSome a.due (λ d. IsInRange FIRST_DAY LAST_DAY d) × IfSome a.rental (λ r. r ≤ AMOUNT_MAX)
 
 abbrev pub PartsFit : Answer → Type 0
 PartsFit (answers.BlockPatron a) = IsDate a.date

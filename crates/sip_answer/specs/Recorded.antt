@@ -4,6 +4,7 @@ use Rattle.std.specs.Char.{is_ascii_digit}
 use Rattle.std.specs.List.{filter_map}
 use Rattle.std.specs.Option.{option_and_then}
 use Rattle.sip_reader.specs.Amounts.{amount_of}
+use Rattle.sip_reader.specs.Bytes as byte
 use Rattle.sip_reader.specs.Dates.{two_at, year_at}
 use Rattle.sip_reader.specs.Days.{day_at}
 use Rattle.sip_reader.specs.Fields.{field, pieces, text_after}
@@ -17,11 +18,11 @@ None >>= f = None
 
 -- ok (SIP 2.00): 1 or 0
 abbrev pub ok_of : ℕ → Option Bool
-ok_of b = if b == 49 then Some true else if b == 48 then Some false else None
+ok_of b = if b == byte.one then Some true else if b == byte.zero then Some false else None
 
 -- a yes or no field (SIP 2.00): Y or N
 abbrev pub flag_of : ℕ → Option Bool
-flag_of b = if b == 89 then Some true else if b == 78 then Some false else None
+flag_of b = if b == byte.Y then Some true else if b == byte.N then Some false else None
 
 -- two digits stand there
 abbrev pub are_digits : ℕ → List ℕ → Bool
@@ -37,10 +38,10 @@ unfoldable pub is_plain : List ℕ → Bool
 is_plain t = nat_le 8 (length t) && (are_digits 0 t && (are_digits 2 t && (are_digits 4 t && are_digits 6 t)))
 
 unfoldable pub is_iso : List ℕ → Bool
-is_iso t = nat_le 10 (length t) && (are_digits 0 t && (are_digits 2 t && ((slice_index t 4 == 45) && (are_digits 5 t && ((slice_index t 7 == 45) && are_digits 8 t)))))
+is_iso t = nat_le 10 (length t) && (are_digits 0 t && (are_digits 2 t && ((slice_index t 4 == byte.hyphen) && (are_digits 5 t && ((slice_index t 7 == byte.hyphen) && are_digits 8 t)))))
 
 unfoldable pub is_us : List ℕ → Bool
-is_us t = nat_le 10 (length t) && (are_digits 0 t && ((slice_index t 2 == 47) && (are_digits 3 t && ((slice_index t 5 == 47) && (are_digits 6 t && are_digits 8 t)))))
+is_us t = nat_le 10 (length t) && (are_digits 0 t && ((slice_index t 2 == byte.slash) && (are_digits 3 t && ((slice_index t 5 == byte.slash) && (are_digits 6 t && are_digits 8 t)))))
 
 -- its day, where it is a real one of the years 1900 to 9999
 unfoldable pub day_in : List ℕ → Option ℕ
@@ -52,7 +53,7 @@ day_in t =
 
 -- Due date (AH) of the variable fields.
 unfoldable pub due_in : List ℕ → Option ℕ
-due_in rest = option_and_then day_in (field 65 72 (pieces rest))
+due_in rest = option_and_then day_in (field byte.A byte.H (pieces rest))
 
 -- an empty text is no amount and counts as 0, any other has to be an amount
 abbrev pub fee_of : Option (List ℕ) → Option ℕ
@@ -62,11 +63,11 @@ fee_of (Some (x ∷ text)) = amount_of (x ∷ text)
 
 -- Fee amount (BV) of the variable fields, 0 where it is missing.
 unfoldable pub fee_in : List ℕ → Option ℕ
-fee_in rest = fee_of (field 66 86 (pieces rest))
+fee_in rest = fee_of (field byte.B byte.V (pieces rest))
 
 -- Valid patron (BL) of the variable fields: a yes is Y, all else no.
 unfoldable pub valid_in : List ℕ → Bool
-valid_in rest = says_yes (field 66 76 (pieces rest))
+valid_in rest = says_yes (field byte.B byte.L (pieces rest))
 
 -- all the items of the variable fields with an identifier, in their order
 unfoldable pub items_in : ℕ → ℕ → List ℕ → List (List ℕ)

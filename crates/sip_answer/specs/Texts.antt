@@ -8,7 +8,7 @@ use Rattle.sip_answer.specs.declared.answer.Answer.TheVariants as answers
 use Rattle.sip_answer.specs.declared.answer.CheckinAnswer.{CheckinAnswer}
 use Rattle.sip_answer.specs.declared.answer.FeePaidAnswer.{FeePaidAnswer}
 use Rattle.sip_answer.specs.declared.answer.HoldAnswer.{HoldAnswer}
-use Rattle.sip_answer.specs.declared.answer.HoldPlace.{HoldPlace}
+use Rattle.sip_answer.specs.declared.answer.QueuePosition.{QueuePosition}
 use Rattle.sip_answer.specs.declared.answer.ItemStatusAnswer.{ItemStatusAnswer}
 use Rattle.sip_answer.specs.declared.answer.LoanAnswer.{LoanAnswer}
 use Rattle.sip_answer.specs.declared.answer.PatronAnswer.{PatronAnswer}
@@ -89,15 +89,15 @@ renew_all_text a =
     ++ each (codes "BM") a.renewed
     ++ each (codes "BN") a.unrenewed
 
--- the place in a queue, and where the item is picked up
-abbrev pub place_text : HoldPlace → List ℕ
-place_text place = field (codes "BR") (decimal place.number) ++ filled (codes "BS") place.pickup
+-- the position in a queue, and where the item is picked up
+abbrev pub position_text : QueuePosition → List ℕ
+position_text position = field (codes "BR") (decimal position.number) ++ filled (codes "BS") position.pickup
 
 -- Hold response (16).
 abbrev pub hold_text : HoldAnswer → List ℕ
 hold_text a =
     codes "16" ++ digit a.ok ++ flag a.available ++ a.date
-    ++ option_map_or place_text a.place []
+    ++ option_map_or position_text a.position []
     ++ field (codes "AO") a.institution
     ++ field (codes "AA") a.patron
     ++ field (codes "AB") a.item

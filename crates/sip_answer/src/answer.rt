@@ -290,8 +290,8 @@ pub struct HoldAnswer {
     pub ok: bool,
     /// Whether the item waits for this patron.
     pub available: bool,
-    /// The patron's place in the queue, where a hold was added or changed.
-    pub place: Option<HoldPlace>,
+    /// The patron's position in the queue, where a hold was added or changed.
+    pub position: Option<QueuePosition>,
     /// Where the item is known.
     pub title: Option<Text>,
 }
@@ -305,22 +305,22 @@ impl Drop for HoldAnswer {
             item: _,
             ok: _,
             available: _,
-            place: _,
+            position: _,
             title: _,
         } = self;
     }
 }
 
-/// A place in an item's queue.
-pub struct HoldPlace {
+/// A position in an item's queue.
+pub struct QueuePosition {
     /// Counted from 1.
     pub number: usize,
     pub pickup: Text,
 }
 
-impl Drop for HoldPlace {
+impl Drop for QueuePosition {
     fn drop(self) {
-        let HoldPlace {
+        let QueuePosition {
             number: _,
             pickup: _,
         } = self;

@@ -9,8 +9,9 @@ mod laws;
 mod writing;
 
 pub use answer::{
-    Answer, CheckinAnswer, FeePaidAnswer, HoldAnswer, HoldPlace, ItemStatusAnswer, KnownItem,
-    KnownPatron, LoanAnswer, PatronAnswer, PatronStatus, RenewAllAnswer, ReturnedItem, TitledItem,
+    Answer, CheckinAnswer, FeePaidAnswer, HoldAnswer, ItemStatusAnswer, KnownItem, KnownPatron,
+    LoanAnswer, PatronAnswer, PatronStatus, QueuePosition, RenewAllAnswer, ReturnedItem,
+    TitledItem,
 };
 pub use comparing::differences;
 pub use field::Field;

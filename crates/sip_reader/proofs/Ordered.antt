@@ -11,7 +11,7 @@ use Rattle.std.specs.Ordering.{MatchOrdering, nat_cmp, ordering_then}
 use Rattle.std.specs.Slice.Scan.{big_endian}
 use Rattle.std.specs.declared.cmp.Ordering.{Ordering}
 use Rattle.std.specs.declared.cmp.Ordering.TheVariants.{Less, Equal, Greater}
-use Rattle.sip_reader.specs.Padding.{IsPadded}
+use Rattle.sip_reader.specs.Devices.Padding.{IsPadded}
 
 then_assoc : (a b c : Ordering) → ordering_then a (ordering_then b c) ≡ ordering_then (ordering_then a b) c
 then_assoc Less b c = refl

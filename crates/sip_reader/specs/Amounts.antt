@@ -4,10 +4,11 @@ use Rattle.std.specs.Char.{is_ascii_digit, digit_value}
 use Rattle.std.specs.List.{list_all, prefix_len}
 use Rattle.std.specs.Option.{option_map}
 use Rattle.std.specs.Str.Parse.{digits_value}
+use Rattle.sip_reader.specs.Bytes as byte
 
 -- what stands behind the whole digits: nothing, or a point and one digit, which is tenths, or two
 abbrev pub is_fraction : List ℕ → Bool
-is_fraction f = nat_le 2 (length f) && (nat_le (length f) 3 && ((slice_index f 0 == 46) && list_all is_ascii_digit (drop 1 f)))
+is_fraction f = nat_le 2 (length f) && (nat_le (length f) 3 && ((slice_index f 0 == byte.point) && list_all is_ascii_digit (drop 1 f)))
 
 -- the hundredths that it says
 abbrev pub fraction_of : List ℕ → Option ℕ

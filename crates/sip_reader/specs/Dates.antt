@@ -2,11 +2,12 @@
 use Rattle.std.specs.Prelude.{ℕ, Bool, ◌&&◌, ◌==◌, nat_lt, nat_le, ◌+◌, ◌-◌, ◌*◌, List, length, take, drop, slice_index, Option, Some, None, if◌then◌else◌}
 use Rattle.std.specs.Char.{is_ascii_digit}
 use Rattle.std.specs.List.{list_all}
+use Rattle.sip_reader.specs.Bytes as byte
 use Rattle.sip_reader.specs.Days.{is_real, day_number}
 
 -- the number that two decimal digits spell
 abbrev pub two_at : ℕ → List ℕ → ℕ
-two_at i s = (slice_index s i - 48) * 10 + (slice_index s (i + 1) - 48)
+two_at i s = (slice_index s i - byte.zero) * 10 + (slice_index s (i + 1) - byte.zero)
 
 abbrev pub year_at : List ℕ → ℕ
 year_at s = two_at 0 s * 100 + two_at 2 s

@@ -15,6 +15,17 @@ day_number y m d = day_count (pos y) m d - 366
 abbrev pub day_at : ℕ → ℕ → ℕ → Option ℕ
 day_at y m d = if is_real y m d then Some (day_number y m d) else None
 
+-- the numbers of the first and of the last day: 1 January 1900 and 31 December 9999
+abbrev pub FIRST_DAY : ℕ
+FIRST_DAY = 4_346_020
+
+abbrev pub LAST_DAY : ℕ
+LAST_DAY = 7_304_483
+
+-- the number of the last day that a stamp may have: 31 December 9900
+abbrev pub LAST_STAMP_DAY : ℕ
+LAST_STAMP_DAY = 7_268_324
+
 -- the calendar has this day, in the years 1900 to 9999
 abbrev pub IsReal : ℕ → ℕ → ℕ → Type 0
 IsReal y m d = IsInRange 1900 9999 y × IsInRange 1 12 m × IsInRange 1 (days_in_month (pos y) m) d

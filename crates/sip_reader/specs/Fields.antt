@@ -1,10 +1,11 @@
 -- Variable fields: a two-character identifier and its text, closed by a bar (SIP 2.00, variable-length fields).
 use Rattle.std.specs.Prelude.{ℕ, Bool, ◌&&◌, ◌==◌, nat_le, List, [], ◌∷◌, length, drop, slice_index, Option, Some, None, if◌then◌else◌}
 use Rattle.std.specs.List.{slice_split, list_any}
+use Rattle.sip_reader.specs.Bytes as byte
 
 -- what stands after the fixed part is cut at each bar
 abbrev pub pieces : List ℕ → List (List ℕ)
-pieces rest = slice_split (λ b. b == 124) rest
+pieces rest = slice_split (λ b. b == byte.bar) rest
 
 -- the text of a piece that begins with these two bytes
 abbrev pub text_after : ℕ → ℕ → List ℕ → Option (List ℕ)
@@ -44,14 +45,14 @@ pub record Texts : Type 0 where
 
 abbrev pub texts : List (List ℕ) → Texts
 texts ps = record {
-  patron = field 65 65 ps;
-  item = field 65 66 ps;
-  title = field 65 74 ps;
-  cancel = field 66 73 ps;
-  agreed = field 66 79 ps;
-  pickup = field 66 83 ps;
-  amount = field 66 86 ps;
-  fee = field 67 71 ps;
-  properties = field 67 72 ps;
+  patron = field byte.A byte.A ps;
+  item = field byte.A byte.B ps;
+  title = field byte.A byte.J ps;
+  cancel = field byte.B byte.I ps;
+  agreed = field byte.B byte.O ps;
+  pickup = field byte.B byte.S ps;
+  amount = field byte.B byte.V ps;
+  fee = field byte.C byte.G ps;
+  properties = field byte.C byte.H ps;
   short = list_any (λ p. length p == 1) ps;
 }

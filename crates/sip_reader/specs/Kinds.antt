@@ -1,6 +1,7 @@
 -- Identifiers of messages and layouts of requests (SIP 2.00, messages).
 use Rattle.std.specs.Prelude.{ℕ, ◌+◌, ◌-◌, ◌*◌, ◌&&◌, ◌==◌, Option, Some, None, true, false, if◌then◌else◌}
 use Rattle.std.specs.Char.{is_ascii_digit}
+use Rattle.sip_reader.specs.Bytes as byte
 use Rattle.sip_reader.specs.declared.kind.Command.{Command}
 use Rattle.sip_reader.specs.declared.kind.Command.TheVariants.{Request, Passed}
 use Rattle.sip_reader.specs.declared.kind.Layout.{Layout}
@@ -31,7 +32,7 @@ command_numbered n =
 
 -- an identifier is two digits
 unfoldable pub command_at : ℕ → ℕ → Option Command
-command_at a b = if is_ascii_digit a && is_ascii_digit b then command_numbered ((a - 48) * 10 + (b - 48)) else None
+command_at a b = if is_ascii_digit a && is_ascii_digit b then command_numbered ((a - byte.zero) * 10 + (b - byte.zero)) else None
 
 -- The layouts: how many flags stand before the transaction date, how many bytes after it, and which variable fields the rules use.
 abbrev pub layout_of : Kind → Layout

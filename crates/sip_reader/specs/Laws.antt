@@ -2,15 +2,17 @@
 use Rattle.std.specs.Prelude.{◌≡◌, ◌≤◌, ◌==◌, ℕ, List, ◌∷◌, ◌++◌, true, not, Some, None}
 use Rattle.std.specs.List.{join_with_byte, list_all, list_any}
 use Rattle.sip_reader.specs.Amounts.{amount_of, amount_text}
+use Rattle.sip_reader.specs.Bytes as byte
 use Rattle.sip_reader.specs.Fields.{field, pieces}
+use Rattle.sip_reader.specs.declared.amount.TheConstants.{AMOUNT_MAX}
 
 -- each amount is read back from what is written of it
 abbrev pub AmountsReadBack : Type 0
-AmountsReadBack = (n : ℕ) → n ≤ 99_999_999_999 → amount_of (amount_text n) ≡ Some n
+AmountsReadBack = (n : ℕ) → n ≤ AMOUNT_MAX → amount_of (amount_text n) ≡ Some n
 
 -- the pieces have no bar, and joined by bars they are the rest again
 abbrev pub PiecesTellTheRest : Type 0
-PiecesTellTheRest = (rest : List ℕ) → (join_with_byte 124 (pieces rest) ≡ rest) × (list_all (λ piece. not (list_any (λ b. b == 124) piece)) (pieces rest) ≡ true)
+PiecesTellTheRest = (rest : List ℕ) → (join_with_byte byte.bar (pieces rest) ≡ rest) × (list_all (λ piece. not (list_any (λ b. b == byte.bar) piece)) (pieces rest) ≡ true)
 
 -- the first piece that begins with an identifier counts, whatever comes after it
 abbrev pub FirstFieldCounts : Type 0

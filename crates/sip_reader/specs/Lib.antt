@@ -1,12 +1,12 @@
 pub mod Amounts
+pub mod Bytes
 pub mod Dates
 pub mod Days
+pub mod Devices
 pub mod Fields
 pub mod Fits
-pub mod Held
 pub mod Kinds
 pub mod Laws
-pub mod Padding
 pub mod Reading
 pub mod Sum
 pub mod Texts

@@ -3,14 +3,17 @@ use Rattle.std.specs.Prelude.{ℕ, Bool, ◌&&◌, ◌||◌, ◌==◌, not, nat_
 use Rattle.std.specs.List.{list_any, list_all, suffix_len}
 use Rattle.std.specs.Option.{option_and_then, is_none}
 use Rattle.sip_reader.specs.Amounts.{amount_of}
+use Rattle.sip_reader.specs.Bytes as byte
 use Rattle.sip_reader.specs.Dates.{is_stamp, given_day}
 use Rattle.sip_reader.specs.Fields.{Texts, texts, pieces}
 use Rattle.sip_reader.specs.Kinds.{command_at, layout_of}
 use Rattle.sip_reader.specs.Sum.{has_trailer, has_right_sum, body, sequence}
 use Rattle.sip_reader.specs.Texts.{is_id, is_line_end}
+use Rattle.sip_reader.specs.declared.id.TheConstants.{ID_MAX}
 use Rattle.sip_reader.specs.declared.kind.Command.{Command}
 use Rattle.sip_reader.specs.declared.kind.Command.TheVariants as commands
 use Rattle.sip_reader.specs.declared.kind.Layout.{Layout}
+use Rattle.sip_reader.specs.declared.read.TheConstants.{MESSAGE_MAX}
 use Rattle.sip_reader.specs.declared.request.Act.{Act}
 use Rattle.sip_reader.specs.declared.request.Act.TheVariants as acts
 use Rattle.sip_reader.specs.declared.request.HoldMode.{HoldMode}
@@ -21,6 +24,7 @@ use Rattle.sip_reader.specs.declared.request.Passed.TheVariants as passed
 use Rattle.sip_reader.specs.declared.request.Reading.{Reading}
 use Rattle.sip_reader.specs.declared.request.Reading.TheVariants.{Asked, Passed, BadSum, Unread}
 use Rattle.sip_reader.specs.declared.request.Why.TheVariants as why
+use Rattle.sip_reader.specs.declared.text.TheConstants.{TEXT_MAX}
 
 -- a message without the CR and LF bytes at its end
 unfoldable pub trimmed : List ℕ → List ℕ
@@ -41,10 +45,10 @@ rest_after l m = drop (fixed_len l) m
 
 -- a flag is Y or N, a hold mode + or - or * (SIP 2.00, fixed-length fields)
 abbrev pub is_yes_or_no : ℕ → Bool
-is_yes_or_no b = (b == 89) || (b == 78)
+is_yes_or_no b = (b == byte.Y) || (b == byte.N)
 
 abbrev pub is_hold_mode : ℕ → Bool
-is_hold_mode b = (b == 43) || ((b == 45) || (b == 42))
+is_hold_mode b = (b == byte.plus) || ((b == byte.hyphen) || (b == byte.star))
 
 unfoldable pub has_bad_flag : Layout → List ℕ → Bool
 has_bad_flag l flags = not (if l.hold_mode then list_all is_hold_mode flags else list_all is_yes_or_no flags)
@@ -61,8 +65,8 @@ is_blank text = length (unwrap_or text []) == 0
 unfoldable pub has_bad_field : Layout → List ℕ → Texts → Bool
 has_bad_field l rest t =
     (list_any is_line_end rest || t.short)
-    || (((l.patron && is_longer 64 t.patron) || (l.item && is_longer 64 t.item))
-    || ((l.properties && is_longer 1024 t.properties) || (l.pickup && is_longer 1024 t.pickup)))
+    || (((l.patron && is_longer ID_MAX t.patron) || (l.item && is_longer ID_MAX t.item))
+    || ((l.properties && is_longer TEXT_MAX t.properties) || (l.pickup && is_longer TEXT_MAX t.pickup)))
 
 -- a title where the item's id should be
 unfoldable pub names_title : Layout → Texts → Bool
@@ -79,34 +83,52 @@ has_bad_amount l t = l.amount && is_none (option_and_then amount_of t.amount)
 -- a yes is Y, all else no (the profile of this project)
 abbrev pub says_yes : Option (List ℕ) → Bool
 says_yes None = false
-says_yes (Some text) = (length text == 1) && (slice_index text 0 == 89)
+says_yes (Some text) = (length text == 1) && (slice_index text 0 == byte.Y)
 
 -- a fee identifier of 0 or more than 64 bytes counts as none (the profile of this project)
 abbrev pub given_id : Option (List ℕ) → Option (List ℕ)
 given_id text = option_and_then (λ bytes. if is_id bytes then Some bytes else None) text
 
 abbrev pub mode_of : ℕ → HoldMode
-mode_of b = if b == 43 then modes.Add else if b == 45 then modes.Delete else modes.Change
+mode_of b = if b == byte.plus then modes.Add else if b == byte.hyphen then modes.Delete else modes.Change
+
+-- Of a fixed part (SIP 2.00, messages): the two flags that may stand behind the identifier; the return date of a checkin,
+-- behind one flag and the transaction date; the nb due date of a checkout and a renewal, behind two flags and that date; the
+-- currency of a payment, behind that date, the fee type and the payment type.
+abbrev pub first_flag : List ℕ → ℕ
+first_flag m = slice_index m 2
+
+abbrev pub second_flag : List ℕ → ℕ
+second_flag m = slice_index m 3
+
+abbrev pub return_date : List ℕ → List ℕ
+return_date m = slice_range m 21 39
+
+abbrev pub nb_due_date : List ℕ → List ℕ
+nb_due_date m = slice_range m 22 40
+
+abbrev pub currency_at : List ℕ → List ℕ
+currency_at m = slice_range m 24 27
 
 -- what is asked, by the fixed part and the fields (SIP 2.00, messages)
 abbrev pub act_of : Kind → List ℕ → Texts → Act
 act_of kinds.BlockPatron m t = acts.BlockPatron (record { patron = unwrap_or t.patron [] })
 act_of kinds.Checkin m t = acts.Checkin (record {
-  back = given_day (slice_range m 21 39);
+  back = given_day (return_date m);
   item = unwrap_or t.item [];
   cancel = says_yes t.cancel;
 })
 act_of kinds.Checkout m t = acts.Checkout (record {
-  renewal = slice_index m 2 == 89;
-  no_block = slice_index m 3 == 89;
-  due = given_day (slice_range m 22 40);
+  renewal = first_flag m == byte.Y;
+  no_block = second_flag m == byte.Y;
+  due = given_day (nb_due_date m);
   patron = unwrap_or t.patron [];
   item = unwrap_or t.item [];
   cancel = says_yes t.cancel;
   agreed = says_yes t.agreed;
 })
 act_of kinds.Hold m t = acts.Hold (record {
-  mode = mode_of (slice_index m 2);
+  mode = mode_of (first_flag m);
   patron = unwrap_or t.patron [];
   item = unwrap_or t.item [];
   pickup = unwrap_or t.pickup [];
@@ -114,16 +136,16 @@ act_of kinds.Hold m t = acts.Hold (record {
 act_of kinds.ItemStatus m t = acts.ItemStatus (record { item = unwrap_or t.item []; properties = t.properties })
 act_of kinds.PatronEnable m t = acts.PatronEnable (record { patron = unwrap_or t.patron [] })
 act_of kinds.Renew m t = acts.Renew (record {
-  third_party = slice_index m 2 == 89;
-  no_block = slice_index m 3 == 89;
-  due = given_day (slice_range m 22 40);
+  third_party = first_flag m == byte.Y;
+  no_block = second_flag m == byte.Y;
+  due = given_day (nb_due_date m);
   patron = unwrap_or t.patron [];
   item = unwrap_or t.item [];
   agreed = says_yes t.agreed;
 })
 act_of kinds.FeePaid m t = acts.FeePaid (record {
   patron = unwrap_or t.patron [];
-  currency = slice_range m 24 27;
+  currency = currency_at m;
   amount = unwrap_or (option_and_then amount_of t.amount) 0;
   fee = given_id t.fee;
 })
@@ -157,7 +179,7 @@ reading_of s m = if nat_lt (length m) 2 then Unread why.TooShort else reading_co
 -- of a message without the end of its line
 unfoldable pub reading_trimmed : List ℕ → Reading
 reading_trimmed m =
-    if nat_lt 4096 (length m) then Unread why.TooLong
+    if nat_lt MESSAGE_MAX (length m) then Unread why.TooLong
     else if has_trailer m && not (has_right_sum m) then BadSum
     else reading_of (sequence m) (body m)
 

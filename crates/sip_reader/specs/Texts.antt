@@ -1,21 +1,24 @@
 use Rattle.std.specs.Prelude.{ℕ, Bool, ◌||◌, ◌&&◌, ◌==◌, ◌++◌, not, nat_le, List, length, codes, decimal}
 use Rattle.std.specs.List.{list_any}
+use Rattle.sip_reader.specs.Bytes as byte
+use Rattle.sip_reader.specs.declared.id.TheConstants.{ID_MAX}
+use Rattle.sip_reader.specs.declared.text.TheConstants.{TEXT_MAX}
 
 -- a byte that ends a line: CR or LF
 abbrev pub is_line_end : ℕ → Bool
-is_line_end b = (b == 13) || (b == 10)
+is_line_end b = (b == byte.CR) || (b == byte.LF)
 
 -- a byte that no id and no text has: a bar, CR or LF
 abbrev pub is_barred : ℕ → Bool
-is_barred b = (b == 124) || is_line_end b
+is_barred b = (b == byte.bar) || is_line_end b
 
 -- 1 to 64 bytes without a bar, CR or LF
 unfoldable pub is_id : List ℕ → Bool
-is_id bytes = nat_le 1 (length bytes) && (nat_le (length bytes) 64 && not (list_any is_barred bytes))
+is_id bytes = nat_le 1 (length bytes) && (nat_le (length bytes) ID_MAX && not (list_any is_barred bytes))
 
 -- at most 1,024 bytes without a bar, CR or LF
 unfoldable pub is_text : List ℕ → Bool
-is_text bytes = nat_le (length bytes) 1024 && not (list_any is_barred bytes)
+is_text bytes = nat_le (length bytes) TEXT_MAX && not (list_any is_barred bytes)
 
 -- the id of a fee that a line of the journal makes: R, the number of the line, and how many fees the line made before (the profile of this project)
 unfoldable pub fee_id : ℕ → ℕ → List ℕ

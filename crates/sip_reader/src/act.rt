@@ -8,7 +8,7 @@ ghost use Rattle.sip_reader.specs.Fits.{Fits};
 ghost use Rattle.sip_reader.specs.Kinds.{layout_of};
 ghost use Rattle.sip_reader.specs.Reading.{act_of, fixed_len, given_id, mode_of, says_yes};
 ghost use Rattle.sip_reader.specs.Texts.{is_id, is_text};
-ghost use Rattle.sip_reader.specs.Views.{lent};
+ghost use Rattle.sip_reader.specs.Views.{texts_behind};
 ghost use Rattle.sip_reader.specs.declared.request.Kind.TheVariants as kinds;
 
 use crate::checks::amount_in;
@@ -27,8 +27,8 @@ pub fn asked_act(
     fields: Fields<'_>,
 ) -> Result<Act, AllocError>
     requires long { fixed_len (layout_of kind) ≤ length message.now }
-    requires fits { Fits (layout_of kind) (lent fields) }
-    ensures { IfOk result (λ act. act ≡ act_of kind message.now (lent fields.entry)) }
+    requires fits { Fits (layout_of kind) (texts_behind fields) }
+    ensures { IfOk result (λ act. act ≡ act_of kind message.now (texts_behind fields.entry)) }
 {
     match kind {
         Kind::BlockPatron => Ok(block_patron(fields)),
@@ -44,8 +44,8 @@ pub fn asked_act(
 }
 
 fn block_patron(fields: Fields<'_>) -> Act
-    requires { is_id (unwrap_or (lent fields).patron []) ≡ true }
-    ensures { result ≡ act_of kinds.BlockPatron [] (lent fields.entry) }
+    requires { is_id (unwrap_or (texts_behind fields).patron []) ≡ true }
+    ensures { result ≡ act_of kinds.BlockPatron [] (texts_behind fields.entry) }
 {
     Act::BlockPatron(BlockPatron {
         patron: id_of(fields.patron),
@@ -54,8 +54,8 @@ fn block_patron(fields: Fields<'_>) -> Act
 
 fn checkin(message: &[u8], fields: Fields<'_>) -> Act
     requires long { 39 ≤ length message.now }
-    requires item { is_id (unwrap_or (lent fields).item []) ≡ true }
-    ensures { result ≡ act_of kinds.Checkin message.now (lent fields.entry) }
+    requires item { is_id (unwrap_or (texts_behind fields).item []) ≡ true }
+    ensures { result ≡ act_of kinds.Checkin message.now (texts_behind fields.entry) }
 {
     Act::Checkin(Checkin {
         back: day_in(&message[21..39]),
@@ -66,9 +66,9 @@ fn checkin(message: &[u8], fields: Fields<'_>) -> Act
 
 fn checkout(message: &[u8], fields: Fields<'_>) -> Act
     requires long { 40 ≤ length message.now }
-    requires patron { is_id (unwrap_or (lent fields).patron []) ≡ true }
-    requires item { is_id (unwrap_or (lent fields).item []) ≡ true }
-    ensures { result ≡ act_of kinds.Checkout message.now (lent fields.entry) }
+    requires patron { is_id (unwrap_or (texts_behind fields).patron []) ≡ true }
+    requires item { is_id (unwrap_or (texts_behind fields).item []) ≡ true }
+    ensures { result ≡ act_of kinds.Checkout message.now (texts_behind fields.entry) }
 {
     Act::Checkout(Checkout {
         renewal: message[2] == b'Y',
@@ -83,10 +83,10 @@ fn checkout(message: &[u8], fields: Fields<'_>) -> Act
 
 fn hold(alloc: Global, message: &[u8], fields: Fields<'_>) -> Result<Act, AllocError>
     requires long { 3 ≤ length message.now }
-    requires patron { is_id (unwrap_or (lent fields).patron []) ≡ true }
-    requires item { is_id (unwrap_or (lent fields).item []) ≡ true }
-    requires pickup { is_text (unwrap_or (lent fields).pickup []) ≡ true }
-    ensures { IfOk result (λ act. act ≡ act_of kinds.Hold message.now (lent fields.entry)) }
+    requires patron { is_id (unwrap_or (texts_behind fields).patron []) ≡ true }
+    requires item { is_id (unwrap_or (texts_behind fields).item []) ≡ true }
+    requires pickup { is_text (unwrap_or (texts_behind fields).pickup []) ≡ true }
+    ensures { IfOk result (λ act. act ≡ act_of kinds.Hold message.now (texts_behind fields.entry)) }
 {
     let pickup = Text::new(alloc, fields.pickup.unwrap_or(&[]))?;
     Ok(Act::Hold(HoldRequest {
@@ -98,9 +98,9 @@ fn hold(alloc: Global, message: &[u8], fields: Fields<'_>) -> Result<Act, AllocE
 }
 
 fn item_status(alloc: Global, fields: Fields<'_>) -> Result<Act, AllocError>
-    requires item { is_id (unwrap_or (lent fields).item []) ≡ true }
-    requires properties { is_text (unwrap_or (lent fields).properties []) ≡ true }
-    ensures { IfOk result (λ act. act ≡ act_of kinds.ItemStatus [] (lent fields.entry)) }
+    requires item { is_id (unwrap_or (texts_behind fields).item []) ≡ true }
+    requires properties { is_text (unwrap_or (texts_behind fields).properties []) ≡ true }
+    ensures { IfOk result (λ act. act ≡ act_of kinds.ItemStatus [] (texts_behind fields.entry)) }
 {
     let properties = match fields.properties {
         Some(text) => Some(Text::new(alloc, text)?),
@@ -113,8 +113,8 @@ fn item_status(alloc: Global, fields: Fields<'_>) -> Result<Act, AllocError>
 }
 
 fn patron_enable(fields: Fields<'_>) -> Act
-    requires { is_id (unwrap_or (lent fields).patron []) ≡ true }
-    ensures { result ≡ act_of kinds.PatronEnable [] (lent fields.entry) }
+    requires { is_id (unwrap_or (texts_behind fields).patron []) ≡ true }
+    ensures { result ≡ act_of kinds.PatronEnable [] (texts_behind fields.entry) }
 {
     Act::PatronEnable(PatronEnable {
         patron: id_of(fields.patron),
@@ -123,9 +123,9 @@ fn patron_enable(fields: Fields<'_>) -> Act
 
 fn renew(message: &[u8], fields: Fields<'_>) -> Act
     requires long { 40 ≤ length message.now }
-    requires patron { is_id (unwrap_or (lent fields).patron []) ≡ true }
-    requires item { is_id (unwrap_or (lent fields).item []) ≡ true }
-    ensures { result ≡ act_of kinds.Renew message.now (lent fields.entry) }
+    requires patron { is_id (unwrap_or (texts_behind fields).patron []) ≡ true }
+    requires item { is_id (unwrap_or (texts_behind fields).item []) ≡ true }
+    ensures { result ≡ act_of kinds.Renew message.now (texts_behind fields.entry) }
 {
     Act::Renew(Renew {
         third_party: message[2] == b'Y',
@@ -139,9 +139,9 @@ fn renew(message: &[u8], fields: Fields<'_>) -> Act
 
 fn fee_paid(message: &[u8], fields: Fields<'_>) -> Act
     requires long { 27 ≤ length message.now }
-    requires patron { is_id (unwrap_or (lent fields).patron []) ≡ true }
-    requires amount { is_none (option_and_then amount_of (lent fields).amount) ≡ false }
-    ensures { result ≡ act_of kinds.FeePaid message.now (lent fields.entry) }
+    requires patron { is_id (unwrap_or (texts_behind fields).patron []) ≡ true }
+    requires amount { is_none (option_and_then amount_of (texts_behind fields).amount) ≡ false }
+    ensures { result ≡ act_of kinds.FeePaid message.now (texts_behind fields.entry) }
 {
     Act::FeePaid(FeePaid {
         patron: id_of(fields.patron),
@@ -152,8 +152,8 @@ fn fee_paid(message: &[u8], fields: Fields<'_>) -> Act
 }
 
 fn renew_all(fields: Fields<'_>) -> Act
-    requires { is_id (unwrap_or (lent fields).patron []) ≡ true }
-    ensures { result ≡ act_of kinds.RenewAll [] (lent fields.entry) }
+    requires { is_id (unwrap_or (texts_behind fields).patron []) ≡ true }
+    ensures { result ≡ act_of kinds.RenewAll [] (texts_behind fields.entry) }
 {
     Act::RenewAll(RenewAll {
         patron: id_of(fields.patron),

@@ -1,7 +1,7 @@
 //! Amounts of money.
 
 ghost use Rattle.std.specs.Prelude.{◌≡◌, ◌≤◌, ◌<◌, ◌^◌, ◌+◌, ◌++◌, if◌then◌else◌, nat_le, Some, None, true, length, take, IfSome, OnOk};
-ghost use Rattle.std.specs.Char.{digit_value, is_ascii_digit};
+ghost use Rattle.std.specs.Char.{is_ascii_digit};
 ghost use Rattle.std.specs.Cmp.{partial_order_from_own_ties};
 ghost use Rattle.std.specs.Cmp.Rules.{comparing};
 ghost use Rattle.std.specs.List.{list_all};
@@ -10,6 +10,7 @@ ghost use Rattle.std.specs.Str.Parse.{digits_value};
 ghost use Rattle.std.proofs.Common.{rules};
 ghost use Rattle.sip_reader.specs.Amounts.{amount_of, amount_text, fraction_of, is_fraction, whole_len};
 
+use crate::numerals::{all_digits, digit};
 use itoa::Buffer;
 use std::alloc::AllocError;
 use std::cmp::Ordering;
@@ -132,21 +133,6 @@ fn is_point_and_digits(text: &[u8]) -> bool
     ensures { result ≡ is_fraction text.now }
 {
     text.len() >= 2 && text.len() <= 3 && text[0] == b'.' && all_digits(&text[1..])
-}
-
-fn all_digits(bytes: &[u8]) -> bool
-    ensures { result ≡ list_all is_ascii_digit bytes.now }
-{
-    bytes.iter().all(|b| b.is_ascii_digit())
-}
-
-/// The value of a digit.
-fn digit(b: u8) -> u64
-    requires { is_ascii_digit b ≡ true }
-    ensures value { result ≡ digit_value b }
-    ensures small { result < 10 }
-{
-    u64::from(b - b'0')
 }
 
 /// Writes hundredths at the end of a text, with at least one digit before the point and two after it.

@@ -6,7 +6,7 @@ ghost use Rattle.std.specs.Option.{option_and_then, option_copied};
 ghost use Rattle.sip_reader.specs.Amounts.{amount_of};
 ghost use Rattle.sip_reader.specs.Reading.{has_bad_amount, has_bad_field, has_bad_flag, is_blank, is_hold_mode, is_yes_or_no, lacks_field, names_title};
 ghost use Rattle.sip_reader.specs.Texts.{is_line_end};
-ghost use Rattle.sip_reader.specs.Views.{lent};
+ghost use Rattle.sip_reader.specs.Views.{texts_behind};
 
 use crate::fields::Fields;
 use crate::kind::Layout;
@@ -39,7 +39,7 @@ fn are_hold_modes(flags: &[u8]) -> bool
 /// Whether a CR or LF stands behind the fixed part, or a piece of one byte, or a field that is used and too long.
 #[tactic(auto, unfolding(crate::specs::Reading::has_bad_field))]
 pub fn is_bad_field(layout: Layout, rest: &[u8], fields: Fields<'_>) -> bool
-    ensures { result ≡ has_bad_field layout rest.now (lent fields.entry) }
+    ensures { result ≡ has_bad_field layout rest.now (texts_behind fields.entry) }
 {
     has_line_end(rest)
         || fields.short
@@ -74,7 +74,7 @@ fn is_missing_or_empty(text: Option<&[u8]>) -> bool
 /// Whether a title stands where the item's id should be.
 #[tactic(auto, unfolding(crate::specs::Reading::names_title))]
 pub fn is_by_title(layout: Layout, fields: Fields<'_>) -> bool
-    ensures { result ≡ names_title layout (lent fields.entry) }
+    ensures { result ≡ names_title layout (texts_behind fields.entry) }
 {
     layout.title && is_missing_or_empty(fields.item) && !is_missing_or_empty(fields.title)
 }
@@ -82,7 +82,7 @@ pub fn is_by_title(layout: Layout, fields: Fields<'_>) -> bool
 /// Whether a required id is missing or empty, or a required amount is missing.
 #[tactic(auto, unfolding(crate::specs::Reading::lacks_field))]
 pub fn is_lacking(layout: Layout, fields: Fields<'_>) -> bool
-    ensures { result ≡ lacks_field layout (lent fields.entry) }
+    ensures { result ≡ lacks_field layout (texts_behind fields.entry) }
 {
     layout.patron && is_missing_or_empty(fields.patron)
         || layout.item && is_missing_or_empty(fields.item)
@@ -92,7 +92,7 @@ pub fn is_lacking(layout: Layout, fields: Fields<'_>) -> bool
 /// Whether a required amount isn't one.
 #[tactic(auto, unfolding(crate::specs::Reading::has_bad_amount))]
 pub fn is_bad_amount(layout: Layout, fields: Fields<'_>) -> bool
-    ensures { result ≡ has_bad_amount layout (lent fields.entry) }
+    ensures { result ≡ has_bad_amount layout (texts_behind fields.entry) }
 {
     layout.amount && amount_in(fields.amount).is_none()
 }

@@ -6,11 +6,17 @@ ghost use Rattle.std.specs.Cmp.Rules.{comparing};
 ghost use Rattle.std.specs.Int.{IsInRange};
 ghost use Rattle.std.specs.Ordering.{nat_cmp, as_partial_cmp, eq_by_cmp};
 ghost use Rattle.std.proofs.Common.{rules};
-ghost use Rattle.sip_reader.specs.Days.{date_of, day_at, IsReal, IsNumberOf};
+ghost use Rattle.sip_reader.specs.Days.{date_of, day_at, FIRST_DAY, IsReal, IsNumberOf, LAST_DAY, LAST_STAMP_DAY};
 
 use jiff::civil::Date;
 use std::cmp::Ordering;
 use std::marker::Model;
+
+/// The number of 1 January 1900.
+const FIRST_NUMBER: u32 = 4_346_020;
+
+/// The number of 31 December 9999.
+const LAST_NUMBER: u32 = 7_304_483;
 
 /// A day from 1 January 1900 to 31 December 9999. Its number counts the days from 1 January of the year -9999 on, as
 /// `jiff` does, so the number modulo 7 is the weekday, with Monday as 0.
@@ -22,12 +28,13 @@ pub struct Day {
 impl Model for Day {
     ghost use Rattle.std.specs.Prelude.{ℕ};
     ghost use Rattle.std.specs.Int.{IsInRange};
+    ghost use Rattle.sip_reader.specs.Days.{FIRST_DAY, LAST_DAY};
 
     ghost Value = { ℕ };
 
     ghost view = { λ d. d.days };
 
-    ghost invariant = { λ d. IsInRange 4_346_020 7_304_483 d.days };
+    ghost invariant = { λ d. IsInRange FIRST_DAY LAST_DAY d.days };
 
     ghost inverse = { λ n. record { days = n } };
 }
@@ -36,7 +43,7 @@ impl Day {
     /// The day with these parts, where the calendar has it, in the years 1900 to 9999.
     pub fn of(year: u16, month: u8, day: u8) -> Option<Day>
         ensures value { result ≡ day_at year month day }
-        ensures early { IfSome result (λ d. year ≤ 9900 → d ≤ 7_268_324) }
+        ensures early { IfSome result (λ d. year ≤ 9900 → d ≤ LAST_STAMP_DAY) }
     {
         Day::spelt(u32::from(year), u32::from(month), u32::from(day))
     }
@@ -44,7 +51,7 @@ impl Day {
     /// The same of parts that were read from digits.
     pub(crate) fn spelt(year: u32, month: u32, day: u32) -> Option<Day>
         ensures value { result ≡ day_at year month day }
-        ensures early { IfSome result (λ d. year ≤ 9900 → d ≤ 7_268_324) }
+        ensures early { IfSome result (λ d. year ≤ 9900 → d ≤ LAST_STAMP_DAY) }
     {
         match number_of(year, month, day) {
             Some(days) => Some(Day { days }),
@@ -54,10 +61,10 @@ impl Day {
 
     /// The day with this number, where it lies in the years 1900 to 9999.
     pub fn numbered(number: u32) -> Option<Day>
-        ensures real { IsSome result ↔ IsInRange 4_346_020 7_304_483 number }
+        ensures real { IsSome result ↔ IsInRange FIRST_DAY LAST_DAY number }
         ensures value { IfSome result (λ d. d ≡ number) }
     {
-        if number < 4_346_020 || number > 7_304_483 {
+        if number < FIRST_NUMBER || number > LAST_NUMBER {
             return None;
         }
         Some(Day { days: number })
@@ -66,7 +73,7 @@ impl Day {
     /// Its number.
     pub fn number(self) -> u32
         ensures value { result ≡ self }
-        ensures range { IsInRange 4_346_020 7_304_483 result }
+        ensures range { IsInRange FIRST_DAY LAST_DAY result }
     {
         self.days
     }
@@ -85,8 +92,8 @@ impl Day {
 fn number_of(year: u32, month: u32, day: u32) -> Option<u32>
     ensures real { IsSome result ↔ IsReal year month day }
     ensures number { IfSome result (λ n. IsNumberOf n year month day) }
-    ensures range { IfSome result (λ n. IsInRange 4_346_020 7_304_483 n) }
-    ensures early { IfSome result (λ n. year ≤ 9900 → n ≤ 7_268_324) }
+    ensures range { IfSome result (λ n. IsInRange FIRST_DAY LAST_DAY n) }
+    ensures early { IfSome result (λ n. year ≤ 9900 → n ≤ LAST_STAMP_DAY) }
 {
     if year < 1900 || year > 9999 || month > 12 || day > 31 {
         return None;
@@ -97,7 +104,7 @@ fn number_of(year: u32, month: u32, day: u32) -> Option<u32>
 
 /// The year, the month and the day of the month of a number.
 fn parts_of(number: u32) -> (u16, u8, u8)
-    requires { IsInRange 4_346_020 7_304_483 number }
+    requires { IsInRange FIRST_DAY LAST_DAY number }
     ensures real { IsReal result.0 result.1 result.2 }
     ensures number { IsNumberOf number result.0 result.1 result.2 }
     ensures only { (y m d : ℕ) → IsReal y m d → IsNumberOf number y m d → (result.0 ≡ y) × (result.1 ≡ m) × (result.2 ≡ d) }

@@ -3,7 +3,7 @@
 ghost use Rattle.std.specs.Prelude.{◌≡◌, ◌||◌, ◌==◌, get_or, length};
 ghost use Rattle.std.specs.Option.{option_copied};
 ghost use Rattle.sip_reader.specs.Fields.{text_after, or_else, pieces, texts};
-ghost use Rattle.sip_reader.specs.Views.{lent, with_piece};
+ghost use Rattle.sip_reader.specs.Views.{texts_behind, with_piece};
 
 /// The texts of the variable fields that the rules use, each of the first piece with its identifier.
 #[derive(Clone, Copy)]
@@ -33,7 +33,7 @@ pub struct Fields<'a> {
 impl<'a> Fields<'a> {
     /// The fields of what stands after the fixed part.
     pub fn read(rest: &'a [u8]) -> Fields<'a>
-        ensures { lent result ≡ texts (pieces rest.now) }
+        ensures { texts_behind result ≡ texts (pieces rest.now) }
     {
         let mut fields = Fields {
             patron: None,
@@ -55,7 +55,7 @@ impl<'a> Fields<'a> {
 
     /// The same with one piece more. Its first letter tells which few of the fields it may be.
     fn with(self, piece: &'a [u8]) -> Fields<'a>
-        ensures { lent result ≡ with_piece (lent self.entry) piece.now }
+        ensures { texts_behind result ≡ with_piece (texts_behind self.entry) piece.now }
     {
         let letter = first_byte(piece);
         let short = is_short_so_far(self.short, piece);

@@ -13,6 +13,7 @@ mod fields;
 mod id;
 mod kind;
 mod laws;
+mod numerals;
 mod read;
 mod request;
 mod short;
@@ -24,6 +25,7 @@ pub use amount::{AMOUNT_MAX, Amount, push_amount};
 pub use day::Day;
 pub use id::{ID_MAX, Id};
 pub use laws::{amounts_read_back, first_field_counts, pieces_tell_the_rest};
+pub use numerals::{all_digits, number_of_digits};
 pub use read::{MESSAGE_MAX, read_request, without_line_end};
 pub use request::{
     Act, BlockPatron, Checkin, Checkout, FeePaid, HoldMode, HoldRequest, ItemStatus, Kind, Passed,

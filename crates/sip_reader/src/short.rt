@@ -21,7 +21,7 @@ pub struct Short {
 
 impl Model for Short {
     ghost use Rattle.std.specs.Prelude.{ℕ, List, ◌++◌, ◌-◌, ◌≤◌, ◌≡◌, length, take, drop, replicate, refl};
-    ghost use Rattle.sip_reader.specs.Padding.{IsPadded, back, front_length};
+    ghost use Rattle.sip_reader.specs.Devices.Padding.{IsPadded, back, front_length};
 
     ghost Value = { List ℕ };
 

@@ -1,11 +1,11 @@
 //! Dates and times of messages.
 
 ghost use Rattle.std.specs.Prelude.{◌≡◌, ◌<◌, ◌≤◌, ◌+◌, if◌then◌else◌, Some, None, true, length, IsTrue};
-ghost use Rattle.std.specs.Char.{is_ascii_digit};
-ghost use Rattle.std.specs.List.{list_all};
+ghost use Rattle.sip_reader.specs.Days.{LAST_STAMP_DAY};
 ghost use Rattle.sip_reader.specs.Dates.{day_of, has_day, has_digits, has_time, is_stamp, two_at, year_at};
 
 use crate::Day;
+use crate::numerals::all_digits;
 use std::marker::Model;
 
 /// The length of a date and time in a message, in bytes.
@@ -47,7 +47,7 @@ impl Stamp {
     /// The day that is written in it; its zone isn't interpreted.
     pub fn day(&self) -> Day
         ensures value { result ≡ day_of self.now }
-        ensures early { result ≤ 7_268_324 }
+        ensures early { result ≤ LAST_STAMP_DAY }
     {
         written_day(&self.bytes)
     }
@@ -66,12 +66,6 @@ fn is_date(s: &[u8]) -> bool
     ensures long { IsTrue result → length s.now ≡ STAMP_LEN }
 {
     s.len() == STAMP_LEN && are_digits(s) && is_written_day(s) && is_time(s)
-}
-
-fn all_digits(s: &[u8]) -> bool
-    ensures { result ≡ list_all is_ascii_digit s.now }
-{
-    s.iter().all(|b| b.is_ascii_digit())
 }
 
 fn are_digits(s: &[u8]) -> bool
@@ -100,7 +94,7 @@ fn is_time(s: &[u8]) -> bool
 fn written_day(s: &[u8]) -> Day
     requires { is_stamp s.now ≡ true }
     ensures value { result ≡ day_of s.now }
-    ensures early { result ≤ 7_268_324 }
+    ensures early { result ≤ LAST_STAMP_DAY }
 {
     match Day::spelt(year(s), two(s, 4), two(s, 6)) {
         Some(day) => day,

@@ -1,7 +1,7 @@
 //! Texts of records and messages.
 
 ghost use Rattle.std.specs.Prelude.{◌≡◌, ◌≤◌, ◌++◌, ◌-◌, true, IfOk, if◌then◌else◌, Some, None, length, replicate};
-ghost use Rattle.sip_reader.specs.Held.{IsWithin, bytes_held};
+ghost use Rattle.sip_reader.specs.Devices.Held.{IsWithin, bytes_held};
 ghost use Rattle.sip_reader.specs.Texts.{is_text};
 
 use crate::id::has_barred;
@@ -43,7 +43,7 @@ impl Drop for Held {
 
 impl Model for Text {
     ghost use Rattle.std.specs.Prelude.{ℕ, List, ◌≡◌, true};
-    ghost use Rattle.sip_reader.specs.Held.{IsWithin, bytes_held};
+    ghost use Rattle.sip_reader.specs.Devices.Held.{IsWithin, bytes_held};
     ghost use Rattle.sip_reader.specs.Texts.{is_text};
 
     ghost Value = { List ℕ };

@@ -29,7 +29,7 @@ use Rattle.speculate.specs.Driving.{IsDriven, IsNew, MayStop, RunsTo}
 use Rattle.speculate.specs.Ending.{ended_by}
 use Rattle.speculate.specs.Needed.{SettlesIfDone}
 use Rattle.board_lines.specs.Notes.{found_by, told_at}
-use Rattle.speculate.specs.Phases.{Appears, GoesOn, Holds, IsAppearing, Proves, Reads, Waits}
+use Rattle.speculate.specs.Devices.Phases.{Appears, GoesOn, Holds, IsAppearing, Proves, Reads, Waits}
 use Rattle.board_lines.specs.Replies.{Answers, Grows}
 use Rattle.board_lines.specs.declared.reply.Reply.{Reply as CodeReply}
 use Rattle.board_lines.specs.declared.reply.Reply.TheVariants as replies

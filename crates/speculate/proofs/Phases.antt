@@ -27,7 +27,7 @@ use Rattle.board_steps.proofs.Steps.{step_reached}
 use Rattle.board_steps.proofs.Views.{visible_entry}
 use Rattle.board_lines.specs.Acts.{IsPlacing}
 use Rattle.board_lines.specs.Hands.{notes_of}
-use Rattle.speculate.specs.Phases.{Appears, GoesOn, Holds, IsChecked, IsAppearing, Proves, Reads, Stands, Waits, left_of}
+use Rattle.speculate.specs.Devices.Phases.{Appears, GoesOn, Holds, IsChecked, IsAppearing, Proves, Reads, Stands, Waits, left_of}
 
 -- ---- what is seen
 above_same : (n : ℕ) (o p : Option Shown) (x y : Option (ℕ × Shown)) → o ≡ p → x ≡ y → above n o x ≡ above n p y

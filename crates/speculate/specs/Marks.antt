@@ -3,6 +3,7 @@
 use Rattle.std.specs.Prelude.{◌≡◌, ◌≢◌, ℕ, ◌-◌, ◌<◌, ◌≤◌, ◌⊎◌, Bool, true, false, ◌||◌, List, length, replicate, slice_index_or, Some, None}
 use Rattle.board_steps.specs.Board.{State, Row, Board, IsLine, row_at}
 use Rattle.board_steps.specs.Board.State.{Waiting, Running, Placing, Done, Checking, Committed}
+use Rattle.journal_table.specs.declared.TheConstants.{LINE_LIMIT}
 use Rattle.speculate.specs.declared.ready.Mark.{Mark}
 use Rattle.speculate.specs.declared.ready.Mark.TheVariants as marks
 use Rattle.speculate.specs.declared.ready.Ready.{Ready}
@@ -67,7 +68,7 @@ pub record IsPlace (ready : Ready) (place : ℕ) : Type 0 where
   pub of_checked : place < length ready.checked
   pub of_checking : place < length ready.checking
   pub as_many : length ready.checked ≡ length ready.unchecked
-  pub few : place < 1000000
+  pub few : place < LINE_LIMIT
 
 -- no line below has changed since a stamp
 abbrev pub IsStill : (ℕ → Row) → ℕ → ℕ → Type 0
@@ -91,7 +92,7 @@ Fits rows n (Committed answer) mark = mark ≡ marks.Nowhere
 -- The sets say of each line what its state and the changes below it say.
 pub record IsReady (b : Board) (ready : Ready) : Type 0 where
   pub places : HasPlaces (length b.rows) ready
-  pub few : length b.rows ≤ 1000000
+  pub few : length b.rows ≤ LINE_LIMIT
   pub each : (n : ℕ) → IsLine b n → (mark : Mark) × Fits (row_at b) n (row_at b n).state mark × IsMarked ready (n - b.first) mark
 
 -- all places wait

@@ -4,7 +4,9 @@ ghost use Rattle.std.specs.Prelude.{◌≡◌, ◌+◌, ◌-◌, ◌^◌, ◌≤
 ghost use Rattle.board_steps.specs.Choice.{IsChoice};
 ghost use Rattle.board_steps.specs.Reached.{Reached};
 ghost use Rattle.board_steps.specs.Steps.{opening};
+ghost use Rattle.board_steps.specs.declared.TheConstants.{WORKERS_MAX};
 ghost use Rattle.board_steps.specs.Steps.Call.{Check, Commit, Look, Publish, Take};
+ghost use Rattle.journal_table.specs.declared.TheConstants.{LINE_LIMIT};
 ghost use Rattle.speculate.specs.Choices.{Begins, chosen};
 ghost use Rattle.board_lines.specs.Courses.{PublishesMore};
 ghost use Rattle.board_lines.specs.Hands.{AreCounts, AreNotesOf, IsHand};
@@ -55,7 +57,7 @@ impl<'p, 't, J: PlanName> Board<'p, 't, J> {
     /// The board of a plan for 1 to 64 workers: all lines wait for their first attempt.
     pub fn new(alloc: Global, plan: &'p Plan, workers: u32) -> Result<Board<'p, 't, J>, AllocError>
         requires named { plan.now ≡ J.plan }
-        requires workers { (1 ≤ workers) × (workers ≤ 64) }
+        requires workers { (1 ≤ workers) × (workers ≤ WORKERS_MAX) }
         ensures { IfOk result (λ b. b ≡ opening J.plan workers 0 0) }
     {
         Board::starting(alloc, plan, workers, 0, 0)
@@ -70,7 +72,7 @@ impl<'p, 't, J: PlanName> Board<'p, 't, J> {
         clock: u64,
     ) -> Result<Board<'p, 't, J>, AllocError>
         requires named { plan.now ≡ J.plan }
-        requires workers { (1 ≤ workers) × (workers ≤ 64) }
+        requires workers { (1 ≤ workers) × (workers ≤ WORKERS_MAX) }
         ensures { IfOk result (λ b. b ≡ opening J.plan workers attempt clock) }
     {
         Ok(Board {
@@ -311,7 +313,7 @@ impl<'p, 't, J: PlanName> Board<'p, 't, J> {
 /// How many lines a plan has.
 pub fn lines_of(plan: &Plan) -> usize
     ensures lines { result ≡ length plan.now.readings }
-    ensures few { result ≤ 1000000 }
+    ensures few { result ≤ LINE_LIMIT }
     ensures numbered { plan.now.first + result ≤ 2 ^ 64 }
 {
     plan.readings().len()

@@ -8,7 +8,7 @@ ghost use Rattle.speculate.specs.Driving.{IsDriven, IsNew, MayStop, RunsTo};
 ghost use Rattle.speculate.specs.Playing.{HasRunning};
 ghost use Rattle.board_lines.specs.Notes.{told_at};
 ghost use Rattle.board_lines.specs.Replies.{Answers};
-ghost use Rattle.speculate.specs.Phases.{Appears, Holds, Proves, Reads, Waits};
+ghost use Rattle.speculate.specs.Devices.Phases.{Appears, Holds, Proves, Reads, Waits};
 
 use crate::board::{Board, lines_of};
 use crate::playing::{put, settled_if_done};

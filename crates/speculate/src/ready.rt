@@ -1,6 +1,7 @@
 //! Which lines wait, which need a check, and whose stamp counts.
 
 ghost use Rattle.std.specs.Prelude.{◌≡◌, ◌+◌, ◌<◌, ◌≤◌, ◌||◌, IfOk, length, slice_set};
+ghost use Rattle.journal_table.specs.declared.TheConstants.{LINE_LIMIT};
 ghost use Rattle.speculate.specs.Marks.{GoesOut, GoesOver, IsPlace, Loses, Puts, SendsBack, all_waiting, ended, has_place, is_checked, is_in_check, is_unchecked, waits};
 
 use line_set::LineSet;
@@ -78,9 +79,9 @@ impl Drop for Ready {
 }
 
 impl Ready {
-    /// So many lines, at most 1,000,000, which all wait.
+    /// So many lines, at most those that a journal may have, which all wait.
     pub fn new(alloc: Global, len: usize) -> Result<Ready, AllocError>
-        requires { len ≤ 1000000 }
+        requires { len ≤ LINE_LIMIT }
         ensures { IfOk result (λ r. r ≡ all_waiting len) }
     {
         Ok(Ready {

@@ -10,26 +10,7 @@ use std::process::Abort;
 use std::sync::Wait;
 use std::test::Fail;
 use std::thread::Threads;
-
-const POLICY: &[u8] = b"institution = \"L1\"
-currency = \"USD\"
-due_form = \"sip\"
-closed_weekdays = [\"sunday\"]
-[class.A]
-max_loans = 2
-max_fees = 1000
-max_renewals = 1
-[media.001]
-days = 14
-rental = 0
-late = 25
-cap = 500
-[media.005]
-days = 7
-rental = 100
-late = 0
-cap = 0
-";
+use worked_texts::row::POLICY;
 
 const PATRONS: &[u8] = b"id,name,class,blocked\nP1,Ann,A,N\nP2,Bob,A,N\n";
 
@@ -65,7 +46,7 @@ pub(crate) fn inputs_of(alloc: Global, lines: u32, by_turns: &str) -> Result<Inp
 }
 
 fn fill(inputs: &mut Inputs) -> Result<(), AllocError> {
-    inputs.policy.extend_from_slice(POLICY)?;
+    inputs.policy.extend_from_slice(POLICY.as_bytes())?;
     inputs.tables.patrons.extend_from_slice(PATRONS)?;
     inputs.tables.items.extend_from_slice(ITEMS)?;
     inputs.tables.loans.extend_from_slice(LOANS)?;

@@ -11,7 +11,7 @@ use Rattle.std.proofs.lemmas.Cmp.{tied_itself}
 use Rattle.std.proofs.lemmas.List.Sorted.{searchable_from_sorted}
 use Rattle.circ_records.specs.Keys.{key_cmp, key_cmp_total, key_cmp-IsAntisymmetric}
 use Rattle.circ_records.specs.declared.key.Key.{Key}
-use Rattle.version_store.specs.Places.{IsAt, IsGap, Rise, all_marked, marked}
+use Rattle.version_store.specs.Devices.Places.{IsAt, IsGap, Rise, all_marked, marked}
 use Rattle.version_store.specs.declared.entry.Entry.{Entry}
 
 pub first : (a b : Bool) → T (a && b) → T a

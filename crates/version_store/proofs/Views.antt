@@ -10,7 +10,7 @@ use Rattle.std.proofs.lemmas.Cmp.{eq_by_cmp_equiv}
 use Rattle.circ_records.specs.Keys.{key_cmp, key_cmp_total, key_cmp-IsAntisymmetric}
 use Rattle.circ_records.specs.declared.key.Key.{Key}
 use Rattle.version_store.specs.Entries.{Line, shown, shown_pair, line_of, as_suspect, suspected}
-use Rattle.version_store.specs.Places.{Rise, all_marked, marked}
+use Rattle.version_store.specs.Devices.Places.{Rise, all_marked, marked}
 use Rattle.version_store.specs.declared.entry.Entry.{Entry}
 use Rattle.version_store.proofs.Places.{others}
 

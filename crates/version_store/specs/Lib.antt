@@ -1,4 +1,4 @@
-pub mod Index
+pub mod Devices
 pub mod Entries
+pub mod Index
 pub mod Indexed
-pub mod Places

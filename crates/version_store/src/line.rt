@@ -5,7 +5,7 @@ ghost use Rattle.std.specs.FinMap as fin;
 ghost use Rattle.std.specs.List.{insert};
 ghost use Rattle.circ_records.specs.Keys.{key_cmp};
 ghost use Rattle.version_store.specs.Entries.{AllOf, IsLeastLeft, IsNamedAt, line_of, no_entries, shown, suspected};
-ghost use Rattle.version_store.specs.Places.{IsAt, IsGap, Rise, all_marked};
+ghost use Rattle.version_store.specs.Devices.Places.{IsAt, IsGap, Rise, all_marked};
 
 use crate::entry::Entry;
 use circ_records::Key;
@@ -42,7 +42,7 @@ impl<'t, J: PlanName> Model for LineEntries<'t, J> {
 
     ghost view = { λ l. line_of l.entries.items };
 
-    ghost use Rattle.version_store.specs.Places.{Rise};
+    ghost use Rattle.version_store.specs.Devices.Places.{Rise};
 
     ghost invariant = { λ l. Rise l.entries.items };
 }

@@ -6,7 +6,8 @@ use journal_table::Journal;
 use read_set::Plan;
 use std::alloc::{AllocError, Global};
 
-const POLICY: &str = r#"
+/// The policy of the library with which each run begins.
+pub const POLICY: &str = r#"
 institution = "L1"
 currency = "USD"
 due_form = "sip"

@@ -4,11 +4,11 @@ ghost use Rattle.std.specs.Prelude.{◌≡◌, ◌++◌, OnOk, [], Some, None, i
 ghost use Rattle.std.specs.Option.{option_copied, option_map, option_map_or};
 ghost use Rattle.circ_policy.specs.Medias.{media_code};
 ghost use Rattle.sip_answer.specs.Parts.{digit, field, filled, flag, given};
-ghost use Rattle.sip_answer.specs.Texts.{checkin_text, hold_text, item_status_text, place_text};
+ghost use Rattle.sip_answer.specs.Texts.{checkin_text, hold_text, item_status_text, position_text};
 
 use super::parts::{put_digit, put_field, put_filled, put_flag, put_number};
 use crate::answer::{
-    CheckinAnswer, HoldAnswer, HoldPlace, ItemStatusAnswer, ReturnedItem, TitledItem,
+    CheckinAnswer, HoldAnswer, ItemStatusAnswer, QueuePosition, ReturnedItem, TitledItem,
 };
 use sip_reader::{Id, Text};
 use std::alloc::AllocError;
@@ -110,20 +110,20 @@ pub fn put_hold(out: &mut Vec<u8>, answer: &HoldAnswer) -> Result<(), AllocError
     put_digit(out, answer.ok)?;
     put_flag(out, answer.available)?;
     out.extend_from_slice(answer.date.as_bytes())?;
-    put_place(out, &answer.place)?;
+    put_position(out, &answer.position)?;
     put_field(out, b"AO", answer.institution.as_bytes())?;
     put_field(out, b"AA", answer.patron.as_bytes())?;
     put_field(out, b"AB", answer.item.as_bytes())?;
     put_title(out, &answer.title)
 }
 
-fn put_place(out: &mut Vec<u8>, place: &Option<HoldPlace>) -> Result<(), AllocError>
-    ensures { OnOk result (out.new.items ≡ out.old.items ++ option_map_or place_text place.now []) }
+fn put_position(out: &mut Vec<u8>, position: &Option<QueuePosition>) -> Result<(), AllocError>
+    ensures { OnOk result (out.new.items ≡ out.old.items ++ option_map_or position_text position.now []) }
 {
-    match place {
-        Some(place) => {
-            put_number(out, b"BR", place.number)?;
-            put_filled(out, b"BS", place.pickup.as_bytes())
+    match position {
+        Some(position) => {
+            put_number(out, b"BR", position.number)?;
+            put_filled(out, b"BS", position.pickup.as_bytes())
         }
         None => Ok(()),
     }

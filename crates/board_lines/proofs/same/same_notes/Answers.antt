@@ -1,7 +1,7 @@
 use Rattle.std.proofs.Common.{refl, arith}
 use Rattle.std.proofs.lemmas.List.{length-map}
 use Rattle.board_lines.specs.Notes.{note_by, notes_by}
-use Rattle.board_lines.proofs.Alike.{same_lists}
+use Rattle.circ_records.proofs.Alike.{same_lists}
 use Rattle.board_lines.proofs.same.same_notes.Goals as goal
 
 pub returns : goal.returns

@@ -1,5 +1,5 @@
 use Rattle.std.proofs.Common.{◌-◌, length}
-use Rattle.line_set.specs.Rows.{IsNext}
+use Rattle.line_set.specs.Devices.Rows.{IsNext}
 use Rattle.line_set.proofs.line_set.least_below.Given as goal
 
 abbrev pub invariant-loop-node : goal.invariant-loop-node

@@ -1,5 +1,5 @@
 use Rattle.std.proofs.Common.{◌≡◌, ◌+◌, ◌*◌, ◌-◌, ◌≤◌, length}
-use Rattle.line_set.specs.Rows.{IsInRow, NoneSet}
+use Rattle.line_set.specs.Devices.Rows.{IsInRow, NoneSet}
 use Rattle.line_set.proofs.line_set.next_set.Given as goal
 
 -- no flag is set before those below the node

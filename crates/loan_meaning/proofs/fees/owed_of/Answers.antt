@@ -1,6 +1,5 @@
 use Rattle.std.proofs.Common.{◌≡◌, ap, refl, sym, subst, ◌∙◌, ◌+◌, drop, arith}
 use Rattle.std.proofs.lemmas.Result.{err_from_is_err_and}
-use Rattle.circ_records.specs.declared.key.Key.{Key}
 use Rattle.circ_records.specs.declared.key.Key.TheVariants as keys
 use Rattle.read_set.specs.Asks.{IsAsked, follow}
 use Rattle.read_set.specs.Maps.{Part, Grows}

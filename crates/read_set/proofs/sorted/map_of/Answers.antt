@@ -1,6 +1,6 @@
 use Rattle.std.proofs.Common.{◌≡◌, ◌∙◌, ◌∷◌, ◌++◌, [], ap, append_assoc, rules, subst, sym}
 use Rattle.circ_records.specs.Records.{Entries}
-use Rattle.read_set.specs.Drafts.{Rise}
+use Rattle.read_set.specs.Devices.Drafts.{Rise}
 use Rattle.read_set.proofs.Drafting.{goes-first}
 use Rattle.read_set.proofs.sorted.map_of.Goals as goal
 

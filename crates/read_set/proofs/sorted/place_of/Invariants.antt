@@ -1,5 +1,5 @@
 use Rattle.std.proofs.Common.{◌≡◌, drop}
-use Rattle.read_set.specs.Drafts.{place_from}
+use Rattle.read_set.specs.Devices.Drafts.{place_from}
 use Rattle.read_set.proofs.sorted.place_of.Given as goal
 
 abbrev pub invariant-loop-i : goal.invariant-loop-i

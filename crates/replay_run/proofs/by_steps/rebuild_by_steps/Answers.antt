@@ -7,22 +7,22 @@ use Rattle.replay_run.proofs.by_steps.rebuild_by_steps.Goals as goal
 pub returns-then-workers-eq0 : goal.returns-then-workers-eq0
 returns-then-workers-eq0 g c = inr ((λ are. omega (arith, c.if-workers-eq0.true, are.0)), refl)
 
-pub returns-then-workers-gt-MOST_WORKERS : goal.returns-then-workers-gt-MOST_WORKERS
-returns-then-workers-gt-MOST_WORKERS g c = inr ((λ are. omega (arith, c.if-workers-gt-MOST_WORKERS.true, are.1)), refl)
+pub returns-then-workers-gt-WORKERS_MAX : goal.returns-then-workers-gt-WORKERS_MAX
+returns-then-workers-gt-WORKERS_MAX g c = inr ((λ are. omega (arith, c.if-workers-gt-WORKERS_MAX.true, are.1)), refl)
 
 pub run_steps-requires : goal.run_steps-requires
-run_steps-requires g c = ((λ a m. m), (refl, (c.in-Ok.ensures.fits, crew c.args.workers c.if-workers-eq0.false c.if-workers-gt-MOST_WORKERS.false)))
+run_steps-requires g c = ((λ a m. m), (refl, (c.in-Ok.ensures.fits, crew c.args.workers c.if-workers-eq0.false c.if-workers-gt-WORKERS_MAX.false)))
 
 pub returns-in-Ok : goal.returns-in-Ok
 returns-in-Ok g c =
     inl (
-      crew c.args.workers c.if-workers-eq0.false c.if-workers-gt-MOST_WORKERS.false,
+      crew c.args.workers c.if-workers-eq0.false c.if-workers-gt-WORKERS_MAX.false,
       subst (λ due. IsRunOf due c.args.workers c.args.steps.now c.run_steps.result) (sym c.in-Ok.ensures.due) c.run_steps.ensures,
     )
 
 pub returns-in-Err : goal.returns-in-Err
 returns-in-Err g c =
     inl (
-      crew c.args.workers c.if-workers-eq0.false c.if-workers-gt-MOST_WORKERS.false,
+      crew c.args.workers c.if-workers-eq0.false c.if-workers-gt-WORKERS_MAX.false,
       refused (judgement c.args.inputs.now) c.args.workers c.args.steps.now c.in-Err.fault c.in-Err.ensures.due,
     )

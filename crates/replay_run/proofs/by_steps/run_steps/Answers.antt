@@ -4,14 +4,14 @@ use Rattle.read_set.specs.Plans.{Planned}
 use Rattle.speculate.specs.Playing.{Halts, Plays}
 use Rattle.replay_run.specs.BySteps.{FailsBySteps, attempts_on, first_board}
 use Rattle.replay_run.specs.Faults.{board_fault}
-use Rattle.replay_run.specs.Judged.{Judgement}
+use Rattle.replay_run.specs.Judgements.{Accepted}
 use Rattle.replay_run.specs.OneThread.{IsOutputBy}
 use Rattle.replay_run.proofs.Stepping.{stopped}
 use Rattle.replay_run.proofs.by_steps.run_steps.Goals as goal
 
 pub returns-in-Err : goal.returns-in-Err
 returns-in-Err g c =
-    let j : Judgement = record { plan = c.args.plan.now; lines = c.args.journal.now } in
+    let j : Accepted = record { plan = c.args.plan.now; lines = c.args.journal.now } in
     let workers = c.args.workers in
     let halts =
     subst (λ (plan : Planned). Halts plan (first_board plan workers) c.args.steps.now c.in-Err.field-0 c.play.new.board) (sym c.requires.named)

@@ -4,8 +4,8 @@ use Rattle.result_report.specs.Report.{is_answered}
 use Rattle.replay_run.proofs.Answered.{answered}
 use Rattle.replay_run.proofs.run.output.Goals as goal
 
-pub write_and_leave-requires-clause-answered : goal.write_and_leave-requires-clause-answered
-write_and_leave-requires-clause-answered c =
-    ap (map is_some) (c.in_ok-lend.ensures ∙ c.as_slice.ensures.value ∙ c.in_ok-records.ensures.answers)
+pub write_outcome-requires-clause-answered : goal.write_outcome-requires-clause-answered
+write_outcome-requires-clause-answered c =
+    ap (map is_some) (c.in_ok-references_to.ensures ∙ c.as_slice.ensures.value ∙ c.in_ok-records.ensures.answers)
     ∙ answered c.args.plan
     ∙ ap (map is_answered) c.requires

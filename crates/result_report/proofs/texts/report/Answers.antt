@@ -1,6 +1,6 @@
 use Rattle.std.proofs.Common.{length, subst}
 use Rattle.std.proofs.lemmas.Result.{IfOk-weaker}
-use Rattle.result_report.specs.Report.{lent, told}
+use Rattle.result_report.specs.Report.{answers_behind, told}
 use Rattle.result_report.specs.Stretches.{between}
 use Rattle.result_report.specs.Tables.{AreTexts}
 use Rattle.result_report.proofs.Once.{each-once}
@@ -10,11 +10,11 @@ use Rattle.result_report.proofs.texts.report.Goals as goal
 pub returns-clause-texts : goal.returns-clause-texts
 returns-clause-texts c =
     let lines = c.args.journal.now in
-    let all = told lines c.args.plan.now.readings (lent c.args.outcome.now.answers.items) in
+    let all = told lines c.args.plan.now.readings (answers_behind c.args.outcome.now.answers.items) in
     let tells = rw (c.lines-lines.ensures.lines, c.as_slice-answers.ensures.value) at c.in_ok-tell.ensures in
     rw (← c.requires.planned)
-    (IfOk-weaker c.finish.result _ _ (λ t h. subst (λ ls. AreTexts ls t) (between-whole (length lines) all (few-told lines c.args.plan.now.readings (lent c.args.outcome.now.answers.items))) (h (between 0 (length lines) all) tells)) c.finish.ensures)
+    (IfOk-weaker c.finish.result _ _ (λ t h. subst (λ ls. AreTexts ls t) (between-whole (length lines) all (few-told lines c.args.plan.now.readings (answers_behind c.args.outcome.now.answers.items))) (h (between 0 (length lines) all) tells)) c.finish.ensures)
 
 pub returns-clause-each_once : goal.returns-clause-each_once
 returns-clause-each_once c =
-    IfOk-weaker c.finish.result _ _ (λ t made. each-once c.args.journal.now (lent c.args.outcome.now.answers.items) t c.requires.answered made) (returns-clause-texts c)
+    IfOk-weaker c.finish.result _ _ (λ t made. each-once c.args.journal.now (answers_behind c.args.outcome.now.answers.items) t c.requires.answered made) (returns-clause-texts c)

@@ -1,6 +1,6 @@
 use Rattle.std.proofs.Common.{arith, ◌-◌, drop, subst}
 use Rattle.std.specs.Prelude.{option_copied}
-use Rattle.result_report.specs.Report.{Told, lent, told}
+use Rattle.result_report.specs.Report.{Told, answers_behind, told}
 use Rattle.result_report.specs.Stretches.{between}
 use Rattle.result_report.specs.Tellings.{Tells}
 use Rattle.result_report.proofs.Parts.{between-last, between-next}
@@ -14,7 +14,7 @@ line-requires c =
     let from = c.args.from in
     let begun = c.loop-place.auto.place in
     let ends = c.ranges.to in
-    let all = told c.args.lines.now c.args.plan.now.readings (lent c.args.answers.now) in
+    let all = told c.args.lines.now c.args.plan.now.readings (answers_behind c.args.answers.now) in
     has-room (place - from) (drop from all) c.loop-place.telling (omega (arith, c.loop-place-test.true, ends, begun)) c.loop-place.invariant.told
 
 pub loop-place-preserved : goal.loop-place-preserved
@@ -22,7 +22,7 @@ loop-place-preserved c =
     let place = c.loop-place.place in
     let from = c.args.from in
     let begun = c.loop-place.auto.place in
-    let all = told c.args.lines.now c.args.plan.now.readings (lent c.args.answers.now) in
+    let all = told c.args.lines.now c.args.plan.now.readings (answers_behind c.args.answers.now) in
     record {
       told = elim c.match-told_at.branch [
         | in-Some+in_ok-line w ↦

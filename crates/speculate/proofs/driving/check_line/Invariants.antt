@@ -1,6 +1,6 @@
 use Rattle.board_steps.specs.Board.{row_at}
 use Rattle.speculate.specs.Driving.{RunsTo}
-use Rattle.speculate.specs.Phases.{Proves, left_of}
+use Rattle.speculate.specs.Devices.Phases.{Proves, left_of}
 use Rattle.speculate.proofs.driving.check_line.Given as goal
 
 abbrev pub invariant-names : goal.invariant-names

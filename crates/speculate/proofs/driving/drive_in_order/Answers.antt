@@ -1,7 +1,7 @@
 use Rattle.std.proofs.Common.{◌≡◌, ◌<◌, ◌+◌, ap, arith, length, subst, sym, ◌∙◌}
 use Rattle.read_set.specs.Plans.{Planned}
 use Rattle.board_steps.specs.Board.{IsLine}
-use Rattle.speculate.specs.Phases.{Waits}
+use Rattle.speculate.specs.Devices.Phases.{Waits}
 use Rattle.speculate.proofs.Drives.{driven, line_there, new_waits, runs_none, runs_on}
 use Rattle.speculate.proofs.driving.drive_in_order.Goals as goal
 

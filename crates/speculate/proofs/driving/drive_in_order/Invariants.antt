@@ -1,6 +1,6 @@
 use Rattle.std.proofs.Common.{◌+◌}
 use Rattle.speculate.specs.Driving.{RunsTo}
-use Rattle.speculate.specs.Phases.{Waits}
+use Rattle.speculate.specs.Devices.Phases.{Waits}
 use Rattle.speculate.proofs.driving.drive_in_order.Given as goal
 
 abbrev pub invariant-loop-place : goal.invariant-loop-place

@@ -1,6 +1,6 @@
 use Rattle.std.proofs.Common.{subst, sym}
 use Rattle.read_set.specs.Settling.{Told}
-use Rattle.speculate.specs.Phases.{Appears}
+use Rattle.speculate.specs.Devices.Phases.{Appears}
 use Rattle.speculate.proofs.Drives.{runs_on}
 use Rattle.speculate.proofs.driving.drive_line.Goals as goal
 

@@ -5,7 +5,7 @@ use Rattle.read_set.specs.Plans.{Planned}
 use Rattle.read_set.specs.declared.notes.Note.{Note}
 use Rattle.board_steps.specs.Steps.Call.{Look}
 use Rattle.board_lines.specs.Notes.{found_by, told_at}
-use Rattle.speculate.specs.Phases.{Reads}
+use Rattle.speculate.specs.Devices.Phases.{Reads}
 use Rattle.speculate.proofs.Drives.{keys_more, led, look_only, look_seen, seen_stops}
 use Rattle.speculate.proofs.driving.look_at.Goals as goal
 

@@ -1,7 +1,7 @@
 use Rattle.std.proofs.Common.{◌≡◌, map, take}
 use Rattle.read_set.specs.declared.notes.Note.{Note}
 use Rattle.speculate.specs.Driving.{RunsTo}
-use Rattle.speculate.specs.Phases.{Reads}
+use Rattle.speculate.specs.Devices.Phases.{Reads}
 use Rattle.speculate.proofs.driving.look_at_each.Given as goal
 
 -- the keys so far are noted

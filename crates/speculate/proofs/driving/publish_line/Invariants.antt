@@ -1,7 +1,7 @@
 use Rattle.std.proofs.Common.{◌-◌, ◌^◌}
 use Rattle.speculate.specs.Driving.{RunsTo}
 use Rattle.board_lines.specs.Notes.{told_at}
-use Rattle.speculate.specs.Phases.{Appears}
+use Rattle.speculate.specs.Devices.Phases.{Appears}
 use Rattle.speculate.proofs.driving.publish_line.Given as goal
 
 abbrev pub invariant-acts : goal.invariant-acts

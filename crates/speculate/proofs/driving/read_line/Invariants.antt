@@ -1,6 +1,6 @@
 use Rattle.std.proofs.Common.{◌-◌, ◌^◌, length}
 use Rattle.speculate.specs.Driving.{RunsTo}
-use Rattle.speculate.specs.Phases.{Reads}
+use Rattle.speculate.specs.Devices.Phases.{Reads}
 use Rattle.speculate.proofs.driving.read_line.Given as goal
 
 abbrev pub invariant-keys : goal.invariant-keys

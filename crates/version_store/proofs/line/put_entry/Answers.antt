@@ -1,7 +1,7 @@
 use Rattle.std.proofs.Common.{◌∙◌, subst, sym}
 use Rattle.std.specs.FinMap.Entries.{is_sorted-put}
 use Rattle.circ_records.specs.Keys.{key_cmp, key_cmp_total}
-use Rattle.version_store.specs.Places.{Rise}
+use Rattle.version_store.specs.Devices.Places.{Rise}
 use Rattle.version_store.proofs.Places.{gap_find, gap_put, set_put}
 use Rattle.version_store.proofs.line.put_entry.Goals as goal
 

@@ -1,7 +1,7 @@
 use Rattle.std.proofs.Common.{◌≡◌, ◌-◌, List, ℕ, Some, get_or, ap, sym, arith, ◌∙◌}
 use Rattle.std.proofs.lemmas.List.{length-set}
 use Rattle.log_pairs.specs.Pairs.{Pair}
-use Rattle.log_pairs.specs.Places.{no_pair, place_in}
+use Rattle.log_pairs.specs.Devices.Places.{no_pair, place_in}
 use Rattle.log_pairs.proofs.Steps.{answer-found, answer-kept, answer-none, answer-pairs, any-default, fewer-kept}
 use Rattle.log_pairs.proofs.Waiting.{none-open}
 use Rattle.log_pairs.proofs.pairing.Pairing.answer.Goals as goal

@@ -1,6 +1,6 @@
 use Rattle.std.proofs.Common.{◌≡◌, ◌+◌, ℕ, length, ap, sym, arith, ◌∙◌}
 use Rattle.log_pairs.specs.Pairs.{Open}
-use Rattle.log_pairs.specs.Places.{place_in}
+use Rattle.log_pairs.specs.Devices.Places.{place_in}
 use Rattle.log_pairs.proofs.Steps.{count}
 use Rattle.log_pairs.proofs.pairing.Pairing.asked.Goals as goal
 

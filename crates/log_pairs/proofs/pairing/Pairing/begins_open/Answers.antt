@@ -1,5 +1,5 @@
 use Rattle.std.proofs.Common.{rules, ◌<◌, sym, arith, ◌∙◌}
-use Rattle.log_pairs.specs.Places.{place_in}
+use Rattle.log_pairs.specs.Devices.Places.{place_in}
 use Rattle.log_pairs.proofs.Steps.{begins}
 use Rattle.log_pairs.proofs.pairing.Pairing.begins_open.Goals as goal
 

@@ -1,5 +1,5 @@
 use Rattle.std.proofs.Common.{refl}
-use Rattle.log_pairs.specs.Places.{place_in}
+use Rattle.log_pairs.specs.Devices.Places.{place_in}
 use Rattle.log_pairs.proofs.Steps.{all-closed, close-pairs}
 use Rattle.log_pairs.proofs.pairing.Pairing.close.Goals as goal
 

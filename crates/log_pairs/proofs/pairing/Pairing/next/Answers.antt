@@ -1,6 +1,6 @@
 use Rattle.std.proofs.Common.{◌≡◌, suc, List, ◌∷◌, length, ap, sym, false, arith, ◌∙◌}
 use Rattle.log_pairs.specs.Pairs.{Open, Pair, begins_open}
-use Rattle.log_pairs.specs.Places.{pending_from, place_in}
+use Rattle.log_pairs.specs.Devices.Places.{pending_from, place_in}
 use Rattle.log_pairs.proofs.Steps.{taken-kept}
 use Rattle.log_pairs.proofs.pairing.Pairing.next.Goals as goal
 

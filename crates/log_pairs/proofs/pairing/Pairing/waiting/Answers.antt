@@ -1,5 +1,5 @@
 use Rattle.std.proofs.Common.{sym, ◌∙◌}
-use Rattle.log_pairs.specs.Places.{place_in}
+use Rattle.log_pairs.specs.Devices.Places.{place_in}
 use Rattle.log_pairs.proofs.Steps.{count}
 use Rattle.log_pairs.proofs.pairing.Pairing.waiting.Goals as goal
 

@@ -3,7 +3,7 @@ use Rattle.std.specs.Prelude.{IsSome, OnSome}
 use Rattle.std.specs.FinMap.Entries.{is_sorted-where_key, where_key}
 use Rattle.circ_records.specs.Keys.{key_cmp}
 use Rattle.version_store.specs.Entries.{line_of}
-use Rattle.version_store.specs.Places.{Rise}
+use Rattle.version_store.specs.Devices.Places.{Rise}
 use Rattle.version_store.proofs.Places.{at_out, gap_out, others}
 use Rattle.version_store.proofs.Views.{line_out}
 use Rattle.version_store.proofs.line.LineEntries.take_out.Goals as goal

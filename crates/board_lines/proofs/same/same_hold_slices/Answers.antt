@@ -1,6 +1,0 @@
-use Rattle.std.proofs.Common.{refl, arith}
-use Rattle.board_lines.proofs.Alike.{same_lists}
-use Rattle.board_lines.proofs.same.same_hold_slices.Goals as goal
-
-pub returns : goal.returns
-returns c = (λ _. same_lists c.args.a.now c.args.b.now (omega arith) (λ j lt. c.loop-i.invariant j (omega arith)), λ _. refl)

@@ -1,0 +1,198 @@
+//! Whether two records are the same.
+
+ghost use Rattle.std.specs.Prelude.{◌≡◌};
+ghost use Rattle.std.specs.Bool.{Decides};
+
+use crate::holds::{Hold, Holds};
+use crate::ids::Ids;
+use crate::record::{Fee, FeeType, Item, Loan, Patron, Record};
+use circ_policy::MediaType;
+use sip_reader::{Amount, Day, Id, Text};
+
+impl Record {
+    /// Whether two records are the same: of one kind, and alike in each field.
+    pub fn is_same(&self, other: &Record) -> bool
+        ensures { Decides result (self.now ≡ other.now) }
+    {
+        match self {
+            Record::Patron(ours) => match other {
+                Record::Patron(theirs) => same_patron(ours, theirs),
+                _ => false,
+            },
+            Record::Item(ours) => match other {
+                Record::Item(theirs) => same_item(ours, theirs),
+                _ => false,
+            },
+            Record::Fee(ours) => match other {
+                Record::Fee(theirs) => same_fee(ours, theirs),
+                _ => false,
+            },
+        }
+    }
+}
+
+fn same_patron(a: &Patron, b: &Patron) -> bool
+    ensures { Decides result (a.now ≡ b.now) }
+{
+    if !same_text(&a.name, &b.name) {
+        return false;
+    }
+    if !same_id(&a.class, &b.class) {
+        return false;
+    }
+    if a.blocked != b.blocked {
+        return false;
+    }
+    if !same_ids(&a.loans, &b.loans) {
+        return false;
+    }
+    same_ids(&a.fees, &b.fees)
+}
+
+fn same_item(a: &Item, b: &Item) -> bool
+    ensures { Decides result (a.now ≡ b.now) }
+{
+    if !same_text(&a.title, &b.title) {
+        return false;
+    }
+    if !same_media(a.media, b.media) {
+        return false;
+    }
+    if !same_text(&a.location, &b.location) {
+        return false;
+    }
+    if !same_text(&a.properties, &b.properties) {
+        return false;
+    }
+    if !same_lending(&a.loan, &b.loan) {
+        return false;
+    }
+    same_holds(&a.holds, &b.holds)
+}
+
+fn same_fee(a: &Fee, b: &Fee) -> bool
+    ensures { Decides result (a.now ≡ b.now) }
+{
+    if !same_id(&a.patron, &b.patron) {
+        return false;
+    }
+    if !same_kind(a.kind, b.kind) {
+        return false;
+    }
+    if !same_amount(a.amount, b.amount) {
+        return false;
+    }
+    same_amount(a.paid, b.paid)
+}
+
+fn same_lending(a: &Option<Loan>, b: &Option<Loan>) -> bool
+    ensures { Decides result (a.now ≡ b.now) }
+{
+    match a {
+        Some(ours) => match b {
+            Some(theirs) => same_loan(ours, theirs),
+            None => false,
+        },
+        None => match b {
+            Some(_) => false,
+            None => true,
+        },
+    }
+}
+
+fn same_loan(a: &Loan, b: &Loan) -> bool
+    ensures { Decides result (a.now ≡ b.now) }
+{
+    if !same_id(&a.patron, &b.patron) {
+        return false;
+    }
+    if !same_day(a.due, b.due) {
+        return false;
+    }
+    a.renewals == b.renewals
+}
+
+fn same_holds(a: &Holds, b: &Holds) -> bool
+    ensures { Decides result (a.now ≡ b.now) }
+{
+    same_hold_slices(a.as_slice(), b.as_slice())
+}
+
+fn same_hold_slices(a: &[Hold], b: &[Hold]) -> bool
+    ensures { Decides result (a.now ≡ b.now) }
+{
+    if a.len() != b.len() {
+        return false;
+    }
+    for i in 0..a.len() {
+        if !same_hold(&a[i], &b[i]) {
+            return false;
+        }
+    }
+    true
+}
+
+fn same_hold(a: &Hold, b: &Hold) -> bool
+    ensures { Decides result (a.now ≡ b.now) }
+{
+    if !same_id(&a.patron, &b.patron) {
+        return false;
+    }
+    same_text(&a.pickup, &b.pickup)
+}
+
+fn same_ids(a: &Ids, b: &Ids) -> bool
+    ensures { Decides result (a.now ≡ b.now) }
+{
+    same_id_slices(a.as_slice(), b.as_slice())
+}
+
+fn same_id_slices(a: &[Id], b: &[Id]) -> bool
+    ensures { Decides result (a.now ≡ b.now) }
+{
+    if a.len() != b.len() {
+        return false;
+    }
+    for i in 0..a.len() {
+        if !same_id(&a[i], &b[i]) {
+            return false;
+        }
+    }
+    true
+}
+
+fn same_id(a: &Id, b: &Id) -> bool
+    ensures { Decides result (a.now ≡ b.now) }
+{
+    a.as_bytes() == b.as_bytes()
+}
+
+fn same_text(a: &Text, b: &Text) -> bool
+    ensures { Decides result (a.now ≡ b.now) }
+{
+    a.as_bytes() == b.as_bytes()
+}
+
+fn same_amount(a: Amount, b: Amount) -> bool
+    ensures { Decides result (a ≡ b) }
+{
+    a.hundredths() == b.hundredths()
+}
+
+fn same_day(a: Day, b: Day) -> bool
+    ensures { Decides result (a ≡ b) }
+{
+    a.number() == b.number()
+}
+
+fn same_media(a: MediaType, b: MediaType) -> bool
+    ensures { Decides result (a ≡ b) }
+{
+    a == b
+}
+
+fn same_kind(a: FeeType, b: FeeType) -> bool
+    ensures { Decides result (a ≡ b) }
+{
+    a == b
+}

@@ -1,0 +1,229 @@
+//! Checkin.
+
+ghost use Rattle.std.specs.Prelude.{◌≡◌, IfOk, OnOk, Some, None};
+ghost use Rattle.loan_meaning.specs.Checkins.{checkin_rule};
+ghost use Rattle.read_set.specs.Asks.{follow, Gains};
+ghost use Rattle.read_set.specs.Effects.{written};
+ghost use Rattle.read_set.specs.Maps.{Map, Agrees};
+ghost use Rattle.read_set.specs.Checkins.{returned_item, checkin_answer, day_back, lateness, returner, returned_by, returned_writes, returned, checked_in, loan_of, checkin};
+ghost use Rattle.read_set.specs.Stops.{Follows};
+
+use crate::asked::Line;
+use crate::asking::loan_in;
+use crate::fees::{list_fee, make_fee, nothing};
+use crate::lists::{has_queue, without};
+use crate::lookup::{borrower_of, item_of};
+use circ_policy::{Media, Policy, late_fee};
+use circ_records::{FeeType, Item, Key, Loan, Patron, Record};
+use read_set::{Article, Draft, Effect, Member, Source, Stop};
+use sip_answer::{Answer, CheckinAnswer, ReturnedItem};
+use sip_reader::{Amount, Checkin, Day, Id, Stamp};
+use std::alloc::{AllocError, Global};
+
+fn tell_unknown(line: &Line<'_>, request: &Checkin) -> Answer
+    ensures { result ≡ checkin_answer line.now.policy.now request.now line.now.date None None }
+{
+    Answer::Checkin(CheckinAnswer {
+        date: line.date,
+        institution: line.policy.institution(),
+        item: request.item,
+        known: None,
+        borrower: None,
+        alert: false,
+    })
+}
+
+fn show(alloc: Global, item: &Item) -> Result<ReturnedItem, AllocError>
+    ensures { IfOk result (λ s. s ≡ returned_item item.now) }
+{
+    Ok(ReturnedItem {
+        location: item.location.copy(alloc)?,
+        title: item.title.copy(alloc)?,
+        media: item.media,
+        properties: item.properties.copy(alloc)?,
+    })
+}
+
+fn tell(
+    line: &Line<'_>,
+    request: &Checkin,
+    article: &Article,
+    borrower: Option<Id>,
+) -> Result<Answer, AllocError>
+    ensures { IfOk result (λ a. a ≡ checkin_answer line.now.policy.now request.now line.now.date (Some article.now.item) borrower) }
+{
+    Ok(Answer::Checkin(CheckinAnswer {
+        date: line.date,
+        institution: line.policy.institution(),
+        item: request.item,
+        known: Some(show(line.alloc, &article.item)?),
+        borrower,
+        alert: has_queue(article.item.holds.as_slice()),
+    }))
+}
+
+fn back(request: &Checkin, date: Stamp) -> Day
+    ensures { result ≡ day_back request.now date }
+{
+    match request.back {
+        Some(day) => day,
+        None => date.day(),
+    }
+}
+
+fn lateness_of(request: &Checkin, date: Stamp, loan: &Loan, media: &Media) -> Amount
+    ensures { result ≡ lateness request.now date loan.now media.now }
+{
+    if request.cancel {
+        nothing()
+    } else {
+        late_fee(loan.due, back(request, date), media)
+    }
+}
+
+fn return_from(
+    alloc: Global,
+    n: u64,
+    item: &Id,
+    fee: Amount,
+    member: Member,
+) -> Result<Patron, AllocError>
+    ensures { IfOk result (λ p. p ≡ returner n item.now fee member.patron) }
+{
+    let mut patron = member.into_patron();
+    patron.loans = without(alloc, &patron.loans, item)?;
+    list_fee(n, 0, fee, &mut patron.fees)?;
+    Ok(patron)
+}
+
+/// The borrower's record without the loan and with its late fee, and that fee. Where memory runs out between the two, the
+/// record stands alone: no clause says so, since the caller then drops all that is written.
+fn return_by(
+    line: &Line<'_>,
+    item: &Id,
+    borrower: Id,
+    fee: Amount,
+    member: Option<Member>,
+    writes: &mut Draft,
+) -> Result<(), AllocError>
+    ensures { OnOk result (writes.new ≡ written writes.old (returned_by line.now.number item.now borrower fee member)) }
+{
+    let Some(member) = member else {
+        return Ok(());
+    };
+    let patron = return_from(line.alloc, line.number, item, fee, member)?;
+    writes.put(Key::Patron(borrower), Record::Patron(patron))?;
+    make_fee(line.number, 0, borrower, FeeType::Overdue, fee, writes)
+}
+
+fn unlent(article: Article) -> Item
+    ensures { result ≡ record article.item { loan = None } }
+{
+    let mut item = article.into_item();
+    item.loan = None;
+    item
+}
+
+fn write_return(
+    line: &Line<'_>,
+    item: &Id,
+    fee: Amount,
+    article: Article,
+    member: Option<Member>,
+    loan: &Loan,
+) -> Result<Draft, AllocError>
+    ensures { IfOk result (λ w. w ≡ returned_writes line.now.number item.now fee article member loan.now) }
+{
+    let mut writes = Draft::new(line.alloc);
+    return_by(line, item, loan.patron, fee, member, &mut writes)?;
+    writes.put(Key::Item(*item), Record::Item(unlent(article)))?;
+    Ok(writes)
+}
+
+fn end_loan(
+    line: &Line<'_>,
+    request: &Checkin,
+    article: Article,
+    loan: &Loan,
+    member: Option<Member>,
+) -> Result<Effect, AllocError>
+    ensures { IfOk result (λ e. e ≡ returned line.now.policy.now line.now.number request.now line.now.date article member (Some loan.now)) }
+{
+    let answer = tell(line, request, &article, Some(loan.patron))?;
+    let fee = lateness_of(request, line.date, loan, &article.media);
+    let writes = write_return(line, &request.item, fee, article, member, loan)?;
+    Ok(Effect {
+        writes: writes.finish(line.alloc)?,
+        answer: Some(answer),
+    })
+}
+
+fn end_any(
+    line: &Line<'_>,
+    request: &Checkin,
+    article: Article,
+    loan: Option<Loan>,
+    member: Option<Member>,
+) -> Result<Effect, AllocError>
+    ensures { IfOk result (λ e. e ≡ returned line.now.policy.now line.now.number request.now line.now.date article member loan) }
+{
+    match loan {
+        Some(loan) => end_loan(line, request, article, &loan, member),
+        None => {
+            let answer = tell(line, request, &article, None)?;
+            Ok(Effect::unwritten(line.alloc, Some(answer)))
+        }
+    }
+}
+
+#[tactic(auto, unfolding(read_set::specs::Checkins::checked_in))]
+fn end(
+    line: &Line<'_>,
+    request: &Checkin,
+    article: Option<Article>,
+    member: Option<Member>,
+) -> Result<Effect, AllocError>
+    ensures { IfOk result (λ e. e ≡ checked_in line.now.policy.now line.now.number request.now line.now.date article member) }
+{
+    let Some(article) = article else {
+        let answer = tell_unknown(line, request);
+        return Ok(Effect::unwritten(line.alloc, Some(answer)));
+    };
+    let loan = loan_in(&article);
+    end_any(line, request, article, loan, member)
+}
+
+fn any_loan(article: &Option<Article>) -> Option<Loan>
+    ensures { result ≡ loan_of article.now }
+{
+    match article {
+        Some(article) => article.item.loan,
+        None => None,
+    }
+}
+
+/// A checkin (message 09) on line n.
+#[tactic(auto, unfolding(crate::specs::Checkins::checkin_rule), using(read_set::proofs::Gaining::gains_none, read_set::proofs::Gaining::gains_first, read_set::proofs::Following::follow_wants))]
+pub fn check_in<S: Source>(
+    alloc: Global,
+    policy: &Policy,
+    n: u64,
+    request: &Checkin,
+    date: Stamp,
+    source: &mut S,
+) -> Result<Effect, Stop>
+    ensures gives { Follows result (follow (S.has source.new) (checkin_rule policy.now n request.now date)) }
+    ensures means { IfOk result (λ e. (M : Map) → Agrees (S.has source.new) M → e ≡ checkin policy.now n request.now date M) }
+    ensures keeps { Gains (S.has source.old) (S.has source.new) (checkin_rule policy.now n request.now date) }
+{
+    let article = item_of(alloc, policy, source, &request.item)?;
+    let loan = any_loan(&article);
+    let member = borrower_of(alloc, policy, source, loan)?;
+    let line = Line {
+        alloc,
+        policy,
+        number: n,
+        date,
+    };
+    Ok(end(&line, request, article, member)?)
+}

@@ -1,0 +1,303 @@
+//! Checkout.
+
+ghost use Rattle.std.specs.Prelude.{◌≡◌, ◌&&◌, ◌∷◌, [], IfOk, OnOk, OnErr, Some};
+ghost use Rattle.circ_records.specs.declared.key.Key.TheVariants as keys;
+ghost use Rattle.circ_records.specs.declared.record.FeeType.TheVariants as fee_types;
+ghost use Rattle.circ_records.specs.declared.record.Record.TheVariants as records;
+ghost use Rattle.loan_meaning.specs.Checkouts.{lending_tests, other_at, lending_rule_by, lending_rule, checkout_rule_known, checkout_rule};
+ghost use Rattle.read_set.specs.Asks.{follow, Gains};
+ghost use Rattle.read_set.specs.Effects.{written, ◌⊕◌};
+ghost use Rattle.read_set.specs.Fees.{fee_made};
+ghost use Rattle.read_set.specs.Ids.{without};
+ghost use Rattle.read_set.specs.Checkouts.{freed, freed_by, lent, lent_list, lending_made, checkout};
+ghost use Rattle.read_set.specs.Loans.{lent_to};
+ghost use Rattle.read_set.specs.Maps.{Map, Agrees};
+ghost use Rattle.read_set.specs.Stops.{Follows};
+
+use crate::asked::{Asked, Line};
+use crate::asking::{ask_checkout, charge_of, due_of, has_lent_to, has_loan, loan_in, rental_in};
+use crate::fees::{list_fee, make_fee, test_owing};
+use crate::lists::{is_first_another, is_same, without, without_hold};
+use crate::lookup::{item_of, patron_of};
+use crate::renewals::renew_one;
+use crate::telling::{refuse, refuse_for, tell_made};
+use circ_policy::Policy;
+use circ_records::{FeeType, Ids, Item, Key, Loan, Patron, Record};
+use read_set::{Article, Draft, Effect, LoanRequest, Member, Source, Stop, Verdict};
+use sip_reader::{Amount, Checkout, Day, Id, Stamp};
+use std::alloc::{AllocError, Global};
+
+#[tactic(auto, unfolding(crate::specs::Checkouts::lending_tests), using(read_set::proofs::Gaining::gains_none, read_set::proofs::Gaining::gains_first))]
+fn test_lending<S: Source>(
+    asked: &Asked<'_>,
+    member: &Member,
+    article: &Article,
+    source: &mut S,
+) -> Result<Verdict, Stop>
+    ensures gives { Follows result (follow (S.has source.new) (lending_tests asked.now.request member.now article.now)) }
+    ensures keeps { Gains (S.has source.old) (S.has source.new) (lending_tests asked.now.request member.now article.now) }
+{
+    let a = &asked.request;
+    if a.forced {
+        return Ok(Verdict::Made);
+    }
+    if has_lent_to(&a.patron, article.item.loan) {
+        return Ok(Verdict::Refused);
+    }
+    if has_loan(article.item.loan) {
+        return Ok(Verdict::Refused);
+    }
+    if is_first_another(article.item.holds.as_slice(), &a.patron) {
+        return Ok(Verdict::Refused);
+    }
+    if member.patron.blocked {
+        return Ok(Verdict::Refused);
+    }
+    if member.class.max_loans as usize <= member.patron.loans.len() {
+        return Ok(Verdict::Refused);
+    }
+    let writes = Draft::new(asked.alloc);
+    test_owing(asked, &writes, member, article, &mut None, source)
+}
+
+#[tactic(auto, using(read_set::proofs::Gaining::gains_none, read_set::proofs::Gaining::gains_first))]
+fn other_of<S: Source>(
+    asked: &Asked<'_>,
+    loan: Option<Loan>,
+    source: &mut S,
+) -> Result<Option<Member>, Stop>
+    ensures gives { Follows result (follow (S.has source.new) (other_at asked.now.policy.now asked.now.request.patron loan)) }
+    ensures keeps { Gains (S.has source.old) (S.has source.new) (other_at asked.now.policy.now asked.now.request.patron loan) }
+{
+    let Some(loan) = loan else {
+        return Ok(None);
+    };
+    if is_same(&loan.patron, &asked.request.patron) {
+        return Ok(None);
+    }
+    patron_of(asked.alloc, asked.policy, source, &loan.patron)
+}
+
+/// The other borrower's record, without the item among the loans. Without memory nothing is written.
+fn free(
+    alloc: Global,
+    item: &Id,
+    borrower: Id,
+    other: Option<Member>,
+    writes: &mut Draft,
+) -> Result<(), AllocError>
+    ensures ok { OnOk result (writes.new ≡ written writes.old (freed item.now borrower other)) }
+    ensures err { OnErr result (writes.new ≡ writes.old) }
+{
+    let Some(other) = other else {
+        return Ok(());
+    };
+    let patron = without_loan(alloc, item, other)?;
+    writes.put(Key::Patron(borrower), Record::Patron(patron))?;
+    Ok(())
+}
+
+fn without_loan(alloc: Global, item: &Id, other: Member) -> Result<Patron, AllocError>
+    ensures { IfOk result (λ p. p ≡ record other.patron { loans = without item.now other.patron.loans }) }
+{
+    let mut patron = other.into_patron();
+    patron.loans = without(alloc, &patron.loans, item)?;
+    Ok(patron)
+}
+
+fn free_by(
+    alloc: Global,
+    item: &Id,
+    loan: Option<Loan>,
+    other: Option<Member>,
+    writes: &mut Draft,
+) -> Result<(), AllocError>
+    ensures ok { OnOk result (writes.new ≡ written writes.old (freed_by item.now loan other)) }
+    ensures err { OnErr result (writes.new ≡ writes.old) }
+{
+    match loan {
+        Some(loan) => free(alloc, item, loan.patron, other, writes),
+        None => Ok(()),
+    }
+}
+
+fn lent_item(alloc: Global, a: &LoanRequest, due: Day, article: Article) -> Result<Item, AllocError>
+    ensures { IfOk result (λ i. i ≡ lent a.now due article.item) }
+{
+    let mut item = article.into_item();
+    item.holds = without_hold(alloc, &item.holds, &a.patron)?;
+    item.loan = Some(Loan {
+        patron: a.patron,
+        due,
+        renewals: 0,
+    });
+    Ok(item)
+}
+
+/// The item goes last in the patron's list, once. Without memory the list stays.
+fn list_loan(
+    alloc: Global,
+    a: &LoanRequest,
+    loan: Option<Loan>,
+    loans: &mut Ids,
+) -> Result<(), AllocError>
+    ensures ok { OnOk result (loans.new ≡ lent_list a.now loan loans.old) }
+    ensures err { OnErr result (loans.new ≡ loans.old) }
+{
+    if !has_lent_to(&a.patron, loan) {
+        return loans.push(a.item);
+    }
+    let mut others = without(alloc, loans, &a.item)?;
+    others.push(a.item)?;
+    *loans = others;
+    Ok(())
+}
+
+/// The patron and the item are written after the other borrower, and the rental's fee last.
+fn write_lending(
+    asked: &Asked<'_>,
+    due: Day,
+    charge: Amount,
+    patron: Patron,
+    article: Article,
+    other: Option<Member>,
+) -> Result<Draft, AllocError>
+    ensures { IfOk result (λ w. w ≡ [] ⊕ freed_by asked.now.request.item article.item.loan other ⊕ ((keys.Patron asked.now.request.patron, records.Patron patron) ∷ (keys.Item asked.now.request.item, records.Item (lent asked.now.request due article.item)) ∷ []) ⊕ fee_made asked.now.number 0 asked.now.request.patron fee_types.Rental charge) }
+{
+    let alloc = asked.alloc;
+    let n = asked.number;
+    let a = &asked.request;
+    let mut writes = Draft::new(alloc);
+    free_by(alloc, &a.item, loan_in(&article), other, &mut writes)?;
+    let item = lent_item(alloc, a, due, article)?;
+    writes.put(Key::Patron(a.patron), Record::Patron(patron))?;
+    writes.put(Key::Item(a.item), Record::Item(item))?;
+    make_fee(n, 0, a.patron, FeeType::Rental, charge, &mut writes)?;
+    Ok(writes)
+}
+
+#[tactic(auto, unfolding(read_set::specs::Checkouts::lending_made))]
+fn make_loan(
+    asked: &Asked<'_>,
+    member: Member,
+    article: Article,
+    other: Option<Member>,
+) -> Result<Effect, AllocError>
+    ensures { IfOk result (λ e. e ≡ lending_made asked.now.policy.now asked.now.number asked.now.request asked.now.date member article other) }
+{
+    let alloc = asked.alloc;
+    let a = &asked.request;
+    let due = due_of(asked, &article.media);
+    let charge = charge_of(a, &article.media);
+    let answer = tell_made(asked, &article, due, false, charge)?;
+    let mut patron = member.into_patron();
+    list_loan(alloc, a, loan_in(&article), &mut patron.loans)?;
+    list_fee(asked.number, 0, charge, &mut patron.fees)?;
+    let writes = write_lending(asked, due, charge, patron, article, other)?;
+    Ok(Effect {
+        writes: writes.finish(alloc)?,
+        answer: Some(answer),
+    })
+}
+
+/// Where the loan is made, the record of the other patron whose loan ends is read first.
+#[tactic(auto, unfolding(crate::specs::Checkouts::lending_of), using(read_set::proofs::Gaining::gains_none, read_set::proofs::Gaining::gains_first, read_set::proofs::Following::follow_wants))]
+fn lend_by<S: Source>(
+    asked: &Asked<'_>,
+    member: Member,
+    article: Article,
+    verdict: Verdict,
+    source: &mut S,
+) -> Result<Effect, Stop>
+    ensures gives { Follows result (follow (S.has source.new) (lending_rule_by asked.now.policy.now asked.now.number asked.now.request asked.now.date member article verdict)) }
+    ensures keeps { Gains (S.has source.old) (S.has source.new) (lending_rule_by asked.now.policy.now asked.now.number asked.now.request asked.now.date member article verdict) }
+{
+    let rental = rental_in(&article);
+    match verdict {
+        Verdict::Refused => Ok(refuse(asked, Some(article))?),
+        Verdict::Unpaid => Ok(refuse_for(asked, Some(article), rental)?),
+        Verdict::Made => {
+            let loan = loan_in(&article);
+            let other = other_of(asked, loan, source)?;
+            Ok(make_loan(asked, member, article, other)?)
+        }
+    }
+}
+
+#[tactic(auto, unfolding(crate::specs::Checkouts::lending_rule), using(read_set::proofs::Gaining::gains_none, read_set::proofs::Gaining::gains_first, read_set::proofs::Following::follow_wants))]
+fn lend<S: Source>(
+    asked: &Asked<'_>,
+    member: Member,
+    article: Article,
+    source: &mut S,
+) -> Result<Effect, Stop>
+    ensures gives { Follows result (follow (S.has source.new) (lending_rule asked.now.policy.now asked.now.number asked.now.request asked.now.date member article)) }
+    ensures keeps { Gains (S.has source.old) (S.has source.new) (lending_rule asked.now.policy.now asked.now.number asked.now.request asked.now.date member article) }
+{
+    let verdict = test_lending(asked, &member, &article, source)?;
+    lend_by(asked, member, article, verdict, source)
+}
+
+/// Whether the item is renewed: it is on loan to the same patron, and the terminal allows it.
+fn is_renewal(request: &Checkout, article: &Article) -> bool
+    ensures { result ≡ (request.now.renewal && lent_to request.now.patron article.now.item.loan) }
+{
+    request.renewal && has_lent_to(&request.patron, article.item.loan)
+}
+
+#[tactic(auto, using(read_set::proofs::Gaining::gains_none, read_set::proofs::Gaining::gains_first))]
+fn lend_both<S: Source>(
+    line: &Line<'_>,
+    request: &Checkout,
+    member: Option<Member>,
+    article: Option<Article>,
+    source: &mut S,
+) -> Result<Effect, Stop>
+    ensures gives { Follows result (follow (S.has source.new) (checkout_rule_known line.now.policy.now line.now.number request.now line.now.date member article)) }
+    ensures keeps { Gains (S.has source.old) (S.has source.new) (checkout_rule_known line.now.policy.now line.now.number request.now line.now.date member article) }
+{
+    let a = ask_checkout(request);
+    let asked = Asked {
+        alloc: line.alloc,
+        policy: line.policy,
+        number: line.number,
+        date: line.date,
+        request: a,
+    };
+    let Some(member) = member else {
+        return Ok(refuse(&asked, article)?);
+    };
+    let Some(article) = article else {
+        return Ok(refuse(&asked, None)?);
+    };
+    if is_renewal(request, &article) {
+        renew_one(&asked, member, article, source)
+    } else {
+        lend(&asked, member, article, source)
+    }
+}
+
+/// A checkout (message 11) on line n.
+#[tactic(auto, unfolding(crate::specs::Checkouts::checkout_rule), using(read_set::proofs::Gaining::gains_none, read_set::proofs::Gaining::gains_first, read_set::proofs::Following::follow_wants))]
+pub fn check_out<S: Source>(
+    alloc: Global,
+    policy: &Policy,
+    n: u64,
+    request: &Checkout,
+    date: Stamp,
+    source: &mut S,
+) -> Result<Effect, Stop>
+    ensures gives { Follows result (follow (S.has source.new) (checkout_rule policy.now n request.now date)) }
+    ensures means { IfOk result (λ e. (M : Map) → Agrees (S.has source.new) M → e ≡ checkout policy.now n request.now date M) }
+    ensures keeps { Gains (S.has source.old) (S.has source.new) (checkout_rule policy.now n request.now date) }
+{
+    let member = patron_of(alloc, policy, source, &request.patron)?;
+    let article = item_of(alloc, policy, source, &request.item)?;
+    let line = Line {
+        alloc,
+        policy,
+        number: n,
+        date,
+    };
+    lend_both(&line, request, member, article, source)
+}

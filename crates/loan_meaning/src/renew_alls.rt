@@ -1,0 +1,315 @@
+//! Renewal of all items.
+
+ghost use Rattle.std.specs.Prelude.{◌≡◌, ◌+◌, ◌<◌, ◌≤◌, ◌^◌, ◌∷◌, [], nat_lt, if◌then◌else◌, IfOk, OnOk, Some};
+ghost use Rattle.circ_records.specs.declared.key.Key.TheVariants as keys;
+ghost use Rattle.circ_records.specs.declared.record.FeeType.TheVariants as fee_types;
+ghost use Rattle.circ_records.specs.declared.record.Record.TheVariants as records;
+ghost use Rattle.loan_meaning.specs.RenewAlls.{turn_rule_known, turn_rule, turns_rule, renew_all_rule_known, renew_all_rule};
+ghost use Rattle.loan_meaning.specs.Devices.Sums.{Runs};
+ghost use Rattle.read_set.specs.Asks.{follow, Gains};
+ghost use Rattle.read_set.specs.Effects.{written};
+ghost use Rattle.read_set.specs.Fees.{fee_made};
+ghost use Rattle.read_set.specs.Renewals.{renewed};
+ghost use Rattle.read_set.specs.Maps.{Map, Agrees};
+ghost use Rattle.read_set.specs.RenewAlls.{by_renew_all, one_renewed, one_left, turn_by, none_renewed, renew_all_answer, all_renewed, renew_all};
+ghost use Rattle.read_set.specs.Stops.{Follows};
+
+use crate::asked::{Asked, Line};
+use crate::asking::{due_of, rental_in};
+use crate::fees::{has_amount, list_fee, make_fee};
+use crate::lookup::{patron_of, read_after};
+use crate::renewals::{renew_loan_of, test_renewal};
+use crate::running::{are_new, charge_by, owed_with};
+use circ_policy::Policy;
+use circ_records::{FeeType, Key, Patron, Record};
+use read_set::{
+    Article, Draft, Effect, LoanRequest, Member, Renewals, Source, Stop, Verdict, known_item,
+};
+use sip_answer::{Answer, ItemIds, RenewAllAnswer};
+use sip_reader::{Amount, Day, Id, RenewAll, Stamp};
+use std::alloc::{AllocError, Global};
+
+fn ask_for(request: &RenewAll, item: Id) -> LoanRequest
+    ensures { result ≡ by_renew_all request.now item }
+{
+    LoanRequest {
+        patron: request.patron,
+        item,
+        third_party: false,
+        forced: false,
+        given: None,
+        agreed: request.agreed,
+        free: false,
+        checkout: false,
+    }
+}
+
+/// The renewed item and its fee. Where memory runs out between the two, the item stands alone: no clause says so, since the
+/// caller then drops all that is written.
+fn write_turn(
+    asked: &Asked<'_>,
+    k: u64,
+    due: Day,
+    rental: Amount,
+    article: Article,
+    writes: &mut Draft,
+) -> Result<(), AllocError>
+    ensures { OnOk result (writes.new ≡ written (written writes.old ((keys.Item asked.now.request.item, records.Item (renewed due article.item)) ∷ [])) (fee_made asked.now.number k asked.now.request.patron fee_types.Rental rental)) }
+{
+    let n = asked.number;
+    let item = renew_loan_of(due, article);
+    writes.put(Key::Item(asked.request.item), Record::Item(item))?;
+    make_fee(n, k, asked.request.patron, FeeType::Rental, rental, writes)
+}
+
+fn count(made: u64, rental: Amount) -> u64
+    requires { made + 1 < 2 ^ 64 }
+    ensures value { result ≡ (if nat_lt 0 rental then made + 1 else made) }
+    ensures few { result ≤ made + 1 }
+{
+    if has_amount(rental) { made + 1 } else { made }
+}
+
+fn renew_next(asked: &Asked<'_>, article: Article, done: Renewals) -> Result<Renewals, AllocError>
+    requires { done.made + 1 < 2 ^ 64 }
+    ensures value { IfOk result (λ next. next ≡ one_renewed asked.now.policy.now asked.now.number asked.now.request asked.now.date article done) }
+    ensures few { IfOk result (λ next. next.made ≤ done.made + 1) }
+{
+    let n = asked.number;
+    let due = due_of(asked, &article.media);
+    let rental = rental_in(&article);
+    let made = done.made;
+    let mut done = done;
+    write_turn(asked, made, due, rental, article, &mut done.writes)?;
+    list_fee(n, made, rental, &mut done.member.patron.fees)?;
+    done.renewed.push(asked.request.item)?;
+    done.made = count(made, rental);
+    Ok(done)
+}
+
+fn leave(item: Id, done: Renewals) -> Result<Renewals, AllocError>
+    ensures value { IfOk result (λ next. next ≡ one_left item done) }
+    ensures few { IfOk result (λ next. next.made ≤ done.made + 1) }
+{
+    let mut done = done;
+    done.others.push(item)?;
+    Ok(done)
+}
+
+#[tactic(auto, unfolding(read_set::specs::RenewAlls::turn_by))]
+fn end_turn(
+    asked: &Asked<'_>,
+    article: Article,
+    done: Renewals,
+    verdict: Verdict,
+) -> Result<Renewals, AllocError>
+    requires { done.made + 1 < 2 ^ 64 }
+    ensures value { IfOk result (λ next. next ≡ turn_by asked.now.policy.now asked.now.number asked.now.request asked.now.date article done verdict) }
+    ensures few { IfOk result (λ next. next.made ≤ done.made + 1) }
+{
+    match verdict {
+        Verdict::Made => renew_next(asked, article, done),
+        Verdict::Refused | Verdict::Unpaid => leave(asked.request.item, done),
+    }
+}
+
+#[tactic(auto, using(read_set::proofs::Gaining::gains_none, read_set::proofs::Gaining::gains_first, read_set::proofs::Following::follow_wants))]
+fn turn_known<S: Source>(
+    asked: &Asked<'_>,
+    done: Renewals,
+    article: Article,
+    fresh: bool,
+    sum: &mut Option<u128>,
+    source: &mut S,
+) -> Result<Renewals, Stop>
+    requires small { done.made + 1 < 2 ^ 64 }
+    requires runs { Runs (S.has source.old) asked.now.number fresh done sum.old }
+    ensures gives { Follows result (follow (S.has source.new) (turn_rule_known asked.now.policy.now asked.now.number asked.now.request asked.now.date done (Some article))) }
+    ensures keeps { Gains (S.has source.old) (S.has source.new) (turn_rule_known asked.now.policy.now asked.now.number asked.now.request asked.now.date done (Some article)) }
+    ensures few { IfOk result (λ next. next.made ≤ done.made + 1) }
+    ensures runs { IfOk result (λ next. Runs (S.has source.new) asked.now.number fresh next sum.new) }
+{
+    let verdict = test_renewal(asked, &done.writes, &done.member, &article, sum, source)?;
+    let charge = charge_by(verdict, rental_in(&article));
+    *sum = owed_with(fresh, charge, *sum);
+    Ok(end_turn(asked, article, done, verdict)?)
+}
+
+#[tactic(auto, using(read_set::proofs::Gaining::gains_none, read_set::proofs::Gaining::gains_first))]
+fn turn_any<S: Source>(
+    asked: &Asked<'_>,
+    done: Renewals,
+    article: Option<Article>,
+    fresh: bool,
+    sum: &mut Option<u128>,
+    source: &mut S,
+) -> Result<Renewals, Stop>
+    requires small { done.made + 1 < 2 ^ 64 }
+    requires runs { Runs (S.has source.old) asked.now.number fresh done sum.old }
+    ensures gives { Follows result (follow (S.has source.new) (turn_rule_known asked.now.policy.now asked.now.number asked.now.request asked.now.date done article)) }
+    ensures keeps { Gains (S.has source.old) (S.has source.new) (turn_rule_known asked.now.policy.now asked.now.number asked.now.request asked.now.date done article) }
+    ensures few { IfOk result (λ next. next.made ≤ done.made + 1) }
+    ensures runs { IfOk result (λ next. Runs (S.has source.new) asked.now.number fresh next sum.new) }
+{
+    match article {
+        Some(article) => turn_known(asked, done, article, fresh, sum, source),
+        None => Ok(leave(asked.request.item, done)?),
+    }
+}
+
+/// An item's turn, after the ones before it.
+#[tactic(auto, unfolding(crate::specs::RenewAlls::turn_rule), using(read_set::proofs::Gaining::gains_none, read_set::proofs::Gaining::gains_first, read_set::proofs::Following::follow_wants))]
+fn take_turn<S: Source>(
+    asked: &Asked<'_>,
+    done: Renewals,
+    fresh: bool,
+    sum: &mut Option<u128>,
+    source: &mut S,
+) -> Result<Renewals, Stop>
+    requires small { done.made + 1 < 2 ^ 64 }
+    requires runs { Runs (S.has source.old) asked.now.number fresh done sum.old }
+    ensures gives { Follows result (follow (S.has source.new) (turn_rule asked.now.policy.now asked.now.number asked.now.request asked.now.date done)) }
+    ensures keeps { Gains (S.has source.old) (S.has source.new) (turn_rule asked.now.policy.now asked.now.number asked.now.request asked.now.date done) }
+    ensures few { IfOk result (λ next. next.made ≤ done.made + 1) }
+    ensures runs { IfOk result (λ next. Runs (S.has source.new) asked.now.number fresh next sum.new) }
+{
+    let key = Key::Item(asked.request.item);
+    let found = read_after(asked.alloc, source, &done.writes, &key)?;
+    let article = known_item(asked.policy, found);
+    turn_any(asked, done, article, fresh, sum, source)
+}
+
+fn begin(alloc: Global, member: Member) -> Renewals
+    ensures { result ≡ none_renewed member }
+{
+    Renewals {
+        writes: Draft::new(alloc),
+        member,
+        made: 0,
+        renewed: ItemIds::new(alloc),
+        others: ItemIds::new(alloc),
+    }
+}
+
+/// The items of a list, each after the ones before it.
+#[tactic(auto, using(read_set::proofs::Gaining::gains_none, read_set::proofs::Gaining::gains_first))]
+fn take_turns<S: Source>(
+    line: &Line<'_>,
+    request: &RenewAll,
+    items: &[Id],
+    member: Member,
+    source: &mut S,
+) -> Result<Renewals, Stop>
+    ensures gives { Follows result (follow (S.has source.new) (turns_rule line.now.policy.now line.now.number request.now line.now.date items.now (none_renewed member))) }
+    ensures keeps { Gains (S.has source.old) (S.has source.new) (turns_rule line.now.policy.now line.now.number request.now line.now.date items.now (none_renewed member)) }
+{
+    let fresh = are_new(line.number, member.patron.fees.as_slice());
+    let mut sum = None;
+    let mut done = begin(line.alloc, member);
+    for item in items {
+        let a = ask_for(request, *item);
+        let asked = Asked {
+            alloc: line.alloc,
+            policy: line.policy,
+            number: line.number,
+            date: line.date,
+            request: a,
+        };
+        done = take_turn(&asked, done, fresh, &mut sum, source)?;
+    }
+    Ok(done)
+}
+
+fn tell(line: &Line<'_>, ok: bool, renewed: ItemIds, unrenewed: ItemIds) -> Answer
+    ensures { result ≡ renew_all_answer line.now.policy.now line.now.date ok renewed unrenewed }
+{
+    Answer::RenewAll(RenewAllAnswer {
+        date: line.date,
+        institution: line.policy.institution(),
+        ok,
+        renewed,
+        unrenewed,
+    })
+}
+
+#[tactic(auto, unfolding(read_set::specs::RenewAlls::all_renewed))]
+fn finish(line: &Line<'_>, request: &RenewAll, done: Renewals) -> Result<Effect, AllocError>
+    ensures { IfOk result (λ e. e ≡ all_renewed line.now.policy.now request.now line.now.date done) }
+{
+    let Renewals {
+        mut writes,
+        member,
+        made,
+        renewed,
+        others,
+    } = done;
+    if made > 0 {
+        writes.put(
+            Key::Patron(request.patron),
+            Record::Patron(member.into_patron()),
+        )?;
+    }
+    Ok(Effect {
+        writes: writes.finish(line.alloc)?,
+        answer: Some(tell(line, true, renewed, others)),
+    })
+}
+
+#[tactic(auto, using(read_set::proofs::Gaining::gains_none, read_set::proofs::Gaining::gains_first, read_set::proofs::Following::follow_wants))]
+fn renew_each<S: Source>(
+    line: &Line<'_>,
+    request: &RenewAll,
+    member: Member,
+    source: &mut S,
+) -> Result<Effect, Stop>
+    ensures gives { Follows result (follow (S.has source.new) (renew_all_rule_known line.now.policy.now line.now.number request.now line.now.date (Some member))) }
+    ensures keeps { Gains (S.has source.old) (S.has source.new) (renew_all_rule_known line.now.policy.now line.now.number request.now line.now.date (Some member)) }
+{
+    let items = member.patron.loans.copy(line.alloc)?;
+    let done = take_turns(line, request, items.as_slice(), member, source)?;
+    Ok(finish(line, request, done)?)
+}
+
+#[tactic(auto, using(read_set::proofs::Gaining::gains_none, read_set::proofs::Gaining::gains_first))]
+fn renew_any<S: Source>(
+    line: &Line<'_>,
+    request: &RenewAll,
+    member: Option<Member>,
+    source: &mut S,
+) -> Result<Effect, Stop>
+    ensures gives { Follows result (follow (S.has source.new) (renew_all_rule_known line.now.policy.now line.now.number request.now line.now.date member)) }
+    ensures keeps { Gains (S.has source.old) (S.has source.new) (renew_all_rule_known line.now.policy.now line.now.number request.now line.now.date member) }
+{
+    match member {
+        Some(member) => renew_each(line, request, member, source),
+        None => {
+            let alloc = line.alloc;
+            let none = tell(line, false, ItemIds::new(alloc), ItemIds::new(alloc));
+            Ok(Effect::unwritten(alloc, Some(none)))
+        }
+    }
+}
+
+/// A renewal of all items (message 65) on line n.
+#[tactic(auto, unfolding(crate::specs::RenewAlls::renew_all_rule), using(read_set::proofs::Gaining::gains_none, read_set::proofs::Gaining::gains_first, read_set::proofs::Following::follow_wants))]
+pub fn renew_all<S: Source>(
+    alloc: Global,
+    policy: &Policy,
+    n: u64,
+    request: &RenewAll,
+    date: Stamp,
+    source: &mut S,
+) -> Result<Effect, Stop>
+    ensures gives { Follows result (follow (S.has source.new) (renew_all_rule policy.now n request.now date)) }
+    ensures means { IfOk result (λ e. (M : Map) → Agrees (S.has source.new) M → e ≡ renew_all policy.now n request.now date M) }
+    ensures keeps { Gains (S.has source.old) (S.has source.new) (renew_all_rule policy.now n request.now date) }
+{
+    let member = patron_of(alloc, policy, source, &request.patron)?;
+    let line = Line {
+        alloc,
+        policy,
+        number: n,
+        date,
+    };
+    renew_any(&line, request, member, source)
+}

@@ -1,0 +1,237 @@
+//! Renewal.
+
+ghost use Rattle.std.specs.Prelude.{◌≡◌, IfOk, OnOk, OnErr, Some};
+ghost use Rattle.loan_meaning.specs.Renewals.{renewal_tests, renewal_rule, renew_rule_known, renew_rule};
+ghost use Rattle.loan_meaning.specs.Devices.Sums.{IsKnown};
+ghost use Rattle.read_set.specs.Asks.{follow, Gains};
+ghost use Rattle.read_set.specs.Effects.{written};
+ghost use Rattle.read_set.specs.Renewals.{may_renew, renewals_of, renewed_loan, renewed, charged, renewal_writes, renewal_made, renewal_by, renew};
+ghost use Rattle.read_set.specs.Fees.{with_fee};
+ghost use Rattle.read_set.specs.Maps.{Map, Agrees};
+ghost use Rattle.read_set.specs.Stops.{Follows};
+
+use crate::asked::Asked;
+use crate::asking::{ask_renew, charge_of, due_of, rental_in};
+use crate::fees::{has_amount, list_fee, make_fee, test_owing};
+use crate::lists::{has_queue, is_same};
+use crate::lookup::{item_of, patron_of};
+use crate::telling::{refuse, refuse_for, tell_made};
+use circ_policy::Policy;
+use circ_records::{FeeType, Item, Key, Loan, Patron, Record};
+use read_set::{Article, Draft, Effect, LoanRequest, Member, Source, Stop, Verdict};
+use sip_reader::{Amount, Day, Id, Renew, Stamp};
+use std::alloc::{AllocError, Global};
+
+fn is_renewable(a: &LoanRequest, loan: Option<Loan>) -> bool
+    ensures { result ≡ may_renew a.now loan }
+{
+    match loan {
+        Some(loan) => is_same(&loan.patron, &a.patron) || a.third_party,
+        None => false,
+    }
+}
+
+fn renewals(loan: Option<Loan>) -> u32
+    ensures { result ≡ renewals_of loan }
+{
+    match loan {
+        Some(loan) => loan.renewals,
+        None => 0,
+    }
+}
+
+/// The tests of a renewal, after the writes so far. `sum` is what is known of the sum that is owed.
+#[tactic(auto, unfolding(crate::specs::Renewals::renewal_tests), using(read_set::proofs::Gaining::gains_none, read_set::proofs::Gaining::gains_first))]
+pub fn test_renewal<S: Source>(
+    asked: &Asked<'_>,
+    writes: &Draft,
+    member: &Member,
+    article: &Article,
+    sum: &mut Option<u128>,
+    source: &mut S,
+) -> Result<Verdict, Stop>
+    requires { IsKnown (S.has source.old) writes.now member.now.patron.fees sum.old }
+    ensures gives { Follows result (follow (S.has source.new) (renewal_tests writes.now asked.now.request member.now article.now)) }
+    ensures keeps { Gains (S.has source.old) (S.has source.new) (renewal_tests writes.now asked.now.request member.now article.now) }
+    ensures known { OnOk result (IsKnown (S.has source.new) writes.now member.now.patron.fees sum.new) }
+{
+    if !is_renewable(&asked.request, article.item.loan) {
+        return Ok(Verdict::Refused);
+    }
+    if asked.request.forced {
+        return Ok(Verdict::Made);
+    }
+    if member.patron.blocked {
+        return Ok(Verdict::Refused);
+    }
+    if has_queue(article.item.holds.as_slice()) {
+        return Ok(Verdict::Refused);
+    }
+    if member.class.max_renewals <= renewals(article.item.loan) {
+        return Ok(Verdict::Refused);
+    }
+    test_owing(asked, writes, member, article, sum, source)
+}
+
+fn renew_loan(due: Day, loan: Option<Loan>) -> Option<Loan>
+    ensures { result ≡ renewed_loan due loan }
+{
+    match loan {
+        Some(loan) => Some(Loan {
+            patron: loan.patron,
+            due,
+            renewals: if loan.renewals < u32::MAX {
+                loan.renewals + 1
+            } else {
+                loan.renewals
+            },
+        }),
+        None => None,
+    }
+}
+
+/// The item with its loan renewed.
+pub fn renew_loan_of(due: Day, article: Article) -> Item
+    ensures { result ≡ renewed due article.item }
+{
+    let mut item = article.into_item();
+    item.loan = renew_loan(due, item.loan);
+    item
+}
+
+fn add_fee(n: u64, charge: Amount, member: Member) -> Result<Patron, AllocError>
+    ensures { IfOk result (λ p. p ≡ record member.patron { fees = with_fee n 0 charge member.patron.fees }) }
+{
+    let mut patron = member.into_patron();
+    list_fee(n, 0, charge, &mut patron.fees)?;
+    Ok(patron)
+}
+
+/// The patron's record with the fee, where one is charged. Without memory nothing is written.
+fn charge_patron(
+    n: u64,
+    id: Id,
+    charge: Amount,
+    member: Member,
+    writes: &mut Draft,
+) -> Result<(), AllocError>
+    ensures ok { OnOk result (writes.new ≡ written writes.old (charged n id charge member.patron)) }
+    ensures err { OnErr result (writes.new ≡ writes.old) }
+{
+    let patron = add_fee(n, charge, member)?;
+    if has_amount(charge) {
+        writes.put(Key::Patron(id), Record::Patron(patron))?;
+    }
+    Ok(())
+}
+
+#[tactic(auto, unfolding(read_set::specs::Renewals::renewal_made))]
+fn make_renewal(asked: &Asked<'_>, member: Member, article: Article) -> Result<Effect, AllocError>
+    ensures { IfOk result (λ e. e ≡ renewal_made asked.now.policy.now asked.now.number asked.now.request asked.now.date member article) }
+{
+    let due = due_of(asked, &article.media);
+    let charge = charge_of(&asked.request, &article.media);
+    let answer = tell_made(asked, &article, due, true, charge)?;
+    let writes = write_renewal(asked, due, charge, member, article)?;
+    Ok(Effect {
+        writes: writes.finish(asked.alloc)?,
+        answer: Some(answer),
+    })
+}
+
+fn write_renewal(
+    asked: &Asked<'_>,
+    due: Day,
+    charge: Amount,
+    member: Member,
+    article: Article,
+) -> Result<Draft, AllocError>
+    ensures { IfOk result (λ w. w ≡ renewal_writes asked.now.number asked.now.request due charge member article) }
+{
+    let n = asked.number;
+    let patron = asked.request.patron;
+    let item = renew_loan_of(due, article);
+    let mut writes = Draft::new(asked.alloc);
+    charge_patron(n, patron, charge, member, &mut writes)?;
+    writes.put(Key::Item(asked.request.item), Record::Item(item))?;
+    make_fee(n, 0, patron, FeeType::Rental, charge, &mut writes)?;
+    Ok(writes)
+}
+
+fn renew_by(
+    asked: &Asked<'_>,
+    member: Member,
+    article: Article,
+    verdict: Verdict,
+) -> Result<Effect, AllocError>
+    ensures { IfOk result (λ e. e ≡ renewal_by asked.now.policy.now asked.now.number asked.now.request asked.now.date member article verdict) }
+{
+    let rental = rental_in(&article);
+    match verdict {
+        Verdict::Refused => refuse(asked, Some(article)),
+        Verdict::Unpaid => refuse_for(asked, Some(article), rental),
+        Verdict::Made => make_renewal(asked, member, article),
+    }
+}
+
+/// A renewal of a known item by a known patron.
+#[tactic(auto, unfolding(crate::specs::Renewals::renewal_rule), using(read_set::proofs::Gaining::gains_none, read_set::proofs::Gaining::gains_first, read_set::proofs::Following::follow_wants))]
+pub fn renew_one<S: Source>(
+    asked: &Asked<'_>,
+    member: Member,
+    article: Article,
+    source: &mut S,
+) -> Result<Effect, Stop>
+    ensures gives { Follows result (follow (S.has source.new) (renewal_rule asked.now.policy.now asked.now.number asked.now.request asked.now.date member article)) }
+    ensures keeps { Gains (S.has source.old) (S.has source.new) (renewal_rule asked.now.policy.now asked.now.number asked.now.request asked.now.date member article) }
+{
+    let writes = Draft::new(asked.alloc);
+    let verdict = test_renewal(asked, &writes, &member, &article, &mut None, source)?;
+    Ok(renew_by(asked, member, article, verdict)?)
+}
+
+#[tactic(auto, using(read_set::proofs::Gaining::gains_none, read_set::proofs::Gaining::gains_first))]
+fn renew_both<S: Source>(
+    asked: &Asked<'_>,
+    member: Option<Member>,
+    article: Option<Article>,
+    source: &mut S,
+) -> Result<Effect, Stop>
+    ensures gives { Follows result (follow (S.has source.new) (renew_rule_known asked.now.policy.now asked.now.number asked.now.request asked.now.date member article)) }
+    ensures keeps { Gains (S.has source.old) (S.has source.new) (renew_rule_known asked.now.policy.now asked.now.number asked.now.request asked.now.date member article) }
+{
+    let Some(member) = member else {
+        return Ok(refuse(asked, article)?);
+    };
+    let Some(article) = article else {
+        return Ok(refuse(asked, None)?);
+    };
+    renew_one(asked, member, article, source)
+}
+
+/// A renewal (message 29) on line n.
+#[tactic(auto, unfolding(crate::specs::Renewals::renew_rule), using(read_set::proofs::Gaining::gains_none, read_set::proofs::Gaining::gains_first, read_set::proofs::Following::follow_wants))]
+pub fn renew_item<S: Source>(
+    alloc: Global,
+    policy: &Policy,
+    n: u64,
+    request: &Renew,
+    date: Stamp,
+    source: &mut S,
+) -> Result<Effect, Stop>
+    ensures gives { Follows result (follow (S.has source.new) (renew_rule policy.now n request.now date)) }
+    ensures means { IfOk result (λ e. (M : Map) → Agrees (S.has source.new) M → e ≡ renew policy.now n request.now date M) }
+    ensures keeps { Gains (S.has source.old) (S.has source.new) (renew_rule policy.now n request.now date) }
+{
+    let member = patron_of(alloc, policy, source, &request.patron)?;
+    let article = item_of(alloc, policy, source, &request.item)?;
+    let a = ask_renew(request);
+    let asked = Asked {
+        alloc,
+        policy,
+        number: n,
+        date,
+        request: a,
+    };
+    renew_both(&asked, member, article, source)
+}

@@ -1,0 +1,234 @@
+//! Hold.
+
+ghost use Rattle.std.specs.Prelude.{◌≡◌, ◌++◌, ◌∷◌, [], IfOk, option_map};
+ghost use Rattle.message_meaning.specs.Holds.{hold_rule};
+ghost use Rattle.read_set.specs.Asks.{follow, Gains};
+ghost use Rattle.read_set.specs.Holds.{refuses_hold, queue_after, hold_position, is_available, told_hold, hold_kept, hold_known, held, hold};
+ghost use Rattle.read_set.specs.Maps.{Map, Agrees};
+ghost use Rattle.read_set.specs.Stops.{Follows};
+
+use circ_policy::Policy;
+use circ_records::{Hold, Holds, Item, Key, QUEUE_MAX, Record};
+use loan_meaning::{
+    has_lent_to, has_loan, has_queue, is_first_another, item_of, patron_of, position, waits,
+    with_pickup, without_hold,
+};
+use read_set::{Article, Effect, Member, Source, Stop, Writes};
+use sip_answer::{Answer, HoldAnswer, QueuePosition};
+use sip_reader::{HoldMode, HoldRequest, Id, Stamp, Text};
+use std::alloc::{AllocError, Global};
+
+/// What stays the same while a hold is followed.
+#[derive(Clone, Copy)]
+struct HoldAsked<'p> {
+    alloc: Global,
+    policy: &'p Policy,
+    request: &'p HoldRequest,
+    /// The moment of its message.
+    date: Stamp,
+}
+
+#[tactic(auto, unfolding(read_set::specs::Holds::refuses_hold))]
+fn is_refused(mode: HoldMode, patron: &Id, blocked: bool, item: &Item) -> bool
+    ensures { result ≡ refuses_hold mode patron.now blocked item.now }
+{
+    match mode {
+        HoldMode::Add => is_refused_place(patron, blocked, item),
+        HoldMode::Delete | HoldMode::Change => !waits(item.holds.as_slice(), patron),
+    }
+}
+
+#[tactic(auto, unfolding(read_set::specs::Holds::refuses_hold))]
+fn is_refused_place(patron: &Id, blocked: bool, item: &Item) -> bool
+    ensures { result ≡ refuses_hold HoldMode.Add patron.now blocked item.now }
+{
+    if blocked {
+        return true;
+    }
+    if waits(item.holds.as_slice(), patron) {
+        return true;
+    }
+    if has_lent_to(patron, item.loan) {
+        return true;
+    }
+    QUEUE_MAX <= item.holds.len()
+}
+
+fn with_hold(alloc: Global, holds: &Holds, patron: &Id, pickup: &Text) -> Result<Holds, AllocError>
+    ensures { IfOk result (λ h. h ≡ holds.now ++ (record { patron = patron.now; pickup = pickup.now }) ∷ []) }
+{
+    let mut queue = holds.copy(alloc)?;
+    queue.push(Hold {
+        patron: *patron,
+        pickup: pickup.copy(alloc)?,
+    })?;
+    Ok(queue)
+}
+
+/// The queue after the change.
+#[tactic(auto, unfolding(read_set::specs::Holds::queue_after))]
+fn change_queue(alloc: Global, request: &HoldRequest, holds: &Holds) -> Result<Holds, AllocError>
+    ensures { IfOk result (λ h. h ≡ queue_after request.now holds.now request.now.mode) }
+{
+    match request.mode {
+        HoldMode::Add => with_hold(alloc, holds, &request.patron, &request.pickup),
+        HoldMode::Delete => without_hold(alloc, holds, &request.patron),
+        HoldMode::Change => with_pickup(alloc, holds, &request.patron, &request.pickup),
+    }
+}
+
+fn numbered(
+    alloc: Global,
+    request: &HoldRequest,
+    number: Option<usize>,
+) -> Result<Option<QueuePosition>, AllocError>
+    ensures { IfOk result (λ position. position ≡ option_map (λ i. record { number = i; pickup = request.now.pickup }) number) }
+{
+    match number {
+        Some(number) => Ok(Some(QueuePosition {
+            number,
+            pickup: request.pickup.copy(alloc)?,
+        })),
+        None => Ok(None),
+    }
+}
+
+#[tactic(auto, unfolding(read_set::specs::Holds::hold_position))]
+fn position_in(
+    alloc: Global,
+    request: &HoldRequest,
+    holds: &Holds,
+) -> Result<Option<QueuePosition>, AllocError>
+    ensures { IfOk result (λ position. position ≡ hold_position request.now holds.now request.now.mode) }
+{
+    match request.mode {
+        HoldMode::Delete => Ok(None),
+        HoldMode::Add | HoldMode::Change => numbered(
+            alloc,
+            request,
+            position(holds.as_slice(), &request.patron),
+        ),
+    }
+}
+
+#[tactic(auto, unfolding(read_set::specs::Holds::is_available))]
+fn is_free(request: &HoldRequest, item: &Item, holds: &Holds) -> bool
+    ensures { result ≡ is_available request.now.patron item.now holds.now request.now.mode }
+{
+    match request.mode {
+        HoldMode::Delete => false,
+        HoldMode::Add | HoldMode::Change => {
+            let queue = holds.as_slice();
+            !has_loan(item.loan) && (has_queue(queue) && !is_first_another(queue, &request.patron))
+        }
+    }
+}
+
+fn tell(
+    asked: &HoldAsked<'_>,
+    title: Option<Text>,
+    ok: bool,
+    available: bool,
+    position: Option<QueuePosition>,
+) -> Answer
+    ensures { result ≡ told_hold asked.now.policy.now asked.now.request.now asked.now.date title ok available position }
+{
+    Answer::Hold(HoldAnswer {
+        date: asked.date,
+        institution: asked.policy.institution(),
+        patron: asked.request.patron,
+        item: asked.request.item,
+        ok,
+        available,
+        position,
+        title,
+    })
+}
+
+#[tactic(auto, unfolding(read_set::specs::Holds::hold_kept))]
+fn keep_queue(asked: &HoldAsked<'_>, item: Item, holds: Holds) -> Result<Effect, AllocError>
+    ensures { IfOk result (λ e. e ≡ hold_kept asked.now.policy.now asked.now.request.now asked.now.date item holds) }
+{
+    let available = is_free(asked.request, &item, &holds);
+    let position = position_in(asked.alloc, asked.request, &holds)?;
+    let title = item.title.copy(asked.alloc)?;
+    let answer = tell(asked, Some(title), true, available, position);
+    let mut item = item;
+    item.holds = holds;
+    let writes = Writes::one(
+        asked.alloc,
+        Key::Item(asked.request.item),
+        Record::Item(item),
+    )?;
+    Ok(Effect {
+        writes,
+        answer: Some(answer),
+    })
+}
+
+fn hold_item(asked: &HoldAsked<'_>, blocked: bool, item: Item) -> Result<Effect, AllocError>
+    ensures { IfOk result (λ e. e ≡ hold_known asked.now.policy.now asked.now.request.now asked.now.date blocked item) }
+{
+    let request = asked.request;
+    if is_refused(request.mode, &request.patron, blocked, &item) {
+        let title = item.title.copy(asked.alloc)?;
+        let answer = tell(asked, Some(title), false, false, None);
+        return Ok(Effect::unwritten(asked.alloc, Some(answer)));
+    }
+    let holds = change_queue(asked.alloc, request, &item.holds)?;
+    keep_queue(asked, item, holds)
+}
+
+fn title_of(alloc: Global, article: Option<Article>) -> Result<Option<Text>, AllocError>
+    ensures { IfOk result (λ t. t ≡ option_map (λ a. a.item.title) article) }
+{
+    match article {
+        Some(article) => Ok(Some(article.item.title.copy(alloc)?)),
+        None => Ok(None),
+    }
+}
+
+#[tactic(auto, unfolding(read_set::specs::Holds::held))]
+fn hold_both(
+    asked: &HoldAsked<'_>,
+    member: Option<Member>,
+    article: Option<Article>,
+) -> Result<Effect, AllocError>
+    ensures { IfOk result (λ e. e ≡ held asked.now.policy.now asked.now.request.now asked.now.date member article) }
+{
+    let Some(member) = member else {
+        let title = title_of(asked.alloc, article)?;
+        let answer = tell(asked, title, false, false, None);
+        return Ok(Effect::unwritten(asked.alloc, Some(answer)));
+    };
+    let Some(article) = article else {
+        let answer = tell(asked, None, false, false, None);
+        return Ok(Effect::unwritten(asked.alloc, Some(answer)));
+    };
+    let item = article.into_item();
+    hold_item(asked, member.patron.blocked, item)
+}
+
+/// A hold (message 15).
+#[tactic(auto, unfolding(crate::specs::Holds::hold_rule), using(read_set::proofs::Gaining::gains_none, read_set::proofs::Gaining::gains_first, read_set::proofs::Following::follow_wants))]
+pub fn hold<S: Source>(
+    alloc: Global,
+    policy: &Policy,
+    request: &HoldRequest,
+    date: Stamp,
+    source: &mut S,
+) -> Result<Effect, Stop>
+    ensures gives { Follows result (follow (S.has source.new) (hold_rule policy.now request.now date)) }
+    ensures means { IfOk result (λ e. (M : Map) → Agrees (S.has source.new) M → e ≡ hold policy.now request.now date M) }
+    ensures keeps { Gains (S.has source.old) (S.has source.new) (hold_rule policy.now request.now date) }
+{
+    let member = patron_of(alloc, policy, source, &request.patron)?;
+    let article = item_of(alloc, policy, source, &request.item)?;
+    let asked = HoldAsked {
+        alloc,
+        policy,
+        request,
+        date,
+    };
+    Ok(hold_both(&asked, member, article)?)
+}

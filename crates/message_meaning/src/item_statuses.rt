@@ -1,0 +1,77 @@
+ghost use Rattle.std.specs.Prelude.{◌≡◌, IfOk};
+ghost use Rattle.message_meaning.specs.ItemStatuses.{item_status_rule};
+ghost use Rattle.read_set.specs.Asks.{follow, Gains};
+ghost use Rattle.read_set.specs.ItemStatuses.{updated, status_answer, titled, item_status};
+ghost use Rattle.read_set.specs.Maps.{Map, Agrees};
+ghost use Rattle.read_set.specs.Stops.{Follows};
+
+use circ_policy::Policy;
+use circ_records::{Item, Key, Record};
+use loan_meaning::item_of;
+use read_set::{Article, Effect, Source, Stop, Writes};
+use sip_answer::{Answer, ItemStatusAnswer, TitledItem};
+use sip_reader::{ItemStatus, Stamp};
+use std::alloc::{AllocError, Global};
+
+/// An item status update (message 19).
+#[tactic(auto, unfolding(crate::specs::ItemStatuses::item_status_rule), using(read_set::proofs::Gaining::gains_none, read_set::proofs::Gaining::gains_first, read_set::proofs::Following::follow_wants))]
+pub fn update<S: Source>(
+    alloc: Global,
+    policy: &Policy,
+    request: &ItemStatus,
+    date: Stamp,
+    source: &mut S,
+) -> Result<Effect, Stop>
+    ensures gives { Follows result (follow (S.has source.new) (item_status_rule policy.now request.now date)) }
+    ensures means { IfOk result (λ e. (M : Map) → Agrees (S.has source.new) M → e ≡ item_status policy.now request.now date M) }
+    ensures keeps { Gains (S.has source.old) (S.has source.new) (item_status_rule policy.now request.now date) }
+{
+    let found = item_of(alloc, policy, source, &request.item)?;
+    Ok(update_found(alloc, request, date, found)?)
+}
+
+/// The request's properties replace those of the item, where both are there.
+#[tactic(auto, unfolding(read_set::specs::ItemStatuses::updated))]
+fn update_found(
+    alloc: Global,
+    request: &ItemStatus,
+    date: Stamp,
+    found: Option<Article>,
+) -> Result<Effect, AllocError>
+    ensures { IfOk result (λ e. e ≡ updated request.now date found) }
+{
+    let Some(article) = found else {
+        return Ok(Effect::unwritten(alloc, Some(answer(request, date, None))));
+    };
+    let mut item = article.into_item();
+    let Some(given) = &request.properties else {
+        let known = show(alloc, &item)?;
+        return Ok(Effect::unwritten(alloc, Some(answer(request, date, known))));
+    };
+    item.properties = given.copy(alloc)?;
+    let known = show(alloc, &item)?;
+    let writes = Writes::one(alloc, Key::Item(request.item), Record::Item(item))?;
+    Ok(Effect {
+        writes,
+        answer: Some(answer(request, date, known)),
+    })
+}
+
+fn show(alloc: Global, item: &Item) -> Result<Option<TitledItem>, AllocError>
+    ensures { IfOk result (λ t. t ≡ titled item.now.title item.now.properties) }
+{
+    Ok(Some(TitledItem {
+        title: item.title.copy(alloc)?,
+        properties: item.properties.copy(alloc)?,
+    }))
+}
+
+fn answer(request: &ItemStatus, date: Stamp, known: Option<TitledItem>) -> Answer
+    ensures { result ≡ status_answer request.now date known }
+{
+    Answer::ItemStatus(ItemStatusAnswer {
+        date,
+        item: request.item,
+        known,
+    })
+}

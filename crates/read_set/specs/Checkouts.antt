@@ -1,0 +1,95 @@
+-- Checkout (SIP 2.00, message 11), by the circulation rules: checkout.
+use Rattle.std.specs.Prelude.{ℕ, false, ◌&&◌, nat_le, ◌+◌, List, [], ◌∷◌, ◌++◌, length, Option, Some, None, if◌then◌else◌}
+use Rattle.circ_policy.specs.Terms.{Terms}
+use Rattle.circ_records.specs.Records.{Entries}
+use Rattle.circ_records.specs.declared.key.Key.TheVariants as keys
+use Rattle.circ_records.specs.declared.record.FeeType.TheVariants as fee_types
+use Rattle.circ_records.specs.declared.record.Item.{Item}
+use Rattle.circ_records.specs.declared.record.Loan.{Loan}
+use Rattle.circ_records.specs.declared.record.Patron.{Patron}
+use Rattle.circ_records.specs.declared.record.Record.TheVariants as records
+use Rattle.sip_reader.specs.declared.request.Checkout.{Checkout}
+use Rattle.read_set.specs.Effects.{writing, ◌⊕◌}
+use Rattle.read_set.specs.Fees.{owed, owing_verdict, fee_made, with_fee}
+use Rattle.read_set.specs.Ids.{same, without}
+use Rattle.read_set.specs.Known.{item_in, patron_in}
+use Rattle.read_set.specs.Loans.{by_checkout, charge_for, due_for, is_lent, lent_to, loan_answer, refused}
+use Rattle.read_set.specs.Maps.{Map}
+use Rattle.read_set.specs.Queues.{first_is_another, without_hold}
+use Rattle.read_set.specs.Renewals.{renewal}
+use Rattle.read_set.specs.declared.effect.Effect.{Effect}
+use Rattle.read_set.specs.declared.known.Article.{Article}
+use Rattle.read_set.specs.declared.known.Member.{Member}
+use Rattle.read_set.specs.declared.verdict.LoanRequest.{LoanRequest}
+use Rattle.read_set.specs.declared.verdict.Verdict.{Verdict}
+use Rattle.read_set.specs.declared.verdict.Verdict.TheVariants as verdicts
+
+-- refused, where it isn't forced, at the first of
+unfoldable pub lending_verdict : Map → LoanRequest → Member → Article → Verdict
+lending_verdict M a member article =
+    if a.forced then verdicts.Made
+    else if lent_to a.patron article.item.loan then verdicts.Refused  -- on loan to the same patron
+    else if is_lent article.item.loan then verdicts.Refused  -- on loan to another
+    else if first_is_another a.patron article.item.holds then verdicts.Refused  -- the queue's first entry is another's
+    else if member.patron.blocked then verdicts.Refused  -- blocked
+    else if nat_le member.class.max_loans (length member.patron.loans) then verdicts.Refused  -- loans at least max_loans
+    else owing_verdict (owed M member.patron.fees) a.agreed member article  -- owed above max_fees; a rental
+
+-- the other patron whose loan ends
+abbrev pub other_in : Terms → Map → List ℕ → Option Loan → Option Member
+other_in p M patron None = None
+other_in p M patron (Some loan) = if same loan.patron patron then None else patron_in p M loan.patron
+
+-- the item leaves the other's list; a borrower that counts as unknown isn't written
+abbrev pub freed : List ℕ → List ℕ → Option Member → Entries
+freed item borrower None = []
+freed item borrower (Some other) = (keys.Patron borrower, records.Patron (record other.patron { loans = without item other.patron.loans })) ∷ []
+
+abbrev pub freed_by : List ℕ → Option Loan → Option Member → Entries
+freed_by item None other = []
+freed_by item (Some loan) other = freed item loan.patron other
+
+-- the item with its new loan; the patron's own hold leaves
+abbrev pub lent : LoanRequest → ℕ → Item → Item
+lent a due item = record item { loan = Some (record { patron = a.patron; due = due; renewals = 0 }); holds = without_hold a.patron item.holds }
+
+-- the item goes last in the patron's list
+abbrev pub lent_list : LoanRequest → Option Loan → List (List ℕ) → List (List ℕ)
+lent_list a loan loans = (if lent_to a.patron loan then without a.item loans else loans) ++ a.item ∷ []
+
+abbrev pub lending_patron : ℕ → LoanRequest → ℕ → Option Loan → Patron → Patron
+lending_patron n a charge loan patron = record patron { loans = lent_list a loan patron.loans; fees = with_fee n 0 charge patron.fees }
+
+-- the patron and the item
+abbrev pub lending_records : ℕ → LoanRequest → ℕ → ℕ → Member → Article → Entries
+lending_records n a due charge member article =
+    (keys.Patron a.patron, records.Patron (lending_patron n a charge article.item.loan member.patron))
+    ∷ (keys.Item a.item, records.Item (lent a due article.item)) ∷ []
+
+-- made on a due day at a charge: a loan that the item has ends without a fee, and the item gets a loan with 0 renewals
+abbrev pub lending_writes : ℕ → LoanRequest → ℕ → ℕ → Member → Article → Option Member → Entries
+lending_writes n a due charge member article other =
+    [] ⊕ freed_by a.item article.item.loan other ⊕ lending_records n a due charge member article ⊕ fee_made n 0 a.patron fee_types.Rental charge
+
+unfoldable pub lending_made : Terms → ℕ → LoanRequest → List ℕ → Member → Article → Option Member → Effect
+lending_made p n a date member article other = writing
+    (lending_writes n a (due_for p a date article.media) (charge_for a article.media) member article other)
+    (loan_answer p a date (Some article.item) (Some (due_for p a date article.media)) false (charge_for a article.media))
+
+abbrev pub lending_by : Terms → ℕ → LoanRequest → List ℕ → Map → Member → Article → Verdict → Effect
+lending_by p n a date M member article verdicts.Refused = refused p a date (Some article) 0
+lending_by p n a date M member article verdicts.Unpaid = refused p a date (Some article) article.media.rental
+lending_by p n a date M member article verdicts.Made = lending_made p n a date member article (other_in p M a.patron article.item.loan)
+
+abbrev pub lending : Terms → ℕ → LoanRequest → List ℕ → Map → Member → Article → Effect
+lending p n a date M member article = lending_by p n a date M member article (lending_verdict M a member article)
+
+-- a checkout of what is on loan to the same patron is a renewal, where the terminal allows it
+abbrev pub checkout_known : Terms → ℕ → Checkout → List ℕ → Map → Option Member → Option Article → Effect
+checkout_known p n q date M (Some member) (Some article) =
+    if q.renewal && lent_to q.patron article.item.loan then renewal p n (by_checkout q) date M member article
+    else lending p n (by_checkout q) date M member article
+checkout_known p n q date M _ article = refused p (by_checkout q) date article 0
+
+abbrev pub checkout : Terms → ℕ → Checkout → List ℕ → Map → Effect
+checkout p n q date M = checkout_known p n q date M (patron_in p M q.patron) (item_in p M q.item)

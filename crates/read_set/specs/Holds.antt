@@ -1,0 +1,79 @@
+-- Hold (SIP 2.00, message 15), by the circulation rules: holds.
+use Rattle.std.specs.Prelude.{ℕ, Bool, true, false, not, ◌&&◌, nat_le, List, [], ◌∷◌, ◌++◌, length, Option, Some, None, option_map, if◌then◌else◌}
+use Rattle.circ_policy.specs.Terms.{Terms}
+use Rattle.circ_records.specs.declared.holds.Hold.{Hold}
+use Rattle.circ_records.specs.declared.holds.TheConstants.{QUEUE_MAX}
+use Rattle.circ_records.specs.declared.key.Key.TheVariants as keys
+use Rattle.circ_records.specs.declared.record.Item.{Item}
+use Rattle.circ_records.specs.declared.record.Record.TheVariants as records
+use Rattle.sip_answer.specs.declared.answer.Answer.{Answer}
+use Rattle.sip_answer.specs.declared.answer.Answer.TheVariants as answers
+use Rattle.sip_answer.specs.declared.answer.QueuePosition.{QueuePosition}
+use Rattle.sip_reader.specs.declared.request.HoldMode.{HoldMode}
+use Rattle.sip_reader.specs.declared.request.HoldMode.TheVariants as modes
+use Rattle.sip_reader.specs.declared.request.HoldRequest.{HoldRequest}
+use Rattle.read_set.specs.Effects.{unwritten, writing}
+use Rattle.read_set.specs.Known.{item_in, patron_in}
+use Rattle.read_set.specs.Loans.{is_lent, lent_to}
+use Rattle.read_set.specs.Maps.{Map}
+use Rattle.read_set.specs.Queues.{waits, position_from, first_is_another, has_queue, without_hold, with_pickup}
+use Rattle.read_set.specs.declared.effect.Effect.{Effect}
+use Rattle.read_set.specs.declared.known.Article.{Article}
+use Rattle.read_set.specs.declared.known.Member.{Member}
+
+-- whether a hold is refused. Adding: where the patron is blocked, waits already or has the item on loan, or where 9,999
+-- wait; deleting and changing: where the patron doesn't wait
+unfoldable pub refuses_hold : HoldMode → List ℕ → Bool → Item → Bool
+refuses_hold modes.Add patron blocked item =
+    if blocked then true
+    else if waits patron item.holds then true
+    else if lent_to patron item.loan then true
+    else nat_le QUEUE_MAX (length item.holds)
+refuses_hold modes.Delete patron blocked item = not (waits patron item.holds)
+refuses_hold modes.Change patron blocked item = not (waits patron item.holds)
+
+-- the queue after the change: an added hold goes last, a deleted one leaves, a changed one keeps its position
+unfoldable pub queue_after : HoldRequest → List Hold → HoldMode → List Hold
+queue_after q holds modes.Add = holds ++ (record { patron = q.patron; pickup = q.pickup }) ∷ []
+queue_after q holds modes.Delete = without_hold q.patron holds
+queue_after q holds modes.Change = with_pickup q.patron q.pickup holds
+
+-- the patron's position in the queue after the change, from 1, and the pickup; none where the hold was deleted
+unfoldable pub hold_position : HoldRequest → List Hold → HoldMode → Option QueuePosition
+hold_position q holds modes.Delete = None
+hold_position q holds _ = option_map (λ i. record { number = i; pickup = q.pickup }) (position_from 1 q.patron holds)
+
+-- available: the item isn't on loan and the patron, after the change, is first
+unfoldable pub is_available : List ℕ → Item → List Hold → HoldMode → Bool
+is_available patron item holds modes.Delete = false
+is_available patron item holds _ = not (is_lent item.loan) && (has_queue holds && not (first_is_another patron holds))
+
+abbrev pub told_hold : Terms → HoldRequest → List ℕ → Option (List ℕ) → Bool → Bool → Option QueuePosition → Answer
+told_hold p q date title ok available position = answers.Hold (record {
+  date = date;
+  institution = p.institution;
+  patron = q.patron;
+  item = q.item;
+  ok = ok;
+  available = available;
+  position = position;
+  title = title;
+})
+
+unfoldable pub hold_kept : Terms → HoldRequest → List ℕ → Item → List Hold → Effect
+hold_kept p q date item holds = writing
+    ((keys.Item q.item, records.Item (record item { holds = holds })) ∷ [])
+    (told_hold p q date (Some item.title) true (is_available q.patron item holds q.mode) (hold_position q holds q.mode))
+
+abbrev pub hold_known : Terms → HoldRequest → List ℕ → Bool → Item → Effect
+hold_known p q date blocked item =
+    if refuses_hold q.mode q.patron blocked item then unwritten (Some (told_hold p q date (Some item.title) false false None))
+    else hold_kept p q date item (queue_after q item.holds q.mode)
+
+-- an unknown patron or item is refused
+unfoldable pub held : Terms → HoldRequest → List ℕ → Option Member → Option Article → Effect
+held p q date (Some member) (Some article) = hold_known p q date member.patron.blocked article.item
+held p q date _ article = unwritten (Some (told_hold p q date (option_map (λ a. a.item.title) article) false false None))
+
+abbrev pub hold : Terms → HoldRequest → List ℕ → Map → Effect
+hold p q date M = held p q date (patron_in p M q.patron) (item_in p M q.item)

@@ -1,0 +1,84 @@
+-- Renew (SIP 2.00, message 29), by the circulation rules: renewal.
+use Rattle.std.specs.Prelude.{ℕ, Bool, true, false, not, ◌||◌, nat_lt, nat_le, ◌+◌, List, [], ◌∷◌, Option, Some, None, if◌then◌else◌}
+use Rattle.std.specs.Option.{option_map_or}
+use Rattle.circ_policy.specs.Terms.{Terms}
+use Rattle.circ_records.specs.Records.{Entries}
+use Rattle.circ_records.specs.declared.key.Key.TheVariants as keys
+use Rattle.circ_records.specs.declared.record.FeeType.TheVariants as fee_types
+use Rattle.circ_records.specs.declared.record.Item.{Item}
+use Rattle.circ_records.specs.declared.record.Loan.{Loan}
+use Rattle.circ_records.specs.declared.record.Patron.{Patron}
+use Rattle.circ_records.specs.declared.record.Record.TheVariants as records
+use Rattle.sip_reader.specs.declared.request.Renew.{Renew}
+use Rattle.read_set.specs.Effects.{writing, ◌⊕◌}
+use Rattle.read_set.specs.Fees.{owed, owing_verdict, fee_made, with_fee}
+use Rattle.read_set.specs.Ids.{same}
+use Rattle.read_set.specs.Known.{item_in, patron_in}
+use Rattle.read_set.specs.Loans.{by_renew, charge_for, due_for, loan_answer, refused}
+use Rattle.read_set.specs.Maps.{Map}
+use Rattle.read_set.specs.Queues.{has_queue}
+use Rattle.read_set.specs.declared.effect.Effect.{Effect}
+use Rattle.read_set.specs.declared.known.Article.{Article}
+use Rattle.read_set.specs.declared.known.Member.{Member}
+use Rattle.read_set.specs.declared.verdict.LoanRequest.{LoanRequest}
+use Rattle.read_set.specs.declared.verdict.Verdict.{Verdict}
+use Rattle.read_set.specs.declared.verdict.Verdict.TheVariants as verdicts
+
+-- a loan of the patron, or of another where a third party is allowed
+abbrev pub may_renew : LoanRequest → Option Loan → Bool
+may_renew a None = false
+may_renew a (Some loan) = same loan.patron a.patron || a.third_party
+
+abbrev pub renewals_of : Option Loan → ℕ
+renewals_of loan = option_map_or (λ l. l.renewals) loan 0
+
+-- refused at the first of; where it is forced, only at the first
+unfoldable pub renewal_verdict : Map → LoanRequest → Member → Article → Verdict
+renewal_verdict M a member article =
+    if not (may_renew a article.item.loan) then verdicts.Refused  -- no loan, or another's
+    else if a.forced then verdicts.Made
+    else if member.patron.blocked then verdicts.Refused  -- blocked
+    else if has_queue article.item.holds then verdicts.Refused  -- somebody waits
+    else if nat_le member.class.max_renewals (renewals_of article.item.loan) then verdicts.Refused  -- renewals at least max_renewals
+    else owing_verdict (owed M member.patron.fees) a.agreed member article  -- owed above max_fees; a rental
+
+-- renewals plus one; they stay at their greatest number
+abbrev pub one_more : ℕ → ℕ
+one_more n = if nat_lt n 4294967295 then n + 1 else n
+
+abbrev pub renewed_loan : ℕ → Option Loan → Option Loan
+renewed_loan due None = None
+renewed_loan due (Some loan) = Some (record loan { due = due; renewals = one_more loan.renewals })
+
+abbrev pub renewed : ℕ → Item → Item
+renewed due item = record item { loan = renewed_loan due item.loan }
+
+-- the patron is written only where a rental is charged
+abbrev pub charged : ℕ → List ℕ → ℕ → Patron → Entries
+charged n id charge patron = if nat_lt 0 charge then (keys.Patron id, records.Patron (record patron { fees = with_fee n 0 charge patron.fees })) ∷ [] else []
+
+-- made on a due day at a charge: the due day, renewals plus one, a rental charged to the asker
+abbrev pub renewal_writes : ℕ → LoanRequest → ℕ → ℕ → Member → Article → Entries
+renewal_writes n a due charge member article =
+    [] ⊕ charged n a.patron charge member.patron ⊕ ((keys.Item a.item, records.Item (renewed due article.item)) ∷ []) ⊕ fee_made n 0 a.patron fee_types.Rental charge
+
+unfoldable pub renewal_made : Terms → ℕ → LoanRequest → List ℕ → Member → Article → Effect
+renewal_made p n a date member article = writing
+    (renewal_writes n a (due_for p a date article.media) (charge_for a article.media) member article)
+    (loan_answer p a date (Some article.item) (Some (due_for p a date article.media)) true (charge_for a article.media))
+
+abbrev pub renewal_by : Terms → ℕ → LoanRequest → List ℕ → Member → Article → Verdict → Effect
+renewal_by p n a date member article verdicts.Refused = refused p a date (Some article) 0
+renewal_by p n a date member article verdicts.Unpaid = refused p a date (Some article) article.media.rental
+renewal_by p n a date member article verdicts.Made = renewal_made p n a date member article
+
+abbrev pub renewal : Terms → ℕ → LoanRequest → List ℕ → Map → Member → Article → Effect
+renewal p n a date M member article = renewal_by p n a date member article (renewal_verdict M a member article)
+
+-- an unknown patron or item is refused
+abbrev pub renew_known : Terms → ℕ → LoanRequest → List ℕ → Map → Option Member → Option Article → Effect
+renew_known p n a date M (Some member) (Some article) = renewal p n a date M member article
+renew_known p n a date M _ article = refused p a date article 0
+
+abbrev pub renew : Terms → ℕ → Renew → List ℕ → Map → Effect
+renew p n q date M = renew_known p n (by_renew q) date M (patron_in p M q.patron) (item_in p M q.item)

@@ -1,0 +1,24 @@
+-- What a run has to begin with, beside the judgement of its inputs.
+use Rattle.std.specs.Prelude.{◌≡◌, Result, Ok, Err}
+use Rattle.circ_records.specs.Coherent.{Coherent, number_before}
+use Rattle.journal_table.specs.Entry.{first_number}
+use Rattle.read_set.specs.Plans.{plan_of}
+use Rattle.replay_run.specs.Judgements.{Accepted, Refused, Fails}
+use Rattle.replay_run.specs.declared.fault.Fault.{Fault}
+use Rattle.replay_run.specs.declared.prepared.Prepared.{Prepared}
+use Rattle.replay_run.specs.declared.prepared.Sound.{Sound}
+
+abbrev pub accepted_of : Prepared → Accepted
+accepted_of j = record { plan = j.plan; lines = j.journal }
+
+abbrev pub IsJudgement : Result Prepared Fault → Result Accepted Refused → Type 0
+IsJudgement (Ok j) due = due ≡ Ok (accepted_of j)
+IsJudgement (Err fault) due = Fails fault due
+
+-- before the requests are read: what is due is the plan of these lines over a base that is coherent before the first of them
+abbrev pub accepted_by : Sound → Accepted
+accepted_by s = record { plan = plan_of s.policy s.base s.journal; lines = s.journal }
+
+abbrev pub IsSound : Result Sound Fault → Result Accepted Refused → Type 0
+IsSound (Ok s) due = (due ≡ Ok (accepted_by s)) × Coherent s.policy (number_before (first_number s.journal)) s.base
+IsSound (Err fault) due = Fails fault due

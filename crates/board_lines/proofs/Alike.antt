@@ -7,7 +7,7 @@ use Rattle.std.proofs.lemmas.Option.{none-some, same_Some, slice_get-map}
 use Rattle.circ_records.specs.Keys.{key_cmp, key_cmp_total, key_cmp-IsAntisymmetric}
 use Rattle.circ_records.specs.Records.{Entries}
 use Rattle.circ_records.specs.declared.key.Key.{Key}
-use Rattle.read_set.specs.Settling.{Told}
+use Rattle.read_set.specs.Settling.{Contents}
 use Rattle.read_set.specs.declared.notes.Name.{Name}
 use Rattle.read_set.specs.declared.notes.Note.{Note}
 use Rattle.board_lines.specs.Notes.{Noted, found_by, note_by, notes_by, named_in}
@@ -25,15 +25,15 @@ same_tie k q e = ap (eq_by_cmp key_cmp k) (sym e) ∙ (eq_by_cmp_equiv key_cmp_t
 
 -- ---- a note of a line, from its key, its name and what its place tells
 module _ (base : Entries) (ns : List Noted) (i : ℕ) where
-  from_parts : (o : Option Noted) (k : Key) (p : Name × Option Told) → Some k ≡ option_map (λ (x : Noted). x.key) o → Some p ≡ option_map named_in o
+  from_parts : (o : Option Noted) (k : Key) (p : Name × Option Contents) → Some k ≡ option_map (λ (x : Noted). x.key) o → Some p ≡ option_map named_in o
       → option_map (note_by base) o ≡ Some (record { key = k; name = p.0; found = found_by base k p.1 })
   from_parts None k p hk hp = absurd (none-some k (sym hk))
   from_parts (Some x) k p hk hp =
       let ek : k ≡ x.key = same_Some k x.key hk in
       let ep : p ≡ named_in x = same_Some p (named_in x) hp in
-      ap₂ (λ (q : Key) (r : Name × Option Told). Some (record { key = q; name = r.0; found = found_by base q r.1 })) (sym ek) (sym ep)
+      ap₂ (λ (q : Key) (r : Name × Option Contents). Some (record { key = q; name = r.0; found = found_by base q r.1 })) (sym ek) (sym ep)
 
-  pub nth_note : (k : Key) (p : Name × Option Told) → Some k ≡ option_map (λ (x : Noted). x.key) (slice_get ns i) → Some p ≡ option_map named_in (slice_get ns i)
+  pub nth_note : (k : Key) (p : Name × Option Contents) → Some k ≡ option_map (λ (x : Noted). x.key) (slice_get ns i) → Some p ≡ option_map named_in (slice_get ns i)
       → slice_get (notes_by base ns) i ≡ Some (record { key = k; name = p.0; found = found_by base k p.1 })
   nth_note k p hk hp = slice_get-map (note_by base) ns i ∙ from_parts (slice_get ns i) k p hk hp
 

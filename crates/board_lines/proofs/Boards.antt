@@ -4,7 +4,7 @@ use Rattle.std.proofs.lemmas.Bool.{cases_eq, cases_lt}
 use Rattle.std.proofs.lemmas.Option.{none-some}
 use Rattle.circ_records.specs.Records.{Entries}
 use Rattle.read_set.specs.Plans.{Planned}
-use Rattle.read_set.specs.Settling.{Told}
+use Rattle.read_set.specs.Settling.{Contents}
 use Rattle.read_set.specs.declared.notes.Note.{Note}
 use Rattle.board_steps.specs.Board.{Row, Board, IsLine, IsCommitted, row_at, holder}
 use Rattle.board_steps.specs.Board.State.{Placing}
@@ -77,14 +77,14 @@ kept_old base a q n r there puts m ne from =
     ap (λ x. get_or q.rows (m - x) no_notes) puts.first ∙ puts.kept_off (m - a.states.first) (λ e. ne (omega (arith, e, from, there.0)))
 
 -- a line that is placing is there
-placing_from : (b : Board) (m w : ℕ) (notes : List Note) (last : Option Told) → (row_at b m).state ≡ Placing w notes last → b.first ≤ m
+placing_from : (b : Board) (m w : ℕ) (notes : List Note) (last : Option Contents) → (row_at b m).state ≡ Placing w notes last → b.first ≤ m
 placing_from b m w notes last h = (within_board b m (λ e. none-some w (sym (ap holder e) ∙ ap holder h))).0
 
 -- each publication has come so far, if that of the line that is put has
 under_put : (base : Entries) (a q : Parts) (n : ℕ) (r : Row) → IsLine (board_of base a) n → Puts base a q n r
-    → ((w : ℕ) (notes : List Note) (last : Option Told) → r.state ≡ Placing w notes last → IsUnderWay n r notes last (kept_at q n).course)
-    → ((m w : ℕ) (notes : List Note) (last : Option Told) → (row_at (board_of base a) m).state ≡ Placing w notes last → IsUnderWay m (row_at (board_of base a) m) notes last (kept_at a m).course)
-    → (m w : ℕ) (notes : List Note) (last : Option Told) → (row_at (board_of base q) m).state ≡ Placing w notes last → IsUnderWay m (row_at (board_of base q) m) notes last (kept_at q m).course
+    → ((w : ℕ) (notes : List Note) (last : Option Contents) → r.state ≡ Placing w notes last → IsUnderWay n r notes last (kept_at q n).course)
+    → ((m w : ℕ) (notes : List Note) (last : Option Contents) → (row_at (board_of base a) m).state ≡ Placing w notes last → IsUnderWay m (row_at (board_of base a) m) notes last (kept_at a m).course)
+    → (m w : ℕ) (notes : List Note) (last : Option Contents) → (row_at (board_of base q) m).state ≡ Placing w notes last → IsUnderWay m (row_at (board_of base q) m) notes last (kept_at q m).course
 under_put base a q n r there puts has each m w notes last h = elim (cases_eq m n) [
   | inl e ↦
       (let new : row_at (board_of base q) n ≡ r = row_new base a q n r there puts in
@@ -102,7 +102,7 @@ under_put base a q n r there puts has each m w notes last h = elim (cases_eq m n
 pub kept_put : (plan : Planned) (a q : Parts) (n : ℕ) (r : Row) → IsKept plan a → IsLine (board_of plan.base a) n → Puts plan.base a q n r
     → Reached plan (board_of plan.base q) → HandsHold q.hands (row_at (board_of plan.base q))
     → (IsCommitted (row_at (board_of plan.base a) n).state → ⊥) → q.states.counts.commits ≡ a.states.counts.commits → q.latest ≡ a.latest
-    → ((w : ℕ) (notes : List Note) (last : Option Told) → r.state ≡ Placing w notes last → IsUnderWay n r notes last (kept_at q n).course) → IsKept plan q
+    → ((w : ℕ) (notes : List Note) (last : Option Contents) → r.state ≡ Placing w notes last → IsUnderWay n r notes last (kept_at q n).course) → IsKept plan q
 kept_put plan a q n r kept there puts reached hand bar commits latest has =
     let f : a.states.first ≡ plan.first = kept.reached.first in
     let off : (m : ℕ) → m < plan.first + a.states.counts.commits → m ≢ n =
@@ -127,7 +127,7 @@ pub kept_commit : (plan : Planned) (a q : Parts) (n : ℕ) (r : Row) → IsKept 
     → Reached plan (board_of plan.base q) → HandsHold q.hands (row_at (board_of plan.base q))
     → n ≡ plan.first + a.states.counts.commits → q.states.counts.commits ≡ a.states.counts.commits + 1
     → r.changed ≡ (row_at (board_of plan.base a) n).changed → q.latest ≡ max a.latest r.changed
-    → ((w : ℕ) (notes : List Note) (last : Option Told) → r.state ≡ Placing w notes last → IsUnderWay n r notes last (kept_at q n).course) → IsKept plan q
+    → ((w : ℕ) (notes : List Note) (last : Option Contents) → r.state ≡ Placing w notes last → IsUnderWay n r notes last (kept_at q n).course) → IsKept plan q
 kept_commit plan a q n r kept there puts reached hand least one_more same latest has =
     let changed : (m : ℕ) → (row_at (board_of plan.base q) m).changed ≡ (row_at (board_of plan.base a) m).changed =
     λ m. elim (cases_eq m n) [

@@ -9,7 +9,7 @@ use Rattle.std.specs.FinMap.{entries}
 use Rattle.circ_records.specs.declared.key.Key.{Key}
 use Rattle.sip_answer.specs.declared.answer.Answer.{Answer}
 use Rattle.read_set.specs.Plans.{Planned}
-use Rattle.read_set.specs.Settling.{Told}
+use Rattle.read_set.specs.Settling.{Contents}
 use Rattle.read_set.specs.declared.notes.Name.{Name}
 use Rattle.read_set.specs.declared.notes.Note.{Note}
 use Rattle.attempts.specs.Moves.{no_row}
@@ -40,24 +40,24 @@ use Rattle.board_lines.proofs.Rows.{live_there, state_shown, state_somewhere, en
 use Rattle.board_lines.proofs.Sights.{has_none, has_some}
 
 -- ---- the state of a line that is done or being checked
-done_parts : (s : LineState) (ns notes : List Note) (told : Option Told) (answer : Option Answer) (stamp : Option ℕ) → state_of s ns told ≡ Done notes answer stamp
-    → (ns ≡ notes) × (answer_by told ≡ answer) × (s ≡ states.Done stamp)
-done_parts states.Waiting ns notes told answer stamp h = absurd (cc)
-done_parts (states.Running v) ns notes told answer stamp h = absurd (cc)
-done_parts (states.Placing v) ns notes told answer stamp h = absurd (cc)
-done_parts (states.Done t) ns notes told answer stamp h = (cc, cc, (let e : t ≡ stamp = cc in ap states.Done e))
-done_parts (states.Checking v t i) ns notes told answer stamp h = absurd (cc)
-done_parts states.Committed ns notes told answer stamp h = absurd (cc)
+done_parts : (s : LineState) (ns notes : List Note) (contents : Option Contents) (answer : Option Answer) (stamp : Option ℕ) → state_of s ns contents ≡ Done notes answer stamp
+    → (ns ≡ notes) × (answer_by contents ≡ answer) × (s ≡ states.Done stamp)
+done_parts states.Waiting ns notes contents answer stamp h = absurd (cc)
+done_parts (states.Running v) ns notes contents answer stamp h = absurd (cc)
+done_parts (states.Placing v) ns notes contents answer stamp h = absurd (cc)
+done_parts (states.Done t) ns notes contents answer stamp h = (cc, cc, (let e : t ≡ stamp = cc in ap states.Done e))
+done_parts (states.Checking v t i) ns notes contents answer stamp h = absurd (cc)
+done_parts states.Committed ns notes contents answer stamp h = absurd (cc)
 
-checking_parts : (s : LineState) (ns notes : List Note) (told : Option Told) (answer : Option Answer) (w t i : ℕ) → state_of s ns told ≡ Checking w notes answer t i
-    → (ns ≡ notes) × (answer_by told ≡ answer) × (s ≡ states.Checking w t i)
-checking_parts states.Waiting ns notes told answer w t i h = absurd (cc)
-checking_parts (states.Running v) ns notes told answer w t i h = absurd (cc)
-checking_parts (states.Placing v) ns notes told answer w t i h = absurd (cc)
-checking_parts (states.Done u) ns notes told answer w t i h = absurd (cc)
-checking_parts (states.Checking v u j) ns notes told answer w t i h =
+checking_parts : (s : LineState) (ns notes : List Note) (contents : Option Contents) (answer : Option Answer) (w t i : ℕ) → state_of s ns contents ≡ Checking w notes answer t i
+    → (ns ≡ notes) × (answer_by contents ≡ answer) × (s ≡ states.Checking w t i)
+checking_parts states.Waiting ns notes contents answer w t i h = absurd (cc)
+checking_parts (states.Running v) ns notes contents answer w t i h = absurd (cc)
+checking_parts (states.Placing v) ns notes contents answer w t i h = absurd (cc)
+checking_parts (states.Done u) ns notes contents answer w t i h = absurd (cc)
+checking_parts (states.Checking v u j) ns notes contents answer w t i h =
     (cc, cc, (let e : v ≡ w = cc in let f : u ≡ t = cc in let g : j ≡ i = cc in ap (λ x. states.Checking x u j) e ∙ ap (λ x. states.Checking w x j) f ∙ ap (λ x. states.Checking w t x) g))
-checking_parts states.Committed ns notes told answer w t i h = absurd (cc)
+checking_parts states.Committed ns notes contents answer w t i h = absurd (cc)
 
 pub check_live : (b : Board) (w n : ℕ) (notes : List Note) (answer : Option Answer) (t i : ℕ) → Compares b w n notes answer t i → live_of (row_at b n).state ≡ 1
 check_live b w n notes answer t i (inl h) = ap live_of h.1.1
@@ -158,9 +158,9 @@ module _ (plan : Planned) (a : Parts) (kept : IsKept plan a) (w n : ℕ) where
     pub goes_on : (v t i : ℕ) → s ≡ states.Checking v t i → v ≡ w → IsCheck (board_of plan.base a) w n (Some (t, i))
     goes_on v t i e same = (
       notes_by plan.base (get_or a.rows (n - a.states.first) no_notes).notes,
-      answer_by (get_or a.rows (n - a.states.first) no_notes).told,
+      answer_by (get_or a.rows (n - a.states.first) no_notes).contents,
       inr (state_there plan a kept n s is
-          ∙ ap (λ x. state_of x (notes_by plan.base (get_or a.rows (n - a.states.first) no_notes).notes) (get_or a.rows (n - a.states.first) no_notes).told) (e ∙ ap (λ x. states.Checking x t i) same)),
+          ∙ ap (λ x. state_of x (notes_by plan.base (get_or a.rows (n - a.states.first) no_notes).notes) (get_or a.rows (n - a.states.first) no_notes).contents) (e ∙ ap (λ x. states.Checking x t i) same)),
     )
 
     pub holds_another : (u : Option ℕ) (m : ℕ) → s ≡ states.Done u → holder (row_at (board_of plan.base a) m).state ≡ Some w → IsCheck (board_of plan.base a) w n None
@@ -171,13 +171,13 @@ module _ (plan : Planned) (a : Parts) (kept : IsKept plan a) (w n : ℕ) where
     pub begins : (u : Option ℕ) → s ≡ states.Done u → w < length a.hands → HasNoLine (board_of plan.base a) w → IsCheck (board_of plan.base a) w n (Some (a.clock, 0))
     begins u e within none = (
       notes_by plan.base (get_or a.rows (n - a.states.first) no_notes).notes,
-      answer_by (get_or a.rows (n - a.states.first) no_notes).told,
+      answer_by (get_or a.rows (n - a.states.first) no_notes).contents,
       inl (
         (within, none),
         (
           u,
           state_there plan a kept n s is
-              ∙ ap (λ x. state_of x (notes_by plan.base (get_or a.rows (n - a.states.first) no_notes).notes) (get_or a.rows (n - a.states.first) no_notes).told) e,
+              ∙ ap (λ x. state_of x (notes_by plan.base (get_or a.rows (n - a.states.first) no_notes).notes) (get_or a.rows (n - a.states.first) no_notes).contents) e,
         ),
         refl,
         refl,
@@ -219,7 +219,7 @@ module _ (plan : Planned) (a : Parts) (kept : IsKept plan a) (w n : ℕ) where
       | inr d ↦ (checking_parts (get_or a.states.rows (n - a.states.first) no_row).state _ notes _ answer w t i (sym (state_shown plan a kept n check_line) ∙ d)).0
     ]
 
-    same_answer : answer_by (get_or a.rows (n - a.states.first) no_notes).told ≡ answer
+    same_answer : answer_by (get_or a.rows (n - a.states.first) no_notes).contents ≡ answer
     same_answer = elim c [
       | inl d ↦ (done_parts (get_or a.states.rows (n - a.states.first) no_row).state _ notes _ answer d.1.0 (sym (state_shown plan a kept n check_line) ∙ d.1.1)).1
       | inr d ↦ (checking_parts (get_or a.states.rows (n - a.states.first) no_row).state _ notes _ answer w t i (sym (state_shown plan a kept n check_line) ∙ d)).1
@@ -227,9 +227,9 @@ module _ (plan : Planned) (a : Parts) (kept : IsKept plan a) (w n : ℕ) where
 
     -- the line comes to another state of the same attempt, and is in the worker's hand or not
     module _ (s : LineState) (to : State) (x : Option ℕ)
-        (to_is : state_of s notes (get_or a.rows (n - a.states.first) no_notes).told ≡ to)
+        (to_is : state_of s notes (get_or a.rows (n - a.states.first) no_notes).contents ≡ to)
         (hand_is : ((x ≡ Some n) × (holder to ≡ Some w)) ⊎ ((x ≡ None) × (holder to ≡ None)))
-        (placed : (v : ℕ) (ns : List Note) (last : Option Told) → to ≡ Placing v ns last → ⊥)
+        (placed : (v : ℕ) (ns : List Note) (last : Option Contents) → to ≡ Placing v ns last → ⊥)
         (q : Parts) (first_is : q.states.first ≡ a.states.first) (row_is : q.states.rows ≡ set a.states.rows (n - a.states.first) (record { state = s; next = (get_or a.states.rows (n - a.states.first) no_row).next }))
         (store_is : q.store ≡ a.store) (rows_is : q.rows ≡ a.rows) (hands_is : q.hands ≡ set a.hands w x)
         (latest_is : q.latest ≡ a.latest) (commits_is : q.states.counts.commits ≡ a.states.counts.commits) where
@@ -249,7 +249,7 @@ module _ (plan : Planned) (a : Parts) (kept : IsKept plan a) (w n : ℕ) where
       r_is : r ≡ with_state (row_at (board_of plan.base a) n) to
       unfolding r
       r_is =
-          ap (λ (y : List Note). with_state (row_by plan.base a (n - a.states.first)) (state_of s y (get_or a.rows (n - a.states.first) no_notes).told)) same_notes
+          ap (λ (y : List Note). with_state (row_by plan.base a (n - a.states.first)) (state_of s y (get_or a.rows (n - a.states.first) no_notes).contents)) same_notes
           ∙ ap (λ (y : State). with_state (row_by plan.base a (n - a.states.first)) y) to_is
           ∙ ap (λ (y : Row). with_state y to) (sym at)
 
@@ -282,7 +282,7 @@ module _ (plan : Planned) (a : Parts) (kept : IsKept plan a) (w n : ℕ) where
       done : State
       done = Done notes answer (Some t)
 
-      done_is : state_of (states.Done (Some t)) notes (get_or a.rows (n - a.states.first) no_notes).told ≡ done
+      done_is : state_of (states.Done (Some t)) notes (get_or a.rows (n - a.states.first) no_notes).contents ≡ done
       unfolding done
       done_is = ap (λ y. Done notes y (Some t)) same_answer
 
@@ -290,7 +290,7 @@ module _ (plan : Planned) (a : Parts) (kept : IsKept plan a) (w n : ℕ) where
       unfolding done
       done_hand = inr (refl, refl)
 
-      done_placed : (v : ℕ) (ns : List Note) (last : Option Told) → done ≡ Placing v ns last → ⊥
+      done_placed : (v : ℕ) (ns : List Note) (last : Option Contents) → done ≡ Placing v ns last → ⊥
       unfolding done
       done_placed v ns last h = cc
 
@@ -326,7 +326,7 @@ module _ (plan : Planned) (a : Parts) (kept : IsKept plan a) (w n : ℕ) where
       further : State
       further = Checking w notes answer t (i + 1)
 
-      further_is : state_of (states.Checking w t (i + 1)) notes (get_or a.rows (n - a.states.first) no_notes).told ≡ further
+      further_is : state_of (states.Checking w t (i + 1)) notes (get_or a.rows (n - a.states.first) no_notes).contents ≡ further
       unfolding further
       further_is = ap (λ y. Checking w notes y t (i + 1)) same_answer
 
@@ -334,7 +334,7 @@ module _ (plan : Planned) (a : Parts) (kept : IsKept plan a) (w n : ℕ) where
       unfolding further
       further_hand = inl (refl, refl)
 
-      further_placed : (v : ℕ) (ns : List Note) (last : Option Told) → further ≡ Placing v ns last → ⊥
+      further_placed : (v : ℕ) (ns : List Note) (last : Option Contents) → further ≡ Placing v ns last → ⊥
       unfolding further
       further_placed v ns last h = cc
 
@@ -372,7 +372,7 @@ module _ (plan : Planned) (a : Parts) (kept : IsKept plan a) (w n : ℕ) where
       back : State
       back = Waiting
 
-      back_is : state_of states.Waiting notes (get_or a.rows (n - a.states.first) no_notes).told ≡ back
+      back_is : state_of states.Waiting notes (get_or a.rows (n - a.states.first) no_notes).contents ≡ back
       unfolding back
       back_is = refl
 
@@ -380,7 +380,7 @@ module _ (plan : Planned) (a : Parts) (kept : IsKept plan a) (w n : ℕ) where
       unfolding back
       back_hand = inr (refl, refl)
 
-      back_placed : (v : ℕ) (ns : List Note) (last : Option Told) → back ≡ Placing v ns last → ⊥
+      back_placed : (v : ℕ) (ns : List Note) (last : Option Contents) → back ≡ Placing v ns last → ⊥
       unfolding back
       back_placed v ns last h = cc
 
@@ -416,7 +416,7 @@ module _ (plan : Planned) (a : Parts) (kept : IsKept plan a) (w n : ℕ) where
     module _ (key : Key) (noted : Name) (now : Found) (differs : Differs (board_of plan.base a) n notes i key noted now) (some : HasNone (row_at (board_of plan.base a) n) → ⊥) (room : HasRoom (board_of plan.base a))
         (q : Parts) (k : Kept) (states_is : q.states ≡ moves.failed a.states n) (store_is : q.store ≡ store.with_line a.store n (store.suspected (store.line_at a.store n)))
         (rows_is : q.rows ≡ set a.rows (n - a.states.first) k)
-        (k_is : k ≡ record { notes = (get_or a.rows (n - a.states.first) no_notes).notes; told = (get_or a.rows (n - a.states.first) no_notes).told; course = (get_or a.rows (n - a.states.first) no_notes).course; changed = a.clock + 1 })
+        (k_is : k ≡ record { notes = (get_or a.rows (n - a.states.first) no_notes).notes; contents = (get_or a.rows (n - a.states.first) no_notes).contents; course = (get_or a.rows (n - a.states.first) no_notes).course; changed = a.clock + 1 })
         (hands_is : q.hands ≡ set a.hands w None) (clock_is : q.clock ≡ a.clock + 1) (latest_is : q.latest ≡ a.latest) where
       gone : attempt.Row
       gone = record { state = states.Waiting; next = (get_or a.states.rows (n - a.states.first) no_row).next }

@@ -2,9 +2,9 @@ pub mod Alike
 pub mod Boards
 pub mod Checks
 pub mod Commits
+pub mod CommittedLines
 pub mod Firsts
 pub mod Hands
-pub mod Lendings
 pub mod Looks
 pub mod Moves
 pub mod Noting

@@ -5,7 +5,7 @@ use Rattle.std.proofs.lemmas.List.{set-get_or}
 use Rattle.std.proofs.lemmas.Option.{same_Some, slice_get_within}
 use Rattle.circ_records.specs.declared.key.Key.{Key}
 use Rattle.read_set.specs.Plans.{Planned}
-use Rattle.read_set.specs.Settling.{Told}
+use Rattle.read_set.specs.Settling.{Contents}
 use Rattle.read_set.specs.declared.notes.Note.{Note}
 use Rattle.attempts.specs.Moves.{no_row}
 use Rattle.attempts.specs.Moves as moves
@@ -24,7 +24,7 @@ use Rattle.board_steps.proofs.Calls.{stopped_reached}
 use Rattle.board_steps.proofs.Steps.{look_step}
 use Rattle.board_steps.specs.Reached.{Reached}
 use Rattle.board_lines.specs.Hands.{HasNoLine}
-use Rattle.board_lines.specs.Notes.{found_by, is_noted, notes_by, note_with, told_at}
+use Rattle.board_lines.specs.Notes.{found_by, is_noted, notes_by, note_with, contents_at}
 use Rattle.board_lines.specs.Parts.{Kept, Parts, no_notes, row_with, row_by, state_of, board_of, HandsHold, IsKept}
 use Rattle.board_lines.specs.Sights.{IsLooking}
 use Rattle.board_lines.specs.declared.notes.PlacedName.{PlacedName}
@@ -35,13 +35,13 @@ use Rattle.board_lines.proofs.Moves.{puts_of, board_eq}
 use Rattle.board_lines.proofs.Rows.{held_there, state_shown, state_stands}
 use Rattle.board_lines.proofs.Sights.{noted_some, unnoted_each, notes_push, note_is}
 
-running_state : (s : LineState) (notes notes' : List Note) (told : Option Told) (w : ℕ) → state_of s notes told ≡ Running w notes' → (s ≡ states.Running w) × (notes ≡ notes')
-running_state states.Waiting notes notes' told w h = absurd (cc)
-running_state (states.Running v) notes notes' told w h = (let e : v ≡ w = cc in ap states.Running e, cc)
-running_state (states.Placing v) notes notes' told w h = absurd (cc)
-running_state (states.Done t) notes notes' told w h = absurd (cc)
-running_state (states.Checking v t i) notes notes' told w h = absurd (cc)
-running_state states.Committed notes notes' told w h = absurd (cc)
+running_state : (s : LineState) (notes notes' : List Note) (contents : Option Contents) (w : ℕ) → state_of s notes contents ≡ Running w notes' → (s ≡ states.Running w) × (notes ≡ notes')
+running_state states.Waiting notes notes' contents w h = absurd (cc)
+running_state (states.Running v) notes notes' contents w h = (let e : v ≡ w = cc in ap states.Running e, cc)
+running_state (states.Placing v) notes notes' contents w h = absurd (cc)
+running_state (states.Done t) notes notes' contents w h = absurd (cc)
+running_state (states.Checking v t i) notes notes' contents w h = absurd (cc)
+running_state states.Committed notes notes' contents w h = absurd (cc)
 
 pub no_look : (b : Board) (w : ℕ) (k : Key) → HasNoLine b w → IsLooking b w k None
 no_look b w k none n notes may = none n (ap holder may.running)
@@ -86,7 +86,7 @@ module _ (plan : Planned) (a : Parts) (kept : IsKept plan a) (w n : ℕ) (k : Ke
 
   pub look_state : (state_at a.states n ≡ Some (states.Running w)) × (notes_by plan.base (get_or a.rows (n - a.states.first) no_notes).notes ≡ notes)
   look_state =
-      let r = running_state (get_or a.states.rows (n - a.states.first) no_row).state (notes_by plan.base (get_or a.rows (n - a.states.first) no_notes).notes) notes (get_or a.rows (n - a.states.first) no_notes).told w
+      let r = running_state (get_or a.states.rows (n - a.states.first) no_row).state (notes_by plan.base (get_or a.rows (n - a.states.first) no_notes).notes) notes (get_or a.rows (n - a.states.first) no_notes).contents w
       (sym (state_shown plan a kept n look_line) ∙ may.running) in
       (state_stands plan a kept n look_line ∙ ap (λ x. Some x) r.0, r.1)
 
@@ -145,9 +145,9 @@ module _ (plan : Planned) (a : Parts) (kept : IsKept plan a) (w n : ℕ) (k : Ke
 
   -- the key is noted under its name
   module _ {J : Type 0} (seen : PlacedName J) (found_is : found (row_at (board_of plan.base a)) n k ≡ Named seen.name)
-      (value_is : found_by plan.base k (option_map told_at seen.place) ≡ value_at plan (row_at (board_of plan.base a)) n k)
+      (value_is : found_by plan.base k (option_map contents_at seen.place) ≡ value_at plan (row_at (board_of plan.base a)) n k)
       (q : Parts) (x : Kept) (states_is : q.states ≡ a.states) (store_is : q.store ≡ a.store) (rows_is : q.rows ≡ set a.rows (n - a.states.first) x)
-      (x_is : x ≡ record { notes = (get_or a.rows (n - a.states.first) no_notes).notes ++ note_with k seen ∷ []; told = (get_or a.rows (n - a.states.first) no_notes).told; course = (get_or a.rows (n - a.states.first) no_notes).course; changed = (get_or a.rows (n - a.states.first) no_notes).changed })
+      (x_is : x ≡ record { notes = (get_or a.rows (n - a.states.first) no_notes).notes ++ note_with k seen ∷ []; contents = (get_or a.rows (n - a.states.first) no_notes).contents; course = (get_or a.rows (n - a.states.first) no_notes).course; changed = (get_or a.rows (n - a.states.first) no_notes).changed })
       (hands_is : q.hands ≡ a.hands) (clock_is : q.clock ≡ a.clock) (latest_is : q.latest ≡ a.latest) where
     l : Row
     l = row_with plan.base (get_or a.states.rows (n - a.states.first) no_row) x (get_or a.store.lines (n - a.states.first) store.no_entries)
@@ -171,14 +171,14 @@ module _ (plan : Planned) (a : Parts) (kept : IsKept plan a) (w n : ℕ) (k : Ke
         ∙ ap₂ (λ (y : List Note) (z : Note). y ++ z ∷ []) look_state.1 (note_is plan.base k seen _ value_is)
 
     runs : (get_or a.states.rows (n - a.states.first) no_row).state ≡ states.Running w
-    runs = (running_state (get_or a.states.rows (n - a.states.first) no_row).state (notes_by plan.base (get_or a.rows (n - a.states.first) no_notes).notes) notes (get_or a.rows (n - a.states.first) no_notes).told w
+    runs = (running_state (get_or a.states.rows (n - a.states.first) no_row).state (notes_by plan.base (get_or a.rows (n - a.states.first) no_notes).notes) notes (get_or a.rows (n - a.states.first) no_notes).contents w
         (sym (state_shown plan a kept n look_line) ∙ may.running)).0
 
     l_is : l ≡ with_state (row_at (board_of plan.base a) n) (Running w more)
     unfolding l
     l_is =
         ap (λ (y : Kept). row_with plan.base (get_or a.states.rows (n - a.states.first) no_row) y (get_or a.store.lines (n - a.states.first) store.no_entries)) x_is
-        ∙ ap (λ (y : LineState). with_state (row_by plan.base a (n - a.states.first)) (state_of y (notes_by plan.base ((get_or a.rows (n - a.states.first) no_notes).notes ++ note_with k seen ∷ [])) (get_or a.rows (n - a.states.first) no_notes).told)) runs
+        ∙ ap (λ (y : LineState). with_state (row_by plan.base a (n - a.states.first)) (state_of y (notes_by plan.base ((get_or a.rows (n - a.states.first) no_notes).notes ++ note_with k seen ∷ [])) (get_or a.rows (n - a.states.first) no_notes).contents)) runs
         ∙ ap (λ (y : List Note). with_state (row_by plan.base a (n - a.states.first)) (Running w y)) more_is
         ∙ ap (λ (y : Row). with_state y (Running w more)) (sym at)
 
@@ -194,12 +194,12 @@ module _ (plan : Planned) (a : Parts) (kept : IsKept plan a) (w n : ℕ) (k : Ke
         (ap (λ (y : States). y.counts.failed) states_is)
         (ap (λ (y : States). y.counts.stops) states_is)
 
-    pub seen_returns : LookStep plan (board_of plan.base a) w k (Seen seen.name (found_by plan.base k (option_map told_at seen.place))) (board_of plan.base q)
+    pub seen_returns : LookStep plan (board_of plan.base a) w k (Seen seen.name (found_by plan.base k (option_map contents_at seen.place))) (board_of plan.base q)
     seen_returns = (n, notes, may, found_is, value_is, seen_board)
 
     pub seen_kept : IsKept plan q
     seen_kept = kept_put plan a q n l kept look_line seen_puts
-        (look_step plan (board_of plan.base a) w k (Seen seen.name (found_by plan.base k (option_map told_at seen.place))) (board_of plan.base q) kept.reached seen_returns)
+        (look_step plan (board_of plan.base a) w k (Seen seen.name (found_by plan.base k (option_map contents_at seen.place))) (board_of plan.base q) kept.reached seen_returns)
         (subst (λ y. HandsHold y (row_at (board_of plan.base q))) (sym hands_is)
         (hand_same a.hands (row_at (board_of plan.base a)) (row_at (board_of plan.base q)) n l (row_new plan.base a q n l look_line seen_puts) (row_old plan.base a q n l look_line seen_puts) kept.hand
         (ap (λ (y : Row). holder y.state) l_is ∙ sym (ap holder may.running))))

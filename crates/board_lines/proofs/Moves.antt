@@ -4,7 +4,7 @@ use Rattle.std.specs.Prelude.{option_map}
 use Rattle.std.proofs.lemmas.Bool.{cases_lt, lt-ltb, le-ltb}
 use Rattle.std.proofs.lemmas.Option.{none-some, same_Some, slice_get_within, get_or_from_slice_get, slice_get-get_or}
 use Rattle.circ_records.specs.Records.{Entries}
-use Rattle.read_set.specs.Settling.{Told}
+use Rattle.read_set.specs.Settling.{Contents}
 use Rattle.read_set.specs.declared.notes.Note.{Note}
 use Rattle.attempts.specs.Moves.{no_row}
 use Rattle.attempts.specs.States.{States, state_at, next_at}
@@ -62,13 +62,13 @@ state_none t n h from within =
     (ap (option_map (λ (r : attempt.Row). r.state)) (sym (slice_get-get_or t.rows (n - t.first) no_row within)) ∙ sym (state_from t n from) ∙ h)
 
 -- a line waits on the board just where its state is that it waits
-pub state_waits : (s : LineState) (notes : List Note) (told : Option Told) → state_of s notes told ≡ Waiting → s ≡ states.Waiting
-state_waits states.Waiting notes told h = refl
-state_waits (states.Running w) notes told h = absurd (cc)
-state_waits (states.Placing w) notes told h = absurd (cc)
-state_waits (states.Done t) notes told h = absurd (cc)
-state_waits (states.Checking w t i) notes told h = absurd (cc)
-state_waits states.Committed notes told h = absurd (cc)
+pub state_waits : (s : LineState) (notes : List Note) (contents : Option Contents) → state_of s notes contents ≡ Waiting → s ≡ states.Waiting
+state_waits states.Waiting notes contents h = refl
+state_waits (states.Running w) notes contents h = absurd (cc)
+state_waits (states.Placing w) notes contents h = absurd (cc)
+state_waits (states.Done t) notes contents h = absurd (cc)
+state_waits (states.Checking w t i) notes contents h = absurd (cc)
+state_waits states.Committed notes contents h = absurd (cc)
 
 -- ---- one line's parts are set
 pub puts_of : (base : Entries) (a q : Parts) (n : ℕ) (s : attempt.Row) (k : Kept) (l : store.Line)

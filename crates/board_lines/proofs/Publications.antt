@@ -9,7 +9,7 @@ use Rattle.std.proofs.lemmas.Option.{none-some, same_Some, slice_get-get_or, sli
 use Rattle.circ_records.specs.declared.key.Key.{Key}
 use Rattle.circ_records.specs.declared.record.Record.{Record}
 use Rattle.read_set.specs.Plans.{Planned}
-use Rattle.read_set.specs.Settling.{Told}
+use Rattle.read_set.specs.Settling.{Contents}
 use Rattle.read_set.specs.declared.notes.Note.{Note}
 use Rattle.attempts.specs.Moves.{no_row, moved}
 use Rattle.attempts.specs.States.{States, state_at, is_live}
@@ -42,15 +42,15 @@ use Rattle.board_lines.proofs.Writes.{first_inserted, first_removed}
 
 -- ---- states that are to be published
 -- the worker has the line in hand
-pub publish_held : (x : State) (w : ℕ) (notes : List Note) → (x ≡ Running w notes) ⊎ ((last : Option Told) × (x ≡ Placing w notes last)) → holder x ≡ Some w
+pub publish_held : (x : State) (w : ℕ) (notes : List Note) → (x ≡ Running w notes) ⊎ ((last : Option Contents) × (x ≡ Placing w notes last)) → holder x ≡ Some w
 publish_held x w notes (inl e) = ap holder e
 publish_held x w notes (inr e) = ap holder e.1
 
-pub publish_notes : (x : State) (w : ℕ) (notes : List Note) → (x ≡ Running w notes) ⊎ ((last : Option Told) × (x ≡ Placing w notes last)) → notes_of x ≡ notes
+pub publish_notes : (x : State) (w : ℕ) (notes : List Note) → (x ≡ Running w notes) ⊎ ((last : Option Contents) × (x ≡ Placing w notes last)) → notes_of x ≡ notes
 publish_notes x w notes (inl e) = ap notes_of e
 publish_notes x w notes (inr e) = ap notes_of e.1
 
-publish_bar : (x : State) (w : ℕ) (notes : List Note) → (x ≡ Running w notes) ⊎ ((last : Option Told) × (x ≡ Placing w notes last)) → IsCommitted x → ⊥
+publish_bar : (x : State) (w : ℕ) (notes : List Note) → (x ≡ Running w notes) ⊎ ((last : Option Contents) × (x ≡ Placing w notes last)) → IsCommitted x → ⊥
 publish_bar x w notes (inl e) h = subst IsCommitted e h
 publish_bar x w notes (inr e) h = subst IsCommitted e.1 h
 
@@ -58,78 +58,78 @@ is_running : (x : State) (v w : ℕ) (notes : List Note) → x ≡ Running v not
 is_running x v w notes e held =
     e ∙ ap (λ (y : ℕ). Running y notes) (same_Some v w (sym (ap holder e) ∙ held)) ∙ ap (λ (ns : List Note). Running w ns) (sym (ap notes_of e))
 
-is_placing : (x : State) (v w : ℕ) (notes : List Note) (last : Option Told) → x ≡ Placing v notes last → holder x ≡ Some w → x ≡ Placing w (notes_of x) last
+is_placing : (x : State) (v w : ℕ) (notes : List Note) (last : Option Contents) → x ≡ Placing v notes last → holder x ≡ Some w → x ≡ Placing w (notes_of x) last
 is_placing x v w notes last e held =
     e ∙ ap (λ (y : ℕ). Placing y notes last) (same_Some v w (sym (ap holder e) ∙ held)) ∙ ap (λ (ns : List Note). Placing w ns last) (sym (ap notes_of e))
 
 -- a line in hand whose state is to be published is
-pub published_by : (s : LineState) (notes : List Note) (told : Option Told) (x : State) (w : ℕ) → x ≡ state_of s notes told → holder x ≡ Some w → publishes s ≡ true
-    → (x ≡ Running w (notes_of x)) ⊎ ((last : Option Told) × (x ≡ Placing w (notes_of x) last))
-published_by states.Waiting notes told x w e held h = absurd (cc)
-published_by (states.Running v) notes told x w e held h = inl (is_running x v w notes e held)
-published_by (states.Placing v) notes told x w e held h = inr (told, is_placing x v w notes told e held)
-published_by (states.Done t) notes told x w e held h = absurd (cc)
-published_by (states.Checking v t i) notes told x w e held h = absurd (cc)
-published_by states.Committed notes told x w e held h = absurd (cc)
+pub published_by : (s : LineState) (notes : List Note) (contents : Option Contents) (x : State) (w : ℕ) → x ≡ state_of s notes contents → holder x ≡ Some w → publishes s ≡ true
+    → (x ≡ Running w (notes_of x)) ⊎ ((last : Option Contents) × (x ≡ Placing w (notes_of x) last))
+published_by states.Waiting notes contents x w e held h = absurd (cc)
+published_by (states.Running v) notes contents x w e held h = inl (is_running x v w notes e held)
+published_by (states.Placing v) notes contents x w e held h = inr (contents, is_placing x v w notes contents e held)
+published_by (states.Done t) notes contents x w e held h = absurd (cc)
+published_by (states.Checking v t i) notes contents x w e held h = absurd (cc)
+published_by states.Committed notes contents x w e held h = absurd (cc)
 
-pub placing_by : (s : LineState) (notes : List Note) (told : Option Told) (x : State) (w : ℕ) → x ≡ state_of s notes told → holder x ≡ Some w → places s ≡ true
-    → (last : Option Told) × (x ≡ Placing w (notes_of x) last)
-placing_by states.Waiting notes told x w e held h = absurd (cc)
-placing_by (states.Running v) notes told x w e held h = absurd (cc)
-placing_by (states.Placing v) notes told x w e held h = (told, is_placing x v w notes told e held)
-placing_by (states.Done t) notes told x w e held h = absurd (cc)
-placing_by (states.Checking v t i) notes told x w e held h = absurd (cc)
-placing_by states.Committed notes told x w e held h = absurd (cc)
+pub placing_by : (s : LineState) (notes : List Note) (contents : Option Contents) (x : State) (w : ℕ) → x ≡ state_of s notes contents → holder x ≡ Some w → places s ≡ true
+    → (last : Option Contents) × (x ≡ Placing w (notes_of x) last)
+placing_by states.Waiting notes contents x w e held h = absurd (cc)
+placing_by (states.Running v) notes contents x w e held h = absurd (cc)
+placing_by (states.Placing v) notes contents x w e held h = (contents, is_placing x v w notes contents e held)
+placing_by (states.Done t) notes contents x w e held h = absurd (cc)
+placing_by (states.Checking v t i) notes contents x w e held h = absurd (cc)
+placing_by states.Committed notes contents x w e held h = absurd (cc)
 
-only_placing : (s : LineState) (ns : List Note) (told : Option Told) → places s ≡ false → (w : ℕ) (notes : List Note) (last : Option Told) → state_of s ns told ≡ Placing w notes last → ⊥
-only_placing states.Waiting ns told h w notes last e = cc
-only_placing (states.Running v) ns told h w notes last e = cc
-only_placing (states.Placing v) ns told h w notes last e = cc
-only_placing (states.Done t) ns told h w notes last e = cc
-only_placing (states.Checking v t i) ns told h w notes last e = cc
-only_placing states.Committed ns told h w notes last e = cc
+only_placing : (s : LineState) (ns : List Note) (contents : Option Contents) → places s ≡ false → (w : ℕ) (notes : List Note) (last : Option Contents) → state_of s ns contents ≡ Placing w notes last → ⊥
+only_placing states.Waiting ns contents h w notes last e = cc
+only_placing (states.Running v) ns contents h w notes last e = cc
+only_placing (states.Placing v) ns contents h w notes last e = cc
+only_placing (states.Done t) ns contents h w notes last e = cc
+only_placing (states.Checking v t i) ns contents h w notes last e = cc
+only_placing states.Committed ns contents h w notes last e = cc
 
 -- ---- what is no publication
-never : (s : LineState) (notes : List Note) (told : Option Told) (x : State) → x ≡ state_of s notes told → publishes s ≡ false
-    → (w : ℕ) (ns : List Note) → (x ≡ Running w ns) ⊎ ((last : Option Told) × (x ≡ Placing w ns last)) → ⊥
-never (states.Running v) notes told x e h w ns may = absurd (cc)
-never (states.Placing v) notes told x e h w ns may = absurd (cc)
-never states.Waiting notes told x e h w ns (inl r) = (let z : Waiting ≡ Running w ns = sym e ∙ r in cc)
-never (states.Done t) notes told x e h w ns (inl r) = (let z : state_of (states.Done t) notes told ≡ Running w ns = sym e ∙ r in cc)
-never (states.Checking v t i) notes told x e h w ns (inl r) = (let z : state_of (states.Checking v t i) notes told ≡ Running w ns = sym e ∙ r in cc)
-never states.Committed notes told x e h w ns (inl r) = (let z : state_of states.Committed notes told ≡ Running w ns = sym e ∙ r in cc)
-never states.Waiting notes told x e h w ns (inr r) = (let z : Waiting ≡ Placing w ns r.0 = sym e ∙ r.1 in cc)
-never (states.Done t) notes told x e h w ns (inr r) = (let z : state_of (states.Done t) notes told ≡ Placing w ns r.0 = sym e ∙ r.1 in cc)
-never (states.Checking v t i) notes told x e h w ns (inr r) = (let z : state_of (states.Checking v t i) notes told ≡ Placing w ns r.0 = sym e ∙ r.1 in cc)
-never states.Committed notes told x e h w ns (inr r) = (let z : state_of states.Committed notes told ≡ Placing w ns r.0 = sym e ∙ r.1 in cc)
+never : (s : LineState) (notes : List Note) (contents : Option Contents) (x : State) → x ≡ state_of s notes contents → publishes s ≡ false
+    → (w : ℕ) (ns : List Note) → (x ≡ Running w ns) ⊎ ((last : Option Contents) × (x ≡ Placing w ns last)) → ⊥
+never (states.Running v) notes contents x e h w ns may = absurd (cc)
+never (states.Placing v) notes contents x e h w ns may = absurd (cc)
+never states.Waiting notes contents x e h w ns (inl r) = (let z : Waiting ≡ Running w ns = sym e ∙ r in cc)
+never (states.Done t) notes contents x e h w ns (inl r) = (let z : state_of (states.Done t) notes contents ≡ Running w ns = sym e ∙ r in cc)
+never (states.Checking v t i) notes contents x e h w ns (inl r) = (let z : state_of (states.Checking v t i) notes contents ≡ Running w ns = sym e ∙ r in cc)
+never states.Committed notes contents x e h w ns (inl r) = (let z : state_of states.Committed notes contents ≡ Running w ns = sym e ∙ r in cc)
+never states.Waiting notes contents x e h w ns (inr r) = (let z : Waiting ≡ Placing w ns r.0 = sym e ∙ r.1 in cc)
+never (states.Done t) notes contents x e h w ns (inr r) = (let z : state_of (states.Done t) notes contents ≡ Placing w ns r.0 = sym e ∙ r.1 in cc)
+never (states.Checking v t i) notes contents x e h w ns (inr r) = (let z : state_of (states.Checking v t i) notes contents ≡ Placing w ns r.0 = sym e ∙ r.1 in cc)
+never states.Committed notes contents x e h w ns (inr r) = (let z : state_of states.Committed notes contents ≡ Placing w ns r.0 = sym e ∙ r.1 in cc)
 
 -- a state that is to be published is live
-live_of_published : (s : LineState) (notes : List Note) (told : Option Told) (x : State) → x ≡ state_of s notes told
-    → (w : ℕ) (ns : List Note) → (x ≡ Running w ns) ⊎ ((last : Option Told) × (x ≡ Placing w ns last)) → is_live s ≡ true
-live_of_published (states.Running v) notes told x e w ns may = refl
-live_of_published (states.Placing v) notes told x e w ns may = refl
-live_of_published states.Waiting notes told x e w ns may = absurd (never states.Waiting notes told x e refl w ns may)
-live_of_published (states.Done t) notes told x e w ns may = absurd (never (states.Done t) notes told x e refl w ns may)
-live_of_published (states.Checking v t i) notes told x e w ns may = absurd (never (states.Checking v t i) notes told x e refl w ns may)
-live_of_published states.Committed notes told x e w ns may = absurd (never states.Committed notes told x e refl w ns may)
+live_of_published : (s : LineState) (notes : List Note) (contents : Option Contents) (x : State) → x ≡ state_of s notes contents
+    → (w : ℕ) (ns : List Note) → (x ≡ Running w ns) ⊎ ((last : Option Contents) × (x ≡ Placing w ns last)) → is_live s ≡ true
+live_of_published (states.Running v) notes contents x e w ns may = refl
+live_of_published (states.Placing v) notes contents x e w ns may = refl
+live_of_published states.Waiting notes contents x e w ns may = absurd (never states.Waiting notes contents x e refl w ns may)
+live_of_published (states.Done t) notes contents x e w ns may = absurd (never (states.Done t) notes contents x e refl w ns may)
+live_of_published (states.Checking v t i) notes contents x e w ns may = absurd (never (states.Checking v t i) notes contents x e refl w ns may)
+live_of_published states.Committed notes contents x e w ns may = absurd (never states.Committed notes contents x e refl w ns may)
 
-noted_of_published : (s : LineState) (notes : List Note) (told : Option Told) (x : State) → x ≡ state_of s notes told
-    → (w : ℕ) (ns : List Note) → (x ≡ Running w ns) ⊎ ((last : Option Told) × (x ≡ Placing w ns last)) → ns ≡ notes
-noted_of_published (states.Running v) notes told x e w ns may = sym (publish_notes x w ns may) ∙ ap notes_of e
-noted_of_published (states.Placing v) notes told x e w ns may = sym (publish_notes x w ns may) ∙ ap notes_of e
-noted_of_published states.Waiting notes told x e w ns may = absurd (never states.Waiting notes told x e refl w ns may)
-noted_of_published (states.Done t) notes told x e w ns may = absurd (never (states.Done t) notes told x e refl w ns may)
-noted_of_published (states.Checking v t i) notes told x e w ns may = absurd (never (states.Checking v t i) notes told x e refl w ns may)
-noted_of_published states.Committed notes told x e w ns may = absurd (never states.Committed notes told x e refl w ns may)
+noted_of_published : (s : LineState) (notes : List Note) (contents : Option Contents) (x : State) → x ≡ state_of s notes contents
+    → (w : ℕ) (ns : List Note) → (x ≡ Running w ns) ⊎ ((last : Option Contents) × (x ≡ Placing w ns last)) → ns ≡ notes
+noted_of_published (states.Running v) notes contents x e w ns may = sym (publish_notes x w ns may) ∙ ap notes_of e
+noted_of_published (states.Placing v) notes contents x e w ns may = sym (publish_notes x w ns may) ∙ ap notes_of e
+noted_of_published states.Waiting notes contents x e w ns may = absurd (never states.Waiting notes contents x e refl w ns may)
+noted_of_published (states.Done t) notes contents x e w ns may = absurd (never (states.Done t) notes contents x e refl w ns may)
+noted_of_published (states.Checking v t i) notes contents x e w ns may = absurd (never (states.Checking v t i) notes contents x e refl w ns may)
+noted_of_published states.Committed notes contents x e w ns may = absurd (never states.Committed notes contents x e refl w ns may)
 
-last_of_placing : (s : LineState) (notes : List Note) (told : Option Told) (x : State) → x ≡ state_of s notes told
-    → (w : ℕ) (ns : List Note) (last : Option Told) → x ≡ Placing w ns last → told ≡ last
-last_of_placing states.Waiting notes told x e w ns last h = (let z : Waiting ≡ Placing w ns last = sym e ∙ h in absurd (cc))
-last_of_placing (states.Running v) notes told x e w ns last h = (let z : Running v notes ≡ Placing w ns last = sym e ∙ h in absurd (cc))
-last_of_placing (states.Placing v) notes told x e w ns last h = (let z : Placing v notes told ≡ Placing w ns last = sym e ∙ h in cc)
-last_of_placing (states.Done t) notes told x e w ns last h = (let z : state_of (states.Done t) notes told ≡ Placing w ns last = sym e ∙ h in absurd (cc))
-last_of_placing (states.Checking v t i) notes told x e w ns last h = (let z : state_of (states.Checking v t i) notes told ≡ Placing w ns last = sym e ∙ h in absurd (cc))
-last_of_placing states.Committed notes told x e w ns last h = (let z : state_of states.Committed notes told ≡ Placing w ns last = sym e ∙ h in absurd (cc))
+last_of_placing : (s : LineState) (notes : List Note) (contents : Option Contents) (x : State) → x ≡ state_of s notes contents
+    → (w : ℕ) (ns : List Note) (last : Option Contents) → x ≡ Placing w ns last → contents ≡ last
+last_of_placing states.Waiting notes contents x e w ns last h = (let z : Waiting ≡ Placing w ns last = sym e ∙ h in absurd (cc))
+last_of_placing (states.Running v) notes contents x e w ns last h = (let z : Running v notes ≡ Placing w ns last = sym e ∙ h in absurd (cc))
+last_of_placing (states.Placing v) notes contents x e w ns last h = (let z : Placing v notes contents ≡ Placing w ns last = sym e ∙ h in cc)
+last_of_placing (states.Done t) notes contents x e w ns last h = (let z : state_of (states.Done t) notes contents ≡ Placing w ns last = sym e ∙ h in absurd (cc))
+last_of_placing (states.Checking v t i) notes contents x e w ns last h = (let z : state_of (states.Checking v t i) notes contents ≡ Placing w ns last = sym e ∙ h in absurd (cc))
+last_of_placing states.Committed notes contents x e w ns last h = (let z : state_of states.Committed notes contents ≡ Placing w ns last = sym e ∙ h in absurd (cc))
 
 -- ---- a line that is there
 module _ (plan : Planned) (a : Parts) (kept : IsKept plan a) (n : ℕ) (there : IsLine (board_of plan.base a) n) where
@@ -158,13 +158,13 @@ module _ (plan : Planned) (a : Parts) (kept : IsKept plan a) (n : ℕ) (there : 
   lines_put : (l : store.Line) → (store.with_line a.store n l).lines ≡ set a.store.lines (n - a.states.first) l
   lines_put l = ap (λ (x : store.Store). x.lines) (put_is a.store n l store_line) ∙ ap (λ x. set a.store.lines (n - x) l) kept.same_first
 
-  state_is : (row_at (board_of plan.base a) n).state ≡ state_of (get_or a.states.rows (n - a.states.first) no_row).state (notes_by plan.base (get_or a.rows (n - a.states.first) no_notes).notes) (get_or a.rows (n - a.states.first) no_notes).told
+  state_is : (row_at (board_of plan.base a) n).state ≡ state_of (get_or a.states.rows (n - a.states.first) no_row).state (notes_by plan.base (get_or a.rows (n - a.states.first) no_notes).notes) (get_or a.rows (n - a.states.first) no_notes).contents
   state_is = ap (λ (x : Row). x.state) row_is
 
   pub noted_is : (w : ℕ) (notes : List Note) → MayPublish (board_of plan.base a) w n notes → notes ≡ notes_by plan.base (get_or a.rows (n - a.states.first) no_notes).notes
   noted_is w notes may = noted_of_published _ _ _ _ state_is w notes may
 
-  pub last_is : (w : ℕ) (notes : List Note) (last : Option Told) → (row_at (board_of plan.base a) n).state ≡ Placing w notes last → (get_or a.rows (n - a.states.first) no_notes).told ≡ last
+  pub last_is : (w : ℕ) (notes : List Note) (last : Option Contents) → (row_at (board_of plan.base a) n).state ≡ Placing w notes last → (get_or a.rows (n - a.states.first) no_notes).contents ≡ last
   last_is w notes last h = last_of_placing _ _ _ _ state_is w notes last h
 
   pub live_there : (w : ℕ) (notes : List Note) → MayPublish (board_of plan.base a) w n notes → IsSomeAnd (state_at a.states n) (λ s. is_live s ≡ true)
@@ -182,10 +182,10 @@ module _ (plan : Planned) (a : Parts) (kept : IsKept plan a) (w n : ℕ) (held :
   has_state h = none-some _ (sym h ∙ state_there plan a kept n held_line)
 
   shown_state : (s : LineState) → state_at a.states n ≡ Some s
-      → (row_at (board_of plan.base a) n).state ≡ state_of s (notes_by plan.base (get_or a.rows (n - a.states.first) no_notes).notes) (get_or a.rows (n - a.states.first) no_notes).told
+      → (row_at (board_of plan.base a) n).state ≡ state_of s (notes_by plan.base (get_or a.rows (n - a.states.first) no_notes).notes) (get_or a.rows (n - a.states.first) no_notes).contents
   shown_state s h =
       ap (λ (x : Row). x.state) (row_is plan a kept n held_line)
-      ∙ ap (λ (x : LineState). state_of x (notes_by plan.base (get_or a.rows (n - a.states.first) no_notes).notes) (get_or a.rows (n - a.states.first) no_notes).told) (held_state s h)
+      ∙ ap (λ (x : LineState). state_of x (notes_by plan.base (get_or a.rows (n - a.states.first) no_notes).notes) (get_or a.rows (n - a.states.first) no_notes).contents) (held_state s h)
 
   pub to_publish : (s : LineState) → state_at a.states n ≡ Some s → publishes s ≡ true → MayPublish (board_of plan.base a) w n (notes_at (board_of plan.base a) n)
   to_publish s h p = published_by s _ _ _ w (shown_state s h) held p
@@ -199,15 +199,15 @@ module _ (plan : Planned) (a : Parts) (kept : IsKept plan a) (w n : ℕ) (held :
       never s _ _ _ (shown_state s h) p w notes
       (subst (λ x. MayPublish (board_of plan.base a) w x notes) (one_line m (publish_held _ w notes may)) may)
 
-  pub is_placed : (s : LineState) → state_at a.states n ≡ Some s → places s ≡ true → (last : Option Told) × ((row_at (board_of plan.base a) n).state ≡ Placing w (notes_at (board_of plan.base a) n) last)
+  pub is_placed : (s : LineState) → state_at a.states n ≡ Some s → places s ≡ true → (last : Option Contents) × ((row_at (board_of plan.base a) n).state ≡ Placing w (notes_at (board_of plan.base a) n) last)
   is_placed s h p = placing_by s _ _ _ w (shown_state s h) held p
 
-  pub not_placing : (s : LineState) → state_at a.states n ≡ Some s → places s ≡ false → (m : ℕ) (notes : List Note) (last : Option Told) → (row_at (board_of plan.base a) m).state ≢ Placing w notes last
+  pub not_placing : (s : LineState) → state_at a.states n ≡ Some s → places s ≡ false → (m : ℕ) (notes : List Note) (last : Option Contents) → (row_at (board_of plan.base a) m).state ≢ Placing w notes last
   not_placing s h p m notes last e =
       only_placing s _ _ p w notes last (sym (shown_state s h) ∙ subst (λ x. (row_at (board_of plan.base a) x).state ≡ Placing w notes last) (one_line m (ap holder e)) e)
 
 -- the version of the last act
-last_of : State → Option Told
+last_of : State → Option Contents
 last_of (Placing w notes last) = last
 last_of Waiting = None
 last_of (Running w notes) = None
@@ -216,7 +216,7 @@ last_of (Checking w notes answer stamp compared) = None
 last_of (Committed answer) = None
 
 -- ---- an act: the entries of the line are others
-module _ (plan : Planned) (a : Parts) (kept : IsKept plan a) (w n : ℕ) (notes : List Note) (may : MayPublish (board_of plan.base a) w n notes) (v : Told) where
+module _ (plan : Planned) (a : Parts) (kept : IsKept plan a) (w n : ℕ) (notes : List Note) (may : MayPublish (board_of plan.base a) w n notes) (v : Contents) where
   pub act_held : holder (row_at (board_of plan.base a) n).state ≡ Some w
   act_held = publish_held _ w notes may
 
@@ -228,7 +228,7 @@ module _ (plan : Planned) (a : Parts) (kept : IsKept plan a) (w n : ℕ) (notes 
 
   module _ (q : Parts) (l : store.Line) (k : Kept) (come : Course) (states_is : q.states ≡ moved a.states n (states.Placing w)) (store_is : q.store ≡ store.with_line a.store n l)
       (rows_is : q.rows ≡ set a.rows (n - a.states.first) k)
-      (k_is : k ≡ record { notes = (get_or a.rows (n - a.states.first) no_notes).notes; told = Some v; course = come; changed = a.clock + 1 })
+      (k_is : k ≡ record { notes = (get_or a.rows (n - a.states.first) no_notes).notes; contents = Some v; course = come; changed = a.clock + 1 })
       (hands_is : q.hands ≡ a.hands) (clock_is : q.clock ≡ a.clock + 1) (latest_is : q.latest ≡ a.latest) where
     s : attempt.Row
     s = record { state = states.Placing w; next = (get_or a.states.rows (n - a.states.first) no_row).next }
@@ -271,7 +271,7 @@ module _ (plan : Planned) (a : Parts) (kept : IsKept plan a) (w n : ℕ) (notes 
         ∙ ap (λ (x : Kept). x.course) (get_or-set_same a.rows (n - a.states.first) k no_notes act_place ∙ k_is)
 
     act_under : Fits (board_of plan.base a) n notes v → FirstPlaced l v.attempt v.writes come.placed
-        → (u : ℕ) (ns : List Note) (last : Option Told) → r.state ≡ Placing u ns last → IsUnderWay n r ns last (kept_at q n).course
+        → (u : ℕ) (ns : List Note) (last : Option Contents) → r.state ≡ Placing u ns last → IsUnderWay n r ns last (kept_at q n).course
     unfolding last_of
     act_under fits first u ns last h =
         let same : Placing w notes (Some v) ≡ Placing u ns last = sym (ap (λ (x : Row). x.state) r_is) ∙ h in
@@ -319,7 +319,7 @@ module _ (plan : Planned) (a : Parts) (kept : IsKept plan a) (w n : ℕ) (notes 
   -- all is published
   module _ (q : Parts) (k : Kept) (states_is : q.states ≡ moved a.states n (states.Done None)) (store_is : q.store ≡ a.store)
       (rows_is : q.rows ≡ set a.rows (n - a.states.first) k)
-      (k_is : k ≡ record { notes = (get_or a.rows (n - a.states.first) no_notes).notes; told = Some v; course = (get_or a.rows (n - a.states.first) no_notes).course; changed = (get_or a.rows (n - a.states.first) no_notes).changed })
+      (k_is : k ≡ record { notes = (get_or a.rows (n - a.states.first) no_notes).notes; contents = Some v; course = (get_or a.rows (n - a.states.first) no_notes).course; changed = (get_or a.rows (n - a.states.first) no_notes).changed })
       (hands_is : q.hands ≡ set a.hands w None) (clock_is : q.clock ≡ a.clock) (latest_is : q.latest ≡ a.latest) where
     d : attempt.Row
     d = record { state = states.Done None; next = (get_or a.states.rows (n - a.states.first) no_row).next }
@@ -366,7 +366,7 @@ module _ (plan : Planned) (a : Parts) (kept : IsKept plan a) (w n : ℕ) (notes 
         (λ u ns last h. (let z : Done notes v.answer None ≡ Placing u ns last = sym (ap (λ (x : Row). x.state) t_is) ∙ h in absurd (cc)))
 
 -- ---- what an act is
-pub act_left : (r : Row) (v : Told) (act : Act) → IsAct r v act → (act ≡ acts.Finish → ⊥) → AllPlaced r v → NoneLeft r v → ⊥
+pub act_left : (r : Row) (v : Contents) (act : Act) → IsAct r v act → (act ≡ acts.Finish → ⊥) → AllPlaced r v → NoneLeft r v → ⊥
 act_left r v (acts.Write k count) h not all none = h.1.apart (all k h.0 h.1.written)
 act_left r v (acts.Lift k) h not all none = h.1.left.2 (none k h.1.left.0 h.1.left.1)
 act_left r v acts.Finish h not all none = not refl
@@ -377,28 +377,28 @@ no_other (acts.Lift k) f l w = l k refl
 no_other acts.Finish f l w = f refl
 
 -- ---- whether a version fits
-pub not_fits : (b : Board) (n : ℕ) (notes : List Note) (v : Told) (a : ℕ) → suc a ≡ (row_at b n).next → ((v.line ≡ n) × (v.attempt ≡ a) → ⊥) → Decides false (Fits b n notes v)
+pub not_fits : (b : Board) (n : ℕ) (notes : List Note) (v : Contents) (a : ℕ) → suc a ≡ (row_at b n).next → ((v.line ≡ n) × (v.attempt ≡ a) → ⊥) → Decides false (Fits b n notes v)
 not_fits b n notes v a next ne = (λ h. absurd (cc), λ (f : Fits b n notes v). absurd (ne (f.same_line, omega (arith, f.same_attempt, next))))
 
-pub fits_by : (b : Board) (n : ℕ) (notes : List Note) (v : Told) (a : ℕ) → suc a ≡ (row_at b n).next → (r : Bool) → v.line ≡ n → v.attempt ≡ a → Decides r (v.reads ≡ notes) → Decides r (Fits b n notes v)
+pub fits_by : (b : Board) (n : ℕ) (notes : List Note) (v : Contents) (a : ℕ) → suc a ≡ (row_at b n).next → (r : Bool) → v.line ≡ n → v.attempt ≡ a → Decides r (v.reads ≡ notes) → Decides r (Fits b n notes v)
 fits_by b n notes v a next r line attempt d = (
   λ h. record { same_line = line; same_attempt = omega (arith, attempt, next); same_notes = d.0 h },
   λ (f : Fits b n notes v). d.1 f.same_notes,
 )
 
 -- a line that is placing has a version
-pub placing_version : (b : Board) (w n : ℕ) (notes : List Note) (last : Option Told) → (row_at b n).state ≡ Placing w notes last → (last ≡ None → ⊥) → IsPlacing b w last
+pub placing_version : (b : Board) (w n : ℕ) (notes : List Note) (last : Option Contents) → (row_at b n).state ≡ Placing w notes last → (last ≡ None → ⊥) → IsPlacing b w last
 placing_version b w n notes None h some = absurd (some refl)
 placing_version b w n notes (Some v) h some = (n, notes, h)
 
 -- ---- a publication goes on
-more_notes : (b : Board) (w n : ℕ) (notes : List Note) (v : Told) → (row_at b n).state ≡ Placing w notes (Some v) → notes ≡ notes_at b n
+more_notes : (b : Board) (w n : ℕ) (notes : List Note) (v : Contents) → (row_at b n).state ≡ Placing w notes (Some v) → notes ≡ notes_at b n
 more_notes b w n notes v here = sym (ap notes_of here)
 
-pub more_may : (b : Board) (w n : ℕ) (notes : List Note) (v : Told) → (row_at b n).state ≡ Placing w notes (Some v) → MayPublish b w n (notes_at b n)
+pub more_may : (b : Board) (w n : ℕ) (notes : List Note) (v : Contents) → (row_at b n).state ≡ Placing w notes (Some v) → MayPublish b w n (notes_at b n)
 more_may b w n notes v here = subst (λ (ns : List Note). MayPublish b w n ns) (more_notes b w n notes v here) (inr (Some v, here))
 
-pub more_fits : (b : Board) (w n : ℕ) (notes : List Note) (v : Told) (come : Course) → (row_at b n).state ≡ Placing w notes (Some v) → UnderWay n (row_at b n) notes v come → Fits b n (notes_at b n) v
+pub more_fits : (b : Board) (w n : ℕ) (notes : List Note) (v : Contents) (come : Course) → (row_at b n).state ≡ Placing w notes (Some v) → UnderWay n (row_at b n) notes v come → Fits b n (notes_at b n) v
 more_fits b w n notes v come here under = record {
   same_line = under.same_line;
   same_attempt = under.same_attempt;

@@ -6,7 +6,7 @@ use Rattle.std.proofs.lemmas.Bool.{cases_lt, lt-ltb, le-ltb}
 use Rattle.std.proofs.lemmas.List.{get_or_past}
 use Rattle.std.proofs.lemmas.Option.{none-some, slice_get-get_or}
 use Rattle.read_set.specs.Plans.{Planned}
-use Rattle.read_set.specs.Settling.{Told}
+use Rattle.read_set.specs.Settling.{Contents}
 use Rattle.read_set.specs.declared.notes.Note.{Note}
 use Rattle.attempts.specs.Moves.{no_row}
 use Rattle.attempts.specs.States.{States, state_at, next_at, newest_at, newest_of, is_live, is_waiting}
@@ -30,37 +30,37 @@ held_there b n w h = within_board b n (λ d. none-some w (sym (ap holder d) ∙ 
 pub live_there : (b : Board) (n : ℕ) → live_of (row_at b n).state ≡ 1 → IsLine b n
 live_there b n h = within_board b n (λ d. (let z : 0 ≡ 1 = sym (ap live_of d) ∙ h in omega (arith, z)))
 
-pub held_waits : (s : LineState) (notes : List Note) (told : Option Told) (w : ℕ) → holder (state_of s notes told) ≡ Some w → is_waiting s ≡ false
-held_waits states.Waiting notes told w h = absurd (none-some w h)
-held_waits (states.Running v) notes told w h = refl
-held_waits (states.Placing v) notes told w h = refl
-held_waits (states.Done t) notes told w h = refl
-held_waits (states.Checking v t i) notes told w h = refl
-held_waits states.Committed notes told w h = refl
+pub held_waits : (s : LineState) (notes : List Note) (contents : Option Contents) (w : ℕ) → holder (state_of s notes contents) ≡ Some w → is_waiting s ≡ false
+held_waits states.Waiting notes contents w h = absurd (none-some w h)
+held_waits (states.Running v) notes contents w h = refl
+held_waits (states.Placing v) notes contents w h = refl
+held_waits (states.Done t) notes contents w h = refl
+held_waits (states.Checking v t i) notes contents w h = refl
+held_waits states.Committed notes contents w h = refl
 
-held_live : (s : LineState) (notes : List Note) (told : Option Told) → live_of (state_of s notes told) ≡ 1 → is_live s ≡ true
-held_live states.Waiting notes told h = absurd (omega (arith, h))
-held_live (states.Running v) notes told h = refl
-held_live (states.Placing v) notes told h = refl
-held_live (states.Done t) notes told h = refl
-held_live (states.Checking v t i) notes told h = refl
-held_live states.Committed notes told h = absurd (omega (arith, h))
+held_live : (s : LineState) (notes : List Note) (contents : Option Contents) → live_of (state_of s notes contents) ≡ 1 → is_live s ≡ true
+held_live states.Waiting notes contents h = absurd (omega (arith, h))
+held_live (states.Running v) notes contents h = refl
+held_live (states.Placing v) notes contents h = refl
+held_live (states.Done t) notes contents h = refl
+held_live (states.Checking v t i) notes contents h = refl
+held_live states.Committed notes contents h = absurd (omega (arith, h))
 
-live_notes : (s : LineState) (notes : List Note) (told : Option Told) → live_of (state_of s notes told) ≡ 1 → notes_of (state_of s notes told) ≡ notes
-live_notes states.Waiting notes told h = absurd (omega (arith, h))
-live_notes (states.Running v) notes told h = refl
-live_notes (states.Placing v) notes told h = refl
-live_notes (states.Done t) notes told h = refl
-live_notes (states.Checking v t i) notes told h = refl
-live_notes states.Committed notes told h = absurd (omega (arith, h))
+live_notes : (s : LineState) (notes : List Note) (contents : Option Contents) → live_of (state_of s notes contents) ≡ 1 → notes_of (state_of s notes contents) ≡ notes
+live_notes states.Waiting notes contents h = absurd (omega (arith, h))
+live_notes (states.Running v) notes contents h = refl
+live_notes (states.Placing v) notes contents h = refl
+live_notes (states.Done t) notes contents h = refl
+live_notes (states.Checking v t i) notes contents h = refl
+live_notes states.Committed notes contents h = absurd (omega (arith, h))
 
-held_notes : (s : LineState) (notes : List Note) (told : Option Told) (w : ℕ) → holder (state_of s notes told) ≡ Some w → notes_of (state_of s notes told) ≡ notes
-held_notes states.Waiting notes told w h = absurd (none-some w h)
-held_notes (states.Running v) notes told w h = refl
-held_notes (states.Placing v) notes told w h = refl
-held_notes (states.Done t) notes told w h = refl
-held_notes (states.Checking v t i) notes told w h = refl
-held_notes states.Committed notes told w h = absurd (none-some w h)
+held_notes : (s : LineState) (notes : List Note) (contents : Option Contents) (w : ℕ) → holder (state_of s notes contents) ≡ Some w → notes_of (state_of s notes contents) ≡ notes
+held_notes states.Waiting notes contents w h = absurd (none-some w h)
+held_notes (states.Running v) notes contents w h = refl
+held_notes (states.Placing v) notes contents w h = refl
+held_notes (states.Done t) notes contents w h = refl
+held_notes (states.Checking v t i) notes contents w h = refl
+held_notes states.Committed notes contents w h = absurd (none-some w h)
 
 pub newest_from : (t : States) (n : ℕ) → t.first ≤ n → newest_at t n ≡ option_and_then newest_of (slice_get t.rows (n - t.first))
 newest_from t n l = rw (le-ltb n t.first l) refl
@@ -110,7 +110,7 @@ module _ (plan : Planned) (a : Parts) (kept : IsKept plan a) where
         ∙ ap (option_map (λ (r : attempt.Row). r.state)) (slice_get-get_or a.states.rows (n - a.states.first) no_row (omega (arith, within, kept.all_states)))
 
     pub state_shown : (row_at (board_of plan.base a) n).state
-        ≡ state_of (get_or a.states.rows (n - a.states.first) no_row).state (notes_by plan.base (get_or a.rows (n - a.states.first) no_notes).notes) (get_or a.rows (n - a.states.first) no_notes).told
+        ≡ state_of (get_or a.states.rows (n - a.states.first) no_row).state (notes_by plan.base (get_or a.rows (n - a.states.first) no_notes).notes) (get_or a.rows (n - a.states.first) no_notes).contents
     state_shown = ap (λ (r : Row). r.state) (row_there plan.base a n there)
 
     pub state_somewhere : state_at a.states n ≡ None → ⊥
@@ -131,12 +131,12 @@ module _ (plan : Planned) (a : Parts) (kept : IsKept plan a) where
     -- an attempt goes on, in the table too
     pub live_stands : live_of (row_at (board_of plan.base a) n).state ≡ 1 → IsSomeAnd (state_at a.states n) (λ s. is_live s ≡ true)
     live_stands h = is_some_and (state_at a.states n) (get_or a.states.rows (n - a.states.first) no_row).state (λ s. is_live s ≡ true) state_stands
-        (held_live (get_or a.states.rows (n - a.states.first) no_row).state (notes_by plan.base (get_or a.rows (n - a.states.first) no_notes).notes) (get_or a.rows (n - a.states.first) no_notes).told (sym (ap live_of state_shown) ∙ h))
+        (held_live (get_or a.states.rows (n - a.states.first) no_row).state (notes_by plan.base (get_or a.rows (n - a.states.first) no_notes).notes) (get_or a.rows (n - a.states.first) no_notes).contents (sym (ap live_of state_shown) ∙ h))
 
     pub notes_live : live_of (row_at (board_of plan.base a) n).state ≡ 1 → notes_of (row_at (board_of plan.base a) n).state ≡ notes_by plan.base (get_or a.rows (n - a.states.first) no_notes).notes
     notes_live h = ap notes_of state_shown
-        ∙ live_notes (get_or a.states.rows (n - a.states.first) no_row).state (notes_by plan.base (get_or a.rows (n - a.states.first) no_notes).notes) (get_or a.rows (n - a.states.first) no_notes).told (sym (ap live_of state_shown) ∙ h)
+        ∙ live_notes (get_or a.states.rows (n - a.states.first) no_row).state (notes_by plan.base (get_or a.rows (n - a.states.first) no_notes).notes) (get_or a.rows (n - a.states.first) no_notes).contents (sym (ap live_of state_shown) ∙ h)
 
     pub notes_held : (w : ℕ) → holder (row_at (board_of plan.base a) n).state ≡ Some w → notes_of (row_at (board_of plan.base a) n).state ≡ notes_by plan.base (get_or a.rows (n - a.states.first) no_notes).notes
     notes_held w h = ap notes_of state_shown
-        ∙ held_notes (get_or a.states.rows (n - a.states.first) no_row).state (notes_by plan.base (get_or a.rows (n - a.states.first) no_notes).notes) (get_or a.rows (n - a.states.first) no_notes).told w (sym (ap holder state_shown) ∙ h)
+        ∙ held_notes (get_or a.states.rows (n - a.states.first) no_row).state (notes_by plan.base (get_or a.rows (n - a.states.first) no_notes).notes) (get_or a.rows (n - a.states.first) no_notes).contents w (sym (ap holder state_shown) ∙ h)

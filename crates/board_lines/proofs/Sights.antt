@@ -17,7 +17,7 @@ use Rattle.version_store.specs.declared.entry.Found.TheVariants.{Named, Suspect}
 use Rattle.board_steps.specs.Board.{Row, EachNote, row_at, found, record_of, seen_entry, value_at, written_at}
 use Rattle.board_steps.specs.Steps.{HasNone}
 use Rattle.board_steps.proofs.Entries.{same_keys}
-use Rattle.board_lines.specs.Notes.{Noted, found_by, is_noted, IsPlaced, key_and_name, key_and_name_of, note_by, notes_by, note_with, told_at}
+use Rattle.board_lines.specs.Notes.{Noted, found_by, is_noted, IsPlaced, key_and_name, key_and_name_of, note_by, notes_by, note_with, contents_at}
 use Rattle.board_lines.specs.Parts.{Parts, board_of, IsKept}
 use Rattle.board_lines.specs.Sights.{IsNameOf}
 use Rattle.board_lines.specs.declared.notes.PlacedName.{PlacedName}
@@ -25,30 +25,30 @@ use Rattle.board_lines.proofs.Rows.{entries_at}
 
 -- ---- names and records of what is seen
 sight_some : {J : Type 0} (b : Bool) (base : Entries) (k : Key) (p : ℕ × Shown) (x : PlacedName J)
-    → IsNameOf (if b then SeesSuspect p.0 else Sees (Made p.0 p.1.attempt) p.1.told) x
-    → (if b then Suspect p.0 else Named (Made p.0 p.1.attempt) ≡ Named x.name) × (found_by base k (option_map told_at x.place) ≡ written_at p.1 k)
+    → IsNameOf (if b then SeesSuspect p.0 else Sees (Made p.0 p.1.attempt) p.1.contents) x
+    → (if b then Suspect p.0 else Named (Made p.0 p.1.attempt) ≡ Named x.name) × (found_by base k (option_map contents_at x.place) ≡ written_at p.1 k)
 sight_some true base k p x h = absurd h
 sight_some false base k p x h = (ap Named (sym h.0), ap (found_by base k) h.1)
 
 pub sight_named : {J : Type 0} (base : Entries) (k : Key) (o : Option (ℕ × Shown)) (x : PlacedName J)
-    → IsNameOf (sight_of o) x → (found_of o ≡ Named x.name) × (found_by base k (option_map told_at x.place) ≡ record_of k o (record_at base k))
-sight_named base k None x h = (ap Named (sym h.0), ap (λ p. found_by base k (option_map told_at p)) h.1)
+    → IsNameOf (sight_of o) x → (found_of o ≡ Named x.name) × (found_by base k (option_map contents_at x.place) ≡ record_of k o (record_at base k))
+sight_named base k None x h = (ap Named (sym h.0), ap (λ p. found_by base k (option_map contents_at p)) h.1)
 sight_named base k (Some p) x h = sight_some p.1.suspect base k p x h
 
 placed_some : {J : Type 0} (b : Bool) (k : Key) (p : ℕ × Shown) (x : PlacedName J)
-    → IsNameOf (if b then SeesSuspect p.0 else Sees (Made p.0 p.1.attempt) p.1.told) x → IsPlaced (note_with k x)
+    → IsNameOf (if b then SeesSuspect p.0 else Sees (Made p.0 p.1.attempt) p.1.contents) x → IsPlaced (note_with k x)
 placed_some true k p x h = absurd h
 placed_some false k p x h = (
   λ e. absurd (let z : Made p.0 p.1.attempt ≡ Base = sym h.0 ∙ e in cc),
-  λ e. absurd (none-some p.1.told (sym e ∙ h.1)),
+  λ e. absurd (none-some p.1.contents (sym e ∙ h.1)),
 )
 
 -- what is seen has no place just where it is the base's
 pub sight_placed : {J : Type 0} (k : Key) (o : Option (ℕ × Shown)) (x : PlacedName J) → IsNameOf (sight_of o) x → IsPlaced (note_with k x)
-sight_placed k None x h = (λ e. ap (option_map told_at) h.1, λ e. h.0)
+sight_placed k None x h = (λ e. ap (option_map contents_at) h.1, λ e. h.0)
 sight_placed k (Some p) x h = placed_some p.1.suspect k p x h
 
-suspect_some : (b : Bool) (p : ℕ × Shown) (m : ℕ) → if b then SeesSuspect p.0 else Sees (Made p.0 p.1.attempt) p.1.told ≡ SeesSuspect m
+suspect_some : (b : Bool) (p : ℕ × Shown) (m : ℕ) → if b then SeesSuspect p.0 else Sees (Made p.0 p.1.attempt) p.1.contents ≡ SeesSuspect m
     → if b then Suspect p.0 else Named (Made p.0 p.1.attempt) ≡ Suspect m
 suspect_some true p m h = (let e : p.0 ≡ m = cc in ap Suspect e)
 suspect_some false p m h = absurd (cc)
@@ -70,7 +70,7 @@ module _ (plan : Planned) (a : Parts) (kept : IsKept plan a) where
 
   -- what was seen has its name and its record on the board
   pub named_seen : {J : Type 0} (n : ℕ) (k : Key) (x : PlacedName J) → IsNameOf (sight_at (store.line_at a.store) n k) x
-      → (found (row_at (board_of plan.base a)) n k ≡ Named x.name) × (found_by plan.base k (option_map told_at x.place) ≡ value_at plan (row_at (board_of plan.base a)) n k)
+      → (found (row_at (board_of plan.base a)) n k ≡ Named x.name) × (found_by plan.base k (option_map contents_at x.place) ≡ value_at plan (row_at (board_of plan.base a)) n k)
   named_seen n k x h =
       let r = sight_named plan.base k (visible (store.line_at a.store) n k) x h in (
         found_seen n k ∙ r.0,
@@ -127,7 +127,7 @@ notes_past base [] i h = refl
 notes_past base (n ∷ ns) zero h = absurd (omega (arith, h))
 notes_past base (n ∷ ns) (suc i) h = notes_past base ns i (omega (arith, h))
 
-pub note_is : {J : Type 0} (base : Entries) (k : Key) (seen : PlacedName J) (v : Option Record) → found_by base k (option_map told_at seen.place) ≡ v
+pub note_is : {J : Type 0} (base : Entries) (k : Key) (seen : PlacedName J) (v : Option Record) → found_by base k (option_map contents_at seen.place) ≡ v
     → note_by base (note_with k seen) ≡ record { key = k; name = seen.name; found = v }
 note_is base k seen v h = ap (λ (x : Option Record). record { key = k; name = seen.name; found = x }) h
 

@@ -26,11 +26,11 @@ module _ (plan : Planned) (a : Parts) (kept : IsKept plan a) (n w : ℕ) (waits 
   abbrev p : ℕ
   p = n - a.states.first
 
-  told : (a.states.first ≤ n) × (p < length a.states.rows) × ((get_or a.states.rows p no_row).state ≡ states.Waiting)
-  told = state_is a.states n states.Waiting waits
+  contents : (a.states.first ≤ n) × (p < length a.states.rows) × ((get_or a.states.rows p no_row).state ≡ states.Waiting)
+  contents = state_is a.states n states.Waiting waits
 
   pub there : IsLine (board_of plan.base a) n
-  there = is_there plan.base a n told.0 (omega (arith, told.1, kept.all_states))
+  there = is_there plan.base a n contents.0 (omega (arith, contents.1, kept.all_states))
 
   at : row_at (board_of plan.base a) n ≡ row_by plan.base a p
   at = row_there plan.base a n there
@@ -41,7 +41,7 @@ module _ (plan : Planned) (a : Parts) (kept : IsKept plan a) (n w : ℕ) (waits 
     free = free a.hands (board_of plan.base a) kept.hand refl w hand;
     waiting =
         ap (λ (x : Row). x.state) at
-        ∙ ap (λ s. state_of s (notes_by plan.base (get_or a.rows p no_notes).notes) (get_or a.rows p no_notes).told) told.2;
+        ∙ ap (λ s. state_of s (notes_by plan.base (get_or a.rows p no_notes).notes) (get_or a.rows p no_notes).contents) contents.2;
   }
 
   -- the number of the next attempt
@@ -52,7 +52,7 @@ module _ (plan : Planned) (a : Parts) (kept : IsKept plan a) (n w : ℕ) (waits 
   attempts_returns h = (may_take, omega (arith, next_there (2 ^ 32) h), refl, refl)
 
   module _ (q : Parts) (k : Kept) (states_is : q.states ≡ taken a.states n w) (store_is : q.store ≡ a.store)
-      (rows_is : q.rows ≡ set a.rows p k) (k_is : k ≡ record { notes = []; told = (get_or a.rows p no_notes).told; course = (get_or a.rows p no_notes).course; changed = (get_or a.rows p no_notes).changed })
+      (rows_is : q.rows ≡ set a.rows p k) (k_is : k ≡ record { notes = []; contents = (get_or a.rows p no_notes).contents; course = (get_or a.rows p no_notes).course; changed = (get_or a.rows p no_notes).changed })
       (hands_is : q.hands ≡ set a.hands w (Some n)) (within : w < length a.hands) (clock_is : q.clock ≡ a.clock) (latest_is : q.latest ≡ a.latest) where
     s : attempt.Row
     s = record { state = states.Running w; next = (get_or a.states.rows p no_row).next + 1 }
@@ -62,7 +62,7 @@ module _ (plan : Planned) (a : Parts) (kept : IsKept plan a) (n w : ℕ) (waits 
 
     puts : Puts plan.base a q n r
     unfolding s r
-    puts = puts_of plan.base a q n s k (get_or a.store.lines p store.no_entries) kept.all_states kept.all_entries (omega (arith, told.1, kept.all_states))
+    puts = puts_of plan.base a q n s k (get_or a.store.lines p store.no_entries) kept.all_states kept.all_entries (omega (arith, contents.1, kept.all_states))
         (ap (λ (x : States). x.first) states_is)
         (ap (λ (x : States). x.rows) states_is)
         (ap (λ (x : store.Store). x.first) store_is)

@@ -13,7 +13,7 @@ use Rattle.circ_records.specs.Keys.{key_cmp}
 use Rattle.circ_records.specs.Records.{Entries, record_at}
 use Rattle.circ_records.specs.declared.key.Key.{Key}
 use Rattle.circ_records.specs.declared.record.Record.{Record}
-use Rattle.read_set.specs.Settling.{Told}
+use Rattle.read_set.specs.Settling.{Contents}
 use Rattle.version_store.specs.Entries.{Shown, Line, AllOf, IsLeastLeft, shown_by}
 use Rattle.version_store.proofs.Walks.{Rising, not_below, not_both, head_or_tail, at_head, same_key}
 use Rattle.board_steps.specs.Board.{Row}
@@ -73,7 +73,7 @@ pub none_if_none : (o : Option Shown) (a : ℕ) → None ≡ option_map (λ (e :
 none_if_none o a h p = none-some p.0.attempt (h ∙ ap (option_map (λ (e : Shown). e.attempt)) p.1)
 
 -- ---- the acts
-module _ (r : Row) (l : Line) (is : r.entries ≡ l) (v : Told) (up : Rising v.writes) where
+module _ (r : Row) (l : Line) (is : r.entries ≡ l) (v : Contents) (up : Rising v.writes) where
   own_row : (k : Key) → IsPlacedAt l v.attempt k → IsPlacedAt r.entries v.attempt k
   own_row k h = subst (λ (x : Line). IsPlacedAt x v.attempt k) (sym is) h
 
@@ -111,7 +111,7 @@ comes_to l a ws i count x at more first j y lt h = elim (cases_eq j i) [
   | inr ne ↦ inr (first.1 j y (omega (arith, lt, more, ne)) h)
 ]
 
-pub first_inserted : (l : Line) (a : ℕ) (v : Told) (k : Key) (ws : Entries) (count : ℕ) → FirstPlacedBut l a ws k count → FirstPlaced (insert l k (shown_by a v)) a ws count
+pub first_inserted : (l : Line) (a : ℕ) (v : Contents) (k : Key) (ws : Entries) (count : ℕ) → FirstPlacedBut l a ws k count → FirstPlaced (insert l k (shown_by a v)) a ws count
 first_inserted l a v k ws count but j x lt h = elim (cases_key x.0 k) [
   | inl e ↦ (shown_by a v, subst (λ (q : Key). get (insert l k (shown_by a v)) q ≡ Some (shown_by a v)) (sym e) (get_insert_same l k (shown_by a v)), refl)
   | inr ne ↦ elim (but j x lt h) [
@@ -121,7 +121,7 @@ first_inserted l a v k ws count but j x lt h = elim (cases_key x.0 k) [
 ]
 
 -- an entry that is lifted is of another attempt than the writes that are placed
-pub first_removed : (r : Row) (v : Told) (k : Key) → Rising v.writes → AllPlaced r v → IsNextLeft r v k → (count : ℕ) → FirstPlaced (remove r.entries k) v.attempt v.writes count
+pub first_removed : (r : Row) (v : Contents) (k : Key) → Rising v.writes → AllPlaced r v → IsNextLeft r v k → (count : ℕ) → FirstPlaced (remove r.entries k) v.attempt v.writes count
 first_removed r v k up all next count j x lt h =
     let own : IsPlacedAt r.entries v.attempt x.0 = all x.0 x.1 (is_at_key v.writes up j x h) in
     elim (cases_key x.0 k) [

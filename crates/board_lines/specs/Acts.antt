@@ -4,7 +4,7 @@ use Rattle.std.specs.FinMap.{get}
 use Rattle.circ_records.specs.Records.{Entries}
 use Rattle.circ_records.specs.declared.key.Key.{Key}
 use Rattle.circ_records.specs.declared.record.Record.{Record}
-use Rattle.read_set.specs.Settling.{Told}
+use Rattle.read_set.specs.Settling.{Contents}
 use Rattle.read_set.specs.declared.notes.Note.{Note}
 use Rattle.attempts.specs.declared.state.LineState.{LineState}
 use Rattle.attempts.specs.declared.state.LineState.TheVariants as states
@@ -45,8 +45,8 @@ IsToPublish b w None = (n : ℕ) (notes : List Note) → MayPublish b w n notes 
 IsToPublish b w (Some h) = IsLine b h.line × MayPublish b w h.line (notes_at b h.line) × (suc h.attempt ≡ (row_at b h.line).next)
 
 -- the version of the last act of publication of the worker's line in hand, where that line is placing
-abbrev pub IsPlacing : Board → ℕ → Option Told → Type 0
-IsPlacing b w None = (n : ℕ) (notes : List Note) (last : Option Told) → (row_at b n).state ≢ Placing w notes last
+abbrev pub IsPlacing : Board → ℕ → Option Contents → Type 0
+IsPlacing b w None = (n : ℕ) (notes : List Note) (last : Option Contents) → (row_at b n).state ≢ Placing w notes last
 IsPlacing b w (Some v) = (n : ℕ) × (notes : List Note) × ((row_at b n).state ≡ Placing w notes (Some v))
 
 -- the line has an entry of the attempt at a key
@@ -62,7 +62,7 @@ IsFirstApart l a writes (Some i) =
 
 -- The next act: the next write is placed; when all are placed, the least key that an earlier attempt left is lifted; when none
 -- is left, all is published.
-abbrev pub IsAct : Row → Told → Act → Type 0
+abbrev pub IsAct : Row → Contents → Act → Type 0
 IsAct r v (acts.Write k count) = (value : Record) × IsNextWrite r v k value
 IsAct r v (acts.Lift k) = AllPlaced r v × IsNextLeft r v k
 IsAct r v acts.Finish = AllPlaced r v × NoneLeft r v

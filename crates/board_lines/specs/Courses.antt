@@ -4,7 +4,7 @@ use Rattle.circ_records.specs.Records.{Entries}
 use Rattle.circ_records.specs.declared.key.Key.{Key}
 use Rattle.circ_records.specs.declared.record.Record.{Record}
 use Rattle.read_set.specs.Plans.{Planned}
-use Rattle.read_set.specs.Settling.{Told}
+use Rattle.read_set.specs.Settling.{Contents}
 use Rattle.read_set.specs.declared.notes.Note.{Note}
 use Rattle.version_store.specs.Entries.{Line}
 use Rattle.board_steps.specs.Board.{Row, Board}
@@ -26,19 +26,19 @@ abbrev pub FirstPlacedBut : Line → ℕ → Entries → Key → ℕ → Type 0
 FirstPlacedBut l a writes k count = (j : ℕ) (x : Key × Record) → j < count → slice_get writes j ≡ Some x → (x.0 ≡ k) ⊎ IsPlacedAt l a x.0
 
 -- so many writes are placed once the act is done
-abbrev pub ComesTo : Line → Told → Act → Type 0
+abbrev pub ComesTo : Line → Contents → Act → Type 0
 ComesTo l v (acts.Write k count) = FirstPlacedBut l v.attempt v.writes k count
 ComesTo l v (acts.Lift k) = Unit {0}
 ComesTo l v acts.Finish = Unit {0}
 
 -- the version is of the line, its attempt and its notes, and has come so far
-pub record UnderWay (n : ℕ) (r : Row) (notes : List Note) (v : Told) (c : Course) : Type 0 where
+pub record UnderWay (n : ℕ) (r : Row) (notes : List Note) (v : Contents) (c : Course) : Type 0 where
   pub same_line : v.line ≡ n
   pub same_attempt : suc v.attempt ≡ r.next
   pub same_notes : v.reads ≡ notes
   pub placed : FirstPlaced r.entries v.attempt v.writes c.placed
 
-abbrev pub IsUnderWay : ℕ → Row → List Note → Option Told → Course → Type 0
+abbrev pub IsUnderWay : ℕ → Row → List Note → Option Contents → Course → Type 0
 IsUnderWay n r notes None c = ⊥
 IsUnderWay n r notes (Some v) c = UnderWay n r notes v c
 
@@ -46,4 +46,4 @@ IsUnderWay n r notes (Some v) c = UnderWay n r notes v c
 -- change, where that line is in none.
 abbrev pub PublishesMore : {J : Type 0} → Planned → Board → ℕ → Option (Reply J) → Board → Type 0
 PublishesMore plan old w None new = IsPlacing old w None × (new ≡ old)
-PublishesMore plan old w (Some reply) new = (v : Told) × IsPlacing old w (Some v) × IsVersion plan v × Answers plan old (Publish w v) reply new
+PublishesMore plan old w (Some reply) new = (v : Contents) × IsPlacing old w (Some v) × IsVersion plan v × Answers plan old (Publish w v) reply new

@@ -1,7 +1,7 @@
 pub mod Acts
+pub mod Committed
 pub mod Courses
 pub mod Hands
-pub mod Lendings
 pub mod Notes
 pub mod Parts
 pub mod Replies

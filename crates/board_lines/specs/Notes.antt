@@ -8,7 +8,7 @@ use Rattle.circ_records.specs.Keys.{key_cmp}
 use Rattle.circ_records.specs.Records.{Entries, record_at}
 use Rattle.circ_records.specs.declared.key.Key.{Key}
 use Rattle.circ_records.specs.declared.record.Record.{Record}
-use Rattle.read_set.specs.Settling.{Told}
+use Rattle.read_set.specs.Settling.{Contents}
 use Rattle.read_set.specs.declared.notes.Name.{Name}
 use Rattle.read_set.specs.declared.notes.Name.TheVariants as names
 use Rattle.read_set.specs.declared.notes.Note.{Note}
@@ -19,13 +19,13 @@ use Rattle.board_lines.specs.declared.notes.PlacedName.{PlacedName}
 pub record Noted : Type 0 where
   pub key : Key
   pub name : Name
-  pub told : Option Told
+  pub contents : Option Contents
 
-abbrev pub told_at : {J : Type 0} → Place J → Told
-told_at place = place.version.now
+abbrev pub contents_at : {J : Type 0} → Place J → Contents
+contents_at place = place.version.now
 
 abbrev pub note_with : {J : Type 0} → Key → PlacedName J → Noted
-note_with key n = record { key = key; name = n.name; told = option_map told_at n.place }
+note_with key n = record { key = key; name = n.name; contents = option_map contents_at n.place }
 
 -- keys with their names and places
 abbrev pub noted_from : {J : Type 0} → List Key → List (PlacedName J) → List Noted
@@ -34,19 +34,19 @@ noted_from (k ∷ keys) [] = []
 noted_from (k ∷ keys) (n ∷ names) = note_with k n ∷ noted_from keys names
 
 -- the name of a note, and what the version at its place says
-abbrev pub by_place : {J : Type 0} → PlacedName J → Name × Option Told
-by_place n = (n.name, option_map told_at n.place)
+abbrev pub by_place : {J : Type 0} → PlacedName J → Name × Option Contents
+by_place n = (n.name, option_map contents_at n.place)
 
-abbrev pub named_in : Noted → Name × Option Told
-named_in n = (n.name, n.told)
+abbrev pub named_in : Noted → Name × Option Contents
+named_in n = (n.name, n.contents)
 
 -- the record of a note: the base's, or what the version writes at the key
-abbrev pub found_by : Entries → Key → Option Told → Option Record
+abbrev pub found_by : Entries → Key → Option Contents → Option Record
 found_by base k None = record_at base k
-found_by base k (Some told) = record_at told.writes k
+found_by base k (Some contents) = record_at contents.writes k
 
 abbrev pub note_by : Entries → Noted → Note
-note_by base n = record { key = n.key; name = n.name; found = found_by base n.key n.told }
+note_by base n = record { key = n.key; name = n.name; found = found_by base n.key n.contents }
 
 -- the key and the name of a note
 abbrev pub key_and_name : Note → Key × Name
@@ -64,7 +64,7 @@ is_noted notes k = list_any (λ n. is_at (key_cmp k) n.key) notes
 
 -- a note has no place just where its name is the base's: the base's record stands in no version
 abbrev pub IsPlaced : Noted → Type 0
-IsPlaced n = (n.name ≡ names.Base) ↔ (n.told ≡ None)
+IsPlaced n = (n.name ≡ names.Base) ↔ (n.contents ≡ None)
 
 -- of each note
 abbrev pub ArePlaced : List Noted → Type 0

@@ -3,7 +3,7 @@ use Rattle.std.specs.Prelude.{◌≡◌, ℕ, zero, suc, ◌+◌, ◌-◌, ◌<�
 use Rattle.circ_records.specs.Records.{Entries}
 use Rattle.sip_answer.specs.declared.answer.Answer.{Answer}
 use Rattle.read_set.specs.Plans.{Planned}
-use Rattle.read_set.specs.Settling.{Told}
+use Rattle.read_set.specs.Settling.{Contents}
 use Rattle.read_set.specs.declared.notes.Note.{Note}
 use Rattle.attempts.specs.Moves.{no_row}
 use Rattle.attempts.specs.declared.table.Row as attempt
@@ -15,7 +15,7 @@ use Rattle.board_steps.specs.Board as steps
 use Rattle.board_steps.specs.Board.{Board, State, IsLine, row_at, holder}
 use Rattle.board_steps.specs.Board.State.{Waiting, Running, Placing, Done, Checking, Committed}
 use Rattle.board_steps.specs.Reached.{Reached}
-use Rattle.board_lines.specs.Notes.{Noted, notes_by, told_at}
+use Rattle.board_lines.specs.Notes.{Noted, notes_by, contents_at}
 use Rattle.board_lines.specs.Courses.{IsUnderWay}
 use Rattle.board_lines.specs.declared.row.Course.{Course}
 use Rattle.board_lines.specs.declared.row.Row.{Row}
@@ -23,15 +23,15 @@ use Rattle.board_lines.specs.declared.row.Row.{Row}
 -- what the board keeps of a line beside its state and its entries
 pub record Kept : Type 0 where
   pub notes : List Noted
-  pub told : Option Told
+  pub contents : Option Contents
   pub course : Course
   pub changed : ℕ
 
 abbrev pub row_shown : {J : Type 0} → Row J → Kept
-row_shown r = record { notes = r.notes; told = option_map told_at r.version; course = r.course; changed = r.changed }
+row_shown r = record { notes = r.notes; contents = option_map contents_at r.version; course = r.course; changed = r.changed }
 
 abbrev pub no_notes : Kept
-no_notes = record { notes = []; told = None; course = record { placed = 0 }; changed = 0 }
+no_notes = record { notes = []; contents = None; course = record { placed = 0 }; changed = 0 }
 
 pub record Parts : Type 0 where
   pub states : States
@@ -42,22 +42,22 @@ pub record Parts : Type 0 where
   pub latest : ℕ
 
 -- the answer of the version that was published
-abbrev pub answer_by : Option Told → Option Answer
+abbrev pub answer_by : Option Contents → Option Answer
 answer_by None = None
-answer_by (Some told) = told.answer
+answer_by (Some contents) = contents.answer
 
 -- the state, with the notes and the version that stand beside it
-abbrev pub state_of : LineState → List Note → Option Told → State
-state_of states.Waiting notes told = Waiting
-state_of (states.Running w) notes told = Running w notes
-state_of (states.Placing w) notes told = Placing w notes told
-state_of (states.Done stamp) notes told = Done notes (answer_by told) stamp
-state_of (states.Checking w t i) notes told = Checking w notes (answer_by told) t i
-state_of states.Committed notes told = Committed (answer_by told)
+abbrev pub state_of : LineState → List Note → Option Contents → State
+state_of states.Waiting notes contents = Waiting
+state_of (states.Running w) notes contents = Running w notes
+state_of (states.Placing w) notes contents = Placing w notes contents
+state_of (states.Done stamp) notes contents = Done notes (answer_by contents) stamp
+state_of (states.Checking w t i) notes contents = Checking w notes (answer_by contents) t i
+state_of states.Committed notes contents = Committed (answer_by contents)
 
 -- a line of these three
 abbrev pub row_with : Entries → attempt.Row → Kept → store.Line → steps.Row
-row_with base s k l = record { state = state_of s.state (notes_by base k.notes) k.told; next = s.next; changed = k.changed; entries = l }
+row_with base s k l = record { state = state_of s.state (notes_by base k.notes) k.contents; next = s.next; changed = k.changed; entries = l }
 
 -- the line at a place
 abbrev pub row_by : Entries → Parts → ℕ → steps.Row
@@ -96,7 +96,7 @@ pub record IsKept (plan : Planned) (a : Parts) : Type 0 where
   pub all_entries : length a.store.lines ≡ length a.rows
   pub hand : HandsHold a.hands (row_at (board_of plan.base a))
   -- a line that is placing has the version of its last act, which fits, and the course says how far that has come
-  pub under_way : (n w : ℕ) (notes : List Note) (last : Option Told) → (row_at (board_of plan.base a) n).state ≡ Placing w notes last
+  pub under_way : (n w : ℕ) (notes : List Note) (last : Option Contents) → (row_at (board_of plan.base a) n).state ≡ Placing w notes last
       → IsUnderWay n (row_at (board_of plan.base a) n) notes last (kept_at a n).course
   -- the greatest clock at which a committed line changed
   pub below : (m : ℕ) → m < plan.first + a.states.counts.commits → (row_at (board_of plan.base a) m).changed ≤ a.latest

@@ -7,7 +7,7 @@ use Rattle.board_steps.specs.Board.{Board}
 use Rattle.board_steps.specs.Steps.{Call, Step}
 use Rattle.board_steps.specs.Steps.Call.{Take, Look, Publish, Check, Commit}
 use Rattle.board_steps.specs.Steps.Reply.{Idle as TheIdle, Taken as TheTaken, Seen as TheSeen, Stopped as TheStopped, Stranger as TheStranger, Placed as ThePlaced, Lifted as TheLifted, Whole as TheWhole, Same as TheSame, Changed as TheChanged, Commits as TheCommits, Later as TheLater, Attempts as TheAttempts, ClockSpent as TheClockSpent}
-use Rattle.board_lines.specs.Notes.{found_by, told_at}
+use Rattle.board_lines.specs.Notes.{found_by, contents_at}
 use Rattle.board_lines.specs.declared.reply.Reply.{Reply}
 use Rattle.board_lines.specs.declared.reply.Reply.TheVariants as replies
 
@@ -22,7 +22,7 @@ Grows plan old (Commit n) = ⊥
 
 -- a look sees the base's record, or what the version at the place writes
 abbrev pub SeenStep : {J : Type 0} → Planned → Board → Call → Reply J → Board → Type 0
-SeenStep plan old (Look w k) (replies.Seen name place) new = Step plan old (Look w k) (TheSeen name (found_by plan.base k (option_map told_at place))) new
+SeenStep plan old (Look w k) (replies.Seen name place) new = Step plan old (Look w k) (TheSeen name (found_by plan.base k (option_map contents_at place))) new
 SeenStep plan old call reply new = ⊥
 
 abbrev pub Answers : {J : Type 0} → Planned → Board → Call → Reply J → Board → Type 0

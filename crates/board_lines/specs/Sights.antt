@@ -10,7 +10,7 @@ use Rattle.version_store.specs.declared.entry.Found.{Found}
 use Rattle.board_steps.specs.Board.{Board, row_at}
 use Rattle.board_steps.specs.Reached.{IsNow}
 use Rattle.board_steps.specs.Steps.{MayLook, Compares, Differs, stopped}
-use Rattle.board_lines.specs.Notes.{told_at}
+use Rattle.board_lines.specs.Notes.{contents_at}
 use Rattle.board_lines.specs.declared.notes.PlacedName.{PlacedName}
 
 -- the line whose look it is
@@ -21,7 +21,7 @@ IsLooking b w k (Some n) = (notes : List Note) × MayLook b w k n notes
 -- the name and the place of what was seen
 abbrev pub IsNameOf : {J : Type 0} → Sight → PlacedName J → Type 0
 IsNameOf SeesBase n = (n.name ≡ names.Base) × (n.place ≡ None)
-IsNameOf (Sees name told) n = (n.name ≡ name) × (option_map told_at n.place ≡ Some told)
+IsNameOf (Sees name contents) n = (n.name ≡ name) × (option_map contents_at n.place ≡ Some contents)
 IsNameOf (SeesSuspect line) n = ⊥
 
 -- the stamp of the check, and how many notes it has compared

@@ -6,8 +6,8 @@
 //! holds the lines beside what a free worker chooses from.
 #![tactic(auto)]
 
+mod committed;
 mod hand;
-mod lending;
 mod lines;
 mod notes;
 mod publishing;

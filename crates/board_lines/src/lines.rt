@@ -11,11 +11,11 @@ ghost use Rattle.board_steps.specs.declared.TheConstants.{WORKERS_MAX};
 ghost use Rattle.version_store.specs.Entries.{SeesSuspect, seen};
 ghost use Rattle.version_store.specs.declared.entry.Found.TheVariants.{Named};
 ghost use Rattle.board_lines.specs.Hands.{AreCounts, AreNotesOf, IsHand, IsInHand, notes_of};
-ghost use Rattle.board_lines.specs.Notes.{key_and_name, notes_by, told_at};
+ghost use Rattle.board_lines.specs.Notes.{key_and_name, notes_by, contents_at};
 ghost use Rattle.board_lines.specs.Replies.{Answers};
 ghost use Rattle.board_lines.specs.Sights.{IsCheck, IsLooking, IsNameOf, IsOther, IsSame, IsStopped, IsWhole, MayStop};
 ghost use Rattle.circ_records.specs.declared.record.Record.{Record};
-ghost use Rattle.read_set.specs.Settling.{Told};
+ghost use Rattle.read_set.specs.Settling.{Contents};
 ghost use Rattle.read_set.specs.declared.notes.Note.{Note};
 ghost use Rattle.board_steps.specs.Board.State.{Done, Placing};
 ghost use Rattle.board_lines.specs.Parts.{no_notes, row_shown};
@@ -400,7 +400,7 @@ impl<'p, 't, J: PlanName> Lines<'p, 't, J> {
     /// Does the next act of the publication of the version at a place, where it is of the board's line, attempt and notes. It
     /// compares the notes, and looks at the writes from the first on: `publish_more` goes on from where an act ended.
     pub fn publish(&mut self, worker: u32, place: Place<'t, J>) -> Reply<'t, J>
-        ensures { Answers J.plan self.old (Publish worker (told_at place.entry)) result self.new }
+        ensures { Answers J.plan self.old (Publish worker (contents_at place.entry)) result self.new }
     {
         let Some(hand) = self.to_publish(worker) else {
             return Reply::Idle;
@@ -430,7 +430,7 @@ impl<'p, 't, J: PlanName> Lines<'p, 't, J> {
     /// How far the publication that the worker's line in hand is in has come, if it is in one.
     fn course(&self, worker: u32, line: u64) -> Course
         requires { holder (row_at self.now line).state ≡ Some worker }
-        ensures { (n : ℕ) (notes : List Note) (v : Told) → (row_at self.now n).state ≡ Placing worker notes (Some v) → (n ≡ line) × UnderWay line (row_at self.now line) notes v result }
+        ensures { (n : ℕ) (notes : List Note) (v : Contents) → (row_at self.now n).state ≡ Placing worker notes (Some v) → (n ≡ line) × UnderWay line (row_at self.now line) notes v result }
     {
         self.rows[(line - self.plan.first()) as usize].course
     }
@@ -444,10 +444,10 @@ impl<'p, 't, J: PlanName> Lines<'p, 't, J> {
         count: usize,
     ) -> Reply<'t, J>
         requires may { MayPublish self.old worker line (notes_at self.old line) }
-        requires fits { Fits self.old line (notes_at self.old line) (told_at place) }
-        requires version { IsVersion J.plan (told_at place) }
-        requires placed { FirstPlaced (row_at self.old line).entries (told_at place).attempt (told_at place).writes count }
-        ensures { Answers J.plan self.old (Publish worker (told_at place.entry)) result self.new }
+        requires fits { Fits self.old line (notes_at self.old line) (contents_at place) }
+        requires version { IsVersion J.plan (contents_at place) }
+        requires placed { FirstPlaced (row_at self.old line).entries (contents_at place).attempt (contents_at place).writes count }
+        ensures { Answers J.plan self.old (Publish worker (contents_at place.entry)) result self.new }
     {
         let act = self.act(line, place, count);
         if let Act::Finish = act {
@@ -472,7 +472,7 @@ impl<'p, 't, J: PlanName> Lines<'p, 't, J> {
 
     /// The place of the last act of publication of the worker's line in hand, where that line is Placing.
     pub fn placing(&self, worker: u32) -> Option<Place<'t, J>>
-        ensures { IsPlacing self.now worker (option_map told_at result) }
+        ensures { IsPlacing self.now worker (option_map contents_at result) }
     {
         let Some(hand) = self.hand(worker) else {
             return None;
@@ -489,7 +489,7 @@ impl<'p, 't, J: PlanName> Lines<'p, 't, J> {
     /// The version of the last publication of a line.
     fn version(&self, line: u64) -> Option<Place<'t, J>>
         requires { IsLine self.now line }
-        ensures { (w : ℕ) (notes : List Note) (last : Option Told) → (row_at self.now line).state ≡ Placing w notes last → option_map told_at result ≡ last }
+        ensures { (w : ℕ) (notes : List Note) (last : Option Contents) → (row_at self.now line).state ≡ Placing w notes last → option_map contents_at result ≡ last }
     {
         self.rows[(line - self.plan.first()) as usize].version
     }
@@ -514,8 +514,8 @@ impl<'p, 't, J: PlanName> Lines<'p, 't, J> {
     fn fits(&self, hand: Hand, place: Place<'t, J>) -> bool
         requires there { IsLine self.now hand.line }
         requires attempt { suc hand.attempt ≡ (row_at self.now hand.line).next }
-        ensures fits { (w : ℕ) (notes : List Note) → MayPublish self.now w hand.line notes → Decides result (Fits self.now hand.line notes (told_at place.entry)) }
-        ensures version { IsVersion J.plan (told_at place.entry) }
+        ensures fits { (w : ℕ) (notes : List Note) → MayPublish self.now w hand.line notes → Decides result (Fits self.now hand.line notes (contents_at place.entry)) }
+        ensures version { IsVersion J.plan (contents_at place.entry) }
     {
         let version = place.show();
         let reads = version.reads();
@@ -536,9 +536,9 @@ impl<'p, 't, J: PlanName> Lines<'p, 't, J> {
     /// The next act of the publication of the version at a place, so many of whose first writes are placed.
     fn act(&self, line: u64, place: Place<'t, J>, count: usize) -> Act
         requires there { IsLine self.now line }
-        requires placed { FirstPlaced (row_at self.now line).entries (told_at place).attempt (told_at place).writes count }
-        ensures act { IsAct (row_at self.now line) (told_at place.entry) result }
-        ensures comes { ComesTo (row_at self.now line).entries (told_at place.entry) result }
+        requires placed { FirstPlaced (row_at self.now line).entries (contents_at place).attempt (contents_at place).writes count }
+        ensures act { IsAct (row_at self.now line) (contents_at place.entry) result }
+        ensures comes { ComesTo (row_at self.now line).entries (contents_at place.entry) result }
     {
         act_of(&self.entries, line, place.show(), count)
     }
@@ -560,12 +560,12 @@ impl<'p, 't, J: PlanName> Lines<'p, 't, J> {
         count: usize,
     ) -> Result<(), AllocError>
         requires may { MayPublish self.old worker line (notes_at self.old line) }
-        requires fits { Fits self.old line (notes_at self.old line) (told_at place) }
-        requires version { IsVersion J.plan (told_at place) }
-        requires next { (value : Record) × IsNextWrite (row_at self.old line) (told_at place) key value }
-        requires first { FirstPlacedBut (row_at self.old line).entries (told_at place).attempt (told_at place).writes key count }
+        requires fits { Fits self.old line (notes_at self.old line) (contents_at place) }
+        requires version { IsVersion J.plan (contents_at place) }
+        requires next { (value : Record) × IsNextWrite (row_at self.old line) (contents_at place) key value }
+        requires first { FirstPlacedBut (row_at self.old line).entries (contents_at place).attempt (contents_at place).writes key count }
         requires room { HasRoom self.old }
-        ensures placed { OnOk result (self.new ≡ placed self.old worker line (notes_at self.old line) (told_at place.entry) key) }
+        ensures placed { OnOk result (self.new ≡ placed self.old worker line (notes_at self.old line) (contents_at place.entry) key) }
         ensures same { OnErr result (self.new ≡ self.old) }
     {
         let alloc = *self.rows.allocator();
@@ -586,12 +586,12 @@ impl<'p, 't, J: PlanName> Lines<'p, 't, J> {
     /// Takes away the entry at the next key that an earlier attempt left.
     fn lift(&mut self, worker: u32, line: u64, key: Key, place: Place<'t, J>)
         requires may { MayPublish self.old worker line (notes_at self.old line) }
-        requires fits { Fits self.old line (notes_at self.old line) (told_at place) }
-        requires version { IsVersion J.plan (told_at place) }
-        requires all { AllPlaced (row_at self.old line) (told_at place) }
-        requires next { IsNextLeft (row_at self.old line) (told_at place) key }
+        requires fits { Fits self.old line (notes_at self.old line) (contents_at place) }
+        requires version { IsVersion J.plan (contents_at place) }
+        requires all { AllPlaced (row_at self.old line) (contents_at place) }
+        requires next { IsNextLeft (row_at self.old line) (contents_at place) key }
         requires room { HasRoom self.old }
-        ensures { self.new ≡ lifted self.old worker line (notes_at self.old line) (told_at place.entry) key }
+        ensures { self.new ≡ lifted self.old worker line (notes_at self.old line) (contents_at place.entry) key }
     {
         let placed = place.show().writes().len();
         self.entries.lift(line, &key);
@@ -607,11 +607,11 @@ impl<'p, 't, J: PlanName> Lines<'p, 't, J> {
     /// All is published: the line is done, and not checked.
     fn finish(&mut self, worker: u32, line: u64, place: Place<'t, J>)
         requires may { MayPublish self.old worker line (notes_at self.old line) }
-        requires fits { Fits self.old line (notes_at self.old line) (told_at place) }
-        requires version { IsVersion J.plan (told_at place) }
-        requires all { AllPlaced (row_at self.old line) (told_at place) }
-        requires none { NoneLeft (row_at self.old line) (told_at place) }
-        ensures { self.new ≡ put_row self.old line (with_state (row_at self.old line) (Done (notes_at self.old line) (told_at place.entry).answer None)) }
+        requires fits { Fits self.old line (notes_at self.old line) (contents_at place) }
+        requires version { IsVersion J.plan (contents_at place) }
+        requires all { AllPlaced (row_at self.old line) (contents_at place) }
+        requires none { NoneLeft (row_at self.old line) (contents_at place) }
+        ensures { self.new ≡ put_row self.old line (with_state (row_at self.old line) (Done (notes_at self.old line) (contents_at place.entry).answer None)) }
     {
         self.attempts.go_on(line, LineState::Done { stamp: None });
         let row = &mut self.rows[(line - self.plan.first()) as usize];

@@ -3,12 +3,12 @@
 ghost use Rattle.std.specs.Prelude.{◌≡◌};
 ghost use Rattle.std.specs.Bool.{Decides};
 ghost use Rattle.board_steps.specs.Board.{Row};
-ghost use Rattle.read_set.specs.Settling.{Told};
+ghost use Rattle.read_set.specs.Settling.{Contents};
 ghost use Rattle.version_store.specs.Entries.{line_at};
 ghost use Rattle.board_steps.specs.Steps.{IsVersion};
 ghost use Rattle.board_lines.specs.Acts.{IsAct, IsFirstApart, IsPlacedAt, places, publishes};
 ghost use Rattle.board_lines.specs.Courses.{ComesTo, FirstPlaced};
-ghost use Rattle.board_lines.specs.Notes.{told_at};
+ghost use Rattle.board_lines.specs.Notes.{contents_at};
 
 use crate::hand::Hand;
 use attempts::LineState;
@@ -59,7 +59,7 @@ pub(crate) fn is_of<J: PlanName>(version: &Version<J>, hand: Hand) -> bool
 
 /// A version at a place settles.
 pub(crate) fn settled<J: PlanName>(place: Place<'_, J>)
-    ensures { IsVersion J.plan (told_at place.entry) }
+    ensures { IsVersion J.plan (contents_at place.entry) }
 {
     let _reads = place.show().reads();
 }

@@ -4,9 +4,9 @@ ghost use Rattle.std.specs.Prelude.{◌≡◌, ◌<◌, IfOk, Some, length, map,
 ghost use Rattle.std.specs.List.Sorted.{IsStrictlySortedBy};
 ghost use Rattle.circ_records.specs.Keys.{key_cmp};
 ghost use Rattle.circ_records.specs.Records.{record_at};
-ghost use Rattle.read_set.specs.Settling.{Told};
+ghost use Rattle.read_set.specs.Settling.{Contents};
 ghost use Rattle.board_steps.specs.Steps.{IsVersion};
-ghost use Rattle.board_lines.specs.Notes.{found_by, notes_by, told_at};
+ghost use Rattle.board_lines.specs.Notes.{found_by, notes_by, contents_at};
 
 use crate::notes::{PlaceNotes, PlacedName};
 use circ_records::{Key, Record};
@@ -31,7 +31,7 @@ pub fn record_seen<'p, J: PlanName>(
     key: &Key,
     place: Option<Place<'p, J>>,
 ) -> Option<&'p Record>
-    ensures { option_copied result ≡ found_by plan.now.base key.now (option_map told_at place.entry) }
+    ensures { option_copied result ≡ found_by plan.now.base key.now (option_map contents_at place.entry) }
 {
     match place {
         Some(place) => written(place.show().writes(), key),

@@ -2,7 +2,7 @@
 
 ghost use Rattle.std.specs.Prelude.{◌≡◌, Some, option_copied, option_map, slice_get};
 ghost use Rattle.std.specs.Bool.{Decides};
-ghost use Rattle.board_lines.specs.Notes.{found_by, notes_by, told_at};
+ghost use Rattle.board_lines.specs.Notes.{found_by, notes_by, contents_at};
 
 use crate::notes::PlaceNotes;
 use crate::reading::record_seen;
@@ -55,7 +55,7 @@ fn same_found<J: PlanName>(
     place: Option<Place<'_, J>>,
     theirs: &Option<Record>,
 ) -> bool
-    ensures { Decides result (theirs.now ≡ found_by plan.now.base key.now (option_map told_at place.entry)) }
+    ensures { Decides result (theirs.now ≡ found_by plan.now.base key.now (option_map contents_at place.entry)) }
 {
     same_part(theirs, record_seen(plan, key, place))
 }

@@ -11,7 +11,7 @@ use Rattle.sip_answer.specs.declared.answer.Answer.{Answer}
 use Rattle.read_set.specs.Maps.{Map}
 use Rattle.read_set.specs.Plans.{Planned}
 use Rattle.read_set.specs.Replay.{one_at}
-use Rattle.read_set.specs.Settling.{AreTrue, Told, Settles}
+use Rattle.read_set.specs.Settling.{AreTrue, Contents, Settles}
 use Rattle.read_set.specs.declared.notes.Name.{Name}
 use Rattle.read_set.specs.declared.notes.Note.{Note}
 use Rattle.version_store.specs.Entries.{Shown, shown_by, as_suspect, suspected}
@@ -128,7 +128,7 @@ module _ (plan : Planned) (b : Board) (w : ℕ) (k : Key) (n : ℕ) (notes : Lis
 running_placed : (plan : Planned) (n : ℕ) (l : Row) (notes : List Note) → ((k : Key) (e : Shown) → entry l k ≡ Some e → suc e.attempt ≡ l.next → ⊥) → EachPlaced plan n l notes
 running_placed plan n l notes h = λ k e g i. absurd (h k e g i)
 
-module _ (plan : Planned) (b : Board) (w n : ℕ) (notes : List Note) (v : Told) (ok : Reached plan b) (may : MayPublish b w n notes) (fits : Fits b n notes v) (of_meaning : IsVersion plan v) where
+module _ (plan : Planned) (b : Board) (w n : ℕ) (notes : List Note) (v : Contents) (ok : Reached plan b) (may : MayPublish b w n notes) (fits : Fits b n notes v) (of_meaning : IsVersion plan v) where
   publish_within : IsLine b n
   publish_within = elim may [
     | inl e ↦ within_board b n (λ d. let z : Running w notes ≡ Waiting = sym e ∙ d in cc)

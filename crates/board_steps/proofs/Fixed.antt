@@ -5,7 +5,7 @@ use Rattle.circ_records.specs.declared.key.Key.{Key}
 use Rattle.circ_records.specs.declared.record.Record.{Record}
 use Rattle.sip_answer.specs.declared.answer.Answer.{Answer}
 use Rattle.read_set.specs.Plans.{Planned}
-use Rattle.read_set.specs.Settling.{Told}
+use Rattle.read_set.specs.Settling.{Contents}
 use Rattle.read_set.specs.declared.notes.Name.{Name}
 use Rattle.read_set.specs.declared.notes.Note.{Note}
 use Rattle.version_store.specs.declared.entry.Found.{Found}
@@ -67,7 +67,7 @@ module _ (b : Board) (n : ℕ) where
     commit_one _ new s other g h = absurd g
 
 -- a publication of the line in hand
-abbrev PublishAt : Board → ℕ → Told → ℕ → List Note → Reply → Board → Type 0
+abbrev PublishAt : Board → ℕ → Contents → ℕ → List Note → Reply → Board → Type 0
 PublishAt b w v n notes Placed new = Fits b n notes v × (k : Key) × (value : Record) × IsNextWrite (row_at b n) v k value × HasRoom b × (new ≡ placed b w n notes v k)
 PublishAt b w v n notes Lifted new = Fits b n notes v × AllPlaced (row_at b n) v × (k : Key) × IsNextLeft (row_at b n) v k × HasRoom b × (new ≡ lifted b w n notes v k)
 PublishAt b w v n notes Whole new = Fits b n notes v × AllPlaced (row_at b n) v × NoneLeft (row_at b n) v × (new ≡ put_row b n (with_state (row_at b n) (Done notes v.answer None)))
@@ -75,7 +75,7 @@ PublishAt b w v n notes Stranger new = (Fits b n notes v → ⊥) × (new ≡ b)
 PublishAt b w v n notes ClockSpent new = Fits b n notes v × (AllPlaced (row_at b n) v → NoneLeft (row_at b n) v → ⊥) × (HasRoom b → ⊥) × (new ≡ b)
 PublishAt b w v n notes _ new = ⊥
 
-module _ (b : Board) (w n : ℕ) (v : Told) (notes : List Note) where
+module _ (b : Board) (w n : ℕ) (v : Contents) (notes : List Note) where
   one_write : (k q : Key) (value other : Record) → IsNextWrite (row_at b n) v k value → IsNextWrite (row_at b n) v q other → k ≡ q
   one_write k q value other g h = elim (key_order k q) [
     | inl e ↦ e
@@ -232,7 +232,7 @@ look_split plan b w k (Stopped m) new h = inr (h.0, h.1, h.2, (h.3, h.4))
 look_split plan b w k Idle new h = inl (refl, h.0, h.1)
 look_split plan b w k _ new h = absurd h
 
-publish_split : (b : Board) (w : ℕ) (v : Told) (r : Reply) (new : Board) → PublishStep b w v r new
+publish_split : (b : Board) (w : ℕ) (v : Contents) (r : Reply) (new : Board) → PublishStep b w v r new
     → ((r ≡ Idle) × ((n : ℕ) (notes : List Note) → MayPublish b w n notes → ⊥) × (new ≡ b)) ⊎ ((n : ℕ) × (notes : List Note) × MayPublish b w n notes × PublishAt b w v n notes r new)
 publish_split b w v Placed new h = inr (h.0, h.1, h.2, (h.3, h.4, h.5, h.6, h.7, h.8))
 publish_split b w v Lifted new h = inr (h.0, h.1, h.2, (h.3, h.4, h.5, h.6, h.7, h.8))
@@ -290,7 +290,7 @@ module _ (plan : Planned) (b : Board) (ok : Reached plan b) where
     ]
   ]
 
-  publish_one : (w : ℕ) (v : Told) (r : Reply) (new : Board) (s : Reply) (other : Board) → PublishStep b w v r new → PublishStep b w v s other → One r new s other
+  publish_one : (w : ℕ) (v : Contents) (r : Reply) (new : Board) (s : Reply) (other : Board) → PublishStep b w v r new → PublishStep b w v s other → One r new s other
   publish_one w v r new s other g h = elim (publish_split b w v r new g) [
     | inl x ↦ elim (publish_split b w v s other h) [
       | inl y ↦ (x.0 ∙ sym y.0, x.2 ∙ sym y.2)

@@ -5,7 +5,7 @@ use Rattle.circ_records.specs.Records.{record_at}
 use Rattle.circ_records.specs.declared.key.Key.{Key}
 use Rattle.circ_records.specs.declared.record.Record.{Record}
 use Rattle.read_set.specs.Plans.{Planned}
-use Rattle.read_set.specs.Settling.{Told}
+use Rattle.read_set.specs.Settling.{Contents}
 use Rattle.read_set.specs.declared.notes.Name.{Name}
 use Rattle.read_set.specs.declared.notes.Name.TheVariants.{Base, Made}
 use Rattle.read_set.specs.declared.notes.Note.{Note}
@@ -15,7 +15,7 @@ use Rattle.board_steps.specs.Reached.{Known, NoteBy, NoteHolds, Held}
 
 -- the same attempt placed both, with the same version; one may be suspect
 abbrev pub SameVersion : Shown → Shown → Type 0
-SameVersion e f = (e.attempt ≡ f.attempt) × (e.told ≡ f.told)
+SameVersion e f = (e.attempt ≡ f.attempt) × (e.contents ≡ f.contents)
 
 -- names keep their records from l to r
 pub record Keeps (l r : Row) : Type 0 where
@@ -70,7 +70,7 @@ module _ (plan : Planned) (rows others : ℕ → Row) (clock later n : ℕ) (r :
         below = known.below;
         begun = omega (arith, known.begun, keeps.next);
         same = λ e h i. elim (keeps.old k e h) [
-          | inl o ↦ known.same o.0 o.1 (o.2.0 ∙ i) ∙ ap (λ (t : Told). record_at t.writes k) o.2.1
+          | inl o ↦ known.same o.0 o.1 (o.2.0 ∙ i) ∙ ap (λ (t : Contents). record_at t.writes k) o.2.1
           | inr p ↦ absurd (p.1 (subst (λ x. IsOf (rows m) k x) (sym i) (known.stays (ap suc (sym i) ∙ p.0))))
         ];
         stays = λ i.

@@ -6,7 +6,7 @@ use Rattle.std.proofs.Common.{length-set}
 use Rattle.circ_records.specs.declared.key.Key.{Key}
 use Rattle.sip_answer.specs.declared.answer.Answer.{Answer}
 use Rattle.read_set.specs.Plans.{Planned}
-use Rattle.read_set.specs.Settling.{Told}
+use Rattle.read_set.specs.Settling.{Contents}
 use Rattle.read_set.specs.declared.notes.Name.{Name}
 use Rattle.read_set.specs.declared.notes.Note.{Note}
 use Rattle.version_store.specs.declared.entry.Found.{Found}
@@ -67,7 +67,7 @@ module _ (old : Board) (m : ℕ) (is : IsCommitted (row_at old m).state) where
   look_stays plan w k Idle new h = by h.1 refl
   look_stays plan w k _ new h = absurd h
 
-  publish_stays : (w : ℕ) (v : Told) (reply : Reply) (new : Board) → PublishStep old w v reply new → row_at new m ≡ row_at old m
+  publish_stays : (w : ℕ) (v : Contents) (reply : Reply) (new : Board) → PublishStep old w v reply new → row_at new m ≡ row_at old m
   publish_stays w v Placed new h = by h.8 (stay h.0 _ (publish_not old w h.0 h.1 h.2))
   publish_stays w v Lifted new h = by h.8 (stay h.0 _ (publish_not old w h.0 h.1 h.2))
   publish_stays w v Whole new h = by h.6 (stay h.0 _ (publish_not old w h.0 h.1 h.2))

@@ -2,7 +2,7 @@
 use Rattle.std.proofs.Common.{◌≡◌, ℕ, sym, subst, inl, inr}
 use Rattle.circ_records.specs.declared.key.Key.{Key}
 use Rattle.read_set.specs.Plans.{Planned}
-use Rattle.read_set.specs.Settling.{Told}
+use Rattle.read_set.specs.Settling.{Contents}
 use Rattle.board_steps.specs.Board.{Board}
 use Rattle.board_steps.specs.Reached.{Reached}
 use Rattle.board_steps.specs.Steps.{Call, Reply, TakeStep, LookStep, PublishStep, CheckStep, CommitStep, Step, ByVersion, IsVersion}
@@ -26,7 +26,7 @@ look_step plan old w k (Stopped m) new ok h = to h.4 (stopped_reached plan old w
 look_step plan old w k Idle new ok h = to h.1 ok
 look_step plan old w k _ new ok h = absurd h
 
-pub publish_step : (plan : Planned) (old : Board) (w : ℕ) (v : Told) (reply : Reply) (new : Board) → Reached plan old → IsVersion plan v → PublishStep old w v reply new → Reached plan new
+pub publish_step : (plan : Planned) (old : Board) (w : ℕ) (v : Contents) (reply : Reply) (new : Board) → Reached plan old → IsVersion plan v → PublishStep old w v reply new → Reached plan new
 publish_step plan old w v Placed new ok m h = to h.8 (placed_reached plan old w h.0 h.1 v ok h.2 h.3 m h.4 h.5 h.6)
 publish_step plan old w v Lifted new ok m h = to h.8 (lifted_reached plan old w h.0 h.1 v ok h.2 h.3 m h.5 h.6)
 publish_step plan old w v Whole new ok m h = to h.6 (whole_reached plan old w h.0 h.1 v ok h.2 h.3 m h.4 h.5)

@@ -27,7 +27,7 @@ get_suspected l q =
 
 was_some : (o : Option Shown) (e : Shown) → option_map as_suspect o ≡ Some e → (f : Shown) × (o ≡ Some f) × SameVersion f e
 was_some None e h = absurd (none-some e h)
-was_some (Some f) e h = let is = same_Some (as_suspect f) e h in (f, refl, (ap (λ (x : Shown). x.attempt) is, ap (λ (x : Shown). x.told) is))
+was_some (Some f) e h = let is = same_Some (as_suspect f) e h in (f, refl, (ap (λ (x : Shown). x.attempt) is, ap (λ (x : Shown). x.contents) is))
 
 -- an entry among the suspect ones was there, of the same attempt and version
 pub of_suspect : (l : store.Line) (k : Key) (e : Shown) → get (suspected l) k ≡ Some e → (f : Shown) × (get l k ≡ Some f) × SameVersion f e

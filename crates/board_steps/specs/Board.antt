@@ -6,7 +6,7 @@ use Rattle.circ_records.specs.declared.key.Key.{Key}
 use Rattle.circ_records.specs.declared.record.Record.{Record}
 use Rattle.sip_answer.specs.declared.answer.Answer.{Answer}
 use Rattle.read_set.specs.Plans.{Planned}
-use Rattle.read_set.specs.Settling.{Told}
+use Rattle.read_set.specs.Settling.{Contents}
 use Rattle.read_set.specs.declared.notes.Note.{Note}
 use Rattle.version_store.specs.Entries as store
 use Rattle.version_store.specs.Entries.{Shown, visible, found_at}
@@ -17,7 +17,7 @@ use Rattle.version_store.specs.declared.entry.Found.{Found}
 pub data State : Type 0 where
   Waiting : State
   Running : (worker : ℕ) → (notes : List Note) → State
-  Placing : (worker : ℕ) → (notes : List Note) → (last : Option Told) → State
+  Placing : (worker : ℕ) → (notes : List Note) → (last : Option Contents) → State
   Done : (notes : List Note) → (answer : Option Answer) → (stamp : Option ℕ) → State
   Checking : (worker : ℕ) → (notes : List Note) → (answer : Option Answer) → (stamp : ℕ) → (compared : ℕ) → State
   Committed : (answer : Option Answer) → State
@@ -88,7 +88,7 @@ live_of (Committed answer) = 0
 
 -- the record of an entry at a key: what the version at its place writes there
 abbrev pub written_at : Shown → Key → Option Record
-written_at e k = record_at e.told.writes k
+written_at e k = record_at e.contents.writes k
 
 -- the visible entry of a key, for line n
 abbrev pub seen_entry : (ℕ → Row) → ℕ → Key → Option (ℕ × Shown)

@@ -8,7 +8,7 @@ use Rattle.circ_records.specs.declared.key.Key.{Key}
 use Rattle.circ_records.specs.declared.record.Record.{Record}
 use Rattle.sip_answer.specs.declared.answer.Answer.{Answer}
 use Rattle.read_set.specs.Plans.{Planned}
-use Rattle.read_set.specs.Settling.{Told, Settles}
+use Rattle.read_set.specs.Settling.{Contents, Settles}
 use Rattle.read_set.specs.declared.notes.Name.{Name}
 use Rattle.read_set.specs.declared.notes.Note.{Note}
 use Rattle.version_store.specs.Entries.{Shown, shown_by, suspected}
@@ -21,7 +21,7 @@ use Rattle.board_steps.specs.Reached.{IsNow}
 pub data Call : Type 0 where
   Take : (worker : ℕ) → (line : ℕ) → Call
   Look : (worker : ℕ) → (key : Key) → Call
-  Publish : (worker : ℕ) → (version : Told) → Call
+  Publish : (worker : ℕ) → (version : Contents) → Call
   Check : (worker : ℕ) → (line : ℕ) → Call
   Commit : (line : ℕ) → Call
 
@@ -94,29 +94,29 @@ LookStep plan old w k _ new = ⊥
 -- ---- publish
 -- the line is in the worker's hand, to be published
 abbrev pub MayPublish : Board → ℕ → ℕ → List Note → Type 0
-MayPublish b w n notes = ((row_at b n).state ≡ Running w notes) ⊎ ((last : Option Told) × ((row_at b n).state ≡ Placing w notes last))
+MayPublish b w n notes = ((row_at b n).state ≡ Running w notes) ⊎ ((last : Option Contents) × ((row_at b n).state ≡ Placing w notes last))
 
 -- the version is of the board's line, attempt and notes (keys, names, records)
-pub record Fits (b : Board) (n : ℕ) (notes : List Note) (v : Told) : Type 0 where
+pub record Fits (b : Board) (n : ℕ) (notes : List Note) (v : Contents) : Type 0 where
   pub same_line : v.line ≡ n
   pub same_attempt : suc v.attempt ≡ (row_at b n).next
   pub same_notes : v.reads ≡ notes
 
 -- the next write: the least key of the version whose entry isn't of this attempt
-pub record IsNextWrite (r : Row) (v : Told) (k : Key) (value : Record) : Type 0 where
+pub record IsNextWrite (r : Row) (v : Contents) (k : Key) (value : Record) : Type 0 where
   pub written : record_at v.writes k ≡ Some value
   pub apart : IsOf r k v.attempt → ⊥
   pub least : (q : Key) (u : Record) → key_cmp q k ≡ Less → record_at v.writes q ≡ Some u → IsOf r q v.attempt
 
-abbrev pub AllPlaced : Row → Told → Type 0
+abbrev pub AllPlaced : Row → Contents → Type 0
 AllPlaced r v = (q : Key) (u : Record) → record_at v.writes q ≡ Some u → IsOf r q v.attempt
 
 -- the least key that an earlier attempt left and this one doesn't write
-pub record IsNextLeft (r : Row) (v : Told) (k : Key) : Type 0 where
+pub record IsNextLeft (r : Row) (v : Contents) (k : Key) : Type 0 where
   pub left : (e : Shown) × (entry r k ≡ Some e) × (e.attempt ≢ v.attempt)
   pub least : (q : Key) (e : Shown) → key_cmp q k ≡ Less → entry r q ≡ Some e → e.attempt ≡ v.attempt
 
-abbrev pub NoneLeft : Row → Told → Type 0
+abbrev pub NoneLeft : Row → Contents → Type 0
 NoneLeft r v = (q : Key) (e : Shown) → entry r q ≡ Some e → e.attempt ≡ v.attempt
 
 -- the clock can be raised
@@ -127,14 +127,14 @@ HasRoom b = b.clock + 1 < 2 ^ 64
 abbrev pub changing : Board → ℕ → Row → Board
 changing b n r = record (put_row b n (record r { changed = b.clock + 1 })) { clock = b.clock + 1 }
 
-abbrev pub placed : Board → ℕ → ℕ → List Note → Told → Key → Board
+abbrev pub placed : Board → ℕ → ℕ → List Note → Contents → Key → Board
 placed b w n notes v k =
     changing b n (record (row_at b n) { state = Placing w notes (Some v); entries = insert (row_at b n).entries k (shown_by v.attempt v) })
 
-abbrev pub lifted : Board → ℕ → ℕ → List Note → Told → Key → Board
+abbrev pub lifted : Board → ℕ → ℕ → List Note → Contents → Key → Board
 lifted b w n notes v k = changing b n (record (row_at b n) { state = Placing w notes (Some v); entries = remove (row_at b n).entries k })
 
-abbrev pub PublishStep : Board → ℕ → Told → Reply → Board → Type 0
+abbrev pub PublishStep : Board → ℕ → Contents → Reply → Board → Type 0
 PublishStep old w v Placed new =
     (n : ℕ) × (notes : List Note) × MayPublish old w n notes × Fits old n notes v
     × (k : Key) × (value : Record) × IsNextWrite (row_at old n) v k value × HasRoom old × (new ≡ placed old w n notes v k)
@@ -221,7 +221,7 @@ Step plan old (Check w n) reply new = CheckStep old w n reply new
 Step plan old (Commit n) reply new = CommitStep old n reply new
 
 -- a version settles: it is the meaning of its line on its notes
-abbrev pub IsVersion : Planned → Told → Type 0
+abbrev pub IsVersion : Planned → Contents → Type 0
 IsVersion plan v = Settles plan v.line v.reads v.writes v.answer
 
 abbrev pub ByVersion : Planned → Call → Type 0

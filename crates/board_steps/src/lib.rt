@@ -10,7 +10,7 @@ ghost use Rattle.circ_records.specs.declared.key.Key.{Key};
 ghost use Rattle.sip_answer.specs.declared.answer.Answer.{Answer};
 ghost use Rattle.read_set.specs.Plans.{Planned};
 ghost use Rattle.read_set.specs.Replay.{answer_of, before, last};
-ghost use Rattle.read_set.specs.Settling.{Told};
+ghost use Rattle.read_set.specs.Settling.{Contents};
 ghost use Rattle.read_set.specs.declared.notes.Note.{Note};
 ghost use Rattle.board_steps.specs.Board.{Board, IsCommitted, IsLine, Row, entry, entry_over, row_at, value_at};
 ghost use Rattle.board_steps.specs.Board.State.{Waiting, Done, Checking, Committed};
@@ -30,7 +30,7 @@ pub fn opening_is_reached()
 pub fn calls_keep()
     ensures take { (plan : Planned) (old : Board) (w n : ℕ) (reply : Reply) (new : Board) → Reached plan old → TakeStep old w n reply new → Reached plan new }
     ensures look { (plan : Planned) (old : Board) (w : ℕ) (k : Key) (reply : Reply) (new : Board) → Reached plan old → LookStep plan old w k reply new → Reached plan new }
-    ensures publish { (plan : Planned) (old : Board) (w : ℕ) (v : Told) (reply : Reply) (new : Board) → Reached plan old → IsVersion plan v → PublishStep old w v reply new → Reached plan new }
+    ensures publish { (plan : Planned) (old : Board) (w : ℕ) (v : Contents) (reply : Reply) (new : Board) → Reached plan old → IsVersion plan v → PublishStep old w v reply new → Reached plan new }
     ensures check { (plan : Planned) (old : Board) (w n : ℕ) (reply : Reply) (new : Board) → Reached plan old → CheckStep old w n reply new → Reached plan new }
     ensures commit { (plan : Planned) (old : Board) (n : ℕ) (reply : Reply) (new : Board) → Reached plan old → CommitStep old n reply new → Reached plan new }
 {}
@@ -39,7 +39,7 @@ pub fn calls_keep()
 pub fn calls_hold()
     ensures take { (plan : Planned) (old : Board) (w n : ℕ) (reply : Reply) (new : Board) → Reached plan old → TakeStep old w n reply new → EachHeld new }
     ensures look { (plan : Planned) (old : Board) (w : ℕ) (k : Key) (reply : Reply) (new : Board) → Reached plan old → LookStep plan old w k reply new → EachHeld new }
-    ensures publish { (plan : Planned) (old : Board) (w : ℕ) (v : Told) (reply : Reply) (new : Board) → Reached plan old → IsVersion plan v → PublishStep old w v reply new → EachHeld new }
+    ensures publish { (plan : Planned) (old : Board) (w : ℕ) (v : Contents) (reply : Reply) (new : Board) → Reached plan old → IsVersion plan v → PublishStep old w v reply new → EachHeld new }
     ensures check { (plan : Planned) (old : Board) (w n : ℕ) (reply : Reply) (new : Board) → Reached plan old → CheckStep old w n reply new → EachHeld new }
     ensures commit { (plan : Planned) (old : Board) (n : ℕ) (reply : Reply) (new : Board) → Reached plan old → CommitStep old n reply new → EachHeld new }
 {}

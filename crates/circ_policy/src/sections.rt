@@ -31,7 +31,7 @@ pub(crate) fn read_classes(
     }
 }
 
-/// The classes of the table, in byte order of their names, as the table lends them.
+/// The classes of the table, in byte order of their names, as the table gives them.
 fn class_entries(alloc: Global, table: &Table) -> Result<BTreeMap<Id, Class>, PolicyError>
     ensures { Gives (λ m. m.entries) result (entries class_in (in_byte_order (table_view table.now))) }
 {
@@ -95,7 +95,7 @@ pub(crate) fn read_media_types(
     }
 }
 
-/// The types of media of the table, in byte order of their codes, as the table lends them.
+/// The types of media of the table, in byte order of their codes, as the table gives them.
 fn media_entries(alloc: Global, table: &Table) -> Result<Vec<(MediaType, Media)>, PolicyError>
     ensures { Gives (λ m. m.items) result (entries media_in (in_byte_order (table_view table.now))) }
 {

@@ -9,7 +9,7 @@ ghost use Rattle.read_set.specs.Asks.{follow, Gains};
 ghost use Rattle.read_set.specs.Effects.{written, ◌⊕◌};
 ghost use Rattle.read_set.specs.Fees.{fee_made};
 ghost use Rattle.read_set.specs.Ids.{without};
-ghost use Rattle.read_set.specs.Checkouts.{freed, freed_by, lent, lent_list, lending_made, checkout};
+ghost use Rattle.read_set.specs.Checkouts.{loan_ended, loan_ended_by, lent, lent_list, lending_made, checkout};
 ghost use Rattle.read_set.specs.Loans.{lent_to};
 ghost use Rattle.read_set.specs.Maps.{Map, Agrees};
 ghost use Rattle.read_set.specs.Stops.{Follows};
@@ -79,14 +79,14 @@ fn other_of<S: Source>(
 }
 
 /// The other borrower's record, without the item among the loans. Without memory nothing is written.
-fn free(
+fn end_other_loan(
     alloc: Global,
     item: &Id,
     borrower: Id,
     other: Option<Member>,
     writes: &mut Draft,
 ) -> Result<(), AllocError>
-    ensures ok { OnOk result (writes.new ≡ written writes.old (freed item.now borrower other)) }
+    ensures ok { OnOk result (writes.new ≡ written writes.old (loan_ended item.now borrower other)) }
     ensures err { OnErr result (writes.new ≡ writes.old) }
 {
     let Some(other) = other else {
@@ -105,18 +105,18 @@ fn without_loan(alloc: Global, item: &Id, other: Member) -> Result<Patron, Alloc
     Ok(patron)
 }
 
-fn free_by(
+fn end_other_loan_by(
     alloc: Global,
     item: &Id,
     loan: Option<Loan>,
     other: Option<Member>,
     writes: &mut Draft,
 ) -> Result<(), AllocError>
-    ensures ok { OnOk result (writes.new ≡ written writes.old (freed_by item.now loan other)) }
+    ensures ok { OnOk result (writes.new ≡ written writes.old (loan_ended_by item.now loan other)) }
     ensures err { OnErr result (writes.new ≡ writes.old) }
 {
     match loan {
-        Some(loan) => free(alloc, item, loan.patron, other, writes),
+        Some(loan) => end_other_loan(alloc, item, loan.patron, other, writes),
         None => Ok(()),
     }
 }
@@ -162,13 +162,13 @@ fn write_lending(
     article: Article,
     other: Option<Member>,
 ) -> Result<Draft, AllocError>
-    ensures { IfOk result (λ w. w ≡ [] ⊕ freed_by asked.now.request.item article.item.loan other ⊕ ((keys.Patron asked.now.request.patron, records.Patron patron) ∷ (keys.Item asked.now.request.item, records.Item (lent asked.now.request due article.item)) ∷ []) ⊕ fee_made asked.now.number 0 asked.now.request.patron fee_types.Rental charge) }
+    ensures { IfOk result (λ w. w ≡ [] ⊕ loan_ended_by asked.now.request.item article.item.loan other ⊕ ((keys.Patron asked.now.request.patron, records.Patron patron) ∷ (keys.Item asked.now.request.item, records.Item (lent asked.now.request due article.item)) ∷ []) ⊕ fee_made asked.now.number 0 asked.now.request.patron fee_types.Rental charge) }
 {
     let alloc = asked.alloc;
     let n = asked.number;
     let a = &asked.request;
     let mut writes = Draft::new(alloc);
-    free_by(alloc, &a.item, loan_in(&article), other, &mut writes)?;
+    end_other_loan_by(alloc, &a.item, loan_in(&article), other, &mut writes)?;
     let item = lent_item(alloc, a, due, article)?;
     writes.put(Key::Patron(a.patron), Record::Patron(patron))?;
     writes.put(Key::Item(a.item), Record::Item(item))?;

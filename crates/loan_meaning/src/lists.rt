@@ -65,7 +65,7 @@ fn set_of(alloc: Global, ids: &[Id]) -> Result<BTreeSet<Id>, AllocError>
     Ok(set)
 }
 
-/// The ids that aren't gone; the gone ones are lent as a list and as a set.
+/// The ids that aren't gone; the gone ones are as a list and as a set.
 fn kept_all(
     alloc: Global,
     ids: &[Id],

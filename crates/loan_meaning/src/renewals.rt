@@ -1,12 +1,15 @@
 //! Renewal.
 
-ghost use Rattle.std.specs.Prelude.{◌≡◌, IfOk, OnOk, OnErr, Some};
+ghost use Rattle.std.specs.Prelude.{◌≡◌, ◌∷◌, [], if◌then◌else◌, nat_lt, IfOk, OnOk, Some};
+ghost use Rattle.circ_records.specs.declared.key.Key.TheVariants as keys;
+ghost use Rattle.circ_records.specs.declared.record.FeeType.TheVariants as fee_types;
+ghost use Rattle.circ_records.specs.declared.record.Record.TheVariants as records;
 ghost use Rattle.loan_meaning.specs.Renewals.{renewal_tests, renewal_rule, renew_rule_known, renew_rule};
 ghost use Rattle.loan_meaning.specs.Devices.Sums.{IsKnown};
 ghost use Rattle.read_set.specs.Asks.{follow, Gains};
-ghost use Rattle.read_set.specs.Effects.{written};
-ghost use Rattle.read_set.specs.Renewals.{may_renew, renewals_of, renewed_loan, renewed, charged, renewal_writes, renewal_made, renewal_by, renew};
-ghost use Rattle.read_set.specs.Fees.{with_fee};
+ghost use Rattle.read_set.specs.Effects.{◌⊕◌};
+ghost use Rattle.read_set.specs.Renewals.{may_renew, renewals_of, renewed_loan, renewed, renewal_made, renewal_by, renew};
+ghost use Rattle.read_set.specs.Fees.{fee_made};
 ghost use Rattle.read_set.specs.Maps.{Map, Agrees};
 ghost use Rattle.read_set.specs.Stops.{Follows};
 
@@ -19,7 +22,7 @@ use crate::telling::{refuse, refuse_for, tell_made};
 use circ_policy::Policy;
 use circ_records::{FeeType, Item, Key, Loan, Patron, Record};
 use read_set::{Article, Draft, Effect, LoanRequest, Member, Source, Stop, Verdict};
-use sip_reader::{Amount, Day, Id, Renew, Stamp};
+use sip_reader::{Amount, Day, Renew, Stamp};
 use std::alloc::{AllocError, Global};
 
 fn is_renewable(a: &LoanRequest, loan: Option<Loan>) -> bool
@@ -99,32 +102,6 @@ pub fn renew_loan_of(due: Day, article: Article) -> Item
     item
 }
 
-fn add_fee(n: u64, charge: Amount, member: Member) -> Result<Patron, AllocError>
-    ensures { IfOk result (λ p. p ≡ record member.patron { fees = with_fee n 0 charge member.patron.fees }) }
-{
-    let mut patron = member.into_patron();
-    list_fee(n, 0, charge, &mut patron.fees)?;
-    Ok(patron)
-}
-
-/// The patron's record with the fee, where one is charged. Without memory nothing is written.
-fn charge_patron(
-    n: u64,
-    id: Id,
-    charge: Amount,
-    member: Member,
-    writes: &mut Draft,
-) -> Result<(), AllocError>
-    ensures ok { OnOk result (writes.new ≡ written writes.old (charged n id charge member.patron)) }
-    ensures err { OnErr result (writes.new ≡ writes.old) }
-{
-    let patron = add_fee(n, charge, member)?;
-    if has_amount(charge) {
-        writes.put(Key::Patron(id), Record::Patron(patron))?;
-    }
-    Ok(())
-}
-
 #[tactic(auto, unfolding(read_set::specs::Renewals::renewal_made))]
 fn make_renewal(asked: &Asked<'_>, member: Member, article: Article) -> Result<Effect, AllocError>
     ensures { IfOk result (λ e. e ≡ renewal_made asked.now.policy.now asked.now.number asked.now.request asked.now.date member article) }
@@ -132,29 +109,40 @@ fn make_renewal(asked: &Asked<'_>, member: Member, article: Article) -> Result<E
     let due = due_of(asked, &article.media);
     let charge = charge_of(&asked.request, &article.media);
     let answer = tell_made(asked, &article, due, true, charge)?;
-    let writes = write_renewal(asked, due, charge, member, article)?;
+    let mut patron = member.into_patron();
+    list_fee(asked.number, 0, charge, &mut patron.fees)?;
+    let writes = write_renewal(asked, due, charge, patron, article)?;
     Ok(Effect {
         writes: writes.finish(asked.alloc)?,
         answer: Some(answer),
     })
 }
 
+/// The patron is written first, where a rental is charged, and its fee last.
 fn write_renewal(
     asked: &Asked<'_>,
     due: Day,
     charge: Amount,
-    member: Member,
+    patron: Patron,
     article: Article,
 ) -> Result<Draft, AllocError>
-    ensures { IfOk result (λ w. w ≡ renewal_writes asked.now.number asked.now.request due charge member article) }
+    ensures { IfOk result (λ w. w ≡ [] ⊕ (if nat_lt 0 charge then (keys.Patron asked.now.request.patron, records.Patron patron) ∷ [] else []) ⊕ ((keys.Item asked.now.request.item, records.Item (renewed due article.item)) ∷ []) ⊕ fee_made asked.now.number 0 asked.now.request.patron fee_types.Rental charge) }
 {
-    let n = asked.number;
-    let patron = asked.request.patron;
+    let a = &asked.request;
     let item = renew_loan_of(due, article);
     let mut writes = Draft::new(asked.alloc);
-    charge_patron(n, patron, charge, member, &mut writes)?;
-    writes.put(Key::Item(asked.request.item), Record::Item(item))?;
-    make_fee(n, 0, patron, FeeType::Rental, charge, &mut writes)?;
+    if has_amount(charge) {
+        writes.put(Key::Patron(a.patron), Record::Patron(patron))?;
+    }
+    writes.put(Key::Item(a.item), Record::Item(item))?;
+    make_fee(
+        asked.number,
+        0,
+        a.patron,
+        FeeType::Rental,
+        charge,
+        &mut writes,
+    )?;
     Ok(writes)
 }
 

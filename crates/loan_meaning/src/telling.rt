@@ -1,7 +1,7 @@
 //! What is answered to a checkout and to a renewal.
 
 ghost use Rattle.std.specs.Prelude.{◌≡◌, IfOk, Some};
-ghost use Rattle.read_set.specs.Loans.{known_item, told_rental, told_loan, by_kind, loan_answer, refused};
+ghost use Rattle.read_set.specs.Loans.{known_item, rental_in_answer, loan_answer_of, by_kind, loan_answer, refused};
 
 use crate::asked::Asked;
 use crate::fees::{has_amount, nothing};
@@ -22,7 +22,7 @@ fn show(alloc: Global, item: &Item) -> Result<KnownItem, AllocError>
 }
 
 fn tell_rental(rental: Amount) -> Option<Amount>
-    ensures { result ≡ told_rental rental }
+    ensures { result ≡ rental_in_answer rental }
 {
     if has_amount(rental) {
         Some(rental)
@@ -38,7 +38,7 @@ fn tell(
     renewed: bool,
     rental: Amount,
 ) -> LoanAnswer
-    ensures { result ≡ told_loan asked.now.policy.now asked.now.request asked.now.date known due renewed rental }
+    ensures { result ≡ loan_answer_of asked.now.policy.now asked.now.request asked.now.date known due renewed rental }
 {
     LoanAnswer {
         date: asked.date,
@@ -54,13 +54,13 @@ fn tell(
     }
 }
 
-fn answer(checkout: bool, told: LoanAnswer) -> Answer
-    ensures { result ≡ by_kind checkout told }
+fn answer(checkout: bool, parts: LoanAnswer) -> Answer
+    ensures { result ≡ by_kind checkout parts }
 {
     if checkout {
-        Answer::Checkout(told)
+        Answer::Checkout(parts)
     } else {
-        Answer::Renew(told)
+        Answer::Renew(parts)
     }
 }
 
@@ -75,8 +75,8 @@ pub fn tell_made(
     ensures { IfOk result (λ answer. answer ≡ loan_answer asked.now.policy.now asked.now.request asked.now.date (Some article.now.item) (Some due) renewed charge) }
 {
     let known = show(asked.alloc, &article.item)?;
-    let told = tell(asked, Some(known), Some(due), renewed, charge);
-    Ok(answer(asked.request.checkout, told))
+    let parts = tell(asked, Some(known), Some(due), renewed, charge);
+    Ok(answer(asked.request.checkout, parts))
 }
 
 /// A refusal, which tells a rental where it is for one.
@@ -92,8 +92,8 @@ pub fn refuse_for(
         Some(article) => Some(show(asked.alloc, &article.item)?),
         None => None,
     };
-    let told = tell(asked, known, None, false, rental);
-    let answer = answer(asked.request.checkout, told);
+    let parts = tell(asked, known, None, false, rental);
+    let answer = answer(asked.request.checkout, parts);
     Ok(Effect::unwritten(asked.alloc, Some(answer)))
 }
 

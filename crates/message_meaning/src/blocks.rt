@@ -4,7 +4,7 @@ ghost use Rattle.std.specs.Prelude.{◌≡◌, IfOk, Some};
 ghost use Rattle.message_meaning.specs.Blocks.{block_rule_known, block_rule};
 ghost use Rattle.read_set.specs.Asks.{follow, Gains};
 ghost use Rattle.read_set.specs.Maps.{Map, Agrees};
-ghost use Rattle.read_set.specs.Blocks.{status_of, member_status, no_status, patron_answer, told, blocked_by, block};
+ghost use Rattle.read_set.specs.Blocks.{status_of, member_status, no_status, patron_answer, block_answer, blocked_by, block};
 ghost use Rattle.read_set.specs.Stops.{Follows};
 
 use circ_policy::Policy;
@@ -60,7 +60,7 @@ fn unknown_status() -> PatronStatus
 }
 
 fn answer(asked: &BlockAsked<'_>, status: PatronStatus, known: Option<KnownPatron>) -> Answer
-    ensures { result ≡ told asked.now.blocks (patron_answer asked.now.policy.now asked.now.id.now asked.now.date status known) }
+    ensures { result ≡ block_answer asked.now.blocks (patron_answer asked.now.policy.now asked.now.id.now asked.now.date status known) }
 {
     let answer = PatronAnswer {
         date: asked.date,

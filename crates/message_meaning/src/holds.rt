@@ -3,7 +3,7 @@
 ghost use Rattle.std.specs.Prelude.{◌≡◌, ◌++◌, ◌∷◌, [], IfOk, option_map};
 ghost use Rattle.message_meaning.specs.Holds.{hold_rule};
 ghost use Rattle.read_set.specs.Asks.{follow, Gains};
-ghost use Rattle.read_set.specs.Holds.{refuses_hold, queue_after, hold_position, is_available, told_hold, hold_kept, hold_known, held, hold};
+ghost use Rattle.read_set.specs.Holds.{refuses_hold, queue_after, hold_position, is_available, hold_answer, hold_kept, hold_known, held, hold};
 ghost use Rattle.read_set.specs.Maps.{Map, Agrees};
 ghost use Rattle.read_set.specs.Stops.{Follows};
 
@@ -112,7 +112,7 @@ fn position_in(
 }
 
 #[tactic(auto, unfolding(read_set::specs::Holds::is_available))]
-fn is_free(request: &HoldRequest, item: &Item, holds: &Holds) -> bool
+fn is_available_to(request: &HoldRequest, item: &Item, holds: &Holds) -> bool
     ensures { result ≡ is_available request.now.patron item.now holds.now request.now.mode }
 {
     match request.mode {
@@ -131,7 +131,7 @@ fn tell(
     available: bool,
     position: Option<QueuePosition>,
 ) -> Answer
-    ensures { result ≡ told_hold asked.now.policy.now asked.now.request.now asked.now.date title ok available position }
+    ensures { result ≡ hold_answer asked.now.policy.now asked.now.request.now asked.now.date title ok available position }
 {
     Answer::Hold(HoldAnswer {
         date: asked.date,
@@ -149,7 +149,7 @@ fn tell(
 fn keep_queue(asked: &HoldAsked<'_>, item: Item, holds: Holds) -> Result<Effect, AllocError>
     ensures { IfOk result (λ e. e ≡ hold_kept asked.now.policy.now asked.now.request.now asked.now.date item holds) }
 {
-    let available = is_free(asked.request, &item, &holds);
+    let available = is_available_to(asked.request, &item, &holds);
     let position = position_in(asked.alloc, asked.request, &holds)?;
     let title = item.title.copy(asked.alloc)?;
     let answer = tell(asked, Some(title), true, available, position);

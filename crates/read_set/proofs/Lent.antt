@@ -20,7 +20,7 @@ use Rattle.read_set.specs.Coherence.{IsDay}
 use Rattle.read_set.specs.Fees.{fee_made}
 use Rattle.read_set.specs.Ids.{same, without}
 use Rattle.read_set.specs.Known.{item_in, patron_in}
-use Rattle.read_set.specs.Checkouts.{checkout, checkout_known, freed, freed_by, lending, lending_by, lending_made, lending_patron, lending_records, lending_verdict, lending_writes, lent, other_in}
+use Rattle.read_set.specs.Checkouts.{checkout, checkout_known, loan_ended, loan_ended_by, lending, lending_by, lending_made, lending_patron, lending_records, lending_verdict, lending_writes, lent, other_in}
 use Rattle.read_set.specs.Loans.{by_checkout, by_renew, charge_for, due_for, lent_to, refused}
 use Rattle.read_set.specs.Renewals.{renew, renew_known, renewal}
 use Rattle.read_set.specs.Maps.{Map, put}
@@ -89,7 +89,7 @@ lending-writes : (p : Terms) (n : ℕ) (M : Map) → Line p n M → (a : LoanReq
     → Parts p (n + 1) (put (lending_writes n a due charge member article (other_in p M a.patron article.item.loan)) M)
 lending-writes p n M line a due charge member article day most e f =
     subst (λ (N : Map). Parts p (n + 1) N)
-    (sym (put-three (freed_by a.item article.item.loan (other_in p M a.patron article.item.loan)) (lending_records n a due charge member article) (fee_made n 0 a.patron fee_types.Rental charge) M))
+    (sym (put-three (loan_ended_by a.item article.item.loan (other_in p M a.patron article.item.loan)) (lending_records n a due charge member article) (fee_made n 0 a.patron fee_types.Rental charge) M))
     (by article.item.loan refl)
   where
     own : loans_of M a.patron ≡ Some member.patron.loans
@@ -106,7 +106,7 @@ lending-writes p n M line a due charge member article day most e f =
         (subst (λ (x : Option Loan). IsListed (set_at a.patron (Some (kept_list a x member.patron.loans)) L) (set_at a.item None (lent_by M))) (sym l) listed)
 
     lent-to : (loan : Loan) → article.item.loan ≡ Some loan → (b : Bool) → same loan.patron a.patron ≡ b
-        → Parts p (n + 1) (puts (fee_made n 0 a.patron fee_types.Rental charge) (puts (lending_records n a due charge member article) (puts (freed a.item loan.patron (cond b None (patron_in p M loan.patron))) M)))
+        → Parts p (n + 1) (puts (fee_made n 0 a.patron fee_types.Rental charge) (puts (lending_records n a due charge member article) (puts (loan_ended a.item loan.patron (cond b None (patron_in p M loan.patron))) M)))
     lent-to loan l true t =
         let one : loan.patron ≡ a.patron = same-text loan.patron a.patron (sym (same-is loan.patron a.patron) ∙ t) in
         let has : lent_by M a.item ≡ Some a.patron = lent-at M a.item article.item f ∙ ap borrower_of l ∙ ap Some one in
@@ -127,13 +127,13 @@ lending-writes p n M line a due charge member article day most e f =
         let s : State p (n + 1) M (put_one (keys.Patron loan.patron) (records.Patron other) M) L (lent_by M) (fees_of M) (owed_by M) =
         subst (λ (x : List ℕ → Option (List (List ℕ))). State p (n + 1) M (put_one (keys.Patron loan.patron) (records.Patron other) M) L (lent_by M) x (owed_by M)) (same-fees M loan.patron m.0.patron there)
         (put-patron begin loan.patron other (same-patron p (n + 1) M loan.patron m.0.patron other line.parts.sound there refl refl)) in
-        subst (λ (o : Option Member). Parts p (n + 1) (puts (fee_made n 0 a.patron fee_types.Rental charge) (puts (lending_records n a due charge member article) (puts (freed a.item loan.patron o) M)))) (sym m.1)
+        subst (λ (o : Option Member). Parts p (n + 1) (puts (fee_made n 0 a.patron fee_types.Rental charge) (puts (lending_records n a due charge member article) (puts (loan_ended a.item loan.patron o) M)))) (sym m.1)
         (from (put_one (keys.Patron loan.patron) (records.Patron other) M) L (Some loan) l s
         (subst (λ (b : Bool). IsListed (set_at a.patron (Some (cond b (without a.item member.patron.loans) member.patron.loans)) L) (set_at a.item None (lent_by M))) (sym t)
         (subst (λ (x : List ℕ → Option (List (List ℕ))). IsListed x (set_at a.item None (lent_by M))) (sym (set-same a.patron (Some member.patron.loans) L kept)) less)))
 
     by : (o : Option Loan) → article.item.loan ≡ o
-        → Parts p (n + 1) (puts (fee_made n 0 a.patron fee_types.Rental charge) (puts (lending_records n a due charge member article) (puts (freed_by a.item o (other_in p M a.patron o)) M)))
+        → Parts p (n + 1) (puts (fee_made n 0 a.patron fee_types.Rental charge) (puts (lending_records n a due charge member article) (puts (loan_ended_by a.item o (other_in p M a.patron o)) M)))
     by None l =
         let none : lent_by M a.item ≡ None = lent-at M a.item article.item f ∙ ap borrower_of l in
         from M (loans_of M) None l begin

@@ -41,16 +41,16 @@ abbrev pub puts : Entries → Map → Map
 puts [] M = M
 puts (e ∷ more) M = puts more (put_one e.0 e.1 M)
 
-over : (b : Bool) (r : Record) (o p : Option Record) → option_or (cond b (Some r) o) p ≡ cond b (Some r) (option_or o p)
-over true r o p = refl
-over false r o p = refl
+either_put : (b : Bool) (r : Record) (o p : Option Record) → option_or (cond b (Some r) o) p ≡ cond b (Some r) (option_or o p)
+either_put true r o p = refl
+either_put false r o p = refl
 
 pub put-none : (M : Map) → put [] M ≡ M
 put-none M = fun_ext (λ x. refl)
 
 pub put-inserted : (w : Entries) (k : Key) (r : Record) (M : Map) → put (insert_entry key_cmp w k r) M ≡ put_one k r (put w M)
 unfolding put_one
-put-inserted w k r M = fun_ext (λ x. ap (λ o. option_or o (M x)) (put-at w k r x) ∙ over (is_eq (key_cmp x k)) r (record_at w x) (M x))
+put-inserted w k r M = fun_ext (λ x. ap (λ o. option_or o (M x)) (put-at w k r x) ∙ either_put (is_eq (key_cmp x k)) r (record_at w x) (M x))
 
 pub put-written : (w es : Entries) (M : Map) → put (written w es) M ≡ puts es (put w M)
 put-written w [] M = refl
@@ -58,7 +58,7 @@ put-written w (e ∷ more) M = put-written (insert_entry key_cmp w e.0 e.1) more
 
 pub put-single : (k : Key) (r : Record) (M : Map) → put ((k, r) ∷ []) M ≡ put_one k r M
 unfolding put_one
-put-single k r M = fun_ext (λ x. over (is_eq (key_cmp x k)) r None (M x))
+put-single k r M = fun_ext (λ x. either_put (is_eq (key_cmp x k)) r None (M x))
 
 -- what stands at a key after a record was put
 pub at-patron : (a : List ℕ) (r : Record) (M : Map) (x : List ℕ) → put_one (keys.Patron a) r M (keys.Patron x) ≡ cond (is_same x a) (Some r) (M (keys.Patron x))

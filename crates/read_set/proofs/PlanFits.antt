@@ -22,7 +22,7 @@ use Rattle.journal_table.specs.Readings.{EndInTime, IsRead, NumberedReading, fir
 use Rattle.sip_reader.specs.declared.request.Reading.{Reading}
 use Rattle.csv_table.specs.Rows.{rows_under}
 use Rattle.read_set.specs.Coherence.{FitsPlan, FitsReading, ReadPlansStayCoherent, FinalTablesReadBack, StaysCoherent}
-use Rattle.read_set.specs.Plans.{beginning, over, plan_of, plan_read, readings_of, Planned}
+use Rattle.read_set.specs.Plans.{beginning, plan_over, plan_of, plan_read, readings_of, Planned}
 use Rattle.read_set.proofs.Kept.{replay-keeps}
 use Rattle.read_set.proofs.ReadingFits.{reading-fits}
 
@@ -82,7 +82,7 @@ none-coherent : (policy : Terms) (n : ℕ) → Coherent policy n []
 none-coherent policy n = record { kinds = λ k r e. cc; patrons = λ id p e. cc; items = λ id i e. cc; fees = λ id f e. cc }
 
 -- so a plan that fits does over no records
-pub bare-fits : (plan : Planned) → FitsPlan plan → FitsPlan (over plan [])
+pub bare-fits : (plan : Planned) → FitsPlan plan → FitsPlan (plan_over plan [])
 bare-fits plan fits = record { policy = fits.policy; readings = fits.readings; base = none-coherent plan.policy plan.first; few = omega arith; last = fits.last }
 
 pub read-plans : (base : Entries) → length base ≤ 2 ^ 64 → ReadPlansStayCoherent base

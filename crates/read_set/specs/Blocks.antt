@@ -37,19 +37,19 @@ abbrev pub patron_answer : Terms → List ℕ → List ℕ → PatronStatus → 
 patron_answer p id date status known = record { date = date; institution = p.institution; patron = id; status = status; currency = p.currency; known = known }
 
 -- the answer to a block, and to an enable
-abbrev pub told : Bool → PatronAnswer → Answer
-told true a = answers.BlockPatron a
-told false a = answers.PatronEnable a
+abbrev pub block_answer : Bool → PatronAnswer → Answer
+block_answer true a = answers.BlockPatron a
+block_answer false a = answers.PatronEnable a
 
 -- the block is set or cleared, and the status is that after the change; a known patron is written also where the block
 -- stood so
 unfoldable pub blocked_by : Terms → Bool → List ℕ → List ℕ → Member → ℕ → Effect
 blocked_by p blocks id date member owes = writing
     ((keys.Patron id, records.Patron (record member.patron { blocked = blocks })) ∷ [])
-    (told blocks (patron_answer p id date (member_status blocks member owes) (Some (record { name = member.patron.name; owed = owes }))))
+    (block_answer blocks (patron_answer p id date (member_status blocks member owes) (Some (record { name = member.patron.name; owed = owes }))))
 
 abbrev pub block_known : Terms → Bool → List ℕ → List ℕ → Map → Option Member → Effect
-block_known p blocks id date M None = unwritten (Some (told blocks (patron_answer p id date no_status None)))
+block_known p blocks id date M None = unwritten (Some (block_answer blocks (patron_answer p id date no_status None)))
 block_known p blocks id date M (Some member) = blocked_by p blocks id date member (owed M member.patron.fees)
 
 abbrev pub block : Terms → Bool → List ℕ → List ℕ → Map → Effect

@@ -41,13 +41,13 @@ other_in p M patron None = None
 other_in p M patron (Some loan) = if same loan.patron patron then None else patron_in p M loan.patron
 
 -- the item leaves the other's list; a borrower that counts as unknown isn't written
-abbrev pub freed : List ℕ → List ℕ → Option Member → Entries
-freed item borrower None = []
-freed item borrower (Some other) = (keys.Patron borrower, records.Patron (record other.patron { loans = without item other.patron.loans })) ∷ []
+abbrev pub loan_ended : List ℕ → List ℕ → Option Member → Entries
+loan_ended item borrower None = []
+loan_ended item borrower (Some other) = (keys.Patron borrower, records.Patron (record other.patron { loans = without item other.patron.loans })) ∷ []
 
-abbrev pub freed_by : List ℕ → Option Loan → Option Member → Entries
-freed_by item None other = []
-freed_by item (Some loan) other = freed item loan.patron other
+abbrev pub loan_ended_by : List ℕ → Option Loan → Option Member → Entries
+loan_ended_by item None other = []
+loan_ended_by item (Some loan) other = loan_ended item loan.patron other
 
 -- the item with its new loan; the patron's own hold leaves
 abbrev pub lent : LoanRequest → ℕ → Item → Item
@@ -69,7 +69,7 @@ lending_records n a due charge member article =
 -- made on a due day at a charge: a loan that the item has ends without a fee, and the item gets a loan with 0 renewals
 abbrev pub lending_writes : ℕ → LoanRequest → ℕ → ℕ → Member → Article → Option Member → Entries
 lending_writes n a due charge member article other =
-    [] ⊕ freed_by a.item article.item.loan other ⊕ lending_records n a due charge member article ⊕ fee_made n 0 a.patron fee_types.Rental charge
+    [] ⊕ loan_ended_by a.item article.item.loan other ⊕ lending_records n a due charge member article ⊕ fee_made n 0 a.patron fee_types.Rental charge
 
 unfoldable pub lending_made : Terms → ℕ → LoanRequest → List ℕ → Member → Article → Option Member → Effect
 lending_made p n a date member article other = writing

@@ -48,8 +48,8 @@ unfoldable pub is_available : List ℕ → Item → List Hold → HoldMode → B
 is_available patron item holds modes.Delete = false
 is_available patron item holds _ = not (is_lent item.loan) && (has_queue holds && not (first_is_another patron holds))
 
-abbrev pub told_hold : Terms → HoldRequest → List ℕ → Option (List ℕ) → Bool → Bool → Option QueuePosition → Answer
-told_hold p q date title ok available position = answers.Hold (record {
+abbrev pub hold_answer : Terms → HoldRequest → List ℕ → Option (List ℕ) → Bool → Bool → Option QueuePosition → Answer
+hold_answer p q date title ok available position = answers.Hold (record {
   date = date;
   institution = p.institution;
   patron = q.patron;
@@ -63,17 +63,17 @@ told_hold p q date title ok available position = answers.Hold (record {
 unfoldable pub hold_kept : Terms → HoldRequest → List ℕ → Item → List Hold → Effect
 hold_kept p q date item holds = writing
     ((keys.Item q.item, records.Item (record item { holds = holds })) ∷ [])
-    (told_hold p q date (Some item.title) true (is_available q.patron item holds q.mode) (hold_position q holds q.mode))
+    (hold_answer p q date (Some item.title) true (is_available q.patron item holds q.mode) (hold_position q holds q.mode))
 
 abbrev pub hold_known : Terms → HoldRequest → List ℕ → Bool → Item → Effect
 hold_known p q date blocked item =
-    if refuses_hold q.mode q.patron blocked item then unwritten (Some (told_hold p q date (Some item.title) false false None))
+    if refuses_hold q.mode q.patron blocked item then unwritten (Some (hold_answer p q date (Some item.title) false false None))
     else hold_kept p q date item (queue_after q item.holds q.mode)
 
 -- an unknown patron or item is refused
 unfoldable pub held : Terms → HoldRequest → List ℕ → Option Member → Option Article → Effect
 held p q date (Some member) (Some article) = hold_known p q date member.patron.blocked article.item
-held p q date _ article = unwritten (Some (told_hold p q date (option_map (λ a. a.item.title) article) false false None))
+held p q date _ article = unwritten (Some (hold_answer p q date (option_map (λ a. a.item.title) article) false false None))
 
 abbrev pub hold : Terms → HoldRequest → List ℕ → Map → Effect
 hold p q date M = held p q date (patron_in p M q.patron) (item_in p M q.item)

@@ -56,15 +56,15 @@ abbrev pub known_item : Item → KnownItem
 known_item item = record { title = item.title; media = item.media; properties = item.properties }
 
 -- a rental is told where it is above 0
-abbrev pub told_rental : ℕ → Option ℕ
-told_rental rental = if nat_lt 0 rental then Some rental else None
+abbrev pub rental_in_answer : ℕ → Option ℕ
+rental_in_answer rental = if nat_lt 0 rental then Some rental else None
 
 abbrev pub by_kind : Bool → LoanAnswer → Answer
 by_kind true a = answers.Checkout a
 by_kind false a = answers.Renew a
 
-abbrev pub told_loan : Terms → LoanRequest → List ℕ → Option KnownItem → Option ℕ → Bool → ℕ → LoanAnswer
-told_loan p a date known due renewed rental = record {
+abbrev pub loan_answer_of : Terms → LoanRequest → List ℕ → Option KnownItem → Option ℕ → Bool → ℕ → LoanAnswer
+loan_answer_of p a date known due renewed rental = record {
   date = date;
   institution = p.institution;
   patron = a.patron;
@@ -73,12 +73,12 @@ told_loan p a date known due renewed rental = record {
   due = due;
   due_form = p.due_form;
   renewed = renewed;
-  rental = told_rental rental;
+  rental = rental_in_answer rental;
   currency = p.currency;
 }
 
 abbrev pub loan_answer : Terms → LoanRequest → List ℕ → Option Item → Option ℕ → Bool → ℕ → Answer
-loan_answer p a date item due renewed rental = by_kind a.checkout (told_loan p a date (option_map known_item item) due renewed rental)
+loan_answer p a date item due renewed rental = by_kind a.checkout (loan_answer_of p a date (option_map known_item item) due renewed rental)
 
 -- nothing is written; a rental for which the request is refused is told
 unfoldable pub refused : Terms → LoanRequest → List ℕ → Option Article → ℕ → Effect

@@ -29,8 +29,8 @@ abbrev pub plan_read : Terms → Entries → List NumberedReading → Planned
 plan_read policy base read = record { policy = policy; base = base; first = unwrap_or (first_read read) 10000000000; readings = map reading_in read }
 
 -- the plan of the same lines over other records
-abbrev pub over : Planned → Entries → Planned
-over plan base = record plan { base = base }
+abbrev pub plan_over : Planned → Entries → Planned
+plan_over plan base = record plan { base = base }
 
 -- what the line of a number is read as
 abbrev pub reading_at : Planned → ℕ → Option Reading

@@ -18,7 +18,7 @@ abbrev pub Settles : Planned → ℕ → List Note → Entries → Option Answer
 Settles plan line notes writes answer = (M : Map) → AreTrue notes M → GivesAt plan line M (record { writes = writes; answer = answer })
 
 -- what a version says
-pub record Told : Type 0 where
+pub record Contents : Type 0 where
   pub line : ℕ
   pub attempt : ℕ
   pub reads : List Note

@@ -9,7 +9,7 @@ ghost use Rattle.journal_table.specs.Entry.{Entry, first_number};
 ghost use Rattle.journal_table.specs.Readings.{first_read, reading_at as reading_in, readings_of as all_read};
 ghost use Rattle.journal_table.specs.declared.TheConstants.{LINE_LIMIT};
 ghost use Rattle.read_set.specs.Coherence.{StaysCoherent};
-ghost use Rattle.read_set.specs.Plans.{over, plan_of, plan_read, reading_at};
+ghost use Rattle.read_set.specs.Plans.{plan_over, plan_of, plan_read, reading_at};
 
 use circ_policy::Policy;
 use circ_records::{Base, Key, Record};
@@ -156,7 +156,7 @@ impl Plan {
     /// The records before the first line, taken out: the plan is then that of the same lines over no records.
     pub fn take_base(&mut self, alloc: Global) -> BTreeMap<Key, Record>
         ensures records { result.entries ≡ self.old.base }
-        ensures left { self.new ≡ over self.old [] }
+        ensures left { self.new ≡ plan_over self.old [] }
     {
         self.base.take(alloc)
     }

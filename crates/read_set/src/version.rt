@@ -36,9 +36,9 @@ impl<J: PlanName> Drop for Version<J> {
 }
 
 impl<J: PlanName> Model for Version<J> {
-    ghost use Rattle.read_set.specs.Settling.{Told, Settles};
+    ghost use Rattle.read_set.specs.Settling.{Contents, Settles};
 
-    ghost Value = { Told };
+    ghost Value = { Contents };
 
     ghost view = { λ v. record { line = v.line; attempt = v.attempt; reads = v.reads; writes = v.writes; answer = v.answer } };
 

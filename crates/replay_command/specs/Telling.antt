@@ -77,6 +77,6 @@ remedy_of o (stops.File path) = string_bytes path ++ codes ": see that it is the
 remedy_of o stops.Output = []
 
 -- what is told: the line, and behind it what to do just where that is asked for
-abbrev pub told_of : Stop → Option Options → List ℕ
-told_of stop None = line_of stop
-told_of stop (Some options) = line_of stop ++ remedy_of options stop
+abbrev pub stop_text : Stop → Option Options → List ℕ
+stop_text stop None = line_of stop
+stop_text stop (Some options) = line_of stop ++ remedy_of options stop

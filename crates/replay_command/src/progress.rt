@@ -46,7 +46,7 @@ pub struct Progress<'a, R> {
     first: AtomicU64,
     end: AtomicU64,
     /// The milliseconds of the clock at the last count.
-    told: AtomicU64,
+    shown_at: AtomicU64,
 }
 
 impl<R> Drop for Progress<'_, R> {
@@ -56,7 +56,7 @@ impl<R> Drop for Progress<'_, R> {
             shown: _,
             first: _,
             end: _,
-            told: _,
+            shown_at: _,
         } = self;
     }
 }
@@ -69,7 +69,7 @@ impl<'a, R: Clock + Eprint> Progress<'a, R> {
             shown,
             first: AtomicU64::new(0),
             end: AtomicU64::new(0),
-            told: AtomicU64::new(0),
+            shown_at: AtomicU64::new(0),
         };
         progress.show(Phase::Reading);
         progress
@@ -126,20 +126,20 @@ impl<'a, R: Clock + Eprint> Progress<'a, R> {
             return false;
         };
         let now = u64::try_from(since.as_millis()).unwrap_or(0);
-        let told = self.told.load(Ordering::SeqCst);
-        is_old(told, now)
+        let shown_at = self.shown_at.load(Ordering::SeqCst);
+        is_old(shown_at, now)
             && self
-                .told
-                .compare_exchange(told, now, Ordering::SeqCst, Ordering::SeqCst)
+                .shown_at
+                .compare_exchange(shown_at, now, Ordering::SeqCst, Ordering::SeqCst)
                 .is_ok()
     }
 }
 
 /// Whether a count of one time may be followed by one of another.
-fn is_old(told: u64, now: u64) -> bool
-    ensures { result ≡ nat_le 200 (now - told) }
+fn is_old(shown_at: u64, now: u64) -> bool
+    ensures { result ≡ nat_le 200 (now - shown_at) }
 {
-    now.saturating_sub(told) >= BETWEEN
+    now.saturating_sub(shown_at) >= BETWEEN
 }
 
 /// The number that a row of a journal begins with.

@@ -1,7 +1,7 @@
 //! What to do about what stopped a run, in words that need no knowledge of this program.
 
 ghost use Rattle.std.specs.Prelude.{◌≡◌, Some, option_map};
-ghost use Rattle.replay_command.specs.Telling.{fault_remedy, key_remedy, line_remedy, remedy_of, row_remedy, told_of};
+ghost use Rattle.replay_command.specs.Telling.{fault_remedy, key_remedy, line_remedy, remedy_of, row_remedy, stop_text};
 
 use crate::stop::Stop;
 use circ_records::BaseRule;
@@ -12,14 +12,14 @@ use std::fmt;
 
 /// What is told of a stop: its line, and behind it, where that is asked for, what to do.
 #[derive(Clone, Copy)]
-pub struct Told<'a> {
+pub struct StopText<'a> {
     pub stop: &'a Stop,
     /// What the run was asked for, where what to do is to be told too.
     pub asked: Option<&'a Options>,
 }
 
-impl fmt::Display for Told<'_> {
-    ghost output = { λ told. Some (told_of told.stop.now (option_map (λ o. o.now) told.asked)) };
+impl fmt::Display for StopText<'_> {
+    ghost output = { λ text. Some (stop_text text.stop.now (option_map (λ o. o.now) text.asked)) };
 
     fn fmt<W: fmt::Write>(&self, f: &mut fmt::Formatter<W>) -> fmt::Result {
         let stop = self.stop;

@@ -3,9 +3,9 @@
 ghost use Rattle.std.specs.Prelude.{◌≡◌, OnOk, Some, option_map};
 ghost use Rattle.std.specs.Io.KnownBytes.{Appends};
 ghost use Rattle.replay_command.specs.Statuses.{status_of};
-ghost use Rattle.replay_command.specs.Telling.{line_of, told_of};
+ghost use Rattle.replay_command.specs.Telling.{line_of, stop_text};
 
-use crate::remedy::Told;
+use crate::remedy::StopText;
 use command_line::Options;
 use replay_run::Fault;
 use std::alloc::{AllocError, Global};
@@ -77,9 +77,9 @@ impl Stop {
     }
 
     fn print<E: Write>(&self, asked: Option<&Options>, err: &mut E) -> io::Result<()>
-        ensures { OnOk result (Appends (E.contents err.old) (E.contents err.new) (told_of self.now (option_map (λ o. o.now) asked.entry))) }
+        ensures { OnOk result (Appends (E.contents err.old) (E.contents err.new) (stop_text self.now (option_map (λ o. o.now) asked.entry))) }
     {
-        write!(err, "{}", Told { stop: self, asked })
+        write!(err, "{}", StopText { stop: self, asked })
     }
 
     fn status(&self) -> u8

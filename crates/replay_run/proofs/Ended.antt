@@ -24,7 +24,7 @@ use Rattle.read_set.specs.Plans.{Planned, reading_at}
 use Rattle.read_set.specs.Replay.{after, answer_of, before, last, one_at, one_by}
 use Rattle.result_report.specs.BoardEnds.{entered_on}
 use Rattle.result_report.specs.Ends.{AreRecordsAt, keys_named, lines_keys, named_keys, numbers_of, only_at}
-use Rattle.result_report.specs.Report.{told}
+use Rattle.result_report.specs.Report.{line_results}
 use Rattle.result_report.specs.Tables.{AreTexts}
 use Rattle.result_report.specs.declared.outcome.Outcome.{Outcome}
 use Rattle.speculate.specs.Finishing.{IsWhole}
@@ -192,7 +192,7 @@ output_alone plan lines c o collected made =
     let alone = collected_alone plan c collected in
     record {
       tables = (c.records, alone.records, made.tables);
-      results = subst (λ answers. AreTexts (told lines plan.readings answers) (results_of o)) alone.answers made.results;
+      results = subst (λ answers. AreTexts (line_results lines plan.readings answers) (results_of o)) alone.answers made.results;
       each_once = made.each_once;
       attempts = made.attempts ∙ alone.attempts;
     }

@@ -5,7 +5,7 @@ use Rattle.sip_answer.specs.declared.answer.Answer.{Answer}
 use Rattle.read_set.specs.Maps.{Map}
 use Rattle.circ_records.specs.Records.{Entries}
 use Rattle.sip_reader.specs.declared.request.Reading.{Reading}
-use Rattle.read_set.specs.Plans.{Planned, over, reading_at}
+use Rattle.read_set.specs.Plans.{Planned, plan_over, reading_at}
 use Rattle.read_set.specs.Replay.{after, one_at, one_by}
 use Rattle.replay_run.specs.Answers.{first_answers}
 
@@ -26,10 +26,10 @@ replayed-next plan n line M N answers a at so answered stands =
     } in
     subst (λ m. Replayed plan m N (answers ++ a ∷ [])) next more
 
-over-by : (plan : Planned) (base : Entries) (line : ℕ) (r : Option Reading) (M : Map) → one_by (over plan base) line r M ≡ one_by plan line r M
+over-by : (plan : Planned) (base : Entries) (line : ℕ) (r : Option Reading) (M : Map) → one_by (plan_over plan base) line r M ≡ one_by plan line r M
 over-by plan base line None M = refl
 over-by plan base line (Some r) M = refl
 
 -- a line does the same over other records before the first
-pub over-at : (plan : Planned) (base : Entries) (line : ℕ) (M : Map) → one_at (over plan base) line M ≡ one_at plan line M
+pub over-at : (plan : Planned) (base : Entries) (line : ℕ) (M : Map) → one_at (plan_over plan base) line M ≡ one_at plan line M
 over-at plan base line M = over-by plan base line (reading_at plan line) M

@@ -8,7 +8,7 @@ use Rattle.journal_table.specs.Entry.{Entry}
 use Rattle.read_set.specs.Maps.{Map}
 use Rattle.read_set.specs.Plans.{Planned}
 use Rattle.read_set.specs.Replay.{last}
-use Rattle.result_report.specs.Report.{Told, told}
+use Rattle.result_report.specs.Report.{LineResult, line_results}
 use Rattle.result_report.specs.Tables.{AreTexts}
 use Rattle.result_report.specs.declared.texts.Texts.{Texts as Results}
 use Rattle.replay_run.specs.Answers.{answers_of}
@@ -23,8 +23,8 @@ abbrev pub TellsMap : Map → Texts → Type 0
 TellsMap M texts = (entries : Entries) × AreEntries M entries × (texts ≡ tables_of entries)
 
 -- the lines of the journal, each with its reading and its answer in the replay by one thread
-abbrev pub told_lines : Planned → List Entry → List Told
-told_lines plan lines = told lines plan.readings (answers_of plan)
+abbrev pub results_by_plan : Planned → List Entry → List LineResult
+results_by_plan plan lines = line_results lines plan.readings (answers_of plan)
 
 -- the result tables of an output, and the numbers of their rows
 abbrev pub results_of : Output → Results
@@ -34,7 +34,7 @@ results_of o = record { answers = o.answers; report = o.report; passed = o.passe
 -- attempts are these.
 pub record IsOutputBy (plan : Planned) (lines : List Entry) (tried : List ℕ) (o : Output) : Type 0 where
   pub tables : TellsMap (last plan) (texts_of o.tables)
-  pub results : AreTexts (told_lines plan lines) (results_of o)
+  pub results : AreTexts (results_by_plan plan lines) (results_of o)
   pub each_once : o.sizes.answered + o.sizes.passed ≡ length lines
   pub attempts : o.attempts.items ≡ tried
 

@@ -5,7 +5,7 @@ ghost use Rattle.circ_records.specs.Tables.{texts_of};
 ghost use Rattle.circ_records.specs.Written.{tables_of};
 ghost use Rattle.read_set.specs.Plans.{readings_of};
 ghost use Rattle.read_set.specs.Replay.{last};
-ghost use Rattle.result_report.specs.Report.{AreAnswers, answers_behind, told};
+ghost use Rattle.result_report.specs.Report.{AreAnswers, answers_behind, line_results};
 ghost use Rattle.result_report.specs.Tables.{AreTexts};
 ghost use Rattle.replay_run.specs.Answers.{answers_of};
 ghost use Rattle.replay_run.specs.BySteps.{AreWorkers, attempts_on};
@@ -136,7 +136,7 @@ fn write_parallel<R: Threads + Sync>(
     requires planned { plan.now.readings ≡ readings_of journal.now }
     requires answered { AreAnswers (readings_of journal.now) (answers_behind outcome.answers.items) }
     ensures tables { IfOk result (λ o. texts_of o.tables ≡ tables_of outcome.entry.records) }
-    ensures results { IfOk result (λ o. AreTexts (told journal.now (readings_of journal.now) (answers_behind outcome.entry.answers.items)) (results_of o)) }
+    ensures results { IfOk result (λ o. AreTexts (line_results journal.now (readings_of journal.now) (answers_behind outcome.entry.answers.items)) (results_of o)) }
     ensures each_once { IfOk result (λ o. o.sizes.answered + o.sizes.passed ≡ length journal.now) }
     ensures attempts { IfOk result (λ o. o.attempts.items ≡ outcome.entry.attempts.items) }
 {
@@ -148,18 +148,18 @@ fn write_parallel<R: Threads + Sync>(
     let tables = write_records(alloc, &records)?;
     // their memory is wanted for the texts
     drop(records);
-    let told = Outcome {
+    let rest = Outcome {
         records: Records::from_map(BTreeMap::new(alloc)),
         answers,
         attempts,
     };
-    let texts = report_parallel(rt, alloc, journal, plan, &told)?;
+    let texts = report_parallel(rt, alloc, journal, plan, &rest)?;
     Ok(Output {
         tables,
         answers: texts.answers,
         report: texts.report,
         passed: texts.passed,
         sizes: texts.sizes,
-        attempts: told.attempts,
+        attempts: rest.attempts,
     })
 }

@@ -8,7 +8,7 @@ ghost use Rattle.replay_run.specs.OwnEnd.{IsAlone, IsCollectedAlone, IsMadeOf};
 ghost use Rattle.replay_run.specs.declared.inputs.Output.{Output};
 ghost use Rattle.result_report.specs.declared.outcome.Outcome.{Outcome};
 
-/// One thread has an end of its own, which lends of each line the answer of the replay, the attempt 0 and the keys that the line
+/// One thread has an end of its own, which gives of each line the answer of the replay, the attempt 0 and the keys that the line
 /// wrote, and the records after the last line. What `collect` gives of that end is just what one thread comes to, and the
 /// output that is made of it is the output of one thread. `one_thread` makes it of what it has itself, without a call of
 /// `collect`, so that no record is copied.

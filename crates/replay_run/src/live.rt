@@ -28,7 +28,7 @@ impl Live {
     ghost use Rattle.replay_run.specs.Live.{standing};
 
     /// These records.
-    pub fn over(records: BTreeMap<Key, Record>) -> Live
+    pub fn new(records: BTreeMap<Key, Record>) -> Live
         ensures { (k : Key) → standing result k ≡ record_at records.entries k }
     {
         Live { records }

@@ -3,7 +3,7 @@
 ghost use Rattle.std.specs.Prelude.{◌≡◌, IfOk, OnOk, length, replicate};
 ghost use Rattle.circ_records.specs.declared.key.Key.{Key};
 ghost use Rattle.read_set.specs.Maps.{Map};
-ghost use Rattle.read_set.specs.Plans.{over};
+ghost use Rattle.read_set.specs.Plans.{plan_over};
 ghost use Rattle.read_set.specs.Replay.{last, one_at};
 ghost use Rattle.replay_run.specs.Answers.{answers_of};
 ghost use Rattle.replay_run.specs.Entries.{AreEntries};
@@ -44,13 +44,13 @@ fn replay_over(
     plan: &Plan,
     base: BTreeMap<Key, Record>,
 ) -> Result<ReplayEnd, AllocError>
-    ensures answers { IfOk result (λ o. o.answers.items ≡ answers_of (over plan.now base.entries)) }
-    ensures records { IfOk result (λ o. AreEntries (last (over plan.now base.entries)) o.records) }
+    ensures answers { IfOk result (λ o. o.answers.items ≡ answers_of (plan_over plan.now base.entries)) }
+    ensures records { IfOk result (λ o. AreEntries (last (plan_over plan.now base.entries)) o.records) }
     ensures attempts { IfOk result (λ o. o.attempts.items ≡ replicate (length plan.now.readings) 0) }
 {
     let count = plan.readings().len();
     let first = plan.first();
-    let mut live = Live::over(base);
+    let mut live = Live::new(base);
     let mut answers = Vec::with_capacity(alloc, count)?;
     for i in 0..count {
         answers.push(take_line(alloc, plan, first + i as u64, &mut live)?)?;

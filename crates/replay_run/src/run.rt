@@ -5,7 +5,7 @@ ghost use Rattle.circ_records.specs.Tables.{texts_of};
 ghost use Rattle.circ_records.specs.Written.{tables_of};
 ghost use Rattle.read_set.specs.Plans.{readings_of};
 ghost use Rattle.read_set.specs.Replay.{last};
-ghost use Rattle.result_report.specs.Report.{AreAnswers, answers_behind, told};
+ghost use Rattle.result_report.specs.Report.{AreAnswers, answers_behind, line_results};
 ghost use Rattle.result_report.specs.Tables.{AreTexts};
 ghost use Rattle.replay_run.specs.Answers.{answers_of};
 ghost use Rattle.replay_run.specs.Entries.{AreEntries};
@@ -151,7 +151,7 @@ fn write_outcome(
     requires planned { plan.now.readings ≡ readings_of journal.now }
     requires answered { AreAnswers (readings_of journal.now) (answers_behind outcome.answers.items) }
     ensures tables { IfOk result (λ w. texts_of w.0.tables ≡ tables_of outcome.entry.records) }
-    ensures results { IfOk result (λ w. AreTexts (told journal.now (readings_of journal.now) (answers_behind outcome.entry.answers.items)) (results_of w.0)) }
+    ensures results { IfOk result (λ w. AreTexts (line_results journal.now (readings_of journal.now) (answers_behind outcome.entry.answers.items)) (results_of w.0)) }
     ensures each_once { IfOk result (λ w. w.0.sizes.answered + w.0.sizes.passed ≡ length journal.now) }
     ensures attempts { IfOk result (λ w. w.0.attempts.items ≡ outcome.entry.attempts.items) }
 {

@@ -13,7 +13,7 @@ use Rattle.journal_table.specs.Entry.{Entry}
 use Rattle.rayon.specs.Shown.{take-add}
 use Rattle.sip_answer.specs.declared.answer.Answer.{Answer}
 use Rattle.sip_reader.specs.declared.request.Reading.{Reading}
-use Rattle.result_report.specs.Report.{Row, Told, answers_behind, told, answer_row, answers_header, passed_header, passed_row, report_header, report_row}
+use Rattle.result_report.specs.Report.{Row, LineResult, answers_behind, line_results, answer_row, answers_header, passed_header, passed_row, report_header, report_row}
 use Rattle.result_report.specs.Stretches.{AreParts, between, stretch}
 use Rattle.result_report.specs.Tables.{AreHeads, AreTexts, sizes_of}
 use Rattle.result_report.specs.declared.texts.Heads.{Heads}
@@ -27,21 +27,21 @@ lends xs i None h = sym (slice_get_past xs i h.3)
 lends xs i (Some x) h = sym (slice_get_read xs (length xs) i x.now refl h.3.0 h.1)
 
 -- lines are told as far as there are lines, readings and answers
-pub no-line : (ls : List Entry) (rs : List Reading) (ans : List (Option Answer)) (i : ℕ) → None ≡ slice_get ls i → None ≡ slice_get (told ls rs ans) i
+pub no-line : (ls : List Entry) (rs : List Reading) (ans : List (Option Answer)) (i : ℕ) → None ≡ slice_get ls i → None ≡ slice_get (line_results ls rs ans) i
 no-line [] rs ans i e = refl
 no-line (x ∷ ls) [] ans i e = refl
 no-line (x ∷ ls) (y ∷ rs) [] i e = refl
 no-line (x ∷ ls) (y ∷ rs) (z ∷ ans) zero e = cc e
 no-line (x ∷ ls) (y ∷ rs) (z ∷ ans) (suc i) e = no-line ls rs ans i e
 
-pub no-reading : (ls : List Entry) (rs : List Reading) (ans : List (Option Answer)) (i : ℕ) → None ≡ slice_get rs i → None ≡ slice_get (told ls rs ans) i
+pub no-reading : (ls : List Entry) (rs : List Reading) (ans : List (Option Answer)) (i : ℕ) → None ≡ slice_get rs i → None ≡ slice_get (line_results ls rs ans) i
 no-reading [] rs ans i e = refl
 no-reading (x ∷ ls) [] ans i e = refl
 no-reading (x ∷ ls) (y ∷ rs) [] i e = refl
 no-reading (x ∷ ls) (y ∷ rs) (z ∷ ans) zero e = cc e
 no-reading (x ∷ ls) (y ∷ rs) (z ∷ ans) (suc i) e = no-reading ls rs ans i e
 
-pub no-answer : (ls : List Entry) (rs : List Reading) (ans : List (Option Answer)) (i : ℕ) → None ≡ slice_get ans i → None ≡ slice_get (told ls rs ans) i
+pub no-answer : (ls : List Entry) (rs : List Reading) (ans : List (Option Answer)) (i : ℕ) → None ≡ slice_get ans i → None ≡ slice_get (line_results ls rs ans) i
 no-answer [] rs ans i e = refl
 no-answer (x ∷ ls) [] ans i e = refl
 no-answer (x ∷ ls) (y ∷ rs) [] i e = refl
@@ -49,7 +49,7 @@ no-answer (x ∷ ls) (y ∷ rs) (z ∷ ans) zero e = cc e
 no-answer (x ∷ ls) (y ∷ rs) (z ∷ ans) (suc i) e = no-answer ls rs ans i e
 
 pub all-three : (ls : List Entry) (rs : List Reading) (ans : List (Option Answer)) (i : ℕ) (l : Entry) (r : Reading) (a : Option Answer)
-    → Some l ≡ slice_get ls i → Some r ≡ slice_get rs i → Some a ≡ slice_get ans i → Some (l, r, a) ≡ slice_get (told ls rs ans) i
+    → Some l ≡ slice_get ls i → Some r ≡ slice_get rs i → Some a ≡ slice_get ans i → Some (l, r, a) ≡ slice_get (line_results ls rs ans) i
 all-three [] rs ans i l r a e f g = cc e
 all-three (x ∷ ls) [] ans i l r a e f g = cc f
 all-three (x ∷ ls) (y ∷ rs) [] i l r a e f g = cc g
@@ -57,11 +57,11 @@ all-three (x ∷ ls) (y ∷ rs) (z ∷ ans) zero l r a e f g = let p : l ≡ x =
 all-three (x ∷ ls) (y ∷ rs) (z ∷ ans) (suc i) l r a e f g = all-three ls rs ans i l r a e f g
 
 -- no more lines are told than there are
-pub few-told : (ls : List Entry) (rs : List Reading) (ans : List (Option Answer)) → length (told ls rs ans) ≤ length ls
-few-told [] rs ans = omega arith
-few-told (x ∷ ls) [] ans = omega arith
-few-told (x ∷ ls) (y ∷ rs) [] = omega arith
-few-told (x ∷ ls) (y ∷ rs) (z ∷ ans) = omega (arith, few-told ls rs ans)
+pub few-line_results : (ls : List Entry) (rs : List Reading) (ans : List (Option Answer)) → length (line_results ls rs ans) ≤ length ls
+few-line_results [] rs ans = omega arith
+few-line_results (x ∷ ls) [] ans = omega arith
+few-line_results (x ∷ ls) (y ∷ rs) [] = omega arith
+few-line_results (x ∷ ls) (y ∷ rs) (z ∷ ans) = omega (arith, few-line_results ls rs ans)
 
 module _ {X : Type 0} where
   taken-next : (xs : List X) (n : ℕ) (x : X) → Some x ≡ slice_get xs n → take n xs ++ x ∷ [] ≡ take (suc n) xs
@@ -110,7 +110,7 @@ table-behind h front back n e =
     let head : n ≡ length (row_text default_writer h) = e ∙ ap length (append-nil (row_text default_writer h)) in
     rw (head, drop-front (row_text default_writer h) (table_text back), text-append front back) (append_assoc (row_text default_writer h) (table_text front) (table_text back))
 
-column : (row : Told → Option Row) (h : Row) (front back : List Told) (n : ℕ) (a b c : List ℕ) → n ≡ length (table_text (h ∷ []))
+column : (row : LineResult → Option Row) (h : Row) (front back : List LineResult) (n : ℕ) (a b c : List ℕ) → n ≡ length (table_text (h ∷ []))
     → a ≡ table_text (h ∷ filter_map row front) → b ≡ table_text (h ∷ filter_map row back) → c ≡ a ++ drop n b → c ≡ table_text (h ∷ filter_map row (front ++ back))
 column row h front back n a b c head was more new =
     new ∙ rw (was, more, filter_map-append row front back) (table-behind h (filter_map row front) (filter_map row back) n head)
@@ -118,10 +118,10 @@ column row h front back n a b c head was more new =
 same-sizes : (s t : Sizes) → s.answered ≡ t.answered → s.passed ≡ t.passed → s.differences ≡ t.differences → s ≡ t
 same-sizes s t a p d = λ i. record { answered = a i; passed = p i; differences = d i }
 
-rows-behind : (row : Told → Option Row) (front back : List Told) → length (filter_map row (front ++ back)) ≡ length (filter_map row front) + length (filter_map row back)
+rows-behind : (row : LineResult → Option Row) (front back : List LineResult) → length (filter_map row (front ++ back)) ≡ length (filter_map row front) + length (filter_map row back)
 rows-behind row front back = ap length (filter_map-append row front back) ∙ length-append (filter_map row front) (filter_map row back)
 
-pub texts-behind : (h : Heads) (front back : List Told) (s t u : Texts) → length front + length back < 2 ^ 64 → AreHeads h → AreTexts front s → AreTexts back t
+pub texts-behind : (h : Heads) (front back : List LineResult) (s t u : Texts) → length front + length back < 2 ^ 64 → AreHeads h → AreTexts front s → AreTexts back t
     → u.answers.items ≡ s.answers.items ++ drop h.answers t.answers.items
     → u.report.items ≡ s.report.items ++ drop h.report t.report.items
     → u.passed.items ≡ s.passed.items ++ drop h.passed t.passed.items
@@ -139,7 +139,7 @@ texts-behind h front back s t u few heads was more a r p na np nd = record {
       (number report_row s.sizes.differences t.sizes.differences u.sizes.differences (ap (λ z. z.differences) was.sizes) (ap (λ z. z.differences) more.sizes) nd);
 }
   where
-    number : (row : Told → Option Row) (m n k : ℕ) → m ≡ length (filter_map row front) → n ≡ length (filter_map row back) → (m + n < 2 ^ 64 → k ≡ m + n) → k ≡ length (filter_map row (front ++ back))
+    number : (row : LineResult → Option Row) (m n k : ℕ) → m ≡ length (filter_map row front) → n ≡ length (filter_map row back) → (m + n < 2 ^ 64 → k ≡ m + n) → k ≡ length (filter_map row (front ++ back))
     number row m n k e f g =
         let x = few-rows row front in
         let y = few-rows row back in
@@ -181,7 +181,7 @@ stretch-between size k from to most xs few f t = elim (cases_lt (k * size) (leng
 ]
 
 -- what each thread told of each stretch
-each-part : (lines : List Told) (a n : ℕ) (ys : List Texts) (E : Type 0) → AllZip (λ (k : ℕ) (r : Result Texts E). IfOk r (AreTexts (stretch k lines))) (range_with_len a n) (map Ok ys)
+each-part : (lines : List LineResult) (a n : ℕ) (ys : List Texts) (E : Type 0) → AllZip (λ (k : ℕ) (r : Result Texts E). IfOk r (AreTexts (stretch k lines))) (range_with_len a n) (map Ok ys)
     → (length ys ≡ n) × ((k : ℕ) (t : Texts) → slice_get ys k ≡ Some t → AreTexts (stretch (a + k) lines) t)
 each-part lines a zero [] E h = (refl, λ k t e. cc e)
 each-part lines a zero (y ∷ ys) E h = absurd h
@@ -194,7 +194,7 @@ each-part lines a (suc n) (y ∷ ys) E h =
     at rest zero t e = let same : y ≡ t = cc e in let here : a + zero ≡ a = omega arith in rw (here, ← same) h.0
     at rest (suc k) t e = let here : a + suc k ≡ a + 1 + k = omega arith in rw here (rest k t e)
 
-pub are-parts : (lines : List Told) (n : ℕ) (ks : List ℕ) (ys : List Texts) (E : Type 0) → ks ≡ range_with_len 0 n → length lines ≤ n * 4096
+pub are-parts : (lines : List LineResult) (n : ℕ) (ks : List ℕ) (ys : List Texts) (E : Type 0) → ks ≡ range_with_len 0 n → length lines ≤ n * 4096
     → AllZip (λ (k : ℕ) (r : Result Texts E). IfOk r (AreTexts (stretch k lines))) ks (map Ok ys) → AreParts lines ys
 are-parts lines n ks ys E places all h =
     let both = each-part lines 0 n ys E (rw places at h) in

@@ -7,40 +7,40 @@ use Rattle.csv_table.proofs.Written.{with_row-written}
 use Rattle.journal_table.specs.Entry.{Entry}
 use Rattle.sip_answer.specs.declared.answer.Answer.{Answer}
 use Rattle.sip_reader.specs.declared.request.Reading.{Reading}
-use Rattle.result_report.specs.Report.{Row, Told, told, answer_row, answers_header, passed_header, passed_row, report_header, report_row}
+use Rattle.result_report.specs.Report.{Row, LineResult, line_results, answer_row, answers_header, passed_header, passed_row, report_header, report_row}
 use Rattle.result_report.specs.Listings.{Gains, HasRoomFor, Lists}
 use Rattle.result_report.specs.Tellings.{Gained, HasRoom, Tells}
 use Rattle.result_report.specs.declared.listing.Listing.{Listing}
 use Rattle.result_report.specs.declared.telling.Telling.{Telling}
 
-told-step : (i : ℕ) (ls : List Entry) (rs : List Reading) (ans : List (Option Answer)) (l : Entry) (r : Reading) (a : Option Answer)
+line_results-step : (i : ℕ) (ls : List Entry) (rs : List Reading) (ans : List (Option Answer)) (l : Entry) (r : Reading) (a : Option Answer)
     → i < length ls → length rs ≡ length ls → length ans ≡ length ls
     → l ≡ slice_index_or ls i l → r ≡ slice_index_or rs i r → a ≡ slice_index_or ans i a
-    → take (suc i) (told ls rs ans) ≡ take i (told ls rs ans) ++ (l, r, a) ∷ []
-told-step zero (x ∷ ls) (y ∷ rs) (z ∷ ans) l r a lt e f p q s = rw (p, q, s) refl
-told-step (suc i) (x ∷ ls) (y ∷ rs) (z ∷ ans) l r a lt e f p q s =
-    ap (λ (ts : List Told). (x, y, z) ∷ ts) (told-step i ls rs ans l r a (omega arith) (omega (arith, e)) (omega (arith, f)) p q s)
-told-step i [] rs ans l r a lt e f p q s = absurd (omega arith)
-told-step i (x ∷ ls) [] ans l r a lt e f p q s = absurd (omega (arith, e))
-told-step i (x ∷ ls) (y ∷ rs) [] l r a lt e f p q s = absurd (omega (arith, f))
+    → take (suc i) (line_results ls rs ans) ≡ take i (line_results ls rs ans) ++ (l, r, a) ∷ []
+line_results-step zero (x ∷ ls) (y ∷ rs) (z ∷ ans) l r a lt e f p q s = rw (p, q, s) refl
+line_results-step (suc i) (x ∷ ls) (y ∷ rs) (z ∷ ans) l r a lt e f p q s =
+    ap (λ (ts : List LineResult). (x, y, z) ∷ ts) (line_results-step i ls rs ans l r a (omega arith) (omega (arith, e)) (omega (arith, f)) p q s)
+line_results-step i [] rs ans l r a lt e f p q s = absurd (omega arith)
+line_results-step i (x ∷ ls) [] ans l r a lt e f p q s = absurd (omega (arith, e))
+line_results-step i (x ∷ ls) (y ∷ rs) [] l r a lt e f p q s = absurd (omega (arith, f))
 
 -- the lines up to the next one
-pub told-next : (i : ℕ) (ls : List Entry) (rs : List Reading) (ans : List (Option Answer)) (l : Entry) (r : Reading) (a : Option Answer)
+pub line_results-next : (i : ℕ) (ls : List Entry) (rs : List Reading) (ans : List (Option Answer)) (l : Entry) (r : Reading) (a : Option Answer)
     → i < length ls → length rs ≡ length ls → length ans ≡ length ls
     → l ≡ slice_index_or ls i l → r ≡ slice_index_or rs i r → a ≡ slice_index_or ans i a
-    → take i (told ls rs ans) ++ (l, r, a) ∷ [] ≡ take (i + 1) (told ls rs ans)
-told-next i ls rs ans l r a lt e f p q s =
+    → take i (line_results ls rs ans) ++ (l, r, a) ∷ [] ≡ take (i + 1) (line_results ls rs ans)
+line_results-next i ls rs ans l r a lt e f p q s =
     let next : suc i ≡ i + 1 = omega arith in
-    sym (subst (λ n. take n (told ls rs ans) ≡ take i (told ls rs ans) ++ (l, r, a) ∷ []) next (told-step i ls rs ans l r a lt e f p q s))
+    sym (subst (λ n. take n (line_results ls rs ans) ≡ take i (line_results ls rs ans) ++ (l, r, a) ∷ []) next (line_results-step i ls rs ans l r a lt e f p q s))
 
 -- all lines
-pub told-whole : (i : ℕ) (ls : List Entry) (rs : List Reading) (ans : List (Option Answer)) → length ls ≤ i → take i (told ls rs ans) ≡ told ls rs ans
-told-whole zero [] rs ans le = refl
-told-whole (suc i) [] rs ans le = refl
-told-whole zero (x ∷ ls) rs ans le = absurd (omega arith)
-told-whole (suc i) (x ∷ ls) [] ans le = refl
-told-whole (suc i) (x ∷ ls) (y ∷ rs) [] le = refl
-told-whole (suc i) (x ∷ ls) (y ∷ rs) (z ∷ ans) le = ap (λ (ts : List Told). (x, y, z) ∷ ts) (told-whole i ls rs ans (omega arith))
+pub line_results-whole : (i : ℕ) (ls : List Entry) (rs : List Reading) (ans : List (Option Answer)) → length ls ≤ i → take i (line_results ls rs ans) ≡ line_results ls rs ans
+line_results-whole zero [] rs ans le = refl
+line_results-whole (suc i) [] rs ans le = refl
+line_results-whole zero (x ∷ ls) rs ans le = absurd (omega arith)
+line_results-whole (suc i) (x ∷ ls) [] ans le = refl
+line_results-whole (suc i) (x ∷ ls) (y ∷ rs) [] le = refl
+line_results-whole (suc i) (x ∷ ls) (y ∷ rs) (z ∷ ans) le = ap (λ (ts : List LineResult). (x, y, z) ∷ ts) (line_results-whole i ls rs ans (omega arith))
 
 -- one row more, where there is one
 row-more : (h : Row) (rows : List Row) (o : Option Row) (old new : Listing) → Lists h rows old → Gains o old new → Lists h (rows ++ cons_option o []) new
@@ -53,13 +53,13 @@ row-more h rows (Some row) old new lists gains = record {
   count = gains.count ∙ rw (lists.count, length-append rows (row ∷ [])) refl;
 }
 
-lists-more : (row : Told → Option Row) (h : Row) (lines : List Told) (line : Told) (old new : Listing) → Lists h (filter_map row lines) old → Gains (row line) old new
+lists-more : (row : LineResult → Option Row) (h : Row) (lines : List LineResult) (line : LineResult) (old new : Listing) → Lists h (filter_map row lines) old → Gains (row line) old new
     → Lists h (filter_map row (lines ++ line ∷ [])) new
 lists-more row h lines line old new lists gains =
     subst (λ (rows : List Row). Lists h rows new) (sym (filter_map-append row lines (line ∷ []))) (row-more h (filter_map row lines) (row line) old new lists gains)
 
 -- one line more
-pub tells-more : (lines : List Told) (line : Told) (old new : Telling) → Tells lines old → Gained line old new → Tells (lines ++ line ∷ []) new
+pub tells-more : (lines : List LineResult) (line : LineResult) (old new : Telling) → Tells lines old → Gained line old new → Tells (lines ++ line ∷ []) new
 tells-more lines line old new tells gained = record {
   answers = lists-more answer_row answers_header lines line old.answers new.answers tells.answers gained.answers;
   report = lists-more report_row report_header lines line old.report new.report tells.report gained.report;
@@ -71,23 +71,23 @@ one-or-none : {Y : Type 0} (o : Option Y) (ys : List Y) (n : ℕ) → length ys 
 one-or-none None ys n le = omega (arith, le)
 one-or-none (Some y) ys n le = omega (arith, le)
 
-pub few-rows : (row : Told → Option Row) (lines : List Told) → length (filter_map row lines) ≤ length lines
+pub few-rows : (row : LineResult → Option Row) (lines : List LineResult) → length (filter_map row lines) ≤ length lines
 few-rows row [] = omega arith
 few-rows row (line ∷ lines) = one-or-none (row line) (filter_map row lines) (length lines) (few-rows row lines)
 
-few-taken : (i : ℕ) (lines : List Told) → length (take i lines) ≤ i
+few-taken : (i : ℕ) (lines : List LineResult) → length (take i lines) ≤ i
 few-taken zero lines = omega arith
 few-taken (suc i) [] = omega arith
 few-taken (suc i) (line ∷ lines) = omega (arith, few-taken i lines)
 
-room : (row : Told → Option Row) (h : Row) (i : ℕ) (lines : List Told) (l : Listing) → length h ≡ 3 → i < 2 ^ 64 - 1 → Lists h (filter_map row (take i lines)) l → HasRoomFor l
+room : (row : LineResult → Option Row) (h : Row) (i : ℕ) (lines : List LineResult) (l : Listing) → length h ≡ 3 → i < 2 ^ 64 - 1 → Lists h (filter_map row (take i lines)) l → HasRoomFor l
 room row h i lines l three small lists = record {
   wide = rw lists.text three;
   few = rw lists.count (omega (arith, small, few-rows row (take i lines), few-taken i lines));
 }
 
 -- for each line there is room
-pub has-room : (i : ℕ) (lines : List Told) (t : Telling) → i < 2 ^ 64 - 1 → Tells (take i lines) t → HasRoom t
+pub has-room : (i : ℕ) (lines : List LineResult) (t : Telling) → i < 2 ^ 64 - 1 → Tells (take i lines) t → HasRoom t
 has-room i lines t small tells = record {
   answers = room answer_row answers_header i lines t.answers refl small tells.answers;
   report = room report_row report_header i lines t.report refl small tells.report;

@@ -1,4 +1,4 @@
--- What is collected from the end of a run: exactly what that end lends, also where it is wrong.
+-- What is collected from the end of a run: exactly what that end gives, also where it is wrong.
 use Rattle.std.specs.Prelude.{◌≡◌, ◌++◌, ℕ, List, length, map, None, if◌then◌else◌}
 use Rattle.std.specs.BTreeMap.{is_at}
 use Rattle.std.specs.List.{flat_map, list_any, range_with_len}

@@ -28,8 +28,8 @@ abbrev pub passed_header : Row
 passed_header = codes "line" ∷ codes "connection" ∷ codes "why" ∷ []
 
 -- a line of the journal, what it is read as, and its answer, where it has one
-abbrev pub Told : Type 0
-Told = Entry × Reading × Option Answer
+abbrev pub LineResult : Type 0
+LineResult = Entry × Reading × Option Answer
 
 -- What is asked is answered, and so is a wrong sum, by the wish to have the message again; what is passed over or can't
 -- be read is not.
@@ -43,15 +43,15 @@ is_answered (readings.Unread w) = false
 abbrev pub AreAnswers : List Reading → List (Option Answer) → Type 0
 AreAnswers readings answers = map is_some answers ≡ map is_answered readings
 
--- the answers that a run lends
+-- the answers behind the references that a run gives
 abbrev pub answers_behind : List (Option (Bor Answer)) → List (Option Answer)
 answers_behind answers = map option_copied answers
 
-abbrev pub told : List Entry → List Reading → List (Option Answer) → List Told
-told [] readings answers = []
-told (line ∷ lines) [] answers = []
-told (line ∷ lines) (r ∷ readings) [] = []
-told (line ∷ lines) (r ∷ readings) (a ∷ answers) = (line, r, a) ∷ told lines readings answers
+abbrev pub line_results : List Entry → List Reading → List (Option Answer) → List LineResult
+line_results [] readings answers = []
+line_results (line ∷ lines) [] answers = []
+line_results (line ∷ lines) (r ∷ readings) [] = []
+line_results (line ∷ lines) (r ∷ readings) (a ∷ answers) = (line, r, a) ∷ line_results lines readings answers
 
 -- Error detection (SIP 2.00): a response repeats the sequence digit of its request
 abbrev pub sequence_of : Reading → Option ℕ
@@ -67,40 +67,40 @@ reason_of (readings.Passed p) = Some (passed_word p)
 reason_of readings.BadSum = None
 reason_of (readings.Unread w) = Some (why_word w)
 
--- the number and the connection of a line, and what is told of it
+-- the number and the connection of a line, and words about it
 abbrev pub row_of : Entry → List ℕ → Row
 row_of line text = decimal line.number ∷ line.connection ∷ text ∷ []
 
 -- an answered line, with the text of its answer
-abbrev pub answer_row : Told → Option Row
+abbrev pub answer_row : LineResult → Option Row
 answer_row (line, r, None) = None
 answer_row (line, r, Some a) = Some (row_of line (answer_text a (sequence_of r)))
 
 -- the words of what differs, joined by one blank
-abbrev pub words_of : List Field → List ℕ
-words_of fields = join_by word_of (codes " ") fields
+abbrev pub joined_words : List Field → List ℕ
+joined_words fields = join_by word_of (codes " ") fields
 
 -- a line in which this differs
 abbrev pub difference_row : Entry → List Field → Option Row
 difference_row line [] = None
-difference_row line (field ∷ more) = Some (row_of line (words_of (field ∷ more)))
+difference_row line (field ∷ more) = Some (row_of line (joined_words (field ∷ more)))
 
 -- an answered line whose recorded response doesn't agree with its answer, with the words of what differs
-abbrev pub report_row : Told → Option Row
+abbrev pub report_row : LineResult → Option Row
 report_row (line, r, None) = None
 report_row (line, r, Some a) = difference_row line (differ a line.response)
 
 -- a line without an answer, with the reason
-abbrev pub passed_row : Told → Option Row
+abbrev pub passed_row : LineResult → Option Row
 passed_row (line, r, None) = option_map (row_of line) (reason_of r)
 passed_row (line, r, Some a) = None
 
 -- the rows of the three tables
-abbrev pub answers_rows : List Told → List Row
+abbrev pub answers_rows : List LineResult → List Row
 answers_rows lines = filter_map answer_row lines
 
-abbrev pub report_rows : List Told → List Row
+abbrev pub report_rows : List LineResult → List Row
 report_rows lines = filter_map report_row lines
 
-abbrev pub passed_rows : List Told → List Row
+abbrev pub passed_rows : List LineResult → List Row
 passed_rows lines = filter_map passed_row lines

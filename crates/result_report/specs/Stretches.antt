@@ -1,7 +1,7 @@
--- Lines that are told in parts, one stretch after the other.
+-- Results of lines in parts, one stretch after the other.
 use Rattle.std.specs.Prelude.{◌≡◌, ◌≤◌, ◌-◌, ◌*◌, ℕ, List, Some, drop, length, slice_get, take}
 use Rattle.journal_table.specs.declared.readings.TheConstants.{STRETCH}
-use Rattle.result_report.specs.Report.{Told}
+use Rattle.result_report.specs.Report.{LineResult}
 use Rattle.result_report.specs.Tables.{AreTexts}
 use Rattle.result_report.specs.declared.texts.Texts.{Texts}
 
@@ -14,6 +14,6 @@ abbrev pub stretch : {X : Type 0} → ℕ → List X → List X
 stretch k lines = take STRETCH (drop (k * STRETCH) lines)
 
 -- the result tables of each stretch of these lines, and of no line beside them
-pub record AreParts (lines : List Told) (parts : List Texts) : Type 0 where
+pub record AreParts (lines : List LineResult) (parts : List Texts) : Type 0 where
   pub each : (k : ℕ) (t : Texts) → slice_get parts k ≡ Some t → AreTexts (stretch k lines) t
   pub all : length lines ≤ length parts * STRETCH

@@ -1,6 +1,6 @@
 -- The three result tables while they are written.
 use Rattle.std.specs.Prelude.{List}
-use Rattle.result_report.specs.Report.{Told, answer_row, answers_header, answers_rows, passed_header, passed_row, passed_rows, report_header, report_row, report_rows}
+use Rattle.result_report.specs.Report.{LineResult, answer_row, answers_header, answers_rows, passed_header, passed_row, passed_rows, report_header, report_row, report_rows}
 use Rattle.result_report.specs.Listings.{Gains, HasRoomFor, Lists}
 use Rattle.result_report.specs.declared.telling.Telling.{Telling}
 
@@ -11,13 +11,13 @@ pub record HasRoom (t : Telling) : Type 0 where
   pub passed : HasRoomFor t.passed
 
 -- one line more is told
-pub record Gained (line : Told) (old new : Telling) : Type 0 where
+pub record Gained (line : LineResult) (old new : Telling) : Type 0 where
   pub answers : Gains (answer_row line) old.answers new.answers
   pub report : Gains (report_row line) old.report new.report
   pub passed : Gains (passed_row line) old.passed new.passed
 
 -- these lines are told
-pub record Tells (lines : List Told) (t : Telling) : Type 0 where
+pub record Tells (lines : List LineResult) (t : Telling) : Type 0 where
   pub answers : Lists answers_header (answers_rows lines) t.answers
   pub report : Lists report_header (report_rows lines) t.report
   pub passed : Lists passed_header (passed_rows lines) t.passed

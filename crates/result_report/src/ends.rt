@@ -16,7 +16,7 @@ use sip_answer::Answer;
 use std::alloc::{AllocError, Global};
 use std::collections::BTreeMap;
 
-/// The end of a run over a plan: what it lends of each line, by the line's number, and of the records after the last.
+/// The end of a run over a plan: what it gives of each line, by the line's number, and of the records after the last.
 pub trait End {
     /// The plan of the run.
     ghost planned: { Self → Planned };
@@ -55,7 +55,7 @@ pub trait End {
         ensures { option_copied result ≡ left self.now key.now };
 }
 
-/// What a run comes to, exactly as its end lends it: each line's answer and attempt, and the records at the keys of the
+/// What a run comes to, exactly as its end gives it: each line's answer and attempt, and the records at the keys of the
 /// plan and of what the lines wrote.
 pub fn collect<'e, E: End>(alloc: Global, end: &'e E) -> Result<Outcome<'e>, AllocError>
     ensures answers { IfOk result (λ o. answers_behind o.answers.items ≡ map (E.answered end.now) (numbers_of (E.planned end.now))) }

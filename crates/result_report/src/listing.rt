@@ -29,17 +29,17 @@ impl Listing {
         })
     }
 
-    /// Writes the row of a line at the end: its number, its connection, and what is told of it. Where memory runs out the
+    /// Writes the row of a line at the end: its number, its connection, and words about it. Where memory runs out the
     /// table can no longer be finished.
-    pub fn row(&mut self, line: &Line, told: &[u8]) -> Result<(), AllocError>
+    pub fn row(&mut self, line: &Line, words: &[u8]) -> Result<(), AllocError>
         requires { HasRoomFor self.old }
-        ensures ok { OnOk result (Gains (Some (row_of line.now told.now)) self.old self.new) }
+        ensures ok { OnOk result (Gains (Some (row_of line.now words.now)) self.old self.new) }
         ensures err { OnErr result (self.new.table ≡ None) }
     {
         let mut digits = Buffer::new();
         let number = digits.format(line.number());
         self.table
-            .row(&[number.as_bytes(), line.connection(), told])?;
+            .row(&[number.as_bytes(), line.connection(), words])?;
         self.rows += 1;
         Ok(())
     }

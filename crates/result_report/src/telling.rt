@@ -7,7 +7,7 @@ ghost use Rattle.sip_answer.specs.Differ.{differ};
 
 use crate::listing::Listing;
 use crate::texts::{Sizes, Texts};
-use crate::words::{reason_of, sequence_of, words_of};
+use crate::words::{joined_words, reason_of, sequence_of};
 use journal_table::Line;
 use sip_answer::{Answer, differences, write_answer};
 use sip_reader::Reading;
@@ -38,7 +38,7 @@ impl Drop for Telling {
 
 impl Telling {
     ghost use Rattle.std.specs.Prelude.{List};
-    ghost use Rattle.result_report.specs.Report.{Told};
+    ghost use Rattle.result_report.specs.Report.{LineResult};
     ghost use Rattle.result_report.specs.Tables.{AreTexts};
     ghost use Rattle.result_report.specs.Tellings.{Gained, HasRoom, Tells};
 
@@ -55,7 +55,7 @@ impl Telling {
 
     /// The texts of what is told.
     pub fn finish(self) -> Result<Texts, AllocError>
-        ensures { IfOk result (λ t. (lines : List Told) → Tells lines self → AreTexts lines t) }
+        ensures { IfOk result (λ t. (lines : List LineResult) → Tells lines self → AreTexts lines t) }
     {
         let Telling {
             answers,
@@ -124,7 +124,7 @@ fn tell_differences(
     if fields.is_empty() {
         return Ok(());
     }
-    let words = words_of(alloc, fields.as_slice())?;
+    let words = joined_words(alloc, fields.as_slice())?;
     report.row(line, words.as_bytes())
 }
 

@@ -2,7 +2,7 @@
 
 ghost use Rattle.std.specs.Prelude.{◌≡◌, ◌<◌, ◌≤◌, ◌+◌, ◌++◌, ◌^◌, [], List, IfOk, OnOk, drop, length, option_copied, option_map, slice_get};
 ghost use Rattle.read_set.specs.Plans.{readings_of};
-ghost use Rattle.result_report.specs.Report.{AreAnswers, Told, answers_behind, told};
+ghost use Rattle.result_report.specs.Report.{AreAnswers, LineResult, answers_behind, line_results};
 ghost use Rattle.result_report.specs.Stretches.{AreParts, between, stretch};
 ghost use Rattle.result_report.specs.Tables.{AreHeads, AreTexts};
 ghost use Rattle.result_report.specs.Tellings.{Tells};
@@ -45,7 +45,7 @@ pub fn report(
 ) -> Result<Texts, AllocError>
     requires planned { plan.now.readings ≡ readings_of journal.now }
     requires answered { AreAnswers (readings_of journal.now) (answers_behind outcome.now.answers.items) }
-    ensures texts { IfOk result (AreTexts (told journal.now (readings_of journal.now) (answers_behind outcome.now.answers.items))) }
+    ensures texts { IfOk result (AreTexts (line_results journal.now (readings_of journal.now) (answers_behind outcome.now.answers.items))) }
     ensures each_once { IfOk result (λ t. t.sizes.answered + t.sizes.passed ≡ length journal.now) }
 {
     let lines = journal.lines();
@@ -53,7 +53,7 @@ pub fn report(
     tell(alloc, lines, plan, answers, 0, lines.len())?.finish()
 }
 
-/// The same, told by as many threads as there are processors, a stretch of lines at a time.
+/// The same, written by as many threads as there are processors, a stretch of lines at a time.
 pub fn report_parallel(
     rt: &(impl Threads + Sync),
     alloc: Global,
@@ -63,7 +63,7 @@ pub fn report_parallel(
 ) -> Result<Texts, AllocError>
     requires planned { plan.now.readings ≡ readings_of journal.now }
     requires answered { AreAnswers (readings_of journal.now) (answers_behind outcome.now.answers.items) }
-    ensures texts { IfOk result (AreTexts (told journal.now (readings_of journal.now) (answers_behind outcome.now.answers.items))) }
+    ensures texts { IfOk result (AreTexts (line_results journal.now (readings_of journal.now) (answers_behind outcome.now.answers.items))) }
     ensures each_once { IfOk result (λ t. t.sizes.answered + t.sizes.passed ≡ length journal.now) }
 {
     let lines = journal.lines();
@@ -72,7 +72,7 @@ pub fn report_parallel(
         .into_par_iter()
         .map(
             |k: usize| -> Result<Texts, AllocError>
-                ensures { IfOk result (AreTexts (stretch k (told lines.entry.now plan.entry.now.readings (answers_behind answers.entry.now)))) }
+                ensures { IfOk result (AreTexts (stretch k (line_results lines.entry.now plan.entry.now.readings (answers_behind answers.entry.now)))) }
             { tell_stretch(alloc, lines, plan, answers, k) },
         )
         .with_min_len(1)
@@ -88,7 +88,7 @@ fn tell_stretch<'e>(
     answers: &[Option<&'e Answer>],
     k: usize,
 ) -> Result<Texts, AllocError>
-    ensures { IfOk result (AreTexts (stretch k (told lines.now plan.now.readings (answers_behind answers.now)))) }
+    ensures { IfOk result (AreTexts (stretch k (line_results lines.now plan.now.readings (answers_behind answers.now)))) }
 {
     let from = k.saturating_mul(STRETCH);
     tell(
@@ -111,11 +111,11 @@ fn tell<'e>(
     from: usize,
     to: usize,
 ) -> Result<Telling, AllocError>
-    ensures { IfOk result (Tells (between from to (told lines.now plan.now.readings (answers_behind answers.now)))) }
+    ensures { IfOk result (Tells (between from to (line_results lines.now plan.now.readings (answers_behind answers.now)))) }
 {
     let mut telling = Telling::new(alloc)?;
     for place in from..to {
-        if let Some((line, reading, answer)) = told_at(lines, plan, answers, place) {
+        if let Some((line, reading, answer)) = result_at(lines, plan, answers, place) {
             telling.line(alloc, line, reading, answer)?;
         }
     }
@@ -123,13 +123,13 @@ fn tell<'e>(
 }
 
 /// The line at a place, with its reading and its answer.
-fn told_at<'l, 'e>(
+fn result_at<'l, 'e>(
     lines: &'l [Line],
     plan: &'l Plan,
     answers: &[Option<&'e Answer>],
     place: usize,
 ) -> Option<(&'l Line, &'l Reading, Option<&'e Answer>)>
-    ensures { option_map (λ t. (t.0.now, t.1.now, option_copied t.2)) result ≡ slice_get (told lines.now plan.now.readings (answers_behind answers.now)) place }
+    ensures { option_map (λ t. (t.0.now, t.1.now, option_copied t.2)) result ≡ slice_get (line_results lines.now plan.now.readings (answers_behind answers.now)) place }
 {
     let line = lines.get(place)?;
     let reading = reading_at(plan, place)?;
@@ -146,7 +146,7 @@ fn reading_at(plan: &Plan, place: usize) -> Option<&Reading>
 
 /// The result tables of all stretches, from those of each. A part is given back once it is joined.
 fn join(alloc: Global, parts: Vec<Texts>) -> Result<Texts, AllocError>
-    ensures { IfOk result (λ t. (lines : List Told) → length lines < 2 ^ 64 → AreParts lines parts.items → AreTexts lines t) }
+    ensures { IfOk result (λ t. (lines : List LineResult) → length lines < 2 ^ 64 → AreParts lines parts.items → AreTexts lines t) }
 {
     let mut whole = Telling::new(alloc)?.finish()?;
     let heads = Heads {
@@ -171,7 +171,7 @@ pub(crate) struct Heads {
 impl Texts {
     /// Puts the rows of more lines behind its own. Where memory runs out its caller drops them all.
     fn add(&mut self, heads: Heads, more: &Texts) -> Result<(), AllocError>
-        ensures { OnOk result ((front back : List Told) → length front + length back < 2 ^ 64 → AreHeads heads
+        ensures { OnOk result ((front back : List LineResult) → length front + length back < 2 ^ 64 → AreHeads heads
             → AreTexts front self.old → AreTexts back more.now → AreTexts (front ++ back) self.new) }
     {
         put_behind(&mut self.answers, heads.answers, more.answers.as_slice())?;

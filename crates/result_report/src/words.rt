@@ -1,8 +1,8 @@
-//! What is told of a line, in the words of the tables.
+//! What the tables say of a line, in their words.
 
 ghost use Rattle.std.specs.Prelude.{◌≡◌, IfOk, map, option_map, string_bytes};
 ghost use Rattle.sip_answer.specs.Words.{word_of};
-ghost use Rattle.result_report.specs.Report.{reason_of, sequence_of, words_of};
+ghost use Rattle.result_report.specs.Report.{reason_of, sequence_of, joined_words};
 
 use sip_answer::Field;
 use sip_reader::Reading;
@@ -30,8 +30,8 @@ pub fn reason_of(reading: &Reading) -> Option<&'static str>
 }
 
 /// The words of what differs, joined by one blank.
-pub fn words_of(alloc: Global, fields: &[Field]) -> Result<String, AllocError>
-    ensures { IfOk result (λ s. string_bytes s ≡ words_of fields.now) }
+pub fn joined_words(alloc: Global, fields: &[Field]) -> Result<String, AllocError>
+    ensures { IfOk result (λ s. string_bytes s ≡ joined_words fields.now) }
 {
     let words = each_word(alloc, fields)?;
     words.join(alloc, " ")

@@ -58,14 +58,20 @@ pub fn count(alloc: Global, tally: &mut Tally, name: &[u8], more: u64) -> Result
 /// Adds a table under its head, with a bar for each name, and behind the name what is the same in each.
 pub fn add_bars(sheet: &mut Sheet, head: &'static str, behind: &'static str, tally: &Tally) {
     sheet.add(head, b"");
-    let mut most = 1;
-    for count in tally.values() {
-        most = most.max(*count);
-    }
+    let most = most_of(tally);
     for (name, count) in tally {
         add_bar(sheet, name, behind, *count, most);
     }
     sheet.add(TABLE_END, b"");
+}
+
+/// The largest count, at least 1.
+fn most_of(tally: &Tally) -> u64 {
+    let mut most = 1;
+    for count in tally.values() {
+        most = most.max(*count);
+    }
+    most
 }
 
 /// Adds a bar with its count; one that isn't of nothing is to be seen.

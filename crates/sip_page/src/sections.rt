@@ -105,11 +105,16 @@ fn add_request(sheet: &mut Sheet, case: &Case<'_>) {
     }
 }
 
-/// Adds a row for each field of the right response, then for each of the recorded one that has no other.
+/// Adds a row for each field of the right response, then for each of the recorded one that the right one lacks.
 fn add_responses(sheet: &mut Sheet, case: &Case<'_>) {
     for right in &case.right {
         add_pair(sheet, right, other_of(&case.recorded, right), Some(right));
     }
+    add_superfluous(sheet, case);
+}
+
+/// Adds a row for each field of the recorded response that the right one lacks.
+fn add_superfluous(sheet: &mut Sheet, case: &Case<'_>) {
     for recorded in &case.recorded {
         if other_of(&case.right, recorded).is_none() {
             add_pair(sheet, recorded, Some(recorded), None);

@@ -1,6 +1,6 @@
 //! Amounts of money.
 
-ghost use Rattle.std.specs.Prelude.{◌≡◌, ◌≤◌, ◌<◌, ◌^◌, ◌+◌, ◌++◌, if◌then◌else◌, nat_le, Some, None, true, length, take, IfSome, OnOk};
+ghost use Rattle.std.specs.Prelude.{◌≡◌, ◌≤◌, ◌<◌, ◌^◌, ◌+◌, ◌++◌, if◌then◌else◌, nat_le, Some, None, true, length, take, IfSome, OnErr, OnOk};
 ghost use Rattle.std.specs.Char.{is_ascii_digit};
 ghost use Rattle.std.specs.Cmp.{partial_order_from_own_ties};
 ghost use Rattle.std.specs.Cmp.Rules.{comparing};
@@ -135,10 +135,25 @@ fn is_point_and_digits(text: &[u8]) -> bool
     text.len() >= 2 && text.len() <= 3 && text[0] == b'.' && all_digits(&text[1..])
 }
 
-/// Writes hundredths at the end of a text, with at least one digit before the point and two after it.
-#[tactic(auto, unfolding(crate::specs::Amounts::amount_text))]
+/// Writes hundredths at the end of a text, with at least one digit before the point and two after it. Where memory runs
+/// out the text is as it was.
 pub fn push_amount(out: &mut Vec<u8>, hundredths: u128) -> Result<(), AllocError>
-    ensures { OnOk result (out.new.items ≡ out.old.items ++ amount_text hundredths) }
+    ensures ok { OnOk result (out.new.items ≡ out.old.items ++ amount_text hundredths) }
+    ensures err { OnErr result (out.new.items ≡ out.old.items) }
+{
+    let len = out.len();
+    let written = write_parts(out, hundredths);
+    if written.is_err() {
+        out.truncate(len);
+    }
+    written
+}
+
+/// Writes the parts of an amount, one after another. Where memory runs out those before stand behind the text.
+#[tactic(auto, unfolding(crate::specs::Amounts::amount_text))]
+fn write_parts(out: &mut Vec<u8>, hundredths: u128) -> Result<(), AllocError>
+    ensures ok { OnOk result (out.new.items ≡ out.old.items ++ amount_text hundredths) }
+    ensures err { OnErr result (take (length out.old.items) out.new.items ≡ out.old.items) }
 {
     let mut buffer = Buffer::new();
     out.extend_from_slice(buffer.format(hundredths / 100).as_bytes())?;

@@ -7,7 +7,7 @@ use Rattle.circ_records.specs.declared.record.Record.{Record}
 use Rattle.circ_records.specs.declared.key.Key.{Key}
 use Rattle.sip_answer.specs.declared.answer.Answer.{Answer}
 use Rattle.read_set.specs.Plans.{Planned}
-use Rattle.read_set.specs.Settling.{Told}
+use Rattle.read_set.specs.Settling.{Contents}
 use Rattle.read_set.specs.declared.notes.Name.{Name}
 use Rattle.read_set.specs.declared.notes.Note.{Note}
 use Rattle.version_store.specs.Entries.{shown_by, suspected}
@@ -20,7 +20,7 @@ use Rattle.board_steps.specs.Steps.Call.{Take, Look, Publish, Check, Commit}
 use Rattle.board_steps.specs.Steps.Reply.{Idle, Taken, Seen, Stopped, Placed, Lifted, Whole, Same, Changed, Commits}
 use Rattle.board_steps.proofs.Lines.{within_board}
 use Rattle.board_lines.specs.Hands.{IsHand}
-use Rattle.board_lines.specs.Notes.{found_by, told_at}
+use Rattle.board_lines.specs.Notes.{found_by, contents_at}
 use Rattle.board_lines.specs.Replies.{Answers}
 use Rattle.board_lines.specs.declared.hand.Hand.{Hand}
 use Rattle.board_lines.specs.declared.reply.Reply.{Reply}
@@ -40,7 +40,7 @@ line_in b n s e ne = within_board b n (λ h. ne (sym e ∙ h))
 pub line_running : (b : Board) (n w : ℕ) (notes : List Note) → (row_at b n).state ≡ Running w notes → IsLine b n
 line_running b n w notes e = line_in b n (Running w notes) e (λ h. cc)
 
-pub line_placing : (b : Board) (n w : ℕ) (notes : List Note) (last : Option Told) → (row_at b n).state ≡ Placing w notes last → IsLine b n
+pub line_placing : (b : Board) (n w : ℕ) (notes : List Note) (last : Option Contents) → (row_at b n).state ≡ Placing w notes last → IsLine b n
 line_placing b n w notes last e = line_in b n (Placing w notes last) e (λ h. cc)
 
 pub line_done : (b : Board) (n : ℕ) (notes : List Note) (answer : Option Answer) (stamp : Option ℕ) → (row_at b n).state ≡ Done notes answer stamp → IsLine b n
@@ -145,7 +145,7 @@ pub look_other : {J : Type 0} (plan : Planned) (old new : Board) (w : ℕ) (k : 
     → IsReady old r → IsReady new r
 look_other plan old new w k r replies.Idle ne h ready = subst (λ b. IsReady b r) (sym h.1) ready
 look_other plan old new w k r (replies.Suspect m) ne h ready = absurd (ne m refl)
-look_other plan old new w k r (replies.Seen name place) ne h ready = see_ready plan old new w k name (found_by plan.base k (option_map told_at place)) r h ready
+look_other plan old new w k r (replies.Seen name place) ne h ready = see_ready plan old new w k name (found_by plan.base k (option_map contents_at place)) r h ready
 look_other plan old new w k r replies.Memory ne h ready = subst (λ b. IsReady b r) (sym h.1) ready
 look_other plan old new w k r _ ne h ready = absurd h
 
@@ -161,7 +161,7 @@ nowhere_published b r w n notes ready may = elim may [
   | inr p ↦ nowhere_at b r n (Placing w notes p.0) ready (line_placing b n w notes p.0 p.1) p.1 (λ mark h. h)
 ]
 
-pub placed_ready : (plan : Planned) (old new : Board) (w : ℕ) (v : Told) (hand : Hand) (r r' : Ready) → Reached plan old → IsHand old w (Some hand) → PublishStep old w v Placed new
+pub placed_ready : (plan : Planned) (old new : Board) (w : ℕ) (v : Contents) (hand : Hand) (r r' : Ready) → Reached plan old → IsHand old w (Some hand) → PublishStep old w v Placed new
     → IsReady old r → Loses r r' (hand.line - old.first) → IsReady new r'
 placed_ready plan old new w v hand r r' ok in_hand h ready loses =
     let n = h.0 in
@@ -172,7 +172,7 @@ placed_ready plan old new w v hand r r' ok in_hand h ready loses =
     ready_change old new n row turns r r r' marks.Nowhere (stamp_by plan old ok) (omega arith) refl (nowhere_published old r w n h.1 ready h.2)
     (subst (λ x. Loses r r' (x - old.first)) same loses) ready
 
-pub lifted_ready : (plan : Planned) (old new : Board) (w : ℕ) (v : Told) (hand : Hand) (r r' : Ready) → Reached plan old → IsHand old w (Some hand) → PublishStep old w v Lifted new
+pub lifted_ready : (plan : Planned) (old new : Board) (w : ℕ) (v : Contents) (hand : Hand) (r r' : Ready) → Reached plan old → IsHand old w (Some hand) → PublishStep old w v Lifted new
     → IsReady old r → Loses r r' (hand.line - old.first) → IsReady new r'
 lifted_ready plan old new w v hand r r' ok in_hand h ready loses =
     let n = h.0 in
@@ -183,7 +183,7 @@ lifted_ready plan old new w v hand r r' ok in_hand h ready loses =
     ready_change old new n row turns r r r' marks.Nowhere (stamp_by plan old ok) (omega arith) refl (nowhere_published old r w n h.1 ready h.2)
     (subst (λ x. Loses r r' (x - old.first)) same loses) ready
 
-pub published_ready : (plan : Planned) (old new : Board) (w : ℕ) (v : Told) (hand : Hand) (r r' : Ready) → Reached plan old → IsHand old w (Some hand) → PublishStep old w v Whole new
+pub published_ready : (plan : Planned) (old new : Board) (w : ℕ) (v : Contents) (hand : Hand) (r r' : Ready) → Reached plan old → IsHand old w (Some hand) → PublishStep old w v Whole new
     → IsReady old r → Puts r r' (hand.line - old.first) marks.Unchecked → IsReady new r'
 published_ready plan old new w v hand r r' ok in_hand h ready puts =
     let n = h.0 in
@@ -192,7 +192,7 @@ published_ready plan old new w v hand r r' ok in_hand h ready puts =
     let turns : Turns old new n row = turns_put old new n row (line_published old w n h.1 h.2) (ap (λ (b : Board). b.first) h.6) (ap (λ (b : Board). b.rows) h.6) in
     ready_put old new n row turns r r' marks.Unchecked refl refl (subst (λ x. Puts r r' (x - old.first) marks.Unchecked) same puts) ready
 
-pub publish_other : {J : Type 0} (plan : Planned) (old new : Board) (w : ℕ) (v : Told) (r : Ready) (reply : Reply J)
+pub publish_other : {J : Type 0} (plan : Planned) (old new : Board) (w : ℕ) (v : Contents) (r : Ready) (reply : Reply J)
     → (reply ≡ replies.Placed → ⊥) → (reply ≡ replies.Lifted → ⊥) → (reply ≡ replies.Whole → ⊥) → Answers plan old (Publish w v) reply new → IsReady old r → IsReady new r
 publish_other plan old new w v r replies.Placed n1 n2 n3 h ready = absurd (n1 refl)
 publish_other plan old new w v r replies.Lifted n1 n2 n3 h ready = absurd (n2 refl)
@@ -203,7 +203,7 @@ publish_other plan old new w v r replies.ClockSpent n1 n2 n3 h ready = subst (λ
 publish_other plan old new w v r replies.Memory n1 n2 n3 h ready = subst (λ b. IsReady b r) (sym h.1) ready
 publish_other plan old new w v r _ n1 n2 n3 h ready = absurd h
 
-pub publish_idle : (b : Board) (w : ℕ) (v : Told) → IsHand b w None → PublishStep b w v Idle b
+pub publish_idle : (b : Board) (w : ℕ) (v : Contents) → IsHand b w None → PublishStep b w v Idle b
 publish_idle b w v none = (λ n notes may. none n (held_by_publisher b w n notes may), refl)
 
 -- ---- check

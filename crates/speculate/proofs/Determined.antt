@@ -5,7 +5,7 @@ use Rattle.circ_records.specs.Records.{Entries}
 use Rattle.circ_records.specs.declared.key.Key.{Key}
 use Rattle.read_set.specs.Asks.{Done as EndsIn, Wants as AsksFor}
 use Rattle.read_set.specs.Plans.{Planned}
-use Rattle.read_set.specs.Settling.{Told}
+use Rattle.read_set.specs.Settling.{Contents}
 use Rattle.read_set.specs.declared.effect.Effect.{Effect}
 use Rattle.read_set.specs.declared.notes.Note.{Note}
 use Rattle.sip_answer.specs.declared.answer.Answer.{Answer}
@@ -30,11 +30,11 @@ abbrev One : Reply → Board → Reply → Board → Type 0
 One r new s other = (r ≡ s) × (new ≡ other)
 
 -- what a version writes and answers, and a version by its parts
-abbrev effect : Told → Effect
+abbrev effect : Contents → Effect
 effect v = record { writes = v.writes; answer = v.answer }
 
-abbrev told : ℕ → ℕ → List Note → Entries → Option Answer → Told
-told line attempt reads writes answer = record { line = line; attempt = attempt; reads = reads; writes = writes; answer = answer }
+abbrev contents : ℕ → ℕ → List Note → Entries → Option Answer → Contents
+contents line attempt reads writes answer = record { line = line; attempt = attempt; reads = reads; writes = writes; answer = answer }
 
 module _ (plan : Planned) (b : Board) (reached : Reached plan b) (w : ℕ) where
   -- a worker has one line in hand, in one attempt, with its notes
@@ -56,54 +56,54 @@ module _ (plan : Planned) (b : Board) (reached : Reached plan b) (w : ℕ) where
   one_wanted k j (n, a, notes, h, is) (m, c, more, i, at) =
       let e : AsksFor k ≡ AsksFor j = sym is ∙ one_stand n m a c notes more h i ∙ at in cc
 
-  not_both : (k : Key) (v : Told) → Wants plan b w k → HasVersion plan b w v → ⊥
+  not_both : (k : Key) (v : Contents) → Wants plan b w k → HasVersion plan b w v → ⊥
   not_both k v (n, a, notes, h, is) (m, c, more, i, line, attempt, reads, at, settles) =
       let e : AsksFor k ≡ EndsIn (effect v) = sym is ∙ one_stand n m a c notes more h i ∙ at in cc
 
   -- versions that tell the same are one
-  told_so : (v u : Told) → v.line ≡ u.line → v.attempt ≡ u.attempt → v.reads ≡ u.reads → v.writes ≡ u.writes → v.answer ≡ u.answer → v ≡ u
-  told_so v u line attempt reads writes answer =
-      ap (λ (x : ℕ). told x v.attempt v.reads v.writes v.answer) line
-      ∙ ap (λ (x : ℕ). told u.line x v.reads v.writes v.answer) attempt
-      ∙ ap (λ (x : List Note). told u.line u.attempt x v.writes v.answer) reads
-      ∙ ap (λ (x : Entries). told u.line u.attempt u.reads x v.answer) writes
-      ∙ ap (λ (x : Option Answer). told u.line u.attempt u.reads u.writes x) answer
+  same_contents : (v u : Contents) → v.line ≡ u.line → v.attempt ≡ u.attempt → v.reads ≡ u.reads → v.writes ≡ u.writes → v.answer ≡ u.answer → v ≡ u
+  same_contents v u line attempt reads writes answer =
+      ap (λ (x : ℕ). contents x v.attempt v.reads v.writes v.answer) line
+      ∙ ap (λ (x : ℕ). contents u.line x v.reads v.writes v.answer) attempt
+      ∙ ap (λ (x : List Note). contents u.line u.attempt x v.writes v.answer) reads
+      ∙ ap (λ (x : Entries). contents u.line u.attempt u.reads x v.answer) writes
+      ∙ ap (λ (x : Option Answer). contents u.line u.attempt u.reads u.writes x) answer
 
   one_effect : (e f : Effect) → EndsIn e ≡ EndsIn f → e ≡ f
   one_effect e f same = cc
 
-  one_version : (v u : Told) → HasVersion plan b w v → HasVersion plan b w u → v ≡ u
+  one_version : (v u : Contents) → HasVersion plan b w v → HasVersion plan b w u → v ≡ u
   one_version v u (n, a, notes, h, line, attempt, reads, is, settles) (m, c, more, i, line', attempt', reads', at, settles') =
       let same = one_effect (effect v) (effect u) (sym is ∙ one_stand n m a c notes more h i ∙ at) in
-      told_so v u
+      same_contents v u
       (line ∙ one_line n m a c notes more h i ∙ sym line') (attempt ∙ one_attempt n m a c notes more h i ∙ sym attempt') (reads ∙ one_noted n m a c notes more h i ∙ sym reads')
       (ap (λ (x : Effect). x.writes) same) (ap (λ (x : Effect). x.answer) same)
 
   -- the version of the last act
-  last_held : (n : ℕ) (notes : List Note) (v : Told) → (row_at b n).state ≡ Placing w notes (Some v) → holder (row_at b n).state ≡ Some w
+  last_held : (n : ℕ) (notes : List Note) (v : Contents) → (row_at b n).state ≡ Placing w notes (Some v) → holder (row_at b n).state ≡ Some w
   last_held n notes v is = ap holder is
 
-  one_last : (v u : Told) → HasLast b w v → HasLast b w u → v ≡ u
+  one_last : (v u : Contents) → HasLast b w v → HasLast b w u → v ≡ u
   one_last v u (n, notes, is) (m, more, at) =
       let line : n ≡ m = reached.hands n m w (last_held n notes v is) (last_held m more u at) in
       let e : Placing w notes (Some v) ≡ Placing w more (Some u) = sym is ∙ ap (λ x. (row_at b x).state) line ∙ at in cc
 
-  last_in_hand : (v : Told) → HasLast b w v → HasNoLine b w → ⊥
+  last_in_hand : (v : Contents) → HasLast b w v → HasNoLine b w → ⊥
   last_in_hand v (n, notes, is) none = none n (last_held n notes v is)
 
-  one_to_publish : (v u : Told) → ToPublish plan b w v → ToPublish plan b w u → v ≡ u
+  one_to_publish : (v u : Contents) → ToPublish plan b w v → ToPublish plan b w u → v ≡ u
   one_to_publish v u (inl last) (inl last') = one_last v u last last'
   one_to_publish v u (inl last) (inr (none, has)) = absurd (none v last)
   one_to_publish v u (inr (none, has)) (inl last) = absurd (none u last)
   one_to_publish v u (inr (none, has)) (inr (none', has')) = one_version v u has has'
 
-  not_at_rest : (v : Told) → ToPublish plan b w v → Rests plan b w → ⊥
+  not_at_rest : (v : Contents) → ToPublish plan b w v → Rests plan b w → ⊥
   not_at_rest v (inl last) (inl none) = last_in_hand v last none
   not_at_rest v (inl last) (inr (none, k, wants)) = none v last
   not_at_rest v (inr (none, has)) (inl gone) = gone has.0 has.3.held
   not_at_rest v (inr (none, has)) (inr (none', k, wants)) = not_both k v wants has
 
-  not_idle : (k : Key) → Wants plan b w k → HasNoLine b w ⊎ ((v : Told) × HasVersion plan b w v) → ⊥
+  not_idle : (k : Key) → Wants plan b w k → HasNoLine b w ⊎ ((v : Contents) × HasVersion plan b w v) → ⊥
   not_idle k wants (inl none) = none wants.0 wants.3.held
   not_idle k wants (inr (v, has)) = not_both k v wants has
 

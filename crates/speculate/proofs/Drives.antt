@@ -10,7 +10,7 @@ use Rattle.circ_records.specs.declared.key.Key.{Key}
 use Rattle.message_meaning.specs.Needs.{IsNeed}
 use Rattle.read_set.specs.Notes.{note_of, noted, IsOnceEach}
 use Rattle.read_set.specs.Plans.{Planned}
-use Rattle.read_set.specs.Settling.{Told}
+use Rattle.read_set.specs.Settling.{Contents}
 use Rattle.read_set.specs.declared.notes.Name.{Name}
 use Rattle.read_set.specs.declared.notes.Note.{Note}
 use Rattle.read_set.specs.declared.version.Need.{Need}
@@ -28,7 +28,7 @@ use Rattle.board_steps.proofs.Lines.{row_before, row_from}
 use Rattle.speculate.specs.Driving.{IsDriven, IsNew, MayStop, RunsTo}
 use Rattle.speculate.specs.Ending.{ended_by}
 use Rattle.speculate.specs.Needed.{SettlesIfDone}
-use Rattle.board_lines.specs.Notes.{found_by, told_at}
+use Rattle.board_lines.specs.Notes.{found_by, contents_at}
 use Rattle.speculate.specs.Devices.Phases.{Appears, GoesOn, Holds, IsAppearing, Proves, Reads, Waits}
 use Rattle.board_lines.specs.Replies.{Answers, Grows}
 use Rattle.board_lines.specs.declared.reply.Reply.{Reply as CodeReply}
@@ -130,8 +130,8 @@ next_keys asked i x lt at =
     ∙ keys_more (take i asked) x
 
 pub look_seen : {J : Type 0} (plan : Planned) (b new : Board) (line : ℕ) (notes : List Note) (k : Key) (name : Name) (place : Option (Place J)) → Reads plan b line notes → Answers plan b (Look 0 k) (replies.Seen name place) new
-    → Reads plan new line (notes ++ record { key = k; name = name; found = found_by plan.base k (option_map told_at place) } ∷ [])
-look_seen plan b new line notes k name place reads h = look_goes plan b line notes reads k name (found_by plan.base k (option_map told_at place)) new h
+    → Reads plan new line (notes ++ record { key = k; name = name; found = found_by plan.base k (option_map contents_at place) } ∷ [])
+look_seen plan b new line notes k name place reads h = look_goes plan b line notes reads k name (found_by plan.base k (option_map contents_at place)) new h
 
 -- nothing else comes but want of memory
 pub look_only : {J : Type 0} (plan : Planned) (b new : Board) (line : ℕ) (notes : List Note) (k : Key) (reply : CodeReply J) → Reads plan b line notes → noted notes k ≡ None → Answers plan b (Look 0 k) reply new
@@ -153,7 +153,7 @@ look_only plan b new line notes k replies.Later reads none h s m = h
 look_only plan b new line notes k replies.ClockSpent reads none h s m = h
 
 -- ---- a version
-appears_of : (plan : Planned) (b : Board) (line : ℕ) (notes : List Note) (v : Told) → Reads plan b line notes → (v.line ≡ line) × (v.attempt ≡ 0) × (v.reads ≡ notes) → IsVersion plan v → Appears plan b line v
+appears_of : (plan : Planned) (b : Board) (line : ℕ) (notes : List Note) (v : Contents) → Reads plan b line notes → (v.line ≡ line) × (v.attempt ≡ 0) × (v.reads ≡ notes) → IsVersion plan v → Appears plan b line v
 appears_of plan b line notes v reads of_it settles = record {
   goes = subst (λ ns. GoesOn plan b line ns) (sym of_it.2) reads.goes;
   state = inl (reads.state ∙ ap (λ (ns : List Note). Running 0 ns) (sym of_it.2));
@@ -163,13 +163,13 @@ appears_of plan b line notes v reads of_it settles = record {
 }
 
 -- the version that a line needs may be published
-pub done_appears : {J : Type 0} (plan : Planned) (b : Board) (line : ℕ) (notes : List Note) (next : Need J) (v : Told) → Reads plan b line notes → IsNeed plan line 0 notes next → SettlesIfDone plan next → next ≡ needs.Done v → Appears plan b line v
+pub done_appears : {J : Type 0} (plan : Planned) (b : Board) (line : ℕ) (notes : List Note) (next : Need J) (v : Contents) → Reads plan b line notes → IsNeed plan line 0 notes next → SettlesIfDone plan next → next ≡ needs.Done v → Appears plan b line v
 done_appears plan b line notes next v reads need settles is =
     let done = subst (λ x. IsNeed plan line 0 notes x) is need in
     appears_of plan b line notes v reads (done.1, done.2, done.3) (subst (λ x. SettlesIfDone plan x) is settles)
 
 -- ---- publish
-pub spent_stops : (plan : Planned) (b new : Board) (v : Told) → IsVersion plan v → Step plan b (Publish 0 v) Spent new → MayStop plan new faults.ClockSpent
+pub spent_stops : (plan : Planned) (b new : Board) (v : Contents) → IsVersion plan v → Step plan b (Publish 0 v) Spent new → MayStop plan new faults.ClockSpent
 spent_stops plan b new v settles h = (v, settles, subst (λ x. Step plan x (Publish 0 v) Spent x) (sym h.6) (subst (λ x. Step plan b (Publish 0 v) Spent x) h.6 h))
 
 -- want of memory, where the line runs
@@ -181,14 +181,14 @@ pub seen_stops : {J : Type 0} (plan : Planned) (b new : Board) (line : ℕ) (not
 seen_stops plan b new line notes k name place reads h = reads_stops plan new line _ (look_seen plan b new line notes k name place reads h)
 
 -- and at an act of its publication, which leaves the board
-appears_stops : (plan : Planned) (b : Board) (line : ℕ) (v : Told) → Appears plan b line v → Grows plan b (Publish 0 v) → IsAppearing (row_at b line).state v → MayStop plan b faults.Memory
+appears_stops : (plan : Planned) (b : Board) (line : ℕ) (v : Contents) → Appears plan b line v → Grows plan b (Publish 0 v) → IsAppearing (row_at b line).state v → MayStop plan b faults.Memory
 appears_stops plan b line v appears grows (inl runs) = inl (line, v.reads, runs)
 appears_stops plan b line v appears grows (inr is) = inr (v, (line, v.reads, is), appears.settles, grows)
 
-pub act_stops : (plan : Planned) (b new : Board) (line : ℕ) (v : Told) → Appears plan b line v → Grows plan b (Publish 0 v) × (new ≡ b) → MayStop plan new faults.Memory
+pub act_stops : (plan : Planned) (b new : Board) (line : ℕ) (v : Contents) → Appears plan b line v → Grows plan b (Publish 0 v) × (new ≡ b) → MayStop plan new faults.Memory
 act_stops plan b new line v appears h = subst (λ x. MayStop plan x faults.Memory) (sym h.1) (appears_stops plan b line v appears h.0 appears.state)
 
-pub publish_other : {J : Type 0} (plan : Planned) (b new : Board) (line : ℕ) (v : Told) (reply : CodeReply J) → Appears plan b line v → Answers plan b (Publish 0 v) reply new
+pub publish_other : {J : Type 0} (plan : Planned) (b new : Board) (line : ℕ) (v : Contents) (reply : CodeReply J) → Appears plan b line v → Answers plan b (Publish 0 v) reply new
     → (reply ≢ replies.Placed) → (reply ≢ replies.Lifted) → (reply ≢ replies.Whole) → (reply ≢ replies.ClockSpent) → (reply ≢ replies.Memory) → ⊥
 publish_other plan b new line v replies.Placed appears h p l w c m = p refl
 publish_other plan b new line v replies.Lifted appears h p l w c m = l refl

@@ -13,7 +13,7 @@ use Rattle.board_steps.specs.Board.State.{Waiting, Running, Placing, Done, Check
 use Rattle.board_steps.specs.Reached.{Reached}
 use Rattle.board_steps.proofs.Histories.{committed_ok}
 use Rattle.board_steps.proofs.Lines.{row_before, row_from}
-use Rattle.board_lines.specs.Lendings.{committed_answer}
+use Rattle.board_lines.specs.Committed.{committed_answer}
 use Rattle.speculate.specs.Finishing.{IsWhole}
 
 module _ (plan : Planned) (b : Board) (reached : Reached plan b) where

@@ -75,7 +75,7 @@ pub goes_over : (first second first_new second_new : List Bool) (from : ℕ) →
     → GoesOver first second first_new second_new from
 goes_over first second first_new second_new from part none = record {
   out = none;
-  over = λ q le. sym (ap (λ x. x || has_place second_new q) (none q le)) ∙ part.both q le;
+  moved = λ q le. sym (ap (λ x. x || has_place second_new q) (none q le)) ∙ part.both q le;
   first_before = part.first_before;
   second_before = part.second_before;
   first_len = part.first_len;

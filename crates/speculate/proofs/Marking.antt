@@ -68,7 +68,7 @@ loses_of old new p e over out = record {
       let le : p + 1 ≤ q = omega (arith, lt) in
       record {
         in_waiting = ap (λ (x : List Bool). get_or x q false) e ∙ h.in_waiting ∙ lost_waits mark;
-        in_unchecked = over.over q le ∙ ap₂ (λ x y. x || y) h.in_checked h.in_unchecked ∙ lost_unchecked mark;
+        in_unchecked = over.moved q le ∙ ap₂ (λ x y. x || y) h.in_checked h.in_unchecked ∙ lost_unchecked mark;
         in_checked = over.out q le ∙ lost_checked mark;
         in_checking = out.out q le ∙ lost_checking mark;
       };

@@ -8,7 +8,7 @@ use Rattle.circ_records.specs.declared.key.Key.{Key}
 use Rattle.circ_records.specs.declared.record.Record.{Record}
 use Rattle.sip_answer.specs.declared.answer.Answer.{Answer}
 use Rattle.read_set.specs.Plans.{Planned}
-use Rattle.read_set.specs.Settling.{Told}
+use Rattle.read_set.specs.Settling.{Contents}
 use Rattle.read_set.specs.declared.notes.Name.{Name}
 use Rattle.read_set.specs.declared.notes.Name.TheVariants as names
 use Rattle.read_set.specs.declared.notes.Note.{Note}
@@ -239,11 +239,11 @@ publish_held : (b : Board) (w n : ℕ) (notes : List Note) → MayPublish b w n 
 publish_held b w n notes (inl is) = (ap holder is, ap notes_of is)
 publish_held b w n notes (inr (last, is)) = (ap holder is, ap notes_of is)
 
-may_publish : (b : Board) (line : ℕ) (v : Told) → IsAppearing (row_at b line).state v → MayPublish b 0 line v.reads
+may_publish : (b : Board) (line : ℕ) (v : Contents) → IsAppearing (row_at b line).state v → MayPublish b 0 line v.reads
 may_publish b line v (inl is) = inl is
 may_publish b line v (inr is) = inr (Some v, is)
 
-module _ (plan : Planned) (b : Board) (line : ℕ) (v : Told) (appears : Appears plan b line v) where
+module _ (plan : Planned) (b : Board) (line : ℕ) (v : Contents) (appears : Appears plan b line v) where
   may_here : MayPublish b 0 line v.reads
   may_here = may_publish b line v appears.state
 
@@ -337,12 +337,12 @@ module _ (plan : Planned) (b : Board) (line : ℕ) (v : Told) (appears : Appears
       let same : notes ≡ v.reads = sym (publish_held b 0 n notes may).1 ∙ ap (λ q. notes_of (row_at b q).state) at ∙ (publish_held b 0 line v.reads may_here).1 in
       not (subst (λ q. Fits b q notes v) (sym at) (subst (λ ns. Fits b line ns v) (sym same) fits_here))
 
-  last_of : (s : State) (u : Told) (notes : List Note) → s ≡ Placing 0 notes (Some u) → IsAppearing s v → u ≡ v
+  last_of : (s : State) (u : Contents) (notes : List Note) → s ≡ Placing 0 notes (Some u) → IsAppearing s v → u ≡ v
   last_of s u notes is (inl run) = let z : Placing 0 notes (Some u) ≡ Running 0 v.reads = sym is ∙ run in cc
   last_of s u notes is (inr placing) = let z : Placing 0 notes (Some u) ≡ Placing 0 v.reads (Some v) = sym is ∙ placing in cc
 
   -- the version of the last act is this one
-  pub last_act : (u : Told) → IsPlacing b 0 (Some u) → u ≡ v
+  pub last_act : (u : Contents) → IsPlacing b 0 (Some u) → u ≡ v
   last_act u (n, notes, is) =
       let at : n ≡ line = held_is plan b line 1 goes_here.stands n 0 (ap holder is) in
       last_of (row_at b line).state u notes (subst (λ q. (row_at b q).state ≡ Placing 0 notes (Some u)) at is) appears.state

@@ -8,7 +8,7 @@ use Rattle.read_set.proofs.Keeping.{true-agrees}
 use Rattle.read_set.specs.Asks.{Reached as Outcome, Done as EndsIn, Wants as AsksFor}
 use Rattle.read_set.specs.Notes.{noted}
 use Rattle.read_set.specs.declared.effect.Effect.{Effect}
-use Rattle.read_set.specs.Settling.{Told}
+use Rattle.read_set.specs.Settling.{Contents}
 use Rattle.read_set.specs.declared.notes.Note.{Note}
 use Rattle.read_set.specs.declared.version.Need.{Need}
 use Rattle.read_set.specs.declared.version.Need.TheVariants as needs
@@ -23,7 +23,7 @@ use Rattle.board_lines.specs.Acts.{IsPlacing, IsToPublish as HasToPublish, notes
 use Rattle.board_lines.specs.Hands.{HasNoLine, IsHand, notes_of}
 use Rattle.board_lines.specs.declared.hand.Hand.{Hand}
 use Rattle.speculate.specs.Needed.{IsNext, IsRunning, IsToPublish, SettlesIfDone, needed_key, needed_version}
-use Rattle.board_lines.specs.Notes.{found_by, told_at}
+use Rattle.board_lines.specs.Notes.{found_by, contents_at}
 use Rattle.speculate.specs.Playing.{Goes, HasLast, HasRunning, HasVersion, InHand, IsRefused, Looks, MayWant, Plays, Publishes, ToPublish, Wants, refusal, stands_at}
 use Rattle.board_lines.specs.Replies.{Answers, Grows}
 use Rattle.board_lines.specs.declared.reply.Reply.{Reply as CodeReply}
@@ -66,7 +66,7 @@ spent_same plan old new (TheCommit m) h = absurd h
 pub call_ends : {J : Type 0} (plan : Planned) (old new : Board) (call : Call) (reply : CodeReply J) → Answers plan old call reply new → CallEnds plan old call (ended_by reply) new
 call_ends plan old new call replies.Idle h = (Idle, h, refl)
 call_ends plan old new call (replies.Taken attempt) h = (Taken attempt, h, refl)
-call_ends plan old new (TheLook w k) (replies.Seen name place) h = (Seen name (found_by plan.base k (option_map told_at place)), h, refl)
+call_ends plan old new (TheLook w k) (replies.Seen name place) h = (Seen name (found_by plan.base k (option_map contents_at place)), h, refl)
 call_ends plan old new (TheTake w n) (replies.Seen name place) h = absurd h
 call_ends plan old new (ThePublish w v) (replies.Seen name place) h = absurd h
 call_ends plan old new (TheCheck w n) (replies.Seen name place) h = absurd h
@@ -116,11 +116,11 @@ look_ends plan old new w k (Err (faults.Attempts m)) wants h = (inl (k, wants, h
 look_ends plan old new w k (Err faults.ClockSpent) wants h = (inl (k, wants, h.0), h.1)
 look_ends plan old new w k (Err faults.Memory) wants h = ((h.0.3.0, h.0.3.1, h.0.3.2.running), h.1)
 
-pub look_idle : (plan : Planned) (old : Board) (w : ℕ) → HasNoLine old w ⊎ ((v : Told) × HasVersion plan old w v) → Goes plan old (steps.Look w) old
+pub look_idle : (plan : Planned) (old : Board) (w : ℕ) → HasNoLine old w ⊎ ((v : Contents) × HasVersion plan old w v) → Goes plan old (steps.Look w) old
 look_idle plan old w why = (Idle, inr (why, refl, refl), refl)
 
 -- an act of publication of a version that settles
-pub publish_ends : (plan : Planned) (old new : Board) (w : ℕ) (v : Told) (r : Result (Unit {0}) BoardFault) → (Grows plan old (ThePublish w v) → MayWant plan old (steps.Publish w)) → ToPublish plan old w v → IsVersion plan v → CallEnds plan old (ThePublish w v) r new → StepEnds plan old (steps.Publish w) r new
+pub publish_ends : (plan : Planned) (old new : Board) (w : ℕ) (v : Contents) (r : Result (Unit {0}) BoardFault) → (Grows plan old (ThePublish w v) → MayWant plan old (steps.Publish w)) → ToPublish plan old w v → IsVersion plan v → CallEnds plan old (ThePublish w v) r new → StepEnds plan old (steps.Publish w) r new
 publish_ends plan old new w v (Ok u) wants ready settles h = (h.0, inl (v, ready, settles, h.1), h.2)
 publish_ends plan old new w v (Err (faults.Attempts m)) wants ready settles h = (inl (v, ready, settles, h.0), h.1)
 publish_ends plan old new w v (Err faults.ClockSpent) wants ready settles h = (inl (v, ready, settles, h.0), h.1)
@@ -158,7 +158,7 @@ next_is plan b w n a notes (needs.Key k) runs hand need settles = (runs, (n, a, 
 next_is plan b w n a notes (needs.Done v) runs hand need settles = (runs, (n, a, notes, hand, need.1, need.2, need.3, need.0, settles))
 
 -- a line of which a part is published doesn't run
-pub placing_rests : (plan : Planned) (b : Board) (w : ℕ) (h : Hand) (v : Told) → Reached plan b → IsHand b w (Some h) → IsPlacing b w (Some v) → IsRunning b w None
+pub placing_rests : (plan : Planned) (b : Board) (w : ℕ) (h : Hand) (v : Contents) → Reached plan b → IsHand b w (Some h) → IsPlacing b w (Some v) → IsRunning b w None
 placing_rests plan b w h v reached hand (n, notes, is) = inr (
   h,
   hand,
@@ -200,7 +200,7 @@ look_wants plan b w (Some (needs.Key q)) k is e = let same : q ≡ k = cc in sub
 look_wants plan b w (Some (needs.Done v)) k is e = absurd (cc)
 
 -- no line is being published by the worker
-none_placing : (b : Board) (w : ℕ) → IsPlacing b w None → (u : Told) → HasLast b w u → ⊥
+none_placing : (b : Board) (w : ℕ) → IsPlacing b w None → (u : Contents) → HasLast b w u → ⊥
 none_placing b w not u (n, notes, is) = not n notes (Some u) is
 
 no_publish : (b : Board) (w : ℕ) → (HasRunning b w → ⊥) → IsPlacing b w None → (n : ℕ) (notes : List Note) → MayPublish b w n notes → ⊥
@@ -222,12 +222,12 @@ none_to_publish plan b w None none (inr (h, hand, not)) e =
 none_to_publish plan b w (Some (needs.Key k)) none is e = inr (inr (none_placing b w none, k, is.1), refl, refl)
 none_to_publish plan b w (Some (needs.Done v)) none is e = absurd (cc)
 
-one_to_publish : {J : Type 0} (plan : Planned) (b : Board) (w : ℕ) (next : Option (Need J)) (v : Told) → IsNext plan b w next → Some v ≡ needed_version next → HasRunning b w × HasVersion plan b w v
+one_to_publish : {J : Type 0} (plan : Planned) (b : Board) (w : ℕ) (next : Option (Need J)) (v : Contents) → IsNext plan b w next → Some v ≡ needed_version next → HasRunning b w × HasVersion plan b w v
 one_to_publish plan b w None v is e = absurd (cc)
 one_to_publish plan b w (Some (needs.Key q)) v is e = absurd (cc)
 one_to_publish plan b w (Some (needs.Done u)) v is e = let same : u ≡ v = cc in subst (λ x. HasRunning b w × HasVersion plan b w x) same is
 
-pub new_to_publish : {J : Type 0} (plan : Planned) (b : Board) (w : ℕ) (next : Option (Need J)) (v u : Told) → IsPlacing b w None → IsNext plan b w next → Some v ≡ needed_version next → u ≡ v → IsToPublish plan b w (Some u)
+pub new_to_publish : {J : Type 0} (plan : Planned) (b : Board) (w : ℕ) (next : Option (Need J)) (v u : Contents) → IsPlacing b w None → IsNext plan b w next → Some v ≡ needed_version next → u ≡ v → IsToPublish plan b w (Some u)
 new_to_publish plan b w next v u none is e same =
     let has = one_to_publish plan b w next v is e in
     subst (λ x. IsToPublish plan b w (Some x)) (sym same) (has.0, inr (none_placing b w none, has.1), has.1.8)

@@ -1,7 +1,7 @@
 -- The lines of a board, one after another in the order of the journal, by one worker (the board: driving in order).
 use Rattle.std.specs.Prelude.{◌≡◌, ℕ, ◌<◌, ◌⊎◌, List, length}
 use Rattle.read_set.specs.Plans.{Planned}
-use Rattle.read_set.specs.Settling.{Told}
+use Rattle.read_set.specs.Settling.{Contents}
 use Rattle.board_steps.specs.Board.{Board, IsCommitted, IsLine, row_at}
 use Rattle.board_steps.specs.Steps.{Call, IsVersion, Reply, Run, Step, opening}
 use Rattle.board_steps.specs.Steps.Call.{Publish}
@@ -31,5 +31,5 @@ RunsTo plan old new = (steps : List (Call × Reply)) × Run plan old steps new
 -- publication, a check nor a commit stops it.
 abbrev pub MayStop : Planned → Board → BoardFault → Type 0
 MayStop plan b (faults.Attempts line) = ⊥
-MayStop plan b faults.ClockSpent = (v : Told) × IsVersion plan v × Step plan b (Publish 0 v) ClockSpent b
+MayStop plan b faults.ClockSpent = (v : Contents) × IsVersion plan v × Step plan b (Publish 0 v) ClockSpent b
 MayStop plan b faults.Memory = HasRunning b 0 ⊎ WouldPlace plan b 0

@@ -137,7 +137,7 @@ SendsBack old new place false = Puts old new place marks.Waiting
 -- from a place on, what is in the first set goes over to the second; before it nothing changes
 pub record GoesOver (first second first_new second_new : List Bool) (from : ℕ) : Type 0 where
   pub out : (q : ℕ) → from ≤ q → has_place first_new q ≡ false
-  pub over : (q : ℕ) → from ≤ q → has_place second_new q ≡ (has_place first q || has_place second q)
+  pub moved : (q : ℕ) → from ≤ q → has_place second_new q ≡ (has_place first q || has_place second q)
   pub first_before : (q : ℕ) → q < from → has_place first_new q ≡ has_place first q
   pub second_before : (q : ℕ) → q < from → has_place second_new q ≡ has_place second q
   pub first_len : length first_new ≡ length first

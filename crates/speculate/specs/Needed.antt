@@ -2,7 +2,7 @@
 use Rattle.std.specs.Prelude.{◌≡◌, ◌⊎◌, Option, Some, None, ℕ}
 use Rattle.circ_records.specs.declared.key.Key.{Key}
 use Rattle.read_set.specs.Plans.{Planned}
-use Rattle.read_set.specs.Settling.{Told}
+use Rattle.read_set.specs.Settling.{Contents}
 use Rattle.read_set.specs.declared.version.Need.{Need}
 use Rattle.read_set.specs.declared.version.Need.TheVariants as needs
 use Rattle.board_steps.specs.Board.{Board}
@@ -33,7 +33,7 @@ SettlesIfDone plan (needs.Key k) = Unit {0}
 SettlesIfDone plan (needs.Done v) = IsVersion plan v
 
 -- the version to be published, of a line that runs, if there is one; else a publication is idle
-abbrev pub IsToPublish : Planned → Board → ℕ → Option Told → Type 0
+abbrev pub IsToPublish : Planned → Board → ℕ → Option Contents → Type 0
 IsToPublish plan b w None = Publishes plan b w Idle b
 IsToPublish plan b w (Some v) = HasRunning b w × ToPublish plan b w v × IsVersion plan v
 
@@ -42,7 +42,7 @@ needed_key (Some (needs.Key k)) = Some k
 needed_key (Some (needs.Done v)) = None
 needed_key None = None
 
-abbrev pub needed_version : {J : Type 0} → Option (Need J) → Option Told
+abbrev pub needed_version : {J : Type 0} → Option (Need J) → Option Contents
 needed_version (Some (needs.Key k)) = None
 needed_version (Some (needs.Done v)) = Some v
 needed_version None = None

@@ -5,7 +5,7 @@ use Rattle.message_meaning.specs.Rules.{rule_at}
 use Rattle.read_set.specs.Asks.{follow, Reached as Outcome, Done as EndsIn, Wants as AsksFor}
 use Rattle.read_set.specs.Notes.{noted}
 use Rattle.read_set.specs.Plans.{Planned}
-use Rattle.read_set.specs.Settling.{Told}
+use Rattle.read_set.specs.Settling.{Contents}
 use Rattle.read_set.specs.declared.effect.Effect.{Effect}
 use Rattle.read_set.specs.declared.notes.Note.{Note}
 use Rattle.board_steps.specs.Board.{Board, row_at, holder}
@@ -36,34 +36,34 @@ abbrev pub Wants : Planned → Board → ℕ → Key → Type 0
 Wants plan b w k = (n : ℕ) × (a : ℕ) × (notes : List Note) × InHand b w n a notes × (stands_at plan n notes ≡ AsksFor k)
 
 -- The version of the line in hand: its number, its attempt, its notes, and what its rule comes to on them. So it settles.
-abbrev pub HasVersion : Planned → Board → ℕ → Told → Type 0
+abbrev pub HasVersion : Planned → Board → ℕ → Contents → Type 0
 HasVersion plan b w v =
     (n : ℕ) × (a : ℕ) × (notes : List Note) × InHand b w n a notes
     × (v.line ≡ n) × (v.attempt ≡ a) × (v.reads ≡ notes)
     × (stands_at plan n notes ≡ EndsIn (record { writes = v.writes; answer = v.answer })) × IsVersion plan v
 
 -- the version of the last act of publication of the line in hand
-abbrev pub HasLast : Board → ℕ → Told → Type 0
+abbrev pub HasLast : Board → ℕ → Contents → Type 0
 HasLast b w v = (n : ℕ) × (notes : List Note) × ((row_at b n).state ≡ Placing w notes (Some v))
 
 -- what a publication goes on with, or begins with
-abbrev pub ToPublish : Planned → Board → ℕ → Told → Type 0
-ToPublish plan b w v = HasLast b w v ⊎ (((u : Told) → HasLast b w u → ⊥) × HasVersion plan b w v)
+abbrev pub ToPublish : Planned → Board → ℕ → Contents → Type 0
+ToPublish plan b w v = HasLast b w v ⊎ (((u : Contents) → HasLast b w u → ⊥) × HasVersion plan b w v)
 
 -- there is nothing to publish: no line is in hand, or one of which nothing is published yet and whose rule asks for a record
 abbrev pub Rests : Planned → Board → ℕ → Type 0
-Rests plan b w = HasNoLine b w ⊎ (((u : Told) → HasLast b w u → ⊥) × (k : Key) × Wants plan b w k)
+Rests plan b w = HasNoLine b w ⊎ (((u : Contents) → HasLast b w u → ⊥) × (k : Key) × Wants plan b w k)
 
 -- A look: at the key for which the rule of the line in hand asks. It is idle where nothing is in hand, or the rule has come to its end.
 abbrev pub Looks : Planned → Board → ℕ → Reply → Board → Type 0
 Looks plan old w reply new =
     ((k : Key) × Wants plan old w k × Step plan old (Look w k) reply new)
-    ⊎ ((HasNoLine old w ⊎ ((v : Told) × HasVersion plan old w v)) × (reply ≡ Idle) × (new ≡ old))
+    ⊎ ((HasNoLine old w ⊎ ((v : Contents) × HasVersion plan old w v)) × (reply ≡ Idle) × (new ≡ old))
 
 -- A publication: of the version of the last act, else of the one that the line in hand has. It is idle where there is nothing to publish.
 abbrev pub Publishes : Planned → Board → ℕ → Reply → Board → Type 0
 Publishes plan old w reply new =
-    ((v : Told) × ToPublish plan old w v × IsVersion plan v × Step plan old (Publish w v) reply new)
+    ((v : Contents) × ToPublish plan old w v × IsVersion plan v × Step plan old (Publish w v) reply new)
     ⊎ (Rests plan old w × (reply ≡ Idle) × (new ≡ old))
 
 -- what a worker's step does
@@ -95,7 +95,7 @@ HasRunning b w = (n : ℕ) × (notes : List Note) × ((row_at b n).state ≡ Run
 
 -- a publication is to go on that would place an entry: so its next act is no lifting and no end, and the clock can be raised
 abbrev pub WouldPlace : Planned → Board → ℕ → Type 0
-WouldPlace plan b w = (v : Told) × HasLast b w v × IsVersion plan v × Grows plan b (Publish w v)
+WouldPlace plan b w = (v : Contents) × HasLast b w v × IsVersion plan v × Grows plan b (Publish w v)
 
 -- Where a step can want memory: where the worker's line runs, a look and a publication ask what it needs, and to follow its rule
 -- over what it has noted takes memory, whatever the rule comes to. Nothing else asks: a publication that is to go on wants memory

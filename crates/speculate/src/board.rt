@@ -11,7 +11,7 @@ ghost use Rattle.speculate.specs.Choices.{Begins, chosen};
 ghost use Rattle.board_lines.specs.Courses.{PublishesMore};
 ghost use Rattle.board_lines.specs.Hands.{AreCounts, AreNotesOf, IsHand};
 ghost use Rattle.board_lines.specs.Acts.{IsPlacing, IsToPublish};
-ghost use Rattle.board_lines.specs.Notes.{told_at};
+ghost use Rattle.board_lines.specs.Notes.{contents_at};
 ghost use Rattle.board_lines.specs.Replies.{Answers};
 
 use crate::choice::Choice;
@@ -122,7 +122,7 @@ impl<'p, 't, J: PlanName> Board<'p, 't, J> {
 
     /// One act of publishing the version at a place for the worker's line.
     pub fn publish(&mut self, worker: u32, place: Place<'t, J>) -> Reply<'t, J>
-        ensures { Answers J.plan self.old (Publish worker (told_at place.entry)) result self.new }
+        ensures { Answers J.plan self.old (Publish worker (contents_at place.entry)) result self.new }
     {
         let plan = self.lines.plan();
         let Some(hand) = self.lines.hand(worker) else {
@@ -232,7 +232,7 @@ impl<'p, 't, J: PlanName> Board<'p, 't, J> {
 
     /// The place of the last act of publication of the worker's line in hand, where that line is in publication.
     pub fn placing(&self, worker: u32) -> Option<Place<'t, J>>
-        ensures { IsPlacing self.now worker (option_map told_at result) }
+        ensures { IsPlacing self.now worker (option_map contents_at result) }
     {
         self.lines.placing(worker)
     }

@@ -6,7 +6,7 @@ ghost use Rattle.board_steps.specs.Steps.Call.{Publish};
 ghost use Rattle.read_set.specs.Notes.{noted, IsOnceEach};
 ghost use Rattle.speculate.specs.Driving.{IsDriven, IsNew, MayStop, RunsTo};
 ghost use Rattle.speculate.specs.Playing.{HasRunning};
-ghost use Rattle.board_lines.specs.Notes.{told_at};
+ghost use Rattle.board_lines.specs.Notes.{contents_at};
 ghost use Rattle.board_lines.specs.Replies.{Answers};
 ghost use Rattle.speculate.specs.Devices.Phases.{Appears, Holds, Proves, Reads, Waits};
 
@@ -197,7 +197,7 @@ fn publish_line<'t, J: PlanName>(
     line: u64,
     place: Place<'t, J>,
 ) -> Result<(), BoardFault>
-    requires { Appears J.plan board.old line (told_at place) }
+    requires { Appears J.plan board.old line (contents_at place) }
     ensures whole { OnOk result (Proves J.plan board.new line) }
     ensures led { RunsTo J.plan board.old board.new }
     ensures fault { IfErr result (MayStop J.plan board.new) }
@@ -220,8 +220,8 @@ fn act<'t, J: PlanName>(
     line: u64,
     place: Place<'t, J>,
 ) -> Reply<'t, J>
-    requires { Appears J.plan board.old line (told_at place) }
-    ensures { Answers J.plan board.old (Publish 0 (told_at place.entry)) result board.new }
+    requires { Appears J.plan board.old line (contents_at place) }
+    ensures { Answers J.plan board.old (Publish 0 (contents_at place.entry)) result board.new }
 {
     let _line = line;
     match board.publish_more(0) {

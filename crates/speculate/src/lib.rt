@@ -7,11 +7,11 @@
 
 mod board;
 mod choice;
+mod committed;
 mod driving;
 mod ending;
 mod finished;
 mod laws;
-mod lending;
 mod playing;
 mod ready;
 mod steps;

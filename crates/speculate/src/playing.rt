@@ -3,7 +3,7 @@
 ghost use Rattle.std.specs.Prelude.{◌≡◌, IfOk, IfErr, None, OnErr, OnOk, option_map};
 ghost use Rattle.board_lines.specs.Acts.{IsPlacing};
 ghost use Rattle.speculate.specs.Needed.{IsNext, IsRunning, IsToPublish, SettlesIfDone, needed_key, needed_version};
-ghost use Rattle.board_lines.specs.Notes.{told_at};
+ghost use Rattle.board_lines.specs.Notes.{contents_at};
 ghost use Rattle.speculate.specs.Playing.{Goes, Halts, HasRunning, IsRefused, Plays};
 ghost use Rattle.speculate.specs.declared.steps.Step.TheVariants as steps;
 
@@ -106,7 +106,7 @@ fn publish_at<'t, J: PlanName>(
     worker: u32,
     place: Option<Place<'t, J>>,
 ) -> Result<(), BoardFault>
-    requires { IsToPublish J.plan board.old worker (option_map told_at place) }
+    requires { IsToPublish J.plan board.old worker (option_map contents_at place) }
     ensures goes { OnOk result (Goes J.plan board.old (steps.Publish worker) board.new) }
     ensures refused { IfErr result (λ fault. IsRefused J.plan board.old (steps.Publish worker) fault board.new) }
 {
@@ -145,7 +145,7 @@ fn place_of<'t, J: PlanName, R: Wait>(
     worker: u32,
 ) -> Result<Option<Place<'t, J>>, AllocError>
     requires { IsPlacing board.now worker None }
-    ensures place { IfOk result (λ place. IsToPublish J.plan board.now worker (option_map told_at place)) }
+    ensures place { IfOk result (λ place. IsToPublish J.plan board.now worker (option_map contents_at place)) }
     ensures runs { OnErr result (HasRunning board.now worker) }
 {
     let next = next_need(alloc, board, worker)?;
@@ -230,7 +230,7 @@ pub fn put<'t, J: PlanName, R: Wait>(
     table: &'t VersionTable<J>,
     version: Version<J>,
 ) -> Result<Place<'t, J>, AllocError>
-    ensures { IfOk result (λ place. told_at place ≡ version) }
+    ensures { IfOk result (λ place. contents_at place ≡ version) }
 {
     match table.put(rt, version) {
         Ok(place) => Ok(place),

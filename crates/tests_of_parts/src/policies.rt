@@ -5,6 +5,9 @@ use sip_reader::{Day, Id};
 use std::alloc::AllocGlobal;
 use std::process::Abort;
 
+/// The number of 31 December 9900, the last day that a stamp may have.
+const LAST_STAMP_DAY: u32 = 7_268_324;
+
 /// A library that is closed on Sundays and at Christmas, with one class and two types of media.
 const SMALL: &str = "institution = \"L1\"
 currency = \"USD\"
@@ -72,7 +75,7 @@ fn due_days(rt: HostRuntime) {
     ];
     for ((year, month, day), media, want) in rows {
         let day = Day::of(year, month, day).expect(&rt, "a day");
-        assert!(rt; day.number() <= 7_268_324);
+        assert!(rt; day.number() <= LAST_STAMP_DAY);
         let media = policy.media(media).expect(&rt, "a type");
         assert!(rt;
             policy.due(day, &media).parts() == want,

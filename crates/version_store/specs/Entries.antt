@@ -5,7 +5,7 @@ use Rattle.std.specs.FinMap.{FinMap, get, empty, entries, from_entries}
 use Rattle.std.specs.declared.cmp.Ordering.TheVariants.{Less}
 use Rattle.circ_records.specs.Keys.{key_cmp}
 use Rattle.circ_records.specs.declared.key.Key.{Key}
-use Rattle.read_set.specs.Settling.{Told}
+use Rattle.read_set.specs.Settling.{Contents}
 use Rattle.read_set.specs.declared.notes.Name.{Name}
 use Rattle.read_set.specs.declared.notes.Name.TheVariants as names
 use Rattle.version_store.specs.declared.entry.Entry.{Entry}
@@ -19,7 +19,7 @@ use Rattle.version_store.specs.declared.table.Place.{Place}
 pub record Shown : Type 0 where
   pub attempt : ℕ
   pub suspect : Bool
-  pub told : Told
+  pub contents : Contents
 
 -- the entries of a line by their keys
 abbrev pub Line : Type 0
@@ -59,11 +59,11 @@ abbrev pub position_of : Store → ℕ → Option ℕ
 position_of s n = if nat_lt n s.first then None else if nat_lt (n - s.first) (length s.lines) then Some (n - s.first) else None
 
 -- an entry that is placed isn't suspect
-abbrev pub shown_by : ℕ → Told → Shown
-shown_by attempt told = record { attempt = attempt; suspect = false; told = told }
+abbrev pub shown_by : ℕ → Contents → Shown
+shown_by attempt contents = record { attempt = attempt; suspect = false; contents = contents }
 
 abbrev pub as_suspect : Shown → Shown
-as_suspect e = record { attempt = e.attempt; suspect = true; told = e.told }
+as_suspect e = record { attempt = e.attempt; suspect = true; contents = e.contents }
 
 -- each entry is suspect
 abbrev pub suspected : Line → Line
@@ -93,8 +93,8 @@ visible lines zero k = None
 visible lines (suc n) k = above n (get (lines n) k) (visible lines n k)
 
 -- what the version of the visible entry says, whether that entry is suspect or not; None where the base is seen
-abbrev pub told_seen : (ℕ → Line) → ℕ → Key → Option Told
-told_seen lines n k = option_map (λ p. p.1.told) (visible lines n k)
+abbrev pub contents_seen : (ℕ → Line) → ℕ → Key → Option Contents
+contents_seen lines n k = option_map (λ p. p.1.contents) (visible lines n k)
 
 -- the name of the visible entry, Base where there is none; a suspect entry equals no name
 abbrev pub found_of : Option (ℕ × Shown) → Found
@@ -107,23 +107,23 @@ found_at lines n k = found_of (visible lines n k)
 -- what is seen: the base, what a version says under its name, or a line whose entry is suspect
 pub data Sight : Type 0 where
   SeesBase : Sight
-  Sees : (name : Name) → (told : Told) → Sight
+  Sees : (name : Name) → (contents : Contents) → Sight
   SeesSuspect : (line : ℕ) → Sight
 
 abbrev pub sight_of : Option (ℕ × Shown) → Sight
 sight_of None = SeesBase
-sight_of (Some p) = if p.1.suspect then SeesSuspect p.0 else Sees (names.Made p.0 p.1.attempt) p.1.told
+sight_of (Some p) = if p.1.suspect then SeesSuspect p.0 else Sees (names.Made p.0 p.1.attempt) p.1.contents
 
 abbrev pub sight_at : (ℕ → Line) → ℕ → Key → Sight
 sight_at lines n k = sight_of (visible lines n k)
 
 -- ---- values of the code
 abbrev pub shown : {J : Type 0} → Entry J → Shown
-shown e = record { attempt = e.attempt; suspect = e.suspect; told = e.place.version.now }
+shown e = record { attempt = e.attempt; suspect = e.suspect; contents = e.place.version.now }
 
 -- what the version at a place says
-abbrev pub told_in : {J : Type 0} → Place J → Told
-told_in place = place.version.now
+abbrev pub contents_in : {J : Type 0} → Place J → Contents
+contents_in place = place.version.now
 
 abbrev pub shown_pair : {J : Type 0} → Key × Entry J → Key × Shown
 shown_pair e = (e.0, shown e.1)

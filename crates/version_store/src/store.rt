@@ -2,7 +2,7 @@
 
 ghost use Rattle.std.specs.Prelude.{◌≡◌, ◌^◌, ◌<◌, ℕ, OnOk, OnErr, IfOk, MatchOption, length, option_map, slice_get};
 ghost use Rattle.std.specs.FinMap as fin;
-ghost use Rattle.version_store.specs.Entries.{AllOf, IsLeastLeft, IsLine, IsNamedAt, attempt_at, found_at, line_at, no_rows, none_placed, position_of, seen, shown, shown_by, sight_at, suspected, told_in, told_seen, visible, with_line};
+ghost use Rattle.version_store.specs.Entries.{AllOf, IsLeastLeft, IsLine, IsNamedAt, attempt_at, found_at, line_at, no_rows, none_placed, position_of, seen, shown, shown_by, sight_at, suspected, contents_in, contents_seen, visible, with_line};
 
 use crate::entry::{Entry, Found, Seen};
 use crate::index::KeyIndex;
@@ -95,7 +95,7 @@ impl<'t, J: PlanName> EntryStore<'t, J> {
 
     /// The place of the entry that a line sees at a key, whether that entry is suspect or not; None where it sees the base.
     pub fn shown_at(&self, key: &Key, below: u64) -> Option<Place<'t, J>>
-        ensures { option_map told_in result ≡ told_seen (line_at self.now) below key.now }
+        ensures { option_map contents_in result ≡ contents_seen (line_at self.now) below key.now }
     {
         let Some((_line, made)) = self.latest(key, below) else {
             return None;

@@ -52,7 +52,7 @@ fn drive<J: PlanName + 'static, R: Wait + AllocGlobal + Abort>(
     let mut board: Board<'_, '_, J> = Board::new(alloc, plan, 1)?;
     assert!(rt; drive_in_order(rt, alloc, &table, &mut board).is_ok());
     assert!(rt; board.choose() == Choice::End);
-    let told = told_counts(alloc, &board)?;
+    let told = counts_text(alloc, &board)?;
     match board.finish() {
         Ok(finished) => tell_driven(alloc, &finished, told),
         Err(_) => panic!(rt; "a finished board"),
@@ -60,7 +60,7 @@ fn drive<J: PlanName + 'static, R: Wait + AllocGlobal + Abort>(
 }
 
 /// The counts and the clock.
-fn told_counts<J: PlanName>(alloc: Global, board: &Board<'_, '_, J>) -> Result<String, AllocError> {
+fn counts_text<J: PlanName>(alloc: Global, board: &Board<'_, '_, J>) -> Result<String, AllocError> {
     let mut text = String::new(alloc);
     tell_counts(&mut text, board)?;
     writeln!(text, " at {}", board.clock())?;

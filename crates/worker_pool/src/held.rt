@@ -1,6 +1,6 @@
 //! What lies under the lock, and what one hold of it does.
 
-use crate::told::{Begun, Course, Left, Sight, course_of};
+use crate::calls::{Begun, Course, Left, Sight, course_of};
 use board_lines::Reply;
 use circ_records::Key;
 use read_set::PlanName;

@@ -1,17 +1,17 @@
 //! The room of the workers: threads that run the lines of a plan over one board under one lock.
 //!
-//! A `SharedBoard` lends its board to one worker at a time, for one call; what a line wants and what it does is worked out
+//! A `SharedBoard` gives its board to one worker at a time, for one call; what a line wants and what it does is worked out
 //! outside the lock, and versions stand in a table beside it. It knows no message and no table.
 #![tactic(auto)]
 
+mod calls;
 mod gate;
 mod held;
 mod looking;
 mod shared;
-mod told;
 mod workers;
 
+pub use calls::{Begun, Course, Left, Sight};
 pub use gate::{Gate, Moment, NoGate};
 pub use shared::{Closed, SharedBoard};
-pub use told::{Begun, Course, Left, Sight};
 pub use workers::run_workers;

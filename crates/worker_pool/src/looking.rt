@@ -1,7 +1,7 @@
 //! Looking at the board for what a line wants.
 
+use crate::calls::{Left, Sight};
 use crate::shared::SharedBoard;
-use crate::told::{Left, Sight};
 use board_lines::{copied, record_seen};
 use circ_records::{Key, Record};
 use read_set::{Looks, Name, PlanName};

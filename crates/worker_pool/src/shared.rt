@@ -2,8 +2,8 @@
 
 ghost use Rattle.std.specs.Prelude.{◌≡◌};
 
+use crate::calls::{Begun, Course, Left, Sight};
 use crate::held::Held;
-use crate::told::{Begun, Course, Left, Sight};
 use circ_records::Key;
 use read_set::{Plan, PlanName};
 use speculate::{Board, BoardFault, Finished};

@@ -5,10 +5,10 @@ ghost use Rattle.message_meaning.specs.Needs.{AreAsked};
 ghost use Rattle.read_set.specs.Settling.{Settles};
 ghost use Rattle.worker_pool.specs.Rows.{IsStatic};
 
+use crate::calls::{Begun, Course, Left};
 use crate::gate::{Gate, Moment};
 use crate::looking::OnBoard;
 use crate::shared::SharedBoard;
-use crate::told::{Begun, Course, Left};
 use message_meaning::perform;
 use read_set::{Effect, Notes, Noting, PlanName, Stop, Version};
 use speculate::BoardFault;

@@ -3,7 +3,7 @@ use Rattle.std.specs.Prelude.{◌≡◌, ℕ, suc, ◌+◌, ◌-◌, ◌<◌, �
 use Rattle.circ_records.specs.declared.key.Key.{Key}
 use Rattle.sip_answer.specs.declared.answer.Answer.{Answer}
 use Rattle.read_set.specs.Plans.{Planned}
-use Rattle.read_set.specs.Settling.{Told}
+use Rattle.read_set.specs.Settling.{Contents}
 use Rattle.read_set.specs.declared.notes.Note.{Note}
 use Rattle.version_store.specs.Entries.{Shown}
 use Rattle.board_steps.specs.Board.{Board, EachNote, IsCommitted, IsLine, State, entry, row_at}
@@ -42,11 +42,11 @@ pub record Reads (plan : Planned) (b : Board) (line : ℕ) (notes : List Note) :
   pub state : (row_at b line).state ≡ Running 0 notes
 
 -- a version is to be published, or was by the last act
-abbrev pub IsAppearing : State → Told → Type 0
+abbrev pub IsAppearing : State → Contents → Type 0
 IsAppearing s v = (s ≡ Running 0 v.reads) ⊎ (s ≡ Placing 0 v.reads (Some v))
 
 -- a version of it is being published
-pub record Appears (plan : Planned) (b : Board) (line : ℕ) (v : Told) : Type 0 where
+pub record Appears (plan : Planned) (b : Board) (line : ℕ) (v : Contents) : Type 0 where
   pub goes : GoesOn plan b line v.reads
   pub state : IsAppearing (row_at b line).state v
   pub of_line : v.line ≡ line

@@ -16,8 +16,8 @@ returns-in-Err g c =
     let halts =
     subst (λ (plan : Planned). Halts plan (first_board plan workers) c.args.steps.now c.in-Err.field-0 c.play.new.board) (sym c.requires.named)
     (subst (λ (b : Board). Halts g.J.PlanName.plan b c.args.steps.now c.in-Err.field-0 c.play.new.board) c.in_ok-board.ensures c.in-Err.ensures.halt) in
-    let told : c.from.result ≡ board_fault c.in-Err.field-0.fault = search rules in
-    subst (FailsBySteps j workers c.args.steps.now) (sym told) (stopped j workers c.args.steps.now c.in-Err.field-0 c.play.new.board halts)
+    let is_fault : c.from.result ≡ board_fault c.in-Err.field-0.fault = search rules in
+    subst (FailsBySteps j workers c.args.steps.now) (sym is_fault) (stopped j workers c.args.steps.now c.in-Err.field-0 c.play.new.board halts)
 
 pub returns-in-Ok : goal.returns-in-Ok
 returns-in-Ok g c =

@@ -1,6 +1,6 @@
 use Rattle.std.proofs.Common.{◌≡◌, ◌∙◌, ◌+◌, ◌++◌, ◌∷◌, [], ap, sym, subst, length, arith}
 use Rattle.std.proofs.lemmas.Grind.{common_steps}
-use Rattle.read_set.specs.Plans.{Planned, over}
+use Rattle.read_set.specs.Plans.{Planned, plan_over}
 use Rattle.read_set.specs.Replay.{after}
 use Rattle.replay_run.proofs.Replayed.{Replayed, over-at, replayed-next}
 use Rattle.replay_run.specs.Live.{standing}
@@ -10,7 +10,7 @@ pub loop-i-preserved : goal.loop-i-preserved
 loop-i-preserved c =
     let so = c.loop-i.invariant in
     let plan : Planned = c.args.plan.now in
-    let whole : Planned = over plan c.args.base.entries in
+    let whole : Planned = plan_over plan c.args.base.entries in
     let before = after whole c.loop-i.i in
     let line = ap (λ first. first + c.loop-i.i) c.first-first.ensures in
     let same = over-at plan c.args.base.entries (c.first-first.result + c.loop-i.i) before in
@@ -23,5 +23,5 @@ returns-clause-records c =
     let all : c.loop-i.i ≡ length c.args.plan.now.readings = grind (arith, common_steps) in
     record {
       rising = c.into_records.ensures.rising;
-      same = λ k. c.into_records.ensures.same k ∙ c.loop-i.invariant.records k ∙ ap (λ n. after (over c.args.plan.now c.args.base.entries) n k) all;
+      same = λ k. c.into_records.ensures.same k ∙ c.loop-i.invariant.records k ∙ ap (λ n. after (plan_over c.args.plan.now c.args.base.entries) n k) all;
     }

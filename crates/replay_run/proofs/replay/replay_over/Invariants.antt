@@ -1,7 +1,7 @@
-use Rattle.read_set.specs.Plans.{over}
+use Rattle.read_set.specs.Plans.{plan_over}
 use Rattle.replay_run.proofs.Replayed.{Replayed}
 use Rattle.replay_run.specs.Live.{standing}
 use Rattle.replay_run.proofs.replay.replay_over.Given as goal
 
 abbrev pub invariant-loop-i : goal.invariant-loop-i
-invariant-loop-i l = Replayed (over l.plan l.fn.base.entries) l.i (standing l.live) l.answers.items
+invariant-loop-i l = Replayed (plan_over l.plan l.fn.base.entries) l.i (standing l.live) l.answers.items

@@ -1,6 +1,6 @@
 use Rattle.std.proofs.Common.{arith, ◌-◌, drop, subst}
 use Rattle.std.specs.Prelude.{option_copied}
-use Rattle.result_report.specs.Report.{Told, answers_behind, told}
+use Rattle.result_report.specs.Report.{LineResult, answers_behind, line_results}
 use Rattle.result_report.specs.Stretches.{between}
 use Rattle.result_report.specs.Tellings.{Tells}
 use Rattle.result_report.proofs.Parts.{between-last, between-next}
@@ -14,23 +14,23 @@ line-requires c =
     let from = c.args.from in
     let begun = c.loop-place.auto.place in
     let ends = c.ranges.to in
-    let all = told c.args.lines.now c.args.plan.now.readings (answers_behind c.args.answers.now) in
-    has-room (place - from) (drop from all) c.loop-place.telling (omega (arith, c.loop-place-test.true, ends, begun)) c.loop-place.invariant.told
+    let all = line_results c.args.lines.now c.args.plan.now.readings (answers_behind c.args.answers.now) in
+    has-room (place - from) (drop from all) c.loop-place.telling (omega (arith, c.loop-place-test.true, ends, begun)) c.loop-place.invariant.line_results
 
 pub loop-place-preserved : goal.loop-place-preserved
 loop-place-preserved c =
     let place = c.loop-place.place in
     let from = c.args.from in
     let begun = c.loop-place.auto.place in
-    let all = told c.args.lines.now c.args.plan.now.readings (answers_behind c.args.answers.now) in
+    let all = line_results c.args.lines.now c.args.plan.now.readings (answers_behind c.args.answers.now) in
     record {
-      told = elim c.match-told_at.branch [
+      line_results = elim c.match-result_at.branch [
         | in-Some+in_ok-line w ↦
-            let line : Told = (w.in-Some.line.now, w.in-Some.reading.now, option_copied w.in-Some.answer) in
+            let line : LineResult = (w.in-Some.line.now, w.in-Some.reading.now, option_copied w.in-Some.answer) in
             rw w.telling-is (subst (λ lines. Tells lines w.line.new.self) (between-next from place all line begun w.in-Some.ensures)
-            (tells-more (between from place all) line _ _ c.loop-place.invariant.told w.in_ok-line.ensures))
+            (tells-more (between from place all) line _ _ c.loop-place.invariant.line_results w.in_ok-line.ensures))
         | in_default w ↦
-            rw w.telling-is (subst (λ lines. Tells lines c.loop-place.telling) (between-last from place all begun w.in_default.ensures) c.loop-place.invariant.told)
+            rw w.telling-is (subst (λ lines. Tells lines c.loop-place.telling) (between-last from place all begun w.in_default.ensures) c.loop-place.invariant.line_results)
       ];
       begun = λ less. absurd (omega (arith, c.loop-place-test.true, begun));
     }

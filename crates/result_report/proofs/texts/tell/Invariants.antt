@@ -1,11 +1,11 @@
 use Rattle.std.proofs.Common.{◌≡◌, ◌<◌}
-use Rattle.result_report.specs.Report.{answers_behind, told}
+use Rattle.result_report.specs.Report.{answers_behind, line_results}
 use Rattle.result_report.specs.Stretches.{between}
 use Rattle.result_report.specs.Tellings.{Tells}
 use Rattle.result_report.proofs.texts.tell.Given as goal
 
 abbrev pub invariant-loop-place : goal.invariant-loop-place
 invariant-loop-place l = record {
-  told : Tells (between l.from l.place (told l.lines l.plan.readings (answers_behind l.answers))) l.telling;
+  line_results : Tells (between l.from l.place (line_results l.lines l.plan.readings (answers_behind l.answers))) l.telling;
   begun : l.to < l.from → l.place ≡ l.from;
 }

@@ -1,12 +1,12 @@
 use Rattle.std.proofs.Common.{subst, sym}
-use Rattle.read_set.specs.Settling.{Told}
+use Rattle.read_set.specs.Settling.{Contents}
 use Rattle.speculate.specs.Devices.Phases.{Appears}
 use Rattle.speculate.proofs.Drives.{runs_on}
 use Rattle.speculate.proofs.driving.drive_line.Goals as goal
 
 pub publish_line-requires : goal.publish_line-requires
 publish_line-requires g c =
-    subst (λ (v : Told). Appears g.J.PlanName.plan c.read_line.new.board c.args.line v) (sym c.in_ok-place.ensures) c.in_ok-version.ensures.ready
+    subst (λ (v : Contents). Appears g.J.PlanName.plan c.read_line.new.board c.args.line v) (sym c.in_ok-place.ensures) c.in_ok-version.ensures.ready
 
 pub returns-in_err-version-clause-led : goal.returns-in_err-version-clause-led
 returns-in_err-version-clause-led g c =

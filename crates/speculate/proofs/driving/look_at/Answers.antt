@@ -4,7 +4,7 @@ use Rattle.std.proofs.lemmas.Result.{err_from_is_err_and}
 use Rattle.read_set.specs.Plans.{Planned}
 use Rattle.read_set.specs.declared.notes.Note.{Note}
 use Rattle.board_steps.specs.Steps.Call.{Look}
-use Rattle.board_lines.specs.Notes.{found_by, told_at}
+use Rattle.board_lines.specs.Notes.{found_by, contents_at}
 use Rattle.speculate.specs.Devices.Phases.{Reads}
 use Rattle.speculate.proofs.Drives.{keys_more, led, look_only, look_seen, seen_stops}
 use Rattle.speculate.proofs.driving.look_at.Goals as goal
@@ -37,9 +37,9 @@ returns-clause-reads g c =
     let notes = c.args.notes.now in
     let name = c.in-Seen.name in
     let place = c.in-Seen.place in
-    let is : c.in_ok-found.found ≡ found_by plan.base k (option_map told_at place) =
-    c.in_ok-found.ensures ∙ c.record_seen.ensures ∙ ap (λ (p : Planned). found_by p.base k (option_map told_at place)) c.plan-plan.ensures.plan in
-    let noted : c.add.new.self ≡ notes ++ record { key = k; name = name; found = found_by plan.base k (option_map told_at place) } ∷ [] =
+    let is : c.in_ok-found.found ≡ found_by plan.base k (option_map contents_at place) =
+    c.in_ok-found.ensures ∙ c.record_seen.ensures ∙ ap (λ (p : Planned). found_by p.base k (option_map contents_at place)) c.plan-plan.ensures.plan in
+    let noted : c.add.new.self ≡ notes ++ record { key = k; name = name; found = found_by plan.base k (option_map contents_at place) } ∷ [] =
     c.in_ok-add.ensures.ok ∙ ap (λ (f : Option Record). notes ++ record { key = k; name = name; found = f } ∷ []) is in
     subst (λ (ns : List Note). Reads plan c.look.new.self c.args.line ns) (sym noted)
     (look_seen plan c.args.board.now c.look.new.self c.args.line notes k name place c.requires.reads c.in-Seen.ensures)

@@ -1,6 +1,6 @@
 use Rattle.std.proofs.Common.{arith}
 use Rattle.board_steps.specs.Steps.Call.{Publish}
-use Rattle.board_lines.specs.Notes.{told_at}
+use Rattle.board_lines.specs.Notes.{contents_at}
 use Rattle.speculate.proofs.Drives.{act_stops, led, publish_other, runs_on, spent_stops}
 use Rattle.speculate.proofs.Phases.{lifted_goes, placed_goes, whole_goes}
 use Rattle.speculate.proofs.driving.publish_line.Goals as goal
@@ -10,7 +10,7 @@ acts-preserved-in-Placed g c =
     let plan = g.J.PlanName.plan in
     let b = c.acts.board in
     let new = c.act.new.board in
-    let v = told_at c.args.place in
+    let v = contents_at c.args.place in
     record {
       appears = (placed_goes plan b c.args.line v c.acts.invariant.appears new c.in-Placed.ensures).0;
       led = runs_on plan c.args.board.now b new c.acts.invariant.led (led plan b new (Publish 0 v) c.act.result c.acts.invariant.appears.settles c.act.ensures);
@@ -21,7 +21,7 @@ acts-preserved g c =
     let plan = g.J.PlanName.plan in
     let b = c.acts.board in
     let new = c.act.new.board in
-    let v = told_at c.args.place in
+    let v = contents_at c.args.place in
     record {
       appears = (lifted_goes plan b c.args.line v c.acts.invariant.appears new c.in-Lifted.ensures).0;
       led = runs_on plan c.args.board.now b new c.acts.invariant.led (led plan b new (Publish 0 v) c.act.result c.acts.invariant.appears.settles c.act.ensures);
@@ -29,47 +29,47 @@ acts-preserved g c =
 
 pub acts-smaller-in-Placed : goal.acts-smaller-in-Placed
 acts-smaller-in-Placed g c =
-    let h = placed_goes g.J.PlanName.plan c.acts.board c.args.line (told_at c.args.place) c.acts.invariant.appears c.act.new.board c.in-Placed.ensures in
+    let h = placed_goes g.J.PlanName.plan c.acts.board c.args.line (contents_at c.args.place) c.acts.invariant.appears c.act.new.board c.in-Placed.ensures in
     omega (arith, h.1, h.2)
 
 pub acts-smaller : goal.acts-smaller
 acts-smaller g c =
-    let h = lifted_goes g.J.PlanName.plan c.acts.board c.args.line (told_at c.args.place) c.acts.invariant.appears c.act.new.board c.in-Lifted.ensures in
+    let h = lifted_goes g.J.PlanName.plan c.acts.board c.args.line (contents_at c.args.place) c.acts.invariant.appears c.act.new.board c.in-Lifted.ensures in
     omega (arith, h.1, h.2)
 
 pub returns-in-Whole-clause-whole : goal.returns-in-Whole-clause-whole
 returns-in-Whole-clause-whole g c =
-    whole_goes g.J.PlanName.plan c.acts.board c.args.line (told_at c.args.place) c.acts.invariant.appears c.act.new.board c.in-Whole.ensures
+    whole_goes g.J.PlanName.plan c.acts.board c.args.line (contents_at c.args.place) c.acts.invariant.appears c.act.new.board c.in-Whole.ensures
 
 pub returns-in-Whole-clause-led : goal.returns-in-Whole-clause-led
 returns-in-Whole-clause-led g c =
     let plan = g.J.PlanName.plan in
     let b = c.acts.board in
     let new = c.act.new.board in
-    runs_on plan c.args.board.now b new c.acts.invariant.led (led plan b new (Publish 0 (told_at c.args.place)) c.act.result c.acts.invariant.appears.settles c.act.ensures)
+    runs_on plan c.args.board.now b new c.acts.invariant.led (led plan b new (Publish 0 (contents_at c.args.place)) c.act.result c.acts.invariant.appears.settles c.act.ensures)
 
 pub returns-in-ClockSpent-clause-led : goal.returns-in-ClockSpent-clause-led
 returns-in-ClockSpent-clause-led g c =
     let plan = g.J.PlanName.plan in
     let b = c.acts.board in
     let new = c.act.new.board in
-    runs_on plan c.args.board.now b new c.acts.invariant.led (led plan b new (Publish 0 (told_at c.args.place)) c.act.result c.acts.invariant.appears.settles c.act.ensures)
+    runs_on plan c.args.board.now b new c.acts.invariant.led (led plan b new (Publish 0 (contents_at c.args.place)) c.act.result c.acts.invariant.appears.settles c.act.ensures)
 
 pub returns-in-ClockSpent-clause-fault : goal.returns-in-ClockSpent-clause-fault
-returns-in-ClockSpent-clause-fault g c = spent_stops g.J.PlanName.plan c.acts.board c.act.new.board (told_at c.args.place) c.acts.invariant.appears.settles c.in-ClockSpent.ensures
+returns-in-ClockSpent-clause-fault g c = spent_stops g.J.PlanName.plan c.acts.board c.act.new.board (contents_at c.args.place) c.acts.invariant.appears.settles c.in-ClockSpent.ensures
 
 pub returns-in-Memory-clause-led : goal.returns-in-Memory-clause-led
 returns-in-Memory-clause-led g c =
     let plan = g.J.PlanName.plan in
     let b = c.acts.board in
     let new = c.act.new.board in
-    runs_on plan c.args.board.now b new c.acts.invariant.led (led plan b new (Publish 0 (told_at c.args.place)) c.act.result c.acts.invariant.appears.settles c.act.ensures)
+    runs_on plan c.args.board.now b new c.acts.invariant.led (led plan b new (Publish 0 (contents_at c.args.place)) c.act.result c.acts.invariant.appears.settles c.act.ensures)
 
 pub returns-in-Memory-clause-fault : goal.returns-in-Memory-clause-fault
 returns-in-Memory-clause-fault g c =
-    act_stops g.J.PlanName.plan c.acts.board c.act.new.board c.args.line (told_at c.args.place) c.acts.invariant.appears c.in-Memory.ensures
+    act_stops g.J.PlanName.plan c.acts.board c.act.new.board c.args.line (contents_at c.args.place) c.acts.invariant.appears c.in-Memory.ensures
 
 pub unreachable-requires : goal.unreachable-requires
 unreachable-requires g c =
-    publish_other g.J.PlanName.plan c.acts.board c.act.new.board c.args.line (told_at c.args.place) c.act.result c.acts.invariant.appears c.act.ensures
+    publish_other g.J.PlanName.plan c.acts.board c.act.new.board c.args.line (contents_at c.args.place) c.act.result c.acts.invariant.appears c.act.ensures
     c.in_default.not-Placed c.in_default.not-Lifted c.in_default.not-Whole c.in_default.not-ClockSpent c.in_default.not-Memory

@@ -1,4 +1,4 @@
-use Rattle.board_lines.specs.Notes.{told_at}
+use Rattle.board_lines.specs.Notes.{contents_at}
 use Rattle.speculate.proofs.Plays.{new_to_publish, none_to_publish}
 use Rattle.speculate.proofs.playing.place_of.Goals as goal
 
@@ -8,5 +8,5 @@ returns-in_default-clause-place g c =
 
 pub returns-clause-place : goal.returns-clause-place
 returns-clause-place g c =
-    new_to_publish g.J.PlanName.plan c.args.board.now c.args.worker c.in_ok-next.next c.in-Some.version (told_at c.in_ok-place.place)
+    new_to_publish g.J.PlanName.plan c.args.board.now c.args.worker c.in_ok-next.next c.in-Some.version (contents_at c.in_ok-place.place)
     c.requires c.in_ok-next.ensures.next c.in-Some.ensures c.in_ok-place.ensures

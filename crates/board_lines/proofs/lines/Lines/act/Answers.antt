@@ -1,5 +1,5 @@
 use Rattle.std.proofs.Common.{◌≡◌, map, sym, ap, subst, ◌∙◌}
-use Rattle.read_set.specs.Settling.{Told}
+use Rattle.read_set.specs.Settling.{Contents}
 use Rattle.version_store.specs.Entries.{Line, line_at}
 use Rattle.board_lines.specs.Acts.{IsAct}
 use Rattle.board_lines.specs.Courses.{ComesTo, FirstPlaced}
@@ -17,10 +17,10 @@ act_of-requires g c =
     let kept : IsKept plan parts = c.self.invariant.1 in
     let is : board_of plan.base parts ≡ c.args.self.now = ap (λ (x : Planned). board_of x.base parts) (sym c.self.invariant.0) ∙ c.self.view_is in
     let n = c.args.line in
-    let v : Told = c.args.place.version.now in
+    let v : Contents = c.args.place.version.now in
     let there : IsLine (board_of plan.base parts) n = subst (λ (b : Board). IsLine b n) (sym is) c.requires.there in
     let e = subst (λ (b : Board). (row_at b n).entries ≡ line_at a.entries n) is (entries_there plan parts kept n there) in
-    subst (λ (t : Told). FirstPlaced (line_at a.entries n) t.attempt t.writes c.args.count) (sym c.show.ensures)
+    subst (λ (t : Contents). FirstPlaced (line_at a.entries n) t.attempt t.writes c.args.count) (sym c.show.ensures)
     (subst (λ (l : Line). FirstPlaced l v.attempt v.writes c.args.count) e c.requires.placed)
 
 pub returns-clause-comes : goal.returns-clause-comes
@@ -34,7 +34,7 @@ returns-clause-comes g c =
     let there : IsLine (board_of plan.base parts) n = subst (λ (b : Board). IsLine b n) (sym is) c.requires.there in
     let e = subst (λ (b : Board). (row_at b n).entries ≡ line_at a.entries n) is (entries_there plan parts kept n there) in
     subst (λ (l : Line). ComesTo l c.args.place.version.now c.act_of.result) (sym e)
-    (subst (λ (v : Told). ComesTo (line_at a.entries n) v c.act_of.result) c.show.ensures c.act_of.ensures.comes)
+    (subst (λ (v : Contents). ComesTo (line_at a.entries n) v c.act_of.result) c.show.ensures c.act_of.ensures.comes)
 
 pub returns-clause-act : goal.returns-clause-act
 returns-clause-act g c =
@@ -46,4 +46,4 @@ returns-clause-act g c =
     let n = c.args.line in
     let there : IsLine (board_of plan.base parts) n = subst (λ (b : Board). IsLine b n) (sym is) c.requires.there in
     let e = subst (λ (b : Board). (row_at b n).entries ≡ line_at a.entries n) is (entries_there plan parts kept n there) in
-    subst (λ (v : Told). IsAct (row_at c.args.self.now n) v c.act_of.result) c.show.ensures (c.act_of.ensures.act (row_at c.args.self.now n) e)
+    subst (λ (v : Contents). IsAct (row_at c.args.self.now n) v c.act_of.result) c.show.ensures (c.act_of.ensures.act (row_at c.args.self.now n) e)

@@ -4,11 +4,11 @@ use Rattle.attempts.specs.States.{state_at}
 use Rattle.attempts.specs.declared.state.LineState.TheVariants as states
 use Rattle.read_set.specs.Plans.{Planned}
 use Rattle.board_steps.specs.Board.{Board, IsLine, row_at}
-use Rattle.board_lines.specs.Lendings.{committed_answer}
+use Rattle.board_lines.specs.Committed.{committed_answer}
 use Rattle.board_lines.specs.Parts.{IsKept, Kept, Parts, answer_by, board_of, no_notes, row_shown}
 use Rattle.board_lines.proofs.Boards.{place_of}
 use Rattle.board_lines.proofs.Commits.{line_there}
-use Rattle.board_lines.proofs.Lendings.{answer_none, answer_other, answer_there}
+use Rattle.board_lines.proofs.CommittedLines.{answer_none, answer_other, answer_there}
 use Rattle.board_lines.proofs.lines.Lines.answer.Goals as goal
 
 pub returns-in_default : goal.returns-in_default
@@ -78,4 +78,4 @@ returns g c =
     get_or-map row_shown a.rows.items (n - parts.states.first) c.index.result.now no_notes (omega (arith, l, m))
     ∙ ap row_shown (sym (c.index.ensures ∙ ap (λ x. get_or a.rows.items (n - x) c.index.result.now) f)) in
     subst (λ (b : Board). option_copied c.answer_at.result ≡ committed_answer (row_at b n).state) is
-    (c.answer_at.ensures ∙ ap (λ (k : Kept). answer_by k.told) (sym was) ∙ sym (answer_there plan parts kept n stands))
+    (c.answer_at.ensures ∙ ap (λ (k : Kept). answer_by k.contents) (sym was) ∙ sym (answer_there plan parts kept n stands))

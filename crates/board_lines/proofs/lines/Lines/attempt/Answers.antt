@@ -2,7 +2,7 @@ use Rattle.std.proofs.Common.{◌≡◌, ◌+◌, suc, map, sym, ap, subst, ◌�
 use Rattle.read_set.specs.Plans.{Planned}
 use Rattle.board_steps.specs.Board.{Board, IsCommitted, IsLine, row_at}
 use Rattle.board_lines.specs.Parts.{IsKept, Parts, board_of, row_shown}
-use Rattle.board_lines.proofs.Lendings.{committed_there, newest_committed}
+use Rattle.board_lines.proofs.CommittedLines.{committed_there, newest_committed}
 use Rattle.board_lines.proofs.Rows.{next_shown}
 use Rattle.board_lines.proofs.lines.Lines.attempt.Goals as goal
 

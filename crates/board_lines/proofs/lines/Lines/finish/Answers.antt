@@ -1,7 +1,7 @@
 use Rattle.std.proofs.Common.{◌≡◌, ◌-◌, ◌<◌, Some, None, map, set, length, get_or, refl, sym, ap, subst, ◌∙◌, arith, rules}
 use Rattle.std.proofs.lemmas.List.{get_or-map, length-map, map-set}
 use Rattle.std.proofs.lemmas.Option.{slice_get_within}
-use Rattle.read_set.specs.Settling.{Told}
+use Rattle.read_set.specs.Settling.{Contents}
 use Rattle.board_steps.specs.Steps.{MayPublish, Fits, AllPlaced, NoneLeft, put_row, with_state}
 use Rattle.board_steps.specs.Board.State.{Done}
 use Rattle.board_lines.specs.declared.row.Row.{Row}
@@ -23,7 +23,7 @@ go_on-requires-clause-old g c =
     let is : board_of plan.base parts ≡ c.args.self.now = ap (λ (x : Planned). board_of x.base parts) (sym c.self.invariant.0) ∙ c.self.view_is in
     let n = c.args.line in
     let w = c.args.worker in
-    let v : Told = c.args.place.version.now in
+    let v : Contents = c.args.place.version.now in
     let may : MayPublish (board_of plan.base parts) w n (notes_at (board_of plan.base parts) n) = subst (λ (b : Board). MayPublish b w n (notes_at b n)) (sym is) c.requires.may in
     let fits : Fits (board_of plan.base parts) n (notes_at (board_of plan.base parts) n) v = subst (λ (b : Board). Fits b n (notes_at b n) v) (sym is) c.requires.fits in
     let there : IsLine (board_of plan.base parts) n = act_line plan parts kept w n (notes_at (board_of plan.base parts) n) may v in
@@ -38,7 +38,7 @@ overflow_sub-line g c =
     let is : board_of plan.base parts ≡ c.args.self.now = ap (λ (x : Planned). board_of x.base parts) (sym c.self.invariant.0) ∙ c.self.view_is in
     let n = c.args.line in
     let w = c.args.worker in
-    let v : Told = c.args.place.version.now in
+    let v : Contents = c.args.place.version.now in
     let may : MayPublish (board_of plan.base parts) w n (notes_at (board_of plan.base parts) n) = subst (λ (b : Board). MayPublish b w n (notes_at b n)) (sym is) c.requires.may in
     let fits : Fits (board_of plan.base parts) n (notes_at (board_of plan.base parts) n) v = subst (λ (b : Board). Fits b n (notes_at b n) v) (sym is) c.requires.fits in
     let there : IsLine (board_of plan.base parts) n = act_line plan parts kept w n (notes_at (board_of plan.base parts) n) may v in
@@ -54,7 +54,7 @@ index_mut-row-requires g c =
     let is : board_of plan.base parts ≡ c.args.self.now = ap (λ (x : Planned). board_of x.base parts) (sym c.self.invariant.0) ∙ c.self.view_is in
     let n = c.args.line in
     let w = c.args.worker in
-    let v : Told = c.args.place.version.now in
+    let v : Contents = c.args.place.version.now in
     let may : MayPublish (board_of plan.base parts) w n (notes_at (board_of plan.base parts) n) = subst (λ (b : Board). MayPublish b w n (notes_at b n)) (sym is) c.requires.may in
     let fits : Fits (board_of plan.base parts) n (notes_at (board_of plan.base parts) n) v = subst (λ (b : Board). Fits b n (notes_at b n) v) (sym is) c.requires.fits in
     let there : IsLine (board_of plan.base parts) n = act_line plan parts kept w n (notes_at (board_of plan.base parts) n) may v in
@@ -73,7 +73,7 @@ index_mut-requires g c =
     let is : board_of plan.base parts ≡ c.args.self.now = ap (λ (x : Planned). board_of x.base parts) (sym c.self.invariant.0) ∙ c.self.view_is in
     let n = c.args.line in
     let w = c.args.worker in
-    let v : Told = c.args.place.version.now in
+    let v : Contents = c.args.place.version.now in
     let may : MayPublish (board_of plan.base parts) w n (notes_at (board_of plan.base parts) n) = subst (λ (b : Board). MayPublish b w n (notes_at b n)) (sym is) c.requires.may in
     let fits : Fits (board_of plan.base parts) n (notes_at (board_of plan.base parts) n) v = subst (λ (b : Board). Fits b n (notes_at b n) v) (sym is) c.requires.fits in
     let there : IsLine (board_of plan.base parts) n = act_line plan parts kept w n (notes_at (board_of plan.base parts) n) may v in
@@ -89,7 +89,7 @@ invariant_of-self g c =
     let is : board_of plan.base parts ≡ c.args.self.now = ap (λ (x : Planned). board_of x.base parts) (sym c.self.invariant.0) ∙ c.self.view_is in
     let n = c.args.line in
     let w = c.args.worker in
-    let v : Told = c.args.place.version.now in
+    let v : Contents = c.args.place.version.now in
     let may : MayPublish (board_of plan.base parts) w n (notes_at (board_of plan.base parts) n) = subst (λ (b : Board). MayPublish b w n (notes_at b n)) (sym is) c.requires.may in
     let fits : Fits (board_of plan.base parts) n (notes_at (board_of plan.base parts) n) v = subst (λ (b : Board). Fits b n (notes_at b n) v) (sym is) c.requires.fits in
     let there : IsLine (board_of plan.base parts) n = act_line plan parts kept w n (notes_at (board_of plan.base parts) n) may v in
@@ -112,8 +112,8 @@ invariant_of-self g c =
     ∙ ap row_shown (sym (c.index_mut-row.ensures.value ∙ ap (λ x. get_or a.rows.items (n - x) c.index_mut-row.result.now) f)) in
     let rows_is : q.rows ≡ set parts.rows (n - parts.states.first) k =
     map-set row_shown a.rows.items (n - c.first.result) row ∙ ap (λ x. set parts.rows (n - x) k) f in
-    let k_is : k ≡ record { notes = (get_or parts.rows (n - parts.states.first) no_notes).notes; told = Some v; course = (get_or parts.rows (n - parts.states.first) no_notes).course; changed = (get_or parts.rows (n - parts.states.first) no_notes).changed } =
-    ap (λ (y : Kept). record { notes = y.notes; told = Some v; course = y.course; changed = y.changed }) (sym was) in
+    let k_is : k ≡ record { notes = (get_or parts.rows (n - parts.states.first) no_notes).notes; contents = Some v; course = (get_or parts.rows (n - parts.states.first) no_notes).course; changed = (get_or parts.rows (n - parts.states.first) no_notes).changed } =
+    ap (λ (y : Kept). record { notes = y.notes; contents = Some v; course = y.course; changed = y.changed }) (sym was) in
     let all : AllPlaced (row_at (board_of plan.base parts) n) v = subst (λ (b : Board). AllPlaced (row_at b n) v) (sym is) c.requires.all in
     let none : NoneLeft (row_at (board_of plan.base parts) n) v = subst (λ (b : Board). NoneLeft (row_at b n) v) (sym is) c.requires.none in
     (c.self.invariant.0, done_kept plan parts kept w n (notes_at (board_of plan.base parts) n) may v q k c.go_on.ensures refl rows_is k_is refl refl refl fits c.requires.version all none)
@@ -127,7 +127,7 @@ returns g c =
     let is : board_of plan.base parts ≡ c.args.self.now = ap (λ (x : Planned). board_of x.base parts) (sym c.self.invariant.0) ∙ c.self.view_is in
     let n = c.args.line in
     let w = c.args.worker in
-    let v : Told = c.args.place.version.now in
+    let v : Contents = c.args.place.version.now in
     let may : MayPublish (board_of plan.base parts) w n (notes_at (board_of plan.base parts) n) = subst (λ (b : Board). MayPublish b w n (notes_at b n)) (sym is) c.requires.may in
     let fits : Fits (board_of plan.base parts) n (notes_at (board_of plan.base parts) n) v = subst (λ (b : Board). Fits b n (notes_at b n) v) (sym is) c.requires.fits in
     let there : IsLine (board_of plan.base parts) n = act_line plan parts kept w n (notes_at (board_of plan.base parts) n) may v in
@@ -150,8 +150,8 @@ returns g c =
     ∙ ap row_shown (sym (c.index_mut-row.ensures.value ∙ ap (λ x. get_or a.rows.items (n - x) c.index_mut-row.result.now) f)) in
     let rows_is : q.rows ≡ set parts.rows (n - parts.states.first) k =
     map-set row_shown a.rows.items (n - c.first.result) row ∙ ap (λ x. set parts.rows (n - x) k) f in
-    let k_is : k ≡ record { notes = (get_or parts.rows (n - parts.states.first) no_notes).notes; told = Some v; course = (get_or parts.rows (n - parts.states.first) no_notes).course; changed = (get_or parts.rows (n - parts.states.first) no_notes).changed } =
-    ap (λ (y : Kept). record { notes = y.notes; told = Some v; course = y.course; changed = y.changed }) (sym was) in
+    let k_is : k ≡ record { notes = (get_or parts.rows (n - parts.states.first) no_notes).notes; contents = Some v; course = (get_or parts.rows (n - parts.states.first) no_notes).course; changed = (get_or parts.rows (n - parts.states.first) no_notes).changed } =
+    ap (λ (y : Kept). record { notes = y.notes; contents = Some v; course = y.course; changed = y.changed }) (sym was) in
     let all : AllPlaced (row_at (board_of plan.base parts) n) v = subst (λ (b : Board). AllPlaced (row_at b n) v) (sym is) c.requires.all in
     let none : NoneLeft (row_at (board_of plan.base parts) n) v = subst (λ (b : Board). NoneLeft (row_at b n) v) (sym is) c.requires.none in
     subst (λ (b : Board). board_of a.plan.now.base q ≡ put_row b n (with_state (row_at b n) (Done (notes_at b n) v.answer None))) is

@@ -1,7 +1,7 @@
 use Rattle.std.proofs.Common.{◌≡◌, ◌-◌, ◌+◌, ◌<◌, Some, map, set, length, get_or, refl, sym, ap, subst, ◌∙◌, arith, rules}
 use Rattle.std.specs.FinMap.{remove}
 use Rattle.std.proofs.lemmas.List.{get_or-map, length-map, map-set}
-use Rattle.read_set.specs.Settling.{Told}
+use Rattle.read_set.specs.Settling.{Contents}
 use Rattle.version_store.specs.Entries as store
 use Rattle.version_store.specs.Entries.{shown_by}
 use Rattle.board_steps.specs.Steps.{MayPublish, Fits, AllPlaced, IsNextLeft, HasRoom, lifted}
@@ -29,7 +29,7 @@ go_on-requires-clause-old g c =
     let is : board_of plan.base parts ≡ c.args.self.now = ap (λ (x : Planned). board_of x.base parts) (sym c.self.invariant.0) ∙ c.self.view_is in
     let n = c.args.line in
     let w = c.args.worker in
-    let v : Told = c.args.place.version.now in
+    let v : Contents = c.args.place.version.now in
     let may : MayPublish (board_of plan.base parts) w n (notes_at (board_of plan.base parts) n) = subst (λ (b : Board). MayPublish b w n (notes_at b n)) (sym is) c.requires.may in
     let fits : Fits (board_of plan.base parts) n (notes_at (board_of plan.base parts) n) v = subst (λ (b : Board). Fits b n (notes_at b n) v) (sym is) c.requires.fits in
     let there : IsLine (board_of plan.base parts) n = act_line plan parts kept w n (notes_at (board_of plan.base parts) n) may v in
@@ -54,7 +54,7 @@ overflow_sub-line g c =
     let is : board_of plan.base parts ≡ c.args.self.now = ap (λ (x : Planned). board_of x.base parts) (sym c.self.invariant.0) ∙ c.self.view_is in
     let n = c.args.line in
     let w = c.args.worker in
-    let v : Told = c.args.place.version.now in
+    let v : Contents = c.args.place.version.now in
     let may : MayPublish (board_of plan.base parts) w n (notes_at (board_of plan.base parts) n) = subst (λ (b : Board). MayPublish b w n (notes_at b n)) (sym is) c.requires.may in
     let fits : Fits (board_of plan.base parts) n (notes_at (board_of plan.base parts) n) v = subst (λ (b : Board). Fits b n (notes_at b n) v) (sym is) c.requires.fits in
     let there : IsLine (board_of plan.base parts) n = act_line plan parts kept w n (notes_at (board_of plan.base parts) n) may v in
@@ -70,7 +70,7 @@ index_mut-row-requires g c =
     let is : board_of plan.base parts ≡ c.args.self.now = ap (λ (x : Planned). board_of x.base parts) (sym c.self.invariant.0) ∙ c.self.view_is in
     let n = c.args.line in
     let w = c.args.worker in
-    let v : Told = c.args.place.version.now in
+    let v : Contents = c.args.place.version.now in
     let may : MayPublish (board_of plan.base parts) w n (notes_at (board_of plan.base parts) n) = subst (λ (b : Board). MayPublish b w n (notes_at b n)) (sym is) c.requires.may in
     let fits : Fits (board_of plan.base parts) n (notes_at (board_of plan.base parts) n) v = subst (λ (b : Board). Fits b n (notes_at b n) v) (sym is) c.requires.fits in
     let there : IsLine (board_of plan.base parts) n = act_line plan parts kept w n (notes_at (board_of plan.base parts) n) may v in
@@ -89,7 +89,7 @@ invariant_of-self g c =
     let is : board_of plan.base parts ≡ c.args.self.now = ap (λ (x : Planned). board_of x.base parts) (sym c.self.invariant.0) ∙ c.self.view_is in
     let n = c.args.line in
     let w = c.args.worker in
-    let v : Told = c.args.place.version.now in
+    let v : Contents = c.args.place.version.now in
     let may : MayPublish (board_of plan.base parts) w n (notes_at (board_of plan.base parts) n) = subst (λ (b : Board). MayPublish b w n (notes_at b n)) (sym is) c.requires.may in
     let fits : Fits (board_of plan.base parts) n (notes_at (board_of plan.base parts) n) v = subst (λ (b : Board). Fits b n (notes_at b n) v) (sym is) c.requires.fits in
     let there : IsLine (board_of plan.base parts) n = act_line plan parts kept w n (notes_at (board_of plan.base parts) n) may v in
@@ -113,15 +113,15 @@ invariant_of-self g c =
     ∙ ap row_shown (sym (c.index_mut-row.ensures.value ∙ ap (λ x. get_or a.rows.items (n - x) c.index_mut-row.result.now) f)) in
     let rows_is : q.rows ≡ set parts.rows (n - parts.states.first) k =
     map-set row_shown a.rows.items (n - c.first.result) row ∙ ap (λ x. set parts.rows (n - x) k) f in
-    let k_is : k ≡ record { notes = (get_or parts.rows (n - parts.states.first) no_notes).notes; told = Some v; course = come; changed = a.clock + 1 } =
-    ap (λ (y : Kept). record { notes = y.notes; told = Some v; course = come; changed = a.clock + 1 }) (sym was) in
+    let k_is : k ≡ record { notes = (get_or parts.rows (n - parts.states.first) no_notes).notes; contents = Some v; course = come; changed = a.clock + 1 } =
+    ap (λ (y : Kept). record { notes = y.notes; contents = Some v; course = come; changed = a.clock + 1 }) (sym was) in
     let all : AllPlaced (row_at (board_of plan.base parts) n) v = subst (λ (b : Board). AllPlaced (row_at b n) v) (sym is) c.requires.all in
     let next : IsNextLeft (row_at (board_of plan.base parts) n) v c.args.key = subst (λ (b : Board). IsNextLeft (row_at b n) v c.args.key) (sym is) c.requires.next in
     let room : HasRoom (board_of plan.base parts) = subst HasRoom (sym is) c.requires.room in
     let l = remove (store.line_at a.entries n) c.args.key in
     let l_is : l ≡ remove (row_at (board_of plan.base parts) n).entries c.args.key =
     ap (λ (x : store.Line). remove x c.args.key) (sym (entries_there plan parts kept n there)) in
-    let up : Rising v.writes = writes_rise v.writes (subst (λ (t : Told). IsStrictlySortedBy key_cmp (map (λ e. e.0) t.writes)) c.show.ensures c.writes-placed.ensures.rising) in
+    let up : Rising v.writes = writes_rise v.writes (subst (λ (t : Contents). IsStrictlySortedBy key_cmp (map (λ e. e.0) t.writes)) c.show.ensures c.writes-placed.ensures.rising) in
     (c.self.invariant.0, lifted_kept_here plan parts kept w n (notes_at (board_of plan.base parts) n) may v q l k come c.go_on.ensures c.lift.ensures rows_is k_is refl refl refl c.args.key fits c.requires.version room all next l_is up)
 
 pub returns : goal.returns
@@ -133,7 +133,7 @@ returns g c =
     let is : board_of plan.base parts ≡ c.args.self.now = ap (λ (x : Planned). board_of x.base parts) (sym c.self.invariant.0) ∙ c.self.view_is in
     let n = c.args.line in
     let w = c.args.worker in
-    let v : Told = c.args.place.version.now in
+    let v : Contents = c.args.place.version.now in
     let may : MayPublish (board_of plan.base parts) w n (notes_at (board_of plan.base parts) n) = subst (λ (b : Board). MayPublish b w n (notes_at b n)) (sym is) c.requires.may in
     let fits : Fits (board_of plan.base parts) n (notes_at (board_of plan.base parts) n) v = subst (λ (b : Board). Fits b n (notes_at b n) v) (sym is) c.requires.fits in
     let there : IsLine (board_of plan.base parts) n = act_line plan parts kept w n (notes_at (board_of plan.base parts) n) may v in
@@ -157,8 +157,8 @@ returns g c =
     ∙ ap row_shown (sym (c.index_mut-row.ensures.value ∙ ap (λ x. get_or a.rows.items (n - x) c.index_mut-row.result.now) f)) in
     let rows_is : q.rows ≡ set parts.rows (n - parts.states.first) k =
     map-set row_shown a.rows.items (n - c.first.result) row ∙ ap (λ x. set parts.rows (n - x) k) f in
-    let k_is : k ≡ record { notes = (get_or parts.rows (n - parts.states.first) no_notes).notes; told = Some v; course = come; changed = a.clock + 1 } =
-    ap (λ (y : Kept). record { notes = y.notes; told = Some v; course = come; changed = a.clock + 1 }) (sym was) in
+    let k_is : k ≡ record { notes = (get_or parts.rows (n - parts.states.first) no_notes).notes; contents = Some v; course = come; changed = a.clock + 1 } =
+    ap (λ (y : Kept). record { notes = y.notes; contents = Some v; course = come; changed = a.clock + 1 }) (sym was) in
     let all : AllPlaced (row_at (board_of plan.base parts) n) v = subst (λ (b : Board). AllPlaced (row_at b n) v) (sym is) c.requires.all in
     let next : IsNextLeft (row_at (board_of plan.base parts) n) v c.args.key = subst (λ (b : Board). IsNextLeft (row_at b n) v c.args.key) (sym is) c.requires.next in
     let room : HasRoom (board_of plan.base parts) = subst HasRoom (sym is) c.requires.room in

@@ -15,7 +15,7 @@ use Rattle.std.specs.Prelude.{option_map}
 use Rattle.board_steps.specs.Steps.{LookStep}
 use Rattle.board_steps.specs.Steps.Reply.{Seen as TheSeen}
 use Rattle.version_store.specs.Entries.{Sight, line_at, visible}
-use Rattle.board_lines.specs.Notes.{Noted, note_with, found_by, told_at}
+use Rattle.board_lines.specs.Notes.{Noted, note_with, found_by, contents_at}
 use Rattle.board_lines.specs.Sights.{IsNameOf}
 use Rattle.board_lines.specs.declared.row.Row.{Row}
 use Rattle.board_lines.proofs.lines.Lines.look.Goals as goal
@@ -115,14 +115,14 @@ invariant_of-self g c =
         | in-Ok-add w ↦ (
             let seen = c.in-Ok.seen in
             let name = named_seen plan parts kept line c.args.key.now seen (subst (λ (y : Sight). IsNameOf y seen) c.see.ensures c.in-Ok.ensures.named) in
-            let k_is : k ≡ record { notes = (get_or parts.rows (line - parts.states.first) no_notes).notes ++ note_with c.args.key.now seen ∷ []; told = (get_or parts.rows (line - parts.states.first) no_notes).told; course = (get_or parts.rows (line - parts.states.first) no_notes).course; changed = (get_or parts.rows (line - parts.states.first) no_notes).changed } =
-            ap (λ (x : List Noted). record { notes = x; told = (row_shown spot).told; course = spot.course; changed = spot.changed }) w.in-Ok-add.ensures.ok
-            ∙ ap (λ (y : Kept). record { notes = y.notes ++ note_with c.args.key.now seen ∷ []; told = y.told; course = y.course; changed = y.changed }) (sym was) in
+            let k_is : k ≡ record { notes = (get_or parts.rows (line - parts.states.first) no_notes).notes ++ note_with c.args.key.now seen ∷ []; contents = (get_or parts.rows (line - parts.states.first) no_notes).contents; course = (get_or parts.rows (line - parts.states.first) no_notes).course; changed = (get_or parts.rows (line - parts.states.first) no_notes).changed } =
+            ap (λ (x : List Noted). record { notes = x; contents = (row_shown spot).contents; course = spot.course; changed = spot.changed }) w.in-Ok-add.ensures.ok
+            ∙ ap (λ (y : Kept). record { notes = y.notes ++ note_with c.args.key.now seen ∷ []; contents = y.contents; course = y.course; changed = y.changed }) (sym was) in
             seen_kept plan parts kept c.args.worker line c.args.key.now notes may seen name.0 name.1 q k refl refl rows_is k_is refl refl refl)
         | in-Err-add w ↦ (
             let same_rows : q.rows ≡ parts.rows =
             rows_is
-            ∙ ap (λ (x : List Noted). set parts.rows (line - parts.states.first) (record { notes = x; told = (row_shown spot).told; course = spot.course; changed = spot.changed })) w.in-Err-add.ensures.err
+            ∙ ap (λ (x : List Noted). set parts.rows (line - parts.states.first) (record { notes = x; contents = (row_shown spot).contents; course = spot.course; changed = spot.changed })) w.in-Err-add.ensures.err
             ∙ ap (λ (x : Kept). set parts.rows (line - parts.states.first) x) (sym was)
             ∙ set-get_or parts.rows (line - parts.states.first) no_notes in
             subst (λ (x : List Kept). IsKept plan (record { states = a.attempts; store = a.entries; rows = x; hands = a.hands.items; clock = a.clock; latest = a.latest })) (sym same_rows) kept)
@@ -158,17 +158,17 @@ returns g c =
       | in-Ok-add w ↦ (
           let seen = c.in-Ok.seen in
           let name = named_seen plan parts kept line c.args.key.now seen (subst (λ (y : Sight). IsNameOf y seen) c.see.ensures c.in-Ok.ensures.named) in
-          let k_is : k ≡ record { notes = (get_or parts.rows (line - parts.states.first) no_notes).notes ++ note_with c.args.key.now seen ∷ []; told = (get_or parts.rows (line - parts.states.first) no_notes).told; course = (get_or parts.rows (line - parts.states.first) no_notes).course; changed = (get_or parts.rows (line - parts.states.first) no_notes).changed } =
-          ap (λ (x : List Noted). record { notes = x; told = (row_shown spot).told; course = spot.course; changed = spot.changed }) w.in-Ok-add.ensures.ok
-          ∙ ap (λ (y : Kept). record { notes = y.notes ++ note_with c.args.key.now seen ∷ []; told = y.told; course = y.course; changed = y.changed }) (sym was) in
+          let k_is : k ≡ record { notes = (get_or parts.rows (line - parts.states.first) no_notes).notes ++ note_with c.args.key.now seen ∷ []; contents = (get_or parts.rows (line - parts.states.first) no_notes).contents; course = (get_or parts.rows (line - parts.states.first) no_notes).course; changed = (get_or parts.rows (line - parts.states.first) no_notes).changed } =
+          ap (λ (x : List Noted). record { notes = x; contents = (row_shown spot).contents; course = spot.course; changed = spot.changed }) w.in-Ok-add.ensures.ok
+          ∙ ap (λ (y : Kept). record { notes = y.notes ++ note_with c.args.key.now seen ∷ []; contents = y.contents; course = y.course; changed = y.changed }) (sym was) in
           rw w.result-is
-          (subst (λ (b : Board). LookStep plan b c.args.worker c.args.key.now (TheSeen seen.name (found_by plan.base c.args.key.now (option_map told_at seen.place))) (board_of a.plan.now.base q)) is
-          (subst (λ (b : Board). LookStep plan (board_of plan.base parts) c.args.worker c.args.key.now (TheSeen seen.name (found_by plan.base c.args.key.now (option_map told_at seen.place))) b) new
+          (subst (λ (b : Board). LookStep plan b c.args.worker c.args.key.now (TheSeen seen.name (found_by plan.base c.args.key.now (option_map contents_at seen.place))) (board_of a.plan.now.base q)) is
+          (subst (λ (b : Board). LookStep plan (board_of plan.base parts) c.args.worker c.args.key.now (TheSeen seen.name (found_by plan.base c.args.key.now (option_map contents_at seen.place))) b) new
           (seen_returns plan parts kept c.args.worker line c.args.key.now notes may seen name.0 name.1 q k refl refl rows_is k_is refl refl refl))))
       | in-Err-add w ↦ (
           let same_rows : q.rows ≡ parts.rows =
           rows_is
-          ∙ ap (λ (x : List Noted). set parts.rows (line - parts.states.first) (record { notes = x; told = (row_shown spot).told; course = spot.course; changed = spot.changed })) w.in-Err-add.ensures.err
+          ∙ ap (λ (x : List Noted). set parts.rows (line - parts.states.first) (record { notes = x; contents = (row_shown spot).contents; course = spot.course; changed = spot.changed })) w.in-Err-add.ensures.err
           ∙ ap (λ (x : Kept). set parts.rows (line - parts.states.first) x) (sym was)
           ∙ set-get_or parts.rows (line - parts.states.first) no_notes in
           let seen_here = c.in-Ok.seen in

@@ -1,6 +1,6 @@
 use Rattle.std.proofs.Common.{◌≡◌, false, true, refl, sym, subst, ◌∙◌}
 use Rattle.circ_records.specs.declared.record.Record.{Record}
-use Rattle.read_set.specs.Settling.{Told}
+use Rattle.read_set.specs.Settling.{Contents}
 use Rattle.board_steps.specs.Board.{row_at}
 use Rattle.board_steps.specs.Steps.{MayPublish, Fits, HasRoom, IsNextWrite, AllPlaced, IsNextLeft, NoneLeft, placed}
 use Rattle.board_lines.specs.Acts.{IsAct, notes_at}
@@ -14,7 +14,7 @@ act-act-requires g c =
     let b = c.args.self.now in
     let w = c.args.worker in
     let n = c.args.line in
-    let v : Told = c.args.place.version.now in
+    let v : Contents = c.args.place.version.now in
     let may : MayPublish b w n (notes_at b n) = c.requires.may in
     let fit : Fits b n (notes_at b n) v = c.requires.fits in
     record { there = held_there b n w (publish_held _ w (notes_at b n) may); placed = c.requires.placed }
@@ -24,7 +24,7 @@ finish-requires g c =
     let b = c.args.self.now in
     let w = c.args.worker in
     let n = c.args.line in
-    let v : Told = c.args.place.version.now in
+    let v : Contents = c.args.place.version.now in
     let may : MayPublish b w n (notes_at b n) = c.requires.may in
     let fit : Fits b n (notes_at b n) v = c.requires.fits in
     let act : AllPlaced (row_at b n) v × NoneLeft (row_at b n) v = subst (IsAct (row_at b n) v) c.in-Finish.is c.act-act.ensures.act in
@@ -35,7 +35,7 @@ returns-in-Finish g c =
     let b = c.args.self.now in
     let w = c.args.worker in
     let n = c.args.line in
-    let v : Told = c.args.place.version.now in
+    let v : Contents = c.args.place.version.now in
     let may : MayPublish b w n (notes_at b n) = c.requires.may in
     let fit : Fits b n (notes_at b n) v = c.requires.fits in
     let act : AllPlaced (row_at b n) v × NoneLeft (row_at b n) v = subst (IsAct (row_at b n) v) c.in-Finish.is c.act-act.ensures.act in
@@ -46,7 +46,7 @@ returns-then-not-has_room g c =
     let b = c.args.self.now in
     let w = c.args.worker in
     let n = c.args.line in
-    let v : Told = c.args.place.version.now in
+    let v : Contents = c.args.place.version.now in
     let may : MayPublish b w n (notes_at b n) = c.requires.may in
     let fit : Fits b n (notes_at b n) v = c.requires.fits in (
       n,
@@ -63,7 +63,7 @@ lift-requires g c =
     let b = c.args.self.now in
     let w = c.args.worker in
     let n = c.args.line in
-    let v : Told = c.args.place.version.now in
+    let v : Contents = c.args.place.version.now in
     let may : MayPublish b w n (notes_at b n) = c.requires.may in
     let fit : Fits b n (notes_at b n) v = c.requires.fits in
     let act : AllPlaced (row_at b n) v × IsNextLeft (row_at b n) v c.in-Lift.key = subst (IsAct (row_at b n) v) c.in-Lift.is c.act-act.ensures.act in
@@ -75,7 +75,7 @@ returns-in-Lift g c =
     let b = c.args.self.now in
     let w = c.args.worker in
     let n = c.args.line in
-    let v : Told = c.args.place.version.now in
+    let v : Contents = c.args.place.version.now in
     let may : MayPublish b w n (notes_at b n) = c.requires.may in
     let fit : Fits b n (notes_at b n) v = c.requires.fits in
     let act : AllPlaced (row_at b n) v × IsNextLeft (row_at b n) v c.in-Lift.key = subst (IsAct (row_at b n) v) c.in-Lift.is c.act-act.ensures.act in
@@ -87,7 +87,7 @@ place-requires g c =
     let b = c.args.self.now in
     let w = c.args.worker in
     let n = c.args.line in
-    let v : Told = c.args.place.version.now in
+    let v : Contents = c.args.place.version.now in
     let may : MayPublish b w n (notes_at b n) = c.requires.may in
     let fit : Fits b n (notes_at b n) v = c.requires.fits in
     let act : (value : Record) × IsNextWrite (row_at b n) v c.in-Write.key value = subst (IsAct (row_at b n) v) c.in-Write.is c.act-act.ensures.act in
@@ -100,7 +100,7 @@ returns-in-Ok g c =
     let b = c.args.self.now in
     let w = c.args.worker in
     let n = c.args.line in
-    let v : Told = c.args.place.version.now in
+    let v : Contents = c.args.place.version.now in
     let may : MayPublish b w n (notes_at b n) = c.requires.may in
     let fit : Fits b n (notes_at b n) v = c.requires.fits in
     let act : (value : Record) × IsNextWrite (row_at b n) v c.in-Write.key value = subst (IsAct (row_at b n) v) c.in-Write.is c.act-act.ensures.act in
@@ -112,7 +112,7 @@ returns-in-Err g c =
     let b = c.args.self.now in
     let w = c.args.worker in
     let n = c.args.line in
-    let v : Told = c.args.place.version.now in
+    let v : Contents = c.args.place.version.now in
     let may : MayPublish b w n (notes_at b n) = c.requires.may in
     let fit : Fits b n (notes_at b n) v = c.requires.fits in
     let act : (value : Record) × IsNextWrite (row_at b n) v c.in-Write.key value = subst (IsAct (row_at b n) v) c.in-Write.is c.act-act.ensures.act in

@@ -2,7 +2,7 @@ use Rattle.std.proofs.Common.{◌≡◌, ◌-◌, ◌+◌, ◌<◌, Some, map, s
 use Rattle.std.specs.FinMap.{insert}
 use Rattle.std.proofs.lemmas.List.{get_or-map, length-map, map-set}
 use Rattle.circ_records.specs.declared.record.Record.{Record}
-use Rattle.read_set.specs.Settling.{Told}
+use Rattle.read_set.specs.Settling.{Contents}
 use Rattle.version_store.specs.Entries as store
 use Rattle.version_store.specs.Entries.{shown_by}
 use Rattle.board_steps.specs.Steps.{MayPublish, Fits, IsNextWrite, HasRoom, placed}
@@ -27,7 +27,7 @@ place-requires g c =
     let is : board_of plan.base parts ≡ c.args.self.now = ap (λ (x : Planned). board_of x.base parts) (sym c.self.invariant.0) ∙ c.self.view_is in
     let n = c.args.line in
     let w = c.args.worker in
-    let v : Told = c.args.place.version.now in
+    let v : Contents = c.args.place.version.now in
     let may : MayPublish (board_of plan.base parts) w n (notes_at (board_of plan.base parts) n) = subst (λ (b : Board). MayPublish b w n (notes_at b n)) (sym is) c.requires.may in
     let fits : Fits (board_of plan.base parts) n (notes_at (board_of plan.base parts) n) v = subst (λ (b : Board). Fits b n (notes_at b n) v) (sym is) c.requires.fits in
     let there : IsLine (board_of plan.base parts) n = act_line plan parts kept w n (notes_at (board_of plan.base parts) n) may v in
@@ -42,7 +42,7 @@ go_on-requires-clause-old g c =
     let is : board_of plan.base parts ≡ c.args.self.now = ap (λ (x : Planned). board_of x.base parts) (sym c.self.invariant.0) ∙ c.self.view_is in
     let n = c.args.line in
     let w = c.args.worker in
-    let v : Told = c.args.place.version.now in
+    let v : Contents = c.args.place.version.now in
     let may : MayPublish (board_of plan.base parts) w n (notes_at (board_of plan.base parts) n) = subst (λ (b : Board). MayPublish b w n (notes_at b n)) (sym is) c.requires.may in
     let fits : Fits (board_of plan.base parts) n (notes_at (board_of plan.base parts) n) v = subst (λ (b : Board). Fits b n (notes_at b n) v) (sym is) c.requires.fits in
     let there : IsLine (board_of plan.base parts) n = act_line plan parts kept w n (notes_at (board_of plan.base parts) n) may v in
@@ -67,7 +67,7 @@ overflow_sub-line g c =
     let is : board_of plan.base parts ≡ c.args.self.now = ap (λ (x : Planned). board_of x.base parts) (sym c.self.invariant.0) ∙ c.self.view_is in
     let n = c.args.line in
     let w = c.args.worker in
-    let v : Told = c.args.place.version.now in
+    let v : Contents = c.args.place.version.now in
     let may : MayPublish (board_of plan.base parts) w n (notes_at (board_of plan.base parts) n) = subst (λ (b : Board). MayPublish b w n (notes_at b n)) (sym is) c.requires.may in
     let fits : Fits (board_of plan.base parts) n (notes_at (board_of plan.base parts) n) v = subst (λ (b : Board). Fits b n (notes_at b n) v) (sym is) c.requires.fits in
     let there : IsLine (board_of plan.base parts) n = act_line plan parts kept w n (notes_at (board_of plan.base parts) n) may v in
@@ -83,7 +83,7 @@ index_mut-row-requires g c =
     let is : board_of plan.base parts ≡ c.args.self.now = ap (λ (x : Planned). board_of x.base parts) (sym c.self.invariant.0) ∙ c.self.view_is in
     let n = c.args.line in
     let w = c.args.worker in
-    let v : Told = c.args.place.version.now in
+    let v : Contents = c.args.place.version.now in
     let may : MayPublish (board_of plan.base parts) w n (notes_at (board_of plan.base parts) n) = subst (λ (b : Board). MayPublish b w n (notes_at b n)) (sym is) c.requires.may in
     let fits : Fits (board_of plan.base parts) n (notes_at (board_of plan.base parts) n) v = subst (λ (b : Board). Fits b n (notes_at b n) v) (sym is) c.requires.fits in
     let there : IsLine (board_of plan.base parts) n = act_line plan parts kept w n (notes_at (board_of plan.base parts) n) may v in
@@ -102,7 +102,7 @@ invariant_of-self-2 g c =
     let is : board_of plan.base parts ≡ c.args.self.now = ap (λ (x : Planned). board_of x.base parts) (sym c.self.invariant.0) ∙ c.self.view_is in
     let n = c.args.line in
     let w = c.args.worker in
-    let v : Told = c.args.place.version.now in
+    let v : Contents = c.args.place.version.now in
     let may : MayPublish (board_of plan.base parts) w n (notes_at (board_of plan.base parts) n) = subst (λ (b : Board). MayPublish b w n (notes_at b n)) (sym is) c.requires.may in
     let fits : Fits (board_of plan.base parts) n (notes_at (board_of plan.base parts) n) v = subst (λ (b : Board). Fits b n (notes_at b n) v) (sym is) c.requires.fits in
     let there : IsLine (board_of plan.base parts) n = act_line plan parts kept w n (notes_at (board_of plan.base parts) n) may v in
@@ -126,12 +126,12 @@ invariant_of-self-2 g c =
     ∙ ap row_shown (sym (c.index_mut-row.ensures.value ∙ ap (λ x. get_or a.rows.items (n - x) c.index_mut-row.result.now) f)) in
     let rows_is : q.rows ≡ set parts.rows (n - parts.states.first) k =
     map-set row_shown a.rows.items (n - c.first.result) row ∙ ap (λ x. set parts.rows (n - x) k) f in
-    let k_is : k ≡ record { notes = (get_or parts.rows (n - parts.states.first) no_notes).notes; told = Some v; course = come; changed = a.clock + 1 } =
-    ap (λ (y : Kept). record { notes = y.notes; told = Some v; course = come; changed = a.clock + 1 }) (sym was) in
+    let k_is : k ≡ record { notes = (get_or parts.rows (n - parts.states.first) no_notes).notes; contents = Some v; course = come; changed = a.clock + 1 } =
+    ap (λ (y : Kept). record { notes = y.notes; contents = Some v; course = come; changed = a.clock + 1 }) (sym was) in
     let next : (value : Record) × IsNextWrite (row_at (board_of plan.base parts) n) v c.args.key value = subst (λ (b : Board). (value : Record) × IsNextWrite (row_at b n) v c.args.key value) (sym is) c.requires.next in
     let room : HasRoom (board_of plan.base parts) = subst HasRoom (sym is) c.requires.room in
     let l = insert (store.line_at a.entries n) c.args.key (shown_by c.attempt-attempt.result v) in
-    let attempt_is : c.attempt-attempt.result ≡ v.attempt = c.attempt-attempt.ensures ∙ ap (λ (x : Told). x.attempt) c.show.ensures in
+    let attempt_is : c.attempt-attempt.result ≡ v.attempt = c.attempt-attempt.ensures ∙ ap (λ (x : Contents). x.attempt) c.show.ensures in
     let l_is : l ≡ insert (row_at (board_of plan.base parts) n).entries c.args.key (shown_by v.attempt v) =
     ap (λ x. insert (store.line_at a.entries n) c.args.key (shown_by x v)) attempt_is
     ∙ ap (λ (x : store.Line). insert x c.args.key (shown_by v.attempt v)) (sym (entries_there plan parts kept n there)) in
@@ -148,7 +148,7 @@ returns-clause-placed g c =
     let is : board_of plan.base parts ≡ c.args.self.now = ap (λ (x : Planned). board_of x.base parts) (sym c.self.invariant.0) ∙ c.self.view_is in
     let n = c.args.line in
     let w = c.args.worker in
-    let v : Told = c.args.place.version.now in
+    let v : Contents = c.args.place.version.now in
     let may : MayPublish (board_of plan.base parts) w n (notes_at (board_of plan.base parts) n) = subst (λ (b : Board). MayPublish b w n (notes_at b n)) (sym is) c.requires.may in
     let fits : Fits (board_of plan.base parts) n (notes_at (board_of plan.base parts) n) v = subst (λ (b : Board). Fits b n (notes_at b n) v) (sym is) c.requires.fits in
     let there : IsLine (board_of plan.base parts) n = act_line plan parts kept w n (notes_at (board_of plan.base parts) n) may v in
@@ -172,12 +172,12 @@ returns-clause-placed g c =
     ∙ ap row_shown (sym (c.index_mut-row.ensures.value ∙ ap (λ x. get_or a.rows.items (n - x) c.index_mut-row.result.now) f)) in
     let rows_is : q.rows ≡ set parts.rows (n - parts.states.first) k =
     map-set row_shown a.rows.items (n - c.first.result) row ∙ ap (λ x. set parts.rows (n - x) k) f in
-    let k_is : k ≡ record { notes = (get_or parts.rows (n - parts.states.first) no_notes).notes; told = Some v; course = come; changed = a.clock + 1 } =
-    ap (λ (y : Kept). record { notes = y.notes; told = Some v; course = come; changed = a.clock + 1 }) (sym was) in
+    let k_is : k ≡ record { notes = (get_or parts.rows (n - parts.states.first) no_notes).notes; contents = Some v; course = come; changed = a.clock + 1 } =
+    ap (λ (y : Kept). record { notes = y.notes; contents = Some v; course = come; changed = a.clock + 1 }) (sym was) in
     let next : (value : Record) × IsNextWrite (row_at (board_of plan.base parts) n) v c.args.key value = subst (λ (b : Board). (value : Record) × IsNextWrite (row_at b n) v c.args.key value) (sym is) c.requires.next in
     let room : HasRoom (board_of plan.base parts) = subst HasRoom (sym is) c.requires.room in
     let l = insert (store.line_at a.entries n) c.args.key (shown_by c.attempt-attempt.result v) in
-    let attempt_is : c.attempt-attempt.result ≡ v.attempt = c.attempt-attempt.ensures ∙ ap (λ (x : Told). x.attempt) c.show.ensures in
+    let attempt_is : c.attempt-attempt.result ≡ v.attempt = c.attempt-attempt.ensures ∙ ap (λ (x : Contents). x.attempt) c.show.ensures in
     let l_is : l ≡ insert (row_at (board_of plan.base parts) n).entries c.args.key (shown_by v.attempt v) =
     ap (λ x. insert (store.line_at a.entries n) c.args.key (shown_by x v)) attempt_is
     ∙ ap (λ (x : store.Line). insert x c.args.key (shown_by v.attempt v)) (sym (entries_there plan parts kept n there)) in

@@ -1,9 +1,9 @@
 use Rattle.std.proofs.Common.{◌≡◌, Some, None, Option, map, sym, ap, subst, ◌∙◌}
 use Rattle.std.specs.Prelude.{option_map}
-use Rattle.read_set.specs.Settling.{Told}
+use Rattle.read_set.specs.Settling.{Contents}
 use Rattle.board_steps.specs.Board.State.{Placing}
 use Rattle.board_lines.specs.Acts.{IsPlacing}
-use Rattle.board_lines.specs.Notes.{told_at}
+use Rattle.board_lines.specs.Notes.{contents_at}
 use Rattle.board_lines.specs.Acts.{notes_at}
 use Rattle.board_lines.proofs.Publications.{held_line, has_state, is_placed, not_placing, placing_version}
 use Rattle.read_set.specs.Plans.{Planned}
@@ -64,7 +64,7 @@ returns g c =
     let held : holder (row_at (board_of plan.base parts) n).state ≡ Some w = subst (λ (b : Board). holder (row_at b n).state ≡ Some w) (sym is) c.in-Some.ensures.0 in
     let p = is_placed plan parts kept w n held c.in-Some-state.state (sym c.in-Some-state.ensures) (sym c.is_placing.ensures ∙ c.if-not-is_placing.false) in
     let here : (row_at c.args.self.now n).state ≡ Placing w (notes_at (board_of plan.base parts) n) p.0 = subst (λ (b : Board). (row_at b n).state ≡ Placing w (notes_at (board_of plan.base parts) n) p.0) is p.1 in
-    let last : option_map told_at c.version.result ≡ p.0 = c.version.ensures w (notes_at (board_of plan.base parts) n) p.0 here in
-    subst (λ (o : Option Told). IsPlacing c.args.self.now w o) (sym last)
+    let last : option_map contents_at c.version.result ≡ p.0 = c.version.ensures w (notes_at (board_of plan.base parts) n) p.0 here in
+    subst (λ (o : Option Contents). IsPlacing c.args.self.now w o) (sym last)
     (placing_version c.args.self.now w n (notes_at (board_of plan.base parts) n) p.0 here
-    (λ e. kept.under_way n w (notes_at (board_of plan.base parts) n) None (subst (λ (o : Option Told). (row_at (board_of plan.base parts) n).state ≡ Placing w (notes_at (board_of plan.base parts) n) o) e p.1)))
+    (λ e. kept.under_way n w (notes_at (board_of plan.base parts) n) None (subst (λ (o : Option Contents). (row_at (board_of plan.base parts) n).state ≡ Placing w (notes_at (board_of plan.base parts) n) o) e p.1)))

@@ -133,8 +133,8 @@ invariant_of-self-2 g c =
     let q : Parts = record { states = c.fail-2.new.self; store = c.suspect_all.new.self; rows = map row_shown (set a.rows.items (c.args.line - c.first.result) row); hands = set a.hands.items c.args.worker None; clock = a.clock + 1; latest = a.latest } in
     let rows_is : q.rows ≡ set parts.rows (c.args.line - parts.states.first) k =
     map-set row_shown a.rows.items (c.args.line - c.first.result) row ∙ ap (λ x. set parts.rows (c.args.line - x) k) f in
-    let k_is : k ≡ record { notes = (get_or parts.rows (c.args.line - parts.states.first) no_notes).notes; told = (get_or parts.rows (c.args.line - parts.states.first) no_notes).told; course = (get_or parts.rows (c.args.line - parts.states.first) no_notes).course; changed = a.clock + 1 } =
-    ap (λ (y : Kept). record { notes = y.notes; told = y.told; course = y.course; changed = a.clock + 1 }) (sym was) in
+    let k_is : k ≡ record { notes = (get_or parts.rows (c.args.line - parts.states.first) no_notes).notes; contents = (get_or parts.rows (c.args.line - parts.states.first) no_notes).contents; course = (get_or parts.rows (c.args.line - parts.states.first) no_notes).course; changed = a.clock + 1 } =
+    ap (λ (y : Kept). record { notes = y.notes; contents = y.contents; course = y.course; changed = a.clock + 1 }) (sym was) in
     (c.self.invariant.0, mark_kept plan parts kept c.args.worker c.args.line o.0 o.1 o.2 o.3 o.4 c.args.key c.args.noted c.args.found o.5 some room q k c.fail-2.ensures c.suspect_all.ensures rows_is k_is refl refl refl)
 
 pub returns : goal.returns
@@ -160,8 +160,8 @@ returns g c =
     let q : Parts = record { states = c.fail-2.new.self; store = c.suspect_all.new.self; rows = map row_shown (set a.rows.items (c.args.line - c.first.result) row); hands = set a.hands.items c.args.worker None; clock = a.clock + 1; latest = a.latest } in
     let rows_is : q.rows ≡ set parts.rows (c.args.line - parts.states.first) k =
     map-set row_shown a.rows.items (c.args.line - c.first.result) row ∙ ap (λ x. set parts.rows (c.args.line - x) k) f in
-    let k_is : k ≡ record { notes = (get_or parts.rows (c.args.line - parts.states.first) no_notes).notes; told = (get_or parts.rows (c.args.line - parts.states.first) no_notes).told; course = (get_or parts.rows (c.args.line - parts.states.first) no_notes).course; changed = a.clock + 1 } =
-    ap (λ (y : Kept). record { notes = y.notes; told = y.told; course = y.course; changed = a.clock + 1 }) (sym was) in
+    let k_is : k ≡ record { notes = (get_or parts.rows (c.args.line - parts.states.first) no_notes).notes; contents = (get_or parts.rows (c.args.line - parts.states.first) no_notes).contents; course = (get_or parts.rows (c.args.line - parts.states.first) no_notes).course; changed = a.clock + 1 } =
+    ap (λ (y : Kept). record { notes = y.notes; contents = y.contents; course = y.course; changed = a.clock + 1 }) (sym was) in
     let new : board_of plan.base q ≡ board_of a.plan.now.base q = ap (λ (x : Planned). board_of x.base q) (sym c.self.invariant.0) in
     subst (λ (b : Board). CheckStep b c.args.worker c.args.line (TheChanged c.args.key c.args.noted c.args.found) (board_of a.plan.now.base q)) is
     (subst (λ (b : Board). CheckStep (board_of plan.base parts) c.args.worker c.args.line (TheChanged c.args.key c.args.noted c.args.found) b) new

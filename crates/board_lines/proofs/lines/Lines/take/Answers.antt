@@ -124,9 +124,9 @@ invariant_of-self-2 g c =
     ∙ ap row_shown (sym (c.index_mut-row.ensures.value ∙ ap (λ x. get_or a.rows.items (c.args.line - x) spot) f)) in
     let rows_is : q.rows ≡ set parts.rows (c.args.line - parts.states.first) k =
     map-set row_shown a.rows.items (c.args.line - c.first.result) row ∙ ap (λ x. set parts.rows (c.args.line - x) k) f in
-    let k_is : k ≡ record { notes = []; told = (get_or parts.rows (c.args.line - parts.states.first) no_notes).told; course = (get_or parts.rows (c.args.line - parts.states.first) no_notes).course; changed = (get_or parts.rows (c.args.line - parts.states.first) no_notes).changed } =
-    ap (λ (x : List Noted). record { notes = x; told = (row_shown spot).told; course = spot.course; changed = spot.changed }) c.clear.ensures
-    ∙ ap (λ (y : Kept). record { notes = []; told = y.told; course = y.course; changed = y.changed }) (sym was) in
+    let k_is : k ≡ record { notes = []; contents = (get_or parts.rows (c.args.line - parts.states.first) no_notes).contents; course = (get_or parts.rows (c.args.line - parts.states.first) no_notes).course; changed = (get_or parts.rows (c.args.line - parts.states.first) no_notes).changed } =
+    ap (λ (x : List Noted). record { notes = x; contents = (row_shown spot).contents; course = spot.course; changed = spot.changed }) c.clear.ensures
+    ∙ ap (λ (y : Kept). record { notes = []; contents = y.contents; course = y.course; changed = y.changed }) (sym was) in
     let ok = c.in-Some-take.ensures.some in
     let next = next_there plan parts kept c.args.line c.args.worker waits hand c.in-Some-take.attempt ok.0 in
     let fits : c.in-Some-take.attempt < 2 ^ 32 = search rules in
@@ -161,9 +161,9 @@ returns g c =
     ∙ ap row_shown (sym (c.index_mut-row.ensures.value ∙ ap (λ x. get_or a.rows.items (c.args.line - x) spot) f)) in
     let rows_is : q.rows ≡ set parts.rows (c.args.line - parts.states.first) k =
     map-set row_shown a.rows.items (c.args.line - c.first.result) row ∙ ap (λ x. set parts.rows (c.args.line - x) k) f in
-    let k_is : k ≡ record { notes = []; told = (get_or parts.rows (c.args.line - parts.states.first) no_notes).told; course = (get_or parts.rows (c.args.line - parts.states.first) no_notes).course; changed = (get_or parts.rows (c.args.line - parts.states.first) no_notes).changed } =
-    ap (λ (x : List Noted). record { notes = x; told = (row_shown spot).told; course = spot.course; changed = spot.changed }) c.clear.ensures
-    ∙ ap (λ (y : Kept). record { notes = []; told = y.told; course = y.course; changed = y.changed }) (sym was) in
+    let k_is : k ≡ record { notes = []; contents = (get_or parts.rows (c.args.line - parts.states.first) no_notes).contents; course = (get_or parts.rows (c.args.line - parts.states.first) no_notes).course; changed = (get_or parts.rows (c.args.line - parts.states.first) no_notes).changed } =
+    ap (λ (x : List Noted). record { notes = x; contents = (row_shown spot).contents; course = spot.course; changed = spot.changed }) c.clear.ensures
+    ∙ ap (λ (y : Kept). record { notes = []; contents = y.contents; course = y.course; changed = y.changed }) (sym was) in
     let ok = c.in-Some-take.ensures.some in
     let next = next_there plan parts kept c.args.line c.args.worker waits hand c.in-Some-take.attempt ok.0 in
     let fits : c.in-Some-take.attempt < 2 ^ 32 = search rules in

@@ -1,10 +1,10 @@
 use Rattle.std.proofs.Common.{◌≡◌, ◌+◌, None, Some, length, map, option_copied, sym, ap, subst, ◌∙◌, arith}
 use Rattle.circ_records.specs.Records.{Entries, record_at}
 use Rattle.read_set.specs.Plans.{Planned}
-use Rattle.read_set.specs.Settling.{Told}
+use Rattle.read_set.specs.Settling.{Contents}
 use Rattle.board_steps.specs.Board.{Board, row_at, value_at}
 use Rattle.board_lines.specs.Parts.{IsKept, Parts, board_of, row_shown}
-use Rattle.board_lines.proofs.Lendings.{value_shown}
+use Rattle.board_lines.proofs.CommittedLines.{value_shown}
 use Rattle.board_lines.proofs.lines.Lines.value_of.Goals as goal
 
 pub returns-in_default : goal.returns-in_default
@@ -36,6 +36,6 @@ returns g c =
     subst (λ (b : Board). option_copied c.written.result ≡ value_at plan (row_at b) (b.first + length b.rows) k) is
     (c.written.ensures
     ∙ ap (λ (x : Entries). record_at x k) c.writes.ensures.writes
-    ∙ ap (λ (x : Told). record_at x.writes k) c.show.ensures
+    ∙ ap (λ (x : Contents). record_at x.writes k) c.show.ensures
     ∙ value_shown plan parts kept c.numbers-past.result.end k (Some c.in-Some.place.version.now) c.in-Some.ensures
     ∙ ap (λ x. value_at plan (row_at (board_of plan.base parts)) x k) past)

@@ -51,4 +51,4 @@ returns g c =
     let was : get_or (map row_shown a.rows.items) (n - parts.states.first) no_notes ≡ row_shown c.index.result.now =
     get_or-map row_shown a.rows.items (n - parts.states.first) c.index.result.now no_notes (omega (arith, l, m))
     ∙ ap row_shown (sym (c.index.ensures ∙ ap (λ x. get_or a.rows.items (n - x) c.index.result.now) f)) in
-    λ w notes last h. ap (λ (k : Kept). k.told) (sym was) ∙ last_is plan parts kept n there w notes last (subst (λ (b : Board). (row_at b n).state ≡ Placing w notes last) (sym is) h)
+    λ w notes last h. ap (λ (k : Kept). k.contents) (sym was) ∙ last_is plan parts kept n there w notes last (subst (λ (b : Board). (row_at b n).state ≡ Placing w notes last) (sym is) h)

@@ -2,7 +2,7 @@ use Rattle.std.proofs.Common.{subst}
 use Rattle.board_steps.specs.Board.{Board}
 use Rattle.board_steps.specs.Steps.{PublishStep}
 use Rattle.board_steps.specs.Steps.Reply.{Placed, Lifted}
-use Rattle.board_lines.specs.Notes.{told_at}
+use Rattle.board_lines.specs.Notes.{contents_at}
 use Rattle.speculate.specs.declared.ready.Mark.TheVariants as marks
 use Rattle.speculate.proofs.Readying.{puts_at, loses_at}
 use Rattle.speculate.proofs.Calling.{placed_ready, lifted_ready, published_ready}
@@ -10,27 +10,27 @@ use Rattle.speculate.proofs.board.Board.publish.Goals as goal
 
 pub invariant_of-self : goal.invariant_of-self
 invariant_of-self g c =
-    placed_ready g.J.PlanName.plan c.self.inside.lines c.publish.new.self c.args.worker (told_at c.args.place) c.in-Some.hand c.self.inside.ready c.lose_above.new.self
+    placed_ready g.J.PlanName.plan c.self.inside.lines c.publish.new.self c.args.worker (contents_at c.args.place) c.in-Some.hand c.self.inside.ready c.lose_above.new.self
     c.plan-plan.ensures.reached c.in-Some.ensures c.in-Placed.ensures c.self.invariant
     (loses_at g.J.PlanName.plan c.plan-plan.result.now c.self.inside.lines c.place_of.result c.in-Some.hand.line c.place_of.ensures c.plan-plan.ensures.plan c.plan-plan.ensures.reached
     c.self.inside.ready c.lose_above.new.self c.lose_above.ensures)
 
 pub invariant_of-self-in-Lifted : goal.invariant_of-self-in-Lifted
 invariant_of-self-in-Lifted g c =
-    lifted_ready g.J.PlanName.plan c.self.inside.lines c.publish.new.self c.args.worker (told_at c.args.place) c.in-Some.hand c.self.inside.ready c.lose_above-in-Lifted.new.self
+    lifted_ready g.J.PlanName.plan c.self.inside.lines c.publish.new.self c.args.worker (contents_at c.args.place) c.in-Some.hand c.self.inside.ready c.lose_above-in-Lifted.new.self
     c.plan-plan.ensures.reached c.in-Some.ensures c.in-Lifted.ensures c.self.invariant
     (loses_at g.J.PlanName.plan c.plan-plan.result.now c.self.inside.lines c.place_of-in-Lifted.result c.in-Some.hand.line c.place_of-in-Lifted.ensures c.plan-plan.ensures.plan
     c.plan-plan.ensures.reached c.self.inside.ready c.lose_above-in-Lifted.new.self c.lose_above-in-Lifted.ensures)
 
 pub invariant_of-self-in-Whole : goal.invariant_of-self-in-Whole
 invariant_of-self-in-Whole g c =
-    published_ready g.J.PlanName.plan c.self.inside.lines c.publish.new.self c.args.worker (told_at c.args.place) c.in-Some.hand c.self.inside.ready c.put.new.self
+    published_ready g.J.PlanName.plan c.self.inside.lines c.publish.new.self c.args.worker (contents_at c.args.place) c.in-Some.hand c.self.inside.ready c.put.new.self
     c.plan-plan.ensures.reached c.in-Some.ensures c.in-Whole.ensures c.self.invariant
     (puts_at g.J.PlanName.plan c.plan-plan.result.now c.self.inside.lines c.place_of-in-Whole.result c.in-Some.hand.line c.place_of-in-Whole.ensures c.plan-plan.ensures.plan
     c.plan-plan.ensures.reached c.self.inside.ready c.put.new.self marks.Unchecked c.put.ensures)
 
 pub returns-in-Placed : goal.returns-in-Placed
-returns-in-Placed g c = subst (λ (b : Board). PublishStep b c.args.worker (told_at c.args.place) Placed c.publish.new.self) c.self.view_is c.in-Placed.ensures
+returns-in-Placed g c = subst (λ (b : Board). PublishStep b c.args.worker (contents_at c.args.place) Placed c.publish.new.self) c.self.view_is c.in-Placed.ensures
 
 pub returns-in-Lifted : goal.returns-in-Lifted
-returns-in-Lifted g c = subst (λ (b : Board). PublishStep b c.args.worker (told_at c.args.place) Lifted c.publish.new.self) c.self.view_is c.in-Lifted.ensures
+returns-in-Lifted g c = subst (λ (b : Board). PublishStep b c.args.worker (contents_at c.args.place) Lifted c.publish.new.self) c.self.view_is c.in-Lifted.ensures

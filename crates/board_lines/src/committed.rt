@@ -3,8 +3,8 @@
 
 ghost use Rattle.std.specs.Prelude.{◌≡◌, ◌+◌, ◌^◌, ◌<◌, suc, length, option_copied, option_map, slice_get};
 ghost use Rattle.std.specs.FinMap as fin;
-ghost use Rattle.board_lines.specs.Lendings.{committed_answer};
-ghost use Rattle.board_lines.specs.Notes.{told_at};
+ghost use Rattle.board_lines.specs.Committed.{committed_answer};
+ghost use Rattle.board_lines.specs.Notes.{contents_at};
 ghost use Rattle.board_lines.specs.Parts.{answer_by};
 ghost use Rattle.board_steps.specs.Board.{IsCommitted, row_at, value_at};
 ghost use Rattle.version_store.specs.Entries.{IsNamedAt};
@@ -64,7 +64,7 @@ impl<'p, 't, J: PlanName> Lines<'p, 't, J> {
 
 /// The answer of the version at a place.
 fn answer_at<'t, J: PlanName>(place: Option<Place<'t, J>>) -> Option<&'t Answer>
-    ensures { option_copied result ≡ answer_by (option_map told_at place.entry) }
+    ensures { option_copied result ≡ answer_by (option_map contents_at place.entry) }
 {
     match place {
         Some(place) => place.show().answer().as_ref(),

@@ -1,7 +1,7 @@
 use Rattle.std.proofs.Common.{◌∙◌, codes}
 use Rattle.std.proofs.lemmas.Result.{IfOk-weaker}
 use Rattle.result_report.proofs.Joined.{joined}
-use Rattle.result_report.proofs.words.words_of.Goals as goal
+use Rattle.result_report.proofs.words.joined_words.Goals as goal
 
 pub returns : goal.returns
 returns c =

@@ -1,9 +1,9 @@
-//! What a board has come to, lent by its lines: the answers, attempts and entries of those that are committed, and the record
+//! What a board has come to, as its lines give it: the answers, attempts and entries of those that are committed, and the record
 //! that is seen past the last.
 
 ghost use Rattle.std.specs.Prelude.{◌≡◌, ◌+◌, ◌^◌, ◌<◌, suc, length, option_copied, slice_get};
 ghost use Rattle.std.specs.FinMap as fin;
-ghost use Rattle.board_lines.specs.Lendings.{committed_answer};
+ghost use Rattle.board_lines.specs.Committed.{committed_answer};
 ghost use Rattle.board_steps.specs.Board.{IsCommitted, row_at, value_at};
 ghost use Rattle.version_store.specs.Entries.{IsNamedAt};
 

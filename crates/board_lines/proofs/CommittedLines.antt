@@ -1,4 +1,4 @@
--- What a board lends of a committed line, and the record that is seen past the last.
+-- What a board gives of a committed line, and the record that is seen past the last.
 use Rattle.std.proofs.Common.{◌≡◌, ℕ, ◌-◌, List, Option, Some, None, length, get_or, refl, sym, ap, subst, ◌∙◌, inl, inr, arith, false}
 use Rattle.std.specs.Option.{option_and_then}
 use Rattle.std.specs.Prelude.{option_map}
@@ -8,17 +8,17 @@ use Rattle.std.proofs.lemmas.Option.{slice_get-get_or}
 use Rattle.circ_records.specs.Records.{Entries, record_at}
 use Rattle.circ_records.specs.declared.key.Key.{Key}
 use Rattle.read_set.specs.Plans.{Planned}
-use Rattle.read_set.specs.Settling.{Told}
+use Rattle.read_set.specs.Settling.{Contents}
 use Rattle.read_set.specs.declared.notes.Note.{Note}
 use Rattle.attempts.specs.Moves.{no_row}
 use Rattle.attempts.specs.States.{is_waiting, newest_at, newest_of, state_at}
 use Rattle.attempts.specs.declared.state.LineState.{LineState}
 use Rattle.attempts.specs.declared.state.LineState.TheVariants as states
 use Rattle.version_store.specs.Entries as store
-use Rattle.version_store.specs.Entries.{Shown, told_seen}
+use Rattle.version_store.specs.Entries.{Shown, contents_seen}
 use Rattle.board_steps.specs.Board.{Board, IsCommitted, IsLine, Row, blank, record_of, row_at, value_at}
 use Rattle.board_steps.proofs.Lines.{row_before, row_from, within_board}
-use Rattle.board_lines.specs.Lendings.{committed_answer}
+use Rattle.board_lines.specs.Committed.{committed_answer}
 use Rattle.board_lines.specs.Notes.{found_by}
 use Rattle.board_lines.specs.Parts.{IsKept, Parts, answer_by, board_of, no_notes, row_by, state_of}
 use Rattle.board_lines.proofs.Boards.{place_of}
@@ -28,30 +28,30 @@ use Rattle.board_lines.proofs.Moves.{state_none}
 use Rattle.board_lines.proofs.Rows.{newest_from, newest_if, state_shown}
 use Rattle.board_lines.proofs.Sights.{entry_seen}
 
-uncommitted : (s : LineState) (notes : List Note) (told : Option Told) → (s ≡ states.Committed → ⊥) → committed_answer (state_of s notes told) ≡ None
-uncommitted states.Waiting notes told h = refl
-uncommitted (states.Running w) notes told h = refl
-uncommitted (states.Placing w) notes told h = refl
-uncommitted (states.Done t) notes told h = refl
-uncommitted (states.Checking w t i) notes told h = refl
-uncommitted states.Committed notes told h = absurd (h refl)
+uncommitted : (s : LineState) (notes : List Note) (contents : Option Contents) → (s ≡ states.Committed → ⊥) → committed_answer (state_of s notes contents) ≡ None
+uncommitted states.Waiting notes contents h = refl
+uncommitted (states.Running w) notes contents h = refl
+uncommitted (states.Placing w) notes contents h = refl
+uncommitted (states.Done t) notes contents h = refl
+uncommitted (states.Checking w t i) notes contents h = refl
+uncommitted states.Committed notes contents h = absurd (h refl)
 
-committed_waits : (s : LineState) (notes : List Note) (told : Option Told) → IsCommitted (state_of s notes told) → is_waiting s ≡ false
-committed_waits states.Waiting notes told h = absurd h
-committed_waits (states.Running w) notes told h = refl
-committed_waits (states.Placing w) notes told h = refl
-committed_waits (states.Done t) notes told h = refl
-committed_waits (states.Checking w t i) notes told h = refl
-committed_waits states.Committed notes told h = refl
+committed_waits : (s : LineState) (notes : List Note) (contents : Option Contents) → IsCommitted (state_of s notes contents) → is_waiting s ≡ false
+committed_waits states.Waiting notes contents h = absurd h
+committed_waits (states.Running w) notes contents h = refl
+committed_waits (states.Placing w) notes contents h = refl
+committed_waits (states.Done t) notes contents h = refl
+committed_waits (states.Checking w t i) notes contents h = refl
+committed_waits states.Committed notes contents h = refl
 
 -- a committed line is there
 pub committed_there : (b : Board) (n : ℕ) → IsCommitted (row_at b n).state → IsLine b n
 committed_there b n h = within_board b n (λ d. subst IsCommitted d h)
 
 -- the record of the visible entry, by its version
-told_record : (base : Entries) (k : Key) (v : Option (ℕ × Shown)) → found_by base k (option_map (λ (p : ℕ × Shown). p.1.told) v) ≡ record_of k v (record_at base k)
-told_record base k None = refl
-told_record base k (Some p) = refl
+contents_record : (base : Entries) (k : Key) (v : Option (ℕ × Shown)) → found_by base k (option_map (λ (p : ℕ × Shown). p.1.contents) v) ≡ record_of k v (record_at base k)
+contents_record base k None = refl
+contents_record base k (Some p) = refl
 
 module _ (plan : Planned) (a : Parts) (kept : IsKept plan a) where
   -- the answer of a line, by its state in the table: one that isn't there has none
@@ -69,7 +69,7 @@ module _ (plan : Planned) (a : Parts) (kept : IsKept plan a) where
   pub answer_other : (n : ℕ) (s : LineState) → state_at a.states n ≡ Some s → (s ≡ states.Committed → ⊥) → committed_answer (row_at (board_of plan.base a) n).state ≡ None
   answer_other n s is h = ap committed_answer (state_there plan a kept n s is) ∙ uncommitted s _ _ h
 
-  pub answer_there : (n : ℕ) → state_at a.states n ≡ Some states.Committed → committed_answer (row_at (board_of plan.base a) n).state ≡ answer_by (get_or a.rows (n - a.states.first) no_notes).told
+  pub answer_there : (n : ℕ) → state_at a.states n ≡ Some states.Committed → committed_answer (row_at (board_of plan.base a) n).state ≡ answer_by (get_or a.rows (n - a.states.first) no_notes).contents
   answer_there n is = ap committed_answer (state_there plan a kept n states.Committed is)
 
   -- a committed line has an attempt
@@ -83,8 +83,8 @@ module _ (plan : Planned) (a : Parts) (kept : IsKept plan a) where
       ∙ sym (newest_from a.states n there.0) ∙ h)
 
   -- the record that line n sees, by the version that the store shows it
-  pub value_shown : (n : ℕ) (k : Key) (o : Option Told) → o ≡ told_seen (store.line_at a.store) n k → found_by plan.base k o ≡ value_at plan (row_at (board_of plan.base a)) n k
+  pub value_shown : (n : ℕ) (k : Key) (o : Option Contents) → o ≡ contents_seen (store.line_at a.store) n k → found_by plan.base k o ≡ value_at plan (row_at (board_of plan.base a)) n k
   value_shown n k o is =
       ap (found_by plan.base k) is
-      ∙ told_record plan.base k (store.visible (store.line_at a.store) n k)
+      ∙ contents_record plan.base k (store.visible (store.line_at a.store) n k)
       ∙ sym (ap (λ (v : Option (ℕ × Shown)). record_of k v (record_at plan.base k)) (entry_seen plan a kept n k))

@@ -1,7 +1,7 @@
 use Rattle.std.proofs.Common.{sym, ap, ◌∙◌, option_copied}
 use Rattle.result_report.specs.Report.{answers_behind}
 use Rattle.result_report.proofs.Parts.{all-three, answer-at, lends, no-answer, no-answer-at, no-line, no-reading}
-use Rattle.result_report.proofs.texts.told_at.Goals as goal
+use Rattle.result_report.proofs.texts.result_at.Goals as goal
 
 pub returns-in_err-line : goal.returns-in_err-line
 returns-in_err-line c =

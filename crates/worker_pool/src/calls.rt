@@ -1,4 +1,4 @@
-//! What a worker is told of a call of the board.
+//! What a call of the shared board comes to, for the worker that made it.
 
 use board_lines::Reply;
 use read_set::{Name, PlanName};

@@ -19,9 +19,9 @@ impl Drop for Shelf {
 }
 
 impl Shelf {
-    pub(crate) fn copy_at(&self, alloc: Global, key: &Key) -> Result<Option<Record>, AllocError> {
+    pub(crate) fn copy_at(&self, key: &Key) -> Result<Option<Record>, AllocError> {
         match self.records.get(key) {
-            Some(found) => Ok(Some(found.copy(alloc)?)),
+            Some(found) => Ok(Some(found.copy()?)),
             None => Ok(None),
         }
     }
@@ -34,9 +34,9 @@ impl Source for Shelf {
     ghost has = { λ shelf k. Some (record_at shelf.records.entries k) };
 
     #[tactic(auto, using(read_set::proofs::Gaining::gains_none))]
-    fn read(&mut self, alloc: Global, key: &Key) -> Result<Option<Record>, Stop> {
+    fn read(&mut self, _alloc: Global, key: &Key) -> Result<Option<Record>, Stop> {
         match self.records.get(key) {
-            Some(found) => Ok(Some(found.copy(alloc)?)),
+            Some(found) => Ok(Some(found.copy()?)),
             None => Ok(None),
         }
     }
@@ -45,10 +45,10 @@ impl Source for Shelf {
 impl Looks for Shelf {
     fn look(
         &mut self,
-        alloc: Global,
+        _alloc: Global,
         key: &Key,
     ) -> Result<Option<(Name, Option<Record>)>, AllocError> {
-        let found = self.copy_at(alloc, key)?;
+        let found = self.copy_at(key)?;
         Ok(Some((Name::Base, found)))
     }
 }
@@ -62,7 +62,7 @@ pub(crate) fn lend(alloc: Global, count: u64) -> Result<Shelf, AllocError> {
         let id = Id::of_fee(7, k);
         loans.push(id)?;
         let item = lent(alloc, patron)?;
-        let _ = records.insert(Key::Item(id), Record::Item(item))?;
+        let _ = records.insert(Key::Item(id), Record::item(alloc, item)?)?;
     }
     let record = member(alloc, loans, Ids::new(alloc))?;
     let _ = records.insert(Key::Patron(patron), record)?;
@@ -77,13 +77,13 @@ pub(crate) fn owe(alloc: Global, count: u64) -> Result<Shelf, AllocError> {
     for k in 0..count {
         let fee = Id::of_fee(7, k);
         fees.push(fee)?;
-        let record = Record::Fee(Fee {
+        let charged = Fee {
             patron,
             kind: FeeType::Rental,
             amount: amount(1)?,
             paid: amount(0)?,
-        });
-        let _ = records.insert(Key::Fee(fee), record)?;
+        };
+        let _ = records.insert(Key::Fee(fee), Record::fee(alloc, charged)?)?;
     }
     let record = member(alloc, Ids::new(alloc), fees)?;
     let _ = records.insert(Key::Patron(patron), record)?;
@@ -91,13 +91,14 @@ pub(crate) fn owe(alloc: Global, count: u64) -> Result<Shelf, AllocError> {
 }
 
 fn member(alloc: Global, loans: Ids, fees: Ids) -> Result<Record, AllocError> {
-    Ok(Record::Patron(Patron {
+    let patron = Patron {
         name: text(alloc, b"Ann")?,
         class: id(b"A")?,
         blocked: false,
         loans,
         fees,
-    }))
+    };
+    Record::patron(alloc, patron)
 }
 
 fn id(bytes: &[u8]) -> Result<Id, AllocError> {

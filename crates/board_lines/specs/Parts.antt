@@ -59,7 +59,7 @@ state_of states.Committed notes contents = Committed (answer_by contents)
 abbrev pub row_with : Entries → attempt.Row → Kept → store.Line → steps.Row
 row_with base s k l = record { state = state_of s.state (notes_by base k.notes) k.contents; next = s.next; changed = k.changed; entries = l }
 
--- the line at a place
+-- the line at a position
 abbrev pub row_by : Entries → Parts → ℕ → steps.Row
 row_by base a p = row_with base (slice_index_or a.states.rows p no_row) (slice_index_or a.rows p no_notes) (slice_index_or a.store.lines p store.no_entries)
 

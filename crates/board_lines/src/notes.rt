@@ -92,7 +92,7 @@ impl<'t, J: PlanName> PlaceNotes<'t, J> {
         ensures ok { OnOk result (self.new ≡ self.old ++ note_with key.now seen.entry ∷ []) }
         ensures err { OnErr result (self.new ≡ self.old) }
     {
-        let place = self.keys.len();
+        let position = self.keys.len();
         let Ok(()) = self.keys.push(*key) else {
             return Err(AllocError);
         };
@@ -100,7 +100,7 @@ impl<'t, J: PlanName> PlaceNotes<'t, J> {
             self.keys.pop();
             return Err(AllocError);
         };
-        if place < FEW {
+        if position < FEW {
             return Ok(());
         }
         match self.index.insert(*key) {

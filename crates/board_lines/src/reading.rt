@@ -49,14 +49,13 @@ pub fn read_notes<J: PlanName>(
 {
     let mut notes = Notes::new(alloc);
     for i in 0..noted.len() {
-        notes.add(read_note(alloc, plan, noted, i)?)?;
+        notes.add(read_note(plan, noted, i)?)?;
     }
     Ok(notes)
 }
 
 /// The i-th note with its record.
 fn read_note<J: PlanName>(
-    alloc: Global,
     plan: &Plan,
     noted: &PlaceNotes<'_, J>,
     i: usize,
@@ -70,16 +69,16 @@ fn read_note<J: PlanName>(
     Ok(Note {
         key: *key,
         name: seen.name,
-        found: copied(alloc, record_seen(plan, key, seen.place))?,
+        found: copied(record_seen(plan, key, seen.place))?,
     })
 }
 
 /// The same record, where there is one.
-pub fn copied(alloc: Global, found: Option<&Record>) -> Result<Option<Record>, AllocError>
+pub fn copied(found: Option<&Record>) -> Result<Option<Record>, AllocError>
     ensures { IfOk result (λ copy. copy ≡ option_copied found.entry) }
 {
     match found {
-        Some(record) => Ok(Some(record.copy(alloc)?)),
+        Some(record) => Ok(Some(record.copy()?)),
         None => Ok(None),
     }
 }

@@ -1,6 +1,7 @@
 -- The policy that the bytes of a file say, or the first rule that they break.
 use Rattle.std.specs.Prelude.{◌≡◌, ℕ, List, [], ◌∷◌, ◌++◌, Option, Some, None, Result, Ok, Err, codes, string_bytes, option_and_then, option_map, if◌then◌else◌}
 use Rattle.std.specs.Str.{is_utf8}
+use Rattle.sip_reader.specs.Bytes as byte
 use Rattle.sip_reader.specs.declared.amount.TheConstants.{AMOUNT_MAX}
 use Rattle.toml.specs.Data.{Data, Members, no_members, member, as_table, get_member}
 use Rattle.toml.specs.Parse.{parse_document}
@@ -37,7 +38,7 @@ unknown (Some key) = Err (breaks key)
 
 -- a key inside a table, as `class.A`
 abbrev pub within : List ℕ → List ℕ → List ℕ
-within table key = table ++ 46 ∷ key
+within table key = table ++ byte.point ∷ key
 
 -- no other keys than these in an entry, the least one counts
 unfoldable pub only : List (List ℕ) → List ℕ → Members → Result (Unit {0}) Refusal

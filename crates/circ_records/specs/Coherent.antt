@@ -4,7 +4,7 @@ use Rattle.std.specs.List.{list_all, list_any}
 use Rattle.circ_policy.specs.Policy.{media_of}
 use Rattle.circ_policy.specs.Terms.{Terms}
 use Rattle.sip_reader.specs.Days.{day_at}
-use Rattle.sip_reader.specs.Texts.{is_id, is_text}
+use Rattle.sip_reader.specs.Texts.{is_id, is_text, line_number_end}
 use Rattle.sip_reader.specs.declared.amount.TheConstants.{AMOUNT_MAX}
 use Rattle.circ_records.specs.MadeFees.{may_be_made}
 use Rattle.circ_records.specs.Records.{Entries, record_at}
@@ -121,7 +121,7 @@ pub record IsCoherentMap (policy : Terms) (n : ℕ) (m : Map) : Type 0 where
 
 -- the number before which a base is coherent: that of the journal's first line, and behind all numbers where it has none
 abbrev pub number_before : Option ℕ → ℕ
-number_before None = 10000000000
+number_before None = line_number_end
 number_before (Some first) = first
 
 abbrev pub Coherent : Terms → ℕ → Entries → Type 0

@@ -43,7 +43,7 @@ fee_row patron id fee = id ∷ patron ∷ fee_type_code fee.kind ∷ amount_text
 abbrev pub closed_row : List ℕ → Fee → Row
 closed_row id fee = id ∷ fee.patron ∷ fee_type_code fee.kind ∷ amount_text fee.amount ∷ []
 
--- the row of a place in an item's queue
+-- the row of a position in an item's queue
 abbrev pub hold_row : List ℕ → Hold → Row
 hold_row item hold = item ∷ hold.patron ∷ hold.pickup ∷ []
 

@@ -106,9 +106,9 @@ fn records_of(
     let mut records = BTreeMap::new(alloc);
     add_patrons(alloc, policy, rows, &mut records)?;
     add_items(alloc, policy, rows, &mut records)?;
-    add_loans(rows, &mut records)?;
-    add_fees(first, rows, &mut records)?;
-    add_closed(first, rows, &mut records)?;
+    add_loans(alloc, rows, &mut records)?;
+    add_fees(alloc, first, rows, &mut records)?;
+    add_closed(alloc, first, rows, &mut records)?;
     add_holds(alloc, rows, &mut records)?;
     Ok(records)
 }

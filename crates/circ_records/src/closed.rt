@@ -23,12 +23,13 @@ use crate::texts::id_at;
 use csv::ByteRecord;
 use csv_table::column;
 use sip_reader::Amount;
-use std::alloc::AllocError;
+use std::alloc::{AllocError, Global};
 use std::collections::BTreeMap;
 
 /// Puts the closed fees of the table among the records, or tells the first rule that a row breaks. `first` is the number
 /// of the journal's first line.
 pub(crate) fn add_closed(
+    alloc: Global,
     first: Option<u64>,
     rows: &TableRows,
     records: &mut BTreeMap<Key, Record>,
@@ -49,7 +50,7 @@ pub(crate) fn add_closed(
                     rule,
                 });
             }
-            None => add_fee(row, records)?,
+            None => add_fee(alloc, row, records)?,
         }
     }
     Ok(())
@@ -83,14 +84,19 @@ fn broken_rule(
 
 /// Puts the closed fee of a row among the records.
 #[tactic(auto, unfolding(crate::specs::Rules::has_fee_texts))]
-fn add_fee(row: &ByteRecord, records: &mut BTreeMap<Key, Record>) -> Result<(), AllocError>
+fn add_fee(
+    alloc: Global,
+    row: &ByteRecord,
+    records: &mut BTreeMap<Key, Record>,
+) -> Result<(), AllocError>
     requires texts { Rules.has_fee_texts (fields_of row.now) ≡ true }
     requires values { Rules.has_closed_values (fields_of row.now) ≡ true }
     ensures told { OnOk result ((r : Rows) (before : List Row) → Tells (to_closed r before) records.old → (Rules.has_row 0 (field 0 (fields_of row.now)) r.fees || Rules.has_row 0 (field 0 (fields_of row.now)) before) ≡ false → Tells (to_closed r (before ++ fields_of row.now ∷ [])) records.new) }
     ensures rising { OnOk result (IsOrdered key_cmp records.new) }
 {
     let fee = id_at(row, 0);
-    records.insert(Key::Fee(fee), Record::Fee(fee_of(row)))?;
+    let told = Record::fee(alloc, fee_of(row))?;
+    records.insert(Key::Fee(fee), told)?;
     Ok(())
 }
 

@@ -59,7 +59,7 @@ fn open_fee_of(records: &Records, id: &Id) -> Option<Fee>
 {
     match records.get(&Key::Fee(*id)) {
         Some(record) => match record {
-            Record::Fee(fee) => open_alone(fee),
+            Record::Fee(fee) => open_alone(fee.get()),
             Record::Patron(_) | Record::Item(_) => None,
         },
         None => None,

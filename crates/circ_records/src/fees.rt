@@ -25,12 +25,13 @@ use crate::texts::id_at;
 use csv::ByteRecord;
 use csv_table::column;
 use sip_reader::{Amount, Id};
-use std::alloc::AllocError;
+use std::alloc::{AllocError, Global};
 use std::collections::BTreeMap;
 
 /// Puts the open fees of the table among the records, or tells the first rule that a row breaks. `first` is the number of
 /// the journal's first line.
 pub(crate) fn add_fees(
+    alloc: Global,
     first: Option<u64>,
     rows: &TableRows,
     records: &mut BTreeMap<Key, Record>,
@@ -51,7 +52,7 @@ pub(crate) fn add_fees(
                     rule,
                 });
             }
-            None => add_fee(row, records)?,
+            None => add_fee(alloc, row, records)?,
         }
     }
     Ok(())
@@ -129,7 +130,11 @@ fn hundredths(text: &[u8]) -> u64
 
 /// Puts the open fee of a row among the records and into its patron's list.
 #[tactic(auto, unfolding(crate::specs::Rules::has_fee_texts))]
-fn add_fee(row: &ByteRecord, records: &mut BTreeMap<Key, Record>) -> Result<(), AllocError>
+fn add_fee(
+    alloc: Global,
+    row: &ByteRecord,
+    records: &mut BTreeMap<Key, Record>,
+) -> Result<(), AllocError>
     requires texts { Rules.has_fee_texts (fields_of row.now) ≡ true }
     requires values { Rules.has_fee_values (fields_of row.now) ≡ true }
     ensures told { OnOk result ((r : Rows) (before : List Row) → Tells (to_fees r before) records.old → Rules.has_row 0 (field 0 (fields_of row.now)) before ≡ false → Tells (to_fees r (before ++ fields_of row.now ∷ [])) records.new) }
@@ -137,8 +142,9 @@ fn add_fee(row: &ByteRecord, records: &mut BTreeMap<Key, Record>) -> Result<(), 
 {
     let fee = id_at(row, 0);
     let patron = id_at(row, 1);
-    records.insert(Key::Fee(fee), Record::Fee(fee_of(row)))?;
-    change_at(records, Key::Patron(patron), Change::Owes(fee))?;
+    let told = Record::fee(alloc, fee_of(row))?;
+    records.insert(Key::Fee(fee), told)?;
+    change_at(alloc, records, Key::Patron(patron), Change::Owes(fee))?;
     Ok(())
 }
 

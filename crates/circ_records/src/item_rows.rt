@@ -35,7 +35,7 @@ pub(crate) fn write_holds(text: &mut TableText, item: &Id, holds: &[Hold]) -> Re
     Ok(())
 }
 
-/// A place in the queue of an item.
+/// A position in the queue of an item.
 fn write_hold(text: &mut TableText, item: &Id, hold: &Hold) -> Result<(), AllocError>
     requires { HasWidth 3 text.old }
     ensures { OnOk result (text.new ≡ with_rows (hold_row item.now hold.now ∷ []) text.old) }

@@ -120,7 +120,8 @@ fn add_item(
     ensures rising { OnOk result (IsOrdered key_cmp records.new) }
 {
     let item = item_of(alloc, row)?;
-    let before = records.insert(Key::Item(row_id(row)), Record::Item(item))?;
+    let told = Record::item(alloc, item)?;
+    let before = records.insert(Key::Item(row_id(row)), told)?;
     Ok(before.is_some())
 }
 

@@ -52,7 +52,7 @@ fn as_item(entry: &Record) -> Option<&Item>
     ensures { option_copied result ≡ as_item (Some entry.now) }
 {
     match entry {
-        Record::Item(item) => Some(item),
+        Record::Item(item) => Some(item.get()),
         _ => None,
     }
 }

@@ -23,11 +23,12 @@ use crate::values::{due_of, renewals_of};
 use csv::ByteRecord;
 use csv_table::column;
 use sip_reader::Id;
-use std::alloc::AllocError;
+use std::alloc::{AllocError, Global};
 use std::collections::BTreeMap;
 
 /// Puts the loans of the table among the records, or tells the first rule that a row breaks.
 pub(crate) fn add_loans(
+    alloc: Global,
     rows: &TableRows,
     records: &mut BTreeMap<Key, Record>,
 ) -> Result<(), BaseError>
@@ -47,7 +48,7 @@ pub(crate) fn add_loans(
                     rule,
                 });
             }
-            None => add_loan(row, records)?,
+            None => add_loan(alloc, row, records)?,
         }
     }
     Ok(())
@@ -93,7 +94,11 @@ fn has_values(row: &ByteRecord) -> bool
 
 /// Puts the loan of a row into its patron's list and its item.
 #[tactic(auto, unfolding(crate::specs::Rules::has_loan_texts))]
-fn add_loan(row: &ByteRecord, records: &mut BTreeMap<Key, Record>) -> Result<(), AllocError>
+fn add_loan(
+    alloc: Global,
+    row: &ByteRecord,
+    records: &mut BTreeMap<Key, Record>,
+) -> Result<(), AllocError>
     requires texts { Rules.has_loan_texts (fields_of row.now) ≡ true }
     requires values { Rules.has_loan_values (fields_of row.now) ≡ true }
     ensures told { OnOk result ((r : Rows) (before : List Row) → Tells (to_loans r before) records.old → Rules.has_row 1 (field 1 (fields_of row.now)) before ≡ false → Tells (to_loans r (before ++ fields_of row.now ∷ [])) records.new) }
@@ -101,8 +106,8 @@ fn add_loan(row: &ByteRecord, records: &mut BTreeMap<Key, Record>) -> Result<(),
 {
     let patron = id_at(row, 0);
     let item = id_at(row, 1);
-    change_at(records, Key::Patron(patron), Change::Borrows(item))?;
-    change_at(records, Key::Item(item), Change::Lent(loan_of(row)))?;
+    change_at(alloc, records, Key::Patron(patron), Change::Borrows(item))?;
+    change_at(alloc, records, Key::Item(item), Change::Lent(loan_of(row)))?;
     Ok(())
 }
 

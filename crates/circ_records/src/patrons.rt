@@ -120,7 +120,8 @@ fn add_patron(
     ensures rising { OnOk result (IsOrdered key_cmp records.new) }
 {
     let patron = patron_of(alloc, row)?;
-    let before = records.insert(Key::Patron(row_id(row)), Record::Patron(patron))?;
+    let told = Record::patron(alloc, patron)?;
+    let before = records.insert(Key::Patron(row_id(row)), told)?;
     Ok(before.is_some())
 }
 

@@ -132,7 +132,7 @@ fn add_hold(
 {
     let item = id_at(row, 0);
     let hold = hold_of(alloc, row)?;
-    change_at(records, Key::Item(item), Change::Awaited(hold))?;
+    change_at(alloc, records, Key::Item(item), Change::Awaited(hold))?;
     Ok(())
 }
 

@@ -1,19 +1,21 @@
 ghost use Rattle.std.specs.Prelude.{◌≡◌, IfOk};
 ghost use Rattle.circ_records.specs.FeeTypes.{fee_type_code};
 ghost use Rattle.circ_records.specs.Values.{fee_type_of};
+ghost use Rattle.circ_records.specs.declared.record.Record.TheVariants as record_of;
 
 use crate::holds::Holds;
 use crate::ids::Ids;
+use crate::shared::Shared;
 use circ_policy::MediaType;
 use sip_reader::{Amount, Day, Id, Text};
 use std::alloc::{AllocError, Global};
 
-/// What stands under a key.
+/// What stands under a key. It stands in memory once, for itself and for its copies.
 #[derive(Drop)]
 pub enum Record {
-    Patron(Patron),
-    Item(Item),
-    Fee(Fee),
+    Patron(Shared<Patron>),
+    Item(Shared<Item>),
+    Fee(Shared<Fee>),
 }
 
 /// A member of the library.
@@ -140,24 +142,38 @@ const FEE_TYPES: [FeeType; 9] = [
 ];
 
 impl Record {
-    /// The same record.
-    pub fn copy(&self, alloc: Global) -> Result<Record, AllocError>
+    /// The record of a patron. From now on a copy of the patron has the memory of the lists together with it.
+    pub fn patron(alloc: Global, patron: Patron) -> Result<Record, AllocError>
+        ensures { IfOk result (λ r. r ≡ record_of.Patron patron) }
+    {
+        let mut patron = patron;
+        patron.loans.share();
+        patron.fees.share();
+        Ok(Record::Patron(Shared::new(alloc, patron)?))
+    }
+
+    /// The record of an item.
+    pub fn item(alloc: Global, item: Item) -> Result<Record, AllocError>
+        ensures { IfOk result (λ r. r ≡ record_of.Item item) }
+    {
+        Ok(Record::Item(Shared::new(alloc, item)?))
+    }
+
+    /// The record of a fee.
+    pub fn fee(alloc: Global, fee: Fee) -> Result<Record, AllocError>
+        ensures { IfOk result (λ r. r ≡ record_of.Fee fee) }
+    {
+        Ok(Record::Fee(Shared::new(alloc, fee)?))
+    }
+
+    /// The same record. It takes no memory.
+    pub fn copy(&self) -> Result<Record, AllocError>
         ensures { IfOk result (λ r. r ≡ self.now) }
     {
         match self {
-            Record::Patron(patron) => Ok(Record::Patron(patron.copy(alloc)?)),
-            Record::Item(item) => Ok(Record::Item(item.copy(alloc)?)),
-            Record::Fee(fee) => Ok(Record::Fee(*fee)),
-        }
-    }
-
-    /// From now on its copies have the memory of its lists together with it.
-    pub fn share(&mut self)
-        ensures { self.new ≡ self.old }
-    {
-        if let Record::Patron(patron) = self {
-            patron.loans.share();
-            patron.fees.share();
+            Record::Patron(patron) => Ok(Record::Patron(patron.copy()?)),
+            Record::Item(item) => Ok(Record::Item(item.copy()?)),
+            Record::Fee(fee) => Ok(Record::Fee(fee.copy()?)),
         }
     }
 }
@@ -169,11 +185,7 @@ impl Clone for Record {
     ghost is_clone = { λ x y. y ≡ x };
 
     fn clone(&self) -> Result<Record, AllocError> {
-        match self {
-            Record::Patron(patron) => Ok(Record::Patron(patron.copy(patron.loans.allocator())?)),
-            Record::Item(item) => Ok(Record::Item(item.copy(item.holds.allocator())?)),
-            Record::Fee(fee) => Ok(Record::Fee(*fee)),
-        }
+        self.copy()
     }
 }
 
@@ -190,6 +202,16 @@ impl Patron {
             fees: self.fees.copy(alloc)?,
         })
     }
+
+    /// A patron on its own, to be changed: the very fields, where nobody else has the record, and else a copy.
+    pub fn of(alloc: Global, shared: Shared<Patron>) -> Result<Patron, AllocError>
+        ensures { IfOk result (λ p. p ≡ shared) }
+    {
+        match shared.into_sole() {
+            Ok(patron) => Ok(patron),
+            Err(shared) => shared.get().copy(alloc),
+        }
+    }
 }
 
 impl Item {
@@ -205,5 +227,15 @@ impl Item {
             loan: self.loan,
             holds: self.holds.copy(alloc)?,
         })
+    }
+
+    /// An item on its own, to be changed: the very fields, where nobody else has the record, and else a copy.
+    pub fn of(alloc: Global, shared: Shared<Item>) -> Result<Item, AllocError>
+        ensures { IfOk result (λ i. i ≡ shared) }
+    {
+        match shared.into_sole() {
+            Ok(item) => Ok(item),
+            Err(shared) => shared.get().copy(alloc),
+        }
     }
 }

@@ -16,15 +16,15 @@ impl Record {
     {
         match self {
             Record::Patron(ours) => match other {
-                Record::Patron(theirs) => same_patron(ours, theirs),
+                Record::Patron(theirs) => same_patron(ours.get(), theirs.get()),
                 _ => false,
             },
             Record::Item(ours) => match other {
-                Record::Item(theirs) => same_item(ours, theirs),
+                Record::Item(theirs) => same_item(ours.get(), theirs.get()),
                 _ => false,
             },
             Record::Fee(ours) => match other {
-                Record::Fee(theirs) => same_fee(ours, theirs),
+                Record::Fee(theirs) => same_fee(ours.get(), theirs.get()),
                 _ => false,
             },
         }

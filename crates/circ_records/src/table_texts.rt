@@ -61,15 +61,15 @@ impl TableTexts {
     {
         match key {
             Key::Patron(id) => match record {
-                Record::Patron(patron) => self.patron(alloc, records, id, patron),
+                Record::Patron(patron) => self.patron(alloc, records, id, patron.get()),
                 Record::Item(_) | Record::Fee(_) => Ok(()),
             },
             Key::Item(id) => match record {
-                Record::Item(item) => self.item(id, item),
+                Record::Item(item) => self.item(id, item.get()),
                 Record::Patron(_) | Record::Fee(_) => Ok(()),
             },
             Key::Fee(id) => match record {
-                Record::Fee(fee) => self.fee(alloc, id, fee),
+                Record::Fee(fee) => self.fee(alloc, id, fee.get()),
                 Record::Patron(_) | Record::Item(_) => Ok(()),
             },
         }

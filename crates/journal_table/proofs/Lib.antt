@@ -1,3 +1,4 @@
+pub mod Layouts
 pub mod Ends
 pub mod Lines
 pub mod Numbers

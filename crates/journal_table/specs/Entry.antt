@@ -1,5 +1,6 @@
 -- The lines of a journal, without where they lie in memory.
 use Rattle.std.specs.Prelude.{◌≡◌, ◌≤◌, ◌+◌, ℕ, List, [], ◌∷◌, length, Option, Some, None, unwrap_or}
+use Rattle.sip_reader.specs.Texts.{line_number_end}
 use Rattle.journal_table.specs.declared.TheConstants.{LINE_LIMIT}
 
 -- a line: its number, the connection that it came over, the request, and the response that was recorded
@@ -25,7 +26,7 @@ first_number (line ∷ rest) = Some line.number
 
 -- rule number: no line has a number above 9,999,999,999, so as many numbers as there are lines, from the first on, end before 10,000,000,000
 abbrev pub EndsInTime : List Entry → Type 0
-EndsInTime lines = unwrap_or (first_number lines) 10000000000 + length lines ≤ 10000000000
+EndsInTime lines = unwrap_or (first_number lines) line_number_end + length lines ≤ line_number_end
 
 -- the lines of a journal: their numbers rise by one and have at most ten digits, and there are at most 1,000,000
 pub record AreLines (lines : List Entry) : Type 0 where

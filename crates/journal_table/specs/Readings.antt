@@ -2,6 +2,7 @@
 use Rattle.std.specs.Prelude.{◌≡◌, ◌+◌, ◌≤◌, ℕ, List, [], ◌∷◌, Option, Some, None, length, map, unwrap_or}
 use Rattle.sip_reader.specs.Reading.{reading}
 use Rattle.sip_reader.specs.declared.request.Reading.{Reading}
+use Rattle.sip_reader.specs.Texts.{line_number_end}
 use Rattle.journal_table.specs.Entry.{Entry}
 
 -- the number of a line, and what its request is
@@ -44,4 +45,4 @@ Rises (r ∷ rest) = RisesFrom (r.number + 1) rest
 
 -- no number is above 9,999,999,999: as many numbers as there are readings, from the first on, end before 10,000,000,000
 abbrev pub EndInTime : List NumberedReading → Type 0
-EndInTime read = unwrap_or (first_read read) 10000000000 + length read ≤ 10000000000
+EndInTime read = unwrap_or (first_read read) line_number_end + length read ≤ line_number_end

@@ -2,6 +2,7 @@
 use Rattle.std.specs.Prelude.{◌≡◌, ◌+◌, ◌<◌, ◌≤◌, ℕ, List, [], ◌∷◌, length, flat_map, map, Vec}
 use Rattle.std.specs.List.{AllByRecursion}
 use Rattle.sip_reader.specs.declared.request.Reading.{Reading}
+use Rattle.sip_reader.specs.Texts.{line_number_end}
 use Rattle.journal_table.specs.Readings.{IsRead}
 use Rattle.journal_table.specs.declared.TheConstants.{LINE_LIMIT}
 use Rattle.journal_table.specs.declared.readings.Readings.TheInside.{Inside}
@@ -29,4 +30,4 @@ pub record IsKept (r : Inside) : Type 0 where
   pub count : length (joined (stretches_of r.stretches.items)) ≡ r.count
   pub read : AllByRecursion IsRead (joined (stretches_of r.stretches.items))
   pub few : r.count ≤ LINE_LIMIT
-  pub within : r.first + r.count ≤ 10000000000
+  pub within : r.first + r.count ≤ line_number_end

@@ -9,6 +9,7 @@ ghost use Rattle.journal_table.specs.Stops.{Stops};
 
 use crate::error::JournalError;
 use crate::line::{Line, read_line};
+use crate::row_text::RowTexts;
 use csv::ByteRecord;
 use csv_table::{RowReader, TableError};
 use std::alloc::Global;
@@ -16,18 +17,19 @@ use std::marker::Model;
 
 const HEADER: [&str; 4] = ["line", "connection", "request", "response"];
 
-/// The lines of a journal, their numbers rising by one, at most 1,000,000; the last number is at most 9,999,999,999.
-pub struct Journal {
-    lines: Vec<Line>,
+/// The lines of a journal, their numbers rising by one, at most 1,000,000; the last number is at most 9,999,999,999. They
+/// borrow from the bytes that they were read from.
+pub struct Journal<'t> {
+    lines: Vec<Line<'t>>,
 }
 
-impl Drop for Journal {
+impl Drop for Journal<'_> {
     fn drop(self) {
         let Journal { lines: _ } = self;
     }
 }
 
-impl Model for Journal {
+impl<'t> Model for Journal<'t> {
     ghost use Rattle.std.specs.Prelude.{List};
     ghost use Rattle.journal_table.specs.Entry.{AreLines, Entry};
 
@@ -38,15 +40,15 @@ impl Model for Journal {
     ghost invariant = { λ j. AreLines j.lines.items };
 }
 
-impl Journal {
+impl<'t> Journal<'t> {
     /// The journal that a text spells, or why it is refused: as no table, by the first rule that
     /// a row breaks, or for want of memory. Lines are made as rows come, and a broken rule is
     /// told only after the last row, since a text that is no table comes before any rule.
-    pub fn read(alloc: Global, bytes: &[u8]) -> Result<Journal, JournalError>
+    pub fn read(alloc: Global, bytes: &'t [u8]) -> Result<Journal<'t>, JournalError>
         ensures { Gives result (journal_of bytes.now) }
     {
         let mut rows = RowReader::under(alloc, &HEADER, bytes)?;
-        match read_lines(alloc, &mut rows) {
+        match read_lines(alloc, &mut rows, bytes) {
             Ok(lines) => Ok(Journal { lines }),
             Err(JournalError::Rule { row, rule }) => {
                 read_to_end(alloc, &mut rows)?;
@@ -64,7 +66,7 @@ impl Journal {
     }
 
     /// The lines in order.
-    pub fn lines(&self) -> &[Line]
+    pub fn lines(&self) -> &[Line<'t>]
         ensures lines { result.now ≡ self.now }
         ensures numbered { Numbered self.now }
         ensures few { length self.now ≤ LINE_LIMIT }
@@ -75,15 +77,20 @@ impl Journal {
 }
 
 /// The lines of all rows, or the first rule that one breaks, behind which the rows stand still.
-fn read_lines(alloc: Global, rows: &mut RowReader) -> Result<Vec<Line>, JournalError>
+fn read_lines<'t>(
+    alloc: Global,
+    rows: &mut RowReader,
+    bytes: &'t [u8],
+) -> Result<Vec<Line<'t>>, JournalError>
     ensures ok { IfOk result (λ lines. lines_of rows.old.rows ≡ Ok lines.items) }
     ensures err { IfErr result (λ e. Stops e rows.old.rows rows.new.rows) }
 {
     let mut lines = Vec::new(alloc);
     let mut before = None;
+    let mut texts = RowTexts::behind_header(bytes);
     let mut row = ByteRecord::new(alloc);
     while rows.next(&mut row)? {
-        let line = read_line(alloc, lines.len() + 1, before, &row)?;
+        let line = read_line(alloc, lines.len() + 1, before, &row, &mut texts)?;
         before = Some(line.number());
         lines.push(line)?;
     }

@@ -7,6 +7,7 @@ mod journal;
 mod line;
 mod number;
 mod readings;
+mod row_text;
 
 pub use error::{JournalError, JournalRule};
 pub use journal::Journal;

@@ -128,11 +128,11 @@ fn read_stretches(alloc: Global, lines: &[Line]) -> Result<Vec<Vec<Reading>>, Al
     ensures { IfOk result (λ v. AreStretchesOf (requests_read lines.now) (stretches_of v.items)) }
 {
     let mut stretches = Vec::with_capacity(alloc, lines.len() / STRETCH + 1)?;
-    let mut rest = lines;
-    while !rest.is_empty() {
-        let (stretch, behind) = rest.split_at(rest.len().min(STRETCH));
-        stretches.push(read_stretch(alloc, stretch)?)?;
-        rest = behind;
+    let mut from = 0;
+    while from < lines.len() {
+        let len = (lines.len() - from).min(STRETCH);
+        stretches.push(read_stretch(alloc, &lines[from..from + len])?)?;
+        from += len;
     }
     Ok(stretches)
 }

@@ -281,7 +281,7 @@ in_row_first flags nodes from tree lt = record {
 pub wide_some : (nodes : List Bool) (i width first : ℕ) → IsInRow nodes i width first → 1 ≤ width
 wide_some nodes i width first h = let b = below_past 1 h.rows in omega (arith, b, h.wide)
 
--- no flag is set from a place on, where none is up to the end of the flags' row
+-- no flag is set from a position on, where none is up to the end of the flags' row
 pub none_past : (flags nodes : List Bool) (from to : ℕ) → to ≡ 2 * length nodes → IsTree flags nodes → NoneSet flags nodes (length nodes + from) to → (p : ℕ) → from ≤ p → get_or flags p false ≡ false
 none_past flags nodes from to e tree none p le = elim (cases_lt (length nodes + p) to) [
   | inl lt ↦ none p (omega (arith, le)) lt

@@ -24,7 +24,7 @@ pub record IsTree (flags nodes : List Bool) : Type 0 where
   pub few : length nodes ≤ 2000000
   pub each : AllBut flags nodes 0
 
--- the least flag from a place on that is set
+-- the least flag from a position on that is set
 abbrev pub IsLeastFrom : List Bool → ℕ → Option ℕ → Type 0
 IsLeastFrom flags from None = (p : ℕ) → from ≤ p → slice_index_or flags p false ≡ false
 IsLeastFrom flags from (Some n) = (from ≤ n) × (slice_index_or flags n false ≡ true) × ((p : ℕ) → from ≤ p → p < n → slice_index_or flags p false ≡ false)

@@ -1,7 +1,7 @@
-//! The room of a set of lines: some of the places 0 to so many, of which the least from a place on is found without a walk
+//! The room of a set of lines: some of the positions 0 to so many, of which the least from a position on is found without a walk
 //! over all of them. It is made whole at the start: no change of it takes memory.
 #![tactic(auto)]
 
 mod line_set;
 
-pub use line_set::{LineSet, PLACES_MAX};
+pub use line_set::{LineSet, POSITIONS_MAX};

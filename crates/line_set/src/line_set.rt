@@ -1,16 +1,16 @@
-//! A set of lines by their places.
+//! A set of lines by their positions.
 
-ghost use Rattle.std.specs.Prelude.{◌≡◌, ℕ, ◌+◌, ◌/◌, ◌<◌, ◌≤◌, length, replicate, slice_set, slice_index_or, true, false, IfOk, Some};
+ghost use Rattle.std.specs.Prelude.{◌≡◌, ℕ, ◌+◌, ◌*◌, ◌/◌, ◌<◌, ◌≤◌, length, replicate, slice_set, slice_index_or, true, false, IfOk, Some};
 ghost use Rattle.line_set.specs.Devices.Rows.{IsNext, IsNextNode};
 ghost use Rattle.line_set.specs.Trees.{AllBut, IsLeastFrom, IsPower, IsTree, joined, node_at};
 
 use std::alloc::{AllocError, Global};
 use std::marker::Model;
 
-/// The most places of a set.
-pub const PLACES_MAX: usize = 1_000_000;
+/// The most positions of a set: as many as a journal has lines.
+pub const POSITIONS_MAX: usize = 1_000_000;
 
-/// Some of the places 0 to so many. Over the flags of the places stands a tree, each node of which says whether there is
+/// Some of the positions 0 to so many. Over the flags of the positions stands a tree, each node of which says whether there is
 /// one below it: node 1 is the root, nodes 2 n and 2 n + 1 are below node n, and the flags are the last row.
 pub struct LineSet {
     flags: Vec<bool>,
@@ -36,9 +36,9 @@ impl Model for LineSet {
 }
 
 impl LineSet {
-    /// A set of places below `len`, at most `PLACES_MAX`: all of them, or none.
+    /// A set of positions below `len`, at most `POSITIONS_MAX`: all of them, or none.
     pub fn new(alloc: Global, len: usize, all: bool) -> Result<LineSet, AllocError>
-        requires { len ≤ PLACES_MAX }
+        requires { len ≤ POSITIONS_MAX }
         ensures { IfOk result (λ s. s ≡ replicate len all) }
     {
         let width = row_width(len);
@@ -52,32 +52,32 @@ impl LineSet {
         Ok(LineSet { flags, nodes })
     }
 
-    /// Whether a place is in the set.
-    pub fn has(&self, place: usize) -> bool
-        ensures { result ≡ slice_index_or self.now place false }
+    /// Whether a position is in the set.
+    pub fn has(&self, position: usize) -> bool
+        ensures { result ≡ slice_index_or self.now position false }
     {
-        place < self.flags.len() && self.flags[place]
+        position < self.flags.len() && self.flags[position]
     }
 
-    /// Adds a place.
-    pub fn insert(&mut self, place: usize)
-        requires { place < length self.old }
-        ensures { self.new ≡ slice_set self.old place true }
+    /// Adds a position.
+    pub fn insert(&mut self, position: usize)
+        requires { position < length self.old }
+        ensures { self.new ≡ slice_set self.old position true }
     {
-        self.flags[place] = true;
-        mend(&self.flags, &mut self.nodes, place);
+        self.flags[position] = true;
+        mend(&self.flags, &mut self.nodes, position);
     }
 
-    /// Takes a place out.
-    pub fn remove(&mut self, place: usize)
-        requires { place < length self.old }
-        ensures { self.new ≡ slice_set self.old place false }
+    /// Takes a position out.
+    pub fn remove(&mut self, position: usize)
+        requires { position < length self.old }
+        ensures { self.new ≡ slice_set self.old position false }
     {
-        self.flags[place] = false;
-        mend(&self.flags, &mut self.nodes, place);
+        self.flags[position] = false;
+        mend(&self.flags, &mut self.nodes, position);
     }
 
-    /// The least place of the set from this one on.
+    /// The least position of the set from this one on.
     pub fn least_from(&self, from: usize) -> Option<usize>
         ensures { IsLeastFrom self.now from result }
     {
@@ -91,10 +91,10 @@ impl LineSet {
 
 /// The least power of two that is at least `len`.
 fn row_width(len: usize) -> usize
-    requires { len ≤ PLACES_MAX }
+    requires { len ≤ POSITIONS_MAX }
     ensures covers { len ≤ result }
     ensures power { IsPower result }
-    ensures few { result ≤ 2000000 }
+    ensures few { result ≤ 2 * POSITIONS_MAX }
 {
     let mut width = 1;
     while width < len {
@@ -110,33 +110,33 @@ fn is_set(flags: &[bool], nodes: &[bool], node: usize) -> bool
     if node < nodes.len() {
         return nodes[node];
     }
-    let place = node - nodes.len();
-    place < flags.len() && flags[place]
+    let position = node - nodes.len();
+    position < flags.len() && flags[position]
 }
 
 /// What the two nodes below a node make of it.
 fn join(flags: &[bool], nodes: &[bool], node: usize) -> bool
-    requires { node ≤ 2000000 }
+    requires { node ≤ 2 * POSITIONS_MAX }
     ensures { result ≡ joined flags.now nodes.now node }
 {
     is_set(flags, nodes, 2 * node) || is_set(flags, nodes, 2 * node + 1)
 }
 
-/// Mends the nodes above a place whose flag was changed.
-fn mend(flags: &[bool], nodes: &mut [bool], place: usize)
-    requires within { place < length nodes.old }
-    requires few { length nodes.old ≤ 2000000 }
-    requires each { AllBut flags.now nodes.old ((length nodes.old + place) / 2) }
+/// Mends the nodes above a position whose flag was changed.
+fn mend(flags: &[bool], nodes: &mut [bool], position: usize)
+    requires within { position < length nodes.old }
+    requires few { length nodes.old ≤ 2 * POSITIONS_MAX }
+    requires each { AllBut flags.now nodes.old ((length nodes.old + position) / 2) }
     ensures { AllBut flags.now nodes.new 0 }
 {
-    let mut node = (nodes.len() + place) / 2;
+    let mut node = (nodes.len() + position) / 2;
     while node > 0 {
         nodes[node] = join(flags, nodes, node);
         node /= 2;
     }
 }
 
-/// A set node before which no flag is set, from a place on. It looks at no more nodes than twice the rows.
+/// A set node before which no flag is set, from a position on. It looks at no more nodes than twice the rows.
 fn next_set(flags: &[bool], nodes: &[bool], from: usize) -> Option<usize>
     requires tree { IsTree flags.now nodes.now }
     requires within { from < length nodes.now }

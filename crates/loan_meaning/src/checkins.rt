@@ -10,7 +10,7 @@ ghost use Rattle.read_set.specs.Stops.{Follows};
 
 use crate::asked::Line;
 use crate::asking::loan_in;
-use crate::fees::{list_fee, make_fee, nothing};
+use crate::fees::{Charge, list_fee, make_fee, nothing};
 use crate::lists::{has_queue, without};
 use crate::lookup::{borrower_of, item_of};
 use circ_policy::{Media, Policy, late_fee};
@@ -56,9 +56,9 @@ fn tell(
         date: line.date,
         institution: line.policy.institution(),
         item: request.item,
-        known: Some(show(line.alloc, &article.item)?),
+        known: Some(show(line.alloc, article.item.get())?),
         borrower,
-        alert: has_queue(article.item.holds.as_slice()),
+        alert: has_queue(article.item.get().holds.as_slice()),
     }))
 }
 
@@ -90,7 +90,7 @@ fn return_from(
 ) -> Result<Patron, AllocError>
     ensures { IfOk result (λ p. p ≡ returner n item.now fee member.patron) }
 {
-    let mut patron = member.into_patron();
+    let mut patron = Patron::of(alloc, member.into_patron())?;
     patron.loans = without(alloc, &patron.loans, item)?;
     list_fee(n, 0, fee, &mut patron.fees)?;
     Ok(patron)
@@ -112,16 +112,21 @@ fn return_by(
         return Ok(());
     };
     let patron = return_from(line.alloc, line.number, item, fee, member)?;
-    writes.put(Key::Patron(borrower), Record::Patron(patron))?;
-    make_fee(line.number, 0, borrower, FeeType::Overdue, fee, writes)
+    writes.put(Key::Patron(borrower), Record::patron(line.alloc, patron)?)?;
+    let charge = Charge {
+        patron: borrower,
+        kind: FeeType::Overdue,
+        amount: fee,
+    };
+    make_fee(line.alloc, line.number, 0, charge, writes)
 }
 
-fn unlent(article: Article) -> Item
-    ensures { result ≡ record article.item { loan = None } }
+fn unlent(alloc: Global, article: Article) -> Result<Item, AllocError>
+    ensures { IfOk result (λ i. i ≡ record article.item { loan = None }) }
 {
-    let mut item = article.into_item();
+    let mut item = Item::of(alloc, article.into_item())?;
     item.loan = None;
-    item
+    Ok(item)
 }
 
 fn write_return(
@@ -136,7 +141,8 @@ fn write_return(
 {
     let mut writes = Draft::new(line.alloc);
     return_by(line, item, loan.patron, fee, member, &mut writes)?;
-    writes.put(Key::Item(*item), Record::Item(unlent(article)))?;
+    let back = unlent(line.alloc, article)?;
+    writes.put(Key::Item(*item), Record::item(line.alloc, back)?)?;
     Ok(writes)
 }
 
@@ -197,7 +203,7 @@ fn any_loan(article: &Option<Article>) -> Option<Loan>
     ensures { result ≡ loan_of article.now }
 {
     match article {
-        Some(article) => article.item.loan,
+        Some(article) => article.item.get().loan,
         None => None,
     }
 }

@@ -16,7 +16,7 @@ ghost use Rattle.read_set.specs.Stops.{Follows};
 
 use crate::asked::{Asked, Line};
 use crate::asking::{ask_checkout, charge_of, due_of, has_lent_to, has_loan, loan_in, rental_in};
-use crate::fees::{list_fee, make_fee, test_owing};
+use crate::fees::{Charge, list_fee, make_fee, test_owing};
 use crate::lists::{is_first_another, is_same, without, without_hold};
 use crate::lookup::{item_of, patron_of};
 use crate::renewals::renew_one;
@@ -41,19 +41,19 @@ fn test_lending<S: Source>(
     if a.forced {
         return Ok(Verdict::Made);
     }
-    if has_lent_to(&a.patron, article.item.loan) {
+    if has_lent_to(&a.patron, article.item.get().loan) {
         return Ok(Verdict::Refused);
     }
-    if has_loan(article.item.loan) {
+    if has_loan(article.item.get().loan) {
         return Ok(Verdict::Refused);
     }
-    if is_first_another(article.item.holds.as_slice(), &a.patron) {
+    if is_first_another(article.item.get().holds.as_slice(), &a.patron) {
         return Ok(Verdict::Refused);
     }
-    if member.patron.blocked {
+    if member.patron.get().blocked {
         return Ok(Verdict::Refused);
     }
-    if member.class.max_loans as usize <= member.patron.loans.len() {
+    if member.class.max_loans as usize <= member.patron.get().loans.len() {
         return Ok(Verdict::Refused);
     }
     let writes = Draft::new(asked.alloc);
@@ -93,14 +93,14 @@ fn end_other_loan(
         return Ok(());
     };
     let patron = without_loan(alloc, item, other)?;
-    writes.put(Key::Patron(borrower), Record::Patron(patron))?;
+    writes.put(Key::Patron(borrower), Record::patron(alloc, patron)?)?;
     Ok(())
 }
 
 fn without_loan(alloc: Global, item: &Id, other: Member) -> Result<Patron, AllocError>
     ensures { IfOk result (λ p. p ≡ record other.patron { loans = without item.now other.patron.loans }) }
 {
-    let mut patron = other.into_patron();
+    let mut patron = Patron::of(alloc, other.into_patron())?;
     patron.loans = without(alloc, &patron.loans, item)?;
     Ok(patron)
 }
@@ -124,7 +124,7 @@ fn end_other_loan_by(
 fn lent_item(alloc: Global, a: &LoanRequest, due: Day, article: Article) -> Result<Item, AllocError>
     ensures { IfOk result (λ i. i ≡ lent a.now due article.item) }
 {
-    let mut item = article.into_item();
+    let mut item = Item::of(alloc, article.into_item())?;
     item.holds = without_hold(alloc, &item.holds, &a.patron)?;
     item.loan = Some(Loan {
         patron: a.patron,
@@ -170,9 +170,14 @@ fn write_lending(
     let mut writes = Draft::new(alloc);
     end_other_loan_by(alloc, &a.item, loan_in(&article), other, &mut writes)?;
     let item = lent_item(alloc, a, due, article)?;
-    writes.put(Key::Patron(a.patron), Record::Patron(patron))?;
-    writes.put(Key::Item(a.item), Record::Item(item))?;
-    make_fee(n, 0, a.patron, FeeType::Rental, charge, &mut writes)?;
+    writes.put(Key::Patron(a.patron), Record::patron(alloc, patron)?)?;
+    writes.put(Key::Item(a.item), Record::item(alloc, item)?)?;
+    let rental = Charge {
+        patron: a.patron,
+        kind: FeeType::Rental,
+        amount: charge,
+    };
+    make_fee(alloc, n, 0, rental, &mut writes)?;
     Ok(writes)
 }
 
@@ -190,7 +195,7 @@ fn make_loan(
     let due = due_of(asked, &article.media);
     let charge = charge_of(a, &article.media);
     let answer = tell_made(asked, &article, due, false, charge)?;
-    let mut patron = member.into_patron();
+    let mut patron = Patron::of(alloc, member.into_patron())?;
     list_loan(alloc, a, loan_in(&article), &mut patron.loans)?;
     list_fee(asked.number, 0, charge, &mut patron.fees)?;
     let writes = write_lending(asked, due, charge, patron, article, other)?;
@@ -242,7 +247,7 @@ fn lend<S: Source>(
 fn is_renewal(request: &Checkout, article: &Article) -> bool
     ensures { result ≡ (request.now.renewal && lent_to request.now.patron article.now.item.loan) }
 {
-    request.renewal && has_lent_to(&request.patron, article.item.loan)
+    request.renewal && has_lent_to(&request.patron, article.item.get().loan)
 }
 
 #[tactic(auto, using(read_set::proofs::Gaining::gains_none, read_set::proofs::Gaining::gains_first))]

@@ -10,7 +10,7 @@ ghost use Rattle.read_set.specs.Stops.{Follows};
 
 use crate::asked::Asked;
 use crate::lookup::read_after;
-use circ_records::{Fee, FeeType, Ids, Key, Record};
+use circ_records::{Fee, FeeType, Ids, Key, Patron, Record, Shared, put_fee};
 use read_set::{Article, Draft, Member, Source, Stop, Verdict, known_fee};
 use sip_reader::{Amount, Id};
 use std::alloc::{AllocError, Global};
@@ -77,26 +77,33 @@ pub fn has_amount(amount: Amount) -> bool
     amount.hundredths() > 0
 }
 
+/// What a patron is charged, in hundredths, and for what.
+#[derive(Clone, Copy)]
+pub struct Charge {
+    pub patron: Id,
+    pub kind: FeeType,
+    pub amount: Amount,
+}
+
 /// A fee above 0 is written: the k-th of its line, counted from 0. Without memory nothing is.
 pub fn make_fee(
+    alloc: Global,
     line: u64,
     k: u64,
-    patron: Id,
-    kind: FeeType,
-    amount: Amount,
+    charge: Charge,
     writes: &mut Draft,
 ) -> Result<(), AllocError>
-    ensures ok { OnOk result (writes.new ≡ written writes.old (fee_made line k patron kind amount)) }
+    ensures ok { OnOk result (writes.new ≡ written writes.old (fee_made line k charge.patron charge.kind charge.amount)) }
     ensures err { OnErr result (writes.new ≡ writes.old) }
 {
-    if has_amount(amount) {
+    if has_amount(charge.amount) {
         let fee = Fee {
-            patron,
-            kind,
-            amount,
+            patron: charge.patron,
+            kind: charge.kind,
+            amount: charge.amount,
             paid: nothing(),
         };
-        writes.put(Key::Fee(Id::of_fee(line, k)), Record::Fee(fee))?;
+        writes.put(Key::Fee(Id::of_fee(line, k)), Record::fee(alloc, fee)?)?;
     }
     Ok(())
 }
@@ -115,6 +122,23 @@ pub fn list_fee(line: u64, k: u64, amount: Amount, fees: &mut Ids) -> Result<(),
 {
     if has_amount(amount) {
         fees.push(Id::of_fee(line, k))?;
+    }
+    Ok(())
+}
+
+/// It goes last in the list of a patron's record. Without memory the record stays.
+pub fn list_fee_of(
+    alloc: Global,
+    line: u64,
+    k: u64,
+    amount: Amount,
+    patron: &mut Shared<Patron>,
+) -> Result<(), AllocError>
+    ensures ok { OnOk result (patron.new ≡ record patron.old { fees = with_fee line k amount patron.old.fees }) }
+    ensures err { OnErr result (patron.new ≡ patron.old) }
+{
+    if has_amount(amount) {
+        put_fee(alloc, patron, Id::of_fee(line, k))?;
     }
     Ok(())
 }
@@ -147,7 +171,7 @@ pub fn test_owing<S: Source>(
     ensures keeps { Gains (S.has source.old) (S.has source.new) (owing_tests writes.now asked.now.request.agreed member.now article.now) }
     ensures known { OnOk result (IsKnown (S.has source.new) writes.now member.now.patron.fees sum.new) }
 {
-    let fees = member.patron.fees.as_slice();
+    let fees = member.patron.get().fees.as_slice();
     let owes = owed_once(asked.alloc, source, writes, fees, sum)?;
     Ok(owing(owes, asked.request.agreed, member, article))
 }

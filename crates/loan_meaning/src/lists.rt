@@ -19,7 +19,7 @@ pub fn is_same(a: &Id, b: &Id) -> bool
     a == b
 }
 
-/// The list without an id, at each of its places.
+/// The list without an id, at each of its positions.
 pub fn without(alloc: Global, ids: &Ids, id: &Id) -> Result<Ids, AllocError>
     ensures { IfOk result (λ left. left ≡ without id.now ids.now) }
 {

@@ -80,7 +80,7 @@ pub fn read_after<S: Source>(
     ensures keeps { Gains (S.has source.old) (S.has source.new) (ask_after writes.now key.now) }
 {
     match writes.get(key) {
-        Some(found) => Ok(Some(found.copy(alloc)?)),
+        Some(found) => Ok(Some(found.copy()?)),
         None => source.read(alloc, key),
     }
 }

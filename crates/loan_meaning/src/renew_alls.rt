@@ -16,12 +16,12 @@ ghost use Rattle.read_set.specs.Stops.{Follows};
 
 use crate::asked::{Asked, Line};
 use crate::asking::{due_of, rental_in};
-use crate::fees::{has_amount, list_fee, make_fee};
+use crate::fees::{Charge, has_amount, list_fee_of, make_fee};
 use crate::lookup::{patron_of, read_after};
 use crate::renewals::{renew_loan_of, test_renewal};
 use crate::running::{are_new, charge_by, owed_with};
 use circ_policy::Policy;
-use circ_records::{FeeType, Key, Patron, Record};
+use circ_records::{FeeType, Key, Record};
 use read_set::{
     Article, Draft, Effect, LoanRequest, Member, Renewals, Source, Stop, Verdict, known_item,
 };
@@ -56,10 +56,15 @@ fn write_turn(
 ) -> Result<(), AllocError>
     ensures { OnOk result (writes.new ≡ written (written writes.old ((keys.Item asked.now.request.item, records.Item (renewed due article.item)) ∷ [])) (fee_made asked.now.number k asked.now.request.patron fee_types.Rental rental)) }
 {
-    let n = asked.number;
-    let item = renew_loan_of(due, article);
-    writes.put(Key::Item(asked.request.item), Record::Item(item))?;
-    make_fee(n, k, asked.request.patron, FeeType::Rental, rental, writes)
+    let alloc = asked.alloc;
+    let item = renew_loan_of(alloc, due, article)?;
+    writes.put(Key::Item(asked.request.item), Record::item(alloc, item)?)?;
+    let charge = Charge {
+        patron: asked.request.patron,
+        kind: FeeType::Rental,
+        amount: rental,
+    };
+    make_fee(alloc, asked.number, k, charge, writes)
 }
 
 fn count(made: u64, rental: Amount) -> u64
@@ -81,7 +86,7 @@ fn renew_next(asked: &Asked<'_>, article: Article, done: Renewals) -> Result<Ren
     let made = done.made;
     let mut done = done;
     write_turn(asked, made, due, rental, article, &mut done.writes)?;
-    list_fee(n, made, rental, &mut done.member.patron.fees)?;
+    list_fee_of(asked.alloc, n, made, rental, &mut done.member.patron)?;
     done.renewed.push(asked.request.item)?;
     done.made = count(made, rental);
     Ok(done)
@@ -203,7 +208,7 @@ fn take_turns<S: Source>(
     ensures gives { Follows result (follow (S.has source.new) (turns_rule line.now.policy.now line.now.number request.now line.now.date items.now (none_renewed member))) }
     ensures keeps { Gains (S.has source.old) (S.has source.new) (turns_rule line.now.policy.now line.now.number request.now line.now.date items.now (none_renewed member)) }
 {
-    let fresh = are_new(line.number, member.patron.fees.as_slice());
+    let fresh = are_new(line.number, member.patron.get().fees.as_slice());
     let mut sum = None;
     let mut done = begin(line.alloc, member);
     for item in items {
@@ -244,10 +249,8 @@ fn finish(line: &Line<'_>, request: &RenewAll, done: Renewals) -> Result<Effect,
         others,
     } = done;
     if made > 0 {
-        writes.put(
-            Key::Patron(request.patron),
-            Record::Patron(member.into_patron()),
-        )?;
+        let patron = Record::Patron(member.into_patron());
+        writes.put(Key::Patron(request.patron), patron)?;
     }
     Ok(Effect {
         writes: writes.finish(line.alloc)?,
@@ -265,7 +268,7 @@ fn renew_each<S: Source>(
     ensures gives { Follows result (follow (S.has source.new) (renew_all_rule_known line.now.policy.now line.now.number request.now line.now.date (Some member))) }
     ensures keeps { Gains (S.has source.old) (S.has source.new) (renew_all_rule_known line.now.policy.now line.now.number request.now line.now.date (Some member)) }
 {
-    let items = member.patron.loans.copy(line.alloc)?;
+    let items = member.patron.get().loans.copy(line.alloc)?;
     let done = take_turns(line, request, items.as_slice(), member, source)?;
     Ok(finish(line, request, done)?)
 }

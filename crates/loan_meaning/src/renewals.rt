@@ -15,7 +15,7 @@ ghost use Rattle.read_set.specs.Stops.{Follows};
 
 use crate::asked::Asked;
 use crate::asking::{ask_renew, charge_of, due_of, rental_in};
-use crate::fees::{has_amount, list_fee, make_fee, test_owing};
+use crate::fees::{Charge, has_amount, list_fee, make_fee, test_owing};
 use crate::lists::{has_queue, is_same};
 use crate::lookup::{item_of, patron_of};
 use crate::telling::{refuse, refuse_for, tell_made};
@@ -58,19 +58,19 @@ pub fn test_renewal<S: Source>(
     ensures keeps { Gains (S.has source.old) (S.has source.new) (renewal_tests writes.now asked.now.request member.now article.now) }
     ensures known { OnOk result (IsKnown (S.has source.new) writes.now member.now.patron.fees sum.new) }
 {
-    if !is_renewable(&asked.request, article.item.loan) {
+    if !is_renewable(&asked.request, article.item.get().loan) {
         return Ok(Verdict::Refused);
     }
     if asked.request.forced {
         return Ok(Verdict::Made);
     }
-    if member.patron.blocked {
+    if member.patron.get().blocked {
         return Ok(Verdict::Refused);
     }
-    if has_queue(article.item.holds.as_slice()) {
+    if has_queue(article.item.get().holds.as_slice()) {
         return Ok(Verdict::Refused);
     }
-    if member.class.max_renewals <= renewals(article.item.loan) {
+    if member.class.max_renewals <= renewals(article.item.get().loan) {
         return Ok(Verdict::Refused);
     }
     test_owing(asked, writes, member, article, sum, source)
@@ -94,12 +94,12 @@ fn renew_loan(due: Day, loan: Option<Loan>) -> Option<Loan>
 }
 
 /// The item with its loan renewed.
-pub fn renew_loan_of(due: Day, article: Article) -> Item
-    ensures { result ≡ renewed due article.item }
+pub fn renew_loan_of(alloc: Global, due: Day, article: Article) -> Result<Item, AllocError>
+    ensures { IfOk result (λ i. i ≡ renewed due article.item) }
 {
-    let mut item = article.into_item();
+    let mut item = Item::of(alloc, article.into_item())?;
     item.loan = renew_loan(due, item.loan);
-    item
+    Ok(item)
 }
 
 #[tactic(auto, unfolding(read_set::specs::Renewals::renewal_made))]
@@ -109,7 +109,7 @@ fn make_renewal(asked: &Asked<'_>, member: Member, article: Article) -> Result<E
     let due = due_of(asked, &article.media);
     let charge = charge_of(&asked.request, &article.media);
     let answer = tell_made(asked, &article, due, true, charge)?;
-    let mut patron = member.into_patron();
+    let mut patron = Patron::of(asked.alloc, member.into_patron())?;
     list_fee(asked.number, 0, charge, &mut patron.fees)?;
     let writes = write_renewal(asked, due, charge, patron, article)?;
     Ok(Effect {
@@ -128,21 +128,20 @@ fn write_renewal(
 ) -> Result<Draft, AllocError>
     ensures { IfOk result (λ w. w ≡ [] ⊕ (if nat_lt 0 charge then (keys.Patron asked.now.request.patron, records.Patron patron) ∷ [] else []) ⊕ ((keys.Item asked.now.request.item, records.Item (renewed due article.item)) ∷ []) ⊕ fee_made asked.now.number 0 asked.now.request.patron fee_types.Rental charge) }
 {
+    let alloc = asked.alloc;
     let a = &asked.request;
-    let item = renew_loan_of(due, article);
-    let mut writes = Draft::new(asked.alloc);
+    let item = renew_loan_of(alloc, due, article)?;
+    let mut writes = Draft::new(alloc);
     if has_amount(charge) {
-        writes.put(Key::Patron(a.patron), Record::Patron(patron))?;
+        writes.put(Key::Patron(a.patron), Record::patron(alloc, patron)?)?;
     }
-    writes.put(Key::Item(a.item), Record::Item(item))?;
-    make_fee(
-        asked.number,
-        0,
-        a.patron,
-        FeeType::Rental,
-        charge,
-        &mut writes,
-    )?;
+    writes.put(Key::Item(a.item), Record::item(alloc, item)?)?;
+    let rental = Charge {
+        patron: a.patron,
+        kind: FeeType::Rental,
+        amount: charge,
+    };
+    make_fee(alloc, asked.number, 0, rental, &mut writes)?;
     Ok(writes)
 }
 

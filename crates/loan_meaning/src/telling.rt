@@ -74,7 +74,7 @@ pub fn tell_made(
 ) -> Result<Answer, AllocError>
     ensures { IfOk result (λ answer. answer ≡ loan_answer asked.now.policy.now asked.now.request asked.now.date (Some article.now.item) (Some due) renewed charge) }
 {
-    let known = show(asked.alloc, &article.item)?;
+    let known = show(asked.alloc, article.item.get())?;
     let parts = tell(asked, Some(known), Some(due), renewed, charge);
     Ok(answer(asked.request.checkout, parts))
 }
@@ -89,7 +89,7 @@ pub fn refuse_for(
     ensures { IfOk result (λ e. e ≡ refused asked.now.policy.now asked.now.request asked.now.date article rental) }
 {
     let known = match article {
-        Some(article) => Some(show(asked.alloc, &article.item)?),
+        Some(article) => Some(show(asked.alloc, article.item.get())?),
         None => None,
     };
     let parts = tell(asked, known, None, false, rental);

@@ -1,19 +1,19 @@
--- The places of open requests stay right. f and g are the places before a line of the log and after it.
+-- The positions of open requests stay right. f and g are the positions before a line of the log and after it.
 use Rattle.std.proofs.Common.{◌≡◌, ◌≢◌, ◌+◌, ◌-◌, ◌<◌, ◌≤◌, ℕ, suc, List, [], ◌∷◌, ◌++◌, length, set, get_or, Option, Some, None, true, false, refl, sym, ap, subst, arith, ◌∙◌, inl, inr}
 use Rattle.std.specs.Str.{bytes_eq}
 use Rattle.std.proofs.lemmas.Bool.{cases_Bool, eqb-true, eq-eqb}
 use Rattle.std.proofs.lemmas.List.{get_or_append_left, get_or_at, get_or-set_other, length-append, length-set}
 use Rattle.std.proofs.lemmas.Slice.Eq.{bytes_eq-Decides}
 use Rattle.log_pairs.specs.Pairs.{Pair}
-use Rattle.log_pairs.specs.Devices.Places.{IsWaiting, is_place, no_pair}
+use Rattle.log_pairs.specs.Devices.Positions.{IsWaiting, is_position, no_pair}
 use Rattle.log_pairs.proofs.Waiting.{Moves, Unanswered}
 
--- each place is that of a request that waits
+-- each position is that of a request that waits
 abbrev pub AreWaiting : (List ℕ → Option ℕ) → ℕ → List Pair → Type 0
 AreWaiting f n ps = (c : List ℕ) (i : ℕ) → f c ≡ Some i → IsWaiting n ps c i
 
-same-place : (i k : ℕ) → ◌≡◌ {A = Option ℕ} (Some i) (Some k) → i ≡ k
-same-place i k e = cc e
+same-position : (i k : ℕ) → ◌≡◌ {A = Option ℕ} (Some i) (Some k) → i ≡ k
+same-position i k e = cc e
 
 waits-on : (n : ℕ) (ps : List Pair) (p : Pair) (c : List ℕ) (i : ℕ) → IsWaiting n ps c i → IsWaiting n (ps ++ p ∷ []) c i
 waits-on n ps p c i w =
@@ -30,7 +30,7 @@ waiting-asked f g c m n i ps moves at are d k there = elim (cases_Bool (bytes_eq
   | inl e ↦
       let p : Pair = record { connection = c; request = m; response = None } in
       let new : g d ≡ Some i = moves d ∙ rw e refl in
-      let k_is : i ≡ k = same-place i k (sym new ∙ there) in
+      let k_is : i ≡ k = same-position i k (sym new ∙ there) in
       let size : length ps ≡ k - n = omega arith in
       let it : get_or (ps ++ p ∷ []) (k - n) no_pair ≡ p = get_or_at ps p [] no_pair (k - n) size in
       let more : length (ps ++ p ∷ []) ≡ length ps + 1 = simp length-append in
@@ -59,7 +59,7 @@ waiting-answered f g c n i ps q moves at are d k there = elim (cases_Bool (bytes
       record { from = from; below = omega arith; same = rw kept w.same; still = rw kept w.still }
 ]
 
-pub waiting-taken : (f : List ℕ → Option ℕ) (n : ℕ) (p : Pair) (ps : List Pair) → is_place (f p.connection) n ≡ false → AreWaiting f n (p ∷ ps) → AreWaiting f (n + 1) ps
+pub waiting-taken : (f : List ℕ → Option ℕ) (n : ℕ) (p : Pair) (ps : List Pair) → is_position (f p.connection) n ≡ false → AreWaiting f n (p ∷ ps) → AreWaiting f (n + 1) ps
 waiting-taken f n p ps closed are d k there =
     let w = are d k there in
     let from = w.from in
@@ -68,22 +68,22 @@ waiting-taken f n p ps closed are d k there =
     let first : (get_or (p ∷ ps) (n - n) no_pair).connection ≡ d = subst (λ (x : ℕ). (get_or (p ∷ ps) (x - n) no_pair).connection ≡ d) same w.same in
     let none : n - n ≡ 0 = omega arith in
     let its : p.connection ≡ d = rw none at first in
-    let opened : is_place (f p.connection) n ≡ true = rw (its, there, same) (eq-eqb n n refl) in
+    let opened : is_position (f p.connection) n ≡ true = rw (its, there, same) (eq-eqb n n refl) in
     let bad : true ≡ false = sym opened ∙ closed in
     cc bad in
     let after : n + 1 ≤ k = omega (arith, other) in
-    let place : k - n ≡ suc (k - (n + 1)) = omega arith in
-    record { from = after; below = omega arith; same = rw place at w.same; still = rw place at w.still }
+    let position : k - n ≡ suc (k - (n + 1)) = omega arith in
+    record { from = after; below = omega arith; same = rw position at w.same; still = rw position at w.still }
 
-is_place-true : (o : Option ℕ) (n : ℕ) → is_place o n ≡ true → o ≡ Some n
-is_place-true None n e = cc e
-is_place-true (Some i) n e = ap (λ (x : ℕ). Some x) (eqb-true i n e)
+is_position-true : (o : Option ℕ) (n : ℕ) → is_position o n ≡ true → o ≡ Some n
+is_position-true None n e = cc e
+is_position-true (Some i) n e = ap (λ (x : ℕ). Some x) (eqb-true i n e)
 
 unanswered-by : (f : List ℕ → Option ℕ) (n : ℕ) (ps : List Pair)
     → ((k : ℕ) → k < length ps → f (get_or ps k no_pair).connection ≡ Some (n + k) → (get_or ps k no_pair).response ≡ None) → Unanswered f n ps
 unanswered-by f n [] each = tt
 unanswered-by f n (p ∷ ps) each = (
-  λ opened. let same : n ≡ n + 0 = omega arith in each 0 (omega arith) (is_place-true (f p.connection) n opened ∙ ap (λ (x : ℕ). Some x) same),
+  λ opened. let same : n ≡ n + 0 = omega arith in each 0 (omega arith) (is_position-true (f p.connection) n opened ∙ ap (λ (x : ℕ). Some x) same),
   unanswered-by f (n + 1) ps (λ k below there. let same : n + 1 + k ≡ n + suc k = omega arith in each (suc k) (omega arith) (there ∙ ap (λ (x : ℕ). Some x) same)),
 )
 
@@ -91,5 +91,5 @@ unanswered-by f n (p ∷ ps) each = (
 pub unanswered : (f : List ℕ → Option ℕ) (n : ℕ) (ps : List Pair) → AreWaiting f n ps → Unanswered f n ps
 unanswered f n ps are = unanswered-by f n ps (λ k below there.
     let w = are (get_or ps k no_pair).connection (n + k) there in
-    let place : n + k - n ≡ k = omega arith in
-    rw place at w.still)
+    let position : n + k - n ≡ k = omega arith in
+    rw position at w.still)

@@ -10,7 +10,7 @@ use Rattle.std.specs.Str.{bytes_eq}
 use Rattle.std.proofs.lemmas.Bool.{cases_Bool}
 use Rattle.std.proofs.lemmas.Map.Text.{is_eq-slice_cmp}
 use Rattle.std.proofs.lemmas.Slice.Eq.{bytes_eq-Decides}
-use Rattle.log_pairs.specs.Devices.Places.{place_in}
+use Rattle.log_pairs.specs.Devices.Positions.{position_in}
 
 apart : (bs cs ks : List ℕ) → bytes_eq bs cs ≡ false → is_eq (slice_cmp nat_cmp bs ks) ≡ true → is_eq (slice_cmp nat_cmp cs ks) ≡ false
 apart bs cs ks n y =
@@ -22,10 +22,10 @@ other_entries : {K X : Type 0} (eq : K → K → Bool) (test : K → Bool) (old 
 unfolding KeepsOthers
 other_entries eq test old new h = h
 
-pub place-after : {A : Type 0} (bs : List ℕ) (m n : BTreeMap (Vec ℕ A) ℕ) (w : Option ℕ)
+pub position-after : {A : Type 0} (bs : List ℕ) (m n : BTreeMap (Vec ℕ A) ℕ) (w : Option ℕ)
     → UpdatesBy (λ (x y : Vec ℕ A). slice_cmp nat_cmp x.items y.items) (λ (k : Vec ℕ A). slice_cmp nat_cmp bs k.items) m n w
-    → (cs : List ℕ) → place_in n cs ≡ (if bytes_eq bs cs then w else place_in m cs)
-place-after bs m n w h cs = elim (cases_Bool (bytes_eq bs cs)) [
-  | inl e ↦ rw e (subst (λ (l : List ℕ). place_in n l ≡ w) ((bytes_eq-Decides bs cs).0 e) h.1)
+    → (cs : List ℕ) → position_in n cs ≡ (if bytes_eq bs cs then w else position_in m cs)
+position-after bs m n w h cs = elim (cases_Bool (bytes_eq bs cs)) [
+  | inl e ↦ rw e (subst (λ (l : List ℕ). position_in n l ≡ w) ((bytes_eq-Decides bs cs).0 e) h.1)
   | inr e ↦ rw e (other_entries _ _ _ _ h.3 _ (λ x y. (eq_by_cmp_equiv nat_list_cmp_total).congr cs x.items y.items) (λ k. apart bs cs k.items e))
 ]

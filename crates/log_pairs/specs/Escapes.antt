@@ -2,6 +2,7 @@
 use Rattle.std.specs.Prelude.{◌+◌, ◌-◌, ◌*◌, ◌&&◌, ℕ, suc, zero, Bool, nat_le, List, [], ◌∷◌, Option, Some, None, option_map, slice_get, codes, if◌then◌else◌, nat_eq}
 use Rattle.std.specs.List.{starts_with}
 use Rattle.std.specs.Option.{option_and_then}
+use Rattle.sip_reader.specs.Bytes as byte
 use Rattle.log_pairs.specs.declared.escapes.Escapes.{Escapes}
 use Rattle.log_pairs.specs.declared.escapes.Escapes.TheVariants.{Bare, Backslash, Angle, Hexadecimal}
 
@@ -18,7 +19,11 @@ in_range low high b = nat_le low b && nat_le b high
 
 -- a hexadecimal digit, in either case
 abbrev pub digit : ℕ → Option ℕ
-digit b = if in_range 48 57 b then Some (b - 48) else if in_range 65 70 b then Some (b - 55) else if in_range 97 102 b then Some (b - 87) else None
+digit b =
+    if in_range byte.zero byte.nine b then Some (b - byte.zero)
+    else if in_range byte.A byte.F b then Some (b - byte.A + 10)
+    else if in_range byte.a byte.f b then Some (b - byte.a + 10)
+    else None
 
 abbrev pub of_digits : ℕ → Option ℕ → Option ℕ → Option Spelling
 of_digits at None low = None
@@ -29,7 +34,7 @@ abbrev pub digit_at : Option ℕ → Option ℕ
 digit_at None = None
 digit_at (Some b) = digit b
 
--- two hexadecimal digits at a place
+-- two hexadecimal digits at a position
 abbrev pub pair : List ℕ → ℕ → Option Spelling
 pair text at = of_digits at (digit_at (slice_get text at)) (digit_at (slice_get text (at + 1)))
 
@@ -43,18 +48,18 @@ has_front text front = starts_with nat_eq text front
 -- \r, \n, \t, \\ and \x with two hexadecimal digits
 abbrev pub backslash : List ℕ → Option Spelling
 backslash text =
-    if has_front text (92 ∷ codes "r") then Some (13, 1)
-    else if has_front text (92 ∷ codes "n") then Some (10, 1)
-    else if has_front text (92 ∷ codes "t") then Some (9, 1)
-    else if has_front text (92 ∷ 92 ∷ []) then Some (92, 1)
-    else if has_front text (92 ∷ codes "x") then else_bare text (pair text 2)
+    if has_front text (codes "\\r") then Some (byte.CR, 1)
+    else if has_front text (codes "\\n") then Some (byte.LF, 1)
+    else if has_front text (codes "\\t") then Some (byte.tab, 1)
+    else if has_front text (codes "\\\\") then Some (byte.backslash, 1)
+    else if has_front text (codes "\\x") then else_bare text (pair text 2)
     else bare text
 
 -- <CR> and <LF>
 abbrev pub angle : List ℕ → Option Spelling
 angle text =
-    if has_front text (codes "<CR>") then Some (13, 3)
-    else if has_front text (codes "<LF>") then Some (10, 3)
+    if has_front text (codes "<CR>") then Some (byte.CR, 3)
+    else if has_front text (codes "<LF>") then Some (byte.LF, 3)
     else bare text
 
 abbrev pub spelled : Escapes → List ℕ → Option Spelling

@@ -96,7 +96,7 @@ fn angle(text: &[u8]) -> Option<(u8, usize)>
     }
 }
 
-/// The byte of the two hexadecimal digits at a place.
+/// The byte of the two hexadecimal digits at a position.
 fn pair(text: &[u8], at: usize) -> Option<(u8, usize)>
     requires { at ≤ 2 }
     ensures { result ≡ Spec.pair text.now at }

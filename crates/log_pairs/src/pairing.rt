@@ -4,7 +4,7 @@ ghost use Rattle.std.specs.Prelude.{◌≡◌, ◌+◌, ◌<◌, ◌≤◌, ◌�
 ghost use Rattle.std.specs.List.{AllByRecursion};
 ghost use Rattle.journal_table.specs.declared.TheConstants.{LINE_LIMIT};
 ghost use Rattle.log_pairs.specs.Pairs.{Said, Request, Response, has_open, begins_open, to_come};
-ghost use Rattle.log_pairs.specs.Devices.Places.{is_place, place_in};
+ghost use Rattle.log_pairs.specs.Devices.Positions.{is_position, position_in};
 
 use crate::exchange::Exchange;
 use journal_table::LINE_LIMIT;
@@ -35,7 +35,7 @@ impl Model for Pairing {
 
     ghost Value = { Open };
 
-    ghost use Rattle.log_pairs.specs.Devices.Places.{IsKept, open_of};
+    ghost use Rattle.log_pairs.specs.Devices.Positions.{IsKept, open_of};
 
     ghost view = { open_of };
 
@@ -81,11 +81,11 @@ impl Pairing {
         ensures pairs { OnOk result ((rest : List Said) → to_come self.new rest ≡ to_come self.old (Request connection.now request.now ∷ rest)) }
         ensures same { OnErr result (self.new ≡ self.old) }
     {
-        let place = self.asked();
+        let position = self.asked();
         let name = Vec::from_slice(alloc, connection)?;
         let exchange = Exchange::asked(alloc, connection, request)?;
         self.waiting.push_back(exchange)?;
-        let Ok(_) = self.open.insert(name, place) else {
+        let Ok(_) = self.open.insert(name, position) else {
             self.waiting.pop_back();
             return Err(AllocError);
         };
@@ -106,11 +106,11 @@ impl Pairing {
         ensures same { OnErr result (self.new ≡ self.old) }
     {
         let bytes = Vec::from_slice(alloc, response)?;
-        let place = match self.open.remove(connection) {
-            Some(place) => place,
+        let position = match self.open.remove(connection) {
+            Some(position) => position,
             None => return Ok(false),
         };
-        let at = place - self.taken;
+        let at = position - self.taken;
         self.waiting[at].answer(bytes);
         Ok(true)
     }
@@ -134,7 +134,7 @@ impl Pairing {
         ensures { result ≡ begins_open self.now.pending }
     {
         match self.waiting.front() {
-            Some(first) => has_place(&self.open, first.connection(), self.taken),
+            Some(first) => has_position(&self.open, first.connection(), self.taken),
             None => true,
         }
     }
@@ -149,12 +149,12 @@ impl Pairing {
     }
 }
 
-/// Whether the open request of a connection has this place.
-fn has_place(places: &BTreeMap<Vec<u8>, usize>, connection: &[u8], place: usize) -> bool
-    ensures { result ≡ is_place (place_in places.now connection.now) place }
+/// Whether the open request of a connection has this position.
+fn has_position(positions: &BTreeMap<Vec<u8>, usize>, connection: &[u8], position: usize) -> bool
+    ensures { result ≡ is_position (position_in positions.now connection.now) position }
 {
-    match places.get(connection) {
-        Some(&found) => found == place,
+    match positions.get(connection) {
+        Some(&found) => found == position,
         None => false,
     }
 }

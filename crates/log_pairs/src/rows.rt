@@ -4,6 +4,7 @@ ghost use Rattle.std.specs.Prelude.{◌≡◌, ◌+◌, ◌<◌, ◌≤◌, ◌+
 ghost use Rattle.std.specs.List.{AllByRecursion};
 ghost use Rattle.csv_table.specs.Text.{table_text, with_row, written};
 ghost use Rattle.journal_table.specs.Journal.{header, journal_of};
+ghost use Rattle.sip_reader.specs.Texts.{line_number_end};
 ghost use Rattle.journal_table.specs.declared.TheConstants.{CONNECTION_LIMIT, LINE_LIMIT};
 ghost use Rattle.log_pairs.specs.Pairs.{Pair};
 ghost use Rattle.log_pairs.specs.Rows.{entries_from, row_of, rows_from};
@@ -25,7 +26,7 @@ pub fn head_text(alloc: Global) -> Result<Vec<u8>, AllocError>
 
 /// The text of the rows of these exchanges, the first of which has this number.
 pub fn rows_text(alloc: Global, first: u64, exchanges: &[Exchange]) -> Result<Vec<u8>, AllocError>
-    requires { first + length exchanges.now ≤ 10000000000 }
+    requires { first + length exchanges.now ≤ line_number_end }
     ensures { IfOk result (λ text. text.items ≡ table_text (rows_from first exchanges.now)) }
 {
     let head = head_text(alloc)?.len();
@@ -35,7 +36,7 @@ pub fn rows_text(alloc: Global, first: u64, exchanges: &[Exchange]) -> Result<Ve
 
 /// The table of these exchanges.
 fn table_of(alloc: Global, first: u64, exchanges: &[Exchange]) -> Result<TableText, AllocError>
-    requires { first + length exchanges.now ≤ 10000000000 }
+    requires { first + length exchanges.now ≤ line_number_end }
     ensures { IfOk result (λ t. t ≡ Some (written header (rows_from first exchanges.now))) }
 {
     let mut table = TableText::under(alloc, &HEADER)?;
@@ -70,7 +71,7 @@ pub fn joins()
 
 /// The text of a journal is read as the lines of its pairs.
 pub fn reads_back()
-    ensures { (first : ℕ) (pairs : List Pair) → 1 ≤ first → first + length pairs ≤ 10000000000 → length pairs ≤ LINE_LIMIT
+    ensures { (first : ℕ) (pairs : List Pair) → 1 ≤ first → first + length pairs ≤ line_number_end → length pairs ≤ LINE_LIMIT
         → AllByRecursion (λ p. length p.connection ≤ CONNECTION_LIMIT) pairs
         → journal_of (table_text (header ∷ rows_from first pairs)) ≡ Ok (entries_from first pairs) }
 {}

@@ -20,7 +20,7 @@ use Rattle.read_set.specs.declared.known.Member.{Member}
 unfoldable pub paid_of : Option Fee → ℕ
 paid_of fee = option_map_or (λ f. f.paid) fee 0
 
--- Paid: the sum of what was paid so far, at each place of the list
+-- Paid: the sum of what was paid so far, at each position of the list
 abbrev pub paid : Map → List (List ℕ) → ℕ
 paid M fees = sum (map (λ id. paid_of (fee_in M id)) fees)
 

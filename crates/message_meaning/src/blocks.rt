@@ -42,7 +42,7 @@ fn status(blocked: bool, many_loans: bool, many_fees: bool) -> PatronStatus
 fn status_of_member(blocked: bool, member: &Member, owes: u128) -> PatronStatus
     ensures { result ≡ member_status blocked member.now owes }
 {
-    let many_loans = member.class.max_loans as usize <= member.patron.loans.len();
+    let many_loans = member.class.max_loans as usize <= member.patron.get().loans.len();
     let many_fees = u128::from(member.class.max_fees.hundredths()) < owes;
     status(blocked, many_loans, many_fees)
 }
@@ -77,12 +77,12 @@ fn answer(asked: &BlockAsked<'_>, status: PatronStatus, known: Option<KnownPatro
     }
 }
 
-fn blocked(blocks: bool, member: Member) -> Patron
-    ensures { result ≡ record member.patron { blocked = blocks } }
+fn blocked(alloc: Global, blocks: bool, member: Member) -> Result<Patron, AllocError>
+    ensures { IfOk result (λ p. p ≡ record member.patron { blocked = blocks }) }
 {
-    let mut patron = member.into_patron();
+    let mut patron = Patron::of(alloc, member.into_patron())?;
     patron.blocked = blocks;
-    patron
+    Ok(patron)
 }
 
 #[tactic(auto, unfolding(read_set::specs::Blocks::blocked_by))]
@@ -91,11 +91,12 @@ fn block_member(asked: &BlockAsked<'_>, member: Member, owes: u128) -> Result<Ef
 {
     let status = status_of_member(asked.blocks, &member, owes);
     let known = KnownPatron {
-        name: member.patron.name.copy(asked.alloc)?,
+        name: member.patron.get().name.copy(asked.alloc)?,
         owed: owes,
     };
-    let patron = blocked(asked.blocks, member);
-    let writes = Writes::one(asked.alloc, Key::Patron(*asked.id), Record::Patron(patron))?;
+    let patron = blocked(asked.alloc, asked.blocks, member)?;
+    let written = Record::patron(asked.alloc, patron)?;
+    let writes = Writes::one(asked.alloc, Key::Patron(*asked.id), written)?;
     Ok(Effect {
         writes,
         answer: Some(answer(asked, status, Some(known))),
@@ -115,7 +116,7 @@ fn block_known<S: Source>(
         asked.alloc,
         source,
         &Draft::new(asked.alloc),
-        member.patron.fees.as_slice(),
+        member.patron.get().fees.as_slice(),
     )?;
     Ok(block_member(asked, member, owes)?)
 }

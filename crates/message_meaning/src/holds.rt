@@ -8,7 +8,7 @@ ghost use Rattle.read_set.specs.Maps.{Map, Agrees};
 ghost use Rattle.read_set.specs.Stops.{Follows};
 
 use circ_policy::Policy;
-use circ_records::{Hold, Holds, Item, Key, QUEUE_MAX, Record};
+use circ_records::{Hold, Holds, Item, Key, QUEUE_MAX, Record, Shared};
 use loan_meaning::{
     has_lent_to, has_loan, has_queue, is_first_another, item_of, patron_of, position, waits,
     with_pickup, without_hold,
@@ -146,36 +146,34 @@ fn tell(
 }
 
 #[tactic(auto, unfolding(read_set::specs::Holds::hold_kept))]
-fn keep_queue(asked: &HoldAsked<'_>, item: Item, holds: Holds) -> Result<Effect, AllocError>
+fn keep_queue(asked: &HoldAsked<'_>, item: Shared<Item>, holds: Holds) -> Result<Effect, AllocError>
     ensures { IfOk result (λ e. e ≡ hold_kept asked.now.policy.now asked.now.request.now asked.now.date item holds) }
 {
-    let available = is_available_to(asked.request, &item, &holds);
-    let position = position_in(asked.alloc, asked.request, &holds)?;
-    let title = item.title.copy(asked.alloc)?;
+    let alloc = asked.alloc;
+    let available = is_available_to(asked.request, item.get(), &holds);
+    let position = position_in(alloc, asked.request, &holds)?;
+    let title = item.get().title.copy(alloc)?;
     let answer = tell(asked, Some(title), true, available, position);
-    let mut item = item;
+    let mut item = Item::of(alloc, item)?;
     item.holds = holds;
-    let writes = Writes::one(
-        asked.alloc,
-        Key::Item(asked.request.item),
-        Record::Item(item),
-    )?;
+    let written = Record::item(alloc, item)?;
+    let writes = Writes::one(alloc, Key::Item(asked.request.item), written)?;
     Ok(Effect {
         writes,
         answer: Some(answer),
     })
 }
 
-fn hold_item(asked: &HoldAsked<'_>, blocked: bool, item: Item) -> Result<Effect, AllocError>
+fn hold_item(asked: &HoldAsked<'_>, blocked: bool, item: Shared<Item>) -> Result<Effect, AllocError>
     ensures { IfOk result (λ e. e ≡ hold_known asked.now.policy.now asked.now.request.now asked.now.date blocked item) }
 {
     let request = asked.request;
-    if is_refused(request.mode, &request.patron, blocked, &item) {
-        let title = item.title.copy(asked.alloc)?;
+    if is_refused(request.mode, &request.patron, blocked, item.get()) {
+        let title = item.get().title.copy(asked.alloc)?;
         let answer = tell(asked, Some(title), false, false, None);
         return Ok(Effect::unwritten(asked.alloc, Some(answer)));
     }
-    let holds = change_queue(asked.alloc, request, &item.holds)?;
+    let holds = change_queue(asked.alloc, request, &item.get().holds)?;
     keep_queue(asked, item, holds)
 }
 
@@ -183,7 +181,7 @@ fn title_of(alloc: Global, article: Option<Article>) -> Result<Option<Text>, All
     ensures { IfOk result (λ t. t ≡ option_map (λ a. a.item.title) article) }
 {
     match article {
-        Some(article) => Ok(Some(article.item.title.copy(alloc)?)),
+        Some(article) => Ok(Some(article.item.get().title.copy(alloc)?)),
         None => Ok(None),
     }
 }
@@ -206,7 +204,7 @@ fn hold_both(
         return Ok(Effect::unwritten(asked.alloc, Some(answer)));
     };
     let item = article.into_item();
-    hold_item(asked, member.patron.blocked, item)
+    hold_item(asked, member.patron.get().blocked, item)
 }
 
 /// A hold (message 15).

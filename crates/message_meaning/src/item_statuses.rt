@@ -43,14 +43,14 @@ fn update_found(
     let Some(article) = found else {
         return Ok(Effect::unwritten(alloc, Some(answer(request, date, None))));
     };
-    let mut item = article.into_item();
     let Some(given) = &request.properties else {
-        let known = show(alloc, &item)?;
+        let known = show(alloc, article.item.get())?;
         return Ok(Effect::unwritten(alloc, Some(answer(request, date, known))));
     };
+    let mut item = Item::of(alloc, article.into_item())?;
     item.properties = given.copy(alloc)?;
     let known = show(alloc, &item)?;
-    let writes = Writes::one(alloc, Key::Item(request.item), Record::Item(item))?;
+    let writes = Writes::one(alloc, Key::Item(request.item), Record::item(alloc, item)?)?;
     Ok(Effect {
         writes,
         answer: Some(answer(request, date, known)),

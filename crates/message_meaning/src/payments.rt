@@ -56,7 +56,13 @@ fn less(amount: Amount, left: u64) -> Amount
     Amount::new(amount.hundredths() - left).unwrap()
 }
 
-fn pay_part(id: &Id, part: u64, fee: &Fee, mut done: Payments) -> Result<Payments, AllocError>
+fn pay_part(
+    alloc: Global,
+    id: &Id,
+    part: u64,
+    fee: &Fee,
+    mut done: Payments,
+) -> Result<Payments, AllocError>
     requires money { part ≤ done.left }
     requires rest { part ≤ fee.now.amount - fee.now.paid }
     ensures { IfOk result (λ next. next ≡ part_paid id.now part fee.now done) }
@@ -66,7 +72,7 @@ fn pay_part(id: &Id, part: u64, fee: &Fee, mut done: Payments) -> Result<Payment
     }
     done.left -= part;
     done.writes
-        .put(Key::Fee(*id), Record::Fee(with_paid(fee, part)))?;
+        .put(Key::Fee(*id), Record::fee(alloc, with_paid(fee, part))?)?;
     if part == rest(fee) {
         done.closed.push(*id)?;
     }
@@ -74,13 +80,13 @@ fn pay_part(id: &Id, part: u64, fee: &Fee, mut done: Payments) -> Result<Payment
 }
 
 #[tactic(auto, unfolding(read_set::specs::Payments::pay_one))]
-fn pay(id: &Id, done: Payments, fee: Option<Fee>) -> Result<Payments, AllocError>
+fn pay(alloc: Global, id: &Id, done: Payments, fee: Option<Fee>) -> Result<Payments, AllocError>
     ensures { IfOk result (λ next. next ≡ pay_one id.now done fee) }
 {
     match fee {
         Some(fee) => {
             let part = part(done.left, &fee);
-            pay_part(id, part, &fee, done)
+            pay_part(alloc, id, part, &fee, done)
         }
         None => Ok(done),
     }
@@ -153,7 +159,7 @@ fn pay_all<S: Source>(
             return Ok(done);
         }
         let found = read_after(alloc, source, &done.writes, &Key::Fee(*id))?;
-        done = pay(id, done, known_fee(&found))?;
+        done = pay(alloc, id, done, known_fee(&found))?;
     }
     Ok(done)
 }
@@ -178,7 +184,7 @@ fn refuse(alloc: Global, policy: &Policy, request: &FeePaid, date: Stamp) -> Eff
 fn close(alloc: Global, closed: &Ids, member: Member) -> Result<Patron, AllocError>
     ensures { IfOk result (λ p. p ≡ record member.patron { fees = without_all closed.now member.patron.fees }) }
 {
-    let mut patron = member.into_patron();
+    let mut patron = Patron::of(alloc, member.into_patron())?;
     patron.fees = without_all(alloc, &patron.fees, closed.as_slice())?;
     Ok(patron)
 }
@@ -205,9 +211,9 @@ fn finish(
         mut writes,
         closed,
     } = done;
-    let patron = close(alloc, &closed, member)?;
     if is_some_id(closed.as_slice()) {
-        writes.put(Key::Patron(request.patron), Record::Patron(patron))?;
+        let patron = close(alloc, &closed, member)?;
+        writes.put(Key::Patron(request.patron), Record::patron(alloc, patron)?)?;
     }
     Ok(Effect {
         writes: writes.finish(alloc)?,
@@ -227,7 +233,7 @@ fn pay_fees<S: Source>(
     ensures gives { Follows result (follow (S.has source.new) (payment_rule policy.now request.now date member.patron)) }
     ensures keeps { Gains (S.has source.old) (S.has source.new) (payment_rule policy.now request.now date member.patron) }
 {
-    let ids = meant_ids(alloc, &request.fee, &member.patron.fees, source)?;
+    let ids = meant_ids(alloc, &request.fee, &member.patron.get().fees, source)?;
     let done = pay_all(alloc, ids.as_slice(), request.amount.hundredths(), source)?;
     Ok(finish(alloc, policy, request, date, member, done)?)
 }

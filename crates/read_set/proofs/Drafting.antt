@@ -10,7 +10,7 @@ use Rattle.circ_records.specs.Keys.{key_cmp, key_cmp_total, key_cmp-IsAntisymmet
 use Rattle.circ_records.specs.Records.{Entries}
 use Rattle.circ_records.specs.declared.key.Key.{Key}
 use Rattle.circ_records.specs.declared.record.Record.{Record}
-use Rattle.read_set.specs.Devices.Drafts.{Rise, place_from}
+use Rattle.read_set.specs.Devices.Drafts.{Rise, position_from}
 
 abbrev keys_in : Entries → List Key
 keys_in es = map (λ e. e.0) es
@@ -63,54 +63,54 @@ first-of k r (e ∷ es) s = rw s.0.0 refl
 pub goes-first : (front : Entries) (k : Key) (r : Record) (es : Entries) → Rise (front ++ (k, r) ∷ es) → insert_entry key_cmp es k r ≡ (k, r) ∷ es
 goes-first front k r es s = first-of k r es (rises-behind front ((k, r) ∷ es) s)
 
--- What goes to the place of a key that stands in the list, counted from a number on
-record Takes (i : ℕ) (es : Entries) (k : Key) (r : Record) (place : ℕ) : Type 0 where
+-- What goes to the position of a key that stands in the list, counted from a number on
+record Takes (i : ℕ) (es : Entries) (k : Key) (r : Record) (position : ℕ) : Type 0 where
   n : ℕ
-  at : place ≡ i + n
+  at : position ≡ i + n
   within : n < length es
   same : slice_set es n (k, r) ≡ insert_entry key_cmp es k r
 
-takes-step : (o : Ordering) (i : ℕ) (e : Key × Record) (es : Entries) (k : Key) (r : Record) (place : ℕ) → key_cmp k e.0 ≡ o
-    → match_ordering o (Err i) (Ok i) (place_from (i + 1) k es) ≡ Ok place → (place_from (i + 1) k es ≡ Ok place → Takes (i + 1) es k r place)
-    → (n : ℕ) × (place ≡ i + n) × (n < length (e ∷ es)) × (slice_set (e ∷ es) n (k, r) ≡ match_ordering o ((k, r) ∷ e ∷ es) ((e.0, r) ∷ es) (e ∷ insert_entry key_cmp es k r))
-takes-step Less i e es k r place at h more = cc
-takes-step Equal i e es k r place at h more = let here : place ≡ i = cc in (zero, omega (arith, here), omega arith, ap (λ (q : Key). (q, r) ∷ es) (key_cmp-IsAntisymmetric k e.0 at))
-takes-step Greater i e es k r place at h more = let t = more h in (suc t.n, omega (arith, t.at), omega (arith, t.within), ap (λ (l : Entries). e ∷ l) t.same)
+takes-step : (o : Ordering) (i : ℕ) (e : Key × Record) (es : Entries) (k : Key) (r : Record) (position : ℕ) → key_cmp k e.0 ≡ o
+    → match_ordering o (Err i) (Ok i) (position_from (i + 1) k es) ≡ Ok position → (position_from (i + 1) k es ≡ Ok position → Takes (i + 1) es k r position)
+    → (n : ℕ) × (position ≡ i + n) × (n < length (e ∷ es)) × (slice_set (e ∷ es) n (k, r) ≡ match_ordering o ((k, r) ∷ e ∷ es) ((e.0, r) ∷ es) (e ∷ insert_entry key_cmp es k r))
+takes-step Less i e es k r position at h more = cc
+takes-step Equal i e es k r position at h more = let here : position ≡ i = cc in (zero, omega (arith, here), omega arith, ap (λ (q : Key). (q, r) ∷ es) (key_cmp-IsAntisymmetric k e.0 at))
+takes-step Greater i e es k r position at h more = let t = more h in (suc t.n, omega (arith, t.at), omega (arith, t.within), ap (λ (l : Entries). e ∷ l) t.same)
 
-takes : (i : ℕ) (es : Entries) (k : Key) (r : Record) (place : ℕ) → place_from i k es ≡ Ok place → Takes i es k r place
-takes i [] k r place h = cc
-takes i (e ∷ es) k r place h =
-    let t = takes-step (key_cmp k e.0) i e es k r place refl h (takes (i + 1) es k r place) in
+takes : (i : ℕ) (es : Entries) (k : Key) (r : Record) (position : ℕ) → position_from i k es ≡ Ok position → Takes i es k r position
+takes i [] k r position h = cc
+takes i (e ∷ es) k r position h =
+    let t = takes-step (key_cmp k e.0) i e es k r position refl h (takes (i + 1) es k r position) in
     record { n = t.0; at = t.1; within = t.2; same = t.3 }
 
 -- and to that of one that doesn't
-record Goes (i : ℕ) (es : Entries) (k : Key) (r : Record) (place : ℕ) : Type 0 where
+record Goes (i : ℕ) (es : Entries) (k : Key) (r : Record) (position : ℕ) : Type 0 where
   n : ℕ
-  at : place ≡ i + n
+  at : position ≡ i + n
   within : n ≤ length es
   same : insert es n (k, r) ≡ insert_entry key_cmp es k r
 
-goes-step : (o : Ordering) (i : ℕ) (e : Key × Record) (es : Entries) (k : Key) (r : Record) (place : ℕ)
-    → match_ordering o (Err i) (Ok i) (place_from (i + 1) k es) ≡ Err place → (place_from (i + 1) k es ≡ Err place → Goes (i + 1) es k r place)
-    → (n : ℕ) × (place ≡ i + n) × (n ≤ length (e ∷ es)) × (insert (e ∷ es) n (k, r) ≡ match_ordering o ((k, r) ∷ e ∷ es) ((e.0, r) ∷ es) (e ∷ insert_entry key_cmp es k r))
-goes-step Less i e es k r place h more = let here : place ≡ i = cc in (zero, omega (arith, here), omega arith, refl)
-goes-step Equal i e es k r place h more = cc
-goes-step Greater i e es k r place h more = let t = more h in (suc t.n, omega (arith, t.at), omega (arith, t.within), ap (λ (l : Entries). e ∷ l) t.same)
+goes-step : (o : Ordering) (i : ℕ) (e : Key × Record) (es : Entries) (k : Key) (r : Record) (position : ℕ)
+    → match_ordering o (Err i) (Ok i) (position_from (i + 1) k es) ≡ Err position → (position_from (i + 1) k es ≡ Err position → Goes (i + 1) es k r position)
+    → (n : ℕ) × (position ≡ i + n) × (n ≤ length (e ∷ es)) × (insert (e ∷ es) n (k, r) ≡ match_ordering o ((k, r) ∷ e ∷ es) ((e.0, r) ∷ es) (e ∷ insert_entry key_cmp es k r))
+goes-step Less i e es k r position h more = let here : position ≡ i = cc in (zero, omega (arith, here), omega arith, refl)
+goes-step Equal i e es k r position h more = cc
+goes-step Greater i e es k r position h more = let t = more h in (suc t.n, omega (arith, t.at), omega (arith, t.within), ap (λ (l : Entries). e ∷ l) t.same)
 
-goes : (i : ℕ) (es : Entries) (k : Key) (r : Record) (place : ℕ) → place_from i k es ≡ Err place → Goes i es k r place
-goes i [] k r place h = let here : place ≡ i = cc in record { n = zero; at = omega (arith, here); within = omega arith; same = refl }
-goes i (e ∷ es) k r place h =
-    let t = goes-step (key_cmp k e.0) i e es k r place h (goes (i + 1) es k r place) in
+goes : (i : ℕ) (es : Entries) (k : Key) (r : Record) (position : ℕ) → position_from i k es ≡ Err position → Goes i es k r position
+goes i [] k r position h = let here : position ≡ i = cc in record { n = zero; at = omega (arith, here); within = omega arith; same = refl }
+goes i (e ∷ es) k r position h =
+    let t = goes-step (key_cmp k e.0) i e es k r position h (goes (i + 1) es k r position) in
     record { n = t.0; at = t.1; within = t.2; same = t.3 }
 
--- the record at the place of its key is replaced
-pub replaced : (es : Entries) (k : Key) (r : Record) (place : ℕ) → place_from 0 k es ≡ Ok place → (place < length es) × (slice_set es place (k, r) ≡ insert_entry key_cmp es k r)
-replaced es k r place h = let t = takes 0 es k r place h in
-    let at : place ≡ t.n = omega (arith, t.at) in
+-- the record at the position of its key is replaced
+pub replaced : (es : Entries) (k : Key) (r : Record) (position : ℕ) → position_from 0 k es ≡ Ok position → (position < length es) × (slice_set es position (k, r) ≡ insert_entry key_cmp es k r)
+replaced es k r position h = let t = takes 0 es k r position h in
+    let at : position ≡ t.n = omega (arith, t.at) in
     (omega (arith, at, t.within), ap (λ n. slice_set es n (k, r)) at ∙ t.same)
 
--- and one of a new key goes to its place
-pub inserted : (es : Entries) (k : Key) (r : Record) (place : ℕ) → place_from 0 k es ≡ Err place → (place ≤ length es) × (insert es place (k, r) ≡ insert_entry key_cmp es k r)
-inserted es k r place h = let t = goes 0 es k r place h in
-    let at : place ≡ t.n = omega (arith, t.at) in
+-- and one of a new key goes to its position
+pub inserted : (es : Entries) (k : Key) (r : Record) (position : ℕ) → position_from 0 k es ≡ Err position → (position ≤ length es) × (insert es position (k, r) ≡ insert_entry key_cmp es k r)
+inserted es k r position h = let t = goes 0 es k r position h in
+    let at : position ≡ t.n = omega (arith, t.at) in
     (omega (arith, at, t.within), ap (λ n. insert es n (k, r)) at ∙ t.same)

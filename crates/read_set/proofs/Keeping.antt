@@ -1,4 +1,4 @@
--- Notes, and the places of their keys.
+-- Notes, and the positions of their keys.
 use Rattle.std.proofs.Common.{◌≡◌, ℕ, zero, suc, ◌+◌, ◌<◌, ◌≤◌, List, [], ◌∷◌, ◌++◌, Bool, true, false, cond, Option, Some, None, length, get_or, map, take, take_all, arith, refl, sym, ap, ◌∙◌, subst}
 use Rattle.std.specs.Prelude.{slice_get, ◌||◌}
 use Rattle.std.specs.BTreeMap.{is_at}
@@ -17,7 +17,7 @@ use Rattle.circ_records.specs.declared.key.Key.{Key}
 use Rattle.circ_records.specs.declared.record.Record.{Record}
 use Rattle.read_set.specs.Maps.{Map, Agrees}
 use Rattle.read_set.specs.Notes.{note_of, noted, IsOnceEach}
-use Rattle.read_set.specs.Devices.Places.{IsPlace, AreKept}
+use Rattle.read_set.specs.Devices.Positions.{IsPosition, AreKept}
 use Rattle.read_set.specs.Settling.{AreTrue}
 use Rattle.read_set.specs.declared.notes.Note.{Note}
 
@@ -82,10 +82,10 @@ longer (n ∷ more) note = let e : length (more ++ note ∷ []) ≡ length more 
 no-note : (notes : List Note) (note : Note) (i : ℕ) (k : Key) → i < length notes → slice_get notes i ≡ note_of notes k → note_of notes k ≡ None → ⊥
 no-note notes note i k h e none = let some : Some (get_or notes i note) ≡ None = sym (slice_get-get_or notes i note h) ∙ e ∙ none in cc
 
--- a place that a key had, where the new note is one of the first few
-few-step : (notes : List Note) (note : Note) (k : Key) (b : Bool) (place : Option ℕ) → length notes < 8
+-- a position that a key had, where the new note is one of the first few
+few-step : (notes : List Note) (note : Note) (k : Key) (b : Bool) (position : Option ℕ) → length notes < 8
     → (b ≡ true → note_of notes k ≡ None) → note_of (notes ++ note ∷ []) k ≡ cond b (Some note) (note_of notes k)
-    → IsPlace notes k place → IsPlace (notes ++ note ∷ []) k place
+    → IsPosition notes k position → IsPosition (notes ++ note ∷ []) k position
 few-step notes note k b None short fresh found h =
     let more : length (notes ++ note ∷ []) ≡ length notes + 1 = longer notes note in
     ap (λ ns. note_of ns k) (sym (take_all 8 (notes ++ note ∷ []) (omega arith)))
@@ -95,19 +95,19 @@ few-step notes note k false (Some i) short fresh found h =
     let within : i < length notes = h.0 in
     (omega arith, before-end notes note i within ∙ h.1 ∙ sym found)
 
--- a place that a key had, or that of the new note, where it is none of the first few
-place-step : (notes : List Note) (note : Note) (k : Key) (b : Bool) (old new : Option ℕ) → 8 ≤ length notes
+-- a position that a key had, or that of the new note, where it is none of the first few
+position-step : (notes : List Note) (note : Note) (k : Key) (b : Bool) (old new : Option ℕ) → 8 ≤ length notes
     → note_of (notes ++ note ∷ []) k ≡ cond b (Some note) (note_of notes k) → new ≡ cond b (Some (length notes)) old
-    → IsPlace notes k old → IsPlace (notes ++ note ∷ []) k new
-place-step notes note k true old None long found e h = cc
-place-step notes note k true old (Some i) long found e h =
+    → IsPosition notes k old → IsPosition (notes ++ note ∷ []) k new
+position-step notes note k true old None long found e h = cc
+position-step notes note k true old (Some i) long found e h =
     let same : i ≡ length notes = cc in
     let more : length (notes ++ note ∷ []) ≡ length notes + 1 = longer notes note in
     (omega arith, ap (slice_get (notes ++ note ∷ [])) same ∙ at-end notes note ∙ sym found)
-place-step notes note k false None None long found e h = found ∙ h ∙ ap (λ ns. note_of ns k) (sym (take-append-le 8 notes (note ∷ []) long))
-place-step notes note k false None (Some i) long found e h = cc
-place-step notes note k false (Some j) None long found e h = cc
-place-step notes note k false (Some j) (Some i) long found e h =
+position-step notes note k false None None long found e h = found ∙ h ∙ ap (λ ns. note_of ns k) (sym (take-append-le 8 notes (note ∷ []) long))
+position-step notes note k false None (Some i) long found e h = cc
+position-step notes note k false (Some j) None long found e h = cc
+position-step notes note k false (Some j) (Some i) long found e h =
     let same : i ≡ j = cc in
     let within : i < length notes = let at = h.0 in omega arith in
     let more : length (notes ++ note ∷ []) ≡ length notes + 1 = longer notes note in
@@ -128,19 +128,19 @@ unnoted-there : (notes : List Note) (note : Note) (k : Key) → note_of notes no
 unnoted-there notes note k fresh e = ap (note_of notes) (one-key k note.key e) ∙ fresh
 
 -- one more note among the first few
-pub kept-few : (notes : List Note) (note : Note) (places : List (Key × ℕ)) → AreKept notes places → note_of notes note.key ≡ None → length notes < 8 → AreKept (notes ++ note ∷ []) places
-kept-few notes note places h fresh short = record {
+pub kept-few : (notes : List Note) (note : Note) (positions : List (Key × ℕ)) → AreKept notes positions → note_of notes note.key ≡ None → length notes < 8 → AreKept (notes ++ note ∷ []) positions
+kept-few notes note positions h fresh short = record {
   once = once-more notes note h.once fresh;
-  kept = λ k. few-step notes note k (is_at (key_cmp k) note.key) (lookup (is_at (key_cmp k)) places) short (unnoted-there notes note k fresh) (found-more notes note k (unnoted-there notes note k fresh)) (h.kept k);
+  kept = λ k. few-step notes note k (is_at (key_cmp k) note.key) (lookup (is_at (key_cmp k)) positions) short (unnoted-there notes note k fresh) (found-more notes note k (unnoted-there notes note k fresh)) (h.kept k);
 }
 
--- one more note behind them, and its place
+-- one more note behind them, and its position
 pub kept-more : (notes : List Note) (note : Note) (old new : List (Key × ℕ)) → AreKept notes old → note_of notes note.key ≡ None → 8 ≤ length notes
     → ((k : Key) → lookup (is_at (key_cmp k)) new ≡ cond (is_at (key_cmp note.key) k) (Some (length notes)) (lookup (is_at (key_cmp k)) old))
     → AreKept (notes ++ note ∷ []) new
 kept-more notes note old new h fresh long updates = record {
   once = once-more notes note h.once fresh;
-  kept = λ k. place-step notes note k (is_at (key_cmp k) note.key) (lookup (is_at (key_cmp k)) old) (lookup (is_at (key_cmp k)) new) long
+  kept = λ k. position-step notes note k (is_at (key_cmp k) note.key) (lookup (is_at (key_cmp k)) old) (lookup (is_at (key_cmp k)) new) long
       (found-more notes note k (unnoted-there notes note k fresh))
       (updates k ∙ ap (λ b. cond b (Some (length notes)) (lookup (is_at (key_cmp k)) old)) (either-way note.key k))
       (h.kept k);

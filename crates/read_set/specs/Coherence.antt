@@ -16,7 +16,7 @@ use Rattle.journal_table.specs.Entry.{Entry, first_number}
 use Rattle.journal_table.specs.Journal.{journal_of}
 use Rattle.sip_reader.specs.Dates.{is_stamp}
 use Rattle.sip_reader.specs.Days.{day_at}
-use Rattle.sip_reader.specs.Texts.{is_text}
+use Rattle.sip_reader.specs.Texts.{is_text, line_number_end, line_number_max}
 use Rattle.sip_reader.specs.declared.request.Act.{Act}
 use Rattle.sip_reader.specs.declared.request.Act.TheVariants as acts
 use Rattle.sip_reader.specs.declared.request.Reading.{Reading}
@@ -49,7 +49,7 @@ HasFewItems M = (ids : List (List ℕ)) × (length ids ≤ 2 ^ 64) × ((id : Lis
 
 -- line n takes records that are coherent before it to such that are coherent before line n + 1
 abbrev pub MeaningKeepsCoherence : Type 0
-MeaningKeepsCoherence = (policy : Terms) (n : ℕ) (r : Reading) (M : Map) → FitsPolicy policy → FitsReading r → n ≤ 9999999999
+MeaningKeepsCoherence = (policy : Terms) (n : ℕ) (r : Reading) (M : Map) → FitsPolicy policy → FitsReading r → n ≤ line_number_max
     → HasFewItems M → IsCoherentMap policy n M → IsCoherentMap policy (n + 1) (one policy n r M).0 × HasFewItems (one policy n r M).0
 
 -- what a plan's type keeps: it is made of what fits, on a base that is coherent at the number of its first line and that a memory holds, and no line has
@@ -59,7 +59,7 @@ pub record FitsPlan (plan : Planned) : Type 0 where
   pub readings : AllByRecursion FitsReading plan.readings
   pub base : Coherent plan.policy plan.first plan.base
   pub few : length plan.base ≤ 2 ^ 64
-  pub last : plan.first + length plan.readings ≤ 10000000000
+  pub last : plan.first + length plan.readings ≤ line_number_end
 
 -- the records before each line, and behind the last one, are coherent there
 pub record StaysCoherent (plan : Planned) : Type 0 where

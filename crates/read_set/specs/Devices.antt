@@ -1,3 +1,3 @@
 -- Devices of proofs: how things are kept or counted. No promise is read here.
 pub mod Drafts
-pub mod Places
+pub mod Positions

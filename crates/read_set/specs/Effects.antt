@@ -6,7 +6,7 @@ use Rattle.circ_records.specs.Records.{Entries}
 use Rattle.sip_answer.specs.declared.answer.Answer.{Answer}
 use Rattle.read_set.specs.declared.effect.Effect.{Effect}
 
--- records written one after the other: each goes to its key's place, and the newest of a key counts
+-- records written one after the other: each goes to its key's position, and the newest of a key counts
 abbrev pub written : Entries → Entries → Entries
 written w [] = w
 written w (e ∷ more) = written (insert_entry key_cmp w e.0 e.1) more

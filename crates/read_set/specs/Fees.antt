@@ -18,7 +18,7 @@ use Rattle.read_set.specs.declared.verdict.Verdict.TheVariants as verdicts
 unfoldable pub rest_of : Option Fee → ℕ
 rest_of fee = option_map_or (λ f. f.amount - f.paid) fee 0
 
--- Owed: the sum of what is left to pay, at each place of the list
+-- Owed: the sum of what is left to pay, at each position of the list
 abbrev pub owed : Map → List (List ℕ) → ℕ
 owed M fees = sum (map (λ id. rest_of (fee_in M id)) fees)
 

@@ -12,7 +12,7 @@ same a b = eq_by_cmp (slice_cmp nat_cmp) a b
 abbrev pub has_id : List ℕ → List (List ℕ) → Bool
 has_id id ids = list_any (λ other. same other id) ids
 
--- the list without an id, at each of its places
+-- the list without an id, at each of its positions
 abbrev pub without : List ℕ → List (List ℕ) → List (List ℕ)
 without id ids = filter (λ other. not (same other id)) ids
 

@@ -6,6 +6,7 @@ use Rattle.circ_records.specs.Records.{Entries}
 use Rattle.journal_table.specs.Entry.{Entry, first_number}
 use Rattle.journal_table.specs.Readings.{NumberedReading, first_read, requests_read, reading_at as reading_in}
 use Rattle.sip_reader.specs.declared.request.Reading.{Reading}
+use Rattle.sip_reader.specs.Texts.{line_number_end}
 
 pub record Planned : Type 0 where
   pub policy : Terms
@@ -15,7 +16,7 @@ pub record Planned : Type 0 where
 
 -- the number of a journal's first line; one without lines begins behind the last number that a line can have
 abbrev pub beginning : List Entry → ℕ
-beginning lines = unwrap_or (first_number lines) 10000000000
+beginning lines = unwrap_or (first_number lines) line_number_end
 
 -- the readings of a journal's requests
 abbrev pub readings_of : List Entry → List Reading
@@ -26,7 +27,7 @@ plan_of policy base lines = record { policy = policy; base = base; first = begin
 
 -- the plan of numbered readings; of those of a journal it is the journal's
 abbrev pub plan_read : Terms → Entries → List NumberedReading → Planned
-plan_read policy base read = record { policy = policy; base = base; first = unwrap_or (first_read read) 10000000000; readings = map reading_in read }
+plan_read policy base read = record { policy = policy; base = base; first = unwrap_or (first_read read) line_number_end; readings = map reading_in read }
 
 -- the plan of the same lines over other records
 abbrev pub plan_over : Planned → Entries → Planned

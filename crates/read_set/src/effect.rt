@@ -168,28 +168,11 @@ impl Writes {
         self.entries.shrink_to_fit();
     }
 
-    /// From now on copies of the records have the memory of their lists together with them.
-    pub(crate) fn share(&mut self)
-        ensures { self.new ≡ self.old }
-    {
-        share_all(&mut self.entries);
-    }
-
     /// The records with their keys, rising, given away.
     pub fn into_vec(self) -> Vec<(Key, Record)>
         ensures { result.items ≡ self }
     {
         self.entries
-    }
-}
-
-/// Each record's copies share its lists.
-fn share_all(entries: &mut Vec<(Key, Record)>)
-    ensures { entries.new.items ≡ entries.old.items }
-{
-    for i in 0..entries.len() {
-        let entry = &mut entries[i];
-        entry.1.share();
     }
 }
 

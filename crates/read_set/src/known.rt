@@ -4,11 +4,11 @@ ghost use Rattle.std.specs.Prelude.{◌≡◌};
 ghost use Rattle.read_set.specs.Known.{as_article, as_member, as_fee};
 
 use circ_policy::{Class, Media, Policy};
-use circ_records::{Fee, Item, Patron, Record};
+use circ_records::{Fee, Item, Patron, Record, Shared};
 
 /// An item with the terms of its media type.
 pub struct Article {
-    pub item: Item,
+    pub item: Shared<Item>,
     pub media: Media,
 }
 
@@ -20,7 +20,7 @@ impl Drop for Article {
 
 impl Article {
     /// The item alone.
-    pub fn into_item(self) -> Item
+    pub fn into_item(self) -> Shared<Item>
         ensures { result ≡ self.item }
     {
         let Article { item, media: _ } = self;
@@ -30,7 +30,7 @@ impl Article {
 
 /// A patron with the limits of its class.
 pub struct Member {
-    pub patron: Patron,
+    pub patron: Shared<Patron>,
     pub class: Class,
 }
 
@@ -45,7 +45,7 @@ impl Drop for Member {
 
 impl Member {
     /// The patron alone.
-    pub fn into_patron(self) -> Patron
+    pub fn into_patron(self) -> Shared<Patron>
         ensures { result ≡ self.patron }
     {
         let Member { patron, class: _ } = self;
@@ -59,7 +59,7 @@ pub fn known_item(policy: &Policy, found: Option<Record>) -> Option<Article>
     ensures { result ≡ as_article policy.now found }
 {
     match found {
-        Some(Record::Item(item)) => match policy.media(item.media) {
+        Some(Record::Item(item)) => match policy.media(item.get().media) {
             Some(media) => Some(Article { item, media }),
             None => None,
         },
@@ -73,7 +73,7 @@ pub fn known_patron(policy: &Policy, found: Option<Record>) -> Option<Member>
     ensures { result ≡ as_member policy.now found }
 {
     match found {
-        Some(Record::Patron(patron)) => match policy.class(&patron.class) {
+        Some(Record::Patron(patron)) => match policy.class(&patron.get().class) {
             Some(class) => Some(Member { patron, class }),
             None => None,
         },
@@ -87,7 +87,7 @@ pub fn known_fee(found: &Option<Record>) -> Option<Fee>
     ensures { result ≡ as_fee found.now }
 {
     match found {
-        Some(Record::Fee(fee)) => Some(*fee),
+        Some(Record::Fee(fee)) => Some(*fee.get()),
         _ => None,
     }
 }

@@ -3,7 +3,7 @@
 ghost use Rattle.std.specs.Prelude.{◌≡◌, ◌++◌, ◌∷◌, [], None, IfOk, OnOk, OnErr};
 ghost use Rattle.std.specs.Option.{option_copied};
 ghost use Rattle.read_set.specs.Notes.{note_of, IsOnceEach};
-ghost use Rattle.read_set.specs.Devices.Places.{few};
+ghost use Rattle.read_set.specs.Devices.Positions.{few};
 
 use circ_records::{Key, Record};
 use std::alloc::{AllocError, Global};
@@ -36,26 +36,23 @@ impl Drop for Note {
 
 impl Note {
     /// The same note.
-    pub fn copy(&self, alloc: Global) -> Result<Note, AllocError>
+    pub fn copy(&self) -> Result<Note, AllocError>
         ensures { IfOk result (λ n. n ≡ self.now) }
     {
         Ok(Note {
             key: self.key,
             name: self.name,
-            found: copy_found(alloc, &self.found)?,
+            found: copy_found(&self.found)?,
         })
     }
 }
 
 /// The same record, or none.
-pub(crate) fn copy_found(
-    alloc: Global,
-    found: &Option<Record>,
-) -> Result<Option<Record>, AllocError>
+pub(crate) fn copy_found(found: &Option<Record>) -> Result<Option<Record>, AllocError>
     ensures { IfOk result (λ r. r ≡ found.now) }
 {
     match found {
-        Some(found) => Ok(Some(found.copy(alloc)?)),
+        Some(found) => Ok(Some(found.copy()?)),
         None => Ok(None),
     }
 }
@@ -68,14 +65,14 @@ const FEW: usize = 8;
 pub struct Notes {
     entries: Vec<Note>,
     /// Where the note of each key stands that isn't among the first few.
-    places: BTreeMap<Key, usize>,
+    positions: BTreeMap<Key, usize>,
 }
 
 impl Drop for Notes {
     fn drop(self) {
         let Notes {
             entries: _,
-            places: _,
+            positions: _,
         } = self;
     }
 }
@@ -86,11 +83,11 @@ impl Model for Notes {
 
     ghost Value = { List Note };
 
-    ghost use Rattle.read_set.specs.Devices.Places.{AreKept};
+    ghost use Rattle.read_set.specs.Devices.Positions.{AreKept};
 
     ghost view = { λ n. n.entries.items };
 
-    ghost invariant = { λ n. AreKept n.entries.items n.places.entries };
+    ghost invariant = { λ n. AreKept n.entries.items n.positions.entries };
 }
 
 impl Notes {
@@ -100,7 +97,7 @@ impl Notes {
     {
         Notes {
             entries: Vec::new(alloc),
-            places: BTreeMap::new(alloc),
+            positions: BTreeMap::new(alloc),
         }
     }
 
@@ -111,12 +108,12 @@ impl Notes {
         ensures err { OnErr result (self.new ≡ self.old) }
     {
         let key = note.key;
-        let place = self.entries.len();
+        let position = self.entries.len();
         self.entries.push(note)?;
-        if place < FEW {
+        if position < FEW {
             return Ok(());
         }
-        match self.places.insert(key, place) {
+        match self.positions.insert(key, position) {
             Ok(_) => Ok(()),
             Err(_) => {
                 self.entries.pop();
@@ -129,8 +126,8 @@ impl Notes {
     pub fn get(&self, key: &Key) -> Option<&Note>
         ensures { option_copied result ≡ note_of self.now key.now }
     {
-        match self.places.get(key) {
-            Some(place) => self.entries.get(*place),
+        match self.positions.get(key) {
+            Some(position) => self.entries.get(*position),
             None => note_among(first_few(&self.entries), key),
         }
     }
@@ -187,7 +184,7 @@ fn copy_notes(alloc: Global, notes: &[Note]) -> Result<Notes, AllocError>
 {
     let mut copies = Notes::new(alloc);
     for note in notes {
-        copies.add(note.copy(alloc)?)?;
+        copies.add(note.copy()?)?;
     }
     Ok(copies)
 }

@@ -52,9 +52,9 @@ impl<N: NotesName> Source for NotesSource<'_, N> {
     ghost has = { λ s. noted N.notes };
 
     #[tactic(auto, using(crate::proofs::Gaining::gains_none))]
-    fn read(&mut self, alloc: Global, key: &Key) -> Result<Option<Record>, Stop> {
+    fn read(&mut self, _alloc: Global, key: &Key) -> Result<Option<Record>, Stop> {
         match self.notes.get(key) {
-            Some(note) => Ok(copy_found(alloc, &note.found)?),
+            Some(note) => Ok(copy_found(&note.found)?),
             None => Err(Stop::Unnoted(*key)),
         }
     }
@@ -85,7 +85,7 @@ impl<L: Looks> Source for Noting<L> {
     #[tactic(auto, using(crate::proofs::Gaining::gains_none))]
     fn read(&mut self, alloc: Global, key: &Key) -> Result<Option<Record>, Stop> {
         match self.notes.get(key) {
-            Some(note) => Ok(copy_found(alloc, &note.found)?),
+            Some(note) => Ok(copy_found(&note.found)?),
             None => look_for(alloc, &mut self.notes, &mut self.looks, key),
         }
     }
@@ -107,13 +107,12 @@ fn look_for<L: Looks>(
         return Err(Stop::Unnoted(*key));
     };
     let (name, found) = seen;
-    note_found(alloc, notes, key, name, found)
+    note_found(notes, key, name, found)
 }
 
 /// Notes what was found, and gives it.
 #[tactic(auto, using(crate::proofs::Gaining::gains_none))]
 fn note_found(
-    alloc: Global,
     notes: &mut Notes,
     key: &Key,
     name: Name,
@@ -123,7 +122,7 @@ fn note_found(
     ensures gives { Follows result (follow (noted notes.new) (Ask key.now Give)) }
     ensures keeps { Gains (noted notes.old) (noted notes.new) (Ask key.now Give) }
 {
-    let copy = copy_found(alloc, &found)?;
+    let copy = copy_found(&found)?;
     notes.add(Note {
         key: *key,
         name,

@@ -2,6 +2,7 @@
 
 ghost use Rattle.std.specs.Prelude.{◌≡◌, ◌+◌, ◌≤◌, ◌^◌, ◌&&◌, ℕ, List, [], IfOk, is_some, length, map, nat_le, nat_lt, option_copied};
 ghost use Rattle.std.specs.List.Sorted.{IsStrictlySortedBy};
+ghost use Rattle.sip_reader.specs.Texts.{line_number_end};
 ghost use Rattle.circ_records.specs.Coherent.{Coherent, number_before};
 ghost use Rattle.circ_records.specs.Keys.{key_cmp};
 ghost use Rattle.circ_records.specs.Records.{record_at};
@@ -14,15 +15,12 @@ ghost use Rattle.read_set.specs.Plans.{plan_over, plan_of, plan_read, reading_at
 use circ_policy::Policy;
 use circ_records::{Base, Key, Record};
 use journal_table::{Journal, Readings, read_in_turn};
-use sip_reader::Reading;
+use sip_reader::{LINE_NUMBER_END, Reading};
 use std::alloc::{AllocError, Global};
 use std::collections::BTreeMap;
 use std::collections::btree_map::Keys;
 use std::marker::{Brand, Model};
 use std::ops::Range;
-
-/// The number at which the plan of a journal without lines begins, one behind the last that a line can have.
-const BEHIND_LAST: u64 = 10_000_000_000;
 
 /// The policy, the records before the first line, and the reading of each line.
 pub struct Plan {
@@ -45,6 +43,7 @@ impl Drop for Plan {
 
 impl Model for Plan {
     ghost use Rattle.std.specs.Prelude.{◌+◌, ◌≤◌, length, map};
+    ghost use Rattle.sip_reader.specs.Texts.{line_number_end};
     ghost use Rattle.journal_table.specs.Readings.{reading_at};
     ghost use Rattle.journal_table.specs.declared.TheConstants.{LINE_LIMIT};
     ghost use Rattle.read_set.specs.Coherence.{FitsPlan};
@@ -54,7 +53,7 @@ impl Model for Plan {
 
     ghost view = { λ p. record { policy = p.policy; base = p.base; first = p.first; readings = map reading_at p.readings } };
 
-    ghost invariant = { λ p. (p.first + length p.readings ≤ 10000000000) × (length p.readings ≤ LINE_LIMIT) × FitsPlan (record { policy = p.policy; base = p.base; first = p.first; readings = map reading_at p.readings }) };
+    ghost invariant = { λ p. (p.first + length p.readings ≤ line_number_end) × (length p.readings ≤ LINE_LIMIT) × FitsPlan (record { policy = p.policy; base = p.base; first = p.first; readings = map reading_at p.readings }) };
 }
 
 impl Plan {
@@ -78,7 +77,7 @@ impl Plan {
         ensures value { result ≡ plan_read policy base readings }
         ensures journal { (lines : List Entry) → readings ≡ all_read lines → result ≡ plan_of policy base lines }
     {
-        let first = readings.first().unwrap_or(BEHIND_LAST);
+        let first = readings.first().unwrap_or(LINE_NUMBER_END);
         // Their contracts say that the lines are few and each is read from a message, that the policy's terms lie in
         // their ranges, and that a count holds the number of the records.
         let _lines = readings.len();
@@ -112,7 +111,7 @@ impl Plan {
         ensures start { result.start ≡ self.now.first }
         ensures end { result.end ≡ self.now.first + length self.now.readings }
         ensures lines { (n : ℕ) → is_some (reading_at self.now n) ≡ (nat_le result.start n && nat_lt n result.end) }
-        ensures within { result.end ≤ 10000000000 }
+        ensures within { result.end ≤ line_number_end }
         ensures coherent { StaysCoherent self.now }
     {
         self.first..self.first + self.readings.len() as u64

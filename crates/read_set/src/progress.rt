@@ -1,4 +1,4 @@
-//! How far a request came that goes along a list, each place after the ones before it.
+//! How far a request came that goes along a list, each position after the ones before it.
 
 use crate::effect::Draft;
 use crate::known::Member;

@@ -4,7 +4,7 @@ ghost use Rattle.std.specs.Prelude.{◌≡◌, IfOk, OnOk, OnErr, option_copied}
 ghost use Rattle.std.specs.BTreeMap.{insert_entry};
 ghost use Rattle.circ_records.specs.Keys.{key_cmp};
 ghost use Rattle.circ_records.specs.Records.{record_at};
-ghost use Rattle.read_set.specs.Devices.Drafts.{Rise, place_from};
+ghost use Rattle.read_set.specs.Devices.Drafts.{Rise, position_from};
 
 use circ_records::{Key, Record};
 use std::alloc::{AllocError, Global};
@@ -23,9 +23,9 @@ pub fn found_in<'e>(entries: &'e [(Key, Record)], key: &Key) -> Option<&'e Recor
     None
 }
 
-/// The place of a key, or else the place to which it goes.
-fn place_of(entries: &[(Key, Record)], key: &Key) -> Result<usize, usize>
-    ensures { result ≡ place_from 0 key.now entries.now }
+/// The position of a key, or else the position to which it goes.
+fn position_of(entries: &[(Key, Record)], key: &Key) -> Result<usize, usize>
+    ensures { result ≡ position_from 0 key.now entries.now }
 {
     for (i, entry) in entries.iter().enumerate() {
         match key.cmp(&entry.0) {
@@ -44,9 +44,9 @@ pub fn put_in(entries: &mut Vec<(Key, Record)>, key: Key, written: Record) -> Re
     ensures err { OnErr result (entries.new.items ≡ entries.old.items) }
     ensures rising { Rise entries.new.items }
 {
-    match place_of(entries.as_slice(), &key) {
-        Ok(place) => entries[place] = (key, written),
-        Err(place) => entries.insert(place, (key, written))?,
+    match position_of(entries.as_slice(), &key) {
+        Ok(position) => entries[position] = (key, written),
+        Err(position) => entries.insert(position, (key, written))?,
     }
     Ok(())
 }
@@ -73,7 +73,7 @@ pub fn copied(alloc: Global, entries: &[(Key, Record)]) -> Result<Vec<(Key, Reco
 {
     let mut copies = Vec::with_capacity(alloc, entries.len())?;
     for entry in entries {
-        copies.push((entry.0, entry.1.copy(alloc)?))?;
+        copies.push((entry.0, entry.1.copy()?))?;
     }
     Ok(copies)
 }

@@ -57,11 +57,10 @@ impl<J: PlanName> Version<J> {
         requires { Settles J.plan line reads writes answer }
         ensures { result ≡ record { line = line; attempt = attempt; reads = reads; writes = writes; answer = answer } }
     {
-        // versions stay until the run ends, and what they write is noted again and again
+        // versions stay until the run ends
         let (mut reads, mut writes) = (reads, writes);
         reads.shrink_to_fit();
         writes.shrink_to_fit();
-        writes.share();
         Version {
             line,
             attempt,

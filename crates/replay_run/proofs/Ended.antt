@@ -35,7 +35,7 @@ use Rattle.replay_run.specs.OneThread.{IsOutput, results_of}
 use Rattle.replay_run.specs.OwnEnd.{IsAlone, IsCollectedAlone, IsMadeOf, entered_alone, written_by}
 use Rattle.replay_run.specs.declared.inputs.Output.{Output}
 
--- the place of a line is its number's
+-- the position of a line is its number's
 place_back : (plan : Planned) (n : ℕ) → plan.first + n - plan.first ≡ n
 place_back plan n = omega arith
 

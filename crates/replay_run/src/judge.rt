@@ -18,7 +18,12 @@ use std::alloc::Global;
 
 /// The policy, the base and the journal that the inputs tell, or their first fault.
 #[tactic(auto, unfolding(crate::specs::Judgements::judgement_on))]
-pub fn judge(alloc: Global, policy: &[u8], tables: &Tables, journal: &[u8]) -> Result<Sound, Fault>
+pub fn judge<'i>(
+    alloc: Global,
+    policy: &[u8],
+    tables: &Tables,
+    journal: &'i [u8],
+) -> Result<Sound<'i>, Fault>
     ensures { IsSound result (judgement_on policy.now (texts_of tables.now) journal.now) }
 {
     match Policy::read(alloc, policy) {
@@ -28,12 +33,12 @@ pub fn judge(alloc: Global, policy: &[u8], tables: &Tables, journal: &[u8]) -> R
 }
 
 /// The journal is read before the base, which asks for its first number, but its fault is told after the base's.
-fn judge_journal(
+fn judge_journal<'i>(
     alloc: Global,
     policy: Policy,
     tables: &Tables,
-    journal: &[u8],
-) -> Result<Sound, Fault>
+    journal: &'i [u8],
+) -> Result<Sound<'i>, Fault>
     ensures { IsSound result (with_base policy (journal_of journal.now) (base_of policy (texts_of tables.now) (first_read (journal_of journal.now)))) }
 {
     match Journal::read(alloc, journal) {
@@ -44,13 +49,13 @@ fn judge_journal(
 }
 
 /// The base before the lines of a journal.
-fn judge_base(
+fn judge_base<'i>(
     alloc: Global,
     policy: Policy,
     tables: &Tables,
-    journal: Journal,
-) -> Result<Sound, Fault>
-    ensures { IsSound result (with_base policy (Ok journal) (base_of policy (texts_of tables.now) (first_number journal))) }
+    journal: Journal<'i>,
+) -> Result<Sound<'i>, Fault>
+    ensures { IsSound result (with_base policy (Ok journal.entry) (base_of policy (texts_of tables.now) (first_number journal.entry))) }
 {
     match Base::read(alloc, &policy, tables, journal.first()) {
         Ok(base) => Ok(Sound {

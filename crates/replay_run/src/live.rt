@@ -92,9 +92,9 @@ impl Source for Live {
     ghost has = { λ live k. Some (standing live k) };
 
     #[tactic(auto, using(read_set::proofs::Gaining::gains_none))]
-    fn read(&mut self, alloc: Global, key: &Key) -> Result<Option<Record>, Stop> {
+    fn read(&mut self, _alloc: Global, key: &Key) -> Result<Option<Record>, Stop> {
         match self.at(key) {
-            Some(found) => Ok(Some(found.copy(alloc)?)),
+            Some(found) => Ok(Some(found.copy()?)),
             None => Ok(None),
         }
     }

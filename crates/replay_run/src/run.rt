@@ -45,7 +45,7 @@ pub fn one_thread(alloc: Global, inputs: &Inputs) -> Result<Output, Fault>
 }
 
 /// The plan and the journal that inputs make, or their first fault.
-pub fn judge_inputs(alloc: Global, inputs: &Inputs) -> Result<Prepared, Fault>
+pub fn judge_inputs(alloc: Global, inputs: &Inputs) -> Result<Prepared<'_>, Fault>
     ensures due { IsJudgement result (judgement inputs.now) }
     ensures fits { IfOk result (λ j. j.plan.readings ≡ readings_of j.journal) }
 {
@@ -65,11 +65,11 @@ pub fn judge_inputs(alloc: Global, inputs: &Inputs) -> Result<Prepared, Fault>
 }
 
 /// The same; the requests are read by all cores.
-pub fn judge_parallel<R: Threads + Sync>(
+pub fn judge_parallel<'i, R: Threads + Sync>(
     rt: &R,
     alloc: Global,
-    inputs: &Inputs,
-) -> Result<Prepared, Fault>
+    inputs: &'i Inputs,
+) -> Result<Prepared<'i>, Fault>
     ensures due { IsJudgement result (judgement inputs.now) }
     ensures fits { IfOk result (λ j. j.plan.readings ≡ readings_of j.journal) }
 {
@@ -90,7 +90,7 @@ pub fn judge_parallel<R: Threads + Sync>(
 }
 
 /// The policy, the base and the journal of inputs, or their first fault.
-fn sound_inputs(alloc: Global, inputs: &Inputs) -> Result<Sound, Fault>
+fn sound_inputs(alloc: Global, inputs: &Inputs) -> Result<Sound<'_>, Fault>
     ensures { IsSound result (judgement inputs.now) }
 {
     judge(

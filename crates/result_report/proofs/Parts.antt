@@ -1,4 +1,4 @@
--- Lines that are told at their places, and in parts.
+-- Lines that are told at their positions, and in parts.
 use Rattle.std.proofs.Common.{◌≡◌, ◌∙◌, ◌<◌, ◌≤◌, ◌^◌, ◌-◌, ◌+◌, ◌*◌, ℕ, zero, suc, List, [], ◌∷◌, ◌++◌, length, take, drop, map, min, Option, Some, None, Result, Ok, Bor, arith, refl, sym, ap, inl, inr, append_assoc}
 use Rattle.std.specs.Prelude.{IfOk, option_copied, option_map, slice_get}
 use Rattle.std.specs.List.{AllZip, filter_map, range_with_len}
@@ -80,20 +80,20 @@ module _ {X : Type 0} where
   get-drop (suc from) n [] = refl
   get-drop (suc from) n (x ∷ xs) = let at : suc from + n ≡ suc (from + n) = omega arith in rw at (get-drop from n xs)
 
-  pub between-next : (from place : ℕ) (xs : List X) (x : X) → from ≤ place → Some x ≡ slice_get xs place → between from place xs ++ x ∷ [] ≡ between from (place + 1) xs
-  between-next from place xs x le e =
-      let at : from + (place - from) ≡ place = omega arith in
-      let next : place + 1 - from ≡ suc (place - from) = omega arith in
-      rw next (taken-next (drop from xs) (place - from) x (e ∙ sym (get-drop from (place - from) xs ∙ ap (slice_get xs) at)))
+  pub between-next : (from position : ℕ) (xs : List X) (x : X) → from ≤ position → Some x ≡ slice_get xs position → between from position xs ++ x ∷ [] ≡ between from (position + 1) xs
+  between-next from position xs x le e =
+      let at : from + (position - from) ≡ position = omega arith in
+      let next : position + 1 - from ≡ suc (position - from) = omega arith in
+      rw next (taken-next (drop from xs) (position - from) x (e ∙ sym (get-drop from (position - from) xs ∙ ap (slice_get xs) at)))
 
-  pub between-last : (from place : ℕ) (xs : List X) → from ≤ place → None ≡ slice_get xs place → between from place xs ≡ between from (place + 1) xs
-  between-last from place xs le e =
-      let at : from + (place - from) ≡ place = omega arith in
-      let next : place + 1 - from ≡ suc (place - from) = omega arith in
-      rw next (taken-last (drop from xs) (place - from) (e ∙ sym (get-drop from (place - from) xs ∙ ap (slice_get xs) at)))
+  pub between-last : (from position : ℕ) (xs : List X) → from ≤ position → None ≡ slice_get xs position → between from position xs ≡ between from (position + 1) xs
+  between-last from position xs le e =
+      let at : from + (position - from) ≡ position = omega arith in
+      let next : position + 1 - from ≡ suc (position - from) = omega arith in
+      rw next (taken-last (drop from xs) (position - from) (e ∙ sym (get-drop from (position - from) xs ∙ ap (slice_get xs) at)))
 
-  pub between-none : (from place : ℕ) (xs : List X) → place ≤ from → between from place xs ≡ []
-  between-none from place xs le = let none : place - from ≡ 0 = omega arith in rw none refl
+  pub between-none : (from position : ℕ) (xs : List X) → position ≤ from → between from position xs ≡ []
+  between-none from position xs le = let none : position - from ≡ 0 = omega arith in rw none refl
 
 -- the text of rows one behind the other
 text-append : (a b : List Row) → table_text (a ++ b) ≡ table_text a ++ table_text b
@@ -160,7 +160,7 @@ stretch-few size k xs =
     let both = length-append (take (k * size) xs) (take size (drop (k * size) xs)) in
     omega (arith, few-taken ((k + 1) * size) xs, more, both)
 
--- a stretch lies between two places
+-- a stretch lies between two positions
 pub stretch-between : {X : Type 0} (size k from to most : ℕ) (xs : List X) → length xs ≤ most → from ≡ min (k * size) most → to ≡ min (from + size) most → between from to xs ≡ take size (drop (k * size) xs)
 stretch-between size k from to most xs few f t = elim (cases_lt (k * size) (length xs)) [
   | inl inside ↦
@@ -196,8 +196,8 @@ each-part lines a (suc n) (y ∷ ys) E h =
 
 pub are-parts : (lines : List LineResult) (n : ℕ) (ks : List ℕ) (ys : List Texts) (E : Type 0) → ks ≡ range_with_len 0 n → length lines ≤ n * 4096
     → AllZip (λ (k : ℕ) (r : Result Texts E). IfOk r (AreTexts (stretch k lines))) ks (map Ok ys) → AreParts lines ys
-are-parts lines n ks ys E places all h =
-    let both = each-part lines 0 n ys E (rw places at h) in
+are-parts lines n ks ys E positions all h =
+    let both = each-part lines 0 n ys E (rw positions at h) in
     record {
       each = λ k t e. let at : 0 + k ≡ k = omega arith in rw at at (both.1 k t e);
       all = rw both.0 all;
@@ -206,7 +206,7 @@ are-parts lines n ks ys E places all h =
 pub between-whole : {X : Type 0} (n : ℕ) (xs : List X) → length xs ≤ n → between 0 n xs ≡ xs
 between-whole n xs le = take_all (n - 0) xs (omega arith)
 
--- the answer that is lent at a place
+-- the answer that is lent at a position
 pub answer-at : (answers : List (Option (Bor Answer))) (i : ℕ) (a : Option (Bor Answer)) → Some a ≡ slice_get answers i → Some (option_copied a) ≡ slice_get (answers_behind answers) i
 answer-at answers i a e = ap (option_map option_copied) e ∙ sym (slice_get-map option_copied answers i)
 

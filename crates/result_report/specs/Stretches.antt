@@ -5,7 +5,7 @@ use Rattle.result_report.specs.Report.{LineResult}
 use Rattle.result_report.specs.Tables.{AreTexts}
 use Rattle.result_report.specs.declared.texts.Texts.{Texts}
 
--- from one place on up to another
+-- from one position on up to another
 abbrev pub between : {X : Type 0} → ℕ → ℕ → List X → List X
 between from to lines = take (to - from) (drop from lines)
 

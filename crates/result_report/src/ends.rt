@@ -65,8 +65,8 @@ pub fn collect<'e, E: End>(alloc: Global, end: &'e E) -> Result<Outcome<'e>, All
     let first = end.plan().first();
     let count = end.plan().readings().len();
     let mut records = BTreeMap::new(alloc);
-    take_base(alloc, end, &mut records)?;
-    take_lines(alloc, end, first, count, &mut records)?;
+    take_base(end, &mut records)?;
+    take_lines(end, first, count, &mut records)?;
     Ok(Outcome {
         records: Records::from_map(records),
         answers: collect_answers(alloc, end, first, count)?,
@@ -107,23 +107,18 @@ fn collect_attempts<E: End>(
 }
 
 /// Takes the records at the keys of the plan. Where memory runs out `collect` drops the records, here and below.
-fn take_base<E: End>(
-    alloc: Global,
-    end: &E,
-    records: &mut BTreeMap<Key, Record>,
-) -> Result<(), AllocError>
+fn take_base<E: End>(end: &E, records: &mut BTreeMap<Key, Record>) -> Result<(), AllocError>
     ensures { OnOk result (HasAt [] (E.left end.now) records.old.entries
         → HasAt (map (λ e. e.0) (E.planned end.now).base) (E.left end.now) records.new.entries) }
 {
     for key in end.plan().keys() {
-        take_record(alloc, end, key, records)?;
+        take_record(end, key, records)?;
     }
     Ok(())
 }
 
 /// Takes the records at the keys of what the lines wrote.
 fn take_lines<E: End>(
-    alloc: Global,
     end: &E,
     first: u64,
     count: usize,
@@ -134,14 +129,13 @@ fn take_lines<E: End>(
         → HasAt (keys ++ lines_keys (E.entered end.now) (range_with_len first count)) (E.left end.now) records.new.entries) }
 {
     for i in 0..count {
-        take_entries(alloc, end, first + i as u64, records)?;
+        take_entries(end, first + i as u64, records)?;
     }
     Ok(())
 }
 
 /// Takes the records at the keys of what one line wrote.
 fn take_entries<E: End>(
-    alloc: Global,
     end: &E,
     line: u64,
     records: &mut BTreeMap<Key, Record>,
@@ -151,7 +145,7 @@ fn take_entries<E: End>(
 {
     let mut i = 0;
     while let Some(entry) = end.keys_of(line, i) {
-        take_record(alloc, end, entry.0, records)?;
+        take_record(end, entry.0, records)?;
         i += 1;
     }
     Ok(())
@@ -159,7 +153,6 @@ fn take_entries<E: End>(
 
 /// Takes the record at a key, which is copied once, however often the key is named.
 fn take_record<E: End>(
-    alloc: Global,
     end: &E,
     key: &Key,
     records: &mut BTreeMap<Key, Record>,
@@ -172,7 +165,7 @@ fn take_record<E: End>(
     }
     match end.final_of(key) {
         Some(found) => {
-            let found = found.copy(alloc)?;
+            let found = found.copy()?;
             records.insert(*key, found)?;
             Ok(())
         }

@@ -102,7 +102,7 @@ fn tell_stretch<'e>(
     .finish()
 }
 
-/// Tells each line from one place on up to another.
+/// Tells each line from one position on up to another.
 fn tell<'e>(
     alloc: Global,
     lines: &[Line],
@@ -114,34 +114,34 @@ fn tell<'e>(
     ensures { IfOk result (Tells (between from to (line_results lines.now plan.now.readings (answers_behind answers.now)))) }
 {
     let mut telling = Telling::new(alloc)?;
-    for place in from..to {
-        if let Some((line, reading, answer)) = result_at(lines, plan, answers, place) {
+    for position in from..to {
+        if let Some((line, reading, answer)) = result_at(lines, plan, answers, position) {
             telling.line(alloc, line, reading, answer)?;
         }
     }
     Ok(telling)
 }
 
-/// The line at a place, with its reading and its answer.
-fn result_at<'l, 'e>(
-    lines: &'l [Line],
-    plan: &'l Plan,
+/// The line at a position, with its reading and its answer.
+fn result_at<'l, 't, 'p, 'e>(
+    lines: &'l [Line<'t>],
+    plan: &'p Plan,
     answers: &[Option<&'e Answer>],
-    place: usize,
-) -> Option<(&'l Line, &'l Reading, Option<&'e Answer>)>
-    ensures { option_map (λ t. (t.0.now, t.1.now, option_copied t.2)) result ≡ slice_get (line_results lines.now plan.now.readings (answers_behind answers.now)) place }
+    position: usize,
+) -> Option<(&'l Line<'t>, &'p Reading, Option<&'e Answer>)>
+    ensures { option_map (λ t. (t.0.now, t.1.now, option_copied t.2)) result ≡ slice_get (line_results lines.now plan.now.readings (answers_behind answers.now)) position }
 {
-    let line = lines.get(place)?;
-    let reading = reading_at(plan, place)?;
-    let answer = answers.get(place)?;
+    let line = lines.get(position)?;
+    let reading = reading_at(plan, position)?;
+    let answer = answers.get(position)?;
     Some((line, reading, *answer))
 }
 
-/// What the line at a place is read as.
-fn reading_at(plan: &Plan, place: usize) -> Option<&Reading>
-    ensures { option_copied result ≡ slice_get plan.now.readings place }
+/// What the line at a position is read as.
+fn reading_at(plan: &Plan, position: usize) -> Option<&Reading>
+    ensures { option_copied result ≡ slice_get plan.now.readings position }
 {
-    plan.readings().get(place)
+    plan.readings().get(position)
 }
 
 /// The result tables of all stretches, from those of each. A part is given back once it is joined.

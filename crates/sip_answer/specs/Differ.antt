@@ -5,6 +5,7 @@ use Rattle.std.specs.Str.{bytes_eq}
 use Rattle.sip_reader.specs.Bytes as byte
 use Rattle.sip_reader.specs.Reading.{trimmed}
 use Rattle.sip_reader.specs.Sum.{body}
+use Rattle.sip_answer.specs.Parts.{count_max}
 use Rattle.sip_answer.specs.Recorded.{◌>>=◌, ok_of, flag_of, count_at, due_in, fee_in, valid_in, items_in}
 use Rattle.sip_answer.specs.declared.answer.Answer.{Answer}
 use Rattle.sip_answer.specs.declared.answer.Answer.TheVariants as answers
@@ -125,7 +126,7 @@ fee_paid_words a m = if nat_lt (length m) short_fixed then None else do
 
 -- the number that four digits tell of a count
 abbrev pub capped : ℕ → ℕ
-capped n = if nat_lt 9999 n then 9999 else n
+capped n = if nat_lt count_max n then count_max else n
 
 -- Renew all response (66): BM for each renewed item, BN for each other one.
 unfoldable pub renew_all_words : RenewAllAnswer → List ℕ → Option (List Field)

@@ -1,15 +1,16 @@
 -- How a due date is written, and which day stands in a recorded one.
 use Rattle.std.specs.Prelude.{ℕ, ◌+◌, ◌/◌, ◌%◌, List, [], ◌∷◌, ◌++◌, codes}
+use Rattle.sip_reader.specs.Bytes as byte
 use Rattle.sip_reader.specs.Days.{year_of, month_of, day_of_month}
 use Rattle.circ_policy.specs.declared.due_form.DueForm.{DueForm}
 use Rattle.circ_policy.specs.declared.due_form.DueForm.TheVariants as form
 
 -- two digits, and four
 unfoldable pub two_digits : ℕ → List ℕ
-two_digits n = (48 + n / 10) ∷ (48 + n % 10) ∷ []
+two_digits n = (byte.zero + n / 10) ∷ (byte.zero + n % 10) ∷ []
 
 unfoldable pub four_digits : ℕ → List ℕ
-four_digits n = (48 + n / 1000) ∷ (48 + n / 100 % 10) ∷ (48 + n / 10 % 10) ∷ (48 + n % 10) ∷ []
+four_digits n = (byte.zero + n / 1000) ∷ (byte.zero + n / 100 % 10) ∷ (byte.zero + n / 10 % 10) ∷ (byte.zero + n % 10) ∷ []
 
 -- The forms of a due date (the profile of this project): sip is the date and time of SIP 2.00 at one minute before midnight.
 abbrev pub date_text : DueForm → ℕ → ℕ → ℕ → List ℕ

@@ -4,6 +4,7 @@ use Rattle.std.specs.Char.{is_ascii_digit}
 use Rattle.std.specs.Int.{IsInRange}
 use Rattle.std.specs.List.{list_all, list_any}
 use Rattle.std.specs.Option.{option_map_or}
+use Rattle.sip_reader.specs.Dates.{stamp_len}
 use Rattle.sip_reader.specs.Days.{FIRST_DAY, LAST_DAY}
 use Rattle.sip_reader.specs.Texts.{is_barred}
 use Rattle.sip_reader.specs.declared.amount.TheConstants.{AMOUNT_MAX}
@@ -57,7 +58,7 @@ texts_of answers.Resend = []
 -- What the types of an answer's parts promise: a date of 18 bytes, and where there are any a due day from 1 January 1900 to
 -- 31 December 9999 and a rental of at most 999,999,999.99.
 abbrev pub IsDate : List ℕ → Type 0
-IsDate date = length date ≡ 18
+IsDate date = length date ≡ stamp_len
 
 abbrev pub LoanParts : LoanAnswer → Type 0
 LoanParts a = IsDate a.date × IfSome a.due (λ d. IsInRange FIRST_DAY LAST_DAY d) × IfSome a.rental (λ r. r ≤ AMOUNT_MAX)

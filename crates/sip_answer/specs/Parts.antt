@@ -1,6 +1,7 @@
 -- The parts of which a response is made.
-use Rattle.std.specs.Prelude.{ℕ, Bool, ◌+◌, ◌/◌, ◌%◌, nat_lt, List, [], ◌∷◌, ◌++◌, Option, Some, None, if◌then◌else◌, codes}
+use Rattle.std.specs.Prelude.{ℕ, Bool, ◌+◌, ◌-◌, ◌/◌, ◌%◌, nat_lt, List, [], ◌∷◌, ◌++◌, Option, Some, None, if◌then◌else◌, codes}
 use Rattle.std.specs.List.{flat_map}
+use Rattle.sip_reader.specs.Bytes as byte
 use Rattle.sip_reader.specs.Sum.{checksum}
 use Rattle.sip_answer.specs.DueDates.{four_digits}
 
@@ -34,13 +35,17 @@ flag b = if b then codes "Y" else codes "N"
 unfoldable pub mark : Bool → List ℕ
 mark b = if b then codes "Y" else codes " "
 
+-- the greatest count that four digits tell
+abbrev pub count_max : ℕ
+count_max = 9999
+
 -- a count (SIP 2.00): four digits; a greater number than they can tell is 9999
 unfoldable pub count : ℕ → List ℕ
-count n = if nat_lt 9999 n then codes "9999" else four_digits n
+count n = if nat_lt count_max n then codes "9999" else four_digits n
 
 -- an upper-case hexadecimal digit
 abbrev pub hex_digit : ℕ → ℕ
-hex_digit n = if nat_lt n 10 then 48 + n else 55 + n
+hex_digit n = if nat_lt n 10 then byte.zero + n else byte.A - 10 + n
 
 -- four of them
 unfoldable pub hex_digits : ℕ → List ℕ

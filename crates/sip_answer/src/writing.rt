@@ -13,6 +13,7 @@ mod parts;
 mod patrons;
 
 use crate::answer::Answer;
+pub(crate) use parts::COUNT_MAX;
 use parts::put_detection;
 use std::alloc::{AllocError, Global};
 

@@ -5,11 +5,9 @@ use crate::presets::preset_named;
 use crate::stop::Stop;
 use clap::{Arg, ArgAction, ArgMatches, Command, value_parser};
 use log_pairs::Escapes;
+use sip_reader::LINE_NUMBER_MAX;
 use std::alloc::{AllocError, Global};
 use std::convert::AsStr;
-
-/// The greatest number that a row of a journal has.
-pub const LAST_NUMBER: u64 = 9_999_999_999;
 
 /// The version that the program tells of itself.
 const VERSION: &str = "0.1.0";
@@ -77,7 +75,7 @@ fn chosen(alloc: Global, matches: &ArgMatches<'_>) -> Result<Options, Stop> {
         None => preset.map(|p| p.escapes).unwrap_or(Escapes::Bare),
     };
     let first = matches.get_one::<u64>("first").unwrap_or(1);
-    if first == 0 || first > LAST_NUMBER {
+    if first == 0 || first > LINE_NUMBER_MAX {
         return Err(Stop::refused(alloc, "--first must be 1 to", "9999999999"));
     }
     let logs = logs_of(alloc, matches)?;

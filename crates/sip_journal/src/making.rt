@@ -1,10 +1,10 @@
 //! A journal while it is made: exchanges leave it as soon as they are whole.
 
-use crate::command_line::LAST_NUMBER;
 use crate::finder::{Said, Side};
 use crate::stop::Stop;
 use journal_table::{CONNECTION_LIMIT, LINE_LIMIT};
 use log_pairs::{Exchange, Pairing, head_text, rows_text};
+use sip_reader::LINE_NUMBER_END;
 use std::alloc::Global;
 use std::io::Write;
 
@@ -129,7 +129,7 @@ impl Making {
     fn write<W: Write>(&mut self, out: &mut W) -> Result<(), Stop> {
         let count = self.ready.len() as u64;
         let after = self.number.saturating_add(count);
-        if after > LAST_NUMBER + 1 {
+        if after > LINE_NUMBER_END {
             return Err(Stop::refused(
                 self.alloc,
                 "the number of a row would be past",

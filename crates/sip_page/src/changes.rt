@@ -155,10 +155,10 @@ fn case_of<'r>(
     row: &'r ByteRecord,
 ) -> Result<Case<'r>, AllocError> {
     let mut asked = Vec::new(alloc);
-    for (place, name) in header.iter().enumerate() {
+    for (position, name) in header.iter().enumerate() {
         asked.push(Field {
             name: name.as_bytes(),
-            value: column(row, place),
+            value: column(row, position),
         })?;
     }
     Ok(Case {

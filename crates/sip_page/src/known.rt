@@ -137,9 +137,9 @@ N=free
 
 /// What stands before the first `mark` of a text and what stands behind it; without one it is the text and nothing.
 pub fn cut(text: &[u8], mark: u8) -> (&[u8], &[u8]) {
-    for (place, byte) in text.iter().enumerate() {
+    for (position, byte) in text.iter().enumerate() {
         if *byte == mark {
-            return (&text[..place], &text[place + 1..]);
+            return (&text[..position], &text[position + 1..]);
         }
     }
     (text, b"")

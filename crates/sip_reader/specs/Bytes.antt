@@ -10,6 +10,9 @@ B = 66
 abbrev pub C : ℕ
 C = 67
 
+abbrev pub F : ℕ
+F = 70
+
 abbrev pub G : ℕ
 G = 71
 
@@ -49,11 +52,23 @@ Y = 89
 abbrev pub Z : ℕ
 Z = 90
 
+abbrev pub a : ℕ
+a = 97
+
+abbrev pub f : ℕ
+f = 102
+
 abbrev pub zero : ℕ
 zero = 48
 
 abbrev pub one : ℕ
 one = 49
+
+abbrev pub nine : ℕ
+nine = 57
+
+abbrev pub backslash : ℕ
+backslash = 92
 
 abbrev pub bar : ℕ
 bar = 124
@@ -78,3 +93,6 @@ CR = 13
 
 abbrev pub LF : ℕ
 LF = 10
+
+abbrev pub tab : ℕ
+tab = 9

@@ -5,6 +5,10 @@ use Rattle.std.specs.List.{list_all}
 use Rattle.sip_reader.specs.Bytes as byte
 use Rattle.sip_reader.specs.Days.{is_real, day_number}
 
+-- how many bytes a date and time has
+abbrev pub stamp_len : ℕ
+stamp_len = 18
+
 -- the number that two decimal digits spell
 abbrev pub two_at : ℕ → List ℕ → ℕ
 two_at i s = (slice_index s i - byte.zero) * 10 + (slice_index s (i + 1) - byte.zero)
@@ -26,7 +30,7 @@ has_time s = nat_lt (two_at 12 s) 24 && (nat_lt (two_at 14 s) 60 && nat_lt (two_
 
 -- a date and time
 unfoldable pub is_stamp : List ℕ → Bool
-is_stamp s = (length s == 18) && (has_digits s && (has_day s && has_time s))
+is_stamp s = (length s == stamp_len) && (has_digits s && (has_day s && has_time s))
 
 -- the number of its day, as it is written
 unfoldable pub day_of : List ℕ → ℕ

@@ -2,6 +2,7 @@
 use Rattle.std.specs.Prelude.{ℕ, ◌+◌, ◌-◌, ◌*◌, ◌&&◌, ◌==◌, Option, Some, None, true, false, if◌then◌else◌}
 use Rattle.std.specs.Char.{is_ascii_digit}
 use Rattle.sip_reader.specs.Bytes as byte
+use Rattle.sip_reader.specs.Dates.{stamp_len}
 use Rattle.sip_reader.specs.declared.kind.Command.{Command}
 use Rattle.sip_reader.specs.declared.kind.Command.TheVariants.{Request, Passed}
 use Rattle.sip_reader.specs.declared.kind.Layout.{Layout}
@@ -37,11 +38,11 @@ command_at a b = if is_ascii_digit a && is_ascii_digit b then command_numbered (
 -- The layouts: how many flags stand before the transaction date, how many bytes after it, and which variable fields the rules use.
 abbrev pub layout_of : Kind → Layout
 layout_of kinds.BlockPatron = record { flags = 1; hold_mode = false; after = 0; patron = true; item = false; amount = false; properties = false; pickup = false; title = false }
-layout_of kinds.Checkin = record { flags = 1; hold_mode = false; after = 18; patron = false; item = true; amount = false; properties = false; pickup = false; title = false }
-layout_of kinds.Checkout = record { flags = 2; hold_mode = false; after = 18; patron = true; item = true; amount = false; properties = false; pickup = false; title = false }
+layout_of kinds.Checkin = record { flags = 1; hold_mode = false; after = stamp_len; patron = false; item = true; amount = false; properties = false; pickup = false; title = false }
+layout_of kinds.Checkout = record { flags = 2; hold_mode = false; after = stamp_len; patron = true; item = true; amount = false; properties = false; pickup = false; title = false }
 layout_of kinds.Hold = record { flags = 1; hold_mode = true; after = 0; patron = true; item = true; amount = false; properties = false; pickup = true; title = true }
 layout_of kinds.ItemStatus = record { flags = 0; hold_mode = false; after = 0; patron = false; item = true; amount = false; properties = true; pickup = false; title = false }
 layout_of kinds.PatronEnable = record { flags = 0; hold_mode = false; after = 0; patron = true; item = false; amount = false; properties = false; pickup = false; title = false }
-layout_of kinds.Renew = record { flags = 2; hold_mode = false; after = 18; patron = true; item = true; amount = false; properties = false; pickup = false; title = true }
+layout_of kinds.Renew = record { flags = 2; hold_mode = false; after = stamp_len; patron = true; item = true; amount = false; properties = false; pickup = false; title = true }
 layout_of kinds.FeePaid = record { flags = 0; hold_mode = false; after = 7; patron = true; item = false; amount = true; properties = false; pickup = false; title = false }
 layout_of kinds.RenewAll = record { flags = 0; hold_mode = false; after = 0; patron = true; item = false; amount = false; properties = false; pickup = false; title = false }

@@ -4,7 +4,7 @@ use Rattle.std.specs.List.{list_any, list_all, suffix_len}
 use Rattle.std.specs.Option.{option_and_then, is_none}
 use Rattle.sip_reader.specs.Amounts.{amount_of}
 use Rattle.sip_reader.specs.Bytes as byte
-use Rattle.sip_reader.specs.Dates.{is_stamp, given_day}
+use Rattle.sip_reader.specs.Dates.{given_day, is_stamp, stamp_len}
 use Rattle.sip_reader.specs.Fields.{Texts, texts, pieces}
 use Rattle.sip_reader.specs.Kinds.{command_at, layout_of}
 use Rattle.sip_reader.specs.Sum.{has_trailer, has_right_sum, body, sequence}
@@ -35,10 +35,10 @@ abbrev pub flags_at : Layout → List ℕ → List ℕ
 flags_at l m = slice_range m 2 (2 + l.flags)
 
 abbrev pub date_at : Layout → List ℕ → List ℕ
-date_at l m = slice_range m (2 + l.flags) (2 + l.flags + 18)
+date_at l m = slice_range m (2 + l.flags) (2 + l.flags + stamp_len)
 
 abbrev pub fixed_len : Layout → ℕ
-fixed_len l = 2 + l.flags + 18 + l.after
+fixed_len l = 2 + l.flags + stamp_len + l.after
 
 abbrev pub rest_after : Layout → List ℕ → List ℕ
 rest_after l m = drop (fixed_len l) m

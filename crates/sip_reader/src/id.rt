@@ -17,6 +17,12 @@ use std::marker::Model;
 /// The longest id, in bytes.
 pub const ID_MAX: usize = 64;
 
+/// The greatest number of a line of a journal, of ten digits: the id of a fee that a line makes has the line's number in it.
+pub const LINE_NUMBER_MAX: u64 = 9_999_999_999;
+
+/// The number behind it, which no line has.
+pub const LINE_NUMBER_END: u64 = 10_000_000_000;
+
 /// The id of a patron, an item or a fee: 1 to 64 bytes without a bar, CR or LF. Ids go in the order of their bytes.
 #[derive(Clone, Copy)]
 pub struct Id {
@@ -73,7 +79,7 @@ impl Id {
 #[tactic(auto, unfolding(crate::specs::Texts::is_id))]
 fn is_valid(bytes: &[u8]) -> bool
     ensures value { result ≡ is_id bytes.now }
-    ensures short { IsTrue result → length bytes.now ≤ 64 }
+    ensures short { IsTrue result → length bytes.now ≤ ID_MAX }
 {
     !bytes.is_empty() && bytes.len() <= ID_MAX && !has_barred(bytes)
 }

@@ -3,6 +3,7 @@
 ghost use Rattle.std.specs.Prelude.{◌≡◌};
 ghost use Rattle.sip_reader.specs.Kinds.{command_numbered, command_at, layout_of};
 
+use crate::stamp::STAMP_LEN;
 use crate::{Kind, Passed};
 
 /// What the identifier of a message says.
@@ -103,7 +104,7 @@ const BLOCK_PATRON: Layout = Layout {
 /// One flag and a return date, and an item's id.
 const CHECKIN: Layout = Layout {
     flags: 1,
-    after: 18,
+    after: STAMP_LEN,
     item: true,
     ..DATE_ALONE
 };
@@ -111,7 +112,7 @@ const CHECKIN: Layout = Layout {
 /// Two flags and a no block due date, a patron's id and an item's.
 const CHECKOUT: Layout = Layout {
     flags: 2,
-    after: 18,
+    after: STAMP_LEN,
     patron: true,
     item: true,
     ..DATE_ALONE

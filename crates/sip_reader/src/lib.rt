@@ -23,7 +23,7 @@ mod text;
 
 pub use amount::{AMOUNT_MAX, Amount, push_amount};
 pub use day::Day;
-pub use id::{ID_MAX, Id};
+pub use id::{ID_MAX, Id, LINE_NUMBER_END, LINE_NUMBER_MAX};
 pub use laws::{amounts_read_back, first_field_counts, pieces_tell_the_rest};
 pub use numerals::{all_digits, number_of_digits};
 pub use read::{MESSAGE_MAX, read_request, without_line_end};

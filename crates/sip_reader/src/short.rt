@@ -15,13 +15,14 @@ pub const SHORT_MAX: usize = 64;
 #[derive(Clone, Copy)]
 pub struct Short {
     /// Zeros stand behind the first `len`.
-    bytes: [u8; 64],
+    bytes: [u8; SHORT_MAX],
     len: u8,
 }
 
 impl Model for Short {
     ghost use Rattle.std.specs.Prelude.{ℕ, List, ◌++◌, ◌-◌, ◌≤◌, ◌≡◌, length, take, drop, replicate, refl};
     ghost use Rattle.sip_reader.specs.Devices.Padding.{IsPadded, back, front_length};
+    ghost use Rattle.sip_reader.specs.declared.short.TheConstants.{SHORT_MAX};
 
     ghost Value = { List ℕ };
 
@@ -29,7 +30,7 @@ impl Model for Short {
 
     ghost invariant = { λ s. IsPadded s.len s.bytes };
 
-    ghost inverse = { λ v. record { bytes = v ++ replicate (64 - length v) 0; len = length v } };
+    ghost inverse = { λ v. record { bytes = v ++ replicate (SHORT_MAX - length v) 0; len = length v } };
 
     ghost inverse_ok = { λ a h. Prim.rw (back a.len a.bytes h, front_length a.len a.bytes h) refl };
 }
@@ -37,7 +38,7 @@ impl Model for Short {
 impl Short {
     /// These bytes.
     pub fn of(bytes: &[u8]) -> Short
-        requires { length bytes.now ≤ 64 }
+        requires { length bytes.now ≤ SHORT_MAX }
         ensures { result ≡ bytes.now }
     {
         Short {
@@ -48,7 +49,7 @@ impl Short {
 
     /// The same with more bytes behind.
     pub fn with(self, more: &[u8]) -> Short
-        requires { length self + length more.now ≤ 64 }
+        requires { length self + length more.now ≤ SHORT_MAX }
         ensures { result ≡ self ++ more.now }
     {
         let front = self.len as usize;
@@ -82,7 +83,7 @@ impl Short {
 }
 
 /// How 64 bytes go in the order of bytes, seen eight at a time: keys are compared all the time.
-fn order_of(a: &[u8; 64], b: &[u8; 64]) -> Ordering
+fn order_of(a: &[u8; SHORT_MAX], b: &[u8; SHORT_MAX]) -> Ordering
     ensures { result ≡ slice_cmp nat_cmp a.now b.now }
 {
     for i in 0..8 {
@@ -96,8 +97,8 @@ fn order_of(a: &[u8; 64], b: &[u8; 64]) -> Ordering
 }
 
 /// The number that eight bytes spell, the first the greatest.
-fn word_at(bytes: &[u8; 64], i: usize) -> u64
-    requires { i + 8 ≤ 64 }
+fn word_at(bytes: &[u8; SHORT_MAX], i: usize) -> u64
+    requires { i + 8 ≤ SHORT_MAX }
     ensures { result ≡ big_endian 0 (take 8 (drop i bytes.now)) }
 {
     u64::from_be_bytes([
@@ -113,11 +114,11 @@ fn word_at(bytes: &[u8; 64], i: usize) -> u64
 }
 
 /// The bytes and zeros behind them.
-fn padded(bytes: &[u8]) -> [u8; 64]
-    requires { length bytes.now ≤ 64 }
-    ensures { result ≡ bytes.now ++ replicate (64 - length bytes.now) 0 }
+fn padded(bytes: &[u8]) -> [u8; SHORT_MAX]
+    requires { length bytes.now ≤ SHORT_MAX }
+    ensures { result ≡ bytes.now ++ replicate (SHORT_MAX - length bytes.now) 0 }
 {
-    let mut whole = [0; 64];
+    let mut whole = [0; SHORT_MAX];
     for (i, b) in bytes.iter().enumerate() {
         whole[i] = *b;
     }

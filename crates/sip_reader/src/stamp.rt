@@ -14,7 +14,7 @@ pub const STAMP_LEN: usize = 18;
 /// A date and time `YYYYMMDDZZZZHHMMSS` as it stands in a message, of the years 1900 to 9900.
 #[derive(Clone, Copy)]
 pub struct Stamp {
-    bytes: [u8; 18],
+    bytes: [u8; STAMP_LEN],
 }
 
 impl Model for Stamp {
@@ -36,7 +36,7 @@ impl Stamp {
         ensures { result ≡ (if is_stamp bytes.now then Some bytes.now else None) }
     {
         if is_date(bytes) {
-            let mut kept = [0; 18];
+            let mut kept = [0; STAMP_LEN];
             kept.copy_from_slice(bytes);
             Some(Stamp { bytes: kept })
         } else {
@@ -69,21 +69,21 @@ fn is_date(s: &[u8]) -> bool
 }
 
 fn are_digits(s: &[u8]) -> bool
-    requires { length s.now ≡ 18 }
+    requires { length s.now ≡ STAMP_LEN }
     ensures { result ≡ has_digits s.now }
 {
     all_digits(&s[..8]) && all_digits(&s[12..])
 }
 
 fn is_written_day(s: &[u8]) -> bool
-    requires { length s.now ≡ 18 }
+    requires { length s.now ≡ STAMP_LEN }
     ensures { result ≡ has_day s.now }
 {
     year(s) <= 9900 && Day::spelt(year(s), two(s, 4), two(s, 6)).is_some()
 }
 
 fn is_time(s: &[u8]) -> bool
-    requires { length s.now ≡ 18 }
+    requires { length s.now ≡ STAMP_LEN }
     ensures { result ≡ has_time s.now }
 {
     two(s, 12) < 24 && two(s, 14) < 60 && two(s, 16) < 60

@@ -1,8 +1,16 @@
-//! The program `sip_replay`: takes the words of its command line and ends with the status of their run. The top room of the
-//! house: what the words ask for stands in `replay_command`, what is computed in `replay_run` and below.
+//! The program `sip_replay`: what it does with the words of its command line. It reads the files that they name, replays the
+//! journal, writes what came out, prints one line and ends with the status. What is computed stands in `replay_run` and below.
 #![tactic(auto)]
 
-use replay_command::{REFUSED, Stop, run};
+mod files;
+mod place;
+mod progress;
+mod remedy;
+mod replaying;
+mod stop;
+
+use crate::replaying::run;
+use crate::stop::{REFUSED, Stop};
 use replay_run::Fault;
 use std::env::Env;
 use std::process::ExitCode;

@@ -28,7 +28,7 @@ use Rattle.board_lines.specs.declared.reply.Reply.TheVariants as replies
 use Rattle.speculate.specs.declared.ready.Mark.{Mark}
 use Rattle.speculate.specs.declared.ready.Mark.TheVariants as marks
 use Rattle.speculate.specs.declared.ready.Ready.{Ready}
-use Rattle.speculate.specs.Marks.{Fits, IsStill, HasTurned, IsMarked, IsReady, Puts, Loses, SendsBack, ended, has_place, is_in_check}
+use Rattle.speculate.specs.Marks.{Fits, IsStill, HasTurned, IsMarked, IsReady, Puts, Loses, SendsBack, ended, has_position, is_in_check}
 use Rattle.speculate.proofs.Marking.{puts_none}
 use Rattle.speculate.proofs.Readying.{stamp_by, Turns, turns_put, ready_put, ready_change}
 
@@ -257,7 +257,7 @@ module _ (plan : Planned) (old new : Board) (w n : ℕ) (r r' : Ready) (ok : Rea
       let from = begins_free old w n h.0 h.1 h.2 h.3 none h.4 in
       to_checked (λ m lt. omega (arith, from.1, (ok.rows.each m).past)) puts
 
-  whole_goes_on : (m : ℕ) → holder (row_at old m).state ≡ Some w → Puts r r' (n - old.first) (ended (has_place r.checking (n - old.first))) → IsReady new r'
+  whole_goes_on : (m : ℕ) → holder (row_at old m).state ≡ Some w → Puts r r' (n - old.first) (ended (has_position r.checking (n - old.first))) → IsReady new r'
   whole_goes_on m held puts =
       let was = mark_by old r n (Checking w h.0 h.1 h.2 h.3) ready there (goes_on old w n h.0 h.1 h.2 h.3 m held h.4) in
       elim was.1 [
@@ -265,7 +265,7 @@ module _ (plan : Planned) (old new : Board) (w n : ℕ) (r r' : Ready) (ok : Rea
         | inr x ↦ to_unchecked x.1 (subst (λ y. Puts r r' (n - old.first) (ended y)) (was.2.in_checking ∙ ap is_in_check x.0) puts)
       ]
 
-  pub whole_ready : (hand : Option Hand) (begins : Bool) → IsHand old w hand → is_some hand ≡ not begins → Puts r r' (n - old.first) (ended (begins || has_place r.checking (n - old.first))) → IsReady new r'
+  pub whole_ready : (hand : Option Hand) (begins : Bool) → IsHand old w hand → is_some hand ≡ not begins → Puts r r' (n - old.first) (ended (begins || has_position r.checking (n - old.first))) → IsReady new r'
   whole_ready hand true in_hand e puts = whole_begins (hand_none old w hand in_hand e) puts
   whole_ready hand false in_hand e puts = (let held = hand_some old w hand in_hand e in whole_goes_on held.0 held.1 puts)
 

@@ -11,9 +11,9 @@ use Rattle.board_steps.specs.Choice.Choice.{ToCommit, ToCheck, ToTake, ToWait, T
 use Rattle.board_steps.specs.Reached.{Reached}
 use Rattle.speculate.specs.declared.ready.Mark.{Mark}
 use Rattle.speculate.specs.declared.ready.Ready.{Ready}
-use Rattle.speculate.specs.Marks.{Fits, IsStill, HasTurned, IsMarked, IsReady, waits, is_unchecked, is_checked, has_place}
+use Rattle.speculate.specs.Marks.{Fits, IsStill, HasTurned, IsMarked, IsReady, waits, is_unchecked, is_checked, has_position}
 use Rattle.line_set.specs.Trees.{IsLeastFrom}
-use Rattle.speculate.proofs.Flags.{place_within}
+use Rattle.speculate.proofs.Flags.{position_within}
 use Rattle.speculate.proofs.Calling.{line_done}
 
 -- ---- what a mark says
@@ -89,7 +89,7 @@ counts_mark rows n notes answer t mark still h = elim h [
 ]
 
 module _ (plan : Planned) (b : Board) (r : Ready) (ok : Reached plan b) (ready : IsReady b r) where
-  -- a line by its place
+  -- a line by its position
   place_line : (p : ℕ) → p < length b.rows → IsLine b (b.first + p)
   place_line p lt = (omega arith, omega (arith, lt))
 
@@ -100,31 +100,31 @@ module _ (plan : Planned) (b : Board) (r : Ready) (ok : Reached plan b) (ready :
   place_back p = omega arith
 
   -- ---- from the sets
-  pub place_waits : (p : ℕ) → has_place r.waiting p ≡ true → Waits b (b.first + p)
+  pub place_waits : (p : ℕ) → has_position r.waiting p ≡ true → Waits b (b.first + p)
   place_waits p h =
-      let there = place_line p (omega (arith, place_within r.waiting p h, ready.places.of_waiting)) in
+      let there = place_line p (omega (arith, position_within r.waiting p h, ready.positions.of_waiting)) in
       let x = mark_at (b.first + p) there in
-      (there, mark_waits (row_at b) (b.first + p) (row_at b (b.first + p)).state x.0 x.1 (sym x.2.in_waiting ∙ ap (has_place r.waiting) (place_back p) ∙ h))
+      (there, mark_waits (row_at b) (b.first + p) (row_at b (b.first + p)).state x.0 x.1 (sym x.2.in_waiting ∙ ap (has_position r.waiting) (place_back p) ∙ h))
 
-  pub place_needs : (p : ℕ) → has_place r.unchecked p ≡ true → NeedsCheck (row_at b) (b.first + p)
+  pub place_needs : (p : ℕ) → has_position r.unchecked p ≡ true → NeedsCheck (row_at b) (b.first + p)
   place_needs p h =
-      let there = place_line p (omega (arith, place_within r.unchecked p h, ready.places.of_unchecked)) in
+      let there = place_line p (omega (arith, position_within r.unchecked p h, ready.positions.of_unchecked)) in
       let x = mark_at (b.first + p) there in
-      mark_unchecked (row_at b) (b.first + p) (row_at b (b.first + p)).state x.0 x.1 (sym x.2.in_unchecked ∙ ap (has_place r.unchecked) (place_back p) ∙ h)
+      mark_unchecked (row_at b) (b.first + p) (row_at b (b.first + p)).state x.0 x.1 (sym x.2.in_unchecked ∙ ap (has_position r.unchecked) (place_back p) ∙ h)
 
-  pub place_counts : (p : ℕ) → has_place r.checked p ≡ true → CheckedIn (row_at b) (b.first + p) (row_at b (b.first + p)).state
+  pub place_counts : (p : ℕ) → has_position r.checked p ≡ true → CheckedIn (row_at b) (b.first + p) (row_at b (b.first + p)).state
   place_counts p h =
-      let there = place_line p (omega (arith, place_within r.checked p h, ready.places.of_checked)) in
+      let there = place_line p (omega (arith, position_within r.checked p h, ready.positions.of_checked)) in
       let x = mark_at (b.first + p) there in
-      mark_checked (row_at b) (b.first + p) (row_at b (b.first + p)).state x.0 x.1 (sym x.2.in_checked ∙ ap (has_place r.checked) (place_back p) ∙ h)
+      mark_checked (row_at b) (b.first + p) (row_at b (b.first + p)).state x.0 x.1 (sym x.2.in_checked ∙ ap (has_position r.checked) (place_back p) ∙ h)
 
   -- ---- to the sets
-  pub waits_place : (n : ℕ) → Waits b n → has_place r.waiting (n - b.first) ≡ true
+  pub waits_place : (n : ℕ) → Waits b n → has_position r.waiting (n - b.first) ≡ true
   waits_place n h =
       let x = mark_at n h.0 in
       x.2.in_waiting ∙ waits_mark (row_at b) n x.0 (subst (λ s. Fits (row_at b) n s x.0) h.1 x.1)
 
-  pub needs_place : (n : ℕ) → NeedsCheck (row_at b) n → IsLine b n × (has_place r.unchecked (n - b.first) ≡ true)
+  pub needs_place : (n : ℕ) → NeedsCheck (row_at b) n → IsLine b n × (has_position r.unchecked (n - b.first) ≡ true)
   needs_place n h =
       let there = line_done b n h.0 h.1 h.2 h.3 in
       let x = mark_at n there in
@@ -143,13 +143,13 @@ module _ (plan : Planned) (b : Board) (r : Ready) (ok : Reached plan b) (ready :
         ]
       ]
 
-  pub commit_place : (n : ℕ) → CanCommit b n → has_place r.checked b.committed ≡ true
+  pub commit_place : (n : ℕ) → CanCommit b n → has_position r.checked b.committed ≡ true
   commit_place n h =
       let may = h.3 in
       let there = line_done b n h.0 h.1 (Some h.2) may.done in
       let x = mark_at n there in
       let at : n - b.first ≡ b.committed = omega (arith, next_line n h) in
-      ap (has_place r.checked) (sym at) ∙ x.2.in_checked ∙ counts_mark (row_at b) n h.0 h.1 h.2 x.0 may.unchanged (subst (λ s. Fits (row_at b) n s x.0) may.done x.1)
+      ap (has_position r.checked) (sym at) ∙ x.2.in_checked ∙ counts_mark (row_at b) n h.0 h.1 h.2 x.0 may.unchanged (subst (λ s. Fits (row_at b) n s x.0) may.done x.1)
 
   not_both : (c : Bool) → c ≡ true → c ≡ false → ⊥
   not_both c h e = (let z : true ≡ false = sym h ∙ e in cc)
@@ -158,7 +158,7 @@ module _ (plan : Planned) (b : Board) (r : Ready) (ok : Reached plan b) (ready :
   pub ends : length plan.readings ≤ b.committed → IsChoice b ToEnd
   ends all m there = ok.rows.first m (omega (arith, there.0, ok.first)) (omega (arith, there.1, all, ok.all, ok.first))
 
-  pub commits : has_place r.checked b.committed ≡ true → IsChoice b (ToCommit (b.first + b.committed))
+  pub commits : has_position r.checked b.committed ≡ true → IsChoice b (ToCommit (b.first + b.committed))
   commits h =
       let x = place_counts b.committed h in (
         x.0,
@@ -171,33 +171,33 @@ module _ (plan : Planned) (b : Board) (r : Ready) (ok : Reached plan b) (ready :
         },
       )
 
-  none_commits : has_place r.checked b.committed ≡ false → NoneFits (CanCommit b)
-  none_commits h m may = not_both (has_place r.checked b.committed) (commit_place m may) h
+  none_commits : has_position r.checked b.committed ≡ false → NoneFits (CanCommit b)
+  none_commits h m may = not_both (has_position r.checked b.committed) (commit_place m may) h
 
-  pub checks : (p : ℕ) → has_place r.checked b.committed ≡ false → IsLeastFrom r.unchecked 0 (Some p) → IsChoice b (ToCheck (b.first + p))
+  pub checks : (p : ℕ) → has_position r.checked b.committed ≡ false → IsLeastFrom r.unchecked 0 (Some p) → IsChoice b (ToCheck (b.first + p))
   checks p none least = (
     none_commits none,
     (
       place_needs p least.1,
       λ m lt needs. (let x = needs_place m needs in
-          not_both (has_place r.unchecked (m - b.first)) x.1 (least.2 (m - b.first) (omega arith) (omega (arith, lt, x.0.0)))),
+          not_both (has_position r.unchecked (m - b.first)) x.1 (least.2 (m - b.first) (omega arith) (omega (arith, lt, x.0.0)))),
     ),
   )
 
   none_needs : IsLeastFrom r.unchecked 0 None → NoneFits (NeedsCheck (row_at b))
-  none_needs none m needs = (let x = needs_place m needs in not_both (has_place r.unchecked (m - b.first)) x.1 (none (m - b.first) (omega arith)))
+  none_needs none m needs = (let x = needs_place m needs in not_both (has_position r.unchecked (m - b.first)) x.1 (none (m - b.first) (omega arith)))
 
-  pub takes : (p : ℕ) → has_place r.checked b.committed ≡ false → IsLeastFrom r.unchecked 0 None → IsLeastFrom r.waiting 0 (Some p) → IsChoice b (ToTake (b.first + p))
+  pub takes : (p : ℕ) → has_position r.checked b.committed ≡ false → IsLeastFrom r.unchecked 0 None → IsLeastFrom r.waiting 0 (Some p) → IsChoice b (ToTake (b.first + p))
   takes p none needless least = (
     none_commits none,
     none_needs needless,
-    (place_waits p least.1, λ m lt wait. not_both (has_place r.waiting (m - b.first)) (waits_place m wait) (least.2 (m - b.first) (omega arith) (omega (arith, lt, wait.0.0)))),
+    (place_waits p least.1, λ m lt wait. not_both (has_position r.waiting (m - b.first)) (waits_place m wait) (least.2 (m - b.first) (omega arith) (omega (arith, lt, wait.0.0)))),
   )
 
-  pub waits_for_others : b.committed < length plan.readings → has_place r.checked b.committed ≡ false → IsLeastFrom r.unchecked 0 None → IsLeastFrom r.waiting 0 None → IsChoice b ToWait
+  pub waits_for_others : b.committed < length plan.readings → has_position r.checked b.committed ≡ false → IsLeastFrom r.unchecked 0 None → IsLeastFrom r.waiting 0 None → IsChoice b ToWait
   waits_for_others more none needless waitless = (
     none_commits none,
     none_needs needless,
-    λ m wait. not_both (has_place r.waiting (m - b.first)) (waits_place m wait) (waitless (m - b.first) (omega arith)),
+    λ m wait. not_both (has_position r.waiting (m - b.first)) (waits_place m wait) (waitless (m - b.first) (omega arith)),
     (b.first + b.committed, (omega arith, omega (arith, more, ok.all)), λ h. (let l = ok.rows.only (b.first + b.committed) h in omega (arith, l, ok.first))),
   )

@@ -1,19 +1,19 @@
--- A place gets another mark, and the lines above a place lose their stamps.
+-- A position gets another mark, and the lines above a position lose their stamps.
 use Rattle.std.proofs.Common.{◌≡◌, ℕ, ◌+◌, ◌<◌, ◌≤◌, Bool, false, ◌||◌, List, length, set, get_or, refl, sym, ap, ap₂, ◌∙◌, arith, length-set, get_or-set_same, get_or-set_other}
 use Rattle.speculate.specs.declared.ready.Mark.{Mark}
 use Rattle.speculate.specs.declared.ready.Mark.TheVariants as marks
 use Rattle.speculate.specs.declared.ready.Ready.{Ready}
-use Rattle.speculate.specs.Marks.{waits, is_unchecked, is_checked, is_in_check, IsMarked, HasPlaces, AreAsLong, IsPlace, Puts, lost, Loses, GoesOver, GoesOut}
+use Rattle.speculate.specs.Marks.{waits, is_unchecked, is_checked, is_in_check, IsMarked, HasPositions, AreAsLong, IsPosition, Puts, lost, Loses, GoesOver, GoesOut}
 
-pub puts_of : (old new : Ready) (p : ℕ) (mark : Mark) → IsPlace old p
+pub puts_of : (old new : Ready) (p : ℕ) (mark : Mark) → IsPosition old p
     → new.waiting ≡ set old.waiting p (waits mark) → new.unchecked ≡ set old.unchecked p (is_unchecked mark)
     → new.checked ≡ set old.checked p (is_checked mark) → new.checking ≡ set old.checking p (is_in_check mark) → Puts old new p mark
-puts_of old new p mark place e0 e1 e2 e3 = record {
+puts_of old new p mark position e0 e1 e2 e3 = record {
   here = record {
-    in_waiting = ap (λ (x : List Bool). get_or x p false) e0 ∙ get_or-set_same old.waiting p (waits mark) false place.of_waiting;
-    in_unchecked = ap (λ (x : List Bool). get_or x p false) e1 ∙ get_or-set_same old.unchecked p (is_unchecked mark) false place.of_unchecked;
-    in_checked = ap (λ (x : List Bool). get_or x p false) e2 ∙ get_or-set_same old.checked p (is_checked mark) false place.of_checked;
-    in_checking = ap (λ (x : List Bool). get_or x p false) e3 ∙ get_or-set_same old.checking p (is_in_check mark) false place.of_checking;
+    in_waiting = ap (λ (x : List Bool). get_or x p false) e0 ∙ get_or-set_same old.waiting p (waits mark) false position.of_waiting;
+    in_unchecked = ap (λ (x : List Bool). get_or x p false) e1 ∙ get_or-set_same old.unchecked p (is_unchecked mark) false position.of_unchecked;
+    in_checked = ap (λ (x : List Bool). get_or x p false) e2 ∙ get_or-set_same old.checked p (is_checked mark) false position.of_checked;
+    in_checking = ap (λ (x : List Bool). get_or x p false) e3 ∙ get_or-set_same old.checking p (is_in_check mark) false position.of_checking;
   };
   off = λ q other ne h. record {
     in_waiting = ap (λ (x : List Bool). get_or x q false) e0 ∙ get_or-set_other old.waiting p q (waits mark) false ne ∙ h.in_waiting;
@@ -88,15 +88,15 @@ loses_of old new p e over out = record {
   };
 }
 
-pub long_places : (old new : Ready) (len : ℕ) → AreAsLong old new → HasPlaces len old → HasPlaces len new
-long_places old new len same h = record {
+pub long_positions : (old new : Ready) (len : ℕ) → AreAsLong old new → HasPositions len old → HasPositions len new
+long_positions old new len same h = record {
   of_waiting = same.as_waiting ∙ h.of_waiting;
   of_unchecked = same.as_unchecked ∙ h.of_unchecked;
   of_checked = same.as_checked ∙ h.of_checked;
   of_checking = same.as_checking ∙ h.of_checking;
 }
 
-pub long_place : (old new : Ready) (p : ℕ) → AreAsLong old new → IsPlace old p → IsPlace new p
+pub long_place : (old new : Ready) (p : ℕ) → AreAsLong old new → IsPosition old p → IsPosition new p
 long_place old new p same h = record {
   of_waiting = omega (arith, h.of_waiting, same.as_waiting);
   of_unchecked = omega (arith, h.of_unchecked, same.as_unchecked);

@@ -11,8 +11,8 @@ use Rattle.board_steps.proofs.Lines.{row_from, row_put, row_put_off, length_put}
 use Rattle.speculate.specs.declared.ready.Mark.{Mark}
 use Rattle.speculate.specs.declared.ready.Mark.TheVariants as marks
 use Rattle.speculate.specs.declared.ready.Ready.{Ready}
-use Rattle.speculate.proofs.Marking.{long_places}
-use Rattle.speculate.specs.Marks.{Fits, IsStill, HasTurned, IsMarked, HasPlaces, IsPlace, IsReady, Puts, lost, Loses, all_waiting}
+use Rattle.speculate.proofs.Marking.{long_positions}
+use Rattle.speculate.specs.Marks.{Fits, IsStill, HasTurned, IsMarked, HasPositions, IsPosition, IsReady, Puts, lost, Loses, all_waiting}
 
 -- the stamp of a state isn't past the clock
 abbrev pub StampBy : ℕ → State → Type 0
@@ -127,7 +127,7 @@ module _ (b b' : Board) (n : ℕ) (row : Row) (turns : Turns b b' n row) where
         | inr ne ↦ changed_off m ne
       ] in
       record {
-        places = subst (λ x. HasPlaces x r') (sym turns.rows) (long_places r r' (length b.rows) puts.same ready.places);
+        positions = subst (λ x. HasPositions x r') (sym turns.rows) (long_positions r r' (length b.rows) puts.same ready.positions);
         few = omega (arith, ready.few, turns.rows);
         each = λ m l. elim (cases_eq m n) [
           | inl e ↦ subst (λ x. (mark : Mark) × Fits (row_at b') x (row_at b' x).state mark × IsMarked r' (x - b'.first) mark) (sym e)
@@ -146,7 +146,7 @@ module _ (b b' : Board) (n : ℕ) (row : Row) (turns : Turns b b' n row) where
   ready_change r mid r' mark stamps big fits puts loses ready =
       let here : b.clock < (row_at b' n).changed = omega (arith, big, ap (λ (x : Row). x.changed) turns.at) in
       record {
-        places = subst (λ x. HasPlaces x r') (sym turns.rows) (long_places mid r' (length b.rows) loses.same (long_places r mid (length b.rows) puts.same ready.places));
+        positions = subst (λ x. HasPositions x r') (sym turns.rows) (long_positions mid r' (length b.rows) loses.same (long_positions r mid (length b.rows) puts.same ready.positions));
         few = omega (arith, ready.few, turns.rows);
         each = λ m l. elim (cases_eq m n) [
           | inl e ↦ subst (λ x. (mark : Mark) × Fits (row_at b') x (row_at b' x).state mark × IsMarked r' (x - b'.first) mark) (sym e)
@@ -168,33 +168,33 @@ module _ (b b' : Board) (n : ℕ) (row : Row) (turns : Turns b b' n row) where
         ];
       }
 
--- the place of a line is one of each set
-pub place_of_line : (b : Board) (r : Ready) (n : ℕ) → IsReady b r → IsLine b n → IsPlace r (n - b.first)
+-- the position of a line is one of each set
+pub place_of_line : (b : Board) (r : Ready) (n : ℕ) → IsReady b r → IsLine b n → IsPosition r (n - b.first)
 place_of_line b r n ready there = record {
-  of_waiting = omega (arith, ready.places.of_waiting, there.0, there.1);
-  of_unchecked = omega (arith, ready.places.of_unchecked, there.0, there.1);
-  of_checked = omega (arith, ready.places.of_checked, there.0, there.1);
-  of_checking = omega (arith, ready.places.of_checking, there.0, there.1);
-  as_many = omega (arith, ready.places.of_checked, ready.places.of_unchecked);
+  of_waiting = omega (arith, ready.positions.of_waiting, there.0, there.1);
+  of_unchecked = omega (arith, ready.positions.of_unchecked, there.0, there.1);
+  of_checked = omega (arith, ready.positions.of_checked, there.0, there.1);
+  of_checking = omega (arith, ready.positions.of_checking, there.0, there.1);
+  as_many = omega (arith, ready.positions.of_checked, ready.positions.of_unchecked);
   few = omega (arith, ready.few, there.0, there.1);
 }
 
--- a place as it is computed from the plan
+-- a position as it is computed from the plan
 module _ (plan P : Planned) (b : Board) (p n : ℕ) (e : p ≡ n - P.first) (named : P ≡ plan) (ok : Reached plan b) where
-  pub place_is : p ≡ n - b.first
-  place_is = omega (arith, e, ap (λ (x : Planned). x.first) named, ok.first)
+  pub position_is : p ≡ n - b.first
+  position_is = omega (arith, e, ap (λ (x : Planned). x.first) named, ok.first)
 
   pub place_back : n - b.first ≡ p
-  place_back = sym place_is
+  place_back = sym position_is
 
-  pub is_place : (r : Ready) → IsReady b r → IsLine b n → IsPlace r p
-  is_place r ready there = subst (IsPlace r) place_back (place_of_line b r n ready there)
+  pub is_position : (r : Ready) → IsReady b r → IsLine b n → IsPosition r p
+  is_position r ready there = subst (IsPosition r) place_back (place_of_line b r n ready there)
 
   pub puts_at : (r r' : Ready) (mark : Mark) → Puts r r' p mark → Puts r r' (n - b.first) mark
-  puts_at r r' mark h = subst (λ x. Puts r r' x mark) place_is h
+  puts_at r r' mark h = subst (λ x. Puts r r' x mark) position_is h
 
   pub loses_at : (r r' : Ready) → Loses r r' p → Loses r r' (n - b.first)
-  loses_at r r' h = subst (λ x. Loses r r' x) place_is h
+  loses_at r r' h = subst (λ x. Loses r r' x) position_is h
 
   -- the line is not before the first
   pub from_first : IsLine b n → P.first ≤ n
@@ -206,7 +206,7 @@ opening_ready plan workers attempt clock count e few =
     let rows : List Row = replicate (length plan.readings) (opening_row attempt) in
     let long : length rows ≡ length plan.readings = length-replicate (length plan.readings) (opening_row attempt) in
     record {
-      places = record {
+      positions = record {
         of_waiting = length-replicate count true ∙ e ∙ sym long;
         of_unchecked = length-replicate count false ∙ e ∙ sym long;
         of_checked = length-replicate count false ∙ e ∙ sym long;

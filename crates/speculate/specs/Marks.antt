@@ -1,4 +1,4 @@
--- Which lines wait, which need a check, and whose stamp counts: four sets of places, and what they say of a board (the board:
+-- Which lines wait, which need a check, and whose stamp counts: four sets of positions, and what they say of a board (the board:
 -- the choice of a free worker).
 use Rattle.std.specs.Prelude.{◌≡◌, ◌≢◌, ℕ, ◌-◌, ◌<◌, ◌≤◌, ◌⊎◌, Bool, true, false, ◌||◌, List, length, replicate, slice_index_or, Some, None}
 use Rattle.board_steps.specs.Board.{State, Row, Board, IsLine, row_at}
@@ -36,39 +36,39 @@ is_in_check marks.Unchecked = false
 is_in_check marks.Checked = false
 is_in_check marks.Checking = true
 
--- whether a place is in a set
-abbrev pub has_place : List Bool → ℕ → Bool
-has_place flags place = slice_index_or flags place false
+-- whether a position is in a set
+abbrev pub has_position : List Bool → ℕ → Bool
+has_position flags position = slice_index_or flags position false
 
--- a place is in the set of its mark and in no other
-pub record IsMarked (ready : Ready) (place : ℕ) (mark : Mark) : Type 0 where
-  pub in_waiting : has_place ready.waiting place ≡ waits mark
-  pub in_unchecked : has_place ready.unchecked place ≡ is_unchecked mark
-  pub in_checked : has_place ready.checked place ≡ is_checked mark
-  pub in_checking : has_place ready.checking place ≡ is_in_check mark
+-- a position is in the set of its mark and in no other
+pub record IsMarked (ready : Ready) (position : ℕ) (mark : Mark) : Type 0 where
+  pub in_waiting : has_position ready.waiting position ≡ waits mark
+  pub in_unchecked : has_position ready.unchecked position ≡ is_unchecked mark
+  pub in_checked : has_position ready.checked position ≡ is_checked mark
+  pub in_checking : has_position ready.checking position ≡ is_in_check mark
 
--- each set is over so many places
-pub record HasPlaces (len : ℕ) (ready : Ready) : Type 0 where
+-- each set is over so many positions
+pub record HasPositions (len : ℕ) (ready : Ready) : Type 0 where
   pub of_waiting : length ready.waiting ≡ len
   pub of_unchecked : length ready.unchecked ≡ len
   pub of_checked : length ready.checked ≡ len
   pub of_checking : length ready.checking ≡ len
 
--- the sets are over as many places as before
+-- the sets are over as many positions as before
 pub record AreAsLong (old new : Ready) : Type 0 where
   pub as_waiting : length new.waiting ≡ length old.waiting
   pub as_unchecked : length new.unchecked ≡ length old.unchecked
   pub as_checked : length new.checked ≡ length old.checked
   pub as_checking : length new.checking ≡ length old.checking
 
--- the place is one of each set
-pub record IsPlace (ready : Ready) (place : ℕ) : Type 0 where
-  pub of_waiting : place < length ready.waiting
-  pub of_unchecked : place < length ready.unchecked
-  pub of_checked : place < length ready.checked
-  pub of_checking : place < length ready.checking
+-- the position is one of each set
+pub record IsPosition (ready : Ready) (position : ℕ) : Type 0 where
+  pub of_waiting : position < length ready.waiting
+  pub of_unchecked : position < length ready.unchecked
+  pub of_checked : position < length ready.checked
+  pub of_checking : position < length ready.checking
   pub as_many : length ready.checked ≡ length ready.unchecked
-  pub few : place < LINE_LIMIT
+  pub few : position < LINE_LIMIT
 
 -- no line below has changed since a stamp
 abbrev pub IsStill : (ℕ → Row) → ℕ → ℕ → Type 0
@@ -91,11 +91,11 @@ Fits rows n (Committed answer) mark = mark ≡ marks.Nowhere
 
 -- The sets say of each line what its state and the changes below it say.
 pub record IsReady (b : Board) (ready : Ready) : Type 0 where
-  pub places : HasPlaces (length b.rows) ready
+  pub positions : HasPositions (length b.rows) ready
   pub few : length b.rows ≤ LINE_LIMIT
   pub each : (n : ℕ) → IsLine b n → (mark : Mark) × Fits (row_at b) n (row_at b n).state mark × IsMarked ready (n - b.first) mark
 
--- all places wait
+-- all positions wait
 abbrev pub all_waiting : ℕ → Ready
 all_waiting len = record {
   waiting = replicate len true;
@@ -104,10 +104,10 @@ all_waiting len = record {
   checking = replicate len false;
 }
 
--- a place gets a mark, and the others keep theirs
-pub record Puts (old new : Ready) (place : ℕ) (mark : Mark) : Type 0 where
-  pub here : IsMarked new place mark
-  pub off : (q : ℕ) (other : Mark) → q ≢ place → IsMarked old q other → IsMarked new q other
+-- a position gets a mark, and the others keep theirs
+pub record Puts (old new : Ready) (position : ℕ) (mark : Mark) : Type 0 where
+  pub here : IsMarked new position mark
+  pub off : (q : ℕ) (other : Mark) → q ≢ position → IsMarked old q other → IsMarked new q other
   pub same : AreAsLong old new
 
 -- what a mark is after a change below
@@ -118,10 +118,10 @@ lost marks.Unchecked = marks.Unchecked
 lost marks.Checked = marks.Unchecked
 lost marks.Checking = marks.Nowhere
 
--- the stamps of the lines above a place count no more
-pub record Loses (old new : Ready) (place : ℕ) : Type 0 where
-  pub above : (q : ℕ) (mark : Mark) → place < q → IsMarked old q mark → IsMarked new q (lost mark)
-  pub rest : (q : ℕ) (mark : Mark) → q ≤ place → IsMarked old q mark → IsMarked new q mark
+-- the stamps of the lines above a position count no more
+pub record Loses (old new : Ready) (position : ℕ) : Type 0 where
+  pub above : (q : ℕ) (mark : Mark) → position < q → IsMarked old q mark → IsMarked new q (lost mark)
+  pub rest : (q : ℕ) (mark : Mark) → q ≤ position → IsMarked old q mark → IsMarked new q mark
   pub same : AreAsLong old new
 
 -- the mark of a line whose check is over: whether the stamp of the check counts
@@ -129,22 +129,22 @@ abbrev pub ended : Bool → Mark
 ended true = marks.Checked
 ended false = marks.Unchecked
 
--- the line of a place waits again, and its entries have changed or have not
+-- the line of a position waits again, and its entries have changed or have not
 abbrev pub SendsBack : Ready → Ready → ℕ → Bool → Type 0
-SendsBack old new place true = (mid : Ready) × Puts old mid place marks.Waiting × Loses mid new place
-SendsBack old new place false = Puts old new place marks.Waiting
+SendsBack old new position true = (mid : Ready) × Puts old mid position marks.Waiting × Loses mid new position
+SendsBack old new position false = Puts old new position marks.Waiting
 
--- from a place on, what is in the first set goes over to the second; before it nothing changes
+-- from a position on, what is in the first set goes over to the second; before it nothing changes
 pub record GoesOver (first second first_new second_new : List Bool) (from : ℕ) : Type 0 where
-  pub out : (q : ℕ) → from ≤ q → has_place first_new q ≡ false
-  pub moved : (q : ℕ) → from ≤ q → has_place second_new q ≡ (has_place first q || has_place second q)
-  pub first_before : (q : ℕ) → q < from → has_place first_new q ≡ has_place first q
-  pub second_before : (q : ℕ) → q < from → has_place second_new q ≡ has_place second q
+  pub out : (q : ℕ) → from ≤ q → has_position first_new q ≡ false
+  pub moved : (q : ℕ) → from ≤ q → has_position second_new q ≡ (has_position first q || has_position second q)
+  pub first_before : (q : ℕ) → q < from → has_position first_new q ≡ has_position first q
+  pub second_before : (q : ℕ) → q < from → has_position second_new q ≡ has_position second q
   pub first_len : length first_new ≡ length first
   pub second_len : length second_new ≡ length second
 
--- from a place on, a set has nothing; before it nothing changes
+-- from a position on, a set has nothing; before it nothing changes
 pub record GoesOut (old new : List Bool) (from : ℕ) : Type 0 where
-  pub out : (q : ℕ) → from ≤ q → has_place new q ≡ false
-  pub before : (q : ℕ) → q < from → has_place new q ≡ has_place old q
+  pub out : (q : ℕ) → from ≤ q → has_position new q ≡ false
+  pub before : (q : ℕ) → q < from → has_position new q ≡ has_position old q
   pub len : length new ≡ length old

@@ -96,7 +96,7 @@ impl<'p, 't, J: PlanName> Board<'p, 't, J> {
         let plan = self.lines.plan();
         match self.lines.take(worker, line) {
             Reply::Taken { attempt } => {
-                self.ready.put(place_of(plan, line), Mark::Nowhere);
+                self.ready.put(position_of(plan, line), Mark::Nowhere);
                 Reply::Taken { attempt }
             }
             reply => reply,
@@ -113,7 +113,7 @@ impl<'p, 't, J: PlanName> Board<'p, 't, J> {
         };
         match self.lines.look(worker, key) {
             Reply::Suspect { line } => {
-                self.ready.put(place_of(plan, hand.line), Mark::Waiting);
+                self.ready.put(position_of(plan, hand.line), Mark::Waiting);
                 Reply::Suspect { line }
             }
             reply => reply,
@@ -130,15 +130,16 @@ impl<'p, 't, J: PlanName> Board<'p, 't, J> {
         };
         match self.lines.publish(worker, place) {
             Reply::Placed => {
-                self.ready.lose_above(place_of(plan, hand.line));
+                self.ready.lose_above(position_of(plan, hand.line));
                 Reply::Placed
             }
             Reply::Lifted => {
-                self.ready.lose_above(place_of(plan, hand.line));
+                self.ready.lose_above(position_of(plan, hand.line));
                 Reply::Lifted
             }
             Reply::Whole => {
-                self.ready.put(place_of(plan, hand.line), Mark::Unchecked);
+                self.ready
+                    .put(position_of(plan, hand.line), Mark::Unchecked);
                 Reply::Whole
             }
             reply => reply,
@@ -157,18 +158,18 @@ impl<'p, 't, J: PlanName> Board<'p, 't, J> {
         let Some(reply) = self.lines.publish_more(worker) else {
             return None;
         };
-        let place = place_of(plan, hand.line);
+        let position = position_of(plan, hand.line);
         match reply {
             Reply::Placed => {
-                self.ready.lose_above(place);
+                self.ready.lose_above(position);
                 Some(Reply::Placed)
             }
             Reply::Lifted => {
-                self.ready.lose_above(place);
+                self.ready.lose_above(position);
                 Some(Reply::Lifted)
             }
             Reply::Whole => {
-                self.ready.put(place, Mark::Unchecked);
+                self.ready.put(position, Mark::Unchecked);
                 Some(Reply::Whole)
             }
             reply => Some(reply),
@@ -185,17 +186,17 @@ impl<'p, 't, J: PlanName> Board<'p, 't, J> {
         match self.lines.check(worker, line) {
             Reply::Same => {
                 if begins {
-                    self.ready.put(place_of(plan, line), Mark::Checking);
+                    self.ready.put(position_of(plan, line), Mark::Checking);
                 }
                 Reply::Same
             }
             Reply::Whole => {
-                self.ready.end_check(place_of(plan, line), begins);
+                self.ready.end_check(position_of(plan, line), begins);
                 Reply::Whole
             }
             Reply::Changed { key, noted, found } => {
                 let changes = self.lines.clock() != clock;
-                self.ready.send_back(place_of(plan, line), changes);
+                self.ready.send_back(position_of(plan, line), changes);
                 Reply::Changed { key, noted, found }
             }
             reply => reply,
@@ -209,7 +210,7 @@ impl<'p, 't, J: PlanName> Board<'p, 't, J> {
         let plan = self.lines.plan();
         match self.lines.commit(line) {
             Reply::Committed => {
-                self.ready.put(place_of(plan, line), Mark::Nowhere);
+                self.ready.put(position_of(plan, line), Mark::Nowhere);
                 Reply::Committed
             }
             reply => reply,
@@ -285,11 +286,11 @@ impl<'p, 't, J: PlanName> Board<'p, 't, J> {
         if self.ready.checked.has(committed as usize) {
             return Choice::Commit(plan.first() + committed);
         }
-        if let Some(place) = self.ready.unchecked.least_from(0) {
-            return Choice::Check(plan.first() + place as u64);
+        if let Some(position) = self.ready.unchecked.least_from(0) {
+            return Choice::Check(plan.first() + position as u64);
         }
-        if let Some(place) = self.ready.waiting.least_from(0) {
-            return Choice::Take(plan.first() + place as u64);
+        if let Some(position) = self.ready.waiting.least_from(0) {
+            return Choice::Take(plan.first() + position as u64);
         }
         Choice::Nothing
     }
@@ -319,8 +320,8 @@ pub fn lines_of(plan: &Plan) -> usize
     plan.readings().len()
 }
 
-/// The place of a line, from 0 on.
-fn place_of(plan: &Plan, line: u64) -> usize
+/// The position of a line, from 0 on.
+fn position_of(plan: &Plan, line: u64) -> usize
     requires { plan.now.first ≤ line }
     ensures { result ≡ line - plan.now.first }
 {

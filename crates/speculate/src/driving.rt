@@ -36,8 +36,8 @@ pub fn drive_in_order<'t, J: PlanName + 'static, R: Wait>(
     let plan = board.plan();
     let first = plan.first();
     let lines = lines_of(plan) as u64;
-    for place in 0..lines {
-        drive_line(rt, alloc, table, board, first + place)?;
+    for position in 0..lines {
+        drive_line(rt, alloc, table, board, first + position)?;
     }
     Ok(())
 }
@@ -100,7 +100,7 @@ fn read_line<J: PlanName + 'static>(
         settled_if_done(&next);
         match next {
             Need::Done(version) => return Ok(version),
-            Need::Key(key) => look_at(alloc, board, line, &key, &mut notes)?,
+            Need::Key(key) => look_at(board, line, &key, &mut notes)?,
         }
     }
 }
@@ -131,10 +131,10 @@ struct PastAll<'b, 'p, 't, J: PlanName> {
 impl<J: PlanName> Looks for PastAll<'_, '_, '_, J> {
     fn look(
         &mut self,
-        alloc: Global,
+        _alloc: Global,
         key: &Key,
     ) -> Result<Option<(Name, Option<Record>)>, AllocError> {
-        let found = copied(alloc, self.board.value_of(key))?;
+        let found = copied(self.board.value_of(key))?;
         // (a rule doesn't ask whose it is)
         Ok(Some((Name::Base, found)))
     }
@@ -155,14 +155,13 @@ fn look_at_each<J: PlanName>(
 {
     let mut notes = Notes::new(alloc);
     for note in asked {
-        look_at(alloc, board, line, &note.key, &mut notes)?;
+        look_at(board, line, &note.key, &mut notes)?;
     }
     Ok(notes)
 }
 
 /// Looks at a key that isn't noted, and notes what was seen.
 fn look_at<J: PlanName>(
-    alloc: Global,
     board: &mut Board<'_, '_, J>,
     line: u64,
     key: &Key,
@@ -182,7 +181,7 @@ fn look_at<J: PlanName>(
         Reply::Memory => return Err(BoardFault::Memory),
         _ => unreachable!(),
     };
-    let found = copied(alloc, record_seen(plan, key, place))?;
+    let found = copied(record_seen(plan, key, place))?;
     notes.add(Note {
         key: *key,
         name,

@@ -2,7 +2,7 @@
 
 ghost use Rattle.std.specs.Prelude.{◌≡◌, ◌+◌, ◌<◌, ◌≤◌, ◌||◌, IfOk, length, slice_set};
 ghost use Rattle.journal_table.specs.declared.TheConstants.{LINE_LIMIT};
-ghost use Rattle.speculate.specs.Marks.{GoesOut, GoesOver, IsPlace, Loses, Puts, SendsBack, all_waiting, ended, has_place, is_checked, is_in_check, is_unchecked, waits};
+ghost use Rattle.speculate.specs.Marks.{GoesOut, GoesOver, IsPosition, Loses, Puts, SendsBack, all_waiting, ended, has_position, is_checked, is_in_check, is_unchecked, waits};
 
 use line_set::LineSet;
 use std::alloc::{AllocError, Global};
@@ -59,7 +59,7 @@ impl Mark {
     }
 }
 
-/// The lines by their marks; a line goes by its place, from 0 on. Nothing but `new` takes memory.
+/// The lines by their marks; a line goes by its position, from 0 on. Nothing but `new` takes memory.
 pub struct Ready {
     pub waiting: LineSet,
     pub unchecked: LineSet,
@@ -93,81 +93,81 @@ impl Ready {
     }
 
     /// Gives a line this mark.
-    pub fn put(&mut self, place: usize, mark: Mark)
-        requires { IsPlace self.old place }
-        ensures { Puts self.old self.new place mark }
+    pub fn put(&mut self, position: usize, mark: Mark)
+        requires { IsPosition self.old position }
+        ensures { Puts self.old self.new position mark }
     {
-        put_flag(&mut self.waiting, place, mark.is_waiting());
-        put_flag(&mut self.unchecked, place, mark.is_unchecked());
-        put_flag(&mut self.checked, place, mark.is_checked());
-        put_flag(&mut self.checking, place, mark.is_in_check());
+        put_flag(&mut self.waiting, position, mark.is_waiting());
+        put_flag(&mut self.unchecked, position, mark.is_unchecked());
+        put_flag(&mut self.checked, position, mark.is_checked());
+        put_flag(&mut self.checking, position, mark.is_in_check());
     }
 
-    /// The line at a place has changed: the stamps of the lines above it count no more. Each was given by a check, which pays for this.
-    pub fn lose_above(&mut self, place: usize)
-        requires { IsPlace self.old place }
-        ensures { Loses self.old self.new place }
+    /// The line at a position has changed: the stamps of the lines above it count no more. Each was given by a check, which pays for this.
+    pub fn lose_above(&mut self, position: usize)
+        requires { IsPosition self.old position }
+        ensures { Loses self.old self.new position }
     {
-        lose_checked(&mut self.checked, &mut self.unchecked, place + 1);
-        lose_checking(&mut self.checking, place + 1);
+        lose_checked(&mut self.checked, &mut self.unchecked, position + 1);
+        lose_checking(&mut self.checking, position + 1);
     }
 
     /// All notes of a line were compared, in a check that began just now or before.
-    pub fn end_check(&mut self, place: usize, begins: bool)
-        requires { IsPlace self.old place }
-        ensures { Puts self.old self.new place (ended (begins || has_place self.old.checking place)) }
+    pub fn end_check(&mut self, position: usize, begins: bool)
+        requires { IsPosition self.old position }
+        ensures { Puts self.old self.new position (ended (begins || has_position self.old.checking position)) }
     {
-        if begins || self.checking.has(place) {
-            self.put(place, Mark::Checked);
+        if begins || self.checking.has(position) {
+            self.put(position, Mark::Checked);
         } else {
             // a line below has changed while the check went on
-            self.put(place, Mark::Unchecked);
+            self.put(position, Mark::Unchecked);
         }
     }
 
     /// A check of a line failed: it waits again. Where it has entries, its line has changed.
-    pub fn send_back(&mut self, place: usize, changes: bool)
-        requires { IsPlace self.old place }
-        ensures { SendsBack self.old self.new place changes }
+    pub fn send_back(&mut self, position: usize, changes: bool)
+        requires { IsPosition self.old position }
+        ensures { SendsBack self.old self.new position changes }
     {
-        self.put(place, Mark::Waiting);
+        self.put(position, Mark::Waiting);
         if changes {
-            self.lose_above(place);
+            self.lose_above(position);
         }
     }
 }
 
-/// Adds a place to a set, or takes it out.
-fn put_flag(set: &mut LineSet, place: usize, flag: bool)
-    requires { place < length set.old }
-    ensures { set.new ≡ slice_set set.old place flag }
+/// Adds a position to a set, or takes it out.
+fn put_flag(set: &mut LineSet, position: usize, flag: bool)
+    requires { position < length set.old }
+    ensures { set.new ≡ slice_set set.old position flag }
 {
-    if set.has(place) == flag {
+    if set.has(position) == flag {
         return;
     }
     if flag {
-        set.insert(place);
+        set.insert(position);
     } else {
-        set.remove(place);
+        set.remove(position);
     }
 }
 
-/// The checked lines from a place on need a check again.
+/// The checked lines from a position on need a check again.
 fn lose_checked(checked: &mut LineSet, unchecked: &mut LineSet, from: usize)
     requires { length checked.old ≡ length unchecked.old }
     ensures { GoesOver checked.old unchecked.old checked.new unchecked.new from }
 {
-    while let Some(place) = checked.least_from(from) {
-        checked.remove(place);
-        unchecked.insert(place);
+    while let Some(position) = checked.least_from(from) {
+        checked.remove(position);
+        unchecked.insert(position);
     }
 }
 
-/// The checks that go on at lines from a place on count no more.
+/// The checks that go on at lines from a position on count no more.
 fn lose_checking(checking: &mut LineSet, from: usize)
     ensures { GoesOut checking.old checking.new from }
 {
-    while let Some(place) = checking.least_from(from) {
-        checking.remove(place);
+    while let Some(position) = checking.least_from(from) {
+        checking.remove(position);
     }
 }

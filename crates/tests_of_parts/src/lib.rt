@@ -6,9 +6,9 @@
 #[cfg(test)]
 mod attempt_table;
 #[cfg(test)]
-mod places;
-#[cfg(test)]
 mod policies;
+#[cfg(test)]
+mod positions;
 #[cfg(test)]
 mod renewals;
 #[cfg(test)]

@@ -3,7 +3,7 @@
 
 use csv::ByteRecord;
 use csv_table::{RowReader, TableError, TableText, column};
-use journal_table::Journal;
+use journal_table::{Journal, Line};
 use std::alloc::{AllocError, AllocGlobal, Global};
 use std::process::Abort;
 use std::test::Fail;
@@ -22,16 +22,19 @@ const LINES: &str = " => ~\
 fn tell_lines(alloc: Global, journal: &Journal) -> Result<Vec<u8>, AllocError> {
     let mut out = Vec::new(alloc);
     for line in journal.lines() {
-        let number = format!(in alloc; "{}", line.number())?;
-        let texts = [line.connection(), line.request(), line.response()];
-        out.extend_from_slice(number.as_bytes())?;
-        for text in texts {
-            out.push(b'|')?;
-            out.extend_from_slice(text)?;
-        }
-        out.push(b'/')?;
+        tell_line(alloc, &mut out, line)?;
     }
     Ok(out)
+}
+
+fn tell_line(alloc: Global, out: &mut Vec<u8>, line: &Line) -> Result<(), AllocError> {
+    out.extend_from_slice(format!(in alloc; "{}", line.number())?.as_bytes())?;
+    for text in [line.connection(), line.request(), line.response()] {
+        out.push(b'|')?;
+        out.extend_from_slice(text)?;
+    }
+    out.push(b'/')?;
+    Ok(())
 }
 
 fn compare<R: AllocGlobal + Abort>(rt: &R, text: &str, wanted: &str) -> Result<(), Fail> {
@@ -46,10 +49,10 @@ fn compare<R: AllocGlobal + Abort>(rt: &R, text: &str, wanted: &str) -> Result<(
 fn reads_what_recorders_write(rt: HostRuntime) -> Result<(), Fail> {
     for case in LINES.split('~') {
         let (rows, wanted) = case.split_once(" => ").unwrap_or((case, ""));
-        for mark in ["", "\u{FEFF}"] {
-            let text = format!(in rt.alloc(); "{mark}{HEADER}{rows}")?;
-            compare(&rt, text.as_str(), wanted)?;
-        }
+        let plain = format!(in rt.alloc(); "{HEADER}{rows}")?;
+        compare(&rt, plain.as_str(), wanted)?;
+        let marked = format!(in rt.alloc(); "\u{FEFF}{HEADER}{rows}")?;
+        compare(&rt, marked.as_str(), wanted)?;
     }
     Ok(())
 }

@@ -38,9 +38,8 @@ fn days(rt: HostRuntime) {
         let day = Day::numbered(number).expect(&rt, "a day");
         assert!(rt; day.parts() == (year, month, date), "{number}");
     }
-    for (year, month, date) in NO_DAYS {
-        assert!(rt; Day::of(year, month, date).is_none(), "{year}");
-    }
+    let is_no_day = |&(year, month, date): &(u16, u8, u8)| Day::of(year, month, date).is_none();
+    assert!(rt; NO_DAYS.iter().all(is_no_day));
     assert!(rt; Day::numbered(4_346_019).is_none() && Day::numbered(7_304_484).is_none());
     assert!(rt; Day::of(2026, 12, 31) < Day::of(2027, 1, 1));
 }

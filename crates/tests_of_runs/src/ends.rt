@@ -67,25 +67,25 @@ fn item(id: &str) -> Option<Key> {
     Some(Key::Item(Id::new(id.as_bytes())?))
 }
 
-fn fee() -> Option<Record> {
-    Some(Record::Fee(Fee {
+fn fee() -> Option<Fee> {
+    Some(Fee {
         patron: Id::new(b"P1")?,
         kind: FeeType::Other,
         amount: Amount::new(700)?,
         paid: Amount::new(0)?,
-    }))
+    })
 }
 
 /// Such an end, which names the item I9 twice for each line.
 fn odd_end<'p>(alloc: Global, plan: &'p Plan) -> Result<Option<Odd<'p>>, AllocError> {
-    let (Some(found), Some(key)) = (fee(), item("I9")) else {
+    let (Some(fee), Some(key)) = (fee(), item("I9")) else {
         return Ok(None);
     };
     Ok(Some(Odd {
         plan,
         answer: Answer::Resend,
         keys: vec![in alloc; (key, 4u32); 2]?,
-        found,
+        found: Record::fee(alloc, fee)?,
     }))
 }
 

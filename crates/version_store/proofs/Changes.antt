@@ -113,7 +113,7 @@ pub put_and_out : (old mid new : KeyIndex) (key : Key) (line : ℕ) (w : Bool)
     → (k : Key) (n : ℕ) → at new k n ≡ with_at key line false (at old) k n
 put_and_out old mid new key line w u v k n = v k n ∙ undone (eq_by_cmp key_cmp key k) (eq_by_cmp nat_cmp line n) w (at old k n) (at mid k n) (u k n)
 
--- the same, the line being read at its place among the lines
+-- the same, the line being read at its position among the lines
 pub indexed_put : (index new : KeyIndex) (s : Store) (n p : ℕ) (key : Key) (w : Bool) (row r : Line)
     → IsLine s n → p ≡ n - s.first → row ≡ get_or s.lines p row → IsIndexed index s
     → ((k : Key) (m : ℕ) → at new k m ≡ with_at key n w (at index) k m)

@@ -1,5 +1,5 @@
 pub mod Columns
-pub mod Places
+pub mod Positions
 pub mod Views
 pub mod Sights
 pub mod Changes

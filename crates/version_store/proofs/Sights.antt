@@ -39,22 +39,22 @@ line_put_other s n m l there apart = ⊎_elim
 pub put_is : (s : Store) (n : ℕ) (l : Line) → IsLine s n → with_line s n l ≡ record { first = s.first; lines = set s.lines (n - s.first) l }
 put_is s n l there = rw (le-ltb n s.first there.0) refl
 
--- ---- the place of a line among the lines
-place_before : (s : Store) (n : ℕ) → n < s.first → position_of s n ≡ None
-place_before s n l = rw (lt-ltb n s.first l) refl
+-- ---- the position of a line among the lines
+position_before : (s : Store) (n : ℕ) → n < s.first → position_of s n ≡ None
+position_before s n l = rw (lt-ltb n s.first l) refl
 
-place_within : (s : Store) (n : ℕ) → s.first ≤ n → n - s.first < length s.lines → position_of s n ≡ Some (n - s.first)
-place_within s n f l = rw (le-ltb n s.first f, lt-ltb (n - s.first) (length s.lines) l) refl
+position_within : (s : Store) (n : ℕ) → s.first ≤ n → n - s.first < length s.lines → position_of s n ≡ Some (n - s.first)
+position_within s n f l = rw (le-ltb n s.first f, lt-ltb (n - s.first) (length s.lines) l) refl
 
-place_past : (s : Store) (n : ℕ) → s.first ≤ n → length s.lines ≤ n - s.first → position_of s n ≡ None
-place_past s n f l = rw (le-ltb n s.first f, le-ltb (n - s.first) (length s.lines) l) refl
+position_past : (s : Store) (n : ℕ) → s.first ≤ n → length s.lines ≤ n - s.first → position_of s n ≡ None
+position_past s n f l = rw (le-ltb n s.first f, le-ltb (n - s.first) (length s.lines) l) refl
 
 pub position_is : (s : Store) (n p : ℕ) → position_of s n ≡ Some p → IsLine s n × (p ≡ n - s.first)
 position_is s n p h = ⊎_elim
-    (λ before. absurd (none-some p (sym (place_before s n before) ∙ h)))
+    (λ before. absurd (none-some p (sym (position_before s n before) ∙ h)))
     (λ from. ⊎_elim
-    (λ within. ((from, omega (arith, within, from)), same_Some p (n - s.first) (sym h ∙ place_within s n from within)))
-    (λ past. absurd (none-some p (sym (place_past s n from past) ∙ h)))
+    (λ within. ((from, omega (arith, within, from)), same_Some p (n - s.first) (sym h ∙ position_within s n from within)))
+    (λ past. absurd (none-some p (sym (position_past s n from past) ∙ h)))
     (cases_lt (n - s.first) (length s.lines)))
     (cases_lt n s.first)
 
@@ -62,7 +62,7 @@ pub position_none : (s : Store) (n : ℕ) → position_of s n ≡ None → line_
 position_none s n h = ⊎_elim
     (λ before. line_before s n before)
     (λ from. ⊎_elim
-    (λ within. absurd (none-some (n - s.first) (sym h ∙ place_within s n from within)))
+    (λ within. absurd (none-some (n - s.first) (sym h ∙ position_within s n from within)))
     (λ past. line_from s n from ∙ get_or_past s.lines (n - s.first) no_entries past)
     (cases_lt (n - s.first) (length s.lines)))
     (cases_lt n s.first)

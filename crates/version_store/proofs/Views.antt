@@ -10,9 +10,9 @@ use Rattle.std.proofs.lemmas.Cmp.{eq_by_cmp_equiv}
 use Rattle.circ_records.specs.Keys.{key_cmp, key_cmp_total, key_cmp-IsAntisymmetric}
 use Rattle.circ_records.specs.declared.key.Key.{Key}
 use Rattle.version_store.specs.Entries.{Line, shown, shown_pair, line_of, as_suspect, suspected}
-use Rattle.version_store.specs.Devices.Places.{Rise, all_marked, marked}
+use Rattle.version_store.specs.Devices.Positions.{Rise, all_marked, marked}
 use Rattle.version_store.specs.declared.entry.Entry.{Entry}
-use Rattle.version_store.proofs.Places.{others}
+use Rattle.version_store.proofs.Positions.{others}
 
 -- ---- look-ups where the values are changed
 map_cond : {A B : Type 0} (f : A → B) (b : Bool) (w o : Option A) → option_map f (cond b w o) ≡ cond b (option_map f w) (option_map f o)

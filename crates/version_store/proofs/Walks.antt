@@ -12,8 +12,8 @@ use Rattle.circ_records.specs.Keys.{key_cmp, key_cmp_total, key_cmp-IsAntisymmet
 use Rattle.circ_records.specs.declared.key.Key.{Key}
 use Rattle.version_store.specs.Entries.{Shown, shown, line_of, AllOf, IsLeastLeft}
 use Rattle.version_store.specs.declared.entry.Entry.{Entry}
-use Rattle.version_store.specs.Devices.Places.{Rise}
-use Rattle.version_store.proofs.Places.{first, second, less}
+use Rattle.version_store.specs.Devices.Positions.{Rise}
+use Rattle.version_store.proofs.Positions.{first, second, less}
 use Rattle.version_store.proofs.Views.{get_shown}
 
 is_eq_true : (o : Ordering) → is_eq o ≡ true → o ≡ Equal

@@ -5,7 +5,7 @@ ghost use Rattle.std.specs.FinMap as fin;
 ghost use Rattle.std.specs.List.{insert};
 ghost use Rattle.circ_records.specs.Keys.{key_cmp};
 ghost use Rattle.version_store.specs.Entries.{AllOf, IsLeastLeft, IsNamedAt, line_of, no_entries, shown, suspected};
-ghost use Rattle.version_store.specs.Devices.Places.{IsAt, IsGap, Rise, all_marked};
+ghost use Rattle.version_store.specs.Devices.Positions.{IsAt, IsGap, Rise, all_marked};
 
 use crate::entry::Entry;
 use circ_records::Key;
@@ -42,7 +42,7 @@ impl<'t, J: PlanName> Model for LineEntries<'t, J> {
 
     ghost view = { λ l. line_of l.entries.items };
 
-    ghost use Rattle.version_store.specs.Devices.Places.{Rise};
+    ghost use Rattle.version_store.specs.Devices.Positions.{Rise};
 
     ghost invariant = { λ l. Rise l.entries.items };
 }
@@ -61,8 +61,8 @@ impl<'t, J: PlanName> LineEntries<'t, J> {
     pub fn get(&self, key: &Key) -> Option<Entry<'t, J>>
         ensures { option_map shown result ≡ fin.get self.now key.now }
     {
-        match place_of(&self.entries, key) {
-            Ok(place) => Some(self.entries[place].1),
+        match position_of(&self.entries, key) {
+            Ok(position) => Some(self.entries[position].1),
             Err(_) => None,
         }
     }
@@ -80,8 +80,8 @@ impl<'t, J: PlanName> LineEntries<'t, J> {
     pub fn take_out(&mut self, key: &Key)
         ensures { self.new ≡ fin.remove self.old key.now }
     {
-        if let Ok(place) = place_of(&self.entries, key) {
-            let _ = self.entries.remove(place);
+        if let Ok(position) = position_of(&self.entries, key) {
+            let _ = self.entries.remove(position);
         }
     }
 
@@ -111,8 +111,11 @@ impl<'t, J: PlanName> LineEntries<'t, J> {
     }
 }
 
-/// The place of a key, or else the place to which it goes.
-fn place_of<J: PlanName>(entries: &VecDeque<(Key, Entry<'_, J>)>, key: &Key) -> Result<usize, usize>
+/// The position of a key, or else the position to which it goes.
+fn position_of<J: PlanName>(
+    entries: &VecDeque<(Key, Entry<'_, J>)>,
+    key: &Key,
+) -> Result<usize, usize>
     requires { Rise entries.now.items }
     ensures { MatchResult result (IsAt entries.now.items key.now) (IsGap entries.now.items key.now) }
 {
@@ -131,33 +134,33 @@ fn put_entry<'t, J: PlanName>(
     ensures absent { OnErr result (fin.find key_cmp key.now entries.old.items ≡ None) }
     ensures rising { Rise entries.new.items }
 {
-    match place_of(entries, key) {
-        Ok(place) => {
-            entries[place] = (*key, made);
+    match position_of(entries, key) {
+        Ok(position) => {
+            entries[position] = (*key, made);
             Ok(())
         }
-        Err(place) => match insert_at(entries, place, key, made) {
+        Err(position) => match insert_at(entries, position, key, made) {
             Ok(()) => Ok(()),
             Err(refused) => Err(refused),
         },
     }
 }
 
-/// Puts an entry at a place, and makes no more room than it needs while they are few: entries stay until the run ends.
+/// Puts an entry at a position, and makes no more room than it needs while they are few: entries stay until the run ends.
 fn insert_at<'t, J: PlanName>(
     entries: &mut VecDeque<(Key, Entry<'t, J>)>,
-    place: usize,
+    position: usize,
     key: &Key,
     made: Entry<'t, J>,
 ) -> Result<(), AllocError>
-    requires { place ≤ length entries.old.items }
-    ensures items { OnOk result (entries.new.items ≡ insert entries.old.items place (key.now, made.entry)) }
+    requires { position ≤ length entries.old.items }
+    ensures items { OnOk result (entries.new.items ≡ insert entries.old.items position (key.now, made.entry)) }
     ensures same { OnErr result (entries.new.items ≡ entries.old.items) }
 {
     if entries.len() < FEW {
         entries.reserve_exact(1)?;
     }
-    match entries.insert(place, (*key, made)) {
+    match entries.insert(position, (*key, made)) {
         Ok(()) => Ok(()),
         Err(_) => Err(AllocError),
     }

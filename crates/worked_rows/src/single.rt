@@ -124,7 +124,7 @@ fn ask<J: PlanName>(
         match need::<J>(alloc, plan, 1, 0, &notes)? {
             Need::Key(key) => {
                 tell_want(wants, &key)?;
-                look(alloc, shelf, key, &mut notes)?;
+                look(shelf, key, &mut notes)?;
             }
             Need::Done(version) => return told(alloc, version.answer(), version.writes()),
         }
@@ -133,10 +133,10 @@ fn ask<J: PlanName>(
 }
 
 /// Notes the record at a key that isn't noted yet.
-fn look(alloc: Global, shelf: &Shelf, key: Key, notes: &mut Notes) -> Result<(), AllocError>
+fn look(shelf: &Shelf, key: Key, notes: &mut Notes) -> Result<(), AllocError>
     requires { noted notes.old key ≡ None }
 {
-    let found = shelf.copy_at(alloc, &key)?;
+    let found = shelf.copy_at(&key)?;
     let name = Name::Base;
     notes.add(Note { key, name, found })
 }

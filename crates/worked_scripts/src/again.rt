@@ -14,7 +14,7 @@ pub(crate) fn writing_again<J: PlanName>(
     version: &Version<J>,
     key: &Key,
 ) -> Result<Option<Version<J>>, AllocError> {
-    let Some(record) = record_noted(alloc, version, key)? else {
+    let Some(record) = record_noted(version, key)? else {
         return Ok(None);
     };
     let writes = version.writes().len();
@@ -31,18 +31,14 @@ pub(crate) fn writing_again<J: PlanName>(
 }
 
 /// The record that a version has noted at a key.
-fn record_noted<J: PlanName>(
-    alloc: Global,
-    version: &Version<J>,
-    key: &Key,
-) -> Result<Option<Record>, AllocError>
+fn record_noted<J: PlanName>(version: &Version<J>, key: &Key) -> Result<Option<Record>, AllocError>
     ensures { IfOk result (λ found. IfSome found (λ r. noted version.now.reads key.now ≡ Some (Some r))) }
 {
     let Some(note) = version.reads().get(key) else {
         return Ok(None);
     };
     match &note.found {
-        Some(record) => Ok(Some(record.copy(alloc)?)),
+        Some(record) => Ok(Some(record.copy()?)),
         None => Ok(None),
     }
 }

@@ -5,7 +5,7 @@ ghost use Rattle.std.specs.Prelude.{◌≡◌};
 use crate::sight::tell_counts;
 use read_set::{Plan, PlanName};
 use sip_answer::write_answer;
-use sip_reader::Reading;
+use sip_reader::{LINE_NUMBER_END, Reading};
 use speculate::{Board, Choice, Finished, drive_in_order};
 use std::alloc::{AllocError, AllocGlobal, Global};
 use std::marker::Brand;
@@ -19,9 +19,6 @@ use worked_texts::shelf::tell_record;
 
 /// More keys than any line of a book writes.
 const MANY: usize = 20;
-
-/// The number of the lines of a plan that has none: one past the greatest.
-const NO_LINE: u64 = 10_000_000_000;
 
 /// What a driven board comes to.
 struct Driven {
@@ -120,7 +117,7 @@ pub(crate) fn compare_driven<R: Wait + AllocGlobal + Abort>(
     let plan = row.plan(rt.alloc())?.expect(rt, "a plan");
     let numbers = plan.numbers();
     let end = if row.asked == 0 {
-        NO_LINE
+        LINE_NUMBER_END
     } else {
         row.line.saturating_add(1)
     };

@@ -31,9 +31,9 @@ impl Source for Shelf {
     ghost has = { λ shelf k. Some (record_at shelf.records.entries k) };
 
     #[tactic(auto, using(read_set::proofs::Gaining::gains_none))]
-    fn read(&mut self, alloc: Global, key: &Key) -> Result<Option<Record>, Stop> {
+    fn read(&mut self, _alloc: Global, key: &Key) -> Result<Option<Record>, Stop> {
         match self.records.get(key) {
-            Some(found) => Ok(Some(found.copy(alloc)?)),
+            Some(found) => Ok(Some(found.copy()?)),
             None => Ok(None),
         }
     }
@@ -42,19 +42,19 @@ impl Source for Shelf {
 impl Looks for Shelf {
     fn look(
         &mut self,
-        alloc: Global,
+        _alloc: Global,
         key: &Key,
     ) -> Result<Option<(Name, Option<Record>)>, AllocError> {
-        let found = self.copy_at(alloc, key)?;
+        let found = self.copy_at(key)?;
         Ok(Some((Name::Base, found)))
     }
 }
 
 impl Shelf {
     /// A copy of the record at a key, where there is one.
-    pub fn copy_at(&self, alloc: Global, key: &Key) -> Result<Option<Record>, AllocError> {
+    pub fn copy_at(&self, key: &Key) -> Result<Option<Record>, AllocError> {
         match self.records.get(key) {
-            Some(found) => Ok(Some(found.copy(alloc)?)),
+            Some(found) => Ok(Some(found.copy()?)),
             None => Ok(None),
         }
     }
@@ -96,7 +96,7 @@ fn record_in(alloc: Global, text: &str) -> Result<Option<Record>, AllocError> {
     match fields[0] {
         "patron" => patron_in(alloc, &fields),
         "item" => item_in(alloc, &fields),
-        "fee" => Ok(fee_in(&fields)),
+        "fee" => fee_in(alloc, &fields),
         _ => Ok(None),
     }
 }
@@ -118,13 +118,14 @@ fn patron_in(alloc: Global, fields: &[&str; 6]) -> Result<Option<Record>, AllocE
     let (Some(name), Some(class)) = (name, Id::new(fields[2].as_bytes())) else {
         return Ok(None);
     };
-    Ok(Some(Record::Patron(Patron {
+    let patron = Patron {
         name,
         class,
         blocked: fields[3] == "Y",
         loans,
         fees,
-    })))
+    };
+    Ok(Some(Record::patron(alloc, patron)?))
 }
 
 fn item_in(alloc: Global, fields: &[&str; 6]) -> Result<Option<Record>, AllocError> {
@@ -134,16 +135,17 @@ fn item_in(alloc: Global, fields: &[&str; 6]) -> Result<Option<Record>, AllocErr
     let holds = holds_in(alloc, fields[5])?;
     let media = MediaType::of_code(fields[2].as_bytes());
     match (title, location, properties, media) {
-        (Some(title), Some(location), Some(properties), Some(media)) => Ok(Some(Record::Item(
-            Item {
+        (Some(title), Some(location), Some(properties), Some(media)) => {
+            let item = Item {
                 title,
                 media,
                 location,
                 properties,
                 loan: loan_in(fields[4]),
                 holds,
-            },
-        ))),
+            };
+            Ok(Some(Record::item(alloc, item)?))
+        }
         _ => Ok(None),
     }
 }
@@ -158,8 +160,15 @@ fn holds_in(alloc: Global, text: &str) -> Result<Holds, AllocError> {
     Ok(holds)
 }
 
-fn fee_in(fields: &[&str; 6]) -> Option<Record> {
-    Some(Record::Fee(Fee {
+fn fee_in(alloc: Global, fields: &[&str; 6]) -> Result<Option<Record>, AllocError> {
+    match charged_in(fields) {
+        Some(fee) => Ok(Some(Record::fee(alloc, fee)?)),
+        None => Ok(None),
+    }
+}
+
+fn charged_in(fields: &[&str; 6]) -> Option<Fee> {
+    Some(Fee {
         patron: Id::new(fields[1].as_bytes())?,
         kind: match fields[2] {
             "04" => FeeType::Overdue,
@@ -168,7 +177,7 @@ fn fee_in(fields: &[&str; 6]) -> Option<Record> {
         },
         amount: Amount::read(fields[3].as_bytes())?,
         paid: Amount::read(fields[4].as_bytes())?,
-    }))
+    })
 }
 
 fn text_in(alloc: Global, text: &str) -> Result<Option<Text>, AllocError> {
@@ -215,9 +224,9 @@ pub fn tell_record(out: &mut String, key: &Key, record: &Record) -> Result<(), A
     };
     write!(out, "{kind} {}: ", shown(key.id()))?;
     match record {
-        Record::Patron(patron) => tell_patron(out, patron),
-        Record::Item(item) => tell_item(out, item),
-        Record::Fee(fee) => tell_fee(out, fee),
+        Record::Patron(patron) => tell_patron(out, patron.get()),
+        Record::Item(item) => tell_item(out, item.get()),
+        Record::Fee(fee) => tell_fee(out, fee.get()),
     }
 }
 

@@ -21,12 +21,12 @@ pub struct OnBoard<'a, 'p, 't, J: PlanName + 'static, R: Wait> {
 impl<J: PlanName + 'static, R: Wait> Looks for OnBoard<'_, '_, '_, J, R> {
     fn look(
         &mut self,
-        alloc: Global,
+        _alloc: Global,
         key: &Key,
     ) -> Result<Option<(Name, Option<Record>)>, AllocError> {
         match self.shared.look(self.rt, self.worker, key) {
             Ok(Sight::Seen { name, place }) => {
-                let found = copied(alloc, record_seen(self.shared.plan(), key, place))?;
+                let found = copied(record_seen(self.shared.plan(), key, place))?;
                 Ok(Some((name, found)))
             }
             Ok(Sight::Over) => Ok(None),

@@ -26,7 +26,7 @@ pub record IsInRow (nodes : List Bool) (i width first : ℕ) : Type 0 where
 abbrev pub NoneSet : List Bool → List Bool → ℕ → ℕ → Type 0
 NoneSet flags nodes from to = (p : ℕ) → from ≤ length nodes + p → length nodes + p < to → slice_index_or flags p false ≡ false
 
--- a set node before which no flag is set, from a place on
+-- a set node before which no flag is set, from a position on
 pub record IsNext (flags nodes : List Bool) (from i : ℕ) : Type 0 where
   pub rows : ℕ
   pub above : IsAbove nodes i rows

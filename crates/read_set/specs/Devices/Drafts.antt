@@ -17,7 +17,7 @@ abbrev pub entries_in : Kept → Entries
 entries_in (Few list) = list.items
 entries_in (Many records) = records.entries
 
--- the place of a key among rising ones, or else the place to which it goes; the first has this number
-abbrev pub place_from : ℕ → Key → Entries → Result ℕ ℕ
-place_from i k [] = Err i
-place_from i k (e ∷ es) = match_ordering (key_cmp k e.0) (Err i) (Ok i) (place_from (i + 1) k es)
+-- the position of a key among rising ones, or else the position to which it goes; the first has this number
+abbrev pub position_from : ℕ → Key → Entries → Result ℕ ℕ
+position_from i k [] = Err i
+position_from i k (e ∷ es) = match_ordering (key_cmp k e.0) (Err i) (Ok i) (position_from (i + 1) k es)

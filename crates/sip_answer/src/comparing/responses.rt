@@ -12,8 +12,43 @@ use crate::answer::{
     PatronStatus, RenewAllAnswer,
 };
 use crate::field::Field;
+use crate::writing::COUNT_MAX;
 use sip_reader::{Amount, Day};
 use std::alloc::{AllocError, Global};
+
+// The fixed parts of responses (SIP 2.00), each with its identifier.
+
+/// Of a patron's status: a status of fourteen bytes, a language of three, a date.
+const PATRON_FIXED: usize = 37;
+
+/// Of a checkin, a checkout and a renewal: four flags, a date.
+const LOAN_FIXED: usize = 24;
+
+/// Of an item status update and a payment: one flag, a date.
+const SHORT_FIXED: usize = 21;
+
+/// Of a renewal of all items: a flag, two counts of four digits, a date.
+const RENEW_ALL_FIXED: usize = 29;
+
+/// Of a hold: two flags, a date.
+const HOLD_FIXED: usize = 22;
+
+// Where they say it, from the first byte of the identifier on.
+
+/// Ok, or that a payment is accepted; the first byte of a patron status.
+const OK_AT: usize = 2;
+
+/// That a hold is available.
+const AVAILABLE_AT: usize = 3;
+
+/// The alert of a checkin, its last flag.
+const ALERT_AT: usize = 5;
+
+/// How many items a renewal of all items renewed.
+const RENEWED_AT: usize = 3;
+
+/// How many it did not.
+const UNRENEWED_AT: usize = 7;
 
 /// Of a patron status response or a patron enable response.
 #[tactic(auto, unfolding(crate::specs::Differ::patron_words))]
@@ -24,10 +59,10 @@ pub fn compare_patron(
 ) -> Result<Option<Words>, AllocError>
     ensures { IfOk result (λ w. w ≡ patron_words answer.now response.now) }
 {
-    if response.len() < 37 {
+    if response.len() < PATRON_FIXED {
         return Ok(None);
     }
-    let (_, rest) = response.split_at(37);
+    let (_, rest) = response.split_at(PATRON_FIXED);
     let is_valid = valid_in(rest);
     let words = Words::new(alloc)
         .unless(Field::Status, is_same_status(answer.status, response))?
@@ -38,7 +73,7 @@ pub fn compare_patron(
 /// Whether the positions 0, 1, 5 and 11 are set alike.
 #[tactic(auto, unfolding(crate::specs::Differ::is_same_status))]
 fn is_same_status(status: PatronStatus, response: &[u8]) -> bool
-    requires { 37 ≤ length response.now }
+    requires { PATRON_FIXED ≤ length response.now }
     ensures { result ≡ is_same_status status response.now }
 {
     is_same(status.charge_denied, is_set(0, response))
@@ -55,10 +90,10 @@ fn is_same(a: bool, b: bool) -> bool
 
 /// Whether a position of a patron status is set.
 fn is_set(position: usize, response: &[u8]) -> bool
-    requires { position + 2 < length response.now }
+    requires { OK_AT + position < length response.now }
     ensures { result ≡ is_set position response.now }
 {
-    response[2 + position] == b'Y'
+    response[OK_AT + position] == b'Y'
 }
 
 /// Of a checkin response.
@@ -70,13 +105,13 @@ pub fn compare_checkin(
 ) -> Result<Option<Words>, AllocError>
     ensures { IfOk result (λ w. w ≡ checkin_words answer.now response.now) }
 {
-    if response.len() < 24 {
+    if response.len() < LOAN_FIXED {
         return Ok(None);
     }
-    let Some(ok) = ok_of(response[2]) else {
+    let Some(ok) = ok_of(response[OK_AT]) else {
         return Ok(None);
     };
-    let Some(alert) = flag_of(response[5]) else {
+    let Some(alert) = flag_of(response[ALERT_AT]) else {
         return Ok(None);
     };
     let words = Words::new(alloc)
@@ -94,13 +129,13 @@ pub fn compare_loan(
 ) -> Result<Option<Words>, AllocError>
     ensures { IfOk result (λ w. w ≡ loan_words answer.now response.now) }
 {
-    if response.len() < 24 {
+    if response.len() < LOAN_FIXED {
         return Ok(None);
     }
-    let Some(ok) = ok_of(response[2]) else {
+    let Some(ok) = ok_of(response[OK_AT]) else {
         return Ok(None);
     };
-    let (_, rest) = response.split_at(24);
+    let (_, rest) = response.split_at(LOAN_FIXED);
     let Some(fee) = fee_in(rest) else {
         return Ok(None);
     };
@@ -145,10 +180,10 @@ pub fn compare_item_status(
 ) -> Result<Option<Words>, AllocError>
     ensures { IfOk result (λ w. w ≡ item_status_words answer.now response.now) }
 {
-    if response.len() < 21 {
+    if response.len() < SHORT_FIXED {
         return Ok(None);
     }
-    let is_stored = response[2] == b'1';
+    let is_stored = response[OK_AT] == b'1';
     let words = Words::new(alloc).unless(Field::Ok, is_same(answer.known.is_some(), is_stored))?;
     Ok(Some(words))
 }
@@ -162,10 +197,10 @@ pub fn compare_fee_paid(
 ) -> Result<Option<Words>, AllocError>
     ensures { IfOk result (λ w. w ≡ fee_paid_words answer.now response.now) }
 {
-    if response.len() < 21 {
+    if response.len() < SHORT_FIXED {
         return Ok(None);
     }
-    let Some(accepted) = flag_of(response[2]) else {
+    let Some(accepted) = flag_of(response[OK_AT]) else {
         return Ok(None);
     };
     let words = Words::new(alloc).unless(Field::Accepted, is_same(answer.accepted, accepted))?;
@@ -181,19 +216,19 @@ pub fn compare_renew_all(
 ) -> Result<Option<Words>, AllocError>
     ensures { IfOk result (λ w. w ≡ renew_all_words answer.now response.now) }
 {
-    if response.len() < 29 {
+    if response.len() < RENEW_ALL_FIXED {
         return Ok(None);
     }
-    let Some(ok) = ok_of(response[2]) else {
+    let Some(ok) = ok_of(response[OK_AT]) else {
         return Ok(None);
     };
-    let Some(renewed) = count_at(3, response) else {
+    let Some(renewed) = count_at(RENEWED_AT, response) else {
         return Ok(None);
     };
-    let Some(unrenewed) = count_at(7, response) else {
+    let Some(unrenewed) = count_at(UNRENEWED_AT, response) else {
         return Ok(None);
     };
-    let (_, rest) = response.split_at(29);
+    let (_, rest) = response.split_at(RENEW_ALL_FIXED);
     let as_renewed = is_same_as_recorded(alloc, answer.renewed.as_slice(), rest, b'B', b'M')?;
     let as_unrenewed = is_same_as_recorded(alloc, answer.unrenewed.as_slice(), rest, b'B', b'N')?;
     let words = Words::new(alloc)
@@ -215,7 +250,7 @@ pub fn compare_renew_all(
 fn capped(n: usize) -> usize
     ensures { result ≡ capped n }
 {
-    if n > 9999 { 9999 } else { n }
+    if n > COUNT_MAX { COUNT_MAX } else { n }
 }
 
 /// Of a hold response.
@@ -227,13 +262,13 @@ pub fn compare_hold(
 ) -> Result<Option<Words>, AllocError>
     ensures { IfOk result (λ w. w ≡ hold_words answer.now response.now) }
 {
-    if response.len() < 22 {
+    if response.len() < HOLD_FIXED {
         return Ok(None);
     }
-    let Some(ok) = ok_of(response[2]) else {
+    let Some(ok) = ok_of(response[OK_AT]) else {
         return Ok(None);
     };
-    let Some(available) = flag_of(response[3]) else {
+    let Some(available) = flag_of(response[AVAILABLE_AT]) else {
         return Ok(None);
     };
     let words = Words::new(alloc)

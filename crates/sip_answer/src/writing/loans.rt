@@ -8,7 +8,7 @@ ghost use Rattle.sip_answer.specs.Parts.{count, digit, each, field, filled, flag
 ghost use Rattle.sip_answer.specs.Texts.{loan_text, money, renew_all_text};
 
 use super::dates::{put_due, put_four};
-use super::parts::{put_digit, put_field, put_filled, put_flag, put_money};
+use super::parts::{COUNT_MAX, put_digit, put_field, put_filled, put_flag, put_money};
 use crate::answer::{KnownItem, LoanAnswer, RenewAllAnswer};
 use sip_reader::{Amount, Id};
 use std::alloc::AllocError;
@@ -109,7 +109,7 @@ pub fn put_renew_all(out: &mut Vec<u8>, answer: &RenewAllAnswer) -> Result<(), A
 fn put_count(out: &mut Vec<u8>, n: usize) -> Result<(), AllocError>
     ensures { OnOk result (out.new.items ≡ out.old.items ++ count n) }
 {
-    if n > 9999 {
+    if n > COUNT_MAX {
         out.extend_from_slice(b"9999")
     } else {
         put_four(out, n as u16)

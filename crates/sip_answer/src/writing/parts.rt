@@ -8,6 +8,9 @@ use itoa::Buffer;
 use sip_reader::{push_amount, sum_of};
 use std::alloc::AllocError;
 
+/// The greatest count that the four digits of a response tell (SIP 2.00, fixed-length fields).
+pub const COUNT_MAX: usize = 9999;
+
 /// A field: its identifier, its text and a bar.
 #[tactic(auto, unfolding(crate::specs::Parts::field))]
 pub fn put_field(out: &mut Vec<u8>, id: &[u8], text: &[u8]) -> Result<(), AllocError>

@@ -5,17 +5,22 @@ use std::alloc::{AllocError, Global};
 use std::process::Abort;
 use std::test::Fail;
 
+/// A message with so many times a byte in place of `~`.
+fn filled(alloc: Global, len: usize, with: u8, message: &str) -> Result<Vec<u8>, AllocError> {
+    let (front, back) = message.split_once('~').unwrap_or((message, ""));
+    let mut bytes = Vec::from_slice(alloc, front.as_bytes())?;
+    for _ in 0..len {
+        bytes.push(with)?;
+    }
+    bytes.extend_from_slice(back.as_bytes())?;
+    Ok(bytes)
+}
+
 /// Reads each message with so many times a byte in place of `~`, and compares how its words begin.
 fn measure(rt: &impl Abort, alloc: Global, len: usize, with: u8, lines: &str) -> Result<(), Fail> {
     for line in lines.split('\n') {
         let (message, words) = line.split_once(" => ").unwrap_or((line, ""));
-        let (front, back) = message.split_once('~').unwrap_or((message, ""));
-        let mut bytes = Vec::from_slice(alloc, front.as_bytes())?;
-        for _ in 0..len {
-            bytes.push(with)?;
-        }
-        bytes.extend_from_slice(back.as_bytes())?;
-        let told = told(alloc, &bytes)?;
+        let told = told(alloc, &filled(alloc, len, with, message)?)?;
         assert!(rt;
             line.is_empty() || told.starts_with(words.as_bytes()),
             "{line}"

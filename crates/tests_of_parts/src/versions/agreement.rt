@@ -21,9 +21,18 @@ const LINES: u64 = 6;
 /// Names, sights, places and lists of keys, also of lines that aren't there.
 fn agree<J: PlanName>(rt: &impl Abort, store: &EntryStore<'_, J>, plain: &PlainStore) {
     for number in 0..5u32 {
-        for line in 0..LINES + 2 {
-            agree_at(rt, store, plain, number, FIRST - 1 + line);
-        }
+        agree_of(rt, store, plain, number);
+    }
+}
+
+fn agree_of<J: PlanName>(
+    rt: &impl Abort,
+    store: &EntryStore<'_, J>,
+    plain: &PlainStore,
+    number: u32,
+) {
+    for line in 0..LINES + 2 {
+        agree_at(rt, store, plain, number, FIRST - 1 + line);
     }
 }
 

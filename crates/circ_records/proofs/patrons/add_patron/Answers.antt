@@ -6,15 +6,14 @@ use Rattle.csv.specs.Records.{fields_of}
 use Rattle.circ_records.specs.Keys.{key_cmp}
 use Rattle.circ_records.specs.Tables.{field}
 use Rattle.circ_records.specs.declared.key.Key.TheVariants as key
-use Rattle.circ_records.specs.declared.record.Record.TheVariants as record_of
 use Rattle.circ_records.proofs.Lookups.{is_some-map}
 use Rattle.circ_records.proofs.Telling.{tells-patron}
 use Rattle.circ_records.proofs.patrons.add_patron.Goals as goal
 
 pub returns-clause-told : goal.returns-clause-told
 returns-clause-told c = λ r before tells fresh.
-    tells-patron r before (fields_of c.args.row.now) c.args.records.now c.insert.new.self (record_of.Patron c.in_ok-patron.patron) tells fresh c.in_ok-patron.ensures
-    (λ q. c.in_ok-before.ensures.updates.0 q ∙ ap (λ id. cond (eq_by_cmp key_cmp (key.Patron id) q) (Some (record_of.Patron c.in_ok-patron.patron)) (get key_cmp c.args.records.now q)) c.row_id.ensures)
+    tells-patron r before (fields_of c.args.row.now) c.args.records.now c.insert.new.self c.in_ok-told.told tells fresh (c.in_ok-told.ensures ∙ c.in_ok-patron.ensures)
+    (λ q. c.in_ok-before.ensures.updates.0 q ∙ ap (λ id. cond (eq_by_cmp key_cmp (key.Patron id) q) (Some c.in_ok-told.told) (get key_cmp c.args.records.now q)) c.row_id.ensures)
 
 pub returns-clause-double : goal.returns-clause-double
 returns-clause-double c = λ r t.

@@ -1,17 +1,28 @@
-use Rattle.std.proofs.Common.{◌≡◌, ◌<◌, length, arith, rules}
+use Rattle.std.proofs.Common.{◌≡◌, ◌<◌, ◌+◌, ◌-◌, length, drop, min, sym, arith}
+use Rattle.std.proofs.lemmas.List.{drop-drop, length-drop}
 use Rattle.journal_table.proofs.Stretches.{goes_on, is_done}
 use Rattle.journal_table.proofs.readings.read_stretches.Goals as goal
 
-pub loop-rest-preserved : goal.loop-rest-preserved
-loop-rest-preserved c =
-    let rest = c.loop-rest.rest.now in
-    let some : 0 < length rest = search rules in
-    rw (c.in_ok-push.ensures.items, c.split_at.ensures.back)
-    (goes_on 4096 c.min.result c.args.lines.now rest c.loop-rest.stretches.items c.in_ok-read_stretch.field-0 (omega arith) some c.min.ensures (rw c.split_at.ensures.front at c.in_ok-read_stretch.ensures)
-    c.loop-rest.invariant)
+pub loop-from-preserved : goal.loop-from-preserved
+loop-from-preserved c =
+    let lines = c.args.lines.now in
+    let from = c.loop-from.from in
+    let len = c.min-len.result in
+    let rest = drop from lines in
+    let size : length rest ≡ length lines - from = length-drop from lines in
+    let some : 0 < length rest = omega (arith, size, c.loop-from-test.true) in
+    let few : len ≡ min (length rest) 4096 = rw size c.min-len.ensures in
+    let same : from + len - from ≡ len = omega arith in
+    record {
+      within = omega (arith, c.min-len.ensures, c.loop-from-test.true);
+      so_far = rw (c.in_ok-push.ensures.items, sym (drop-drop len from lines))
+          (goes_on 4096 len lines rest c.loop-from.stretches.items c.in_ok-read_stretch.field-0 (omega arith) some few (rw same at c.in_ok-read_stretch.ensures) c.loop-from.invariant.so_far);
+    }
 
 pub returns : goal.returns
 returns c =
-    let none : length c.loop-rest.rest.now ≡ 0 = search rules in
-    let (whole, full) = is_done 4096 c.args.lines.now c.loop-rest.rest.now c.loop-rest.stretches.items (omega arith) none c.loop-rest.invariant in
+    let lines = c.args.lines.now in
+    let rest = drop c.loop-from.from lines in
+    let none : length rest ≡ 0 = omega (arith, length-drop c.loop-from.from lines, c.loop-from-test.false) in
+    let (whole, full) = is_done 4096 lines rest c.loop-from.stretches.items (omega arith) none c.loop-from.invariant.so_far in
     record { whole = whole; full = full }

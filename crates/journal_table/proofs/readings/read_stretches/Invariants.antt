@@ -1,12 +1,15 @@
-use Rattle.std.proofs.Common.{◌≡◌, ◌++◌, length, map}
+use Rattle.std.proofs.Common.{◌≡◌, ◌≤◌, ◌-◌, ◌++◌, length, map, drop}
 use Rattle.rayon.specs.Lists.{chunks_of}
 use Rattle.journal_table.specs.Readings.{requests_read}
 use Rattle.journal_table.specs.Stretches.{stretches_of}
 use Rattle.journal_table.proofs.readings.read_stretches.Given as goal
 
 -- the stretches so far and those of what is left are those of all lines
-abbrev pub invariant-loop-rest : goal.invariant-loop-rest
-invariant-loop-rest l = stretches_of l.stretches.items ++ map requests_read (chunks_of 4096 l.rest) ≡ map requests_read (chunks_of 4096 l.lines)
+abbrev pub invariant-loop-from : goal.invariant-loop-from
+invariant-loop-from l = record {
+  within : l.from ≤ length l.lines;
+  so_far : stretches_of l.stretches.items ++ map requests_read (chunks_of 4096 (drop l.from l.lines)) ≡ map requests_read (chunks_of 4096 l.lines);
+}
 
-abbrev pub decreases-loop-rest : goal.decreases-loop-rest
-decreases-loop-rest l = length l.rest
+abbrev pub decreases-loop-from : goal.decreases-loop-from
+decreases-loop-from l = length l.lines - l.from

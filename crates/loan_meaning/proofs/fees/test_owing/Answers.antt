@@ -9,18 +9,18 @@ use Rattle.loan_meaning.proofs.fees.test_owing.Goals as goal
 pub returns-clause-gives : goal.returns-clause-gives
 unfolding owing_tests
 returns-clause-gives g c =
-    let first = rw c.as_slice-fees.ensures at c.in_ok-owes.ensures.gives in
+    let first = rw (c.as_slice-fees.ensures, c.get.ensures) at c.in_ok-owes.ensures.gives in
     follow_then _ (owed_at c.args.writes.now c.args.member.now.patron.fees) (λ owes. Give (owing_verdict owes c.args.asked.now.request.agreed c.args.member.now c.args.article.now)) c.in_ok-owes.owes _
     first (ap Done (sym c.owing.ensures))
 
 pub returns-in_err-owes-clause-keeps : goal.returns-in_err-owes-clause-keeps
 unfolding owing_tests
 returns-in_err-owes-clause-keeps g c =
-    let first = rw c.as_slice-fees.ensures at c.in_err-owes.ensures.keeps in
+    let first = rw (c.as_slice-fees.ensures, c.get.ensures) at c.in_err-owes.ensures.keeps in
     gains_first _ _ (owed_at c.args.writes.now c.args.member.now.patron.fees) (λ owes. Give (owing_verdict owes c.args.asked.now.request.agreed c.args.member.now c.args.article.now)) first
 
 pub returns-clause-keeps : goal.returns-clause-keeps
 unfolding owing_tests
 returns-clause-keeps g c =
-    let first = rw c.as_slice-fees.ensures at c.in_ok-owes.ensures.keeps in
+    let first = rw (c.as_slice-fees.ensures, c.get.ensures) at c.in_ok-owes.ensures.keeps in
     gains_first _ _ (owed_at c.args.writes.now c.args.member.now.patron.fees) (λ owes. Give (owing_verdict owes c.args.asked.now.request.agreed c.args.member.now c.args.article.now)) first

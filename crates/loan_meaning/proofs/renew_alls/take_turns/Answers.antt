@@ -56,6 +56,6 @@ loop-item-preserved g c =
 pub loop-item-init : goal.loop-item-init
 loop-item-init g c =
     let had : Part = g.S.Source.has c.args.source.now in
-    let new = rw c.as_slice.ensures at c.are_new-fresh.ensures in
+    let new = rw (c.as_slice.ensures, c.get.ensures) at c.are_new-fresh.ensures in
     rw c.begin-done.ensures
     (record { keeps = gains_none had (turns_rule c.args.line.now.policy.now c.args.line.now.number c.args.request.now c.args.line.now.date c.args.items.now (none_renewed c.args.member)); few = omega arith; runs = run_none had c.args.line.now.number c.args.member c.are_new-fresh.result new; same = λ more grows. refl; asks = λ more k grows a. a; now = refl })

@@ -26,9 +26,9 @@ returns-clause-texts g c =
     let closure = ap (λ m. m.f) c.with_min_len.ensures.base ∙ c.map.ensures.f in
     let each = subst (λ f. AllZip (λ (k : ℕ) r. IfOk r (AreTexts (stretch k (line_results f.1.now f.2.now.readings (answers_behind f.3.now))))) given.0 h.0) closure given.2 in
     let all_of : n - 0 ≡ n = omega arith in
-    let places : given.0 ≡ range_with_len 0 n = given.1 ∙ (λ i. nat_range ((run i).start) ((run i).end)) ∙ (λ i. nat_range (ends.0 i) (ends.1 i)) ∙ ap (range_with_len 0) all_of in
+    let positions : given.0 ≡ range_with_len 0 n = given.1 ∙ (λ i. nat_range ((run i).start) ((run i).end)) ∙ (λ i. nat_range (ends.0 i) (ends.1 i)) ∙ ap (range_with_len 0) all_of in
     let (ys, read, items) = rw c.in_ok-parts-2.was at h.2 in
-    let parts = are-parts all n given.0 ys _ places (omega arith) (subst (λ rs. AllZip (λ (k : ℕ) r. IfOk r (AreTexts (stretch k all))) given.0 rs) read each) in
+    let parts = are-parts all n given.0 ys _ positions (omega arith) (subst (λ rs. AllZip (λ (k : ℕ) r. IfOk r (AreTexts (stretch k all))) given.0 rs) read each) in
     let same : all ≡ line_results c.args.journal.now (readings_of c.args.journal.now) (answers_behind c.args.outcome.now.answers.items) =
     λ i. line_results (c.lines-lines.ensures.lines i) (c.requires.planned i) (answers_behind (c.as_slice-answers.ensures.value i)) in
     IfOk-weaker c.join.result _ _ (λ t made. subst (λ ls. AreTexts ls t) same (made all (omega arith) (subst (λ ps. AreParts all ps) (sym items) parts))) c.join.ensures

@@ -10,27 +10,27 @@ use Rattle.result_report.proofs.texts.tell.Goals.{in-Some+in_ok-line, in_default
 
 pub line-requires : goal.line-requires
 line-requires c =
-    let place = c.loop-place.place in
+    let position = c.loop-position.position in
     let from = c.args.from in
-    let begun = c.loop-place.auto.place in
+    let begun = c.loop-position.auto.position in
     let ends = c.ranges.to in
     let all = line_results c.args.lines.now c.args.plan.now.readings (answers_behind c.args.answers.now) in
-    has-room (place - from) (drop from all) c.loop-place.telling (omega (arith, c.loop-place-test.true, ends, begun)) c.loop-place.invariant.line_results
+    has-room (position - from) (drop from all) c.loop-position.telling (omega (arith, c.loop-position-test.true, ends, begun)) c.loop-position.invariant.line_results
 
-pub loop-place-preserved : goal.loop-place-preserved
-loop-place-preserved c =
-    let place = c.loop-place.place in
+pub loop-position-preserved : goal.loop-position-preserved
+loop-position-preserved c =
+    let position = c.loop-position.position in
     let from = c.args.from in
-    let begun = c.loop-place.auto.place in
+    let begun = c.loop-position.auto.position in
     let all = line_results c.args.lines.now c.args.plan.now.readings (answers_behind c.args.answers.now) in
     record {
       line_results = elim c.match-result_at.branch [
         | in-Some+in_ok-line w ↦
             let line : LineResult = (w.in-Some.line.now, w.in-Some.reading.now, option_copied w.in-Some.answer) in
-            rw w.telling-is (subst (λ lines. Tells lines w.line.new.self) (between-next from place all line begun w.in-Some.ensures)
-            (tells-more (between from place all) line _ _ c.loop-place.invariant.line_results w.in_ok-line.ensures))
+            rw w.telling-is (subst (λ lines. Tells lines w.line.new.self) (between-next from position all line begun w.in-Some.ensures)
+            (tells-more (between from position all) line _ _ c.loop-position.invariant.line_results w.in_ok-line.ensures))
         | in_default w ↦
-            rw w.telling-is (subst (λ lines. Tells lines c.loop-place.telling) (between-last from place all begun w.in_default.ensures) c.loop-place.invariant.line_results)
+            rw w.telling-is (subst (λ lines. Tells lines c.loop-position.telling) (between-last from position all begun w.in_default.ensures) c.loop-position.invariant.line_results)
       ];
-      begun = λ less. absurd (omega (arith, c.loop-place-test.true, begun));
+      begun = λ less. absurd (omega (arith, c.loop-position-test.true, begun));
     }

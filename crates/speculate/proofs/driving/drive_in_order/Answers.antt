@@ -5,8 +5,8 @@ use Rattle.speculate.specs.Devices.Phases.{Waits}
 use Rattle.speculate.proofs.Drives.{driven, line_there, new_waits, runs_none, runs_on}
 use Rattle.speculate.proofs.driving.drive_in_order.Goals as goal
 
-pub loop-place-init : goal.loop-place-init
-loop-place-init g c = record {
+pub loop-position-init : goal.loop-position-init
+loop-position-init g c = record {
   waits = new_waits g.J.PlanName.plan c.args.board.now c.requires;
   led = runs_none g.J.PlanName.plan c.args.board.now;
 }
@@ -14,38 +14,38 @@ loop-place-init g c = record {
 pub drive_line-requires : goal.drive_line-requires
 drive_line-requires g c =
     let plan = g.J.PlanName.plan in
-    let b = c.loop-place.board in
-    let place = c.loop-place.place in
-    let is : c.first-first.result + place ≡ plan.first + place = ap (λ x. x + place) (c.first-first.ensures ∙ ap (λ (p : Planned). p.first) c.plan-plan.ensures.plan) in
+    let b = c.loop-position.board in
+    let position = c.loop-position.position in
+    let is : c.first-first.result + position ≡ plan.first + position = ap (λ x. x + position) (c.first-first.ensures ∙ ap (λ (p : Planned). p.first) c.plan-plan.ensures.plan) in
     let count = ap (λ (p : Planned). length p.readings) c.plan-plan.ensures.plan in
-    let within : place < length plan.readings = omega (arith, count) in (
+    let within : position < length plan.readings = omega (arith, count) in (
       c.type_bounds.static-J,
       (
-        subst (λ n. Waits plan b n) (sym is) c.loop-place.invariant.waits,
-        subst (λ n. IsLine b n) (sym is) (line_there plan b place c.loop-place.invariant.waits.stands.reached within),
+        subst (λ n. Waits plan b n) (sym is) c.loop-position.invariant.waits,
+        subst (λ n. IsLine b n) (sym is) (line_there plan b position c.loop-position.invariant.waits.stands.reached within),
       ),
     )
 
-pub loop-place-preserved : goal.loop-place-preserved
-loop-place-preserved g c =
+pub loop-position-preserved : goal.loop-position-preserved
+loop-position-preserved g c =
     let plan = g.J.PlanName.plan in
     let new = c.drive_line.new.board in
-    let place = c.loop-place.place in
+    let position = c.loop-position.position in
     let first : c.first-first.result ≡ plan.first = c.first-first.ensures ∙ ap (λ (p : Planned). p.first) c.plan-plan.ensures.plan in
-    let is : c.first-first.result + place + 1 ≡ plan.first + (place + 1) = omega arith in
+    let is : c.first-first.result + position + 1 ≡ plan.first + (position + 1) = omega arith in
     record {
       waits = subst (λ n. Waits plan new n) is c.in_ok-drive_line.ensures.next;
-      led = runs_on plan c.args.board.now c.loop-place.board new c.loop-place.invariant.led c.drive_line.ensures.led;
+      led = runs_on plan c.args.board.now c.loop-position.board new c.loop-position.invariant.led c.drive_line.ensures.led;
     }
 
 pub returns-in_err-drive_line-clause-led : goal.returns-in_err-drive_line-clause-led
 returns-in_err-drive_line-clause-led g c =
-    runs_on g.J.PlanName.plan c.args.board.now c.loop-place.board c.drive_line.new.board c.loop-place.invariant.led c.drive_line.ensures.led
+    runs_on g.J.PlanName.plan c.args.board.now c.loop-position.board c.drive_line.new.board c.loop-position.invariant.led c.drive_line.ensures.led
 
 pub returns-clause-all : goal.returns-clause-all
 returns-clause-all g c =
     let plan = g.J.PlanName.plan in
-    let b = c.loop-place.board in
+    let b = c.loop-position.board in
     let count = ap (λ (p : Planned). length p.readings) c.plan-plan.ensures.plan in
-    let is : plan.first + c.loop-place.place ≡ plan.first + length plan.readings = omega (arith, count) in
-    driven plan b (subst (λ n. Waits plan b n) is c.loop-place.invariant.waits)
+    let is : plan.first + c.loop-position.position ≡ plan.first + length plan.readings = omega (arith, count) in
+    driven plan b (subst (λ n. Waits plan b n) is c.loop-position.invariant.waits)

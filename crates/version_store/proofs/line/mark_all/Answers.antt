@@ -1,5 +1,5 @@
 use Rattle.std.proofs.Common.{◌+◌, arith}
-use Rattle.version_store.proofs.Places.{mark_next}
+use Rattle.version_store.proofs.Positions.{mark_next}
 use Rattle.version_store.proofs.line.mark_all.Goals as goal
 
 pub loop-i-preserved : goal.loop-i-preserved

@@ -1,5 +1,5 @@
 use Rattle.std.proofs.Common.{◌≡◌, ◌++◌, drop, take}
-use Rattle.version_store.specs.Devices.Places.{all_marked}
+use Rattle.version_store.specs.Devices.Positions.{all_marked}
 use Rattle.version_store.proofs.line.mark_all.Given as goal
 
 -- the first are suspect

@@ -1,7 +1,7 @@
 use Rattle.std.proofs.Common.{Bool, not, ◌||◌, eqb, ap, sym, subst, ◌∙◌}
 use Rattle.speculate.specs.declared.ready.Mark.TheVariants as marks
-use Rattle.speculate.specs.Marks.{Puts, SendsBack, ended, has_place}
-use Rattle.speculate.proofs.Readying.{place_is, puts_at}
+use Rattle.speculate.specs.Marks.{Puts, SendsBack, ended, has_position}
+use Rattle.speculate.proofs.Readying.{position_is, puts_at}
 use Rattle.speculate.proofs.Calling.{differs_if, same_if, same_begin, same_goes_on, whole_ready, failed_ready}
 use Rattle.speculate.proofs.board.Board.check.Goals as goal
 
@@ -10,7 +10,7 @@ pub invariant_of-self : goal.invariant_of-self
 invariant_of-self g c =
     same_begin g.J.PlanName.plan c.self.inside.lines c.check.new.self c.args.worker c.args.line c.hand.result c.self.inside.ready c.put.new.self
     c.plan-plan.ensures.reached c.hand.ensures (c.is_none-begins.ensures ∙ ap not c.if-begins.true) c.in-Same.ensures c.self.invariant
-    (puts_at g.J.PlanName.plan c.plan-plan.result.now c.self.inside.lines c.place_of.result c.args.line c.place_of.ensures c.plan-plan.ensures.plan c.plan-plan.ensures.reached
+    (puts_at g.J.PlanName.plan c.plan-plan.result.now c.self.inside.lines c.position_of.result c.args.line c.position_of.ensures c.plan-plan.ensures.plan c.plan-plan.ensures.reached
     c.self.inside.ready c.put.new.self marks.Checking c.put.ensures)
 
 -- it goes on
@@ -22,16 +22,16 @@ invariant_of-self-else-begins g c =
 pub invariant_of-self-in-Whole : goal.invariant_of-self-in-Whole
 invariant_of-self-in-Whole g c =
     let r = c.self.inside.ready in
-    let at = place_is g.J.PlanName.plan c.plan-plan.result.now c.self.inside.lines c.place_of-in-Whole.result c.args.line c.place_of-in-Whole.ensures c.plan-plan.ensures.plan c.plan-plan.ensures.reached in
+    let at = position_is g.J.PlanName.plan c.plan-plan.result.now c.self.inside.lines c.position_of-in-Whole.result c.args.line c.position_of-in-Whole.ensures c.plan-plan.ensures.plan c.plan-plan.ensures.reached in
     whole_ready g.J.PlanName.plan c.self.inside.lines c.check.new.self c.args.worker c.args.line r c.end_check.new.self
     c.plan-plan.ensures.reached c.in-Whole.ensures c.self.invariant c.hand.result c.is_none-begins.result c.hand.ensures c.is_none-begins.ensures
-    (subst (λ p. Puts r c.end_check.new.self p (ended (c.is_none-begins.result || has_place r.checking p))) at c.end_check.ensures)
+    (subst (λ p. Puts r c.end_check.new.self p (ended (c.is_none-begins.result || has_position r.checking p))) at c.end_check.ensures)
 
 pub invariant_of-self-in-Changed : goal.invariant_of-self-in-Changed
 invariant_of-self-in-Changed g c =
     let r = c.self.inside.ready in
     let changes : Bool = not (eqb c.clock.result c.clock-clock.result) in
-    let at = place_is g.J.PlanName.plan c.plan-plan.result.now c.self.inside.lines c.place_of-in-Changed.result c.args.line c.place_of-in-Changed.ensures c.plan-plan.ensures.plan c.plan-plan.ensures.reached in
+    let at = position_is g.J.PlanName.plan c.plan-plan.result.now c.self.inside.lines c.position_of-in-Changed.result c.args.line c.position_of-in-Changed.ensures c.plan-plan.ensures.plan c.plan-plan.ensures.reached in
     failed_ready g.J.PlanName.plan c.self.inside.lines c.check.new.self c.args.worker c.args.line c.in-Changed.key c.in-Changed.noted c.in-Changed.found r c.send_back.new.self changes
     c.plan-plan.ensures.reached c.in-Changed.ensures
     (λ h e. differs_if c.clock.result c.clock-clock.result h (c.clock.ensures ∙ e ∙ sym c.clock-clock.ensures))

@@ -3,7 +3,7 @@ use Rattle.read_set.specs.Plans.{Planned}
 use Rattle.board_steps.specs.Board.{Board}
 use Rattle.board_steps.specs.Choice.{IsChoice}
 use Rattle.board_steps.specs.Choice.Choice.{ToCommit, ToCheck, ToTake, ToWait}
-use Rattle.speculate.specs.Marks.{has_place}
+use Rattle.speculate.specs.Marks.{has_position}
 use Rattle.speculate.proofs.Choosing.{commits, checks, takes, waits_for_others}
 use Rattle.speculate.proofs.board.Board.choose.Goals as goal
 
@@ -13,7 +13,7 @@ returns-then-has g c =
     let r = c.self.inside.ready in
     let line : b.first + b.committed ≡ c.first.result + c.committed-committed.result =
     omega (arith, c.first.ensures, ap (λ (x : Planned). x.first) c.plan-plan.ensures.plan, c.plan-plan.ensures.reached.first, c.committed-committed.ensures) in
-    let has : has_place r.checked b.committed ≡ true = ap (has_place r.checked) (sym c.committed-committed.ensures) ∙ sym c.has.ensures ∙ c.if-has.true in
+    let has : has_position r.checked b.committed ≡ true = ap (has_position r.checked) (sym c.committed-committed.ensures) ∙ sym c.has.ensures ∙ c.if-has.true in
     subst (λ (x : Board). IsChoice x (ToCommit (c.first.result + c.committed-committed.result))) c.self.view_is
     (subst (λ n. IsChoice b (ToCommit n)) line (commits g.J.PlanName.plan b r c.plan-plan.ensures.reached c.self.invariant has))
 
@@ -21,20 +21,20 @@ pub returns-in-Some : goal.returns-in-Some
 returns-in-Some g c =
     let b = c.self.inside.lines in
     let r = c.self.inside.ready in
-    let line : b.first + c.in-Some.place ≡ c.first-in-Some.result + c.in-Some.place =
+    let line : b.first + c.in-Some.position ≡ c.first-in-Some.result + c.in-Some.position =
     omega (arith, c.first-in-Some.ensures, ap (λ (x : Planned). x.first) c.plan-plan.ensures.plan, c.plan-plan.ensures.reached.first) in
-    let none : has_place r.checked b.committed ≡ false = ap (has_place r.checked) (sym c.committed-committed.ensures) ∙ sym c.has.ensures ∙ c.if-has.false in
-    subst (λ (x : Board). IsChoice x (ToCheck (c.first-in-Some.result + c.in-Some.place))) c.self.view_is
-    (subst (λ n. IsChoice b (ToCheck n)) line (checks g.J.PlanName.plan b r c.plan-plan.ensures.reached c.self.invariant c.in-Some.place none c.in-Some.ensures))
+    let none : has_position r.checked b.committed ≡ false = ap (has_position r.checked) (sym c.committed-committed.ensures) ∙ sym c.has.ensures ∙ c.if-has.false in
+    subst (λ (x : Board). IsChoice x (ToCheck (c.first-in-Some.result + c.in-Some.position))) c.self.view_is
+    (subst (λ n. IsChoice b (ToCheck n)) line (checks g.J.PlanName.plan b r c.plan-plan.ensures.reached c.self.invariant c.in-Some.position none c.in-Some.ensures))
 
 pub returns-in-Some-least_from : goal.returns-in-Some-least_from
 returns-in-Some-least_from g c =
     let b = c.self.inside.lines in
     let r = c.self.inside.ready in
-    let p = c.in-Some-least_from.place in
+    let p = c.in-Some-least_from.position in
     let line : b.first + p ≡ c.first-in-Some-least_from.result + p =
     omega (arith, c.first-in-Some-least_from.ensures, ap (λ (x : Planned). x.first) c.plan-plan.ensures.plan, c.plan-plan.ensures.reached.first) in
-    let none : has_place r.checked b.committed ≡ false = ap (has_place r.checked) (sym c.committed-committed.ensures) ∙ sym c.has.ensures ∙ c.if-has.false in
+    let none : has_position r.checked b.committed ≡ false = ap (has_position r.checked) (sym c.committed-committed.ensures) ∙ sym c.has.ensures ∙ c.if-has.false in
     subst (λ (x : Board). IsChoice x (ToTake (c.first-in-Some-least_from.result + p))) c.self.view_is
     (subst (λ n. IsChoice b (ToTake n)) line
     (takes g.J.PlanName.plan b r c.plan-plan.ensures.reached c.self.invariant p none c.in_default.ensures c.in-Some-least_from.ensures))
@@ -43,7 +43,7 @@ pub returns : goal.returns
 returns g c =
     let b = c.self.inside.lines in
     let r = c.self.inside.ready in
-    let none : has_place r.checked b.committed ≡ false = ap (has_place r.checked) (sym c.committed-committed.ensures) ∙ sym c.has.ensures ∙ c.if-has.false in
+    let none : has_position r.checked b.committed ≡ false = ap (has_position r.checked) (sym c.committed-committed.ensures) ∙ sym c.has.ensures ∙ c.if-has.false in
     let more : b.committed < length g.J.PlanName.plan.readings =
     omega (arith, c.if-committed-lines_of.false, c.lines_of.ensures.lines, ap (λ (x : Planned). length x.readings) c.plan-plan.ensures.plan, c.committed-committed.ensures) in
     subst (λ (x : Board). IsChoice x ToWait) c.self.view_is

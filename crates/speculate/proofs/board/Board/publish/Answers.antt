@@ -12,21 +12,21 @@ pub invariant_of-self : goal.invariant_of-self
 invariant_of-self g c =
     placed_ready g.J.PlanName.plan c.self.inside.lines c.publish.new.self c.args.worker (contents_at c.args.place) c.in-Some.hand c.self.inside.ready c.lose_above.new.self
     c.plan-plan.ensures.reached c.in-Some.ensures c.in-Placed.ensures c.self.invariant
-    (loses_at g.J.PlanName.plan c.plan-plan.result.now c.self.inside.lines c.place_of.result c.in-Some.hand.line c.place_of.ensures c.plan-plan.ensures.plan c.plan-plan.ensures.reached
+    (loses_at g.J.PlanName.plan c.plan-plan.result.now c.self.inside.lines c.position_of.result c.in-Some.hand.line c.position_of.ensures c.plan-plan.ensures.plan c.plan-plan.ensures.reached
     c.self.inside.ready c.lose_above.new.self c.lose_above.ensures)
 
 pub invariant_of-self-in-Lifted : goal.invariant_of-self-in-Lifted
 invariant_of-self-in-Lifted g c =
     lifted_ready g.J.PlanName.plan c.self.inside.lines c.publish.new.self c.args.worker (contents_at c.args.place) c.in-Some.hand c.self.inside.ready c.lose_above-in-Lifted.new.self
     c.plan-plan.ensures.reached c.in-Some.ensures c.in-Lifted.ensures c.self.invariant
-    (loses_at g.J.PlanName.plan c.plan-plan.result.now c.self.inside.lines c.place_of-in-Lifted.result c.in-Some.hand.line c.place_of-in-Lifted.ensures c.plan-plan.ensures.plan
+    (loses_at g.J.PlanName.plan c.plan-plan.result.now c.self.inside.lines c.position_of-in-Lifted.result c.in-Some.hand.line c.position_of-in-Lifted.ensures c.plan-plan.ensures.plan
     c.plan-plan.ensures.reached c.self.inside.ready c.lose_above-in-Lifted.new.self c.lose_above-in-Lifted.ensures)
 
 pub invariant_of-self-in-Whole : goal.invariant_of-self-in-Whole
 invariant_of-self-in-Whole g c =
     published_ready g.J.PlanName.plan c.self.inside.lines c.publish.new.self c.args.worker (contents_at c.args.place) c.in-Some.hand c.self.inside.ready c.put.new.self
     c.plan-plan.ensures.reached c.in-Some.ensures c.in-Whole.ensures c.self.invariant
-    (puts_at g.J.PlanName.plan c.plan-plan.result.now c.self.inside.lines c.place_of-in-Whole.result c.in-Some.hand.line c.place_of-in-Whole.ensures c.plan-plan.ensures.plan
+    (puts_at g.J.PlanName.plan c.plan-plan.result.now c.self.inside.lines c.position_of-in-Whole.result c.in-Some.hand.line c.position_of-in-Whole.ensures c.plan-plan.ensures.plan
     c.plan-plan.ensures.reached c.self.inside.ready c.put.new.self marks.Unchecked c.put.ensures)
 
 pub returns-in-Placed : goal.returns-in-Placed

@@ -10,23 +10,23 @@ use Rattle.speculate.specs.Marks.{IsReady}
 use Rattle.board_lines.specs.Replies.{Answers}
 use Rattle.speculate.specs.declared.ready.Mark.TheVariants as marks
 use Rattle.board_lines.specs.declared.reply.Reply.TheVariants as replies
-use Rattle.speculate.proofs.Readying.{is_place, puts_at, loses_at}
+use Rattle.speculate.proofs.Readying.{is_position, puts_at, loses_at}
 use Rattle.speculate.proofs.Calling.{hand_line, placed_ready, lifted_ready, published_ready}
 use Rattle.speculate.proofs.board.Board.publish_more.Goals as goal
 
 pub lose_above-requires : goal.lose_above-requires
 lose_above-requires g c =
-    is_place g.J.PlanName.plan c.plan-plan.result.now c.self.inside.lines c.place_of-place.result c.in-Some.hand.line c.place_of-place.ensures c.plan-plan.ensures.plan c.plan-plan.ensures.reached
+    is_position g.J.PlanName.plan c.plan-plan.result.now c.self.inside.lines c.position_of-position.result c.in-Some.hand.line c.position_of-position.ensures c.plan-plan.ensures.plan c.plan-plan.ensures.reached
     c.self.inside.ready c.self.invariant (hand_line c.self.inside.lines c.args.worker c.in-Some.hand c.in-Some.ensures)
 
 pub lose_above-requires-in-Lifted : goal.lose_above-requires-in-Lifted
 lose_above-requires-in-Lifted g c =
-    is_place g.J.PlanName.plan c.plan-plan.result.now c.self.inside.lines c.place_of-place.result c.in-Some.hand.line c.place_of-place.ensures c.plan-plan.ensures.plan c.plan-plan.ensures.reached
+    is_position g.J.PlanName.plan c.plan-plan.result.now c.self.inside.lines c.position_of-position.result c.in-Some.hand.line c.position_of-position.ensures c.plan-plan.ensures.plan c.plan-plan.ensures.reached
     c.self.inside.ready c.self.invariant (hand_line c.self.inside.lines c.args.worker c.in-Some.hand c.in-Some.ensures)
 
 pub put-requires : goal.put-requires
 put-requires g c =
-    is_place g.J.PlanName.plan c.plan-plan.result.now c.self.inside.lines c.place_of-place.result c.in-Some.hand.line c.place_of-place.ensures c.plan-plan.ensures.plan c.plan-plan.ensures.reached
+    is_position g.J.PlanName.plan c.plan-plan.result.now c.self.inside.lines c.position_of-position.result c.in-Some.hand.line c.position_of-position.ensures c.plan-plan.ensures.plan c.plan-plan.ensures.reached
     c.self.inside.ready c.self.invariant (hand_line c.self.inside.lines c.args.worker c.in-Some.hand c.in-Some.ensures)
 
 pub invariant_of-self-in-Placed : goal.invariant_of-self-in-Placed
@@ -39,7 +39,7 @@ invariant_of-self-in-Placed g c =
     let more : PublishesMore plan old w (Some c.in-Some-publish_more.reply) new = c.in-Some-publish_more.ensures in
     let step : PublishStep old w more.0 Placed new = subst (λ r. Answers plan old (Publish w more.0) r new) c.in-Placed.is more.3 in
     placed_ready plan old new w more.0 c.in-Some.hand ready c.lose_above.new.self c.plan-plan.ensures.reached c.in-Some.ensures step c.self.invariant
-    (loses_at plan c.plan-plan.result.now old c.place_of-place.result c.in-Some.hand.line c.place_of-place.ensures c.plan-plan.ensures.plan c.plan-plan.ensures.reached
+    (loses_at plan c.plan-plan.result.now old c.position_of-position.result c.in-Some.hand.line c.position_of-position.ensures c.plan-plan.ensures.plan c.plan-plan.ensures.reached
     ready c.lose_above.new.self c.lose_above.ensures)
 
 pub invariant_of-self-in-Lifted : goal.invariant_of-self-in-Lifted
@@ -52,7 +52,7 @@ invariant_of-self-in-Lifted g c =
     let more : PublishesMore plan old w (Some c.in-Some-publish_more.reply) new = c.in-Some-publish_more.ensures in
     let step : PublishStep old w more.0 Lifted new = subst (λ r. Answers plan old (Publish w more.0) r new) c.in-Lifted.is more.3 in
     lifted_ready plan old new w more.0 c.in-Some.hand ready c.lose_above-in-Lifted.new.self c.plan-plan.ensures.reached c.in-Some.ensures step c.self.invariant
-    (loses_at plan c.plan-plan.result.now old c.place_of-place.result c.in-Some.hand.line c.place_of-place.ensures c.plan-plan.ensures.plan c.plan-plan.ensures.reached
+    (loses_at plan c.plan-plan.result.now old c.position_of-position.result c.in-Some.hand.line c.position_of-position.ensures c.plan-plan.ensures.plan c.plan-plan.ensures.reached
     ready c.lose_above-in-Lifted.new.self c.lose_above-in-Lifted.ensures)
 
 pub invariant_of-self-in-Whole : goal.invariant_of-self-in-Whole
@@ -65,7 +65,7 @@ invariant_of-self-in-Whole g c =
     let more : PublishesMore plan old w (Some c.in-Some-publish_more.reply) new = c.in-Some-publish_more.ensures in
     let step : PublishStep old w more.0 Whole new = subst (λ r. Answers plan old (Publish w more.0) r new) c.in-Whole.is more.3 in
     published_ready plan old new w more.0 c.in-Some.hand ready c.put.new.self c.plan-plan.ensures.reached c.in-Some.ensures step c.self.invariant
-    (puts_at plan c.plan-plan.result.now old c.place_of-place.result c.in-Some.hand.line c.place_of-place.ensures c.plan-plan.ensures.plan c.plan-plan.ensures.reached
+    (puts_at plan c.plan-plan.result.now old c.position_of-position.result c.in-Some.hand.line c.position_of-position.ensures c.plan-plan.ensures.plan c.plan-plan.ensures.reached
     ready c.put.new.self marks.Unchecked c.put.ensures)
 
 pub returns-in-Placed : goal.returns-in-Placed

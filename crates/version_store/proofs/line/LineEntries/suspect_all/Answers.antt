@@ -1,7 +1,7 @@
 use Rattle.std.proofs.Common.{ap, sym, subst, ◌∙◌}
 use Rattle.std.specs.Prelude.{T}
 use Rattle.version_store.specs.Entries.{line_of}
-use Rattle.version_store.specs.Devices.Places.{Rise, marked}
+use Rattle.version_store.specs.Devices.Positions.{Rise, marked}
 use Rattle.version_store.proofs.Views.{line_marked, sorted_map}
 use Rattle.version_store.proofs.line.LineEntries.suspect_all.Goals as goal
 

@@ -10,8 +10,6 @@ import threading
 ROOT = os.path.dirname(os.path.dirname(os.path.abspath(__file__)))
 # what the chains of tasks that take longest leave of the processors
 BESIDE = 5
-# a chain is long that has so much of the longest one's work: all are busy as it is, and a proof by one job takes the least processor time
-LONG = 0.95
 # how many lines of code a second of processor time proves, about
 LINES_A_SECOND = 4
 
@@ -66,21 +64,22 @@ def chains(tasks):
     return behind
 
 
-def side_by_side(tasks, most):
+def side_by_side(tasks, jobs, long):
     """Runs tasks side by side, one a processor, each once those that it waits for have ended, and returns what each gave. A task is what it waits for, a
     measure of its work, and a call that gets what was given and how many jobs it may use.
 
-    The end waits for the longest chain. So a task on a long chain (it has LONG of the longest one's work) begins first and may have several jobs, at most
-    `most`, and the others have what it leaves of the processors. A proof by two jobs takes a third more processor time, one by four half as much again: they pay only where processors are idle."""
+    The end waits for the longest chain. So a task on a long chain (it has at least the part `long` of the longest one's work) begins first and has several
+    jobs, and the others have one and what it leaves of the processors. A proof by two or by four jobs takes a third more processor time than by one, so they
+    pay only where processors would be idle."""
     processors, behind = RT.processors(), chains(tasks)
     left, running, given, ended = sorted(tasks, key=lambda it: -behind[it]), {}, {}, queue.SimpleQueue()
 
-    def run(key, jobs, is_beside):
+    def run(key, count, is_beside):
         # a thread of its own for each task: what it starts inherits its priority
         if is_beside:
             os.setpriority(os.PRIO_PROCESS, threading.get_native_id(), BESIDE)
         try:
-            ended.put((key, tasks[key][2](given, jobs), None))
+            ended.put((key, tasks[key][2](given, count), None))
         except BaseException as error:
             ended.put((key, None, error))
 
@@ -89,9 +88,9 @@ def side_by_side(tasks, most):
         for key in ready[: processors - len(running)]:
             left.remove(key)
             longest = max([behind[key], *(behind[it] for it in running)])
-            is_beside = behind[key] < LONG * longest
-            jobs = 1 if is_beside or not tasks[key][1] else min(most, max(2, processors - len(running) - len(ready) + 1))
-            running[key] = threading.Thread(target=run, args=(key, jobs, is_beside), daemon=True)
+            is_beside = behind[key] < long * longest
+            count = 1 if is_beside or not tasks[key][1] else jobs
+            running[key] = threading.Thread(target=run, args=(key, count, is_beside), daemon=True)
             running[key].start()
         key, given[key], error = ended.get()
         running.pop(key).join()

@@ -22,7 +22,7 @@ use Rattle.read_set.specs.Maps.{Map}
 use Rattle.read_set.specs.Meaning.{effect}
 use Rattle.read_set.specs.Plans.{Planned, reading_at}
 use Rattle.read_set.specs.Replay.{after, answer_of, before, last, one_at, one_by}
-use Rattle.result_report.specs.BoardEnds.{entered_on}
+use Rattle.speculate.specs.BoardEnds.{entered_on}
 use Rattle.result_report.specs.Ends.{AreRecordsAt, keys_named, lines_keys, named_keys, numbers_of, only_at}
 use Rattle.result_report.specs.Report.{line_results}
 use Rattle.result_report.specs.Tables.{AreTexts}

@@ -5,7 +5,7 @@ use Rattle.board_steps.specs.Board.{Board}
 use Rattle.board_steps.specs.Steps.{opening}
 use Rattle.board_steps.specs.declared.TheConstants.{WORKERS_MAX}
 use Rattle.read_set.specs.Plans.{Planned}
-use Rattle.result_report.specs.BoardEnds.{attempt_on}
+use Rattle.speculate.specs.BoardEnds.{attempt_on}
 use Rattle.result_report.specs.Ends.{numbers_of}
 use Rattle.speculate.specs.Finishing.{IsWhole}
 use Rattle.speculate.specs.Playing.{Halts, Plays}

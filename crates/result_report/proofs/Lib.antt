@@ -3,4 +3,3 @@ mod TellingLines
 mod Parts
 mod Collected
 mod Once
-mod BoardEnds

@@ -2,7 +2,6 @@
 //! responses that differ, and the lines that are passed over. It stands on the journal, the plan and the answers.
 #![tactic(auto)]
 
-mod board_end;
 mod ends;
 mod listing;
 mod outcome;

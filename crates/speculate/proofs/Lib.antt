@@ -1,3 +1,4 @@
+mod BoardEnds
 pub mod Calling
 pub mod Choosing
 pub mod Determined

@@ -1,3 +1,4 @@
+pub mod BoardEnds
 pub mod Choices
 pub mod Devices
 pub mod Driving

@@ -9,6 +9,7 @@ mod board;
 mod choice;
 mod committed;
 mod driving;
+mod end;
 mod ending;
 mod finished;
 mod laws;

@@ -2,7 +2,7 @@ use mathlib.Core.List.{not-mem-nil}
 use Rattle.std.proofs.Common.{◌∙◌, IfOk, ap, map, subst, sym}
 use Rattle.read_set.specs.Plans.{Planned}
 use Rattle.read_set.specs.Replay.{last}
-use Rattle.result_report.specs.BoardEnds.{attempt_on}
+use Rattle.speculate.specs.BoardEnds.{attempt_on}
 use Rattle.result_report.specs.Ends.{numbers_of}
 use Rattle.replay_run.specs.Answers.{answers_of}
 use Rattle.replay_run.specs.Entries.{AreEntries}

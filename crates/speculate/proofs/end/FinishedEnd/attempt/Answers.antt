@@ -1,7 +1,7 @@
 use Rattle.std.proofs.Common.{◌≡◌, ◌≤◌, ◌<◌, ◌+◌, length, ap, arith}
 use Rattle.read_set.specs.Plans.{Planned}
-use Rattle.result_report.proofs.BoardEnds.{none_outside}
-use Rattle.result_report.proofs.board_end.FinishedEnd.attempt.Goals as goal
+use Rattle.speculate.proofs.BoardEnds.{none_outside}
+use Rattle.speculate.proofs.end.FinishedEnd.attempt.Goals as goal
 
 pub returns-then-line-numbers : goal.returns-then-line-numbers
 returns-then-line-numbers g c =

@@ -4,7 +4,7 @@ use Rattle.std.proofs.lemmas.Bool.{cases_lt}
 use Rattle.std.proofs.lemmas.List.{get_or_past}
 use Rattle.board_steps.specs.Board.{Board, IsLine, Row, blank, row_at}
 use Rattle.board_steps.proofs.Lines.{row_before, row_from}
-use Rattle.result_report.specs.BoardEnds.{attempt_on}
+use Rattle.speculate.specs.BoardEnds.{attempt_on}
 
 pub none_outside : (b : Board) (line : ℕ) → (IsLine b line → ⊥) → 0 ≡ attempt_on b line
 none_outside b line out = elim (cases_lt line b.first) [

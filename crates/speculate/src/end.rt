@@ -1,14 +1,14 @@
 //! A board on which all lines are committed, as the end of a run.
 
-use crate::ends::End;
+use crate::finished::Finished;
 use circ_records::{Key, Record};
 use read_set::{Plan, PlanName};
+use result_report::End;
 use sip_answer::Answer;
-use speculate::Finished;
 
 impl<J: PlanName> End for Finished<'_, '_, J> {
     ghost use Rattle.read_set.specs.Replay.{answer_of, last};
-    ghost use Rattle.result_report.specs.BoardEnds.{attempt_on, entered_on};
+    ghost use Rattle.speculate.specs.BoardEnds.{attempt_on, entered_on};
 
     ghost planned = { λ _. J.plan };
 

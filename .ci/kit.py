@@ -10,6 +10,8 @@ import threading
 ROOT = os.path.dirname(os.path.dirname(os.path.abspath(__file__)))
 # what the chains of tasks that take longest leave of the processors
 BESIDE = 5
+# a chain is long that has so much of the longest one's work: with more of them the jobs of one stand in the way of the other's
+LONG = 0.95
 # how many lines of code a second of processor time proves, about
 LINES_A_SECOND = 4
 
@@ -64,13 +66,13 @@ def chains(tasks):
     return behind
 
 
-def side_by_side(tasks, jobs, long):
+def side_by_side(tasks, jobs):
     """Runs tasks side by side, one a processor, each once those that it waits for have ended, and returns what each gave. A task is what it waits for, a
     measure of its work, and a call that gets what was given and how many jobs it may use.
 
-    The end waits for the longest chain. So a task on a long chain (it has at least the part `long` of the longest one's work) begins first and has several
-    jobs, and the others have one and what it leaves of the processors. A proof by two or by four jobs takes a third more processor time than by one, so they
-    pay only where processors would be idle."""
+    The end waits for the longest chain. So a task on a long chain (it has LONG of the longest one's work) begins first and has so many `jobs`, and the others have
+    one and what it leaves of the processors. A proof by two or by four jobs takes a third more processor time than by one, so they pay only where processors
+    would be idle."""
     processors, behind = RT.processors(), chains(tasks)
     left, running, given, ended = sorted(tasks, key=lambda it: -behind[it]), {}, {}, queue.SimpleQueue()
 
@@ -88,7 +90,7 @@ def side_by_side(tasks, jobs, long):
         for key in ready[: processors - len(running)]:
             left.remove(key)
             longest = max([behind[key], *(behind[it] for it in running)])
-            is_beside = behind[key] < long * longest
+            is_beside = behind[key] < LONG * longest
             count = 1 if is_beside or not tasks[key][1] else jobs
             running[key] = threading.Thread(target=run, args=(key, count, is_beside), daemon=True)
             running[key].start()

@@ -19,7 +19,7 @@ use version_store::Place;
 
 impl<'p, 't, J: PlanName> Lines<'p, 't, J> {
     /// The answer of a line that is committed, where it has one; None of any other line.
-    pub fn answer(&self, line: u64) -> Option<&Answer>
+    pub fn answer(&self, line: u64) -> Option<&'t Answer>
         ensures { option_copied result ≡ committed_answer (row_at self.now line).state }
     {
         let Some(state) = self.attempts.state(line) else {

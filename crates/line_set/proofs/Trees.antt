@@ -1,5 +1,5 @@
 -- Nodes and the flags below them.
-use Rattle.std.proofs.Common.{◌≡◌, ◌≢◌, ℕ, zero, suc, ◌+◌, ◌-◌, ◌*◌, ◌/◌, ◌%◌, ◌^◌, ◌<◌, ◌≤◌, Bool, true, false, ◌||◌, List, length, set, get_or, nat_lt, refl, sym, ap, subst, ◌∙◌, ◌⊎◌, inl, inr, ap₂, arith, length-set, get_or-set_same, get_or-set_other, true≢false, Some}
+use Rattle.std.proofs.Common.{◌≡◌, ◌≢◌, ℕ, zero, suc, ◌+◌, ◌-◌, ◌*◌, ◌/◌, ◌%◌, ◌^◌, ◌<◌, ◌≤◌, Bool, true, false, ◌||◌, List, length, set, get_or, refl, sym, ap, subst, ◌∙◌, inl, inr, ap₂, arith, length-set, get_or-set_same, get_or-set_other, true≢false, Some}
 use Rattle.std.proofs.lemmas.Bool.{cases_eq, cases_lt, lt-ltb, le-ltb}
 use Rattle.std.proofs.lemmas.List.{get_or_past}
 use Rattle.line_set.specs.Trees.{node_at, joined, AllBut, IsPower, IsTree, IsLeastFrom}
@@ -287,3 +287,17 @@ none_past flags nodes from to e tree none p le = elim (cases_lt (length nodes + 
   | inl lt ↦ none p (omega (arith, le)) lt
   | inr past ↦ get_or_past flags p false (omega (arith, past, e, tree.covers))
 ]
+
+-- ---- the node on top
+below_one : (h : ℕ) → below 1 h ≡ 2 ^ h
+below_one zero = refl
+below_one (suc h) = below_double 1 h ∙ ap (λ n. 2 * n) (below_one h) ∙ sym (pow_suc h)
+
+-- where it isn't set, no flag is
+pub none_at_all : (flags nodes : List Bool) → IsTree flags nodes → node_at flags nodes 1 ≡ false → (p : ℕ) → get_or flags p false ≡ false
+none_at_all flags nodes t bare p =
+    let h = t.power.0 in
+    let e : below 1 h ≡ length nodes = below_one h ∙ sym t.power.1 in
+    let d : below 2 h ≡ 2 * length nodes = below_double 1 h ∙ ap (λ n. 2 * n) e in
+    let up : IsAbove nodes 1 h = record { low = omega (arith, e); high = omega (arith, d) } in
+    none_past flags nodes 0 (2 * length nodes) refl t (λ q low high. none_below flags nodes h 1 t up bare q (omega (arith, e)) (omega (arith, d))) p (omega arith)

@@ -84,6 +84,10 @@ impl LineSet {
         if from >= self.flags.len() {
             return None;
         }
+        // (most of the time a set of lines that are to be checked, or are in check, is empty)
+        if !is_set(&self.flags, &self.nodes, 1) {
+            return None;
+        }
         let node = next_set(&self.flags, &self.nodes, from)?;
         Some(least_below(&self.flags, &self.nodes, from, node))
     }

@@ -26,6 +26,7 @@ use speculate::{Board, Finished};
 use std::alloc::{AllocError, Global};
 use std::collections::BTreeMap;
 use std::marker::Brand;
+use std::mem::forget;
 use std::sync::Wait;
 use std::thread::Threads;
 use version_store::VersionTable;
@@ -34,6 +35,9 @@ use worker_pool::{Closed, Gate, SharedBoard, run_workers};
 /// The output of one thread, made by 1 to 64 workers in threads; its attempts are those that were committed. The faults: first
 /// the number of workers, then those of the inputs, then the first that a worker meets. The gate is told of each worker's
 /// steps.
+///
+/// What an output was made of is not torn down: its memory stays taken until the process ends, which gives all of it back
+/// at once.
 pub fn rebuild<G: Gate + Sync, R: Threads + Wait + Sync>(
     rt: &R,
     alloc: Global,
@@ -51,7 +55,10 @@ pub fn rebuild<G: Gate + Sync, R: Threads + Wait + Sync>(
     }
     match judge_parallel(rt, alloc, inputs) {
         Ok(Prepared { plan, journal }) => {
-            run_named::<Brand, G, R>(rt, alloc, &plan, &journal, workers, gate)
+            let output = run_named::<Brand, G, R>(rt, alloc, &plan, &journal, workers, gate);
+            forget(plan);
+            forget(journal);
+            output
         }
         Err(fault) => Err(fault),
     }
@@ -78,16 +85,18 @@ fn run_named<J: PlanName + Send + Sync + 'static, G: Gate + Sync, R: Threads + W
         let board = Board::new(alloc, plan, workers)?;
         let shared = SharedBoard::new(board, &table);
         let run = run_workers(rt, alloc, &shared, gate);
-        match shared.close() {
-            Closed::Finished(finished) => {
-                return Ok(collect_parallel(rt, alloc, plan, journal, &finished)?);
-            }
+        let finished = match shared.close() {
+            Closed::Finished(finished) => finished,
             Closed::Open { .. } => {
                 if let Err(fault) = run {
                     return Err(Fault::from(fault));
                 }
+                continue;
             }
-        }
+        };
+        let output = collect_parallel(rt, alloc, plan, journal, finished)?;
+        forget(table);
+        return Ok(output);
     }
     unreachable!()
 }
@@ -98,14 +107,16 @@ fn collect_parallel<J: PlanName + 'static, R: Threads + Sync>(
     alloc: Global,
     plan: &Plan,
     journal: &Journal,
-    finished: &Finished<'_, '_, J>,
+    finished: Finished<'_, '_, J>,
 ) -> Result<Output, AllocError>
     requires named { plan.now ≡ J.plan }
     requires fits { plan.now.readings ≡ readings_of journal.now }
-    ensures { IfOk result (IsOutputBy plan.now journal.now (attempts_on plan.now finished.now)) }
+    ensures { IfOk result (IsOutputBy plan.now journal.now (attempts_on plan.now finished.entry)) }
 {
     let _plan = finished.plan();
-    let outcome = collect(alloc, finished)?;
+    let outcome = collect(alloc, &finished)?;
+    // its memory is wanted for the texts
+    drop(finished);
     output_parallel(rt, alloc, plan, journal, outcome)
 }
 

@@ -16,8 +16,9 @@ use sip_answer::Answer;
 use std::alloc::{AllocError, Global};
 use std::collections::BTreeMap;
 
-/// The end of a run over a plan: what it gives of each line, by the line's number, and of the records after the last.
-pub trait End {
+/// The end of a run over a plan: what it gives of each line, by the line's number, and of the records after the last. The
+/// answers may outlive it.
+pub trait End<'e> {
     /// The plan of the run.
     ghost planned: { Self → Planned };
 
@@ -38,7 +39,7 @@ pub trait End {
         ensures { result.now ≡ planned self.now };
 
     /// The answer of a line.
-    fn answer(&self, line: u64) -> Option<&Answer>
+    fn answer(&self, line: u64) -> Option<&'e Answer>
         ensures { option_copied result ≡ answered self.now line };
 
     /// The number of the attempt whose answer that is, from 0.
@@ -57,7 +58,7 @@ pub trait End {
 
 /// What a run comes to, exactly as its end gives it: each line's answer and attempt, and the records at the keys of the
 /// plan and of what the lines wrote.
-pub fn collect<'e, E: End>(alloc: Global, end: &'e E) -> Result<Outcome<'e>, AllocError>
+pub fn collect<'e, E: End<'e>>(alloc: Global, end: &E) -> Result<Outcome<'e>, AllocError>
     ensures answers { IfOk result (λ o. answers_behind o.answers.items ≡ map (E.answered end.now) (numbers_of (E.planned end.now))) }
     ensures attempts { IfOk result (λ o. o.attempts.items ≡ map (E.attempted end.now) (numbers_of (E.planned end.now))) }
     ensures records { IfOk result (λ o. AreRecordsAt (named_keys (E.planned end.now) (E.entered end.now)) (E.left end.now) o.records) }
@@ -74,9 +75,9 @@ pub fn collect<'e, E: End>(alloc: Global, end: &'e E) -> Result<Outcome<'e>, All
     })
 }
 
-fn collect_answers<'e, E: End>(
+fn collect_answers<'e, E: End<'e>>(
     alloc: Global,
-    end: &'e E,
+    end: &E,
     first: u64,
     count: usize,
 ) -> Result<Vec<Option<&'e Answer>>, AllocError>
@@ -90,7 +91,7 @@ fn collect_answers<'e, E: End>(
     Ok(answers)
 }
 
-fn collect_attempts<E: End>(
+fn collect_attempts<'e, E: End<'e>>(
     alloc: Global,
     end: &E,
     first: u64,
@@ -107,18 +108,18 @@ fn collect_attempts<E: End>(
 }
 
 /// Takes the records at the keys of the plan. Where memory runs out `collect` drops the records, here and below.
-fn take_base<E: End>(end: &E, records: &mut BTreeMap<Key, Record>) -> Result<(), AllocError>
+fn take_base<'e, E: End<'e>>(end: &E, records: &mut BTreeMap<Key, Record>) -> Result<(), AllocError>
     ensures { OnOk result (HasAt [] (E.left end.now) records.old.entries
         → HasAt (map (λ e. e.0) (E.planned end.now).base) (E.left end.now) records.new.entries) }
 {
     for key in end.plan().keys() {
-        take_record(end, key, records)?;
+        put_record(end, key, records)?;
     }
     Ok(())
 }
 
 /// Takes the records at the keys of what the lines wrote.
-fn take_lines<E: End>(
+fn take_lines<'e, E: End<'e>>(
     end: &E,
     first: u64,
     count: usize,
@@ -135,7 +136,7 @@ fn take_lines<E: End>(
 }
 
 /// Takes the records at the keys of what one line wrote.
-fn take_entries<E: End>(
+fn take_entries<'e, E: End<'e>>(
     end: &E,
     line: u64,
     records: &mut BTreeMap<Key, Record>,
@@ -152,7 +153,7 @@ fn take_entries<E: End>(
 }
 
 /// Takes the record at a key, which is copied once, however often the key is named.
-fn take_record<E: End>(
+fn take_record<'e, E: End<'e>>(
     end: &E,
     key: &Key,
     records: &mut BTreeMap<Key, Record>,
@@ -163,6 +164,18 @@ fn take_record<E: End>(
     if records.contains_key(key) {
         return Ok(());
     }
+    put_record(end, key, records)
+}
+
+/// Puts the record at a key among the others.
+fn put_record<'e, E: End<'e>>(
+    end: &E,
+    key: &Key,
+    records: &mut BTreeMap<Key, Record>,
+) -> Result<(), AllocError>
+    ensures { OnOk result ((keys : List Key) → HasAt keys (E.left end.now) records.old.entries
+        → HasAt (keys ++ key.now ∷ []) (E.left end.now) records.new.entries) }
+{
     match end.final_of(key) {
         Some(found) => {
             let found = found.copy()?;

@@ -1,5 +1,5 @@
 -- Bytes with zeros behind them go as the bytes do, and as the numbers that they spell.
-use Rattle.std.proofs.Common.{◌≡◌, ◌≤◌, ◌<◌, ◌+◌, ◌-◌, ◌*◌, ◌++◌, ℕ, zero, suc, List, [], ◌∷◌, length, take, drop, get_or, replicate, refl, ap, sym, ◌∙◌, arith, drop-cons, length-drop, get_or-drop, lit<}
+use Rattle.std.proofs.Common.{◌≡◌, ◌≤◌, ◌<◌, ◌+◌, ◌-◌, ◌*◌, ◌++◌, ℕ, zero, suc, List, [], ◌∷◌, length, take, drop, get_or, replicate, refl, ap, sym, ◌∙◌, arith, drop-cons, drop-drop, length-drop, get_or-drop, lit<}
 use Rattle.std.proofs.Math.Seq.{take-add}
 use Rattle.std.proofs.lemmas.List.{take-append-drop}
 use Rattle.std.proofs.lemmas.Grind.{common_steps}
@@ -231,3 +231,31 @@ module _ (i : ℕ) (xs ys : List ℕ) (e : length xs ≡ length ys) (g : Small x
 
 pub eight_more : (i : ℕ) (xs ys : List ℕ) → slice_cmp nat_cmp (take (8 * i + 8) xs) (take (8 * i + 8) ys) ≡ Equal → slice_cmp nat_cmp (take (8 * (i + 1)) xs) (take (8 * (i + 1)) ys) ≡ Equal
 eight_more i xs ys h = let e : 8 * (i + 1) ≡ 8 * i + 8 = omega arith in rw e h
+
+-- what stands behind is the same in both
+pub same_behind : (i : ℕ) (xs ys : List ℕ) → length xs ≡ length ys → drop i xs ≡ drop i ys
+    → slice_cmp nat_cmp (take i xs) (take i ys) ≡ Equal → slice_cmp nat_cmp xs ys ≡ Equal
+same_behind i xs ys e d q =
+    sym (ap (λ z. slice_cmp nat_cmp z (take i ys ++ drop i ys)) (take-append-drop i xs) ∙ ap (slice_cmp nat_cmp xs) (take-append-drop i ys))
+    ∙ parted (take i xs) (take i ys) (drop i xs) (drop i ys) (grind (arith, common_steps))
+    ∙ ap (λ r. ordering_then r (slice_cmp nat_cmp (drop i xs) (drop i ys))) q
+    ∙ ap (λ z. slice_cmp nat_cmp z (drop i ys)) d
+    ∙ tied_itself nat_list_cmp_total (drop i ys)
+
+abbrev zeros : ℕ → List ℕ
+zeros n = replicate n 0
+
+fewer_zeros : (i n : ℕ) → drop i (zeros n) ≡ zeros (n - i)
+fewer_zeros zero n = let e : n ≡ n - 0 = omega arith in ap zeros e
+fewer_zeros (suc i) zero = let e : 0 ≡ 0 - suc i = omega arith in ap zeros e
+fewer_zeros (suc i) (suc n) = let e : n - i ≡ suc n - suc i = omega arith in fewer_zeros i n ∙ ap zeros e
+
+zeros_behind : (m j : ℕ) (xs : List ℕ) → IsPadded m xs → m ≤ j → drop j xs ≡ replicate (64 - j) 0
+zeros_behind m j xs h le =
+    let e : m + (j - m) ≡ j = omega arith in
+    let n : 64 - m - (j - m) ≡ 64 - j = omega arith in
+    ap (λ k. drop k xs) (sym e) ∙ sym (drop-drop (j - m) m xs) ∙ ap (drop (j - m)) h.rest ∙ fewer_zeros (j - m) (64 - m) ∙ ap zeros n
+
+-- behind both fronts there are zeros alone
+pub both_zero : (m n j : ℕ) (xs ys : List ℕ) → IsPadded m xs → IsPadded n ys → m ≤ j → n ≤ j → drop j xs ≡ drop j ys
+both_zero m n j xs ys g h a b = zeros_behind m j xs g a ∙ sym (zeros_behind n j ys h b)

@@ -1,6 +1,6 @@
 //! Up to 64 bytes that are copied without memory.
 
-ghost use Rattle.std.specs.Prelude.{◌≡◌, ◌≤◌, ◌+◌, ◌++◌, ◌-◌, length, take, drop, replicate};
+ghost use Rattle.std.specs.Prelude.{◌≡◌, ◌≤◌, ◌+◌, ◌*◌, ◌++◌, ◌-◌, length, take, drop, replicate};
 ghost use Rattle.std.specs.Cmp.Lexicographic.{slice_cmp};
 ghost use Rattle.std.specs.Ordering.{nat_cmp};
 ghost use Rattle.std.specs.Slice.Scan.{big_endian};
@@ -74,7 +74,8 @@ impl Short {
     pub fn order(&self, other: &Short) -> Ordering
         ensures { result ≡ slice_cmp nat_cmp self.now other.now }
     {
-        match order_of(&self.bytes, &other.bytes) {
+        let words = words_of(self.len, other.len);
+        match order_of(&self.bytes, &other.bytes, words) {
             Ordering::Less => Ordering::Less,
             Ordering::Equal => self.len.cmp(&other.len),
             Ordering::Greater => Ordering::Greater,
@@ -82,11 +83,24 @@ impl Short {
     }
 }
 
-/// How 64 bytes go in the order of bytes, seen eight at a time: keys are compared all the time.
-fn order_of(a: &[u8; SHORT_MAX], b: &[u8; SHORT_MAX]) -> Ordering
+/// How many words of eight bytes reach over so many bytes, and over so many others.
+fn words_of(len: u8, others: u8) -> usize
+    ensures all { len ≤ 8 * result }
+    ensures others { others ≤ 8 * result }
+    ensures few { len ≤ SHORT_MAX → others ≤ SHORT_MAX → result ≤ 8 }
+{
+    let longest = if len < others { others } else { len };
+    (longest as usize + 7) / 8
+}
+
+/// How 64 bytes go in the order of bytes, seen eight at a time, since keys are compared all the time. Behind so many words
+/// they are the same.
+fn order_of(a: &[u8; SHORT_MAX], b: &[u8; SHORT_MAX], words: usize) -> Ordering
+    requires few { words ≤ 8 }
+    requires rest { drop (8 * words) a.now ≡ drop (8 * words) b.now }
     ensures { result ≡ slice_cmp nat_cmp a.now b.now }
 {
-    for i in 0..8 {
+    for i in 0..words {
         let x = word_at(a, 8 * i);
         let y = word_at(b, 8 * i);
         if x != y {

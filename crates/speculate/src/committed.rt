@@ -14,7 +14,7 @@ use sip_answer::Answer;
 
 impl<'p, 't, J: PlanName> Board<'p, 't, J> {
     /// The answer of a line that is committed, where it has one; None of any other line.
-    pub(crate) fn answer(&self, line: u64) -> Option<&Answer>
+    pub(crate) fn answer(&self, line: u64) -> Option<&'t Answer>
         ensures { option_copied result ≡ committed_answer (row_at self.now line).state }
     {
         self.lines.answer(line)

@@ -6,7 +6,7 @@ use read_set::{Plan, PlanName};
 use result_report::End;
 use sip_answer::Answer;
 
-impl<J: PlanName> End for Finished<'_, '_, J> {
+impl<'t, J: PlanName> End<'t> for Finished<'_, 't, J> {
     ghost use Rattle.read_set.specs.Replay.{answer_of, last};
     ghost use Rattle.speculate.specs.BoardEnds.{attempt_on, entered_on};
 
@@ -24,7 +24,7 @@ impl<J: PlanName> End for Finished<'_, '_, J> {
         Finished::plan(self)
     }
 
-    fn answer(&self, line: u64) -> Option<&Answer> {
+    fn answer(&self, line: u64) -> Option<&'t Answer> {
         Finished::answer(self, line)
     }
 

@@ -85,8 +85,8 @@ impl<'p, 't, J: PlanName> Finished<'p, 't, J> {
         self.board.plan()
     }
 
-    /// The answer of a line, where it has one: that of the replay by one thread.
-    pub fn answer(&self, line: u64) -> Option<&Answer>
+    /// The answer of a line, where it has one: that of the replay by one thread. The table of versions lends it.
+    pub fn answer(&self, line: u64) -> Option<&'t Answer>
         ensures { option_copied result ≡ answer_of J.plan line }
     {
         let _plan = self.board.plan();

@@ -12,7 +12,7 @@ use std::test::Fail;
 /// An end that lends the same of each line and at each key, as no replay does.
 struct Odd<'p> {
     plan: &'p Plan,
-    answer: Answer,
+    answer: &'p Answer,
     keys: Vec<(Key, u32)>,
     found: Record,
 }
@@ -28,12 +28,12 @@ impl Drop for Odd<'_> {
     }
 }
 
-impl End for Odd<'_> {
+impl<'p> End<'p> for Odd<'p> {
     ghost use Rattle.std.specs.Prelude.{Some};
 
     ghost planned = { λ e. e.plan.now };
 
-    ghost answered = { λ e _. Some e.answer };
+    ghost answered = { λ e _. Some e.answer.now };
 
     ghost attempted = { λ _ _. 7 };
 
@@ -45,8 +45,8 @@ impl End for Odd<'_> {
         self.plan
     }
 
-    fn answer(&self, _line: u64) -> Option<&Answer> {
-        Some(&self.answer)
+    fn answer(&self, _line: u64) -> Option<&'p Answer> {
+        Some(self.answer)
     }
 
     fn attempt(&self, _line: u64) -> u32 {
@@ -77,13 +77,17 @@ fn fee() -> Option<Fee> {
 }
 
 /// Such an end, which names the item I9 twice for each line.
-fn odd_end<'p>(alloc: Global, plan: &'p Plan) -> Result<Option<Odd<'p>>, AllocError> {
+fn odd_end<'p>(
+    alloc: Global,
+    plan: &'p Plan,
+    answer: &'p Answer,
+) -> Result<Option<Odd<'p>>, AllocError> {
     let (Some(fee), Some(key)) = (fee(), item("I9")) else {
         return Ok(None);
     };
     Ok(Some(Odd {
         plan,
-        answer: Answer::Resend,
+        answer,
         keys: vec![in alloc; (key, 4u32); 2]?,
         found: Record::fee(alloc, fee)?,
     }))
@@ -118,7 +122,8 @@ fn tell(alloc: Global, outcome: &Outcome<'_>) -> Result<String, AllocError> {
 fn collects_what_an_end_lends(rt: HostRuntime) -> Result<(), Fail> {
     let alloc = rt.alloc();
     let plan = plan_of(alloc, 3, "88,")?.expect(&rt, "a plan");
-    let odd = odd_end(alloc, &plan)?.expect(&rt, "an end");
+    let answer = Answer::Resend;
+    let odd = odd_end(alloc, &plan, &answer)?.expect(&rt, "an end");
     let told = tell(alloc, &collect(alloc, &odd)?)?;
     assert_eq!(rt;
         told.as_str(),

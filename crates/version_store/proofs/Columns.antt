@@ -1,6 +1,5 @@
 -- The lines that have an entry at a key, after a change of one column.
 use Rattle.std.proofs.Common.{◌≡◌, ℕ, ◌<◌, Bool, true, false, cond, Option, Some, None, [], refl, sym, ap, ◌∙◌, arith, IsTrue}
-use Rattle.std.specs.Prelude.{is_some}
 use Rattle.std.specs.Ordering.{nat_cmp, eq_by_cmp, is_lt, is_eq, MatchOrdering}
 use Rattle.std.specs.declared.cmp.Ordering.{Ordering}
 use Rattle.std.specs.declared.cmp.Ordering.TheVariants.{Less, Equal, Greater}
@@ -25,29 +24,29 @@ same_key k q e = key_cmp-IsAntisymmetric k q (tie (key_cmp k q) e)
 pub some_is : {A : Type 0} (o : Option A) (x : A) → o ≡ Some x → IsSome o
 some_is o x e = rw e refl
 
-no_value : {A : Type 0} (o : Option A) → is_some o ≡ false → o ≡ None
-no_value None e = refl
-no_value (Some x) e = cc
-
 -- an empty column has no line
 in_empty : (column : BTreeSet ℕ) (m : ℕ) → column.keys ≡ [] → contains nat_cmp column m ≡ false
 in_empty column m e = rw e refl
 
-opened_if : (column : BTreeSet ℕ) (b : Bool) (before : Option (BTreeSet ℕ)) (m : ℕ)
-    → column.keys ≡ [] → (b ≡ true → before ≡ None) → in_column (cond b (Some column) before) m ≡ in_column before m
-opened_if column true before m e h = rw (h refl) (in_empty column m e)
-opened_if column false before m e h = refl
+begun_if : (n m : ℕ) (column : BTreeSet ℕ) (before : Option (BTreeSet ℕ)) (b : Bool)
+    → (b ≡ true → before ≡ None)
+    → contains nat_cmp column m ≡ cond (eq_by_cmp nat_cmp n m) true false
+    → in_column (cond b (Some column) before) m ≡ cond b (cond (eq_by_cmp nat_cmp n m) true (in_column before m)) (in_column before m)
+begun_if n m column before true h g = rw (h refl) g
+begun_if n m column before false h g = refl
 
--- a column that is new has no line
-pub opened : (old new : BTreeMap Key (BTreeSet ℕ)) (k q : Key) (m : ℕ) (column : BTreeSet ℕ)
-    → is_some (get key_cmp old k) ≡ false
-    → column.keys ≡ []
+-- a column that is new has one line
+pub begun : (old new : BTreeMap Key (BTreeSet ℕ)) (k q : Key) (n m : ℕ) (empty column : BTreeSet ℕ)
+    → get key_cmp old k ≡ None
+    → empty.keys ≡ []
     → ((p : Key) → get key_cmp new p ≡ cond (eq_by_cmp key_cmp k p) (Some column) (get key_cmp old p))
-    → in_column (get key_cmp new q) m ≡ in_column (get key_cmp old q) m
-opened old new k q m column none empty u =
+    → ((p : ℕ) → contains nat_cmp column p ≡ cond (eq_by_cmp nat_cmp n p) true (contains nat_cmp empty p))
+    → in_column (get key_cmp new q) m ≡ with_at k n true (λ x y. in_column (get key_cmp old x) y) q m
+begun old new k q n m empty column none e u v =
     ap (λ o. in_column o m) (u q)
-    ∙ opened_if column (eq_by_cmp key_cmp k q) (get key_cmp old q) m empty
-    (λ e. ap (get key_cmp old) (sym (same_key k q e)) ∙ no_value _ none)
+    ∙ begun_if n m column (get key_cmp old q) (eq_by_cmp key_cmp k q)
+    (λ t. ap (get key_cmp old) (sym (same_key k q t)) ∙ none)
+    (v m ∙ ap (cond (eq_by_cmp nat_cmp n m) true) (in_empty empty m e))
 
 changed_if : (n m : ℕ) (w : Bool) (old new : BTreeSet ℕ) (before : Option (BTreeSet ℕ)) (b : Bool)
     → (b ≡ true → before ≡ Some old)
@@ -116,6 +115,3 @@ latest f n below l g h = (
       let y : nat_cmp n m ≡ Less = less_below n m a in
       let z : is_lt Less ≡ false = sym (ap is_lt y) ∙ x in cc),
 )
-
-pub with_same : (k q : Key) (n m : ℕ) (w : Bool) (f h : Key → ℕ → Bool) → f q m ≡ h q m → with_at k n w f q m ≡ with_at k n w h q m
-with_same k q n m w f h e = ap (λ x. cond (eq_by_cmp key_cmp k q) (cond (eq_by_cmp nat_cmp n m) w x) x) e

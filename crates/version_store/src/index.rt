@@ -1,6 +1,8 @@
 //! Which lines have an entry, key by key.
 
-ghost use Rattle.std.specs.Prelude.{◌≡◌, ℕ, OnOk, OnErr, true, false};
+ghost use Rattle.std.specs.Prelude.{◌≡◌, ℕ, OnOk, OnErr, None, true, false};
+ghost use Rattle.std.specs.BTreeMap.{get};
+ghost use Rattle.circ_records.specs.Keys.{key_cmp};
 ghost use Rattle.circ_records.specs.declared.key.Key.{Key};
 ghost use Rattle.version_store.specs.Index.{IsLatest, at, with_at};
 
@@ -29,29 +31,30 @@ impl KeyIndex {
         }
     }
 
-    /// Makes room for a key.
-    fn open(&mut self, alloc: Global, key: &Key) -> Result<(), AllocError>
-        ensures same { (q : Key) (m : ℕ) → at self.new q m ≡ at self.old q m }
-    {
-        if !self.columns.contains_key(key) {
-            self.columns.insert(*key, BTreeSet::new(alloc))?;
-        }
-        Ok(())
-    }
-
     /// The line has an entry at the key.
     pub fn set(&mut self, alloc: Global, key: &Key, line: u64) -> Result<(), AllocError>
         ensures put { OnOk result ((q : Key) (m : ℕ) → at self.new q m ≡ with_at key.now line true (at self.old) q m) }
         ensures same { OnErr result ((q : Key) (m : ℕ) → at self.new q m ≡ at self.old q m) }
     {
-        self.open(alloc, key)?;
         let Some(column) = self.columns.get_mut(key) else {
-            return Err(AllocError);
+            return self.open(alloc, key, line);
         };
         match column.insert(line) {
             Ok(_) => Ok(()),
             Err(_) => Err(AllocError),
         }
+    }
+
+    /// The line is the first that has an entry at the key.
+    fn open(&mut self, alloc: Global, key: &Key, line: u64) -> Result<(), AllocError>
+        requires first { get key_cmp self.old.columns key.now ≡ None }
+        ensures put { OnOk result ((q : Key) (m : ℕ) → at self.new q m ≡ with_at key.now line true (at self.old) q m) }
+        ensures same { OnErr result ((q : Key) (m : ℕ) → at self.new q m ≡ at self.old q m) }
+    {
+        let mut column = BTreeSet::new(alloc);
+        column.insert(line)?;
+        self.columns.insert(*key, column)?;
+        Ok(())
     }
 
     /// The line has no entry at the key.

@@ -17,12 +17,12 @@ output_parallel-requires-clause-answers g c κs within =
 pub output_parallel-requires-clause-records : goal.output_parallel-requires-clause-records
 output_parallel-requires-clause-records g c κs within =
     subst (λ (plan : Planned). AreEntries (last plan) c.in_ok-outcome.outcome.records) (sym c.requires.named)
-    (records_named g.J.PlanName.plan c.args.finished.now c.plan-plan.ensures.reached c.plan-plan.ensures.whole _ c.in_ok-outcome.ensures.records)
+    (records_named g.J.PlanName.plan c.args.finished c.plan-plan.ensures.reached c.plan-plan.ensures.whole _ c.in_ok-outcome.ensures.records)
 
 pub returns : goal.returns
 returns g c =
     subst (λ attempts. IfOk c.output_parallel.result (IsOutputBy c.args.plan.now c.args.journal.now attempts))
-    (c.in_ok-outcome.ensures.attempts ∙ ap (λ (plan : Planned). map (attempt_on c.args.finished.now) (numbers_of plan)) (sym c.requires.named)) c.output_parallel.ensures
+    (c.in_ok-outcome.ensures.attempts ∙ ap (λ (plan : Planned). map (attempt_on c.args.finished) (numbers_of plan)) (sym c.requires.named)) c.output_parallel.ensures
 
 pub collect-requires-lives-E-End : goal.collect-requires-lives-E-End
 collect-requires-lives-E-End g c κs within = λ a m. absurd (not-mem-nil (c.type_bounds.static-J a m))

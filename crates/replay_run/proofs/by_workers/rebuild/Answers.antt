@@ -10,14 +10,14 @@ returns-then-workers-eq0 g c = inr ((λ are. omega (arith, c.if-workers-eq0.true
 pub returns-then-workers-gt-WORKERS_MAX : goal.returns-then-workers-gt-WORKERS_MAX
 returns-then-workers-gt-WORKERS_MAX g c = inr ((λ are. omega (arith, c.if-workers-gt-WORKERS_MAX.true, are.1)), refl)
 
-pub run_named-requires-clause-workers : goal.run_named-requires-clause-workers
-run_named-requires-clause-workers g c κs within = crew c.args.workers c.if-workers-eq0.false c.if-workers-gt-WORKERS_MAX.false
+pub run_named-output-requires-clause-workers : goal.run_named-output-requires-clause-workers
+run_named-output-requires-clause-workers g c κs within = crew c.args.workers c.if-workers-eq0.false c.if-workers-gt-WORKERS_MAX.false
 
 pub returns-in-Ok : goal.returns-in-Ok
 returns-in-Ok g c =
     inl (
       crew c.args.workers c.if-workers-eq0.false c.if-workers-gt-WORKERS_MAX.false,
-      subst (λ due. IsMadeOf due c.run_named.result) (sym c.in-Ok.ensures.due) c.run_named.ensures,
+      subst (λ due. IsMadeOf due c.run_named-output.result) (sym c.in-Ok.ensures.due) c.run_named-output.ensures,
     )
 
 pub returns-in-Err : goal.returns-in-Err

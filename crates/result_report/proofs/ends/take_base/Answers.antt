@@ -7,4 +7,4 @@ loop-key-preserved g c =
     let left : c.loop-key.key-iterator ≡ c.in-Some.key.now ∷ c.next.new.self = search rules in
     let so = c.loop-key.invariant in
     let done = so.0 in
-    (done ++ c.in-Some.key.now ∷ [], append_assoc done (c.in-Some.key.now ∷ []) c.next.new.self ∙ ap (λ (l : List Key). done ++ l) (sym left) ∙ so.1, λ none. c.in_ok-take_record.ensures done (so.2 none))
+    (done ++ c.in-Some.key.now ∷ [], append_assoc done (c.in-Some.key.now ∷ []) c.next.new.self ∙ ap (λ (l : List Key). done ++ l) (sym left) ∙ so.1, λ none. c.in_ok-put_record.ensures done (so.2 none))

@@ -1,7 +1,7 @@
 use Rattle.std.proofs.Common.{◌≡◌, ◌∙◌, sym, ap, rules}
 use Rattle.std.specs.Ordering.{nat_cmp, ordering_then}
 use Rattle.std.specs.declared.cmp.Ordering.TheVariants.{Less, Equal, Greater}
-use Rattle.sip_reader.proofs.Ordered.{padded_order}
+use Rattle.sip_reader.proofs.Ordered.{both_zero, padded_order}
 use Rattle.sip_reader.proofs.short.Short.order.Goals as goal
 
 pub returns-in-Less : goal.returns-in-Less
@@ -27,3 +27,9 @@ returns-in-Greater c =
     let is : c.order_of.result ≡ Greater = search rules in
     rw (← c.self.view_is, ← c.other.view_is, padded_order xs.len ys.len xs.bytes ys.bytes c.self.invariant c.other.invariant)
     (ap (λ r. ordering_then r (nat_cmp xs.len ys.len)) (sym is ∙ c.order_of.ensures))
+
+pub order_of-requires-clause-rest : goal.order_of-requires-clause-rest
+order_of-requires-clause-rest c =
+    let xs = c.self.inside in
+    let ys = c.other.inside in
+    both_zero xs.len ys.len _ xs.bytes ys.bytes c.self.invariant c.other.invariant c.words_of-words.ensures.all c.words_of-words.ensures.others

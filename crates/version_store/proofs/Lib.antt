@@ -4,3 +4,4 @@ pub mod Views
 pub mod Sights
 pub mod Changes
 pub mod Walks
+pub mod Parts

@@ -1,19 +1,29 @@
 -- Which lines have an entry at a key, as the index has it.
-use Rattle.std.specs.Prelude.{◌≡◌, ℕ, ◌<◌, Bool, true, false, Option, Some, None, cond}
+use Rattle.std.specs.Prelude.{◌≡◌, ℕ, ◌<◌, Bool, true, false, Option, Some, None, cond, length, slice_get}
 use Rattle.std.specs.BTreeMap.{get}
 use Rattle.std.specs.BTreeSet.{BTreeSet, contains}
 use Rattle.std.specs.Ordering.{nat_cmp, eq_by_cmp}
 use Rattle.circ_records.specs.Keys.{key_cmp}
 use Rattle.circ_records.specs.declared.key.Key.{Key}
+use Rattle.version_store.specs.Devices.Parts.{part_of}
+use Rattle.version_store.specs.declared.part.IndexPart.{IndexPart}
 use Rattle.version_store.specs.declared.index.KeyIndex.{KeyIndex}
 
 abbrev pub in_column : Option (BTreeSet ℕ) → ℕ → Bool
 in_column None n = false
 in_column (Some column) n = contains nat_cmp column n
 
+-- whether a line has an entry at a key, by the part of the index in which the key stands
+abbrev pub in_part : IndexPart → Key → ℕ → Bool
+in_part part k n = in_column (get key_cmp part.columns k) n
+
+abbrev pub in_parts : Option IndexPart → Key → ℕ → Bool
+in_parts None k n = false
+in_parts (Some part) k n = in_part part k n
+
 -- whether a line has an entry at a key
 abbrev pub at : KeyIndex → Key → ℕ → Bool
-at index k n = in_column (get key_cmp index.columns k) n
+at index k n = in_parts (slice_get index.parts.items (part_of k (length index.parts.items))) k n
 
 -- f, but w at the key and the line
 abbrev pub with_at : Key → ℕ → Bool → (Key → ℕ → Bool) → Key → ℕ → Bool

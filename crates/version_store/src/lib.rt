@@ -9,6 +9,7 @@
 mod entry;
 mod index;
 mod line;
+mod part;
 mod store;
 mod table;
 

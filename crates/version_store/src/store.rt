@@ -54,7 +54,7 @@ impl<'t, J: PlanName> EntryStore<'t, J> {
         Ok(EntryStore {
             first,
             lines: no_lines(alloc, lines)?,
-            index: KeyIndex::new(alloc),
+            index: KeyIndex::new(alloc, lines)?,
         })
     }
 

@@ -1,15 +1,14 @@
-use Rattle.std.proofs.Common.{sym, false}
-use Rattle.std.specs.BTreeMap.{get}
-use Rattle.circ_records.specs.Keys.{key_cmp}
-use Rattle.version_store.proofs.Columns.{changed, untouched, some_is}
+use Rattle.std.proofs.Common.{◌≡◌, ◌<◌, ◌∙◌, ap, sym, length, rules, Some, false}
+use Rattle.std.proofs.lemmas.Option.{slice_get-get_or}
+use Rattle.version_store.specs.Devices.Parts.{part_of}
+use Rattle.version_store.proofs.Parts.{entered}
 use Rattle.version_store.proofs.index.KeyIndex.clear.Goals as goal
 
-pub returns-in-Some : goal.returns-in-Some
-returns-in-Some c = λ q m.
-    let there = sym c.in-Some.ensures.value in
-    changed c.args.self.now.columns (c.get_mut.follows.lender c.remove.new.self) c.args.key.now q c.args.line m false c.in-Some.column.now c.remove.new.self there
-    ((c.get_mut.follows.holds c.remove.new.self).3 (some_is _ _ there)).0
-    c.remove.ensures.updates.0
-
-pub returns-in_default : goal.returns-in_default
-returns-in_default c = λ q m. rw c.get_mut.follows.holds-at-none (untouched (get key_cmp c.args.self.now.columns) c.args.key.now q c.args.line m (sym c.in_default.ensures.value))
+pub returns : goal.returns
+returns c =
+    let parts = c.args.self.now.parts.items in
+    let part = c.index_mut-part.result.now in
+    let here : c.part_of-position.result ≡ part_of c.args.key.now (length parts) = search rules in
+    let within : c.part_of-position.result < length parts = search rules in
+    let there = slice_get-get_or parts c.part_of-position.result part within ∙ ap Some (sym c.index_mut-part.ensures.value) in
+    entered parts c.part_of-position.result part c.clear.new.self c.args.key.now c.args.line false here there c.clear.ensures

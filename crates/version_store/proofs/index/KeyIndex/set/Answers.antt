@@ -1,17 +1,22 @@
-use Rattle.std.proofs.Common.{sym, true}
-use Rattle.version_store.proofs.Columns.{changed, kept, some_is}
+use Rattle.std.proofs.Common.{◌≡◌, ◌<◌, ◌∙◌, ap, sym, length, rules, Some, true}
+use Rattle.std.proofs.lemmas.Option.{slice_get-get_or}
+use Rattle.version_store.specs.Devices.Parts.{part_of}
+use Rattle.version_store.proofs.Parts.{entered, unentered}
 use Rattle.version_store.proofs.index.KeyIndex.set.Goals as goal
 
-pub returns-in-Err-clause-same : goal.returns-in-Err-clause-same
-returns-in-Err-clause-same c = λ q m.
-    let there = sym c.in-Some.ensures.value in
-    kept c.args.self.now.columns (c.get_mut.follows.lender c.insert.new.self) c.args.key.now q m c.in-Some.column.now c.insert.new.self there
-    ((c.get_mut.follows.holds c.insert.new.self).3 (some_is _ _ there)).0
-    c.in-Err.ensures.err
-
 pub returns-in-Ok-clause-put : goal.returns-in-Ok-clause-put
-returns-in-Ok-clause-put c = λ q m.
-    let there = sym c.in-Some.ensures.value in
-    changed c.args.self.now.columns (c.get_mut.follows.lender c.insert.new.self) c.args.key.now q c.args.line m true c.in-Some.column.now c.insert.new.self there
-    ((c.get_mut.follows.holds c.insert.new.self).3 (some_is _ _ there)).0
-    c.in-Ok.ensures.updates.0
+returns-in-Ok-clause-put c =
+    let parts = c.args.self.now.parts.items in
+    let part = c.index_mut-part.result.now in
+    let here : c.part_of-position.result ≡ part_of c.args.key.now (length parts) = search rules in
+    let within : c.part_of-position.result < length parts = search rules in
+    let there = slice_get-get_or parts c.part_of-position.result part within ∙ ap Some (sym c.index_mut-part.ensures.value) in
+    entered parts c.part_of-position.result part c.set.new.self c.args.key.now c.args.line true here there c.in-Ok.ensures.put
+
+pub returns-in-Err-clause-same : goal.returns-in-Err-clause-same
+returns-in-Err-clause-same c =
+    let parts = c.args.self.now.parts.items in
+    let part = c.index_mut-part.result.now in
+    let within : c.part_of-position.result < length parts = search rules in
+    let there = slice_get-get_or parts c.part_of-position.result part within ∙ ap Some (sym c.index_mut-part.ensures.value) in
+    unentered parts c.part_of-position.result part c.set.new.self there c.in-Err.ensures.same

@@ -1,5 +1,5 @@
 use Rattle.version_store.proofs.Columns.{begun}
-use Rattle.version_store.proofs.index.KeyIndex.open.Goals as goal
+use Rattle.version_store.proofs.part.IndexPart.open.Goals as goal
 
 pub returns-clause-put : goal.returns-clause-put
 returns-clause-put c = λ q m.

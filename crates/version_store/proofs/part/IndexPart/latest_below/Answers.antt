@@ -1,7 +1,7 @@
 use Rattle.std.specs.Ordering.{nat_cmp}
 use Rattle.std.specs.BTreeSet.{contains}
 use Rattle.version_store.proofs.Columns.{latest}
-use Rattle.version_store.proofs.index.KeyIndex.latest_below.Goals as goal
+use Rattle.version_store.proofs.part.IndexPart.latest_below.Goals as goal
 
 pub returns : goal.returns
 returns c =

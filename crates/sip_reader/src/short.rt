@@ -74,8 +74,7 @@ impl Short {
     pub fn order(&self, other: &Short) -> Ordering
         ensures { result ≡ slice_cmp nat_cmp self.now other.now }
     {
-        let words = words_of(self.len, other.len);
-        match order_of(&self.bytes, &other.bytes, words) {
+        match order_of(&self.bytes, &other.bytes, words_of(self.len, other.len)) {
             Ordering::Less => Ordering::Less,
             Ordering::Equal => self.len.cmp(&other.len),
             Ordering::Greater => Ordering::Greater,
@@ -100,6 +99,11 @@ fn order_of(a: &[u8; SHORT_MAX], b: &[u8; SHORT_MAX], words: usize) -> Ordering
     requires rest { drop (8 * words) a.now ≡ drop (8 * words) b.now }
     ensures { result ≡ slice_cmp nat_cmp a.now b.now }
 {
+    // mostly the first words differ already
+    let (first, other) = (word_at(a, 0), word_at(b, 0));
+    if first != other {
+        return first.cmp(&other);
+    }
     for i in 0..words {
         let x = word_at(a, 8 * i);
         let y = word_at(b, 8 * i);

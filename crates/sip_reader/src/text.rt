@@ -11,9 +11,9 @@ use std::marker::Model;
 /// The longest text, in bytes.
 pub const TEXT_MAX: usize = 1024;
 
-/// The longest text that takes no memory of its own, in bytes: with their count and a tag they take no more room than the
-/// address of others. Most names, titles and places are no longer.
-const FEW_MAX: usize = 22;
+/// The longest text that takes no memory of its own, in bytes: with their count and a tag they take as much room as the
+/// vector of a longer one. Most names, titles and places are no longer.
+const FEW_MAX: usize = 30;
 
 /// A text of a record or a message: at most 1,024 bytes without a bar, CR or LF.
 pub struct Text {
@@ -29,7 +29,7 @@ impl Drop for Text {
 /// Where the bytes of a text stand.
 enum Held {
     /// In place: the first `len` of these.
-    Few { bytes: [u8; 22], len: u8 },
+    Few { bytes: [u8; 30], len: u8 },
     Many(Vec<u8>),
 }
 
@@ -136,11 +136,11 @@ impl Held {
 }
 
 /// The bytes, and zeros behind them.
-fn in_front(bytes: &[u8]) -> [u8; 22]
-    requires { length bytes.now ≤ 22 }
-    ensures { result ≡ bytes.now ++ replicate (22 - length bytes.now) 0 }
+fn in_front(bytes: &[u8]) -> [u8; 30]
+    requires { length bytes.now ≤ 30 }
+    ensures { result ≡ bytes.now ++ replicate (30 - length bytes.now) 0 }
 {
-    let mut whole = [0; 22];
+    let mut whole = [0; 30];
     for (i, b) in bytes.iter().enumerate() {
         whole[i] = *b;
     }

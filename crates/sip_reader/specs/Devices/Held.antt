@@ -9,5 +9,5 @@ bytes_held (Many v) = v.items
 
 -- in place there is room for as many as are said to stand there
 abbrev pub IsWithin : Held → Type 0
-IsWithin (Few bytes len) = (len ≤ 22) × (length bytes ≡ 22)
+IsWithin (Few bytes len) = (len ≤ 30) × (length bytes ≡ 30)
 IsWithin (Many v) = Unit {0}

@@ -32,4 +32,4 @@ pub order_of-requires-clause-rest : goal.order_of-requires-clause-rest
 order_of-requires-clause-rest c =
     let xs = c.self.inside in
     let ys = c.other.inside in
-    both_zero xs.len ys.len _ xs.bytes ys.bytes c.self.invariant c.other.invariant c.words_of-words.ensures.all c.words_of-words.ensures.others
+    both_zero xs.len ys.len _ xs.bytes ys.bytes c.self.invariant c.other.invariant c.words_of.ensures.all c.words_of.ensures.others

@@ -8,10 +8,11 @@ import sys
 import threading
 
 ROOT = os.path.dirname(os.path.dirname(os.path.abspath(__file__)))
-# what the chains of tasks that take longest leave of the processors
-BESIDE = 5
-# a chain is long that has so much of the longest one's work: with more of them the jobs of one stand in the way of the other's
-LONG = 0.95
+# a chain is long that has so much of the longest one's work, and one is nearly as long that has so much of it: with all jobs for each of them the jobs of
+# one stand in the way of the other's
+LONG, NEARLY = 0.95, 0.75
+# the longest chain's tasks come first; one whose chain has a fortieth less work is one step of priority below, and so on, but all before must-fail edits
+STEPS, LOWEST = 40, 9
 # how many lines of code a second of processor time proves, about
 LINES_A_SECOND = 4
 
@@ -70,16 +71,16 @@ def side_by_side(tasks, jobs):
     """Runs tasks side by side, one a processor, each once those that it waits for have ended, and returns what each gave. A task is what it waits for, a
     measure of its work, and a call that gets what was given and how many jobs it may use.
 
-    The end waits for the longest chain. So a task on a long chain (it has LONG of the longest one's work) begins first and has so many `jobs`, and the others have
-    one and what it leaves of the processors. A proof by two or by four jobs takes a third more processor time than by one, so they pay only where processors
-    would be idle."""
+    The end waits for the longest chain. So a task on a long chain (it has LONG of the longest one's work) begins first and has so many `jobs`; one on a chain
+    that is nearly as long has half of them, and each other has one. The shorter a task's chain, the less it takes from the others. A proof by several jobs
+    takes more processor time than by one, so they pay only where processors would be idle."""
     processors, behind = RT.processors(), chains(tasks)
     left, running, given, ended = sorted(tasks, key=lambda it: -behind[it]), {}, {}, queue.SimpleQueue()
 
-    def run(key, count, is_beside):
+    def run(key, count, steps):
         # a thread of its own for each task: what it starts inherits its priority
-        if is_beside:
-            os.setpriority(os.PRIO_PROCESS, threading.get_native_id(), BESIDE)
+        if steps:
+            os.setpriority(os.PRIO_PROCESS, threading.get_native_id(), steps)
         try:
             ended.put((key, tasks[key][2](given, count), None))
         except BaseException as error:
@@ -90,9 +91,10 @@ def side_by_side(tasks, jobs):
         for key in ready[: processors - len(running)]:
             left.remove(key)
             longest = max([behind[key], *(behind[it] for it in running)])
-            is_beside = behind[key] < LONG * longest
-            count = 1 if is_beside or not tasks[key][1] else jobs
-            running[key] = threading.Thread(target=run, args=(key, count, is_beside), daemon=True)
+            share = behind[key] / longest if longest else 1
+            count = 1 if share < NEARLY or not tasks[key][1] else jobs if share >= LONG else max(1, jobs // 2)
+            steps = 0 if share >= LONG else min(LOWEST, round((1 - share) * STEPS))
+            running[key] = threading.Thread(target=run, args=(key, count, steps), daemon=True)
             running[key].start()
         key, given[key], error = ended.get()
         running.pop(key).join()

@@ -15,6 +15,10 @@ use version_store::{Place, VersionTable};
 /// keeps the line that the worker has in hand from being published.
 const TRIES: u32 = 1000;
 
+/// How often a worker that has no line in hand tries the lock before it stands back: what it would begin then goes on no sooner than
+/// what the others have in hand, and each that comes to the lock takes the board out of the others' caches.
+const TRIES_AT_EASE: u32 = 20;
+
 /// A board under a lock, with the plan and the table of the versions beside it. Each step is one hold of the lock: one call of
 /// the board, with what its reply says, or, once a fault was left, no call and that fault.
 #[derive(Drop)]
@@ -65,20 +69,34 @@ impl<'p, 't, J: PlanName + 'static> SharedBoard<'p, 't, J> {
         self.workers
     }
 
-    /// Takes the lock, where it can without sleeping, also while others sleep: `lock` alone sleeps at once behind a sleeper.
-    fn hold<R: Wait>(&self, rt: &R) -> MutexGuard<'_, Held<'p, 't, J>> {
-        for _ in 0..TRIES {
+    /// Takes the lock where it is free at one of so many tries.
+    fn try_hold(&self, tries: u32) -> Option<MutexGuard<'_, Held<'p, 't, J>>> {
+        for _ in 0..tries {
             if let Some(held) = self.held.try_lock() {
-                return held;
+                return Some(held);
             }
             spin_loop();
         }
-        self.held.lock(rt)
+        None
     }
 
-    /// What a free worker does next, done.
+    /// Takes the lock, where it can without sleeping, also while others sleep: `lock` alone sleeps at once behind a sleeper.
+    fn hold<R: Wait>(&self, rt: &R) -> MutexGuard<'_, Held<'p, 't, J>> {
+        match self.try_hold(TRIES) {
+            Some(held) => held,
+            None => self.held.lock(rt),
+        }
+    }
+
+    /// What a free worker does next, done. Nothing where others are at the lock, but for the first worker, which waits for it.
     pub fn begin<R: Wait>(&self, rt: &R, worker: u32) -> Result<Begun, Left> {
-        self.hold(rt).begin(worker)
+        if worker == 0 {
+            return self.hold(rt).begin(worker);
+        }
+        match self.try_hold(TRIES_AT_EASE) {
+            Some(mut held) => held.begin(worker),
+            None => Ok(Begun::Nothing),
+        }
     }
 
     /// A worker looks at a key for its line.

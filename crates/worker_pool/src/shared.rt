@@ -15,8 +15,8 @@ use version_store::{Place, VersionTable};
 /// keeps the line that the worker has in hand from being published.
 const TRIES: u32 = 1000;
 
-/// How often a worker that has no line in hand tries the lock before it stands back: what it would begin then goes on no sooner than
-/// what the others have in hand, and each that comes to the lock takes the board out of the others' caches.
+/// How often a free worker tries the lock before it stands back. While others keep the lock busy, one more line in hand speeds
+/// nothing up, and who holds the lock last has the board in its core's cache (`bench/threads`).
 const TRIES_AT_EASE: u32 = 20;
 
 /// A board under a lock, with the plan and the table of the versions beside it. Each step is one hold of the lock: one call of

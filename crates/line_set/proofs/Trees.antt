@@ -47,6 +47,10 @@ or_true : (a b : Bool) → a || b ≡ true → a ≡ false → b ≡ true
 or_true true b h e = absurd (true≢false e)
 or_true false b h e = h
 
+some_true : (a b : Bool) → b ≡ true → a || b ≡ true
+some_true true b h = refl
+some_true false b h = h
+
 -- another node, or another flag
 pub node_set_other : (flags nodes : List Bool) (n i : ℕ) (v : Bool) → i ≢ n → node_at flags (set nodes n v) i ≡ node_at flags nodes i
 node_set_other flags nodes n i v ne =
@@ -84,6 +88,22 @@ flag_changed flags nodes p v each i one lt ne =
     each i one lt (λ e. omega (arith, e, one))
     ∙ sym (joined_is (set flags p v) flags nodes nodes i
     (flag_set_other flags nodes p (2 * i) v (λ e. ne (omega (arith, e)))) (flag_set_other flags nodes p (2 * i + 1) v (λ e. ne (omega (arith, e)))))
+
+-- one of the two nodes below a node is set
+set_below : (flags nodes : List Bool) (n : ℕ) → node_at flags nodes n ≡ true → joined flags nodes (n / 2) ≡ true
+set_below flags nodes n e = elim (cases_eq n (2 * (n / 2))) [
+  | inl same ↦ ap (λ b. b || node_at flags nodes (2 * (n / 2) + 1)) (subst (λ x. node_at flags nodes x ≡ true) same e)
+  | inr other ↦ some_true (node_at flags nodes (2 * (n / 2))) _ (subst (λ x. node_at flags nodes x ≡ true) (omega (arith, other)) e)
+]
+
+-- a node is set that has a set one below it: now only the one above it may be wrong
+pub raised : (flags nodes : List Bool) (n : ℕ) → 1 ≤ n → n < length nodes → AllBut flags nodes n → joined flags nodes n ≡ true → AllBut flags (set nodes n true) (n / 2)
+raised flags nodes n some within each e = subst (λ v. AllBut flags (set nodes n v) (n / 2)) e (mended flags nodes n some within each)
+
+pub raised_below : (flags nodes : List Bool) (n : ℕ) → n < length nodes → joined flags (set nodes n true) (n / 2) ≡ true
+raised_below flags nodes n within =
+    set_below flags (set nodes n true) n
+    (node_inner flags (set nodes n true) n (omega (arith, within, length-set nodes n true)) ∙ get_or-set_same nodes n true false within)
 
 -- the nodes from one on are right, and the one before it is made
 pub made_from : (flags nodes : List Bool) (n : ℕ) → 1 ≤ n → n < length nodes

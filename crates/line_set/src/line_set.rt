@@ -65,7 +65,12 @@ impl LineSet {
         ensures { self.new ≡ slice_set self.old position true }
     {
         self.flags[position] = true;
-        mend(&self.flags, &mut self.nodes, position);
+        let mut node = (self.nodes.len() + position) / 2;
+        // up to a node that is set already, as each above it is then
+        while node > 0 && !self.nodes[node] {
+            self.nodes[node] = true;
+            node /= 2;
+        }
     }
 
     /// Takes a position out.
@@ -126,7 +131,7 @@ fn join(flags: &[bool], nodes: &[bool], node: usize) -> bool
     is_set(flags, nodes, 2 * node) || is_set(flags, nodes, 2 * node + 1)
 }
 
-/// Mends the nodes above a position whose flag was changed.
+/// Mends the nodes above a position whose flag was changed, up to one that stays as it is.
 fn mend(flags: &[bool], nodes: &mut [bool], position: usize)
     requires within { position < length nodes.old }
     requires few { length nodes.old ≤ 2 * POSITIONS_MAX }
@@ -135,7 +140,11 @@ fn mend(flags: &[bool], nodes: &mut [bool], position: usize)
 {
     let mut node = (nodes.len() + position) / 2;
     while node > 0 {
-        nodes[node] = join(flags, nodes, node);
+        let joined = join(flags, nodes, node);
+        if nodes[node] == joined {
+            return;
+        }
+        nodes[node] = joined;
         node /= 2;
     }
 }

@@ -1,4 +1,4 @@
-use Rattle.std.proofs.Common.{◌≡◌, ◌<◌, length}
+use Rattle.std.proofs.Common.{◌<◌, length}
 use Rattle.line_set.specs.Trees.{AllBut}
 use Rattle.line_set.proofs.line_set.mend.Given as goal
 

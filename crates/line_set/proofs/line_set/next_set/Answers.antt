@@ -1,7 +1,6 @@
-use Rattle.std.proofs.Common.{◌≡◌, ℕ, zero, suc, ◌+◌, ◌-◌, ◌*◌, ◌/◌, ◌%◌, ◌^◌, ◌<◌, ◌≤◌, Bool, true, false, List, length, get_or, set, refl, sym, ap, subst, ◌∙◌, arith, rules, length-set, true≢false}
-use Rattle.line_set.specs.Trees.{AllBut, IsLeastFrom, IsPower, IsTree, joined, node_at}
-use Rattle.line_set.specs.Devices.Rows.{IsNext, IsInRow, NoneSet, below}
-use Rattle.line_set.proofs.Trees.{mended, flag_changed, made_from, go_left, go_right, flag_found, next_first, next_within, next_none, next_in_row, next_up, in_row_first, pow_suc, power_some, none_below, one_of, none_past, wide_some, below_past}
+use Rattle.std.proofs.Common.{◌≡◌, ◌+◌, false, length, sym, ◌∙◌, arith}
+use Rattle.line_set.specs.Trees.{node_at}
+use Rattle.line_set.proofs.Trees.{next_first, next_within, next_none, next_in_row, next_up, none_past, wide_some, below_past}
 use Rattle.line_set.proofs.line_set.next_set.Goals as goal
 
 pub overflow_add-node-in-loop-node : goal.overflow_add-node-in-loop-node

@@ -1,4 +1,4 @@
-use Rattle.std.proofs.Common.{◌≡◌, ◌+◌, ◌*◌, ◌-◌, ◌≤◌, length}
+use Rattle.std.proofs.Common.{◌+◌, ◌*◌, ◌-◌, ◌≤◌, length}
 use Rattle.line_set.specs.Devices.Rows.{IsInRow, NoneSet}
 use Rattle.line_set.proofs.line_set.next_set.Given as goal
 

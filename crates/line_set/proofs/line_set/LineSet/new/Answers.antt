@@ -1,7 +1,6 @@
-use Rattle.std.proofs.Common.{◌≡◌, ℕ, zero, suc, ◌+◌, ◌-◌, ◌*◌, ◌/◌, ◌%◌, ◌^◌, ◌<◌, ◌≤◌, Bool, true, false, List, length, get_or, set, refl, sym, ap, subst, ◌∙◌, ap₂, arith, rules, length-set, true≢false}
-use Rattle.line_set.specs.Trees.{AllBut, IsLeastFrom, IsPower, IsTree, joined, node_at}
-use Rattle.line_set.specs.Devices.Rows.{IsNext, IsInRow, NoneSet, below}
-use Rattle.line_set.proofs.Trees.{mended, flag_changed, made_from, go_left, go_right, flag_found, next_first, next_within, next_none, next_in_row, next_up, in_row_first, pow_suc, power_some, none_below, one_of}
+use Rattle.std.proofs.Common.{◌≡◌, ℕ, ◌-◌, ◌<◌, ◌≤◌, false, length, get_or, set, sym, subst, ◌∙◌, ap₂, arith, length-set}
+use Rattle.line_set.specs.Trees.{joined}
+use Rattle.line_set.proofs.Trees.{made_from}
 use Rattle.line_set.proofs.line_set.LineSet.new.Goals as goal
 
 pub loop-node-preserved : goal.loop-node-preserved

@@ -151,6 +151,19 @@ module _ (plan : Planned) (b : Board) (r : Ready) (ok : Reached plan b) (ready :
       let at : n - b.first ≡ b.committed = omega (arith, next_line n h) in
       ap (has_position r.checked) (sym at) ∙ x.2.in_checked ∙ counts_mark (row_at b) n h.0 h.1 h.2 x.0 may.unchanged (subst (λ s. Fits (row_at b) n s x.0) may.done x.1)
 
+  -- the committed lines come first
+  open_line : (n : ℕ) → IsLine b n → (IsCommitted (row_at b n).state → ⊥) → b.committed ≤ n - b.first
+  open_line n there rest = elim (cases_lt n (b.first + b.committed)) [
+    | inl lt ↦ absurd (rest (ok.rows.first n (omega (arith, there.0, ok.first)) (omega (arith, lt, ok.first))))
+    | inr ge ↦ omega (arith, ge)
+  ]
+
+  open_needs : (n : ℕ) → IsLine b n → NeedsCheck (row_at b) n → b.committed ≤ n - b.first
+  open_needs n there needs = open_line n there (λ h. subst IsCommitted needs.3 h)
+
+  open_waits : (n : ℕ) → Waits b n → b.committed ≤ n - b.first
+  open_waits n wait = open_line n wait.0 (λ h. subst IsCommitted wait.1 h)
+
   not_both : (c : Bool) → c ≡ true → c ≡ false → ⊥
   not_both c h e = (let z : true ≡ false = sym h ∙ e in cc)
 
@@ -174,30 +187,30 @@ module _ (plan : Planned) (b : Board) (r : Ready) (ok : Reached plan b) (ready :
   none_commits : has_position r.checked b.committed ≡ false → NoneFits (CanCommit b)
   none_commits h m may = not_both (has_position r.checked b.committed) (commit_place m may) h
 
-  pub checks : (p : ℕ) → has_position r.checked b.committed ≡ false → IsLeastFrom r.unchecked 0 (Some p) → IsChoice b (ToCheck (b.first + p))
+  pub checks : (p : ℕ) → has_position r.checked b.committed ≡ false → IsLeastFrom r.unchecked b.committed (Some p) → IsChoice b (ToCheck (b.first + p))
   checks p none least = (
     none_commits none,
     (
       place_needs p least.1,
       λ m lt needs. (let x = needs_place m needs in
-          not_both (has_position r.unchecked (m - b.first)) x.1 (least.2 (m - b.first) (omega arith) (omega (arith, lt, x.0.0)))),
+          not_both (has_position r.unchecked (m - b.first)) x.1 (least.2 (m - b.first) (open_needs m x.0 needs) (omega (arith, lt, x.0.0)))),
     ),
   )
 
-  none_needs : IsLeastFrom r.unchecked 0 None → NoneFits (NeedsCheck (row_at b))
-  none_needs none m needs = (let x = needs_place m needs in not_both (has_position r.unchecked (m - b.first)) x.1 (none (m - b.first) (omega arith)))
+  none_needs : IsLeastFrom r.unchecked b.committed None → NoneFits (NeedsCheck (row_at b))
+  none_needs none m needs = (let x = needs_place m needs in not_both (has_position r.unchecked (m - b.first)) x.1 (none (m - b.first) (open_needs m x.0 needs)))
 
-  pub takes : (p : ℕ) → has_position r.checked b.committed ≡ false → IsLeastFrom r.unchecked 0 None → IsLeastFrom r.waiting 0 (Some p) → IsChoice b (ToTake (b.first + p))
+  pub takes : (p : ℕ) → has_position r.checked b.committed ≡ false → IsLeastFrom r.unchecked b.committed None → IsLeastFrom r.waiting b.committed (Some p) → IsChoice b (ToTake (b.first + p))
   takes p none needless least = (
     none_commits none,
     none_needs needless,
-    (place_waits p least.1, λ m lt wait. not_both (has_position r.waiting (m - b.first)) (waits_place m wait) (least.2 (m - b.first) (omega arith) (omega (arith, lt, wait.0.0)))),
+    (place_waits p least.1, λ m lt wait. not_both (has_position r.waiting (m - b.first)) (waits_place m wait) (least.2 (m - b.first) (open_waits m wait) (omega (arith, lt, wait.0.0)))),
   )
 
-  pub waits_for_others : b.committed < length plan.readings → has_position r.checked b.committed ≡ false → IsLeastFrom r.unchecked 0 None → IsLeastFrom r.waiting 0 None → IsChoice b ToWait
+  pub waits_for_others : b.committed < length plan.readings → has_position r.checked b.committed ≡ false → IsLeastFrom r.unchecked b.committed None → IsLeastFrom r.waiting b.committed None → IsChoice b ToWait
   waits_for_others more none needless waitless = (
     none_commits none,
     none_needs needless,
-    λ m wait. not_both (has_position r.waiting (m - b.first)) (waits_place m wait) (waitless (m - b.first) (omega arith)),
+    λ m wait. not_both (has_position r.waiting (m - b.first)) (waits_place m wait) (waitless (m - b.first) (open_waits m wait)),
     (b.first + b.committed, (omega arith, omega (arith, more, ok.all)), λ h. (let l = ok.rows.only (b.first + b.committed) h in omega (arith, l, ok.first))),
   )

@@ -283,13 +283,15 @@ impl<'p, 't, J: PlanName> Board<'p, 't, J> {
         if committed >= lines_of(plan) as u64 {
             return Choice::End;
         }
-        if self.ready.checked.has(committed as usize) {
+        // the committed lines come first: none of them is in a set
+        let next = committed as usize;
+        if self.ready.checked.has(next) {
             return Choice::Commit(plan.first() + committed);
         }
-        if let Some(position) = self.ready.unchecked.least_from(0) {
+        if let Some(position) = self.ready.unchecked.least_from(next) {
             return Choice::Check(plan.first() + position as u64);
         }
-        if let Some(position) = self.ready.waiting.least_from(0) {
+        if let Some(position) = self.ready.waiting.least_from(next) {
             return Choice::Take(plan.first() + position as u64);
         }
         Choice::Nothing

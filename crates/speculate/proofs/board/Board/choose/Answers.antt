@@ -1,8 +1,9 @@
-use Rattle.std.proofs.Common.{◌≡◌, ◌+◌, ◌<◌, length, ap, sym, subst, ◌∙◌, arith, true, false}
+use Rattle.std.proofs.Common.{◌≡◌, ◌+◌, ◌<◌, length, ap, sym, subst, ◌∙◌, arith, true, false, Some, None}
 use Rattle.read_set.specs.Plans.{Planned}
 use Rattle.board_steps.specs.Board.{Board}
 use Rattle.board_steps.specs.Choice.{IsChoice}
 use Rattle.board_steps.specs.Choice.Choice.{ToCommit, ToCheck, ToTake, ToWait}
+use Rattle.line_set.specs.Trees.{IsLeastFrom}
 use Rattle.speculate.specs.Marks.{has_position}
 use Rattle.speculate.proofs.Choosing.{commits, checks, takes, waits_for_others}
 use Rattle.speculate.proofs.board.Board.choose.Goals as goal
@@ -25,7 +26,7 @@ returns-in-Some g c =
     omega (arith, c.first-in-Some.ensures, ap (λ (x : Planned). x.first) c.plan-plan.ensures.plan, c.plan-plan.ensures.reached.first) in
     let none : has_position r.checked b.committed ≡ false = ap (has_position r.checked) (sym c.committed-committed.ensures) ∙ sym c.has.ensures ∙ c.if-has.false in
     subst (λ (x : Board). IsChoice x (ToCheck (c.first-in-Some.result + c.in-Some.position))) c.self.view_is
-    (subst (λ n. IsChoice b (ToCheck n)) line (checks g.J.PlanName.plan b r c.plan-plan.ensures.reached c.self.invariant c.in-Some.position none c.in-Some.ensures))
+    (subst (λ n. IsChoice b (ToCheck n)) line (checks g.J.PlanName.plan b r c.plan-plan.ensures.reached c.self.invariant c.in-Some.position none (subst (λ n. IsLeastFrom r.unchecked n (Some c.in-Some.position)) c.committed-committed.ensures c.in-Some.ensures)))
 
 pub returns-in-Some-least_from : goal.returns-in-Some-least_from
 returns-in-Some-least_from g c =
@@ -37,7 +38,8 @@ returns-in-Some-least_from g c =
     let none : has_position r.checked b.committed ≡ false = ap (has_position r.checked) (sym c.committed-committed.ensures) ∙ sym c.has.ensures ∙ c.if-has.false in
     subst (λ (x : Board). IsChoice x (ToTake (c.first-in-Some-least_from.result + p))) c.self.view_is
     (subst (λ n. IsChoice b (ToTake n)) line
-    (takes g.J.PlanName.plan b r c.plan-plan.ensures.reached c.self.invariant p none c.in_default.ensures c.in-Some-least_from.ensures))
+    (takes g.J.PlanName.plan b r c.plan-plan.ensures.reached c.self.invariant p none (subst (λ n. IsLeastFrom r.unchecked n None) c.committed-committed.ensures c.in_default.ensures)
+    (subst (λ n. IsLeastFrom r.waiting n (Some p)) c.committed-committed.ensures c.in-Some-least_from.ensures)))
 
 pub returns : goal.returns
 returns g c =
@@ -47,4 +49,6 @@ returns g c =
     let more : b.committed < length g.J.PlanName.plan.readings =
     omega (arith, c.if-committed-lines_of.false, c.lines_of.ensures.lines, ap (λ (x : Planned). length x.readings) c.plan-plan.ensures.plan, c.committed-committed.ensures) in
     subst (λ (x : Board). IsChoice x ToWait) c.self.view_is
-    (waits_for_others g.J.PlanName.plan b r c.plan-plan.ensures.reached c.self.invariant more none c.in_default.ensures c.in_default-least_from.ensures)
+    (waits_for_others g.J.PlanName.plan b r c.plan-plan.ensures.reached c.self.invariant more none
+    (subst (λ n. IsLeastFrom r.unchecked n None) c.committed-committed.ensures c.in_default.ensures)
+    (subst (λ n. IsLeastFrom r.waiting n None) c.committed-committed.ensures c.in_default-least_from.ensures))

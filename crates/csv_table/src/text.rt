@@ -13,11 +13,20 @@ use std::marker::Model;
 const FIRST_ROOM: usize = 1 << 20;
 
 /// The text of a table, written row by row under its header. After a failure there is no text.
-#[derive(Drop)]
 pub struct TableText {
     writer: Writer<Vec<u8>>,
     width: usize,
     failed: bool,
+}
+
+impl Drop for TableText {
+    fn drop(self) {
+        let TableText {
+            writer: _,
+            width: _,
+            failed: _,
+        } = self;
+    }
 }
 
 impl Model for TableText {
@@ -63,10 +72,15 @@ impl TableText {
     pub fn finish(self) -> Result<Vec<u8>, AllocError>
         ensures { IfOk result (λ v. option_map text_of self ≡ Some v.items) }
     {
-        if self.failed {
+        let TableText {
+            writer,
+            width: _,
+            failed,
+        } = self;
+        if failed {
             return Err(AllocError);
         }
-        self.writer.into_inner().map_err(|_| AllocError)
+        writer.into_inner().map_err(|_| AllocError)
     }
 }
 

@@ -36,11 +36,12 @@ pub enum BaseRule {
     Queue,
 }
 
-impl fmt::Display for BaseRule {
-    ghost output = { λ r. Some (rule_word r) };
-
-    fn fmt<W: fmt::Write>(&self, f: &mut fmt::Formatter<W>) -> fmt::Result {
-        f.write_str(match self {
+impl BaseRule {
+    /// The word for it.
+    fn word(self) -> &'static str
+        ensures { result.now ≡ rule_word self }
+    {
+        match self {
             BaseRule::Text => "text",
             BaseRule::Value => "value",
             BaseRule::Double => "double",
@@ -53,7 +54,15 @@ impl fmt::Display for BaseRule {
             BaseRule::Number => "number",
             BaseRule::Borrower => "borrower",
             BaseRule::Queue => "queue",
-        })
+        }
+    }
+}
+
+impl fmt::Display for BaseRule {
+    ghost output = { λ r. Some (rule_word r) };
+
+    fn fmt<W: fmt::Write>(&self, f: &mut fmt::Formatter<W>) -> fmt::Result {
+        f.write_str(self.word())
     }
 }
 

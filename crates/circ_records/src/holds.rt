@@ -25,9 +25,10 @@ impl Hold {
     pub fn copy(&self, alloc: Global) -> Result<Hold, AllocError>
         ensures { IfOk result (λ h. h ≡ self.now) }
     {
+        let pickup = self.pickup.copy(alloc)?;
         Ok(Hold {
             patron: self.patron,
-            pickup: self.pickup.copy(alloc)?,
+            pickup,
         })
     }
 }

@@ -21,7 +21,6 @@ use std::alloc::{AllocError, Global};
 
 /// The texts of the tables while they are written. Where memory runs out all six are dropped (`written.rt`), so nothing is
 /// said of what they then hold.
-#[derive(Drop)]
 pub(crate) struct TableTexts {
     pub(crate) patrons: TableText,
     pub(crate) items: TableText,
@@ -29,6 +28,19 @@ pub(crate) struct TableTexts {
     pub(crate) fees: TableText,
     pub(crate) closed: TableText,
     pub(crate) holds: TableText,
+}
+
+impl Drop for TableTexts {
+    fn drop(self) {
+        let TableTexts {
+            patrons: _,
+            items: _,
+            loans: _,
+            fees: _,
+            closed: _,
+            holds: _,
+        } = self;
+    }
 }
 
 impl TableTexts {
@@ -112,13 +124,21 @@ impl TableTexts {
     pub(crate) fn finish(self) -> Result<Tables, AllocError>
         ensures { IfOk result (λ tables. AreOf self (texts_of tables)) }
     {
+        let TableTexts {
+            patrons,
+            items,
+            loans,
+            fees,
+            closed,
+            holds,
+        } = self;
         Ok(Tables {
-            patrons: self.patrons.finish()?,
-            items: self.items.finish()?,
-            loans: self.loans.finish()?,
-            fees: self.fees.finish()?,
-            closed: self.closed.finish()?,
-            holds: self.holds.finish()?,
+            patrons: patrons.finish()?,
+            items: items.finish()?,
+            loans: loans.finish()?,
+            fees: fees.finish()?,
+            closed: closed.finish()?,
+            holds: holds.finish()?,
         })
     }
 }

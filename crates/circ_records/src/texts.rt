@@ -3,7 +3,7 @@
 ghost use Rattle.std.specs.Prelude.{◌≡◌, true};
 ghost use Rattle.std.specs.List.{list_any};
 ghost use Rattle.csv.specs.Records.{fields_of};
-ghost use Rattle.sip_reader.specs.Texts.{is_barred, is_id};
+ghost use Rattle.sip_reader.specs.Texts.{is_id};
 ghost use Rattle.sip_reader.specs.Texts as Texts;
 ghost use Rattle.circ_records.specs.Tables.{field};
 
@@ -21,11 +21,16 @@ pub(crate) fn is_text(bytes: &[u8]) -> bool
 
 /// Whether a bar, CR or LF stands among the bytes.
 fn has_barred(bytes: &[u8]) -> bool
-    ensures { result ≡ list_any is_barred bytes.now }
+    ensures { result ≡ list_any Texts.is_barred bytes.now }
 {
-    bytes
-        .iter()
-        .any(|b| *b == b'|' || *b == b'\r' || *b == b'\n')
+    bytes.iter().any(|b| is_barred(*b))
+}
+
+/// Whether a byte is a bar, CR or LF.
+fn is_barred(b: u8) -> bool
+    ensures { result ≡ Texts.is_barred b }
+{
+    b == b'|' || b == b'\r' || b == b'\n'
 }
 
 /// The id in a column.

@@ -6,6 +6,7 @@ ghost use Rattle.std.specs.List.Sorted.{IsStrictlySortedBy};
 ghost use Rattle.std.specs.Option.{option_copied};
 ghost use Rattle.circ_records.specs.Keys.{key_cmp};
 ghost use Rattle.circ_records.specs.Records.{record_at};
+ghost use Rattle.read_set.specs.Devices.Drafts.{Rise, entries_in};
 ghost use Rattle.read_set.specs.Effects.{unwritten};
 
 use crate::sorted::{copied, found_in, map_of, put_in, put_over};
@@ -19,16 +20,29 @@ use std::marker::Model;
 const FEW: usize = 8;
 
 /// The records that a line writes so far. Of several under one key the newest counts.
-#[derive(Drop)]
 pub struct Draft {
     kept: Kept,
 }
 
+impl Drop for Draft {
+    fn drop(self) {
+        let Draft { kept: _ } = self;
+    }
+}
+
 /// A few records are a list, rising by key. More are a map, so that each costs little however many are there before it.
-#[derive(Drop)]
 enum Kept {
     Few(Vec<(Key, Record)>),
     Many(BTreeMap<Key, Record>),
+}
+
+impl Drop for Kept {
+    fn drop(self) {
+        match self {
+            Kept::Few(_) => {}
+            Kept::Many(_) => {}
+        }
+    }
 }
 
 impl Model for Draft {
@@ -96,7 +110,18 @@ impl Draft {
     pub fn finish(self, alloc: Global) -> Result<Writes, AllocError>
         ensures { IfOk result (λ w. w ≡ self) }
     {
-        match self.kept {
+        let Draft { kept } = self;
+        kept.into_writes(alloc)
+    }
+}
+
+impl Kept {
+    /// The records in the order of keys.
+    fn into_writes(self, alloc: Global) -> Result<Writes, AllocError>
+        requires { Rise (entries_in self) }
+        ensures { IfOk result (λ w. w ≡ entries_in self) }
+    {
+        match self {
             Kept::Few(entries) => Ok(Writes { entries }),
             Kept::Many(map) => listed(alloc, map),
         }
@@ -115,9 +140,14 @@ fn listed(alloc: Global, map: BTreeMap<Key, Record>) -> Result<Writes, AllocErro
 }
 
 /// The records that a line writes, each under its key, in the order of keys.
-#[derive(Drop)]
 pub struct Writes {
     entries: Vec<(Key, Record)>,
+}
+
+impl Drop for Writes {
+    fn drop(self) {
+        let Writes { entries: _ } = self;
+    }
 }
 
 impl Model for Writes {
@@ -172,7 +202,8 @@ impl Writes {
     pub fn into_vec(self) -> Vec<(Key, Record)>
         ensures { result.items ≡ self }
     {
-        self.entries
+        let Writes { entries } = self;
+        entries
     }
 }
 

@@ -1,11 +1,11 @@
 -- Keys with their names: one more, and the i-th.
-use Rattle.std.proofs.Common.{◌≡◌, ℕ, zero, suc, ◌<◌, ◌≤◌, Bool, true, false, cond, List, [], ◌∷◌, ◌++◌, length, slice_get, refl, sym, ap, ◌∙◌, arith, Some, None, ap₂, ◌⊎◌, inl, inr, map, subst}
+use Rattle.std.proofs.Common.{◌≡◌, ℕ, zero, suc, ◌-◌, ◌<◌, ◌≤◌, Bool, true, false, cond, List, [], ◌∷◌, ◌++◌, length, slice_get, refl, sym, ap, ◌∙◌, arith, Some, None, ap₂, ◌⊎◌, inl, inr, map, subst}
 use Rattle.std.specs.Prelude.{option_map, ◌||◌}
 use Rattle.std.specs.BTreeMap.{is_at}
 use Rattle.std.specs.BTreeSet.{BTreeSet, contains}
 use Rattle.std.specs.List.{list_any, IsDistinct}
 use Rattle.std.specs.Ordering.{eq_by_cmp}
-use Rattle.std.proofs.Common.{length-append, take_all}
+use Rattle.std.proofs.Common.{length-append, take, take_all}
 use Rattle.std.proofs.lemmas.List.{take-append-le}
 use Rattle.std.proofs.lemmas.Option.{none-some, same_Some}
 use Rattle.std.proofs.lemmas.Cmp.{eq_by_cmp_equiv}
@@ -150,4 +150,22 @@ noted_more ks ns old new k n kept fresh here long u = record {
       ∙ ap (λ notes. is_noted notes q) (sym (noted_push ks ns k n kept.as_many));
   once = subst AreOnce (sym (noted_push ks ns k n kept.as_many)) (once_more (noted_from ks ns) (note_with k n) kept.once fresh);
   placed = subst ArePlaced (sym (noted_push ks ns k n kept.as_many)) (placed_more (noted_from ks ns) (note_with k n) kept.placed here);
+}
+
+-- what is pushed and popped again leaves the list as it was
+pub pushed_popped : {X : Type 0} (old pushed left : List X) (x : X) (n : ℕ) → pushed ≡ old ++ x ∷ [] → n ≡ length pushed → left ≡ take (n - 1) pushed → left ≡ old
+pushed_popped old pushed left x n push many pop =
+    pop
+    ∙ ap (λ m. take m pushed) (omega (arith, many, ap length push, length-append old (x ∷ [])))
+    ∙ ap (λ xs. take (length old) xs) push
+    ∙ take-append-le (length old) old (x ∷ []) (omega arith)
+    ∙ take_all (length old) old (omega arith)
+
+-- an index of the same keys
+pub noted_again : {J : Type 0} (ks : List Key) (ns : List (PlacedName J)) (old new : BTreeSet Key) → AreNoted ks ns old → new.keys ≡ old.keys → AreNoted ks ns new
+noted_again ks ns old new kept same = record {
+  as_many = kept.as_many;
+  each = λ q. ap (λ js. is_key_in (few ks) q || list_any (is_at (key_cmp q)) js) same ∙ kept.each q;
+  once = kept.once;
+  placed = kept.placed;
 }

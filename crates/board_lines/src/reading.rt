@@ -63,7 +63,10 @@ fn read_note<J: PlanName>(
     requires { i < length noted.now }
     ensures { IfOk result (λ note. Some note ≡ slice_get (notes_by plan.now.base noted.now) i) }
 {
-    let (Some(key), Some(seen)) = (noted.key(i), noted.seen(i)) else {
+    let Some(key) = noted.key(i) else {
+        unreachable!()
+    };
+    let Some(seen) = noted.seen(i) else {
         unreachable!()
     };
     Ok(Note {

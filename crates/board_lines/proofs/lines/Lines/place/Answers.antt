@@ -183,3 +183,17 @@ returns-clause-placed g c =
     ∙ ap (λ (x : store.Line). insert x c.args.key (shown_by v.attempt v)) (sym (entries_there plan parts kept n there)) in
     subst (λ (b : Board). board_of a.plan.now.base q ≡ placed b w n (notes_at b n) v c.args.key) is
     (ap (λ (x : Planned). board_of x.base q) c.self.invariant.0 ∙ placed_board plan parts kept w n (notes_at (board_of plan.base parts) n) may v q l k come c.go_on.ensures c.in-Ok.ensures.placed rows_is k_is refl refl refl c.args.key fits c.requires.version room next l_is)
+
+pub invariant_of-self : goal.invariant_of-self
+invariant_of-self g c =
+    let a = c.self.inside in (
+      c.self.invariant.0,
+      subst (λ (x : store.Store). IsKept g.J.PlanName.plan (record { states = a.attempts; store = x; rows = map row_shown a.rows.items; hands = a.hands.items; clock = a.clock; latest = a.latest })) (sym c.in_default.ensures.same)
+          c.self.invariant.1,
+    )
+
+pub returns-in_default-clause-same : goal.returns-in_default-clause-same
+returns-in_default-clause-same g c =
+    let a = c.self.inside in
+    ap (λ (x : store.Store). board_of a.plan.now.base (record { states = a.attempts; store = x; rows = map row_shown a.rows.items; hands = a.hands.items; clock = a.clock; latest = a.latest })) c.in_default.ensures.same
+    ∙ c.self.view_is

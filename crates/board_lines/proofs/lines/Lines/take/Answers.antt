@@ -171,3 +171,11 @@ returns g c =
     subst (λ (b : Board). TakeStep b c.args.worker c.args.line (Taken c.in-Some-take.attempt) (board_of a.plan.now.base q)) is
     (subst (λ (b : Board). TakeStep (board_of plan.base parts) c.args.worker c.args.line (Taken c.in-Some-take.attempt) b) new
     (take_returns plan parts kept c.args.line c.args.worker waits hand q k ok.1 refl rows_is k_is refl (omega (arith, a.hands.ok.0)) refl refl c.in-Some-take.attempt (sym next) fits))
+
+pub invariant_of-self : goal.invariant_of-self
+invariant_of-self g c =
+    let a = c.self.inside in (
+      c.self.invariant.0,
+      subst (λ (x : States). IsKept g.J.PlanName.plan (record { states = x; store = a.entries; rows = map row_shown a.rows.items; hands = a.hands.items; clock = a.clock; latest = a.latest })) (sym c.in_default-take.ensures.none.1)
+          c.self.invariant.1,
+    )

@@ -87,11 +87,11 @@ unfolding IsDistinct
 none_once = tt
 
 -- no keys
-pub none_noted : {J : Type 0} (ks : List Key) (ns : List (PlacedName J)) → ks ≡ [] → AreOnce (noted_from ks ns)
+none_noted : {J : Type 0} (ks : List Key) (ns : List (PlacedName J)) → ks ≡ [] → AreOnce (noted_from ks ns)
 none_noted ks ns e = subst (λ xs. AreOnce (noted_from xs ns)) (sym e) none_once
 
 -- no keys, so no places
-pub none_placed : {J : Type 0} (ks : List Key) (ns : List (PlacedName J)) → ks ≡ [] → ArePlaced (noted_from ks ns)
+none_placed : {J : Type 0} (ks : List Key) (ns : List (PlacedName J)) → ks ≡ [] → ArePlaced (noted_from ks ns)
 none_placed ks ns e = subst (λ xs. ArePlaced (noted_from xs ns)) (sym e) (λ i n g. absurd (none-some n g))
 
 -- one more note, which has a place or is the base's
@@ -168,4 +168,15 @@ noted_again ks ns old new kept same = record {
   each = λ q. ap (λ js. is_key_in (few ks) q || list_any (is_at (key_cmp q)) js) same ∙ kept.each q;
   once = kept.once;
   placed = kept.placed;
+}
+
+-- nothing is noted, and the index is empty
+pub none_kept : {J : Type 0} (ks : List Key) (ns : List (PlacedName J)) (index : BTreeSet Key) → ks ≡ [] → ns ≡ [] → index.keys ≡ [] → AreNoted ks ns index
+none_kept ks ns index no_keys no_names no_index = record {
+  as_many = ap length no_keys ∙ sym (ap length no_names);
+  each = λ q.
+      ap₂ (λ xs js. is_key_in (few xs) q || list_any (is_at (key_cmp q)) js) no_keys no_index
+      ∙ sym (ap (λ xs. is_noted (noted_from xs ns) q) no_keys);
+  once = none_noted ks ns no_keys;
+  placed = none_placed ks ns no_keys;
 }

@@ -63,3 +63,6 @@ returns-in-None-clause-act g c r is =
     subst (λ (a : ℕ). IsFirstApart l a v.writes None) c.attempt-attempt.ensures (subst (λ (x : Entries). IsFirstApart l c.attempt-attempt.result x None) c.writes-writes.ensures.writes found) in
     let none : AllOf l c.attempt-attempt.result = c.in-None.ensures in
     (all_are r l is v up first, none_is r l is v up (subst (λ (a : ℕ). AllOf l a) c.attempt-attempt.ensures none))
+
+pub bounds-writes-i : goal.bounds-writes-i
+bounds-writes-i g c = slice_get_within c.writes-writes.result.now c.in-Some.i c.in-Some.ensures.0.0 c.in-Some.ensures.0.1

@@ -166,3 +166,15 @@ returns g c =
     subst (λ (b : Board). CheckStep b c.args.worker c.args.line (TheChanged c.args.key c.args.noted c.args.found) (board_of a.plan.now.base q)) is
     (subst (λ (b : Board). CheckStep (board_of plan.base parts) c.args.worker c.args.line (TheChanged c.args.key c.args.noted c.args.found) b) new
     (mark_returns plan parts kept c.args.worker c.args.line o.0 o.1 o.2 o.3 o.4 c.args.key c.args.noted c.args.found o.5 some room q k c.fail-2.ensures c.suspect_all.ensures rows_is k_is refl refl refl))
+
+pub overflow_sub-line : goal.overflow_sub-line
+overflow_sub-line g c =
+    let a = c.self.inside in
+    let plan = g.J.PlanName.plan in
+    let parts : Parts = record { states = a.attempts; store = a.entries; rows = map row_shown a.rows.items; hands = a.hands.items; clock = a.clock; latest = a.latest } in
+    let kept : IsKept plan parts = c.self.invariant.1 in
+    let is : board_of plan.base parts ≡ c.args.self.now = ap (λ (x : Planned). board_of x.base parts) (sym c.self.invariant.0) ∙ c.self.view_is in
+    let o : IsOther (board_of plan.base parts) c.args.worker c.args.line c.args.key c.args.noted c.args.found = subst (λ (b : Board). IsOther b c.args.worker c.args.line c.args.key c.args.noted c.args.found) (sym is) c.requires in
+    let there : IsLine (board_of plan.base parts) c.args.line = check_line plan parts kept c.args.worker c.args.line o.0 o.1 o.2 o.3 o.4 in
+    let f : c.first.result ≡ parts.states.first = c.first.ensures ∙ ap (λ (x : Planned). x.first) c.self.invariant.0 ∙ sym kept.reached.first in
+    omega (arith, there.0, f)

@@ -1,5 +1,5 @@
 -- The arguments of the command line have ids of their own, and each is a plain one.
-use Rattle.std.proofs.Common.{◌≡◌, ◌<◌, ◌==◌, ◌∙◌, ℕ, [], ◌∷◌, zero, suc, true, false, ap, sym, codes, arith, inl, inr, slice_index, if◌then◌else◌}
+use Rattle.std.proofs.Common.{◌≡◌, ◌<◌, ◌==◌, ◌∙◌, ℕ, List, [], ◌∷◌, zero, suc, true, false, ap, sym, codes, arith, inl, inr, slice_index, if◌then◌else◌}
 use Rattle.std.specs.List.{slice_index_or}
 use Rattle.std.proofs.lemmas.Slice.Eq.{bytes_eq-Decides}
 use Rattle.std.specs.List.{All}
@@ -7,7 +7,17 @@ use Rattle.std.specs.Str.{bytes_eq}
 use Rattle.clap.specs.Words.{Text}
 use Rattle.clap.specs.Built.{FitsChain, HasDistinctIds, IsAuto}
 use Rattle.clap.specs.declared.builder.arg.Arg.{Arg}
+use Rattle.clap.specs.declared.builder.arg_group.ArgGroup.{ArgGroup}
+use Rattle.clap.specs.declared.builder.command.Command.{Command}
+use Rattle.clap.specs.declared.builder.command.Command.TheOpen.{Command-F}
 use Rattle.command_line.specs.CommandLine.{IsOwnArg}
+
+-- what the fields of a command hold
+abbrev pub args_in : Command-F Command → List Arg
+args_in f = f.args.items
+
+abbrev pub groups_in : Command-F Command → List ArgGroup
+groups_in f = f.groups.items
 
 named : (x s : Text) → x ≡ s → bytes_eq s [] ≡ false → x ≡ [] → ⊥
 named x s is some none =

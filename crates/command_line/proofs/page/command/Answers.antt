@@ -1,4 +1,4 @@
-use Rattle.std.proofs.Common.{rules, refl, subst, ap₂, ◌∙◌, ◌≡◌, ◌<◌, ℕ, arith, codes, [], ◌∷◌, true, false, is_some}
+use Rattle.std.proofs.Common.{refl, ap, subst, ap₂, ◌∙◌, ◌≡◌, ◌<◌, ℕ, arith, codes, [], ◌∷◌, true, false, is_some}
 use Rattle.std.proofs.lemmas.Result.{IfOk-weaker}
 use Rattle.std.specs.List.{All, slice_index_or}
 use Rattle.clap.specs.Words.{App, IsParsedFrom, app_of, args_of, groups_of, with_rule, new_app, first_value, found_of}
@@ -8,7 +8,7 @@ use Rattle.clap.specs.declared.parser.matches.ArgMatches.{ArgMatches}
 use Rattle.clap.proofs.CallerLemmas.{required_in_chain}
 use Rattle.command_line.specs.CommandLine.{path_rule, versioned}
 use Rattle.command_line.specs.Page.{limit_rule, sip_page_line}
-use Rattle.command_line.proofs.Chain.{fits}
+use Rattle.command_line.proofs.Chain.{args_in, fits, groups_in}
 use Rattle.command_line.proofs.PageChain.{all_four, distinct}
 use Rattle.command_line.proofs.page.command.Goals as goal
 
@@ -22,7 +22,8 @@ is_line = refl
 
 pub returns-clause-line : goal.returns-clause-line
 returns-clause-line c =
-    let start : app_of c.after_help.result ≡ versioned (new_app (codes "sip_page")) = search rules in
+    let start : app_of c.after_help.result ≡ versioned (new_app (codes "sip_page")) =
+    rw (c.after_help.ensures, c.about.ensures, c.version.ensures) (ap versioned c.new.ensures.app) in
     IfOk-weaker c.arg-4.result _ _ (λ m added.
     added.shape c.limit-limit.ensures.own.1
     ∙ ap₂ with_rule (c.in_ok-arg-3.ensures.shape c.path-out.ensures.own.1
@@ -43,10 +44,14 @@ returns-clause-paths c =
     let pl = c.limit-limit.ensures in
     let xs = j ∷ b ∷ o ∷ l ∷ [] in
     let start = c.after_help.result in
-    let no_args : args_of start ≡ [] = search rules in
-    let no_groups : groups_of start ≡ [] = search rules in
-    let no_globals : (out-Command start).has_globals ≡ false = search rules in
-    let no_negates : (out-Command start).subcommand_negates_reqs ≡ false = search rules in
+    let no_args : args_of start ≡ [] =
+    ap args_in c.after_help.ensures ∙ (ap args_in c.about.ensures ∙ (ap args_in c.version.ensures ∙ c.new.ensures.empty.0)) in
+    let no_groups : groups_of start ≡ [] =
+    ap groups_in c.after_help.ensures ∙ (ap groups_in c.about.ensures ∙ (ap groups_in c.version.ensures ∙ c.new.ensures.empty.1)) in
+    let no_globals : (out-Command start).has_globals ≡ false =
+    rw (c.after_help.ensures, c.about.ensures, c.version.ensures) c.new.ensures.local in
+    let no_negates : (out-Command start).subcommand_negates_reqs ≡ false =
+    rw (c.after_help.ensures, c.about.ensures, c.version.ensures) c.new.ensures.negates in
     let all : All FitsChain xs = all_four FitsChain j b o l (fits j (codes "journal") pj.own refl refl refl) (fits b (codes "base") pb.own refl refl refl)
     (fits o (codes "out") po.own refl refl refl) (fits l (codes "limit") pl.own refl refl refl) in
     let apart : HasDistinctIds xs = distinct j b o l pj.own.0 pb.own.0 po.own.0 pl.own.0 in

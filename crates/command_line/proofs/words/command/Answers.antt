@@ -1,4 +1,4 @@
-use Rattle.std.proofs.Common.{rules, refl, subst, ap₂, ◌∙◌, ◌≡◌, ◌<◌, ℕ, arith, codes, [], ◌∷◌, true, false, is_some}
+use Rattle.std.proofs.Common.{refl, ap, subst, ap₂, ◌∙◌, ◌≡◌, ◌<◌, ℕ, arith, codes, [], ◌∷◌, true, false, is_some}
 use Rattle.std.proofs.lemmas.Result.{IfOk-weaker}
 use Rattle.std.specs.List.{All, slice_index_or}
 use Rattle.clap.specs.Words.{App, IsParsedFrom, app_of, args_of, groups_of, with_rule, new_app, first_value, found_of}
@@ -7,7 +7,7 @@ use Rattle.clap.specs.declared.builder.command.Command.TheViews.{out-Command}
 use Rattle.clap.specs.declared.parser.matches.ArgMatches.{ArgMatches}
 use Rattle.clap.proofs.CallerLemmas.{required_in_chain}
 use Rattle.command_line.specs.CommandLine.{explain_rule, path_rule, sip_replay_line, versioned, workers_rule}
-use Rattle.command_line.proofs.Chain.{all_six, distinct, fits}
+use Rattle.command_line.proofs.Chain.{all_six, args_in, distinct, fits, groups_in}
 use Rattle.command_line.proofs.words.command.Goals as goal
 
 abbrev with_all : App → App
@@ -20,7 +20,8 @@ is_line = refl
 
 pub returns-clause-line : goal.returns-clause-line
 returns-clause-line c =
-    let start : app_of c.after_help.result ≡ versioned (new_app (codes "sip_replay")) = search rules in
+    let start : app_of c.after_help.result ≡ versioned (new_app (codes "sip_replay")) =
+    rw (c.after_help.ensures, c.about.ensures, c.version.ensures) (ap versioned c.new.ensures.app) in
     IfOk-weaker c.arg-6.result _ _ (λ m added.
     added.shape c.explain-explain.ensures.own.1
     ∙ ap₂ with_rule (c.in_ok-arg-5.ensures.shape c.workers-workers.ensures.own.1
@@ -47,10 +48,14 @@ returns-clause-paths c =
     let pe = c.explain-explain.ensures in
     let xs = a ∷ b ∷ j ∷ o ∷ w ∷ e ∷ [] in
     let start = c.after_help.result in
-    let no_args : args_of start ≡ [] = search rules in
-    let no_groups : groups_of start ≡ [] = search rules in
-    let no_globals : (out-Command start).has_globals ≡ false = search rules in
-    let no_negates : (out-Command start).subcommand_negates_reqs ≡ false = search rules in
+    let no_args : args_of start ≡ [] =
+    ap args_in c.after_help.ensures ∙ (ap args_in c.about.ensures ∙ (ap args_in c.version.ensures ∙ c.new.ensures.empty.0)) in
+    let no_groups : groups_of start ≡ [] =
+    ap groups_in c.after_help.ensures ∙ (ap groups_in c.about.ensures ∙ (ap groups_in c.version.ensures ∙ c.new.ensures.empty.1)) in
+    let no_globals : (out-Command start).has_globals ≡ false =
+    rw (c.after_help.ensures, c.about.ensures, c.version.ensures) c.new.ensures.local in
+    let no_negates : (out-Command start).subcommand_negates_reqs ≡ false =
+    rw (c.after_help.ensures, c.about.ensures, c.version.ensures) c.new.ensures.negates in
     let all : All FitsChain xs = all_six FitsChain a b j o w e (fits a (codes "policy") pa.own refl refl refl) (fits b (codes "base") pb.own refl refl refl)
     (fits j (codes "journal") pj.own refl refl refl) (fits o (codes "out") po.own refl refl refl) (fits w (codes "workers") pw.own refl refl refl)
     (fits e (codes "explain") pe.own refl refl refl) in

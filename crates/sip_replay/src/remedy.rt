@@ -218,7 +218,6 @@ impl fmt::Display for KeyRemedy<'_> {
 }
 
 /// Its words.
-#[tactic(auto, unfolding(crate::specs::Telling::key_remedy))]
 fn key_remedy(key: &str) -> &'static str
     ensures { result.now ≡ key_remedy key.now }
 {

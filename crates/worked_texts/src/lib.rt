@@ -1,4 +1,4 @@
-//! The worked texts: small runs of the whole replay, each told in a few lines of a book. `worked_rows` and `worked_scripts` run them.
+//! The worked texts: small runs of the whole replay, each told in a few lines of a book. `worked_books` runs them.
 //!
 //! A book is a text. A row begins with `#` and its title; each line behind it says one thing:
 //!

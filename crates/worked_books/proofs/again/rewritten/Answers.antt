@@ -1,6 +1,6 @@
 use Rattle.std.proofs.Common.{◌≡◌, ◌∙◌}
-use Rattle.worked_scripts.proofs.Rewrites.{writes-again}
-use Rattle.worked_scripts.proofs.again.rewritten.Goals as goal
+use Rattle.worked_books.proofs.Rewrites.{writes-again}
+use Rattle.worked_books.proofs.again.rewritten.Goals as goal
 
 pub new-requires : goal.new-requires
 new-requires g c =

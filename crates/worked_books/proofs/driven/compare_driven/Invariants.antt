@@ -1,4 +1,4 @@
-use Rattle.worked_scripts.proofs.driven.compare_driven.Given as goal
+use Rattle.worked_books.proofs.driven.compare_driven.Given as goal
 
 -- the plan of the run
 abbrev pub ghosts-drive : goal.ghosts-drive

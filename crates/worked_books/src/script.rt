@@ -2,6 +2,7 @@
 
 ghost use Rattle.std.specs.Prelude.{◌≡◌};
 
+use crate::by_steps::run_beginnings;
 use crate::calls::reply_to;
 use crate::checked::must_be;
 use crate::lists::play_lists;
@@ -17,7 +18,8 @@ use version_store::{Place, VersionTable};
 use worked_texts::row::Row;
 use worked_texts::script::{Script, WORKERS};
 
-/// Runs a script: the lines that a row knows make the plan, those with a reply behind ` = ` are calls.
+/// Runs a script: the lines that a row knows make the plan and the inputs, those with a reply behind ` = ` are calls. Where it
+/// is steps alone, the run by each of its beginnings is tried too.
 pub(crate) fn run_script<R: Wait + AllocGlobal + Abort>(
     rt: &R,
     title: &str,
@@ -35,7 +37,11 @@ pub(crate) fn run_script<R: Wait + AllocGlobal + Abort>(
         }
     }
     let plan = row.plan(alloc)?.expect(rt, "a plan");
-    play_calls::<Brand, R>(rt, &plan, &script)
+    play_calls::<Brand, R>(rt, &plan, &script)?;
+    if script.given.is_empty() {
+        return Ok(());
+    }
+    run_beginnings(rt, &mut row, &script)
 }
 
 /// Plays the calls of a script one after another, and then as lists in parts of so many: what is seen at the end is the same.

@@ -1,4 +1,4 @@
-use Rattle.worked_rows.proofs.single.Single.run.Given as goal
+use Rattle.worked_books.proofs.single.Single.run.Given as goal
 
 -- the plan of the line
 abbrev pub ghosts-ask : goal.ghosts-ask

@@ -1,4 +1,4 @@
-use Rattle.worked_scripts.proofs.script.run_script.Given as goal
+use Rattle.worked_books.proofs.script.run_script.Given as goal
 
 -- the plan of the script
 abbrev pub ghosts-play_calls : goal.ghosts-play_calls

@@ -1,7 +1,8 @@
 //! The tests that run the books.
 
 use crate::book::run_row;
-use crate::by_steps::run_beginnings;
+use crate::driven::compare_driven;
+use crate::script::run_script;
 use crate::single::Single;
 use std::alloc::{AllocGlobal, Global};
 use std::process::Abort;
@@ -12,7 +13,6 @@ use worked_texts::books::{
     wants,
 };
 use worked_texts::row::Row;
-use worked_texts::script::Script;
 use worked_texts::steps::{checked, choices, lists, refused, rows, spared, turns};
 
 /// Runs some books.
@@ -30,7 +30,7 @@ fn run_book<R: Wait + AllocGlobal + Abort>(rt: &R, book: &str) -> Result<(), Fai
         if lines.contains("\nwants") {
             run_line(rt, rt.alloc(), title, lines)?;
         } else if lines.contains(" = ") {
-            take_script(rt, title, lines)?;
+            run_script(rt, title, lines)?;
         } else if !lines.is_empty() {
             take_row(rt, title, lines)?;
         }
@@ -38,7 +38,7 @@ fn run_book<R: Wait + AllocGlobal + Abort>(rt: &R, book: &str) -> Result<(), Fai
     Ok(())
 }
 
-/// Runs a row of a book.
+/// Drives a row of a book in order, unless its run gives a fault, and runs it.
 fn take_row<R: Wait + AllocGlobal + Abort>(rt: &R, title: &str, lines: &str) -> Result<(), Fail> {
     let alloc = rt.alloc();
     let mut row = Row::new(alloc)?;
@@ -47,6 +47,9 @@ fn take_row<R: Wait + AllocGlobal + Abort>(rt: &R, title: &str, lines: &str) -> 
             line.is_empty() || row.take(alloc, line)?,
             "{title}: {line}"
         );
+    }
+    if row.fault.is_empty() {
+        compare_driven(rt, title, &row)?;
     }
     run_row(rt, title, &mut row)
 }
@@ -65,29 +68,6 @@ fn run_line(rt: &impl Abort, alloc: Global, title: &str, lines: &str) -> Result<
         );
     }
     single.run(rt, alloc, title)
-}
-
-/// Runs the beginnings of a script, where it is steps alone. Its other lines make the inputs.
-fn take_script<R: Wait + AllocGlobal + Abort>(
-    rt: &R,
-    title: &str,
-    lines: &str,
-) -> Result<(), Fail> {
-    let alloc = rt.alloc();
-    let mut row = Row::new(alloc)?;
-    let mut script = Script::new(title, lines);
-    for line in lines.split('\n') {
-        if !line.contains(" = ") {
-            assert!(rt;
-                script.take(line) || row.take(alloc, line)?,
-                "{title}: {line}"
-            );
-        }
-    }
-    if script.given.is_empty() {
-        return Ok(());
-    }
-    run_beginnings(rt, &mut row, &script)
 }
 
 #[test]

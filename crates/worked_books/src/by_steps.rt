@@ -2,7 +2,7 @@
 
 use crate::book::inputs_of;
 use crate::checked::must_be;
-use replay_run::{Inputs, Output, Run, Step, Tables, one_thread, rebuild_by_steps};
+use replay_run::{Inputs, Output, Run, Step, one_thread, rebuild_by_steps};
 use std::alloc::{AllocError, AllocGlobal, Global};
 use std::process::Abort;
 use std::sync::Wait;
@@ -47,24 +47,29 @@ fn tell_output(alloc: Global, inputs: &Inputs, output: &Output) -> Result<String
 /// Whether an output is that of one thread, but for the attempts.
 fn is_that_of_one_thread(alloc: Global, inputs: &Inputs, output: &Output) -> bool {
     match one_thread(alloc, inputs) {
-        Ok(one) => {
-            one.sizes == output.sizes
-                && same_tables(&one.tables, &output.tables)
-                && one.answers.as_slice() == output.answers.as_slice()
-                && one.report.as_slice() == output.report.as_slice()
-                && one.passed.as_slice() == output.passed.as_slice()
-        }
+        Ok(one) => is_same(&one, output),
         Err(_) => false,
     }
 }
 
-fn same_tables(one: &Tables, other: &Tables) -> bool {
-    one.patrons.as_slice() == other.patrons.as_slice()
-        && one.items.as_slice() == other.items.as_slice()
-        && one.loans.as_slice() == other.loans.as_slice()
-        && one.fees.as_slice() == other.fees.as_slice()
-        && one.closed.as_slice() == other.closed.as_slice()
-        && one.holds.as_slice() == other.holds.as_slice()
+/// Whether two outputs have the same sizes and the same nine tables.
+fn is_same(one: &Output, other: &Output) -> bool {
+    for (one, other) in [
+        (&one.tables.patrons, &other.tables.patrons),
+        (&one.tables.items, &other.tables.items),
+        (&one.tables.loans, &other.tables.loans),
+        (&one.tables.fees, &other.tables.fees),
+        (&one.tables.closed, &other.tables.closed),
+        (&one.tables.holds, &other.tables.holds),
+        (&one.answers, &other.answers),
+        (&one.report, &other.report),
+        (&one.passed, &other.passed),
+    ] {
+        if one.as_slice() != other.as_slice() {
+            return false;
+        }
+    }
+    one.sizes == other.sizes
 }
 
 /// Runs each beginning of a script that is steps alone. Where its replies say that all lines are committed, the run must give

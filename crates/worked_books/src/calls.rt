@@ -10,7 +10,6 @@ use speculate::{Board, Hand, read_notes};
 use std::alloc::{AllocError, AllocGlobal, Global};
 use std::process::Abort;
 use std::sync::Wait;
-use std::test::Fail;
 use version_store::{Place, VersionTable};
 use worked_texts::shelf::key_in;
 
@@ -25,7 +24,7 @@ pub(crate) fn reply_to<'t, J: PlanName, R: Wait + AllocGlobal + Abort>(
     board: &mut Board<'_, 't, J>,
     kept: &mut Option<Place<'t, J>>,
     call: &str,
-) -> Result<String, Fail> {
+) -> Result<String, AllocError> {
     let alloc = rt.alloc();
     let (word, rest) = call.split_once(' ').unwrap_or((call, ""));
     let (first, rest) = rest.split_once(' ').unwrap_or((rest, ""));
@@ -39,7 +38,7 @@ pub(crate) fn reply_to<'t, J: PlanName, R: Wait + AllocGlobal + Abort>(
         "look" => look(alloc, board, worker, rest),
         "keep" => {
             *kept = put(rt, table, version_of(alloc, board, worker, "")?);
-            Ok(String::from_str(alloc, "kept")?)
+            String::from_str(alloc, "kept")
         }
         "publish" => {
             let place = place_of(rt, table, board, *kept, worker, rest)?;
@@ -64,14 +63,14 @@ fn tell_of<J: PlanName>(
     board: &Board<'_, '_, J>,
     word: &str,
     worker: u32,
-) -> Result<String, Fail> {
+) -> Result<String, AllocError> {
     match word {
         "choose" => tell_choice(alloc, board.choose()),
-        "clock" => Ok(format!(in alloc; "{}", board.clock())?),
-        "committed" => Ok(format!(in alloc; "{}", board.committed())?),
+        "clock" => format!(in alloc; "{}", board.clock()),
+        "committed" => format!(in alloc; "{}", board.committed()),
         "does" => match next_need(alloc, board, worker)? {
             Some(Need::Done(version)) => tell_version(alloc, &version),
-            _ => Ok(String::from_str(alloc, "nothing yet")?),
+            _ => String::from_str(alloc, "nothing yet"),
         },
         _ => {
             let mut text = String::new(alloc);
@@ -101,13 +100,13 @@ fn look<J: PlanName>(
     board: &mut Board<'_, '_, J>,
     worker: u32,
     rest: &str,
-) -> Result<String, Fail> {
+) -> Result<String, AllocError> {
     let key = match rest.strip_prefix("at ") {
         Some(key) => key_in(key),
         None => key_of(&next_need(alloc, board, worker)?),
     };
     let Some(key) = key else {
-        return Ok(String::from_str(alloc, "idle")?);
+        return String::from_str(alloc, "idle");
     };
     let reply = board.look(worker, &key);
     tell(alloc, id_of(&key), &reply)
@@ -130,7 +129,7 @@ fn place_of<'t, J: PlanName, R: Wait + AllocGlobal + Abort>(
     kept: Option<Place<'t, J>>,
     worker: u32,
     rest: &str,
-) -> Result<Option<Place<'t, J>>, Fail> {
+) -> Result<Option<Place<'t, J>>, AllocError> {
     if rest == "kept" {
         return Ok(kept);
     }
@@ -164,15 +163,24 @@ fn version_of<J: PlanName>(
         Some(other) => other.parse::<u32>().unwrap_or(u32::MAX),
         None => worker,
     };
-    let Some(Need::Done(version)) = next_need(alloc, board, other)? else {
-        return Ok(None);
+    match next_need(alloc, board, other)? {
+        Some(Need::Done(version)) => as_asked(alloc, version, rest),
+        _ => Ok(None),
+    }
+}
+
+/// The version, or the one of equal notes that is `writing` a record again, where that is asked for.
+fn as_asked<J: PlanName>(
+    alloc: Global,
+    version: Version<J>,
+    rest: &str,
+) -> Result<Option<Version<J>>, AllocError> {
+    let Some(key) = rest.strip_prefix("writing ") else {
+        return Ok(Some(version));
     };
-    match rest.strip_prefix("writing ") {
-        Some(key) => match key_in(key) {
-            Some(key) => writing_again(alloc, &version, &key),
-            None => Ok(None),
-        },
-        None => Ok(Some(version)),
+    match key_in(key) {
+        Some(key) => writing_again(alloc, &version, &key),
+        None => Ok(None),
     }
 }
 
@@ -182,13 +190,13 @@ fn publish<'t, J: PlanName>(
     board: &mut Board<'_, 't, J>,
     worker: u32,
     place: Option<Place<'t, J>>,
-) -> Result<String, Fail> {
+) -> Result<String, AllocError> {
     match place {
         Some(place) => {
             let reply = board.publish(worker, place);
             tell(alloc, "", &reply)
         }
-        None => Ok(String::from_str(alloc, "idle")?),
+        None => String::from_str(alloc, "idle"),
     }
 }
 
@@ -197,7 +205,7 @@ fn begin<J: PlanName>(
     alloc: Global,
     board: &mut Board<'_, '_, J>,
     worker: u32,
-) -> Result<String, Fail> {
+) -> Result<String, AllocError> {
     let (choice, reply) = board.begin(worker);
     let mut text = tell_choice(alloc, choice)?;
     if let Some(reply) = &reply {

@@ -1,7 +1,7 @@
 //! The calls of a script as lists of steps.
 
-use crate::calls::reply_to;
 use crate::checked::must_be;
+use crate::script::play_call;
 use crate::sight::sight;
 use read_set::PlanName;
 use speculate::{Board, BoardFault, Halt, Step, play};
@@ -62,13 +62,12 @@ pub(crate) fn play_lists<'t, J: PlanName, R: Wait + AllocGlobal + Abort>(
             } else {
                 play_list(rt, table, board, &list, size, title)?;
                 list = List::new(alloc);
-                let told = reply_to(rt, table, board, &mut kept, call)?;
-                must_be(rt, told.as_str(), wanted, title, line);
+                play_call(rt, table, board, &mut kept, title, line)?;
             }
         }
     }
     play_list(rt, table, board, &list, size, title)?;
-    sight(alloc, board)
+    Ok(sight(alloc, board)?)
 }
 
 /// Plays a list in parts of so many steps, and passes over a step at which it halts.

@@ -6,19 +6,17 @@ use sip_answer::write_answer;
 use speculate::{Choice, Reply};
 use std::alloc::{AllocError, Global};
 use std::str::from_utf8;
-use std::test::Fail;
 use version_store::Found;
 use worked_texts::shelf::tell_record;
 
-pub(crate) fn tell_choice(alloc: Global, choice: Choice) -> Result<String, Fail> {
-    let text = match choice {
-        Choice::Commit(line) => format!(in alloc; "commit {line}")?,
-        Choice::Check(line) => format!(in alloc; "check {line}")?,
-        Choice::Take(line) => format!(in alloc; "take {line}")?,
-        Choice::Nothing => String::from_str(alloc, "nothing")?,
-        Choice::End => String::from_str(alloc, "end")?,
-    };
-    Ok(text)
+pub(crate) fn tell_choice(alloc: Global, choice: Choice) -> Result<String, AllocError> {
+    match choice {
+        Choice::Commit(line) => format!(in alloc; "commit {line}"),
+        Choice::Check(line) => format!(in alloc; "check {line}"),
+        Choice::Take(line) => format!(in alloc; "take {line}"),
+        Choice::Nothing => String::from_str(alloc, "nothing"),
+        Choice::End => String::from_str(alloc, "end"),
+    }
 }
 
 /// The id of a key.
@@ -46,21 +44,21 @@ pub(crate) fn tell<J: PlanName>(
     alloc: Global,
     id: &str,
     reply: &Reply<'_, J>,
-) -> Result<String, Fail> {
+) -> Result<String, AllocError> {
     match reply {
         Reply::Seen { name, .. } => {
             let name = tell_name(alloc, *name)?;
-            Ok(format!(in alloc; "seen {id} {name}")?)
+            format!(in alloc; "seen {id} {name}")
         }
-        Reply::Taken { attempt } => Ok(format!(in alloc; "taken {attempt}")?),
-        Reply::Suspect { line } => Ok(format!(in alloc; "suspect {line}")?),
-        Reply::Attempts { line } => Ok(format!(in alloc; "attempts {line}")?),
+        Reply::Taken { attempt } => format!(in alloc; "taken {attempt}"),
+        Reply::Suspect { line } => format!(in alloc; "suspect {line}"),
+        Reply::Attempts { line } => format!(in alloc; "attempts {line}"),
         Reply::Changed { key, noted, found } => {
             let noted = tell_name(alloc, *noted)?;
             let found = tell_found(alloc, *found)?;
-            Ok(format!(in alloc; "changed {} {noted} {found}", id_of(key))?)
+            format!(in alloc; "changed {} {noted} {found}", id_of(key))
         }
-        _ => Ok(String::from_str(alloc, word_of(reply))?),
+        _ => String::from_str(alloc, word_of(reply)),
     }
 }
 
@@ -85,7 +83,7 @@ fn word_of<J: PlanName>(reply: &Reply<'_, J>) -> &'static str {
 pub(crate) fn tell_version<J: PlanName>(
     alloc: Global,
     version: &Version<J>,
-) -> Result<String, Fail> {
+) -> Result<String, AllocError> {
     let mut text = String::new(alloc);
     if let Some(answer) = version.answer() {
         let bytes = write_answer(alloc, answer, None)?;

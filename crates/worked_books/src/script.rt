@@ -9,7 +9,7 @@ use crate::lists::play_lists;
 use crate::sight::sight;
 use read_set::{Plan, PlanName};
 use speculate::Board;
-use std::alloc::AllocGlobal;
+use std::alloc::{AllocError, AllocGlobal};
 use std::marker::Brand;
 use std::process::Abort;
 use std::sync::Wait;
@@ -81,27 +81,41 @@ fn play<J: PlanName, R: Wait + AllocGlobal + Abort>(
     }
 }
 
-/// Plays the calls of a script. What is refused must leave the board as it was, as far as it is seen. What is seen at the end.
+/// Plays the calls of a script. What is seen at the end.
 fn play_on<'t, J: PlanName, R: Wait + AllocGlobal + Abort>(
     rt: &R,
     table: &'t VersionTable<J>,
     board: &mut Board<'_, 't, J>,
     script: &Script<'_>,
 ) -> Result<String, Fail> {
-    let title = script.title;
     let mut kept: Option<Place<'t, J>> = None;
     for line in script.lines.split('\n') {
-        if let Some((call, wanted)) = line.split_once(" = ") {
-            let before = sight(rt.alloc(), board)?;
-            let told = reply_to(rt, table, board, &mut kept, call)?;
-            must_be(rt, told.as_str(), wanted, title, line);
-            if is_refusal(wanted) {
-                let after = sight(rt.alloc(), board)?;
-                must_be(rt, after.as_str(), before.as_str(), title, line);
-            }
+        if line.contains(" = ") {
+            play_call(rt, table, board, &mut kept, script.title, line)?;
         }
     }
-    sight(rt.alloc(), board)
+    Ok(sight(rt.alloc(), board)?)
+}
+
+/// Plays a call of a script, which stands before its reply in a line. What is refused must leave the board as it was, as far as
+/// it is seen.
+pub(crate) fn play_call<'t, J: PlanName, R: Wait + AllocGlobal + Abort>(
+    rt: &R,
+    table: &'t VersionTable<J>,
+    board: &mut Board<'_, 't, J>,
+    kept: &mut Option<Place<'t, J>>,
+    title: &str,
+    line: &str,
+) -> Result<(), AllocError> {
+    let (call, wanted) = line.split_once(" = ").unwrap_or((line, ""));
+    let before = sight(rt.alloc(), board)?;
+    let told = reply_to(rt, table, board, kept, call)?;
+    must_be(rt, told.as_str(), wanted, title, line);
+    if is_refusal(wanted) {
+        let after = sight(rt.alloc(), board)?;
+        must_be(rt, after.as_str(), before.as_str(), title, line);
+    }
+    Ok(())
 }
 
 /// Whether a call with this reply changes nothing. The reply to a `begin` stands behind its choice.

@@ -4,11 +4,13 @@ use crate::replies::{id_of, tell_choice, tell_name};
 use read_set::PlanName;
 use speculate::{Board, Hand};
 use std::alloc::{AllocError, Global};
-use std::test::Fail;
 use worked_texts::script::WORKERS;
 
 /// What is seen of a board: its counts, its clock, the choice of a free worker, and what each worker has in hand.
-pub(crate) fn sight<J: PlanName>(alloc: Global, board: &Board<'_, '_, J>) -> Result<String, Fail> {
+pub(crate) fn sight<J: PlanName>(
+    alloc: Global,
+    board: &Board<'_, '_, J>,
+) -> Result<String, AllocError> {
     let mut text = tell_choice(alloc, board.choose())?;
     text.push_str(", ")?;
     tell_counts(&mut text, board)?;
@@ -36,21 +38,34 @@ fn tell_hand<J: PlanName>(
     text: &mut String,
     board: &Board<'_, '_, J>,
     worker: u32,
-) -> Result<(), Fail> {
+) -> Result<(), AllocError> {
     let Some(Hand { line, attempt }) = board.hand(worker) else {
         return Ok(());
     };
     write!(text, "; {worker} has {line}.{attempt}")?;
-    if let Some(noted) = board.notes(worker) {
-        for i in 0..noted.len() {
-            if let Some((key, name)) = noted.named(i) {
-                write!(text, " {} {}", id_of(&key), tell_name(alloc, name)?)?;
-            }
+    tell_noted(alloc, text, board, worker)?;
+    let Some(place) = board.placing(worker) else {
+        return Ok(());
+    };
+    let version = place.show();
+    write!(text, " placing {}.{}", version.line(), version.attempt())
+}
+
+/// What the worker has noted.
+fn tell_noted<J: PlanName>(
+    alloc: Global,
+    text: &mut String,
+    board: &Board<'_, '_, J>,
+    worker: u32,
+) -> Result<(), AllocError> {
+    let Some(noted) = board.notes(worker) else {
+        return Ok(());
+    };
+    for i in 0..noted.len() {
+        if let Some((key, name)) = noted.named(i) {
+            let name = tell_name(alloc, name)?;
+            write!(text, " {} {name}", id_of(&key))?;
         }
-    }
-    if let Some(place) = board.placing(worker) {
-        let version = place.show();
-        write!(text, " placing {}.{}", version.line(), version.attempt())?;
     }
     Ok(())
 }

@@ -1,9 +1,15 @@
-use Rattle.std.proofs.Common.{Bool, not, ◌||◌, eqb, ap, sym, subst, ◌∙◌}
+use Rattle.std.proofs.Common.{◌≡◌, Bool, not, ◌||◌, eqb, ap, sym, subst, ◌∙◌}
+use Rattle.board_steps.specs.Board.{Board}
+use Rattle.board_steps.specs.Steps.{CheckStep}
+use Rattle.board_steps.specs.Steps.Call.{Check}
+use Rattle.board_steps.specs.Steps.Reply.{Changed, Same, Whole}
+use Rattle.board_lines.specs.Replies.{Answers}
 use Rattle.speculate.specs.declared.ready.Mark.TheVariants as marks
 use Rattle.speculate.specs.Marks.{Puts, SendsBack, ended, has_position}
 use Rattle.speculate.proofs.Readying.{position_is, puts_at}
-use Rattle.speculate.proofs.Calling.{differs_if, same_if, same_begin, same_goes_on, whole_ready, failed_ready}
+use Rattle.speculate.proofs.Calling.{check_other, differs_if, same_if, same_begin, same_goes_on, whole_ready, failed_ready}
 use Rattle.speculate.proofs.board.Board.check.Goals as goal
+use Rattle.speculate.proofs.board.Board.check.Goals.{then-begins, else-begins}
 
 -- the check begins
 pub invariant_of-self : goal.invariant_of-self
@@ -38,3 +44,24 @@ invariant_of-self-in-Changed g c =
     (λ h. sym c.clock.ensures ∙ same_if c.clock.result c.clock-clock.result h ∙ c.clock-clock.ensures)
     c.self.invariant
     (subst (λ p. SendsBack r c.send_back.new.self p changes) at c.send_back.ensures)
+
+pub invariant_of-self-in_default : goal.invariant_of-self-in_default
+invariant_of-self-in_default g c =
+    check_other g.J.PlanName.plan c.self.inside.lines c.check.new.self c.args.worker c.args.line c.self.inside.ready c.check.result
+    c.in_default.not-Same c.in_default.not-Whole c.in_default.not-Changed c.check.ensures c.self.invariant
+
+pub returns-in-Whole : goal.returns-in-Whole
+returns-in-Whole g c = subst (λ (b : Board). CheckStep b c.args.worker c.args.line Whole c.check.new.self) c.self.view_is c.in-Whole.ensures
+
+pub returns-in-Changed : goal.returns-in-Changed
+returns-in-Changed g c =
+    subst (λ (b : Board). CheckStep b c.args.worker c.args.line (Changed c.in-Changed.key c.in-Changed.noted c.in-Changed.found) c.check.new.self) c.self.view_is c.in-Changed.ensures
+
+pub returns-in_default : goal.returns-in_default
+returns-in_default g c = subst (λ (b : Board). Answers g.J.PlanName.plan b (Check c.args.worker c.args.line) c.check.result c.check.new.self) c.self.view_is c.check.ensures
+
+pub returns-after-begins : goal.returns-after-begins
+returns-after-begins g c =
+    let is : c.if-begins.self ≡ c.check.new.self = elim c.if-begins.branch [ then-begins w ↦ w.self-is | else-begins w ↦ w.self-is ] in
+    subst (λ (b : Board). CheckStep b c.args.worker c.args.line Same c.if-begins.self) c.self.view_is
+    (subst (λ (b : Board). CheckStep c.self.inside.lines c.args.worker c.args.line Same b) (sym is) c.in-Same.ensures)

@@ -1,11 +1,13 @@
 use Rattle.std.proofs.Common.{subst}
 use Rattle.board_steps.specs.Board.{Board}
 use Rattle.board_steps.specs.Steps.{PublishStep}
-use Rattle.board_steps.specs.Steps.Reply.{Placed, Lifted}
+use Rattle.board_steps.specs.Steps.Call.{Publish}
+use Rattle.board_steps.specs.Steps.Reply.{Idle, Placed, Lifted, Whole}
 use Rattle.board_lines.specs.Notes.{contents_at}
+use Rattle.board_lines.specs.Replies.{Answers}
 use Rattle.speculate.specs.declared.ready.Mark.TheVariants as marks
 use Rattle.speculate.proofs.Readying.{puts_at, loses_at}
-use Rattle.speculate.proofs.Calling.{placed_ready, lifted_ready, published_ready}
+use Rattle.speculate.proofs.Calling.{placed_ready, lifted_ready, publish_idle, publish_other, published_ready}
 use Rattle.speculate.proofs.board.Board.publish.Goals as goal
 
 pub invariant_of-self : goal.invariant_of-self
@@ -34,3 +36,19 @@ returns-in-Placed g c = subst (λ (b : Board). PublishStep b c.args.worker (cont
 
 pub returns-in-Lifted : goal.returns-in-Lifted
 returns-in-Lifted g c = subst (λ (b : Board). PublishStep b c.args.worker (contents_at c.args.place) Lifted c.publish.new.self) c.self.view_is c.in-Lifted.ensures
+
+pub invariant_of-self-in_default-publish : goal.invariant_of-self-in_default-publish
+invariant_of-self-in_default-publish g c =
+    publish_other g.J.PlanName.plan c.self.inside.lines c.publish.new.self c.args.worker (contents_at c.args.place) c.self.inside.ready c.publish.result
+    c.in_default-publish.not-Placed c.in_default-publish.not-Lifted c.in_default-publish.not-Whole c.publish.ensures c.self.invariant
+
+pub returns-in_default : goal.returns-in_default
+returns-in_default g c =
+    subst (λ (b : Board). PublishStep b c.args.worker (contents_at c.args.place) Idle b) c.self.view_is (publish_idle c.self.inside.lines c.args.worker (contents_at c.args.place) c.in_default.ensures)
+
+pub returns-in-Whole : goal.returns-in-Whole
+returns-in-Whole g c = subst (λ (b : Board). PublishStep b c.args.worker (contents_at c.args.place) Whole c.publish.new.self) c.self.view_is c.in-Whole.ensures
+
+pub returns-in_default-publish : goal.returns-in_default-publish
+returns-in_default-publish g c =
+    subst (λ (b : Board). Answers g.J.PlanName.plan b (Publish c.args.worker (contents_at c.args.place)) c.publish.result c.publish.new.self) c.self.view_is c.publish.ensures

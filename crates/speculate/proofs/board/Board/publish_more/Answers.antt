@@ -11,7 +11,7 @@ use Rattle.board_lines.specs.Replies.{Answers}
 use Rattle.speculate.specs.declared.ready.Mark.TheVariants as marks
 use Rattle.board_lines.specs.declared.reply.Reply.TheVariants as replies
 use Rattle.speculate.proofs.Readying.{is_position, puts_at, loses_at}
-use Rattle.speculate.proofs.Calling.{hand_line, placed_ready, lifted_ready, published_ready}
+use Rattle.speculate.proofs.Calling.{hand_line, placed_ready, lifted_ready, publish_other, published_ready}
 use Rattle.speculate.proofs.board.Board.publish_more.Goals as goal
 
 pub lose_above-requires : goal.lose_above-requires
@@ -117,3 +117,10 @@ pub returns-in_default-reply : goal.returns-in_default-reply
 returns-in_default-reply g c =
     let more : PublishesMore g.J.PlanName.plan c.self.inside.lines c.args.worker (Some c.in-Some-publish_more.reply) c.publish_more.new.self = c.in-Some-publish_more.ensures in
     subst (λ (b : Board). PublishesMore g.J.PlanName.plan b c.args.worker (Some c.in-Some-publish_more.reply) c.publish_more.new.self) c.self.view_is more
+
+pub invariant_of-self-in_default-reply : goal.invariant_of-self-in_default-reply
+invariant_of-self-in_default-reply g c =
+    let plan = g.J.PlanName.plan in
+    let more : PublishesMore plan c.self.inside.lines c.args.worker (Some c.in-Some-publish_more.reply) c.publish_more.new.self = c.in-Some-publish_more.ensures in
+    publish_other plan c.self.inside.lines c.publish_more.new.self c.args.worker more.0 c.self.inside.ready c.in-Some-publish_more.reply
+    c.in_default-reply.not-Placed c.in_default-reply.not-Lifted c.in_default-reply.not-Whole more.3 c.self.invariant

@@ -6,9 +6,24 @@ use Rattle.board_steps.specs.Steps.Reply.{Idle, Placed, Lifted, Whole}
 use Rattle.board_lines.specs.Notes.{contents_at}
 use Rattle.board_lines.specs.Replies.{Answers}
 use Rattle.speculate.specs.declared.ready.Mark.TheVariants as marks
-use Rattle.speculate.proofs.Readying.{puts_at, loses_at}
-use Rattle.speculate.proofs.Calling.{placed_ready, lifted_ready, publish_idle, publish_other, published_ready}
+use Rattle.speculate.proofs.Readying.{is_position, puts_at, loses_at}
+use Rattle.speculate.proofs.Calling.{hand_line, placed_ready, lifted_ready, publish_idle, publish_other, published_ready}
 use Rattle.speculate.proofs.board.Board.publish.Goals as goal
+
+pub lose_above-requires : goal.lose_above-requires
+lose_above-requires g c =
+    is_position g.J.PlanName.plan c.plan-plan.result.now c.self.inside.lines c.position_of.result c.in-Some.hand.line c.position_of.ensures c.plan-plan.ensures.plan c.plan-plan.ensures.reached
+    c.self.inside.ready c.self.invariant (hand_line c.self.inside.lines c.args.worker c.in-Some.hand c.in-Some.ensures)
+
+pub lose_above-requires-in-Lifted : goal.lose_above-requires-in-Lifted
+lose_above-requires-in-Lifted g c =
+    is_position g.J.PlanName.plan c.plan-plan.result.now c.self.inside.lines c.position_of-in-Lifted.result c.in-Some.hand.line c.position_of-in-Lifted.ensures c.plan-plan.ensures.plan c.plan-plan.ensures.reached
+    c.self.inside.ready c.self.invariant (hand_line c.self.inside.lines c.args.worker c.in-Some.hand c.in-Some.ensures)
+
+pub put-requires : goal.put-requires
+put-requires g c =
+    is_position g.J.PlanName.plan c.plan-plan.result.now c.self.inside.lines c.position_of-in-Whole.result c.in-Some.hand.line c.position_of-in-Whole.ensures c.plan-plan.ensures.plan c.plan-plan.ensures.reached
+    c.self.inside.ready c.self.invariant (hand_line c.self.inside.lines c.args.worker c.in-Some.hand c.in-Some.ensures)
 
 pub invariant_of-self : goal.invariant_of-self
 invariant_of-self g c =

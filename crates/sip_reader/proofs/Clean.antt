@@ -1,9 +1,9 @@
 -- What passes the tests of its layout holds ids, texts and amounts.
-use Rattle.std.proofs.Common.{ℕ, ◌≡◌, Bool, true, false, cond, not, ◌||◌, ◌&&◌, List, [], ◌∷◌, length, eqb, leb, ltb, Option, Some, None, refl, ap, ◌⊎◌, inl, inr, arith}
+use Rattle.std.proofs.Common.{ℕ, ◌≤◌, ◌≡◌, Bool, true, false, cond, not, ◌||◌, ◌&&◌, List, [], ◌∷◌, length, eqb, leb, ltb, Option, Some, None, refl, ap, ◌⊎◌, inl, inr, arith}
 use Rattle.std.specs.Prelude.{unwrap_or}
 use Rattle.std.specs.List.{list_any, onto_first}
 use Rattle.std.specs.Option.{is_none, option_and_then}
-use Rattle.std.proofs.lemmas.Bool.{or_parts, or_from, and_from, cond_both, not_from_false, ltb-false, eqb-false, le-leb}
+use Rattle.std.proofs.lemmas.Bool.{or_parts, or_from, and_from, and_parts, leb-true, cond_both, not_from_false, ltb-false, eqb-false, le-leb}
 use Rattle.sip_reader.specs.Fields.{field, text_after, or_else, texts, pieces, Texts}
 use Rattle.sip_reader.specs.Texts.{is_line_end, is_barred, is_id, is_text}
 use Rattle.sip_reader.specs.Amounts.{amount_of}
@@ -71,6 +71,15 @@ text_fits : (v : List ℕ) → ltb 1024 (length v) ≡ false → list_any is_bar
 unfolding is_text
 text_fits v short bars =
     and_from (leb (length v) 1024) (not (list_any is_barred v)) (le-leb (length v) 1024 (ltb-false 1024 (length v) short)) (not_from_false (list_any is_barred v) bars)
+
+-- an id is a text
+pub id_is_text : (v : List ℕ) → is_id v ≡ true → is_text v ≡ true
+unfolding is_id is_text
+id_is_text v valid =
+    let (some, rest) = and_parts (leb 1 (length v)) (leb (length v) 64 && not (list_any is_barred v)) valid in
+    let (short, clean) = and_parts (leb (length v) 64) (not (list_any is_barred v)) rest in
+    let fits : length v ≤ 64 = leb-true (length v) 64 short in
+    and_from (leb (length v) 1024) (not (list_any is_barred v)) (le-leb (length v) 1024 (omega arith)) clean
 
 used : (x y : Bool) → x ≡ true → (x && y) ≡ false → y ≡ false
 used true y e h = h

@@ -1,6 +1,6 @@
 //! Ids of patrons, items and fees.
 
-ghost use Rattle.std.specs.Prelude.{◌≡◌, ◌≤◌, if◌then◌else◌, Some, None, length, IsTrue};
+ghost use Rattle.std.specs.Prelude.{◌≡◌, ◌≤◌, if◌then◌else◌, Some, None, length, true, IfOk, IsTrue};
 ghost use Rattle.std.specs.Cmp.{partial_order_from_own_ties};
 ghost use Rattle.std.specs.Cmp.Lexicographic.{slice_cmp};
 ghost use Rattle.std.specs.Cmp.Rules.{comparing};
@@ -10,7 +10,9 @@ ghost use Rattle.std.proofs.Common.{rules};
 ghost use Rattle.sip_reader.specs.Texts.{fee_id, is_barred, is_id};
 
 use crate::short::Short;
+use crate::text::Text;
 use itoa::Buffer;
+use std::alloc::{AllocError, Global};
 use std::cmp::Ordering;
 use std::marker::Model;
 
@@ -73,6 +75,15 @@ impl Id {
         ensures { result.now ≡ self.now }
     {
         self.bytes.as_bytes()
+    }
+
+    /// Its bytes as a text.
+    pub(crate) fn to_text(&self, alloc: Global) -> Result<Text, AllocError>
+        ensures text { IfOk result (λ t. t ≡ self.now) }
+        ensures valid { is_id self.now ≡ true }
+    {
+        let Id { bytes } = self;
+        Text::new(alloc, bytes.as_bytes())
     }
 }
 

@@ -1,0 +1,63 @@
+//! Ids that are kept.
+
+ghost use Rattle.std.specs.Prelude.{◌≡◌, IfOk};
+
+use crate::id::Id;
+use crate::text::Text;
+use std::alloc::{AllocError, Global};
+use std::marker::Model;
+
+/// An id as readings and answers keep it: in half the room of an `Id`, which has room for the longest one in place. A longer one
+/// than most has memory of its own, so this isn't `Copy`.
+pub struct KeptId {
+    text: Text,
+}
+
+impl Drop for KeptId {
+    fn drop(self) {
+        let KeptId { text: _ } = self;
+    }
+}
+
+impl Model for KeptId {
+    ghost use Rattle.std.specs.Prelude.{ℕ, List, ◌≡◌, true};
+    ghost use Rattle.sip_reader.specs.Texts.{is_id};
+
+    ghost Value = { List ℕ };
+
+    ghost view = { λ k. k.text };
+
+    ghost invariant = { λ k. is_id k.text ≡ true };
+}
+
+impl KeptId {
+    /// The same id, kept.
+    pub fn new(alloc: Global, id: &Id) -> Result<KeptId, AllocError>
+        ensures { IfOk result (λ kept. kept ≡ id.now) }
+    {
+        let text = id.to_text(alloc)?;
+        Ok(KeptId { text })
+    }
+
+    /// The id.
+    pub fn id(&self) -> Id
+        ensures { result ≡ self.now }
+    {
+        Id::new(self.text.as_bytes()).unwrap()
+    }
+
+    /// Its bytes.
+    pub fn as_bytes(&self) -> &[u8]
+        ensures { result.now ≡ self.now }
+    {
+        self.text.as_bytes()
+    }
+
+    /// The same id.
+    pub fn copy(&self, alloc: Global) -> Result<KeptId, AllocError>
+        ensures { IfOk result (λ kept. kept ≡ self.now) }
+    {
+        let text = self.text.copy(alloc)?;
+        Ok(KeptId { text })
+    }
+}

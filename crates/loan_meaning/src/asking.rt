@@ -16,8 +16,8 @@ pub fn ask_checkout(request: &Checkout) -> LoanRequest
     ensures { result ≡ by_checkout request.now }
 {
     LoanRequest {
-        patron: request.patron,
-        item: request.item,
+        patron: request.patron.id(),
+        item: request.item.id(),
         third_party: false,
         forced: request.no_block || request.cancel,
         given: request.due,
@@ -32,8 +32,8 @@ pub fn ask_renew(request: &Renew) -> LoanRequest
     ensures { result ≡ by_renew request.now }
 {
     LoanRequest {
-        patron: request.patron,
-        item: request.item,
+        patron: request.patron.id(),
+        item: request.item.id(),
         third_party: request.third_party,
         forced: request.no_block,
         given: request.due,

@@ -17,20 +17,20 @@ use circ_policy::{Media, Policy, late_fee};
 use circ_records::{FeeType, Item, Key, Loan, Patron, Record};
 use read_set::{Article, Draft, Effect, Member, Source, Stop};
 use sip_answer::{Answer, CheckinAnswer, ReturnedItem};
-use sip_reader::{Amount, Checkin, Day, Id, Stamp};
+use sip_reader::{Amount, Checkin, Day, Id, KeptId, Stamp};
 use std::alloc::{AllocError, Global};
 
-fn tell_unknown(line: &Line<'_>, request: &Checkin) -> Answer
-    ensures { result ≡ checkin_answer line.now.policy.now request.now line.now.date None None }
+fn tell_unknown(line: &Line<'_>, request: &Checkin) -> Result<Answer, AllocError>
+    ensures { IfOk result (λ a. a ≡ checkin_answer line.now.policy.now request.now line.now.date None None) }
 {
-    Answer::Checkin(CheckinAnswer {
+    Ok(Answer::Checkin(CheckinAnswer {
         date: line.date,
-        institution: line.policy.institution(),
-        item: request.item,
+        institution: KeptId::new(line.alloc, &line.policy.institution())?,
+        item: request.item.copy(line.alloc)?,
         known: None,
         borrower: None,
         alert: false,
-    })
+    }))
 }
 
 fn show(alloc: Global, item: &Item) -> Result<ReturnedItem, AllocError>
@@ -48,14 +48,14 @@ fn tell(
     line: &Line<'_>,
     request: &Checkin,
     article: &Article,
-    borrower: Option<Id>,
+    borrower: Option<KeptId>,
 ) -> Result<Answer, AllocError>
     ensures { IfOk result (λ a. a ≡ checkin_answer line.now.policy.now request.now line.now.date (Some article.now.item) borrower) }
 {
     Ok(Answer::Checkin(CheckinAnswer {
         date: line.date,
-        institution: line.policy.institution(),
-        item: request.item,
+        institution: KeptId::new(line.alloc, &line.policy.institution())?,
+        item: request.item.copy(line.alloc)?,
         known: Some(show(line.alloc, article.item.get())?),
         borrower,
         alert: has_queue(article.item.get().holds.as_slice()),
@@ -155,9 +155,10 @@ fn end_loan(
 ) -> Result<Effect, AllocError>
     ensures { IfOk result (λ e. e ≡ returned line.now.policy.now line.now.number request.now line.now.date article member (Some loan.now)) }
 {
-    let answer = tell(line, request, &article, Some(loan.patron))?;
+    let borrower = KeptId::new(line.alloc, &loan.patron)?;
+    let answer = tell(line, request, &article, Some(borrower))?;
     let fee = lateness_of(request, line.date, loan, &article.media);
-    let writes = write_return(line, &request.item, fee, article, member, loan)?;
+    let writes = write_return(line, &request.item.id(), fee, article, member, loan)?;
     Ok(Effect {
         writes: writes.finish(line.alloc)?,
         answer: Some(answer),
@@ -192,7 +193,7 @@ fn end(
     ensures { IfOk result (λ e. e ≡ checked_in line.now.policy.now line.now.number request.now line.now.date article member) }
 {
     let Some(article) = article else {
-        let answer = tell_unknown(line, request);
+        let answer = tell_unknown(line, request)?;
         return Ok(Effect::unwritten(line.alloc, Some(answer)));
     };
     let loan = loan_in(&article);
@@ -222,7 +223,7 @@ pub fn check_in<S: Source>(
     ensures means { IfOk result (λ e. (M : Map) → Agrees (S.has source.new) M → e ≡ checkin policy.now n request.now date M) }
     ensures keeps { Gains (S.has source.old) (S.has source.new) (checkin_rule policy.now n request.now date) }
 {
-    let article = item_of(alloc, policy, source, &request.item)?;
+    let article = item_of(alloc, policy, source, &request.item.id())?;
     let loan = any_loan(&article);
     let member = borrower_of(alloc, policy, source, loan)?;
     let line = Line {

@@ -247,7 +247,7 @@ fn lend<S: Source>(
 fn is_renewal(request: &Checkout, article: &Article) -> bool
     ensures { result ≡ (request.now.renewal && lent_to request.now.patron article.now.item.loan) }
 {
-    request.renewal && has_lent_to(&request.patron, article.item.get().loan)
+    request.renewal && has_lent_to(&request.patron.id(), article.item.get().loan)
 }
 
 #[tactic(auto, using(read_set::proofs::Gaining::gains_none, read_set::proofs::Gaining::gains_first))]
@@ -296,8 +296,8 @@ pub fn check_out<S: Source>(
     ensures means { IfOk result (λ e. (M : Map) → Agrees (S.has source.new) M → e ≡ checkout policy.now n request.now date M) }
     ensures keeps { Gains (S.has source.old) (S.has source.new) (checkout_rule policy.now n request.now date) }
 {
-    let member = patron_of(alloc, policy, source, &request.patron)?;
-    let article = item_of(alloc, policy, source, &request.item)?;
+    let member = patron_of(alloc, policy, source, &request.patron.id())?;
+    let article = item_of(alloc, policy, source, &request.item.id())?;
     let line = Line {
         alloc,
         policy,

@@ -26,14 +26,14 @@ use read_set::{
     Article, Draft, Effect, LoanRequest, Member, Renewals, Source, Stop, Verdict, known_item,
 };
 use sip_answer::{Answer, ItemIds, RenewAllAnswer};
-use sip_reader::{Amount, Day, Id, RenewAll, Stamp};
+use sip_reader::{Amount, Day, Id, KeptId, RenewAll, Stamp};
 use std::alloc::{AllocError, Global};
 
 fn ask_for(request: &RenewAll, item: Id) -> LoanRequest
     ensures { result ≡ by_renew_all request.now item }
 {
     LoanRequest {
-        patron: request.patron,
+        patron: request.patron.id(),
         item,
         third_party: false,
         forced: false,
@@ -225,16 +225,21 @@ fn take_turns<S: Source>(
     Ok(done)
 }
 
-fn tell(line: &Line<'_>, ok: bool, renewed: ItemIds, unrenewed: ItemIds) -> Answer
-    ensures { result ≡ renew_all_answer line.now.policy.now line.now.date ok renewed unrenewed }
+fn tell(
+    line: &Line<'_>,
+    ok: bool,
+    renewed: ItemIds,
+    unrenewed: ItemIds,
+) -> Result<Answer, AllocError>
+    ensures { IfOk result (λ a. a ≡ renew_all_answer line.now.policy.now line.now.date ok renewed unrenewed) }
 {
-    Answer::RenewAll(RenewAllAnswer {
+    Ok(Answer::RenewAll(RenewAllAnswer {
         date: line.date,
-        institution: line.policy.institution(),
+        institution: KeptId::new(line.alloc, &line.policy.institution())?,
         ok,
         renewed,
         unrenewed,
-    })
+    }))
 }
 
 #[tactic(auto, unfolding(read_set::specs::RenewAlls::all_renewed))]
@@ -250,11 +255,11 @@ fn finish(line: &Line<'_>, request: &RenewAll, done: Renewals) -> Result<Effect,
     } = done;
     if made > 0 {
         let patron = Record::Patron(member.into_patron());
-        writes.put(Key::Patron(request.patron), patron)?;
+        writes.put(Key::Patron(request.patron.id()), patron)?;
     }
     Ok(Effect {
         writes: writes.finish(line.alloc)?,
-        answer: Some(tell(line, true, renewed, others)),
+        answer: Some(tell(line, true, renewed, others)?),
     })
 }
 
@@ -287,7 +292,7 @@ fn renew_any<S: Source>(
         Some(member) => renew_each(line, request, member, source),
         None => {
             let alloc = line.alloc;
-            let none = tell(line, false, ItemIds::new(alloc), ItemIds::new(alloc));
+            let none = tell(line, false, ItemIds::new(alloc), ItemIds::new(alloc))?;
             Ok(Effect::unwritten(alloc, Some(none)))
         }
     }
@@ -307,7 +312,7 @@ pub fn renew_all<S: Source>(
     ensures means { IfOk result (λ e. (M : Map) → Agrees (S.has source.new) M → e ≡ renew_all policy.now n request.now date M) }
     ensures keeps { Gains (S.has source.old) (S.has source.new) (renew_all_rule policy.now n request.now date) }
 {
-    let member = patron_of(alloc, policy, source, &request.patron)?;
+    let member = patron_of(alloc, policy, source, &request.patron.id())?;
     let line = Line {
         alloc,
         policy,

@@ -8,7 +8,7 @@ use crate::fees::{has_amount, nothing};
 use circ_records::Item;
 use read_set::{Article, Effect};
 use sip_answer::{Answer, KnownItem, LoanAnswer};
-use sip_reader::{Amount, Day};
+use sip_reader::{Amount, Day, KeptId};
 use std::alloc::{AllocError, Global};
 
 fn show(alloc: Global, item: &Item) -> Result<KnownItem, AllocError>
@@ -37,21 +37,21 @@ fn tell(
     due: Option<Day>,
     renewed: bool,
     rental: Amount,
-) -> LoanAnswer
-    ensures { result ≡ loan_answer_of asked.now.policy.now asked.now.request asked.now.date known due renewed rental }
+) -> Result<LoanAnswer, AllocError>
+    ensures { IfOk result (λ answer. answer ≡ loan_answer_of asked.now.policy.now asked.now.request asked.now.date known due renewed rental) }
 {
-    LoanAnswer {
+    Ok(LoanAnswer {
         date: asked.date,
-        institution: asked.policy.institution(),
-        patron: asked.request.patron,
-        item: asked.request.item,
+        institution: KeptId::new(asked.alloc, &asked.policy.institution())?,
+        patron: KeptId::new(asked.alloc, &asked.request.patron)?,
+        item: KeptId::new(asked.alloc, &asked.request.item)?,
         known,
         due,
         due_form: asked.policy.due_form(),
         renewed,
         rental: tell_rental(rental),
         currency: asked.policy.currency(),
-    }
+    })
 }
 
 fn answer(checkout: bool, parts: LoanAnswer) -> Answer
@@ -75,7 +75,7 @@ pub fn tell_made(
     ensures { IfOk result (λ answer. answer ≡ loan_answer asked.now.policy.now asked.now.request asked.now.date (Some article.now.item) (Some due) renewed charge) }
 {
     let known = show(asked.alloc, article.item.get())?;
-    let parts = tell(asked, Some(known), Some(due), renewed, charge);
+    let parts = tell(asked, Some(known), Some(due), renewed, charge)?;
     Ok(answer(asked.request.checkout, parts))
 }
 
@@ -92,7 +92,7 @@ pub fn refuse_for(
         Some(article) => Some(show(asked.alloc, article.item.get())?),
         None => None,
     };
-    let parts = tell(asked, known, None, false, rental);
+    let parts = tell(asked, known, None, false, rental)?;
     let answer = answer(asked.request.checkout, parts);
     Ok(Effect::unwritten(asked.alloc, Some(answer)))
 }

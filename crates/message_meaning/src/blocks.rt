@@ -12,7 +12,7 @@ use circ_records::{Key, Patron, Record};
 use loan_meaning::{owed_of, patron_of};
 use read_set::{Draft, Effect, Member, Source, Stop, Writes};
 use sip_answer::{Answer, KnownPatron, PatronAnswer, PatronStatus};
-use sip_reader::{Id, Stamp};
+use sip_reader::{Id, KeptId, Stamp};
 use std::alloc::{AllocError, Global};
 
 /// What stays the same while a block or an enable is followed.
@@ -59,21 +59,25 @@ fn unknown_status() -> PatronStatus
     }
 }
 
-fn answer(asked: &BlockAsked<'_>, status: PatronStatus, known: Option<KnownPatron>) -> Answer
-    ensures { result ≡ block_answer asked.now.blocks (patron_answer asked.now.policy.now asked.now.id.now asked.now.date status known) }
+fn answer(
+    asked: &BlockAsked<'_>,
+    status: PatronStatus,
+    known: Option<KnownPatron>,
+) -> Result<Answer, AllocError>
+    ensures { IfOk result (λ a. a ≡ block_answer asked.now.blocks (patron_answer asked.now.policy.now asked.now.id.now asked.now.date status known)) }
 {
     let answer = PatronAnswer {
         date: asked.date,
-        institution: asked.policy.institution(),
-        patron: *asked.id,
+        institution: KeptId::new(asked.alloc, &asked.policy.institution())?,
+        patron: KeptId::new(asked.alloc, asked.id)?,
         status,
         currency: asked.policy.currency(),
         known,
     };
     if asked.blocks {
-        Answer::BlockPatron(answer)
+        Ok(Answer::BlockPatron(answer))
     } else {
-        Answer::PatronEnable(answer)
+        Ok(Answer::PatronEnable(answer))
     }
 }
 
@@ -99,7 +103,7 @@ fn block_member(asked: &BlockAsked<'_>, member: Member, owes: u128) -> Result<Ef
     let writes = Writes::one(asked.alloc, Key::Patron(*asked.id), written)?;
     Ok(Effect {
         writes,
-        answer: Some(answer(asked, status, Some(known))),
+        answer: Some(answer(asked, status, Some(known))?),
     })
 }
 
@@ -133,7 +137,7 @@ fn block_any<S: Source>(
     match member {
         Some(member) => block_known(asked, member, source),
         None => {
-            let answer = answer(asked, unknown_status(), None);
+            let answer = answer(asked, unknown_status(), None)?;
             Ok(Effect::unwritten(asked.alloc, Some(answer)))
         }
     }

@@ -15,7 +15,7 @@ use loan_meaning::{
 };
 use read_set::{Article, Effect, Member, Source, Stop, Writes};
 use sip_answer::{Answer, HoldAnswer, QueuePosition};
-use sip_reader::{HoldMode, HoldRequest, Id, Stamp, Text};
+use sip_reader::{HoldMode, HoldRequest, Id, KeptId, Stamp, Text};
 use std::alloc::{AllocError, Global};
 
 /// What stays the same while a hold is followed.
@@ -71,9 +71,9 @@ fn change_queue(alloc: Global, request: &HoldRequest, holds: &Holds) -> Result<H
     ensures { IfOk result (λ h. h ≡ queue_after request.now holds.now request.now.mode) }
 {
     match request.mode {
-        HoldMode::Add => with_hold(alloc, holds, &request.patron, &request.pickup),
-        HoldMode::Delete => without_hold(alloc, holds, &request.patron),
-        HoldMode::Change => with_pickup(alloc, holds, &request.patron, &request.pickup),
+        HoldMode::Add => with_hold(alloc, holds, &request.patron.id(), &request.pickup),
+        HoldMode::Delete => without_hold(alloc, holds, &request.patron.id()),
+        HoldMode::Change => with_pickup(alloc, holds, &request.patron.id(), &request.pickup),
     }
 }
 
@@ -106,7 +106,7 @@ fn position_in(
         HoldMode::Add | HoldMode::Change => numbered(
             alloc,
             request,
-            position(holds.as_slice(), &request.patron),
+            position(holds.as_slice(), &request.patron.id()),
         ),
     }
 }
@@ -119,7 +119,8 @@ fn is_available_to(request: &HoldRequest, item: &Item, holds: &Holds) -> bool
         HoldMode::Delete => false,
         HoldMode::Add | HoldMode::Change => {
             let queue = holds.as_slice();
-            !has_loan(item.loan) && (has_queue(queue) && !is_first_another(queue, &request.patron))
+            !has_loan(item.loan)
+                && (has_queue(queue) && !is_first_another(queue, &request.patron.id()))
         }
     }
 }
@@ -130,19 +131,19 @@ fn tell(
     ok: bool,
     available: bool,
     position: Option<QueuePosition>,
-) -> Answer
-    ensures { result ≡ hold_answer asked.now.policy.now asked.now.request.now asked.now.date title ok available position }
+) -> Result<Answer, AllocError>
+    ensures { IfOk result (λ a. a ≡ hold_answer asked.now.policy.now asked.now.request.now asked.now.date title ok available position) }
 {
-    Answer::Hold(HoldAnswer {
+    Ok(Answer::Hold(HoldAnswer {
         date: asked.date,
-        institution: asked.policy.institution(),
-        patron: asked.request.patron,
-        item: asked.request.item,
+        institution: KeptId::new(asked.alloc, &asked.policy.institution())?,
+        patron: asked.request.patron.copy(asked.alloc)?,
+        item: asked.request.item.copy(asked.alloc)?,
         ok,
         available,
         position,
         title,
-    })
+    }))
 }
 
 #[tactic(auto, unfolding(read_set::specs::Holds::hold_kept))]
@@ -153,11 +154,11 @@ fn keep_queue(asked: &HoldAsked<'_>, item: Shared<Item>, holds: Holds) -> Result
     let available = is_available_to(asked.request, item.get(), &holds);
     let position = position_in(alloc, asked.request, &holds)?;
     let title = item.get().title.copy(alloc)?;
-    let answer = tell(asked, Some(title), true, available, position);
+    let answer = tell(asked, Some(title), true, available, position)?;
     let mut item = Item::of(alloc, item)?;
     item.holds = holds;
     let written = Record::item(alloc, item)?;
-    let writes = Writes::one(alloc, Key::Item(asked.request.item), written)?;
+    let writes = Writes::one(alloc, Key::Item(asked.request.item.id()), written)?;
     Ok(Effect {
         writes,
         answer: Some(answer),
@@ -168,9 +169,9 @@ fn hold_item(asked: &HoldAsked<'_>, blocked: bool, item: Shared<Item>) -> Result
     ensures { IfOk result (λ e. e ≡ hold_known asked.now.policy.now asked.now.request.now asked.now.date blocked item) }
 {
     let request = asked.request;
-    if is_refused(request.mode, &request.patron, blocked, item.get()) {
+    if is_refused(request.mode, &request.patron.id(), blocked, item.get()) {
         let title = item.get().title.copy(asked.alloc)?;
-        let answer = tell(asked, Some(title), false, false, None);
+        let answer = tell(asked, Some(title), false, false, None)?;
         return Ok(Effect::unwritten(asked.alloc, Some(answer)));
     }
     let holds = change_queue(asked.alloc, request, &item.get().holds)?;
@@ -196,11 +197,11 @@ fn hold_both(
 {
     let Some(member) = member else {
         let title = title_of(asked.alloc, article)?;
-        let answer = tell(asked, title, false, false, None);
+        let answer = tell(asked, title, false, false, None)?;
         return Ok(Effect::unwritten(asked.alloc, Some(answer)));
     };
     let Some(article) = article else {
-        let answer = tell(asked, None, false, false, None);
+        let answer = tell(asked, None, false, false, None)?;
         return Ok(Effect::unwritten(asked.alloc, Some(answer)));
     };
     let item = article.into_item();
@@ -220,8 +221,8 @@ pub fn hold<S: Source>(
     ensures means { IfOk result (λ e. (M : Map) → Agrees (S.has source.new) M → e ≡ hold policy.now request.now date M) }
     ensures keeps { Gains (S.has source.old) (S.has source.new) (hold_rule policy.now request.now date) }
 {
-    let member = patron_of(alloc, policy, source, &request.patron)?;
-    let article = item_of(alloc, policy, source, &request.item)?;
+    let member = patron_of(alloc, policy, source, &request.patron.id())?;
+    let article = item_of(alloc, policy, source, &request.item.id())?;
     let asked = HoldAsked {
         alloc,
         policy,

@@ -26,7 +26,7 @@ pub fn update<S: Source>(
     ensures means { IfOk result (λ e. (M : Map) → Agrees (S.has source.new) M → e ≡ item_status policy.now request.now date M) }
     ensures keeps { Gains (S.has source.old) (S.has source.new) (item_status_rule policy.now request.now date) }
 {
-    let found = item_of(alloc, policy, source, &request.item)?;
+    let found = item_of(alloc, policy, source, &request.item.id())?;
     Ok(update_found(alloc, request, date, found)?)
 }
 
@@ -41,19 +41,22 @@ fn update_found(
     ensures { IfOk result (λ e. e ≡ updated request.now date found) }
 {
     let Some(article) = found else {
-        return Ok(Effect::unwritten(alloc, Some(answer(request, date, None))));
+        let answer = answer(alloc, request, date, None)?;
+        return Ok(Effect::unwritten(alloc, Some(answer)));
     };
     let Some(given) = &request.properties else {
         let known = show(alloc, article.item.get())?;
-        return Ok(Effect::unwritten(alloc, Some(answer(request, date, known))));
+        let answer = answer(alloc, request, date, known)?;
+        return Ok(Effect::unwritten(alloc, Some(answer)));
     };
     let mut item = Item::of(alloc, article.into_item())?;
     item.properties = given.copy(alloc)?;
     let known = show(alloc, &item)?;
-    let writes = Writes::one(alloc, Key::Item(request.item), Record::item(alloc, item)?)?;
+    let written = Record::item(alloc, item)?;
+    let writes = Writes::one(alloc, Key::Item(request.item.id()), written)?;
     Ok(Effect {
         writes,
-        answer: Some(answer(request, date, known)),
+        answer: Some(answer(alloc, request, date, known)?),
     })
 }
 
@@ -66,12 +69,17 @@ fn show(alloc: Global, item: &Item) -> Result<Option<TitledItem>, AllocError>
     }))
 }
 
-fn answer(request: &ItemStatus, date: Stamp, known: Option<TitledItem>) -> Answer
-    ensures { result ≡ status_answer request.now date known }
+fn answer(
+    alloc: Global,
+    request: &ItemStatus,
+    date: Stamp,
+    known: Option<TitledItem>,
+) -> Result<Answer, AllocError>
+    ensures { IfOk result (λ a. a ≡ status_answer request.now date known) }
 {
-    Answer::ItemStatus(ItemStatusAnswer {
+    Ok(Answer::ItemStatus(ItemStatusAnswer {
         date,
-        item: request.item,
+        item: request.item.copy(alloc)?,
         known,
-    })
+    }))
 }

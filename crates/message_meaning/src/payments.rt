@@ -14,7 +14,7 @@ use circ_records::{Fee, Ids, Key, Patron, Record};
 use loan_meaning::{fee_of, has_id, patron_of, read_after, without_all};
 use read_set::{Draft, Effect, Member, Payments, Source, Stop, known_fee};
 use sip_answer::{Answer, FeePaidAnswer};
-use sip_reader::{Amount, FeePaid, Id, Stamp};
+use sip_reader::{Amount, FeePaid, Id, KeptId, Stamp};
 use std::alloc::{AllocError, Global};
 
 fn rest(fee: &Fee) -> u64
@@ -119,7 +119,7 @@ fn only(alloc: Global, id: &Id, fees: &Ids, fee: Option<Fee>) -> Result<Ids, All
 #[tactic(auto, unfolding(crate::specs::Payments::meant_at), using(read_set::proofs::Gaining::gains_none, read_set::proofs::Gaining::gains_first))]
 fn meant_ids<S: Source>(
     alloc: Global,
-    fee: &Option<Id>,
+    fee: &Option<KeptId>,
     fees: &Ids,
     source: &mut S,
 ) -> Result<Ids, Stop>
@@ -127,9 +127,10 @@ fn meant_ids<S: Source>(
     ensures keeps { Gains (S.has source.old) (S.has source.new) (meant_at fee.now fees.now) }
 {
     match fee {
-        Some(id) => {
-            if has_id(fees.as_slice(), id) {
-                named_ids(alloc, id, fees, source)
+        Some(meant) => {
+            let id = meant.id();
+            if has_id(fees.as_slice(), &id) {
+                named_ids(alloc, &id, fees, source)
             } else {
                 Ok(fees.copy(alloc)?)
             }
@@ -164,21 +165,33 @@ fn pay_all<S: Source>(
     Ok(done)
 }
 
-fn tell(policy: &Policy, request: &FeePaid, date: Stamp, accepted: bool) -> Answer
-    ensures { result ≡ payment_answer policy.now request.now date accepted }
+fn tell(
+    alloc: Global,
+    policy: &Policy,
+    request: &FeePaid,
+    date: Stamp,
+    accepted: bool,
+) -> Result<Answer, AllocError>
+    ensures { IfOk result (λ a. a ≡ payment_answer policy.now request.now date accepted) }
 {
-    Answer::FeePaid(FeePaidAnswer {
+    Ok(Answer::FeePaid(FeePaidAnswer {
         date,
-        institution: policy.institution(),
-        patron: request.patron,
+        institution: KeptId::new(alloc, &policy.institution())?,
+        patron: request.patron.copy(alloc)?,
         accepted,
-    })
+    }))
 }
 
-fn refuse(alloc: Global, policy: &Policy, request: &FeePaid, date: Stamp) -> Effect
-    ensures { result ≡ unwritten (Some (payment_answer policy.now request.now date false)) }
+fn refuse(
+    alloc: Global,
+    policy: &Policy,
+    request: &FeePaid,
+    date: Stamp,
+) -> Result<Effect, AllocError>
+    ensures { IfOk result (λ e. e ≡ unwritten (Some (payment_answer policy.now request.now date false))) }
 {
-    Effect::unwritten(alloc, Some(tell(policy, request, date, false)))
+    let answer = tell(alloc, policy, request, date, false)?;
+    Ok(Effect::unwritten(alloc, Some(answer)))
 }
 
 fn close(alloc: Global, closed: &Ids, member: Member) -> Result<Patron, AllocError>
@@ -213,11 +226,14 @@ fn finish(
     } = done;
     if is_some_id(closed.as_slice()) {
         let patron = close(alloc, &closed, member)?;
-        writes.put(Key::Patron(request.patron), Record::patron(alloc, patron)?)?;
+        writes.put(
+            Key::Patron(request.patron.id()),
+            Record::patron(alloc, patron)?,
+        )?;
     }
     Ok(Effect {
         writes: writes.finish(alloc)?,
-        answer: Some(tell(policy, request, date, true)),
+        answer: Some(tell(alloc, policy, request, date, true)?),
     })
 }
 
@@ -257,13 +273,13 @@ fn pay_known<S: Source>(
     ensures keeps { Gains (S.has source.old) (S.has source.new) (fee_paid_rule_known policy.now request.now date member) }
 {
     let Some(member) = member else {
-        return Ok(refuse(alloc, policy, request, date));
+        return Ok(refuse(alloc, policy, request, date)?);
     };
     if is_other_currency(request.currency, policy.currency()) {
-        return Ok(refuse(alloc, policy, request, date));
+        return Ok(refuse(alloc, policy, request, date)?);
     }
     if request.amount.hundredths() == 0 {
-        return Ok(refuse(alloc, policy, request, date));
+        return Ok(refuse(alloc, policy, request, date)?);
     }
     pay_fees(alloc, policy, request, date, member, source)
 }
@@ -281,6 +297,6 @@ pub fn take_payment<S: Source>(
     ensures means { IfOk result (λ e. (M : Map) → Agrees (S.has source.new) M → e ≡ fee_paid policy.now request.now date M) }
     ensures keeps { Gains (S.has source.old) (S.has source.new) (fee_paid_rule policy.now request.now date) }
 {
-    let member = patron_of(alloc, policy, source, &request.patron)?;
+    let member = patron_of(alloc, policy, source, &request.patron.id())?;
     pay_known(alloc, policy, request, date, member, source)
 }

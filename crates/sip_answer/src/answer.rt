@@ -2,7 +2,7 @@
 
 use crate::item_ids::ItemIds;
 use circ_policy::{DueForm, MediaType};
-use sip_reader::{Amount, Day, Id, Stamp, Text};
+use sip_reader::{Amount, Day, KeptId, Stamp, Text};
 
 /// What is answered to a request.
 pub enum Answer {
@@ -49,8 +49,8 @@ impl Drop for Answer {
 pub struct PatronAnswer {
     /// The request's transaction date.
     pub date: Stamp,
-    pub institution: Id,
-    pub patron: Id,
+    pub institution: KeptId,
+    pub patron: KeptId,
     /// The status after the change.
     pub status: PatronStatus,
     /// The currency of what is owed, three letters.
@@ -104,12 +104,12 @@ impl Drop for KnownPatron {
 pub struct CheckinAnswer {
     /// The request's transaction date.
     pub date: Stamp,
-    pub institution: Id,
-    pub item: Id,
+    pub institution: KeptId,
+    pub item: KeptId,
     /// Where the item is known.
     pub known: Option<ReturnedItem>,
     /// Whose loan ended, where one did.
-    pub borrower: Option<Id>,
+    pub borrower: Option<KeptId>,
     /// Whether somebody waits for the item.
     pub alert: bool,
 }
@@ -150,9 +150,9 @@ impl Drop for ReturnedItem {
 pub struct LoanAnswer {
     /// The request's transaction date.
     pub date: Stamp,
-    pub institution: Id,
-    pub patron: Id,
-    pub item: Id,
+    pub institution: KeptId,
+    pub patron: KeptId,
+    pub item: KeptId,
     /// Where the item is known.
     pub known: Option<KnownItem>,
     /// The due day, where a loan or a renewal was made.
@@ -205,7 +205,7 @@ impl Drop for KnownItem {
 pub struct ItemStatusAnswer {
     /// The request's transaction date.
     pub date: Stamp,
-    pub item: Id,
+    pub item: KeptId,
     /// Where the item is known.
     pub known: Option<TitledItem>,
 }
@@ -240,8 +240,8 @@ impl Drop for TitledItem {
 pub struct FeePaidAnswer {
     /// The request's transaction date.
     pub date: Stamp,
-    pub institution: Id,
-    pub patron: Id,
+    pub institution: KeptId,
+    pub patron: KeptId,
     pub accepted: bool,
 }
 
@@ -260,7 +260,7 @@ impl Drop for FeePaidAnswer {
 pub struct RenewAllAnswer {
     /// The request's transaction date.
     pub date: Stamp,
-    pub institution: Id,
+    pub institution: KeptId,
     pub ok: bool,
     /// The items that were renewed, in the order of the patron's list.
     pub renewed: ItemIds,
@@ -284,9 +284,9 @@ impl Drop for RenewAllAnswer {
 pub struct HoldAnswer {
     /// The request's transaction date.
     pub date: Stamp,
-    pub institution: Id,
-    pub patron: Id,
-    pub item: Id,
+    pub institution: KeptId,
+    pub patron: KeptId,
+    pub item: KeptId,
     pub ok: bool,
     /// Whether the item waits for this patron.
     pub available: bool,

@@ -14,8 +14,8 @@ ghost use Rattle.sip_reader.specs.declared.request.Kind.TheVariants as kinds;
 use crate::checks::amount_in;
 use crate::fields::Fields;
 use crate::{
-    Act, Amount, BlockPatron, Checkin, Checkout, Day, FeePaid, HoldMode, HoldRequest, Id,
-    ItemStatus, Kind, PatronEnable, Renew, RenewAll, Stamp, Text,
+    Act, Amount, BlockPatron, Checkin, Checkout, Day, FeePaid, HoldMode, HoldRequest, ItemStatus,
+    KeptId, Kind, PatronEnable, Renew, RenewAll, Stamp, Text,
 };
 use std::alloc::{AllocError, Global};
 
@@ -31,54 +31,54 @@ pub fn asked_act(
     ensures { IfOk result (λ act. act ≡ act_of kind message.now (texts_behind fields.entry)) }
 {
     match kind {
-        Kind::BlockPatron => Ok(block_patron(fields)),
-        Kind::Checkin => Ok(checkin(message, fields)),
-        Kind::Checkout => Ok(checkout(message, fields)),
+        Kind::BlockPatron => block_patron(alloc, fields),
+        Kind::Checkin => checkin(alloc, message, fields),
+        Kind::Checkout => checkout(alloc, message, fields),
         Kind::Hold => hold(alloc, message, fields),
         Kind::ItemStatus => item_status(alloc, fields),
-        Kind::PatronEnable => Ok(patron_enable(fields)),
-        Kind::Renew => Ok(renew(message, fields)),
-        Kind::FeePaid => Ok(fee_paid(message, fields)),
-        Kind::RenewAll => Ok(renew_all(fields)),
+        Kind::PatronEnable => patron_enable(alloc, fields),
+        Kind::Renew => renew(alloc, message, fields),
+        Kind::FeePaid => fee_paid(alloc, message, fields),
+        Kind::RenewAll => renew_all(alloc, fields),
     }
 }
 
-fn block_patron(fields: Fields<'_>) -> Act
+fn block_patron(alloc: Global, fields: Fields<'_>) -> Result<Act, AllocError>
     requires { is_id (unwrap_or (texts_behind fields).patron []) ≡ true }
-    ensures { result ≡ act_of kinds.BlockPatron [] (texts_behind fields.entry) }
+    ensures { IfOk result (λ act. act ≡ act_of kinds.BlockPatron [] (texts_behind fields.entry)) }
 {
-    Act::BlockPatron(BlockPatron {
-        patron: id_of(fields.patron),
-    })
+    Ok(Act::BlockPatron(BlockPatron {
+        patron: id_of(alloc, fields.patron)?,
+    }))
 }
 
-fn checkin(message: &[u8], fields: Fields<'_>) -> Act
+fn checkin(alloc: Global, message: &[u8], fields: Fields<'_>) -> Result<Act, AllocError>
     requires long { 39 ≤ length message.now }
     requires item { is_id (unwrap_or (texts_behind fields).item []) ≡ true }
-    ensures { result ≡ act_of kinds.Checkin message.now (texts_behind fields.entry) }
+    ensures { IfOk result (λ act. act ≡ act_of kinds.Checkin message.now (texts_behind fields.entry)) }
 {
-    Act::Checkin(Checkin {
+    Ok(Act::Checkin(Checkin {
         back: day_in(&message[21..39]),
-        item: id_of(fields.item),
+        item: id_of(alloc, fields.item)?,
         cancel: is_yes(fields.cancel),
-    })
+    }))
 }
 
-fn checkout(message: &[u8], fields: Fields<'_>) -> Act
+fn checkout(alloc: Global, message: &[u8], fields: Fields<'_>) -> Result<Act, AllocError>
     requires long { 40 ≤ length message.now }
     requires patron { is_id (unwrap_or (texts_behind fields).patron []) ≡ true }
     requires item { is_id (unwrap_or (texts_behind fields).item []) ≡ true }
-    ensures { result ≡ act_of kinds.Checkout message.now (texts_behind fields.entry) }
+    ensures { IfOk result (λ act. act ≡ act_of kinds.Checkout message.now (texts_behind fields.entry)) }
 {
-    Act::Checkout(Checkout {
+    Ok(Act::Checkout(Checkout {
         renewal: message[2] == b'Y',
         no_block: message[3] == b'Y',
         due: day_in(&message[22..40]),
-        patron: id_of(fields.patron),
-        item: id_of(fields.item),
+        patron: id_of(alloc, fields.patron)?,
+        item: id_of(alloc, fields.item)?,
         cancel: is_yes(fields.cancel),
         agreed: is_yes(fields.agreed),
-    })
+    }))
 }
 
 fn hold(alloc: Global, message: &[u8], fields: Fields<'_>) -> Result<Act, AllocError>
@@ -91,8 +91,8 @@ fn hold(alloc: Global, message: &[u8], fields: Fields<'_>) -> Result<Act, AllocE
     let pickup = Text::new(alloc, fields.pickup.unwrap_or(&[]))?;
     Ok(Act::Hold(HoldRequest {
         mode: hold_mode(message[2]),
-        patron: id_of(fields.patron),
-        item: id_of(fields.item),
+        patron: id_of(alloc, fields.patron)?,
+        item: id_of(alloc, fields.item)?,
         pickup,
     }))
 }
@@ -107,66 +107,67 @@ fn item_status(alloc: Global, fields: Fields<'_>) -> Result<Act, AllocError>
         None => None,
     };
     Ok(Act::ItemStatus(ItemStatus {
-        item: id_of(fields.item),
+        item: id_of(alloc, fields.item)?,
         properties,
     }))
 }
 
-fn patron_enable(fields: Fields<'_>) -> Act
+fn patron_enable(alloc: Global, fields: Fields<'_>) -> Result<Act, AllocError>
     requires { is_id (unwrap_or (texts_behind fields).patron []) ≡ true }
-    ensures { result ≡ act_of kinds.PatronEnable [] (texts_behind fields.entry) }
+    ensures { IfOk result (λ act. act ≡ act_of kinds.PatronEnable [] (texts_behind fields.entry)) }
 {
-    Act::PatronEnable(PatronEnable {
-        patron: id_of(fields.patron),
-    })
+    Ok(Act::PatronEnable(PatronEnable {
+        patron: id_of(alloc, fields.patron)?,
+    }))
 }
 
-fn renew(message: &[u8], fields: Fields<'_>) -> Act
+fn renew(alloc: Global, message: &[u8], fields: Fields<'_>) -> Result<Act, AllocError>
     requires long { 40 ≤ length message.now }
     requires patron { is_id (unwrap_or (texts_behind fields).patron []) ≡ true }
     requires item { is_id (unwrap_or (texts_behind fields).item []) ≡ true }
-    ensures { result ≡ act_of kinds.Renew message.now (texts_behind fields.entry) }
+    ensures { IfOk result (λ act. act ≡ act_of kinds.Renew message.now (texts_behind fields.entry)) }
 {
-    Act::Renew(Renew {
+    Ok(Act::Renew(Renew {
         third_party: message[2] == b'Y',
         no_block: message[3] == b'Y',
         due: day_in(&message[22..40]),
-        patron: id_of(fields.patron),
-        item: id_of(fields.item),
+        patron: id_of(alloc, fields.patron)?,
+        item: id_of(alloc, fields.item)?,
         agreed: is_yes(fields.agreed),
-    })
+    }))
 }
 
-fn fee_paid(message: &[u8], fields: Fields<'_>) -> Act
+fn fee_paid(alloc: Global, message: &[u8], fields: Fields<'_>) -> Result<Act, AllocError>
     requires long { 27 ≤ length message.now }
     requires patron { is_id (unwrap_or (texts_behind fields).patron []) ≡ true }
     requires amount { is_none (option_and_then amount_of (texts_behind fields).amount) ≡ false }
-    ensures { result ≡ act_of kinds.FeePaid message.now (texts_behind fields.entry) }
+    ensures { IfOk result (λ act. act ≡ act_of kinds.FeePaid message.now (texts_behind fields.entry)) }
 {
-    Act::FeePaid(FeePaid {
-        patron: id_of(fields.patron),
+    Ok(Act::FeePaid(FeePaid {
+        patron: id_of(alloc, fields.patron)?,
         currency: [message[24], message[25], message[26]],
         amount: tested_amount(fields.amount),
-        fee: given_fee(fields.fee),
-    })
+        fee: given_fee(alloc, fields.fee)?,
+    }))
 }
 
-fn renew_all(fields: Fields<'_>) -> Act
+fn renew_all(alloc: Global, fields: Fields<'_>) -> Result<Act, AllocError>
     requires { is_id (unwrap_or (texts_behind fields).patron []) ≡ true }
-    ensures { result ≡ act_of kinds.RenewAll [] (texts_behind fields.entry) }
+    ensures { IfOk result (λ act. act ≡ act_of kinds.RenewAll [] (texts_behind fields.entry)) }
 {
-    Act::RenewAll(RenewAll {
-        patron: id_of(fields.patron),
+    Ok(Act::RenewAll(RenewAll {
+        patron: id_of(alloc, fields.patron)?,
         agreed: is_yes(fields.agreed),
-    })
+    }))
 }
 
 /// The id that a tested field holds.
-fn id_of(text: Option<&[u8]>) -> Id
+fn id_of(alloc: Global, text: Option<&[u8]>) -> Result<KeptId, AllocError>
     requires { is_id (unwrap_or (option_copied text) []) ≡ true }
-    ensures { result ≡ unwrap_or (option_copied text.entry) [] }
+    ensures { IfOk result (λ id. id ≡ unwrap_or (option_copied text.entry) []) }
 {
-    Id::new(text.unwrap_or(&[])).unwrap()
+    let read = KeptId::read(alloc, text.unwrap_or(&[]))?;
+    Ok(read.unwrap())
 }
 
 /// The amount that a tested field holds.
@@ -178,12 +179,12 @@ fn tested_amount(text: Option<&[u8]>) -> Amount
 }
 
 /// The fee that is meant, where its identifier has the length of an id.
-fn given_fee(text: Option<&[u8]>) -> Option<Id>
-    ensures { result ≡ given_id (option_copied text.entry) }
+fn given_fee(alloc: Global, text: Option<&[u8]>) -> Result<Option<KeptId>, AllocError>
+    ensures { IfOk result (λ id. id ≡ given_id (option_copied text.entry)) }
 {
     match text {
-        Some(text) => Id::new(text),
-        None => None,
+        Some(text) => KeptId::read(alloc, text),
+        None => Ok(None),
     }
 }
 

@@ -88,7 +88,7 @@ impl Id {
 }
 
 #[tactic(auto, unfolding(crate::specs::Texts::is_id))]
-fn is_valid(bytes: &[u8]) -> bool
+pub(crate) fn is_valid(bytes: &[u8]) -> bool
     ensures value { result ≡ is_id bytes.now }
     ensures short { IsTrue result → length bytes.now ≤ ID_MAX }
 {

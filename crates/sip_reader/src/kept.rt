@@ -1,8 +1,9 @@
 //! Ids that are kept.
 
-ghost use Rattle.std.specs.Prelude.{◌≡◌, IfOk};
+ghost use Rattle.std.specs.Prelude.{◌≡◌, IfOk, if◌then◌else◌, Some, None};
+ghost use Rattle.sip_reader.specs.Texts.{is_id};
 
-use crate::id::Id;
+use crate::id::{Id, is_valid};
 use crate::text::Text;
 use std::alloc::{AllocError, Global};
 use std::marker::Model;
@@ -37,6 +38,18 @@ impl KeptId {
     {
         let text = id.to_text(alloc)?;
         Ok(KeptId { text })
+    }
+
+    /// The id of these bytes, kept.
+    #[tactic(auto, using(crate::proofs::Clean::id_is_text))]
+    pub fn read(alloc: Global, bytes: &[u8]) -> Result<Option<KeptId>, AllocError>
+        ensures { IfOk result (λ kept. kept ≡ (if is_id bytes.now then Some bytes.now else None)) }
+    {
+        if !is_valid(bytes) {
+            return Ok(None);
+        }
+        let text = Text::new(alloc, bytes)?;
+        Ok(Some(KeptId { text }))
     }
 
     /// The id.

@@ -2,7 +2,7 @@
 
 ghost use Rattle.std.specs.Prelude.{◌≡◌};
 
-use crate::{Amount, Day, Id, Stamp, Text};
+use crate::{Amount, Day, KeptId, Stamp, Text};
 
 /// A kind of request that the rules know.
 #[derive(Clone, Copy, PartialEq, Eq)]
@@ -199,23 +199,36 @@ impl Act {
 }
 
 /// A patron is blocked, as after a card was retained (SIP 2.00, Block Patron).
-#[derive(Clone, Copy)]
 pub struct BlockPatron {
-    pub patron: Id,
+    pub patron: KeptId,
+}
+
+impl Drop for BlockPatron {
+    fn drop(self) {
+        let BlockPatron { patron: _ } = self;
+    }
 }
 
 /// An item comes back (SIP 2.00, Checkin).
-#[derive(Clone, Copy)]
 pub struct Checkin {
     /// The day of the return date, where it is a date.
     pub back: Option<Day>,
-    pub item: Id,
+    pub item: KeptId,
     /// Whether an earlier checkout is cancelled.
     pub cancel: bool,
 }
 
+impl Drop for Checkin {
+    fn drop(self) {
+        let Checkin {
+            back: _,
+            item: _,
+            cancel: _,
+        } = self;
+    }
+}
+
 /// An item goes out (SIP 2.00, Checkout).
-#[derive(Clone, Copy)]
 pub struct Checkout {
     /// Whether the terminal's policy allows a renewal.
     pub renewal: bool,
@@ -223,12 +236,26 @@ pub struct Checkout {
     pub no_block: bool,
     /// The due day that was given then.
     pub due: Option<Day>,
-    pub patron: Id,
-    pub item: Id,
+    pub patron: KeptId,
+    pub item: KeptId,
     /// Whether an earlier checkin is cancelled.
     pub cancel: bool,
     /// Whether the user agreed to the fee.
     pub agreed: bool,
+}
+
+impl Drop for Checkout {
+    fn drop(self) {
+        let Checkout {
+            renewal: _,
+            no_block: _,
+            due: _,
+            patron: _,
+            item: _,
+            cancel: _,
+            agreed: _,
+        } = self;
+    }
 }
 
 /// What is done to a queue of holds (SIP 2.00, hold mode).
@@ -242,8 +269,8 @@ pub enum HoldMode {
 /// A patron's place in an item's queue is made, taken away or changed (SIP 2.00, Hold).
 pub struct HoldRequest {
     pub mode: HoldMode,
-    pub patron: Id,
-    pub item: Id,
+    pub patron: KeptId,
+    pub item: KeptId,
     /// Where the item is to be picked up; empty where the request doesn't say.
     pub pickup: Text,
 }
@@ -261,7 +288,7 @@ impl Drop for HoldRequest {
 
 /// An item's properties are set (SIP 2.00, Item Status Update).
 pub struct ItemStatus {
-    pub item: Id,
+    pub item: KeptId,
     /// The properties that replace the item's.
     pub properties: Option<Text>,
 }
@@ -276,13 +303,17 @@ impl Drop for ItemStatus {
 }
 
 /// A patron's block is taken away (SIP 2.00, Patron Enable).
-#[derive(Clone, Copy)]
 pub struct PatronEnable {
-    pub patron: Id,
+    pub patron: KeptId,
+}
+
+impl Drop for PatronEnable {
+    fn drop(self) {
+        let PatronEnable { patron: _ } = self;
+    }
 }
 
 /// A loan is renewed (SIP 2.00, Renew).
-#[derive(Clone, Copy)]
 pub struct Renew {
     /// Whether another than the borrower may renew.
     pub third_party: bool,
@@ -290,28 +321,59 @@ pub struct Renew {
     pub no_block: bool,
     /// The due day that was given then.
     pub due: Option<Day>,
-    pub patron: Id,
-    pub item: Id,
+    pub patron: KeptId,
+    pub item: KeptId,
     /// Whether the user agreed to the fee.
     pub agreed: bool,
 }
 
+impl Drop for Renew {
+    fn drop(self) {
+        let Renew {
+            third_party: _,
+            no_block: _,
+            due: _,
+            patron: _,
+            item: _,
+            agreed: _,
+        } = self;
+    }
+}
+
 /// A patron pays (SIP 2.00, Fee Paid).
-#[derive(Clone, Copy)]
 pub struct FeePaid {
-    pub patron: Id,
+    pub patron: KeptId,
     /// Three bytes, for a currency as USD.
     pub currency: [u8; 3],
     /// What is paid.
     pub amount: Amount,
     /// The fee that is meant.
-    pub fee: Option<Id>,
+    pub fee: Option<KeptId>,
+}
+
+impl Drop for FeePaid {
+    fn drop(self) {
+        let FeePaid {
+            patron: _,
+            currency: _,
+            amount: _,
+            fee: _,
+        } = self;
+    }
 }
 
 /// All loans of a patron are renewed (SIP 2.00, Renew All).
-#[derive(Clone, Copy)]
 pub struct RenewAll {
-    pub patron: Id,
+    pub patron: KeptId,
     /// Whether the user agreed to the fees.
     pub agreed: bool,
+}
+
+impl Drop for RenewAll {
+    fn drop(self) {
+        let RenewAll {
+            patron: _,
+            agreed: _,
+        } = self;
+    }
 }

@@ -10,7 +10,7 @@ use super::parts::{put_digit, put_field, put_filled, put_flag, put_number};
 use crate::answer::{
     CheckinAnswer, HoldAnswer, ItemStatusAnswer, QueuePosition, ReturnedItem, TitledItem,
 };
-use sip_reader::{Id, Text};
+use sip_reader::{KeptId, Text};
 use std::alloc::AllocError;
 
 /// An item status update response.
@@ -46,7 +46,7 @@ pub fn put_checkin(out: &mut Vec<u8>, answer: &CheckinAnswer) -> Result<(), Allo
     put_checkin_head(out, answer)?;
     put_field(out, b"AO", answer.institution.as_bytes())?;
     put_field(out, b"AB", answer.item.as_bytes())?;
-    put_returned(out, &answer.known, answer.borrower)?;
+    put_returned(out, &answer.known, &answer.borrower)?;
     Ok(())
 }
 
@@ -68,12 +68,12 @@ fn put_checkin_head(out: &mut Vec<u8>, answer: &CheckinAnswer) -> Result<(), All
 fn put_returned(
     out: &mut Vec<u8>,
     known: &Option<ReturnedItem>,
-    borrower: Option<Id>,
+    borrower: &Option<KeptId>,
 ) -> Result<(), AllocError>
     ensures { OnOk result (out.new.items ≡ out.old.items
         ++ field (codes "AQ") (option_map_or (λ i. i.location) known.now [])
         ++ given (codes "AJ") (option_map (λ i. i.title) known.now)
-        ++ given (codes "AA") borrower
+        ++ given (codes "AA") borrower.now
         ++ given (codes "CK") (option_map (λ i. media_code i.media) known.now)
         ++ filled (codes "CH") (option_map_or (λ i. i.properties) known.now [])) }
 {
@@ -93,8 +93,8 @@ fn put_returned(
 }
 
 #[tactic(auto, unfolding(crate::specs::Parts::given))]
-fn put_borrower(out: &mut Vec<u8>, borrower: Option<Id>) -> Result<(), AllocError>
-    ensures { OnOk result (out.new.items ≡ out.old.items ++ given (codes "AA") borrower) }
+fn put_borrower(out: &mut Vec<u8>, borrower: &Option<KeptId>) -> Result<(), AllocError>
+    ensures { OnOk result (out.new.items ≡ out.old.items ++ given (codes "AA") borrower.now) }
 {
     match borrower {
         Some(patron) => put_field(out, b"AA", patron.as_bytes()),

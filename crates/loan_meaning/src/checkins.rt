@@ -223,7 +223,7 @@ pub fn check_in<S: Source>(
     ensures means { IfOk result (λ e. (M : Map) → Agrees (S.has source.new) M → e ≡ checkin policy.now n request.now date M) }
     ensures keeps { Gains (S.has source.old) (S.has source.new) (checkin_rule policy.now n request.now date) }
 {
-    let article = item_of(alloc, policy, source, &request.item.id())?;
+    let article = item_of(alloc, policy, source, &request.item)?;
     let loan = any_loan(&article);
     let member = borrower_of(alloc, policy, source, loan)?;
     let line = Line {

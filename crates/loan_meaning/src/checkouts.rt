@@ -18,7 +18,7 @@ use crate::asked::{Asked, Line};
 use crate::asking::{ask_checkout, charge_of, due_of, has_lent_to, has_loan, loan_in, rental_in};
 use crate::fees::{Charge, list_fee, make_fee, test_owing};
 use crate::lists::{is_first_another, is_same, without, without_hold};
-use crate::lookup::{item_of, patron_of};
+use crate::lookup::{item_of, member_of, patron_of};
 use crate::renewals::renew_one;
 use crate::telling::{refuse, refuse_for, tell_made};
 use circ_policy::Policy;
@@ -75,7 +75,7 @@ fn other_of<S: Source>(
     if is_same(&loan.patron, &asked.request.patron) {
         return Ok(None);
     }
-    patron_of(asked.alloc, asked.policy, source, &loan.patron)
+    member_of(asked.alloc, asked.policy, source, &loan.patron)
 }
 
 /// The other borrower's record, without the item among the loans. Without memory nothing is written.
@@ -296,8 +296,8 @@ pub fn check_out<S: Source>(
     ensures means { IfOk result (λ e. (M : Map) → Agrees (S.has source.new) M → e ≡ checkout policy.now n request.now date M) }
     ensures keeps { Gains (S.has source.old) (S.has source.new) (checkout_rule policy.now n request.now date) }
 {
-    let member = patron_of(alloc, policy, source, &request.patron.id())?;
-    let article = item_of(alloc, policy, source, &request.item.id())?;
+    let member = patron_of(alloc, policy, source, &request.patron)?;
+    let article = item_of(alloc, policy, source, &request.item)?;
     let line = Line {
         alloc,
         policy,

@@ -8,12 +8,25 @@ ghost use Rattle.read_set.specs.Stops.{Follows};
 use circ_policy::Policy;
 use circ_records::{Fee, Key, Loan, Record};
 use read_set::{Article, Draft, Member, Source, Stop, known_fee, known_item, known_patron};
-use sip_reader::Id;
+use sip_reader::{Id, KeptId};
 use std::alloc::Global;
+
+/// The patron that a request names, where it is known.
+pub fn patron_of<S: Source>(
+    alloc: Global,
+    policy: &Policy,
+    source: &mut S,
+    id: &KeptId,
+) -> Result<Option<Member>, Stop>
+    ensures gives { Follows result (follow (S.has source.new) (patron_at policy.now id.now)) }
+    ensures keeps { Gains (S.has source.old) (S.has source.new) (patron_at policy.now id.now) }
+{
+    member_of(alloc, policy, source, &id.id())
+}
 
 /// The patron of an id, where it is known.
 #[tactic(auto, unfolding(crate::specs::Lookups::patron_at), using(read_set::proofs::Gaining::gains_ask))]
-pub fn patron_of<S: Source>(
+pub fn member_of<S: Source>(
     alloc: Global,
     policy: &Policy,
     source: &mut S,
@@ -26,18 +39,18 @@ pub fn patron_of<S: Source>(
     Ok(known_patron(policy, found))
 }
 
-/// The item of an id, where it is known.
+/// The item that a request names, where it is known.
 #[tactic(auto, unfolding(crate::specs::Lookups::item_at), using(read_set::proofs::Gaining::gains_ask))]
 pub fn item_of<S: Source>(
     alloc: Global,
     policy: &Policy,
     source: &mut S,
-    id: &Id,
+    id: &KeptId,
 ) -> Result<Option<Article>, Stop>
     ensures gives { Follows result (follow (S.has source.new) (item_at policy.now id.now)) }
     ensures keeps { Gains (S.has source.old) (S.has source.new) (item_at policy.now id.now) }
 {
-    let found = source.read(alloc, &Key::Item(*id))?;
+    let found = source.read(alloc, &Key::Item(id.id()))?;
     Ok(known_item(policy, found))
 }
 
@@ -63,7 +76,7 @@ pub fn borrower_of<S: Source>(
     ensures keeps { Gains (S.has source.old) (S.has source.new) (borrower_at policy.now loan) }
 {
     match loan {
-        Some(loan) => patron_of(alloc, policy, source, &loan.patron),
+        Some(loan) => member_of(alloc, policy, source, &loan.patron),
         None => Ok(None),
     }
 }

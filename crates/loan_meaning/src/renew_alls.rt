@@ -312,7 +312,7 @@ pub fn renew_all<S: Source>(
     ensures means { IfOk result (λ e. (M : Map) → Agrees (S.has source.new) M → e ≡ renew_all policy.now n request.now date M) }
     ensures keeps { Gains (S.has source.old) (S.has source.new) (renew_all_rule policy.now n request.now date) }
 {
-    let member = patron_of(alloc, policy, source, &request.patron.id())?;
+    let member = patron_of(alloc, policy, source, &request.patron)?;
     let line = Line {
         alloc,
         policy,

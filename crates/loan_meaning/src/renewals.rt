@@ -210,8 +210,8 @@ pub fn renew_item<S: Source>(
     ensures means { IfOk result (λ e. (M : Map) → Agrees (S.has source.new) M → e ≡ renew policy.now n request.now date M) }
     ensures keeps { Gains (S.has source.old) (S.has source.new) (renew_rule policy.now n request.now date) }
 {
-    let member = patron_of(alloc, policy, source, &request.patron.id())?;
-    let article = item_of(alloc, policy, source, &request.item.id())?;
+    let member = patron_of(alloc, policy, source, &request.patron)?;
+    let article = item_of(alloc, policy, source, &request.item)?;
     let a = ask_renew(request);
     let asked = Asked {
         alloc,

@@ -221,8 +221,8 @@ pub fn hold<S: Source>(
     ensures means { IfOk result (λ e. (M : Map) → Agrees (S.has source.new) M → e ≡ hold policy.now request.now date M) }
     ensures keeps { Gains (S.has source.old) (S.has source.new) (hold_rule policy.now request.now date) }
 {
-    let member = patron_of(alloc, policy, source, &request.patron.id())?;
-    let article = item_of(alloc, policy, source, &request.item.id())?;
+    let member = patron_of(alloc, policy, source, &request.patron)?;
+    let article = item_of(alloc, policy, source, &request.item)?;
     let asked = HoldAsked {
         alloc,
         policy,

@@ -26,7 +26,7 @@ pub fn update<S: Source>(
     ensures means { IfOk result (λ e. (M : Map) → Agrees (S.has source.new) M → e ≡ item_status policy.now request.now date M) }
     ensures keeps { Gains (S.has source.old) (S.has source.new) (item_status_rule policy.now request.now date) }
 {
-    let found = item_of(alloc, policy, source, &request.item.id())?;
+    let found = item_of(alloc, policy, source, &request.item)?;
     Ok(update_found(alloc, request, date, found)?)
 }
 

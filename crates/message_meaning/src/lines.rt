@@ -67,14 +67,7 @@ fn follow_request<S: Source>(
     ensures keeps { Gains (S.has source.old) (S.has source.new) (rule_of policy.now line request.now.date request.now.act) }
 {
     match &request.act {
-        Act::BlockPatron(asked) => block(
-            alloc,
-            policy,
-            true,
-            &asked.patron.id(),
-            request.date,
-            source,
-        ),
+        Act::BlockPatron(asked) => block(alloc, policy, true, &asked.patron, request.date, source),
         Act::Checkin(asked) => check_in(alloc, policy, line, asked, request.date, source),
         Act::Checkout(asked) => check_out(alloc, policy, line, asked, request.date, source),
         Act::Hold(asked) => hold(alloc, policy, asked, request.date, source),
@@ -83,7 +76,7 @@ fn follow_request<S: Source>(
             alloc,
             policy,
             false,
-            &asked.patron.id(),
+            &asked.patron,
             request.date,
             source,
         ),

@@ -297,6 +297,6 @@ pub fn take_payment<S: Source>(
     ensures means { IfOk result (λ e. (M : Map) → Agrees (S.has source.new) M → e ≡ fee_paid policy.now request.now date M) }
     ensures keeps { Gains (S.has source.old) (S.has source.new) (fee_paid_rule policy.now request.now date) }
 {
-    let member = patron_of(alloc, policy, source, &request.patron.id())?;
+    let member = patron_of(alloc, policy, source, &request.patron)?;
     pay_known(alloc, policy, request, date, member, source)
 }

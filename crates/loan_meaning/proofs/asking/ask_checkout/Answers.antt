@@ -14,4 +14,4 @@ returns c =
       | then-request w ↦ w.result-is ∙ w.if-request.true ∙ sym (ap (λ (b : Bool). b || q.cancel) w.if-request.true)
       | else-request w ↦ w.result-is ∙ sym (ap (λ (b : Bool). b || q.cancel) w.if-request.false)
     ] in
-    ap (λ (b : Bool). record all { forced = b }) forced
+    rw (c.id.ensures, c.id-2.ensures) (ap (λ (b : Bool). record all { forced = b }) forced)

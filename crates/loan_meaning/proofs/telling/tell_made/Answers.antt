@@ -10,6 +10,6 @@ returns c =
     let a = c.args.asked.now in
     c.answer.ensures
     ∙ ap (λ (parts : LoanAnswer). by_kind a.request.checkout parts)
-    (c.tell-parts.ensures
+    (c.in_ok-parts.ensures
     ∙ ap (λ (known : KnownItem). loan_answer_of a.policy.now a.request a.date (Some known) (Some c.args.due) c.args.renewed c.args.charge)
     (c.in_ok-known.ensures ∙ ap (λ (item : Item). known_item item) c.get.ensures))

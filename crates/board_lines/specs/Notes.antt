@@ -13,6 +13,7 @@ use Rattle.read_set.specs.declared.notes.Name.{Name}
 use Rattle.read_set.specs.declared.notes.Name.TheVariants as names
 use Rattle.read_set.specs.declared.notes.Note.{Note}
 use Rattle.version_store.specs.declared.table.Place.{Place}
+use Rattle.board_lines.specs.declared.notes.PlaceNote.{PlaceNote}
 use Rattle.board_lines.specs.declared.notes.PlacedName.{PlacedName}
 
 -- a note by its place: what the version there says
@@ -27,11 +28,9 @@ contents_at place = place.version.now
 abbrev pub note_with : {J : Type 0} → Key → PlacedName J → Noted
 note_with key n = record { key = key; name = n.name; contents = option_map contents_at n.place }
 
--- keys with their names and places
-abbrev pub noted_from : {J : Type 0} → List Key → List (PlacedName J) → List Noted
-noted_from [] names = []
-noted_from (k ∷ keys) [] = []
-noted_from (k ∷ keys) (n ∷ names) = note_with k n ∷ noted_from keys names
+-- a note of the code
+abbrev pub noted : {J : Type 0} → PlaceNote J → Noted
+noted n = note_with n.key n.seen
 
 -- the name of a note, and what the version at its place says
 abbrev pub by_place : {J : Type 0} → PlacedName J → Name × Option Contents
@@ -74,18 +73,17 @@ ArePlaced notes = (i : ℕ) (n : Noted) → slice_get notes i ≡ Some n → IsP
 abbrev pub AreOnce : List Noted → Type 0
 AreOnce notes = IsDistinct (eq_by_cmp key_cmp) (map (λ n. n.key) notes)
 
--- the first few keys
-abbrev pub few : List Key → List Key
-few keys = take 8 keys
+-- the first few notes
+abbrev pub few : {J : Type 0} → List (PlaceNote J) → List (PlaceNote J)
+few notes = take 8 notes
 
--- whether a key is one of these
-abbrev pub is_key_in : List Key → Key → Bool
-is_key_in keys k = list_any (eq_by_cmp key_cmp k) keys
+-- whether a key is noted in one of these
+abbrev pub is_key_in : {J : Type 0} → List (PlaceNote J) → Key → Bool
+is_key_in notes k = list_any (λ n. eq_by_cmp key_cmp k n.key) notes
 
--- each key has a name, and the keys, of which each is there once, can be found: among the first few, or by the index; a name has no
--- place just where it is the base's
-pub record AreNoted {J : Type 0} (keys : List Key) (names : List (PlacedName J)) (index : BTreeSet Key) : Type 0 where
-  pub as_many : length keys ≡ length names
-  pub each : (k : Key) → (is_key_in (few keys) k || contains key_cmp index k) ≡ is_noted (noted_from keys names) k
-  pub once : AreOnce (noted_from keys names)
-  pub placed : ArePlaced (noted_from keys names)
+-- the keys, of which each is there once, can be found: among the first few, or by the index; a name has no place just where it is
+-- the base's
+pub record AreNoted {J : Type 0} (notes : List (PlaceNote J)) (index : BTreeSet Key) : Type 0 where
+  pub each : (k : Key) → (is_key_in (few notes) k || contains key_cmp index k) ≡ is_noted (map noted notes) k
+  pub once : AreOnce (map noted notes)
+  pub placed : ArePlaced (map noted notes)

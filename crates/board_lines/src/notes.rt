@@ -30,39 +30,54 @@ impl<'t, J: PlanName> Clone for PlacedName<'t, J> {
 
 impl<'t, J: PlanName> Copy for PlacedName<'t, J> {}
 
+/// A note: a key, and as what it was seen.
+struct PlaceNote<'t, J: PlanName> {
+    key: Key,
+    seen: PlacedName<'t, J>,
+}
+
+impl<'t, J: PlanName> Clone for PlaceNote<'t, J> {
+    ghost use Rattle.std.specs.Prelude.{◌≡◌, ⊤};
+
+    ghost is_clone = { λ x y. y ≡ x };
+
+    ghost is_infallible = { λ _. ⊤ };
+
+    fn clone(&self) -> Result<PlaceNote<'t, J>, AllocError> {
+        Ok(*self)
+    }
+}
+
+impl<'t, J: PlanName> Copy for PlaceNote<'t, J> {}
+
 /// Among so many notes a key is looked for one by one: most lines have no more, and an index of them would take more memory
 /// than they do.
 const FEW: usize = 8;
 
 /// What a line has noted, in the order of looking: keys, names and places. It holds no record.
 pub struct PlaceNotes<'t, J: PlanName> {
-    keys: Vec<Key>,
-    names: Vec<PlacedName<'t, J>>,
+    notes: Vec<PlaceNote<'t, J>>,
     /// The keys again that aren't among the first few, to be found.
     index: BTreeSet<Key>,
 }
 
 impl<J: PlanName> Drop for PlaceNotes<'_, J> {
     fn drop(self) {
-        let PlaceNotes {
-            keys: _,
-            names: _,
-            index: _,
-        } = self;
+        let PlaceNotes { notes: _, index: _ } = self;
     }
 }
 
 impl<'t, J: PlanName> Model for PlaceNotes<'t, J> {
-    ghost use Rattle.std.specs.Prelude.{List};
+    ghost use Rattle.std.specs.Prelude.{List, map};
     ghost use Rattle.board_lines.specs.Notes.{Noted};
 
     ghost Value = { List Noted };
 
-    ghost use Rattle.board_lines.specs.Notes.{AreNoted, noted_from};
+    ghost use Rattle.board_lines.specs.Notes.{AreNoted, noted};
 
-    ghost view = { λ n. noted_from n.keys.items n.names.items };
+    ghost view = { λ n. map noted n.notes.items };
 
-    ghost invariant = { λ n. AreNoted n.keys.items n.names.items n.index };
+    ghost invariant = { λ n. AreNoted n.notes.items n.index };
 }
 
 impl<'t, J: PlanName> PlaceNotes<'t, J> {
@@ -71,8 +86,7 @@ impl<'t, J: PlanName> PlaceNotes<'t, J> {
         ensures { result ≡ [] }
     {
         PlaceNotes {
-            keys: Vec::new(alloc),
-            names: Vec::new(alloc),
+            notes: Vec::new(alloc),
             index: BTreeSet::new(alloc),
         }
     }
@@ -81,7 +95,7 @@ impl<'t, J: PlanName> PlaceNotes<'t, J> {
     pub fn has(&self, key: &Key) -> bool
         ensures { result ≡ is_noted self.now key.now }
     {
-        is_among(first_few(&self.keys), key) || self.index.contains(key)
+        is_among(first_few(&self.notes), key) || self.index.contains(key)
     }
 
     /// One more note, of a key that isn't noted; it has no place just where its name is the base's. Without memory nothing
@@ -92,12 +106,8 @@ impl<'t, J: PlanName> PlaceNotes<'t, J> {
         ensures ok { OnOk result (self.new ≡ self.old ++ note_with key.now seen.entry ∷ []) }
         ensures err { OnErr result (self.new ≡ self.old) }
     {
-        let position = self.keys.len();
-        let Ok(()) = self.keys.push(*key) else {
-            return Err(AllocError);
-        };
-        let Ok(()) = self.names.push(seen) else {
-            self.keys.pop();
+        let position = self.notes.len();
+        let Ok(()) = self.notes.push(PlaceNote { key: *key, seen }) else {
             return Err(AllocError);
         };
         if position < FEW {
@@ -106,8 +116,7 @@ impl<'t, J: PlanName> PlaceNotes<'t, J> {
         match self.index.insert(*key) {
             Ok(_) => Ok(()),
             Err(_) => {
-                self.names.pop();
-                self.keys.pop();
+                self.notes.pop();
                 Err(AllocError)
             }
         }
@@ -117,10 +126,8 @@ impl<'t, J: PlanName> PlaceNotes<'t, J> {
     pub fn clear(&mut self)
         ensures { self.new ≡ [] }
     {
-        self.keys.clear();
-        self.keys.shrink_to_fit();
-        self.names.clear();
-        self.names.shrink_to_fit();
+        self.notes.clear();
+        self.notes.shrink_to_fit();
         self.index.clear();
     }
 
@@ -130,69 +137,60 @@ impl<'t, J: PlanName> PlaceNotes<'t, J> {
         ensures once { AreOnce self.now }
         ensures placed { ArePlaced self.now }
     {
-        self.keys.len()
+        self.notes.len()
     }
 
     /// The key of the i-th note, from 0.
     pub fn key(&self, i: usize) -> Option<&Key>
         ensures { option_copied result ≡ option_map (λ n. n.key) (slice_get self.now i) }
     {
-        nth_key(&self.keys, i)
+        match nth(&self.notes, i) {
+            Some(note) => Some(&note.key),
+            None => None,
+        }
     }
 
     /// The key and the name of the i-th note, from 0.
     pub fn named(&self, i: usize) -> Option<(Key, Name)>
         ensures { result ≡ option_map key_and_name_of (slice_get self.now i) }
     {
-        let Some(key) = copied_key(&self.keys, i) else {
-            return None;
-        };
-        let Some(seen) = nth_name(&self.names, i) else {
-            return None;
-        };
-        Some((key, seen.name))
+        match nth(&self.notes, i) {
+            Some(note) => Some((note.key, note.seen.name)),
+            None => None,
+        }
     }
 
     /// The name and the place of the i-th note, from 0.
     pub fn seen(&self, i: usize) -> Option<PlacedName<'t, J>>
         ensures { option_map by_place result ≡ option_map named_in (slice_get self.now i) }
     {
-        nth_name(&self.names, i)
+        match nth(&self.notes, i) {
+            Some(note) => Some(note.seen),
+            None => None,
+        }
     }
 }
 
-/// The first few keys.
-fn first_few(keys: &[Key]) -> &[Key]
-    ensures { result.now ≡ few keys.now }
+/// The first few notes.
+fn first_few<'n, 't, J: PlanName>(notes: &'n [PlaceNote<'t, J>]) -> &'n [PlaceNote<'t, J>]
+    ensures { result.now ≡ few notes.now }
 {
-    if keys.len() <= FEW {
-        keys
+    if notes.len() <= FEW {
+        notes
     } else {
-        &keys[..FEW]
+        &notes[..FEW]
     }
 }
 
-/// Whether a key is one of these.
-fn is_among(keys: &[Key], key: &Key) -> bool
-    ensures { result ≡ is_key_in keys.now key.now }
+/// Whether a key is noted in one of these.
+fn is_among<J: PlanName>(notes: &[PlaceNote<'_, J>], key: &Key) -> bool
+    ensures { result ≡ is_key_in notes.now key.now }
 {
-    keys.iter().any(|other| *key == *other)
+    notes.iter().any(|note| *key == note.key)
 }
 
-fn nth_key(keys: &[Key], i: usize) -> Option<&Key>
-    ensures { option_copied result ≡ slice_get keys.now i }
+fn nth<'n, 't, J: PlanName>(notes: &'n [PlaceNote<'t, J>], i: usize) -> Option<&'n PlaceNote<'t, J>>
+    ensures { option_copied result ≡ slice_get notes.now i }
 {
-    keys.get(i)
-}
-
-fn copied_key(keys: &[Key], i: usize) -> Option<Key>
-    ensures { result ≡ slice_get keys.now i }
-{
-    keys.get(i).copied()
-}
-
-fn nth_name<'t, J: PlanName>(names: &[PlacedName<'t, J>], i: usize) -> Option<PlacedName<'t, J>>
-    ensures { result ≡ slice_get names.now i }
-{
-    names.get(i).copied()
+    notes.get(i)
 }

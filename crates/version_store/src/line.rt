@@ -119,7 +119,7 @@ fn position_of<J: PlanName>(
     requires { Rise entries.now.items }
     ensures { MatchResult result (IsAt entries.now.items key.now) (IsGap entries.now.items key.now) }
 {
-    entries.binary_search_by_key(key, |entry| entry.0)
+    entries.binary_search_by(|entry| entry.0.cmp(key))
 }
 
 /// Puts an entry at the key.

@@ -1,6 +1,6 @@
 use Rattle.std.proofs.Common.{◌<◌, length, sym, subst, rules}
 use Rattle.std.specs.List.Sorted.{IsBinarySearchResult, IsSearchInRange}
-use Rattle.std.proofs.lemmas.List.Sorted.{answers_always}
+use Rattle.std.proofs.lemmas.Fn.{always_returns_same}
 use Rattle.circ_records.specs.Keys.{key_cmp}
 use Rattle.circ_records.specs.declared.key.Key.{Key}
 use Rattle.circ_records.specs.declared.record.Record.{Record}
@@ -9,13 +9,13 @@ use Rattle.board_lines.proofs.reading.written.Goals as goal
 
 pub returns-in_default : goal.returns-in_default
 returns-in_default c =
-    let by = c.binary_search_by_key.ensures.position (λ (e : Key × Record). e.0) (answers_always _ _ _ (λ f a r g called. search rules)) in
+    let by = c.binary_search_by.ensures.position (λ (e : Key × Record). key_cmp e.0 c.args.key.now) (always_returns_same _ _ _ (λ a r f' called. (search rules, search rules))) in
     sym (found_nothing c.args.writes.now c.requires c.args.key.now c.in_default.field-0
     (subst (λ r. IsBinarySearchResult (λ (e : Key × Record). key_cmp e.0 c.args.key.now) c.args.writes.now r) c.in_default.is by))
 
 pub returns : goal.returns
 returns c =
-    let by = c.binary_search_by_key.ensures.position (λ (e : Key × Record). e.0) (answers_always _ _ _ (λ f a r g called. search rules)) in
-    let at : c.in-Ok.place < length c.args.writes.now = subst (λ r. IsSearchInRange r (length c.args.writes.now)) c.in-Ok.is c.binary_search_by_key.ensures.bound in
+    let by = c.binary_search_by.ensures.position (λ (e : Key × Record). key_cmp e.0 c.args.key.now) (always_returns_same _ _ _ (λ a r f' called. (search rules, search rules))) in
+    let at : c.in-Ok.place < length c.args.writes.now = subst (λ r. IsSearchInRange r (length c.args.writes.now)) c.in-Ok.is c.binary_search_by.ensures.bound in
     sym (search_found c.args.writes.now c.requires c.args.key.now c.in-Ok.place c.index-writes-place.result at
     (subst (λ r. IsBinarySearchResult (λ (e : Key × Record). key_cmp e.0 c.args.key.now) c.args.writes.now r) c.in-Ok.is by c.index-writes-place.result))

@@ -1,6 +1,7 @@
 use Rattle.std.proofs.Common.{rules, subst}
 use Rattle.std.specs.List.Sorted.{IsSearchInRange}
-use Rattle.std.proofs.lemmas.List.Sorted.{answers_always}
+use Rattle.std.proofs.lemmas.Fn.{always_returns_same}
+use Rattle.circ_records.specs.Keys.{key_cmp}
 use Rattle.circ_records.specs.declared.key.Key.{Key}
 use Rattle.version_store.specs.declared.entry.Entry.{Entry}
 use Rattle.version_store.proofs.Positions.{searched}
@@ -8,7 +9,7 @@ use Rattle.version_store.proofs.line.position_of.Goals as goal
 
 pub returns : goal.returns
 returns g c =
-    let facts = c.binary_search_by_key.ensures in
-    let by = facts.position (λ (e : Key × Entry g.row.J.Denot). e.0) (answers_always _ _ _ (λ f a r h called. search rules)) in
-    searched c.args.entries.now.items c.args.key.now c.binary_search_by_key.result c.requires
-    (subst (λ n. IsSearchInRange c.binary_search_by_key.result n) c.args.entries.now.ok.0 facts.bound) by
+    let facts = c.binary_search_by.ensures in
+    let by = facts.position (λ (e : Key × Entry g.row.J.Denot). key_cmp e.0 c.args.key.now) (always_returns_same _ _ _ (λ a r f' called. (search rules, search rules))) in
+    searched c.args.entries.now.items c.args.key.now c.binary_search_by.result c.requires
+    (subst (λ n. IsSearchInRange c.binary_search_by.result n) c.args.entries.now.ok.0 facts.bound) by

@@ -124,3 +124,16 @@ pub entry-more : (M : Map) (map_entries : Entries) (keys : List Key) (entries : 
     → HasAt ((keys ++ keys_named (take i entries)) ++ e.0 ∷ []) M map_entries → HasAt (keys ++ keys_named (take (i + 1) entries)) M map_entries
 entry-more M map_entries keys entries i e at has =
     subst (λ ks. HasAt ks M map_entries) (append_assoc keys (keys_named (take i entries)) (e.0 ∷ []) ∙ ap (λ (l : List Key). keys ++ l) (keys-next entries i e at)) has
+
+either-first : (b t : Bool) (x : Option Record) → cond (b || (t || false)) x None ≡ cond (t || b) x None
+either-first true true x = refl
+either-first true false x = refl
+either-first false true x = refl
+either-first false false x = refl
+
+-- the key that was taken last, told first
+pub key-first : (keys : List Key) (key : Key) (M : Map) (entries : Entries) → HasAt (keys ++ key ∷ []) M entries → HasAt (key ∷ keys) M entries
+key-first keys key M entries has k =
+    has k
+    ∙ ap (λ b. cond b (M k) None) (among keys key k)
+    ∙ either-first (list_any (is_at (key_cmp k)) keys) (is_at (key_cmp k) key) (M k)

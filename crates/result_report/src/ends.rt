@@ -112,7 +112,8 @@ fn take_base<'e, E: End<'e>>(end: &E, records: &mut BTreeMap<Key, Record>) -> Re
     ensures { OnOk result (HasAt [] (E.left end.now) records.old.entries
         → HasAt (map (λ e. e.0) (E.planned end.now).base) (E.left end.now) records.new.entries) }
 {
-    for key in end.plan().keys() {
+    // the greatest first: a search in the map then ends at the first key of each node
+    for key in end.plan().keys().rev() {
         put_record(end, key, records)?;
     }
     Ok(())

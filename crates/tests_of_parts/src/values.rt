@@ -1,7 +1,7 @@
 //! Days, dates, amounts, ids, texts and words.
 
 use sip_reader::{
-    AMOUNT_MAX, Amount, Day, Id, Kind, Passed, Reading, Stamp, Text, Why, push_amount,
+    AMOUNT_MAX, Amount, Day, Id, KeptId, Kind, Passed, Reading, Stamp, Text, Why, push_amount,
     read_request, sum_of, unsummed, without_line_end,
 };
 use std::test::Fail;
@@ -103,6 +103,26 @@ fn ids_and_texts(rt: HostRuntime) -> Result<(), Fail> {
     match Text::read(alloc, b"a b")? {
         Some(text) => assert!(rt; text.copy(alloc)?.as_bytes() == b"a b".as_slice()),
         None => assert!(rt; false),
+    }
+    Ok(())
+}
+
+/// Ids that stand in place, and longer ones, are kept as they are.
+#[test]
+fn kept_ids(rt: HostRuntime) -> Result<(), Fail> {
+    let longest = [b'7'; 64];
+    for length in [1, 9, 30, 31, 64] {
+        let bytes = &longest[..length];
+        let id = Id::new(bytes).expect(&rt, "an id");
+        let kept = KeptId::new(rt.alloc(), &id)?;
+        assert!(rt; kept.as_bytes() == bytes && kept.id() == id, "{length}");
+        assert!(rt; kept.copy(rt.alloc())?.as_bytes() == bytes, "{length}");
+        let read = KeptId::read(rt.alloc(), bytes)?.expect(&rt, "an id");
+        assert!(rt; read.id() == id, "{length}");
+    }
+    let others = [b"".as_slice(), b"a|b", &[b'7'; 65]];
+    for other in others {
+        assert!(rt; KeptId::read(rt.alloc(), other)?.is_none());
     }
     Ok(())
 }

@@ -9,7 +9,7 @@ use circ_records::{Base, Tables};
 use journal_table::Journal;
 use read_set::Plan;
 use sip_answer::{Answer, CheckinAnswer};
-use sip_reader::{Id, Stamp};
+use sip_reader::{KeptId, Stamp};
 use std::alloc::{AllocError, Global};
 
 /// Lines in which an unknown item is brought back; of every fourth the recorded response is wrong.
@@ -49,11 +49,11 @@ pub(crate) fn plan_of(alloc: Global, journal: &Journal) -> Option<Plan>
 }
 
 /// The answer to each of them.
-pub(crate) fn answer() -> Option<Answer> {
+pub(crate) fn answer(alloc: Global) -> Option<Answer> {
     Some(Answer::Checkin(CheckinAnswer {
         date: Stamp::new(b"20260320    090000")?,
-        institution: Id::new(b"L1")?,
-        item: Id::new(b"X9")?,
+        institution: KeptId::read(alloc, b"L1").ok()??,
+        item: KeptId::read(alloc, b"X9").ok()??,
         known: None,
         borrower: None,
         alert: false,

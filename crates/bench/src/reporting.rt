@@ -20,7 +20,8 @@ pub(crate) fn measure<R: Clock + Print + AllocGlobal + Threads + Sync>(
     let Ok(journal) = Journal::read(alloc, text.as_bytes()) else {
         bail!("the journal is refused");
     };
-    let (Some(plan), Some(answer)) = (checkins::plan_of(alloc, &journal), checkins::answer()) else {
+    let (Some(plan), Some(answer)) = (checkins::plan_of(alloc, &journal), checkins::answer(alloc))
+    else {
         bail!("no plan");
     };
     let outcome = outcome_of(alloc, &journal, &plan, &answer)?;

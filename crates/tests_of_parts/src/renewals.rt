@@ -1,7 +1,7 @@
 //! Responses to a renewal of all that name an item more than once, or more items than four digits tell. No run comes to these.
 
 use sip_answer::{Answer, ItemIds, RenewAllAnswer, differences, write_answer};
-use sip_reader::{Id, Stamp};
+use sip_reader::{Id, KeptId, Stamp};
 use std::alloc::{AllocError, AllocGlobal, Global};
 use std::process::Abort;
 use std::test::Fail;
@@ -18,11 +18,17 @@ fn items<R: AllocGlobal + Abort>(rt: &R, told: &str) -> ItemIds {
     ids
 }
 
+/// The id of the library.
+fn library<R: AllocGlobal + Abort>(rt: &R) -> KeptId {
+    let read = KeptId::read(rt.alloc(), b"L1").expect(rt, "memory");
+    read.expect(rt, "an id")
+}
+
 /// The response to a renewal of all.
 fn answer<R: AllocGlobal + Abort>(rt: &R, renewed: &str, unrenewed: &str) -> Answer {
     Answer::RenewAll(RenewAllAnswer {
         date: Stamp::new(b"20260309    120000").expect(rt, "a date"),
-        institution: Id::new(b"L1").expect(rt, "an id"),
+        institution: library(rt),
         ok: true,
         renewed: items(rt, renewed),
         unrenewed: items(rt, unrenewed),

@@ -194,14 +194,9 @@ each-part lines a (suc n) (y ∷ ys) E h =
     at rest zero t e = let same : y ≡ t = cc e in let here : a + zero ≡ a = omega arith in rw (here, ← same) h.0
     at rest (suc k) t e = let here : a + suc k ≡ a + 1 + k = omega arith in rw here (rest k t e)
 
-pub are-parts : (lines : List LineResult) (n : ℕ) (ks : List ℕ) (ys : List Texts) (E : Type 0) → ks ≡ range_with_len 0 n → length lines ≤ n * 4096
-    → AllZip (λ (k : ℕ) (r : Result Texts E). IfOk r (AreTexts (stretch k lines))) ks (map Ok ys) → AreParts lines ys
-are-parts lines n ks ys E positions all h =
-    let both = each-part lines 0 n ys E (rw positions at h) in
-    record {
-      each = λ k t e. let at : 0 + k ≡ k = omega arith in rw at at (both.1 k t e);
-      all = rw both.0 all;
-    }
+pub are-parts : (lines : List LineResult) (told n : ℕ) (ks : List ℕ) (ys : List Texts) (E : Type 0) → ks ≡ range_with_len told n
+    → AllZip (λ (k : ℕ) (r : Result Texts E). IfOk r (AreTexts (stretch k lines))) ks (map Ok ys) → (length ys ≡ n) × AreParts told lines ys
+are-parts lines told n ks ys E positions h = each-part lines told n ys E (rw positions at h)
 
 pub between-whole : {X : Type 0} (n : ℕ) (xs : List X) → length xs ≤ n → between 0 n xs ≡ xs
 between-whole n xs le = take_all (n - 0) xs (omega arith)

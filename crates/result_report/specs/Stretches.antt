@@ -1,5 +1,5 @@
 -- Results of lines in parts, one stretch after the other.
-use Rattle.std.specs.Prelude.{◌≡◌, ◌≤◌, ◌-◌, ◌*◌, ℕ, List, Some, drop, length, slice_get, take}
+use Rattle.std.specs.Prelude.{◌≡◌, ◌+◌, ◌-◌, ◌*◌, ℕ, List, Some, drop, slice_get, take}
 use Rattle.journal_table.specs.declared.readings.TheConstants.{STRETCH}
 use Rattle.result_report.specs.Report.{LineResult}
 use Rattle.result_report.specs.Tables.{AreTexts}
@@ -13,7 +13,6 @@ between from to lines = take (to - from) (drop from lines)
 abbrev pub stretch : {X : Type 0} → ℕ → List X → List X
 stretch k lines = take STRETCH (drop (k * STRETCH) lines)
 
--- the result tables of each stretch of these lines, and of no line beside them
-pub record AreParts (lines : List LineResult) (parts : List Texts) : Type 0 where
-  pub each : (k : ℕ) (t : Texts) → slice_get parts k ≡ Some t → AreTexts (stretch k lines) t
-  pub all : length lines ≤ length parts * STRETCH
+-- the result tables of stretches of these lines, of which so many are told
+abbrev pub AreParts : ℕ → List LineResult → List Texts → Type 0
+AreParts told lines parts = (k : ℕ) (t : Texts) → slice_get parts k ≡ Some t → AreTexts (stretch (told + k) lines) t

@@ -1,8 +1,9 @@
 //! The texts of the result tables.
 
-ghost use Rattle.std.specs.Prelude.{◌≡◌, ◌<◌, ◌≤◌, ◌+◌, ◌++◌, ◌^◌, [], List, IfOk, OnOk, drop, length, option_copied, option_map, slice_get};
+ghost use Rattle.std.specs.Prelude.{◌≡◌, ◌<◌, ◌≤◌, ◌+◌, ◌++◌, ◌^◌, ◌*◌, [], ℕ, List, IfOk, OnOk, drop, take, length, option_copied, option_map, slice_get};
 ghost use Rattle.read_set.specs.Plans.{readings_of};
 ghost use Rattle.result_report.specs.Report.{AreAnswers, LineResult, answers_behind, line_results};
+ghost use Rattle.journal_table.specs.declared.readings.TheConstants.{STRETCH};
 ghost use Rattle.result_report.specs.Stretches.{AreParts, between, stretch};
 ghost use Rattle.result_report.specs.Tables.{AreHeads, AreTexts};
 ghost use Rattle.result_report.specs.Tellings.{Tells};
@@ -53,6 +54,9 @@ pub fn report(
     tell(alloc, lines, plan, answers, 0, lines.len())?.finish()
 }
 
+/// So many stretches are told side by side and then joined: enough for all cores, and their texts are few beside the whole.
+const BATCH: usize = 32;
+
 /// The same, written by as many threads as there are processors, a stretch of lines at a time.
 pub fn report_parallel(
     rt: &(impl Threads + Sync),
@@ -68,16 +72,25 @@ pub fn report_parallel(
 {
     let lines = journal.lines();
     let answers = outcome.answers.as_slice();
-    let parts: Result<Vec<Texts>, AllocError> = (0..lines.len() / STRETCH + 1)
-        .into_par_iter()
-        .map(
-            |k: usize| -> Result<Texts, AllocError>
-                ensures { IfOk result (AreTexts (stretch k (line_results lines.entry.now plan.entry.now.readings (answers_behind answers.entry.now)))) }
-            { tell_stretch(alloc, lines, plan, answers, k) },
-        )
-        .with_min_len(1)
-        .collect(rt, alloc)?;
-    join(alloc, parts?)
+    let mut whole = Telling::new(alloc)?.finish()?;
+    let heads = Heads {
+        answers: whole.answers.len(),
+        report: whole.report.len(),
+        passed: whole.passed.len(),
+    };
+    for batch in 0..lines.len() / (BATCH * STRETCH) + 1 {
+        let parts: Result<Vec<Texts>, AllocError> = (batch * BATCH..batch * BATCH + BATCH)
+            .into_par_iter()
+            .map(
+                |k: usize| -> Result<Texts, AllocError>
+                    ensures { IfOk result (AreTexts (stretch k (line_results lines.entry.now plan.entry.now.readings (answers_behind answers.entry.now)))) }
+                { tell_stretch(alloc, lines, plan, answers, k) },
+            )
+            .with_min_len(1)
+            .collect(rt, alloc)?;
+        whole = join(whole, heads, parts?)?;
+    }
+    Ok(whole)
 }
 
 /// The result tables of one stretch of lines; stretches count from 0.
@@ -144,20 +157,16 @@ fn reading_at(plan: &Plan, position: usize) -> Option<&Reading>
     plan.readings().get(position)
 }
 
-/// The result tables of all stretches, from those of each. A part is given back once it is joined.
-fn join(alloc: Global, parts: Vec<Texts>) -> Result<Texts, AllocError>
-    ensures { IfOk result (λ t. (lines : List LineResult) → length lines < 2 ^ 64 → AreParts lines parts.items → AreTexts lines t) }
+/// The result tables with those of the next stretches behind them. A part is given back once it is joined.
+fn join(whole: Texts, heads: Heads, parts: Vec<Texts>) -> Result<Texts, AllocError>
+    ensures { IfOk result (λ t. (lines : List LineResult) (told : ℕ) → length lines < 2 ^ 64 → AreHeads heads
+        → AreTexts (take (told * STRETCH) lines) whole → AreParts told lines parts.items → AreTexts (take ((told + length parts.items) * STRETCH) lines) t) }
 {
-    let mut whole = Telling::new(alloc)?.finish()?;
-    let heads = Heads {
-        answers: whole.answers.len(),
-        report: whole.report.len(),
-        passed: whole.passed.len(),
-    };
+    let mut joined = whole;
     for part in parts {
-        whole.add(heads, &part)?;
+        joined.add(heads, &part)?;
     }
-    Ok(whole)
+    Ok(joined)
 }
 
 /// How many bytes the header of each table has.

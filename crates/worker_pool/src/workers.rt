@@ -185,24 +185,21 @@ fn run_line<J: PlanName + 'static, G: Gate, R: Wait>(
     gate: &G,
     task: Task,
 ) -> Result<Turn, Left> {
-    let Some(version) = read_line(rt, alloc, shared, task)? else {
+    let Some(place) = read_line(rt, alloc, shared, task)? else {
         return Ok(Turn::Yield);
-    };
-    let Ok(place) = shared.table().put(rt, version) else {
-        return Err(Left(BoardFault::Memory));
     };
     publish_line(rt, shared, gate, task, place)
 }
 
-/// Runs the rule of a line over what is looked at on the board, and noted: its version, which has read nothing but what
-/// the rule asks for; None where the attempt has ended.
-fn read_line<J: PlanName + 'static, R: Wait>(
+/// Runs the rule of a line over what is looked at on the board, and noted: the place of its version, which has read nothing
+/// but what the rule asks for; None where the attempt has ended.
+fn read_line<'t, J: PlanName + 'static, R: Wait>(
     rt: &R,
     alloc: Global,
-    shared: &SharedBoard<'_, '_, J>,
+    shared: &SharedBoard<'_, 't, J>,
     task: Task,
-) -> Result<Option<Version<J>>, Left>
-    ensures { IfOk result (λ o. IfSome o (λ v. AreAsked J.plan task.line v.reads)) }
+) -> Result<Option<Place<'t, J>>, Left>
+    ensures { IfOk result (λ o. IfSome o (λ p. AreAsked J.plan task.line p.version.now.reads)) }
 {
     let mut source = Noting {
         notes: Notes::new(alloc),
@@ -214,7 +211,13 @@ fn read_line<J: PlanName + 'static, R: Wait>(
         },
     };
     match perform(alloc, shared.plan(), task.line, &mut source) {
-        Ok(effect) => Ok(Some(version_of(task, source.notes, effect))),
+        Ok(effect) => {
+            let version = version_of(task, source.notes, effect);
+            match shared.table().put(rt, version) {
+                Ok(place) => Ok(Some(place)),
+                Err(_) => Err(Left(BoardFault::Memory)),
+            }
+        }
         Err(Stop::Unnoted(_)) => match source.looks.left {
             Some(left) => Err(left),
             None => Ok(None),

@@ -1,9 +1,8 @@
-use Rattle.std.proofs.Common.{◌≡◌, ◌∷◌, ◌++◌, [], ◌*◌, ◌+◌, List, Some, length, take, refl, sym, ap, ◌∙◌, subst, append_assoc, append-nil, length-append, arith, rules}
+use Rattle.std.proofs.Common.{◌≡◌, ◌∷◌, ◌++◌, [], ◌*◌, ◌+◌, List, Some, length, take, refl, sym, ap, ◌∙◌, subst, append_assoc, append-nil, length-append, arith}
 use Rattle.std.specs.Prelude.{slice_get}
 use Rattle.std.specs.Vec.Iter.{into_iter_items}
-use Rattle.std.proofs.lemmas.List.{take_all}
 use Rattle.result_report.specs.Stretches.{AreParts, stretch}
-use Rattle.result_report.specs.Tables.{AreHeads, AreTexts}
+use Rattle.result_report.specs.Tables.{AreTexts}
 use Rattle.result_report.specs.declared.texts.Texts.{Texts}
 use Rattle.result_report.proofs.Parts.{stretch-few, stretch-next}
 use Rattle.result_report.proofs.texts.join.Goals as goal
@@ -18,46 +17,39 @@ at-length [] y ys = refl
 at-length (x ∷ xs) y ys = at-length xs y ys
 
 pub loop-part-init : goal.loop-part-init
-loop-part-init c = (refl, (let gives = c.into_iter-part-iterator.ensures.into_iter_gives in let all = ap length gives.0 in omega (arith, gives.1, all, c.args.parts.ok.0)), λ lines small parts. c.in_ok-whole.ensures [] c.in_ok-new.ensures)
+loop-part-init c = (
+  refl,
+  (let gives = c.into_iter-part-iterator.ensures.into_iter_gives in let all = ap length gives.0 in omega (arith, gives.1, all, c.args.parts.ok.0)),
+  λ lines told small heads was parts. let at : told + 0 ≡ told = omega arith in rw at was,
+)
 
 pub loop-part-preserved : goal.loop-part-preserved
 loop-part-preserved c =
     let at = c.loop-part in
     let x = c.in-Some.part in
     let steps : into_iter_items at.part-iterator ≡ x ∷ into_iter_items c.next.new.self = c.in-Some.ensures.steps.0 in
-    let k = length at.yielded in
     let all : at.yielded ++ x ∷ into_iter_items c.next.new.self ≡ into_iter_items c.into_iter-part-iterator.result = rw (← steps) at.invariant.0 in (
       append_assoc at.yielded (x ∷ []) _ ∙ all,
       let was = at.invariant.1 in
           let gone = c.in-Some.ensures.steps.1 in
           let short = ap length steps in
           omega arith,
-      λ lines small parts.
-          let none = c.in_ok-whole.ensures [] c.in_ok-new.ensures in
-          let answers : c.len.result ≡ length c.in_ok-whole.whole.answers.items = search rules in
-          let report : c.len-2.result ≡ length c.in_ok-whole.whole.report.items = search rules in
-          let passed : c.len-3.result ≡ length c.in_ok-whole.whole.passed.items = search rules in
-          let heads : AreHeads (record { answers = c.len.result; report = c.len-2.result; passed = c.len-3.result }) = record {
-            answers = rw none.answers at answers;
-            report = rw none.report at report;
-            passed = rw none.passed at passed;
-          } in
+      λ lines told small heads front parts.
+          let k = told + length at.yielded in
           let few = stretch-few 4096 k lines in
-          let here : slice_get (into_iter_items c.into_iter-part-iterator.result) k ≡ Some x = ap (λ (ts : List Texts). slice_get ts k) (sym all) ∙ at-length at.yielded x (into_iter_items c.next.new.self) in
-          let one : length (at.yielded ++ x ∷ []) ≡ k + 1 = length-append at.yielded (x ∷ []) in
+          let here : slice_get (into_iter_items c.into_iter-part-iterator.result) (length at.yielded) ≡ Some x = ap (λ (ts : List Texts). slice_get ts (length at.yielded)) (sym all) ∙ at-length at.yielded x (into_iter_items c.next.new.self) in
+          let one : told + length (at.yielded ++ x ∷ []) ≡ k + 1 = omega (arith, length-append at.yielded (x ∷ [])) in
           subst (λ n. AreTexts (take (n * 4096) lines) c.add.new.self) (sym one)
           (subst (λ ls. AreTexts ls c.add.new.self) (stretch-next 4096 k lines)
-          (c.in_ok-add.ensures (take (k * 4096) lines) (stretch k lines) (omega arith) heads (at.invariant.2 lines small parts) (parts.each k x here))),
+          (c.in_ok-add.ensures (take (k * 4096) lines) (stretch k lines) (omega arith) heads (at.invariant.2 lines told small heads front parts) (parts (length at.yielded) x here))),
     )
 
 pub returns : goal.returns
-returns c lines small parts =
+returns c lines told small heads front parts =
     let at = c.loop-part in
     let none = c.in-None.ensures.steps in
     let empty : into_iter_items at.part-iterator ≡ [] = nothing-left _ (sym at.invariant.1 ∙ none.0) in
     let all = sym (append-nil at.yielded) ∙ rw empty at at.invariant.0 ∙ c.into_iter-part-iterator.ensures.into_iter_gives.0 in
     let first = c.into_iter-part-iterator.ensures.into_iter_gives.0 in
-    let same : AreParts lines (into_iter_items c.into_iter-part-iterator.result) = subst (λ (ts : List Texts). AreParts lines ts) (sym first) parts in
-    let most = parts.all in
-    let long = ap length all in
-    subst (λ ls. AreTexts ls at.whole) (take_all (length at.yielded * 4096) lines (omega arith)) (at.invariant.2 lines small same)
+    let same : AreParts told lines (into_iter_items c.into_iter-part-iterator.result) = subst (λ (ts : List Texts). AreParts told lines ts) (sym first) parts in
+    subst (λ n. AreTexts (take ((told + n) * 4096) lines) at.joined) (ap length all) (at.invariant.2 lines told small heads front same)

@@ -33,20 +33,20 @@ loop-batch-preserved g c =
     let all = line_results lines c.args.plan.now.readings (answers_behind answers) in
     let few = few-line_results lines c.args.plan.now.readings (answers_behind answers) in
     let small : length lines < 2 ^ 64 = search rules in
-    let told = c.loop-batch.batch * 32 in
+    let told = c.loop-batch.batch * 64 in
     let h = c.in_ok-parts.ensures in
     let given = h.1 in
     let ends = c.into_par_iter.ensures in
     let run = ap (λ m. m.base) c.with_min_len.ensures.base ∙ c.map.ensures.base in
     let closure = ap (λ m. m.f) c.with_min_len.ensures.base ∙ c.map.ensures.f in
     let each = subst (λ f. AllZip (λ (k : ℕ) r. IfOk r (AreTexts (stretch k (line_results f.1.now f.2.now.readings (answers_behind f.3.now))))) given.0 h.0) closure given.2 in
-    let all_of : told + 32 - told ≡ 32 = omega arith in
-    let positions : given.0 ≡ range_with_len told 32 = given.1 ∙ (λ i. nat_range ((run i).start) ((run i).end)) ∙ (λ i. nat_range (ends.0 i) (ends.1 i)) ∙ ap (range_with_len told) all_of in
+    let all_of : told + 64 - told ≡ 64 = omega arith in
+    let positions : given.0 ≡ range_with_len told 64 = given.1 ∙ (λ i. nat_range ((run i).start) ((run i).end)) ∙ (λ i. nat_range (ends.0 i) (ends.1 i)) ∙ ap (range_with_len told) all_of in
     let (ys, read, items) = rw c.in_ok-parts-2.was at h.2 in
-    let parts = are-parts all told 32 given.0 ys _ positions (subst (λ rs. AllZip (λ (k : ℕ) r. IfOk r (AreTexts (stretch k all))) given.0 rs) read each) in
+    let parts = are-parts all told 64 given.0 ys _ positions (subst (λ rs. AllZip (λ (k : ℕ) r. IfOk r (AreTexts (stretch k all))) given.0 rs) read each) in
     let before = c.loop-batch.invariant in
     let made = c.in_ok-whole-2.ensures all told (omega arith) before.heads before.told (subst (λ ps. AreParts told all ps) (sym items) parts.1) in
-    let count : told + length c.in_ok-parts-2.field-0.items ≡ (c.loop-batch.batch + 1) * 32 = omega (arith, ap length items, parts.0) in
+    let count : told + length c.in_ok-parts-2.field-0.items ≡ (c.loop-batch.batch + 1) * 64 = omega (arith, ap length items, parts.0) in
     record {
       heads = before.heads;
       told = subst (λ n. AreTexts (take (n * 4096) all) c.in_ok-whole-2.whole) count made;
@@ -58,10 +58,10 @@ returns-clause-texts g c =
     let answers = c.as_slice-answers.result.now in
     let all = line_results lines c.args.plan.now.readings (answers_behind answers) in
     let few = few-line_results lines c.args.plan.now.readings (answers_behind answers) in
-    let over : length lines / 131072 + 1 ≤ c.loop-batch.batch = search rules in
+    let over : length lines / 262144 + 1 ≤ c.loop-batch.batch = search rules in
     let same : all ≡ line_results c.args.journal.now (readings_of c.args.journal.now) (answers_behind c.args.outcome.now.answers.items) =
     λ i. line_results (c.lines-lines.ensures.lines i) (c.requires.planned i) (answers_behind (c.as_slice-answers.ensures.value i)) in
-    subst (λ ls. AreTexts ls c.loop-batch.whole) (take_all (c.loop-batch.batch * 32 * 4096) all (omega arith) ∙ same) c.loop-batch.invariant.told
+    subst (λ ls. AreTexts ls c.loop-batch.whole) (take_all (c.loop-batch.batch * 64 * 4096) all (omega arith) ∙ same) c.loop-batch.invariant.told
 
 pub returns-clause-each_once : goal.returns-clause-each_once
 returns-clause-each_once g c = each-once c.args.journal.now (answers_behind c.args.outcome.now.answers.items) c.loop-batch.whole c.requires.answered (returns-clause-texts g c)

@@ -36,19 +36,11 @@ struct PlaceNote<'t, J: PlanName> {
     seen: PlacedName<'t, J>,
 }
 
-impl<'t, J: PlanName> Clone for PlaceNote<'t, J> {
-    ghost use Rattle.std.specs.Prelude.{◌≡◌, ⊤};
-
-    ghost is_clone = { λ x y. y ≡ x };
-
-    ghost is_infallible = { λ _. ⊤ };
-
-    fn clone(&self) -> Result<PlaceNote<'t, J>, AllocError> {
-        Ok(*self)
+impl<J: PlanName> Drop for PlaceNote<'_, J> {
+    fn drop(self) {
+        let PlaceNote { key: _, seen: _ } = self;
     }
 }
-
-impl<'t, J: PlanName> Copy for PlaceNote<'t, J> {}
 
 /// Among so many notes a key is looked for one by one: most lines have no more, and an index of them would take more memory
 /// than they do.

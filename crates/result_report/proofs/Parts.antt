@@ -1,5 +1,5 @@
 -- Lines that are told at their positions, and in parts.
-use Rattle.std.proofs.Common.{◌≡◌, ◌∙◌, ◌<◌, ◌≤◌, ◌^◌, ◌-◌, ◌+◌, ◌*◌, ℕ, zero, suc, List, [], ◌∷◌, ◌++◌, length, take, drop, map, min, Option, Some, None, Result, Ok, Bor, arith, refl, sym, ap, inl, inr, append_assoc}
+use Rattle.std.proofs.Common.{◌≡◌, ◌∙◌, ◌<◌, ◌≤◌, ◌^◌, ◌-◌, ◌+◌, ◌*◌, ℕ, zero, suc, List, [], ◌∷◌, ◌++◌, length, take, drop, map, min, Option, Some, None, Result, Ok, Bor, arith, refl, sym, ap, ◌⊎◌, inl, inr, append_assoc}
 use Rattle.std.specs.Prelude.{IfOk, option_copied, option_map, slice_get}
 use Rattle.std.specs.List.{AllZip, filter_map, range_with_len}
 use Rattle.std.specs.Slice.{IsItemAt}
@@ -197,6 +197,11 @@ each-part lines a (suc n) (y ∷ ys) E h =
 pub are-parts : (lines : List LineResult) (told n : ℕ) (ks : List ℕ) (ys : List Texts) (E : Type 0) → ks ≡ range_with_len told n
     → AllZip (λ (k : ℕ) (r : Result Texts E). IfOk r (AreTexts (stretch k lines))) ks (map Ok ys) → (length ys ≡ n) × AreParts told lines ys
 are-parts lines told n ks ys E positions h = each-part lines told n ys E (rw positions at h)
+
+-- so many are taken, or all are
+pub taken-same : {X : Type 0} (xs : List X) (a b : ℕ) → (a ≡ b) ⊎ ((length xs ≤ a) × (length xs ≤ b)) → take a xs ≡ take b xs
+taken-same xs a b (inl e) = ap (λ n. take n xs) e
+taken-same xs a b (inr all) = take_all a xs all.0 ∙ sym (take_all b xs all.1)
 
 pub between-whole : {X : Type 0} (n : ℕ) (xs : List X) → length xs ≤ n → between 0 n xs ≡ xs
 between-whole n xs le = take_all (n - 0) xs (omega arith)

@@ -78,8 +78,10 @@ pub fn report_parallel(
         report: whole.report.len(),
         passed: whole.passed.len(),
     };
-    for batch in 0..lines.len() / (BATCH * STRETCH) + 1 {
-        let parts: Result<Vec<Texts>, AllocError> = (batch * BATCH..batch * BATCH + BATCH)
+    let stretches = lines.len() / STRETCH + 1;
+    for batch in 0..stretches / BATCH + 1 {
+        let from = batch * BATCH;
+        let parts: Result<Vec<Texts>, AllocError> = (from..stretches.min(from + BATCH))
             .into_par_iter()
             .map(
                 |k: usize| -> Result<Texts, AllocError>

@@ -7,13 +7,14 @@ ghost use Rattle.sip_reader.specs.Texts.{is_text};
 use crate::id::has_barred;
 use std::alloc::{AllocError, Global};
 use std::marker::Model;
+use std::sync::ArcSlice;
 
 /// The longest text, in bytes.
 pub const TEXT_MAX: usize = 1024;
 
-/// The longest text that takes no memory of its own, in bytes: with their count and a tag they take as much room as the
-/// vector of a longer one. Most names, titles and places are no longer.
-const FEW_MAX: usize = 30;
+/// The longest text that takes no memory of its own, in bytes: with their count and a tag they take two words. Ids, of which a
+/// line keeps many, are mostly no longer.
+const FEW_MAX: usize = 14;
 
 /// A text of a record or a message: at most 1,024 bytes without a bar, CR or LF.
 pub struct Text {
@@ -29,8 +30,9 @@ impl Drop for Text {
 /// Where the bytes of a text stand.
 enum Held {
     /// In place: the first `len` of these.
-    Few { bytes: [u8; 30], len: u8 },
-    Many(Vec<u8>),
+    Few { bytes: [u8; 14], len: u8 },
+    /// In memory that it has together with its copies.
+    Many(ArcSlice<u8>),
 }
 
 impl Drop for Held {
@@ -103,7 +105,7 @@ impl Held {
                 len: bytes.len() as u8,
             });
         }
-        let bytes = Vec::from_slice(alloc, bytes)?;
+        let bytes = ArcSlice::from_slice(alloc, bytes)?;
         Ok(Held::Many(bytes))
     }
 
@@ -127,20 +129,17 @@ impl Held {
                 bytes: *bytes,
                 len: *len,
             }),
-            Held::Many(bytes) => {
-                let bytes = Vec::from_slice(alloc, bytes.as_slice())?;
-                Ok(Held::Many(bytes))
-            }
+            Held::Many(bytes) => Ok(Held::Many(bytes.clone()?)),
         }
     }
 }
 
 /// The bytes, and zeros behind them.
-fn in_front(bytes: &[u8]) -> [u8; 30]
-    requires { length bytes.now ≤ 30 }
-    ensures { result ≡ bytes.now ++ replicate (30 - length bytes.now) 0 }
+fn in_front(bytes: &[u8]) -> [u8; 14]
+    requires { length bytes.now ≤ 14 }
+    ensures { result ≡ bytes.now ++ replicate (14 - length bytes.now) 0 }
 {
-    let mut whole = [0; 30];
+    let mut whole = [0; 14];
     for (i, b) in bytes.iter().enumerate() {
         whole[i] = *b;
     }

@@ -20,12 +20,14 @@ impl Drop for Hold {
     }
 }
 
-impl Hold {
-    /// The same hold.
-    pub fn copy(&self, alloc: Global) -> Result<Hold, AllocError>
-        ensures { IfOk result (λ h. h ≡ self.now) }
-    {
-        let pickup = self.pickup.copy(alloc)?;
+/// A clone is the same hold.
+impl Clone for Hold {
+    ghost use Rattle.std.specs.Prelude.{◌≡◌};
+
+    ghost is_clone = { λ x y. y ≡ x };
+
+    fn clone(&self) -> Result<Hold, AllocError> {
+        let pickup = self.pickup.clone()?;
         Ok(Hold {
             patron: self.patron,
             pickup,
@@ -119,7 +121,7 @@ fn copy_holds(alloc: Global, holds: &[Hold]) -> Result<Vec<Hold>, AllocError>
 {
     let mut copies = Vec::new(alloc);
     for hold in holds {
-        copies.push(hold.copy(alloc)?)?;
+        copies.push(hold.clone()?)?;
     }
     Ok(copies)
 }

@@ -195,7 +195,7 @@ impl Patron {
         ensures { IfOk result (λ p. p ≡ self.now) }
     {
         Ok(Patron {
-            name: self.name.copy(alloc)?,
+            name: self.name.clone()?,
             class: self.class,
             blocked: self.blocked,
             loans: self.loans.copy(alloc)?,
@@ -220,10 +220,10 @@ impl Item {
         ensures { IfOk result (λ i. i ≡ self.now) }
     {
         Ok(Item {
-            title: self.title.copy(alloc)?,
+            title: self.title.clone()?,
             media: self.media,
-            location: self.location.copy(alloc)?,
-            properties: self.properties.copy(alloc)?,
+            location: self.location.clone()?,
+            properties: self.properties.clone()?,
             loan: self.loan,
             holds: self.holds.copy(alloc)?,
         })

@@ -26,21 +26,21 @@ fn tell_unknown(line: &Line<'_>, request: &Checkin) -> Result<Answer, AllocError
     Ok(Answer::Checkin(CheckinAnswer {
         date: line.date,
         institution: KeptId::new(line.alloc, &line.policy.institution())?,
-        item: request.item.copy(line.alloc)?,
+        item: request.item.clone()?,
         known: None,
         borrower: None,
         alert: false,
     }))
 }
 
-fn show(alloc: Global, item: &Item) -> Result<ReturnedItem, AllocError>
+fn show(item: &Item) -> Result<ReturnedItem, AllocError>
     ensures { IfOk result (λ s. s ≡ returned_item item.now) }
 {
     Ok(ReturnedItem {
-        location: item.location.copy(alloc)?,
-        title: item.title.copy(alloc)?,
+        location: item.location.clone()?,
+        title: item.title.clone()?,
         media: item.media,
-        properties: item.properties.copy(alloc)?,
+        properties: item.properties.clone()?,
     })
 }
 
@@ -55,8 +55,8 @@ fn tell(
     Ok(Answer::Checkin(CheckinAnswer {
         date: line.date,
         institution: KeptId::new(line.alloc, &line.policy.institution())?,
-        item: request.item.copy(line.alloc)?,
-        known: Some(show(line.alloc, article.item.get())?),
+        item: request.item.clone()?,
+        known: Some(show(article.item.get())?),
         borrower,
         alert: has_queue(article.item.get().holds.as_slice()),
     }))

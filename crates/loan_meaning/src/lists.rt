@@ -138,7 +138,7 @@ fn holds_without(alloc: Global, holds: &[Hold], patron: &Id) -> Result<Vec<Hold>
         if !found && is_same(&hold.patron, patron) {
             found = true;
         } else {
-            kept.push(hold.copy(alloc)?)?;
+            kept.push(hold.clone()?)?;
         }
     }
     Ok(kept)
@@ -168,10 +168,10 @@ fn holds_with(
     let mut kept = Vec::new(alloc);
     let mut found = false;
     for hold in holds {
-        let mut hold = hold.copy(alloc)?;
+        let mut hold = hold.clone()?;
         if !found && is_same(&hold.patron, patron) {
             found = true;
-            hold.pickup = pickup.copy(alloc)?;
+            hold.pickup = pickup.clone()?;
         }
         kept.push(hold)?;
     }

@@ -9,15 +9,15 @@ use circ_records::Item;
 use read_set::{Article, Effect};
 use sip_answer::{Answer, KnownItem, LoanAnswer};
 use sip_reader::{Amount, Day, KeptId};
-use std::alloc::{AllocError, Global};
+use std::alloc::AllocError;
 
-fn show(alloc: Global, item: &Item) -> Result<KnownItem, AllocError>
+fn show(item: &Item) -> Result<KnownItem, AllocError>
     ensures { IfOk result (λ s. s ≡ known_item item.now) }
 {
     Ok(KnownItem {
-        title: item.title.copy(alloc)?,
+        title: item.title.clone()?,
         media: item.media,
-        properties: item.properties.copy(alloc)?,
+        properties: item.properties.clone()?,
     })
 }
 
@@ -74,7 +74,7 @@ pub fn tell_made(
 ) -> Result<Answer, AllocError>
     ensures { IfOk result (λ answer. answer ≡ loan_answer asked.now.policy.now asked.now.request asked.now.date (Some article.now.item) (Some due) renewed charge) }
 {
-    let known = show(asked.alloc, article.item.get())?;
+    let known = show(article.item.get())?;
     let parts = tell(asked, Some(known), Some(due), renewed, charge)?;
     Ok(answer(asked.request.checkout, parts))
 }
@@ -89,7 +89,7 @@ pub fn refuse_for(
     ensures { IfOk result (λ e. e ≡ refused asked.now.policy.now asked.now.request asked.now.date article rental) }
 {
     let known = match article {
-        Some(article) => Some(show(asked.alloc, article.item.get())?),
+        Some(article) => Some(show(article.item.get())?),
         None => None,
     };
     let parts = tell(asked, known, None, false, rental)?;

@@ -69,7 +69,7 @@ fn answer(
     let answer = PatronAnswer {
         date: asked.date,
         institution: KeptId::new(asked.alloc, &asked.policy.institution())?,
-        patron: asked.id.copy(asked.alloc)?,
+        patron: asked.id.clone()?,
         status,
         currency: asked.policy.currency(),
         known,
@@ -95,7 +95,7 @@ fn block_member(asked: &BlockAsked<'_>, member: Member, owes: u128) -> Result<Ef
 {
     let status = status_of_member(asked.blocks, &member, owes);
     let known = KnownPatron {
-        name: member.patron.get().name.copy(asked.alloc)?,
+        name: member.patron.get().name.clone()?,
         owed: owes,
     };
     let patron = blocked(asked.alloc, asked.blocks, member)?;

@@ -60,7 +60,7 @@ fn with_hold(alloc: Global, holds: &Holds, patron: &Id, pickup: &Text) -> Result
     let mut queue = holds.copy(alloc)?;
     queue.push(Hold {
         patron: *patron,
-        pickup: pickup.copy(alloc)?,
+        pickup: pickup.clone()?,
     })?;
     Ok(queue)
 }
@@ -78,7 +78,6 @@ fn change_queue(alloc: Global, request: &HoldRequest, holds: &Holds) -> Result<H
 }
 
 fn numbered(
-    alloc: Global,
     request: &HoldRequest,
     number: Option<usize>,
 ) -> Result<Option<QueuePosition>, AllocError>
@@ -87,24 +86,19 @@ fn numbered(
     match number {
         Some(number) => Ok(Some(QueuePosition {
             number,
-            pickup: request.pickup.copy(alloc)?,
+            pickup: request.pickup.clone()?,
         })),
         None => Ok(None),
     }
 }
 
 #[tactic(auto, unfolding(read_set::specs::Holds::hold_position))]
-fn position_in(
-    alloc: Global,
-    request: &HoldRequest,
-    holds: &Holds,
-) -> Result<Option<QueuePosition>, AllocError>
+fn position_in(request: &HoldRequest, holds: &Holds) -> Result<Option<QueuePosition>, AllocError>
     ensures { IfOk result (λ position. position ≡ hold_position request.now holds.now request.now.mode) }
 {
     match request.mode {
         HoldMode::Delete => Ok(None),
         HoldMode::Add | HoldMode::Change => numbered(
-            alloc,
             request,
             position(holds.as_slice(), &request.patron.id()),
         ),
@@ -137,8 +131,8 @@ fn tell(
     Ok(Answer::Hold(HoldAnswer {
         date: asked.date,
         institution: KeptId::new(asked.alloc, &asked.policy.institution())?,
-        patron: asked.request.patron.copy(asked.alloc)?,
-        item: asked.request.item.copy(asked.alloc)?,
+        patron: asked.request.patron.clone()?,
+        item: asked.request.item.clone()?,
         ok,
         available,
         position,
@@ -152,8 +146,8 @@ fn keep_queue(asked: &HoldAsked<'_>, item: Shared<Item>, holds: Holds) -> Result
 {
     let alloc = asked.alloc;
     let available = is_available_to(asked.request, item.get(), &holds);
-    let position = position_in(alloc, asked.request, &holds)?;
-    let title = item.get().title.copy(alloc)?;
+    let position = position_in(asked.request, &holds)?;
+    let title = item.get().title.clone()?;
     let answer = tell(asked, Some(title), true, available, position)?;
     let mut item = Item::of(alloc, item)?;
     item.holds = holds;
@@ -170,7 +164,7 @@ fn hold_item(asked: &HoldAsked<'_>, blocked: bool, item: Shared<Item>) -> Result
 {
     let request = asked.request;
     if is_refused(request.mode, &request.patron.id(), blocked, item.get()) {
-        let title = item.get().title.copy(asked.alloc)?;
+        let title = item.get().title.clone()?;
         let answer = tell(asked, Some(title), false, false, None)?;
         return Ok(Effect::unwritten(asked.alloc, Some(answer)));
     }
@@ -178,11 +172,11 @@ fn hold_item(asked: &HoldAsked<'_>, blocked: bool, item: Shared<Item>) -> Result
     keep_queue(asked, item, holds)
 }
 
-fn title_of(alloc: Global, article: Option<Article>) -> Result<Option<Text>, AllocError>
+fn title_of(article: Option<Article>) -> Result<Option<Text>, AllocError>
     ensures { IfOk result (λ t. t ≡ option_map (λ a. a.item.title) article) }
 {
     match article {
-        Some(article) => Ok(Some(article.item.get().title.copy(alloc)?)),
+        Some(article) => Ok(Some(article.item.get().title.clone()?)),
         None => Ok(None),
     }
 }
@@ -196,7 +190,7 @@ fn hold_both(
     ensures { IfOk result (λ e. e ≡ held asked.now.policy.now asked.now.request.now asked.now.date member article) }
 {
     let Some(member) = member else {
-        let title = title_of(asked.alloc, article)?;
+        let title = title_of(article)?;
         let answer = tell(asked, title, false, false, None)?;
         return Ok(Effect::unwritten(asked.alloc, Some(answer)));
     };

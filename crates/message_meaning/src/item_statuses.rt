@@ -41,36 +41,35 @@ fn update_found(
     ensures { IfOk result (λ e. e ≡ updated request.now date found) }
 {
     let Some(article) = found else {
-        let answer = answer(alloc, request, date, None)?;
+        let answer = answer(request, date, None)?;
         return Ok(Effect::unwritten(alloc, Some(answer)));
     };
     let Some(given) = &request.properties else {
-        let known = show(alloc, article.item.get())?;
-        let answer = answer(alloc, request, date, known)?;
+        let known = show(article.item.get())?;
+        let answer = answer(request, date, known)?;
         return Ok(Effect::unwritten(alloc, Some(answer)));
     };
     let mut item = Item::of(alloc, article.into_item())?;
-    item.properties = given.copy(alloc)?;
-    let known = show(alloc, &item)?;
+    item.properties = given.clone()?;
+    let known = show(&item)?;
     let written = Record::item(alloc, item)?;
     let writes = Writes::one(alloc, Key::Item(request.item.id()), written)?;
     Ok(Effect {
         writes,
-        answer: Some(answer(alloc, request, date, known)?),
+        answer: Some(answer(request, date, known)?),
     })
 }
 
-fn show(alloc: Global, item: &Item) -> Result<Option<TitledItem>, AllocError>
+fn show(item: &Item) -> Result<Option<TitledItem>, AllocError>
     ensures { IfOk result (λ t. t ≡ titled item.now.title item.now.properties) }
 {
     Ok(Some(TitledItem {
-        title: item.title.copy(alloc)?,
-        properties: item.properties.copy(alloc)?,
+        title: item.title.clone()?,
+        properties: item.properties.clone()?,
     }))
 }
 
 fn answer(
-    alloc: Global,
     request: &ItemStatus,
     date: Stamp,
     known: Option<TitledItem>,
@@ -79,7 +78,7 @@ fn answer(
 {
     Ok(Answer::ItemStatus(ItemStatusAnswer {
         date,
-        item: request.item.copy(alloc)?,
+        item: request.item.clone()?,
         known,
     }))
 }

@@ -177,7 +177,7 @@ fn tell(
     Ok(Answer::FeePaid(FeePaidAnswer {
         date,
         institution: KeptId::new(alloc, &policy.institution())?,
-        patron: request.patron.copy(alloc)?,
+        patron: request.patron.clone()?,
         accepted,
     }))
 }

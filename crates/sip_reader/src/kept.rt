@@ -1,15 +1,20 @@
 //! Ids that are kept.
 
 ghost use Rattle.std.specs.Prelude.{◌≡◌, IfOk, if◌then◌else◌, Some, None};
+ghost use Rattle.std.specs.Cmp.Lexicographic.{slice_cmp};
+ghost use Rattle.std.specs.Cmp.Rules.{comparing};
+ghost use Rattle.std.specs.Ordering.{nat_cmp, eq_by_cmp};
+ghost use Rattle.std.proofs.Common.{rules};
 ghost use Rattle.sip_reader.specs.Texts.{is_id};
 
 use crate::id::{Id, is_valid};
 use crate::text::Text;
 use std::alloc::{AllocError, Global};
+use std::cmp::Ordering;
 use std::marker::Model;
 
-/// An id as readings and answers keep it: in half the room of an `Id`, which has room for the longest one in place. A longer one
-/// than most has memory of its own, so this isn't `Copy`.
+/// An id as readings, answers and records keep it: in a fourth of the room of an `Id`, which has room for the longest one in place.
+/// A longer one than most stands in memory once for all its copies, so this isn't `Copy`.
 pub struct KeptId {
     text: Text,
 }
@@ -66,11 +71,36 @@ impl KeptId {
         self.text.as_bytes()
     }
 
-    /// The same id.
-    pub fn copy(&self, alloc: Global) -> Result<KeptId, AllocError>
-        ensures { IfOk result (λ kept. kept ≡ self.now) }
+    /// How its bytes go against those of an id, in the order of bytes.
+    pub fn order(&self, other: &Id) -> Ordering
+        ensures { result ≡ slice_cmp nat_cmp self.now other.now }
     {
-        let text = self.text.copy(alloc)?;
+        self.as_bytes().cmp(other.as_bytes())
+    }
+}
+
+/// A clone is the same id.
+impl Clone for KeptId {
+    ghost use Rattle.std.specs.Prelude.{◌≡◌};
+
+    ghost is_clone = { λ x y. y ≡ x };
+
+    fn clone(&self) -> Result<KeptId, AllocError> {
+        let text = self.text.clone()?;
         Ok(KeptId { text })
     }
+}
+
+impl PartialEq for KeptId {
+    ghost eq = { eq_by_cmp (slice_cmp nat_cmp) };
+
+    ghost laws = { Prim.search (comparing, rules) };
+
+    fn eq(&self, other: &KeptId) -> bool {
+        self.as_bytes().cmp(other.as_bytes()).is_eq()
+    }
+}
+
+impl Eq for KeptId {
+    ghost laws = { Prim.search (comparing, rules) };
 }

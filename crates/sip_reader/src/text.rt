@@ -84,12 +84,16 @@ impl Text {
     {
         self.held.as_slice()
     }
+}
 
-    /// The same text.
-    pub fn copy(&self, alloc: Global) -> Result<Text, AllocError>
-        ensures { IfOk result (λ t. t ≡ self.now) }
-    {
-        let held = self.held.copy(alloc)?;
+/// A clone is the same text. It takes no memory.
+impl Clone for Text {
+    ghost use Rattle.std.specs.Prelude.{◌≡◌};
+
+    ghost is_clone = { λ x y. y ≡ x };
+
+    fn clone(&self) -> Result<Text, AllocError> {
+        let held = self.held.copy()?;
         Ok(Text { held })
     }
 }
@@ -119,7 +123,7 @@ impl Held {
         }
     }
 
-    fn copy(&self, alloc: Global) -> Result<Held, AllocError>
+    fn copy(&self) -> Result<Held, AllocError>
         requires { IsWithin self.now }
         ensures within { IfOk result IsWithin }
         ensures bytes { IfOk result (λ held. bytes_held held ≡ bytes_held self.now) }

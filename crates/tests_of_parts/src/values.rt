@@ -101,7 +101,7 @@ fn ids_and_texts(rt: HostRuntime) -> Result<(), Fail> {
     assert!(rt; Id::of_fee(7, 0).as_bytes() == b"R7-0".as_slice());
     assert!(rt; Text::read(alloc, b"a|b")?.is_none());
     match Text::read(alloc, b"a b")? {
-        Some(text) => assert!(rt; text.copy(alloc)?.as_bytes() == b"a b".as_slice()),
+        Some(text) => assert!(rt; text.clone()?.as_bytes() == b"a b".as_slice()),
         None => assert!(rt; false),
     }
     Ok(())

@@ -1,9 +1,9 @@
 //! Records of a library to measure over.
 
 use circ_policy::MediaType;
-use circ_records::{Fee, FeeType, Holds, Ids, Item, Key, Loan, Patron, Record};
+use circ_records::{Fee, FeeType, Holds, Ids, Item, KeptLoan, Key, Loan, Patron, Record};
 use read_set::{Looks, Name, Source, Stop};
-use sip_reader::{Amount, Day, Id, Text};
+use sip_reader::{Amount, Day, Id, KeptId, Text};
 use std::alloc::{AllocError, Global};
 use std::collections::BTreeMap;
 
@@ -93,7 +93,7 @@ pub(crate) fn owe(alloc: Global, count: u64) -> Result<Shelf, AllocError> {
 fn member(alloc: Global, loans: Ids, fees: Ids) -> Result<Record, AllocError> {
     let patron = Patron {
         name: text(alloc, b"Ann")?,
-        class: id(b"A")?,
+        class: KeptId::new(alloc, &id(b"A")?)?,
         blocked: false,
         loans,
         fees,
@@ -122,16 +122,17 @@ fn lent(alloc: Global, patron: Id) -> Result<Item, AllocError> {
     let Some(media) = MediaType::of_code(b"005") else {
         return Err(AllocError);
     };
+    let loan = Loan {
+        patron,
+        due,
+        renewals: 0,
+    };
     Ok(Item {
         title: text(alloc, b"The Sea around Us")?,
         media,
         location: text(alloc, b"Main")?,
         properties: text(alloc, b"")?,
-        loan: Some(Loan {
-            patron,
-            due,
-            renewals: 0,
-        }),
+        loan: Some(KeptLoan::new(alloc, &loan)?),
         holds: Holds::new(alloc),
     })
 }

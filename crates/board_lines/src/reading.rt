@@ -9,7 +9,7 @@ ghost use Rattle.board_steps.specs.Steps.{IsVersion};
 ghost use Rattle.board_lines.specs.Notes.{found_by, notes_by, contents_at};
 
 use crate::notes::{PlaceNotes, PlacedName};
-use circ_records::{Key, Record};
+use circ_records::{KeptKey, Key, Record};
 use read_set::{Note, Notes, Plan, PlanName};
 use std::alloc::{AllocError, Global};
 use version_store::Place;
@@ -49,13 +49,14 @@ pub fn read_notes<J: PlanName>(
 {
     let mut notes = Notes::new(alloc);
     for i in 0..noted.len() {
-        notes.add(read_note(plan, noted, i)?)?;
+        notes.add(read_note(alloc, plan, noted, i)?)?;
     }
     Ok(notes)
 }
 
 /// The i-th note with its record.
 fn read_note<J: PlanName>(
+    alloc: Global,
     plan: &Plan,
     noted: &PlaceNotes<'_, J>,
     i: usize,
@@ -70,7 +71,7 @@ fn read_note<J: PlanName>(
         unreachable!()
     };
     Ok(Note {
-        key: *key,
+        key: KeptKey::new(alloc, key)?,
         name: seen.name,
         found: copied(record_seen(plan, key, seen.place))?,
     })

@@ -6,7 +6,7 @@ ghost use Rattle.board_lines.specs.Notes.{found_by, notes_by, contents_at};
 
 use crate::notes::PlaceNotes;
 use crate::reading::record_seen;
-use circ_records::{Key, Record};
+use circ_records::{KeptKey, Key, Record};
 use read_set::{Name, Note, Plan, PlanName};
 use version_store::Place;
 
@@ -39,7 +39,7 @@ fn same_note<J: PlanName>(plan: &Plan, ours: &PlaceNotes<'_, J>, i: usize, their
     let Some(seen) = ours.seen(i) else {
         return false;
     };
-    if !same_key(&theirs.key, key) {
+    if !same_key(key, &theirs.key) {
         return false;
     }
     if !same_name(theirs.name, seen.name) {
@@ -102,9 +102,9 @@ fn same_numbers(line: u64, theirs: u64, attempt: u32, newest: u32) -> bool
     attempt == newest
 }
 
-/// Whether two keys are the same.
-fn same_key(a: &Key, b: &Key) -> bool
-    ensures { Decides result (a.now ≡ b.now) }
+/// Whether a key is the kept one.
+fn same_key(key: &Key, kept: &KeptKey) -> bool
+    ensures { Decides result (kept.now ≡ key.now) }
 {
-    a == b
+    kept.is(key)
 }

@@ -9,7 +9,7 @@ ghost use Rattle.circ_records.specs.declared.key.Key.{Key};
 
 use crate::holds::Hold;
 use crate::key::Key;
-use crate::record::{Item, Loan, Patron, Record};
+use crate::record::{Item, KeptLoan, Loan, Patron, Record};
 use crate::shared::Shared;
 use sip_reader::Id;
 use std::alloc::{AllocError, Global};
@@ -136,11 +136,12 @@ fn set_loan(alloc: Global, item: &mut Shared<Item>, loan: Loan) -> Result<(), Al
     ensures ok { OnOk result (item.new ≡ record item.old { loan = Some loan }) }
     ensures err { OnErr result (item.new ≡ item.old) }
 {
+    let kept = KeptLoan::new(alloc, &loan)?;
     match item.sole() {
-        Some(item) => item.loan = Some(loan),
+        Some(item) => item.loan = Some(kept),
         None => {
             let mut other = item.get().copy(alloc)?;
-            other.loan = Some(loan);
+            other.loan = Some(kept);
             *item = Shared::new(alloc, other)?;
         }
     }

@@ -72,7 +72,7 @@ pub(crate) fn is_borrower(records: &BTreeMap<Key, Record>, patron: Id, id: Id) -
     ensures { (r : Rows) → Tells r records.now → result ≡ (has_row 0 id r.items && Rules.is_borrower patron id r.loans) }
 {
     match item_at(records, id) {
-        Some(item) => is_loan_of(patron, item.loan),
+        Some(item) => is_loan_of(patron, item.loan()),
         None => false,
     }
 }

@@ -70,7 +70,7 @@ fn loan_of(records: &Records, item: &Id) -> Option<Loan>
 {
     match records.get(&Key::Item(*item)) {
         Some(record) => match record {
-            Record::Item(item) => item.get().loan,
+            Record::Item(item) => item.get().loan(),
             Record::Patron(_) | Record::Fee(_) => None,
         },
         None => None,

@@ -25,7 +25,7 @@ use crate::values::flag_of;
 use circ_policy::Policy;
 use csv::ByteRecord;
 use csv_table::column;
-use sip_reader::{Id, Text};
+use sip_reader::{Id, KeptId, Text};
 use std::alloc::{AllocError, Global};
 use std::collections::BTreeMap;
 
@@ -144,7 +144,7 @@ fn patron_of(alloc: Global, row: &ByteRecord) -> Result<Patron, AllocError>
 {
     Ok(Patron {
         name: Text::new(alloc, column(row, 1))?,
-        class: id_at(row, 2),
+        class: KeptId::new(alloc, &id_at(row, 2))?,
         blocked: flag_of(column(row, 3)).unwrap(),
         loans: Ids::new(alloc),
         fees: Ids::new(alloc),

@@ -7,8 +7,9 @@ use crate::holds::Holds;
 use crate::ids::Ids;
 use crate::shared::Shared;
 use circ_policy::MediaType;
-use sip_reader::{Amount, Day, Id, Text};
+use sip_reader::{Amount, Day, Id, KeptId, Text};
 use std::alloc::{AllocError, Global};
+use std::marker::Model;
 
 /// What stands under a key. It stands in memory once, for itself and for its copies.
 #[derive(Drop)]
@@ -21,7 +22,7 @@ pub enum Record {
 /// A member of the library.
 pub struct Patron {
     pub name: Text,
-    pub class: Id,
+    pub class: KeptId,
     pub blocked: bool,
     /// The items that the patron has on loan, the oldest loan first.
     pub loans: Ids,
@@ -48,7 +49,7 @@ pub struct Item {
     /// Where it stands when nobody has it.
     pub location: Text,
     pub properties: Text,
-    pub loan: Option<Loan>,
+    pub loan: Option<KeptLoan>,
     /// Who waits for it, in order.
     pub holds: Holds,
 }
@@ -73,6 +74,71 @@ pub struct Loan {
     pub due: Day,
     /// How often it was renewed.
     pub renewals: u32,
+}
+
+/// A loan as an item's record keeps it: with its patron in the room of a kept id.
+pub struct KeptLoan {
+    pub(crate) patron: KeptId,
+    pub(crate) due: Day,
+    pub(crate) renewals: u32,
+}
+
+impl Drop for KeptLoan {
+    fn drop(self) {
+        let KeptLoan {
+            patron: _,
+            due: _,
+            renewals: _,
+        } = self;
+    }
+}
+
+impl Model for KeptLoan {
+    ghost use Rattle.circ_records.specs.declared.record.Loan.{Loan};
+
+    ghost Value = { Loan };
+
+    ghost view = { λ k. record { patron = k.patron; due = k.due; renewals = k.renewals } };
+}
+
+impl KeptLoan {
+    /// The same loan, kept.
+    pub fn new(alloc: Global, loan: &Loan) -> Result<KeptLoan, AllocError>
+        ensures { IfOk result (λ kept. kept ≡ loan.now) }
+    {
+        Ok(KeptLoan {
+            patron: KeptId::new(alloc, &loan.patron)?,
+            due: loan.due,
+            renewals: loan.renewals,
+        })
+    }
+
+    /// The loan.
+    pub fn loan(&self) -> Loan
+        ensures { result ≡ self.now }
+    {
+        Loan {
+            patron: self.patron.id(),
+            due: self.due,
+            renewals: self.renewals,
+        }
+    }
+}
+
+/// A clone is the same loan.
+impl Clone for KeptLoan {
+    ghost use Rattle.std.specs.Prelude.{◌≡◌};
+
+    ghost is_clone = { λ x y. y ≡ x };
+
+    fn clone(&self) -> Result<KeptLoan, AllocError> {
+        let patron = self.patron.clone()?;
+        Ok(KeptLoan {
+            patron,
+            due: self.due,
+            renewals: self.renewals,
+        })
+    }
 }
 
 /// What a patron was charged, in hundredths.
@@ -196,7 +262,7 @@ impl Patron {
     {
         Ok(Patron {
             name: self.name.clone()?,
-            class: self.class,
+            class: self.class.clone()?,
             blocked: self.blocked,
             loans: self.loans.copy(alloc)?,
             fees: self.fees.copy(alloc)?,
@@ -224,9 +290,29 @@ impl Item {
             media: self.media,
             location: self.location.clone()?,
             properties: self.properties.clone()?,
-            loan: self.loan,
+            loan: self.kept_loan()?,
             holds: self.holds.copy(alloc)?,
         })
+    }
+
+    /// The loan of the item.
+    pub fn loan(&self) -> Option<Loan>
+        ensures { result ≡ self.now.loan }
+    {
+        match &self.loan {
+            Some(loan) => Some(loan.loan()),
+            None => None,
+        }
+    }
+
+    /// The loan of the item, kept once more.
+    fn kept_loan(&self) -> Result<Option<KeptLoan>, AllocError>
+        ensures { IfOk result (λ loan. loan ≡ self.now.loan) }
+    {
+        match &self.loan {
+            Some(loan) => Ok(Some(loan.clone()?)),
+            None => Ok(None),
+        }
     }
 
     /// An item on its own, to be changed: the very fields, where nobody else has the record, and else a copy.

@@ -5,9 +5,9 @@ ghost use Rattle.std.specs.Bool.{Decides};
 
 use crate::holds::{Hold, Holds};
 use crate::ids::Ids;
-use crate::record::{Fee, FeeType, Item, Loan, Patron, Record};
+use crate::record::{Fee, FeeType, Item, KeptLoan, Patron, Record};
 use circ_policy::MediaType;
-use sip_reader::{Amount, Day, Id, Text};
+use sip_reader::{Amount, Day, Id, KeptId, Text};
 
 impl Record {
     /// Whether two records are the same: of one kind, and alike in each field.
@@ -37,7 +37,7 @@ fn same_patron(a: &Patron, b: &Patron) -> bool
     if !same_text(&a.name, &b.name) {
         return false;
     }
-    if !same_id(&a.class, &b.class) {
+    if !same_kept(&a.class, &b.class) {
         return false;
     }
     if a.blocked != b.blocked {
@@ -85,7 +85,7 @@ fn same_fee(a: &Fee, b: &Fee) -> bool
     same_amount(a.paid, b.paid)
 }
 
-fn same_lending(a: &Option<Loan>, b: &Option<Loan>) -> bool
+fn same_lending(a: &Option<KeptLoan>, b: &Option<KeptLoan>) -> bool
     ensures { Decides result (a.now ≡ b.now) }
 {
     match a {
@@ -100,10 +100,10 @@ fn same_lending(a: &Option<Loan>, b: &Option<Loan>) -> bool
     }
 }
 
-fn same_loan(a: &Loan, b: &Loan) -> bool
+fn same_loan(a: &KeptLoan, b: &KeptLoan) -> bool
     ensures { Decides result (a.now ≡ b.now) }
 {
-    if !same_id(&a.patron, &b.patron) {
+    if !same_kept(&a.patron, &b.patron) {
         return false;
     }
     if !same_day(a.due, b.due) {
@@ -159,6 +159,12 @@ fn same_id_slices(a: &[Id], b: &[Id]) -> bool
         }
     }
     true
+}
+
+fn same_kept(a: &KeptId, b: &KeptId) -> bool
+    ensures { Decides result (a.now ≡ b.now) }
+{
+    a.as_bytes() == b.as_bytes()
 }
 
 fn same_id(a: &Id, b: &Id) -> bool

@@ -84,7 +84,7 @@ pub fn has_lent_to(patron: &Id, loan: Option<Loan>) -> bool
 pub fn loan_in(article: &Article) -> Option<Loan>
     ensures { result ≡ article.now.item.loan }
 {
-    article.item.get().loan
+    article.item.get().loan()
 }
 
 /// The rental of an item's media type, in hundredths.

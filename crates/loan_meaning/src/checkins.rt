@@ -204,7 +204,7 @@ fn any_loan(article: &Option<Article>) -> Option<Loan>
     ensures { result ≡ loan_of article.now }
 {
     match article {
-        Some(article) => article.item.get().loan,
+        Some(article) => article.item.get().loan(),
         None => None,
     }
 }

@@ -22,7 +22,7 @@ use crate::lookup::{item_of, member_of, patron_of};
 use crate::renewals::renew_one;
 use crate::telling::{refuse, refuse_for, tell_made};
 use circ_policy::Policy;
-use circ_records::{FeeType, Ids, Item, Key, Loan, Patron, Record};
+use circ_records::{FeeType, Ids, Item, KeptLoan, Key, Loan, Patron, Record};
 use read_set::{Article, Draft, Effect, LoanRequest, Member, Source, Stop, Verdict};
 use sip_reader::{Amount, Checkout, Day, Id, Stamp};
 use std::alloc::{AllocError, Global};
@@ -41,10 +41,10 @@ fn test_lending<S: Source>(
     if a.forced {
         return Ok(Verdict::Made);
     }
-    if has_lent_to(&a.patron, article.item.get().loan) {
+    if has_lent_to(&a.patron, article.item.get().loan()) {
         return Ok(Verdict::Refused);
     }
-    if has_loan(article.item.get().loan) {
+    if has_loan(article.item.get().loan()) {
         return Ok(Verdict::Refused);
     }
     if is_first_another(article.item.get().holds.as_slice(), &a.patron) {
@@ -126,11 +126,12 @@ fn lent_item(alloc: Global, a: &LoanRequest, due: Day, article: Article) -> Resu
 {
     let mut item = Item::of(alloc, article.into_item())?;
     item.holds = without_hold(alloc, &item.holds, &a.patron)?;
-    item.loan = Some(Loan {
+    let loan = Loan {
         patron: a.patron,
         due,
         renewals: 0,
-    });
+    };
+    item.loan = Some(KeptLoan::new(alloc, &loan)?);
     Ok(item)
 }
 
@@ -247,7 +248,7 @@ fn lend<S: Source>(
 fn is_renewal(request: &Checkout, article: &Article) -> bool
     ensures { result ≡ (request.now.renewal && lent_to request.now.patron article.now.item.loan) }
 {
-    request.renewal && has_lent_to(&request.patron.id(), article.item.get().loan)
+    request.renewal && has_lent_to(&request.patron.id(), article.item.get().loan())
 }
 
 #[tactic(auto, using(read_set::proofs::Gaining::gains_none, read_set::proofs::Gaining::gains_first))]

@@ -20,7 +20,7 @@ use crate::lists::{has_queue, is_same};
 use crate::lookup::{item_of, patron_of};
 use crate::telling::{refuse, refuse_for, tell_made};
 use circ_policy::Policy;
-use circ_records::{FeeType, Item, Key, Loan, Patron, Record};
+use circ_records::{FeeType, Item, KeptLoan, Key, Loan, Patron, Record};
 use read_set::{Article, Draft, Effect, LoanRequest, Member, Source, Stop, Verdict};
 use sip_reader::{Amount, Day, Renew, Stamp};
 use std::alloc::{AllocError, Global};
@@ -58,7 +58,7 @@ pub fn test_renewal<S: Source>(
     ensures keeps { Gains (S.has source.old) (S.has source.new) (renewal_tests writes.now asked.now.request member.now article.now) }
     ensures known { OnOk result (IsKnown (S.has source.new) writes.now member.now.patron.fees sum.new) }
 {
-    if !is_renewable(&asked.request, article.item.get().loan) {
+    if !is_renewable(&asked.request, article.item.get().loan()) {
         return Ok(Verdict::Refused);
     }
     if asked.request.forced {
@@ -70,27 +70,28 @@ pub fn test_renewal<S: Source>(
     if has_queue(article.item.get().holds.as_slice()) {
         return Ok(Verdict::Refused);
     }
-    if member.class.max_renewals <= renewals(article.item.get().loan) {
+    if member.class.max_renewals <= renewals(article.item.get().loan()) {
         return Ok(Verdict::Refused);
     }
     test_owing(asked, writes, member, article, sum, source)
 }
 
-fn renew_loan(due: Day, loan: Option<Loan>) -> Option<Loan>
-    ensures { result ≡ renewed_loan due loan }
+fn renew_loan(alloc: Global, due: Day, loan: Option<Loan>) -> Result<Option<KeptLoan>, AllocError>
+    ensures { IfOk result (λ renewed. renewed ≡ renewed_loan due loan) }
 {
-    match loan {
-        Some(loan) => Some(Loan {
-            patron: loan.patron,
-            due,
-            renewals: if loan.renewals < u32::MAX {
-                loan.renewals + 1
-            } else {
-                loan.renewals
-            },
-        }),
-        None => None,
-    }
+    let Some(loan) = loan else {
+        return Ok(None);
+    };
+    let renewed = Loan {
+        patron: loan.patron,
+        due,
+        renewals: if loan.renewals < u32::MAX {
+            loan.renewals + 1
+        } else {
+            loan.renewals
+        },
+    };
+    Ok(Some(KeptLoan::new(alloc, &renewed)?))
 }
 
 /// The item with its loan renewed.
@@ -98,7 +99,7 @@ pub fn renew_loan_of(alloc: Global, due: Day, article: Article) -> Result<Item, 
     ensures { IfOk result (λ i. i ≡ renewed due article.item) }
 {
     let mut item = Item::of(alloc, article.into_item())?;
-    item.loan = renew_loan(due, item.loan);
+    item.loan = renew_loan(alloc, due, item.loan())?;
     Ok(item)
 }
 

@@ -48,7 +48,7 @@ fn is_refused_place(patron: &Id, blocked: bool, item: &Item) -> bool
     if waits(item.holds.as_slice(), patron) {
         return true;
     }
-    if has_lent_to(patron, item.loan) {
+    if has_lent_to(patron, item.loan()) {
         return true;
     }
     QUEUE_MAX <= item.holds.len()
@@ -113,7 +113,7 @@ fn is_available_to(request: &HoldRequest, item: &Item, holds: &Holds) -> bool
         HoldMode::Delete => false,
         HoldMode::Add | HoldMode::Change => {
             let queue = holds.as_slice();
-            !has_loan(item.loan)
+            !has_loan(item.loan())
                 && (has_queue(queue) && !is_first_another(queue, &request.patron.id()))
         }
     }

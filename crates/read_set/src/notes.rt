@@ -5,7 +5,7 @@ ghost use Rattle.std.specs.Option.{option_copied};
 ghost use Rattle.read_set.specs.Notes.{note_of, IsOnceEach};
 ghost use Rattle.read_set.specs.Devices.Positions.{few};
 
-use circ_records::{Key, Record};
+use circ_records::{KeptKey, Key, Record};
 use std::alloc::{AllocError, Global};
 use std::collections::BTreeMap;
 use std::marker::Model;
@@ -19,7 +19,7 @@ pub enum Name {
 
 /// What was found at a key, a record or none, under its name.
 pub struct Note {
-    pub key: Key,
+    pub key: KeptKey,
     pub name: Name,
     pub found: Option<Record>,
 }
@@ -40,7 +40,7 @@ impl Note {
         ensures { IfOk result (λ n. n ≡ self.now) }
     {
         Ok(Note {
-            key: self.key,
+            key: self.key.clone()?,
             name: self.name,
             found: copy_found(&self.found)?,
         })
@@ -107,12 +107,13 @@ impl Notes {
         ensures ok { OnOk result (self.new ≡ self.old ++ note ∷ []) }
         ensures err { OnErr result (self.new ≡ self.old) }
     {
-        let key = note.key;
         let position = self.entries.len();
-        self.entries.push(note)?;
         if position < FEW {
+            self.entries.push(note)?;
             return Ok(());
         }
+        let key = note.key.key();
+        self.entries.push(note)?;
         match self.positions.insert(key, position) {
             Ok(_) => Ok(()),
             Err(_) => {
@@ -171,7 +172,7 @@ fn note_among<'n>(notes: &'n [Note], key: &Key) -> Option<&'n Note>
     ensures { option_copied result ≡ note_of notes.now key.now }
 {
     for note in notes {
-        if *key == note.key {
+        if note.key.is(key) {
             return Some(note);
         }
     }

@@ -7,7 +7,7 @@ ghost use Rattle.read_set.specs.Stops.{Follows};
 
 use crate::notes::{Name, Note, Notes, copy_found};
 use crate::source::{Source, Stop};
-use circ_records::{Key, Record};
+use circ_records::{KeptKey, Key, Record};
 use std::alloc::{AllocError, Global};
 use std::marker::{Brand, PhantomData};
 
@@ -107,12 +107,13 @@ fn look_for<L: Looks>(
         return Err(Stop::Unnoted(*key));
     };
     let (name, found) = seen;
-    note_found(notes, key, name, found)
+    note_found(alloc, notes, key, name, found)
 }
 
 /// Notes what was found, and gives it.
 #[tactic(auto, using(crate::proofs::Gaining::gains_none))]
 fn note_found(
+    alloc: Global,
     notes: &mut Notes,
     key: &Key,
     name: Name,
@@ -124,7 +125,7 @@ fn note_found(
 {
     let copy = copy_found(&found)?;
     notes.add(Note {
-        key: *key,
+        key: KeptKey::new(alloc, key)?,
         name,
         found,
     })?;

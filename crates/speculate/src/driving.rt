@@ -14,7 +14,7 @@ use crate::board::{Board, lines_of};
 use crate::playing::{put, settled_if_done};
 use crate::steps::BoardFault;
 use board_lines::{Reply, copied, record_seen};
-use circ_records::{Key, Record};
+use circ_records::{KeptKey, Key, Record};
 use message_meaning::{need, perform};
 use read_set::{Looks, Name, Need, Note, Notes, Noting, PlanName, Stop, Version};
 use std::alloc::{AllocError, Global};
@@ -100,7 +100,7 @@ fn read_line<J: PlanName + 'static>(
         settled_if_done(&next);
         match next {
             Need::Done(version) => return Ok(version),
-            Need::Key(key) => look_at(board, line, &key, &mut notes)?,
+            Need::Key(key) => look_at(alloc, board, line, &key, &mut notes)?,
         }
     }
 }
@@ -155,13 +155,14 @@ fn look_at_each<J: PlanName>(
 {
     let mut notes = Notes::new(alloc);
     for note in asked {
-        look_at(board, line, &note.key, &mut notes)?;
+        look_at(alloc, board, line, &note.key.key(), &mut notes)?;
     }
     Ok(notes)
 }
 
 /// Looks at a key that isn't noted, and notes what was seen.
 fn look_at<J: PlanName>(
+    alloc: Global,
     board: &mut Board<'_, '_, J>,
     line: u64,
     key: &Key,
@@ -183,7 +184,7 @@ fn look_at<J: PlanName>(
     };
     let found = copied(record_seen(plan, key, place))?;
     notes.add(Note {
-        key: *key,
+        key: KeptKey::new(alloc, key)?,
         name,
         found,
     })?;

@@ -4,7 +4,7 @@ ghost use Rattle.std.specs.Prelude.{◌≡◌, None};
 ghost use Rattle.read_set.specs.Notes.{noted};
 
 use crate::checked::must_be;
-use circ_records::{Key, Record};
+use circ_records::{KeptKey, Key, Record};
 use message_meaning::{need, perform};
 use read_set::{Name, Need, Note, Notes, Noting, Plan, PlanName};
 use sip_answer::{Answer, write_answer};
@@ -105,7 +105,7 @@ fn look_once(
         return Ok(String::new(alloc));
     };
     for note in source.notes.as_slice() {
-        tell_want(seen, &note.key)?;
+        tell_want(seen, &note.key.key())?;
     }
     told(alloc, &effect.answer, effect.writes.as_slice())
 }
@@ -124,7 +124,7 @@ fn ask<J: PlanName>(
         match need::<J>(alloc, plan, 1, 0, &notes)? {
             Need::Key(key) => {
                 tell_want(wants, &key)?;
-                look(shelf, key, &mut notes)?;
+                look(alloc, shelf, key, &mut notes)?;
             }
             Need::Done(version) => return told(alloc, version.answer(), version.writes()),
         }
@@ -133,12 +133,16 @@ fn ask<J: PlanName>(
 }
 
 /// Notes the record at a key that isn't noted yet.
-fn look(shelf: &Shelf, key: Key, notes: &mut Notes) -> Result<(), AllocError>
+fn look(alloc: Global, shelf: &Shelf, key: Key, notes: &mut Notes) -> Result<(), AllocError>
     requires { noted notes.old key ≡ None }
 {
     let found = shelf.copy_at(&key)?;
     let name = Name::Base;
-    notes.add(Note { key, name, found })
+    notes.add(Note {
+        key: KeptKey::new(alloc, &key)?,
+        name,
+        found,
+    })
 }
 
 fn tell_want(wants: &mut String, key: &Key) -> Result<(), AllocError> {

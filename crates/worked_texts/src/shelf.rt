@@ -6,9 +6,9 @@
 //! its pickup, where it has one: `P1 East+P2`.
 
 use circ_policy::MediaType;
-use circ_records::{Fee, FeeType, Hold, Holds, Ids, Item, Key, Loan, Patron, Record};
+use circ_records::{Fee, FeeType, Hold, Holds, Ids, Item, KeptLoan, Key, Loan, Patron, Record};
 use read_set::{Looks, Name, Source, Stop};
-use sip_reader::{Amount, Day, Id, Text};
+use sip_reader::{Amount, Day, Id, KeptId, Text};
 use std::alloc::{AllocError, Global};
 use std::collections::BTreeMap;
 use std::str::from_utf8;
@@ -120,7 +120,7 @@ fn patron_in(alloc: Global, fields: &[&str; 6]) -> Result<Option<Record>, AllocE
     };
     let patron = Patron {
         name,
-        class,
+        class: KeptId::new(alloc, &class)?,
         blocked: fields[3] == "Y",
         loans,
         fees,
@@ -134,6 +134,10 @@ fn item_in(alloc: Global, fields: &[&str; 6]) -> Result<Option<Record>, AllocErr
     let properties = text_in(alloc, "-")?;
     let holds = holds_in(alloc, fields[5])?;
     let media = MediaType::of_code(fields[2].as_bytes());
+    let loan = match loan_in(fields[4]) {
+        Some(loan) => Some(KeptLoan::new(alloc, &loan)?),
+        None => None,
+    };
     match (title, location, properties, media) {
         (Some(title), Some(location), Some(properties), Some(media)) => {
             let item = Item {
@@ -141,7 +145,7 @@ fn item_in(alloc: Global, fields: &[&str; 6]) -> Result<Option<Record>, AllocErr
                 media,
                 location,
                 properties,
-                loan: loan_in(fields[4]),
+                loan,
                 holds,
             };
             Ok(Some(Record::item(alloc, item)?))
@@ -248,7 +252,7 @@ fn tell_patron(out: &mut String, patron: &Patron) -> Result<(), AllocError> {
         out,
         "patron, {}, {}, {blocked}",
         or_none(&patron.name),
-        shown(&patron.class)
+        shown(&patron.class.id())
     )?;
     tell_ids(out, patron.loans.as_slice())?;
     tell_ids(out, patron.fees.as_slice())
@@ -278,7 +282,7 @@ fn tell_item(out: &mut String, item: &Item) -> Result<(), AllocError> {
         or_none(&item.title),
         or_none(&item.location)
     )?;
-    match item.loan {
+    match item.loan() {
         Some(loan) => {
             let (year, month, day) = loan.due.parts();
             write!(

@@ -7,7 +7,7 @@ use crate::holds::{Hold, Holds};
 use crate::ids::Ids;
 use crate::record::{Fee, FeeType, Item, Loan, Patron, Record};
 use circ_policy::MediaType;
-use sip_reader::{Amount, Day, Id, Text};
+use sip_reader::{Amount, Day, Id, KeptId, Text};
 
 impl Record {
     /// Whether two records are the same: of one kind, and alike in each field.
@@ -147,14 +147,14 @@ fn same_ids(a: &Ids, b: &Ids) -> bool
     same_id_slices(a.as_slice(), b.as_slice())
 }
 
-fn same_id_slices(a: &[Id], b: &[Id]) -> bool
+fn same_id_slices(a: &[KeptId], b: &[KeptId]) -> bool
     ensures { Decides result (a.now ≡ b.now) }
 {
     if a.len() != b.len() {
         return false;
     }
     for i in 0..a.len() {
-        if !same_id(&a[i], &b[i]) {
+        if !same_kept_id(&a[i], &b[i]) {
             return false;
         }
     }
@@ -162,6 +162,12 @@ fn same_id_slices(a: &[Id], b: &[Id]) -> bool
 }
 
 fn same_id(a: &Id, b: &Id) -> bool
+    ensures { Decides result (a.now ≡ b.now) }
+{
+    a.as_bytes() == b.as_bytes()
+}
+
+fn same_kept_id(a: &KeptId, b: &KeptId) -> bool
     ensures { Decides result (a.now ≡ b.now) }
 {
     a.as_bytes() == b.as_bytes()

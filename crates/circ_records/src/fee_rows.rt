@@ -10,7 +10,7 @@ use crate::record::{Fee, Record};
 use crate::records::Records;
 use crate::row_texts::amount_text;
 use csv_table::TableText;
-use sip_reader::Id;
+use sip_reader::{Id, KeptId};
 use std::alloc::{AllocError, Global};
 
 /// The open fees of a patron, in the order of the patron's list.
@@ -19,13 +19,13 @@ pub(crate) fn write_fees(
     text: &mut TableText,
     records: &Records,
     patron: &Id,
-    fees: &[Id],
+    fees: &[KeptId],
 ) -> Result<(), AllocError>
     requires { HasWidth 5 text.old }
     ensures { OnOk result (text.new ≡ with_rows (Written.listed_fees records.now patron.now fees.now) text.old) }
 {
     for fee in fees {
-        write_open_fee(alloc, text, records, patron, fee)?;
+        write_open_fee(alloc, text, records, patron, &fee.id())?;
     }
     Ok(())
 }

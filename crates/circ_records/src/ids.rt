@@ -1,7 +1,7 @@
 ghost use Rattle.std.specs.Prelude.{◌≡◌, ◌++◌, ◌∷◌, [], IfOk, OnOk, OnErr, length, IsTrue, ◌↔◌};
 ghost use Rattle.circ_records.specs.Devices.IdLists.{ids_held};
 
-use sip_reader::Id;
+use sip_reader::{Id, KeptId};
 use std::alloc::{AllocError, Global};
 use std::marker::Model;
 use std::mem::replace;
@@ -25,9 +25,9 @@ impl Drop for Ids {
 /// Where the ids of a list stand.
 enum Held {
     /// In memory of its own, where it may grow.
-    Own(Vec<Id>),
+    Own(Vec<KeptId>),
     /// In memory that it has together with its copies.
-    Shared(Arc<Vec<Id>>),
+    Shared(Arc<Vec<KeptId>>),
 }
 
 impl Drop for Held {
@@ -57,7 +57,7 @@ impl Ids {
     }
 
     /// The list of these ids.
-    pub fn from_vec(ids: Vec<Id>) -> Ids
+    pub fn from_vec(ids: Vec<KeptId>) -> Ids
         ensures { result ≡ ids.items }
     {
         Ids {
@@ -70,6 +70,7 @@ impl Ids {
         ensures ok { OnOk result (self.new ≡ self.old ++ id ∷ []) }
         ensures err { OnErr result (self.new ≡ self.old) }
     {
+        let id = KeptId::new(self.allocator(), &id)?;
         match &mut self.held {
             Held::Own(ids) => put_last(ids, id),
             Held::Shared(ids) => {
@@ -85,7 +86,7 @@ impl Ids {
         ensures { IfOk result (λ ids. ids ≡ self.now) }
     {
         let held = match &self.held {
-            Held::Own(ids) => Held::Own(Vec::from_slice(alloc, ids.as_slice())?),
+            Held::Own(ids) => Held::Own(Vec::from_clones(alloc, ids.as_slice())?),
             Held::Shared(ids) => Held::Shared(Arc::try_clone(ids)?),
         };
         Ok(Ids { held })
@@ -127,7 +128,7 @@ impl Ids {
         self.held.as_slice().is_empty()
     }
 
-    pub fn as_slice(&self) -> &[Id]
+    pub fn as_slice(&self) -> &[KeptId]
         ensures { result.now ≡ self.now }
     {
         self.held.as_slice()
@@ -135,7 +136,7 @@ impl Ids {
 }
 
 impl Held {
-    fn as_slice(&self) -> &[Id]
+    fn as_slice(&self) -> &[KeptId]
         ensures { result.now ≡ ids_held self.now }
     {
         match self {
@@ -146,7 +147,7 @@ impl Held {
 }
 
 /// One more id at the end. Without memory nothing changes.
-fn put_last(ids: &mut Vec<Id>, id: Id) -> Result<(), AllocError>
+fn put_last(ids: &mut Vec<KeptId>, id: KeptId) -> Result<(), AllocError>
     ensures ok { OnOk result (ids.new.items ≡ ids.old.items ++ id ∷ []) }
     ensures err { OnErr result (ids.new.items ≡ ids.old.items) }
 {
@@ -158,18 +159,20 @@ fn put_last(ids: &mut Vec<Id>, id: Id) -> Result<(), AllocError>
 }
 
 /// The ids, and one more behind them.
-fn with_last(ids: &Vec<Id>, id: Id) -> Result<Vec<Id>, AllocError>
+fn with_last(ids: &Vec<KeptId>, id: KeptId) -> Result<Vec<KeptId>, AllocError>
     ensures { IfOk result (λ v. v.items ≡ ids.now.items ++ id ∷ []) }
 {
     let alloc = *ids.allocator();
     let mut longer = Vec::with_capacity(alloc, ids.len().saturating_add(1))?;
-    longer.extend_from_slice(ids.as_slice())?;
+    for other in ids.as_slice() {
+        longer.push(other.clone()?)?;
+    }
     longer.push(id)?;
     Ok(longer)
 }
 
 /// The ids in memory that can be shared, or as they are where there is none.
-fn shared(alloc: Global, ids: Vec<Id>) -> Held
+fn shared(alloc: Global, ids: Vec<KeptId>) -> Held
     ensures { ids_held result ≡ ids.items }
 {
     match Arc::new(alloc, ids) {

@@ -11,7 +11,7 @@ use crate::records::Records;
 use crate::row_texts::{day_text, flag_text};
 use csv_table::TableText;
 use itoa::Buffer;
-use sip_reader::Id;
+use sip_reader::{Id, KeptId};
 use std::alloc::AllocError;
 
 /// A patron.
@@ -32,13 +32,13 @@ pub(crate) fn write_loans(
     text: &mut TableText,
     records: &Records,
     patron: &Id,
-    items: &[Id],
+    items: &[KeptId],
 ) -> Result<(), AllocError>
     requires { HasWidth 4 text.old }
     ensures { OnOk result (text.new ≡ with_rows (listed_loans records.now patron.now items.now) text.old) }
 {
     for item in items {
-        write_loan(text, records, patron, item)?;
+        write_loan(text, records, patron, &item.id())?;
     }
     Ok(())
 }

@@ -147,14 +147,14 @@ fn same_ids(a: &Ids, b: &Ids) -> bool
     same_id_slices(a.as_slice(), b.as_slice())
 }
 
-fn same_id_slices(a: &[Id], b: &[Id]) -> bool
+fn same_id_slices(a: &[KeptId], b: &[KeptId]) -> bool
     ensures { Decides result (a.now ≡ b.now) }
 {
     if a.len() != b.len() {
         return false;
     }
     for i in 0..a.len() {
-        if !same_id(&a[i], &b[i]) {
+        if !same_kept_id(&a[i], &b[i]) {
             return false;
         }
     }
@@ -168,6 +168,12 @@ fn same_kept(a: &KeptId, b: &KeptId) -> bool
 }
 
 fn same_id(a: &Id, b: &Id) -> bool
+    ensures { Decides result (a.now ≡ b.now) }
+{
+    a.as_bytes() == b.as_bytes()
+}
+
+fn same_kept_id(a: &KeptId, b: &KeptId) -> bool
     ensures { Decides result (a.now ≡ b.now) }
 {
     a.as_bytes() == b.as_bytes()

@@ -37,7 +37,7 @@ fn same_patron(a: &Patron, b: &Patron) -> bool
     if !same_text(&a.name, &b.name) {
         return false;
     }
-    if !same_kept(&a.class, &b.class) {
+    if !same_kept_id(&a.class, &b.class) {
         return false;
     }
     if a.blocked != b.blocked {
@@ -103,7 +103,7 @@ fn same_lending(a: &Option<KeptLoan>, b: &Option<KeptLoan>) -> bool
 fn same_loan(a: &KeptLoan, b: &KeptLoan) -> bool
     ensures { Decides result (a.now ≡ b.now) }
 {
-    if !same_kept(&a.patron, &b.patron) {
+    if !same_kept_id(&a.patron, &b.patron) {
         return false;
     }
     if !same_day(a.due, b.due) {
@@ -159,12 +159,6 @@ fn same_id_slices(a: &[KeptId], b: &[KeptId]) -> bool
         }
     }
     true
-}
-
-fn same_kept(a: &KeptId, b: &KeptId) -> bool
-    ensures { Decides result (a.now ≡ b.now) }
-{
-    a.as_bytes() == b.as_bytes()
 }
 
 fn same_id(a: &Id, b: &Id) -> bool

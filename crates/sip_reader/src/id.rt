@@ -58,6 +58,17 @@ impl Id {
         }
     }
 
+    /// The id of bytes that are one.
+    #[tactic(auto, unfolding(crate::specs::Texts::is_id))]
+    pub(crate) fn of_valid(bytes: &[u8]) -> Id
+        requires { is_id bytes.now ≡ true }
+        ensures { result ≡ bytes.now }
+    {
+        Id {
+            bytes: Short::of(bytes),
+        }
+    }
+
     /// The id of a fee that a line of the journal makes, by the line's number and the count of fees that it made before.
     #[tactic(auto, unfolding(crate::specs::Texts::fee_id))]
     pub fn of_fee(line: u64, k: u64) -> Id

@@ -61,7 +61,7 @@ impl KeptId {
     pub fn id(&self) -> Id
         ensures { result ≡ self.now }
     {
-        Id::new(self.text.as_bytes()).unwrap()
+        Id::of_valid(self.text.as_bytes())
     }
 
     /// Its bytes.

@@ -137,8 +137,6 @@ fn padded(bytes: &[u8]) -> [u8; SHORT_MAX]
     ensures { result ≡ bytes.now ++ replicate (SHORT_MAX - length bytes.now) 0 }
 {
     let mut whole = [0; SHORT_MAX];
-    for (i, b) in bytes.iter().enumerate() {
-        whole[i] = *b;
-    }
+    whole[..bytes.len()].copy_from_slice(bytes);
     whole
 }

@@ -144,9 +144,7 @@ fn in_front(bytes: &[u8]) -> [u8; 14]
     ensures { result ≡ bytes.now ++ replicate (14 - length bytes.now) 0 }
 {
     let mut whole = [0; 14];
-    for (i, b) in bytes.iter().enumerate() {
-        whole[i] = *b;
-    }
+    whole[..bytes.len()].copy_from_slice(bytes);
     whole
 }
 

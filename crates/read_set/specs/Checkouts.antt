@@ -1,5 +1,5 @@
 -- Checkout (SIP 2.00, message 11), by the circulation rules: checkout.
-use Rattle.std.specs.Prelude.{ℕ, false, ◌&&◌, nat_le, ◌+◌, List, [], ◌∷◌, ◌++◌, length, Option, Some, None, if◌then◌else◌}
+use Rattle.std.specs.Prelude.{ℕ, false, ◌&&◌, nat_le, List, [], ◌∷◌, ◌++◌, length, Option, Some, None, if◌then◌else◌}
 use Rattle.circ_policy.specs.Terms.{Terms}
 use Rattle.circ_records.specs.Records.{Entries}
 use Rattle.circ_records.specs.declared.key.Key.TheVariants as keys

@@ -1,5 +1,5 @@
 -- What checkouts and renewals have in common: what is asked for, who has the item, the due day and the charge, the answers.
-use Rattle.std.specs.Prelude.{ℕ, Bool, true, false, not, ◌||◌, nat_lt, List, Option, Some, None, option_map, if◌then◌else◌}
+use Rattle.std.specs.Prelude.{ℕ, Bool, true, false, ◌||◌, nat_lt, List, Option, Some, None, option_map, if◌then◌else◌}
 use Rattle.circ_policy.specs.Due.{due_day}
 use Rattle.circ_policy.specs.Terms.{Terms}
 use Rattle.circ_policy.specs.declared.media.Media.{Media}

@@ -1,5 +1,6 @@
 pub mod Columns
 pub mod Positions
+pub mod Keyed
 pub mod Views
 pub mod Sights
 pub mod Changes

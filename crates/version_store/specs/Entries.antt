@@ -125,6 +125,10 @@ shown e = record { attempt = e.attempt; suspect = e.suspect; contents = e.place.
 abbrev pub contents_in : {J : Type 0} → Place J → Contents
 contents_in place = place.version.now
 
+-- entries, which borrow their keys, with what they borrow
+abbrev pub keyed : {X : Type 0} → List (Bor Key × X) → List (Key × X)
+keyed es = map (λ e. (e.0.now, e.1)) es
+
 abbrev pub shown_pair : {J : Type 0} → Key × Entry J → Key × Shown
 shown_pair e = (e.0, shown e.1)
 

@@ -4,7 +4,7 @@ ghost use Rattle.std.specs.Prelude.{◌≡◌, ◌^◌, ◌<◌, ◌≤◌, OnOk
 ghost use Rattle.std.specs.FinMap as fin;
 ghost use Rattle.std.specs.List.{insert};
 ghost use Rattle.circ_records.specs.Keys.{key_cmp};
-ghost use Rattle.version_store.specs.Entries.{AllOf, IsLeastLeft, IsNamedAt, line_of, no_entries, shown, suspected};
+ghost use Rattle.version_store.specs.Entries.{AllOf, IsLeastLeft, IsNamedAt, keyed, line_of, no_entries, shown, suspected};
 ghost use Rattle.version_store.specs.Devices.Positions.{IsAt, IsGap, Rise, all_marked};
 
 use crate::entry::Entry;
@@ -18,9 +18,10 @@ use std::marker::Model;
 const FEW: usize = 8;
 
 /// The entries of one line as a list that rises by key. A version's writes rise too, so most entries go behind the last,
-/// and those that are lifted stand near an end: there a queue moves few others.
+/// and those that are lifted stand near an end: there a queue moves few others. Each borrows its key from the writes of the version at
+/// its place: so it takes 24 bytes, and with a key of its own it would take 88.
 pub struct LineEntries<'t, J: PlanName> {
-    entries: VecDeque<(Key, Entry<'t, J>)>,
+    entries: VecDeque<(&'t Key, Entry<'t, J>)>,
 }
 
 impl<J: PlanName> Drop for LineEntries<'_, J> {
@@ -38,13 +39,13 @@ impl<'t, J: PlanName> Model for LineEntries<'t, J> {
 
     ghost coded = { Prim.hlevel (codes, fin.code) };
 
-    ghost use Rattle.version_store.specs.Entries.{line_of};
+    ghost use Rattle.version_store.specs.Entries.{keyed, line_of};
 
-    ghost view = { λ l. line_of l.entries.items };
+    ghost view = { λ l. line_of (keyed l.entries.items) };
 
     ghost use Rattle.version_store.specs.Devices.Positions.{Rise};
 
-    ghost invariant = { λ l. Rise l.entries.items };
+    ghost invariant = { λ l. Rise (keyed l.entries.items) };
 }
 
 impl<'t, J: PlanName> LineEntries<'t, J> {
@@ -68,7 +69,7 @@ impl<'t, J: PlanName> LineEntries<'t, J> {
     }
 
     /// Puts an entry at a key.
-    pub fn put(&mut self, key: &Key, made: Entry<'t, J>) -> Result<(), AllocError>
+    pub fn put(&mut self, key: &'t Key, made: Entry<'t, J>) -> Result<(), AllocError>
         ensures put { OnOk result (self.new ≡ fin.insert self.old key.now (shown made.entry)) }
         ensures same { OnErr result (self.new ≡ self.old) }
         ensures absent { OnErr result (fin.get self.old key.now ≡ None) }
@@ -100,11 +101,11 @@ impl<'t, J: PlanName> LineEntries<'t, J> {
         let Some(entry) = nth_entry(&self.entries, i) else {
             return None;
         };
-        Some((&entry.0, entry.1.attempt))
+        Some((entry.0, entry.1.attempt))
     }
 
     /// The least key whose entry isn't of this attempt.
-    pub fn left(&self, attempt: u32) -> Option<&Key>
+    pub fn left(&self, attempt: u32) -> Option<&'t Key>
         ensures { MatchOption result (AllOf self.now attempt) (λ k. IsLeastLeft self.now attempt k.now) }
     {
         left_key(&self.entries, attempt)
@@ -113,30 +114,30 @@ impl<'t, J: PlanName> LineEntries<'t, J> {
 
 /// The position of a key, or else the position to which it goes.
 fn position_of<J: PlanName>(
-    entries: &VecDeque<(Key, Entry<'_, J>)>,
+    entries: &VecDeque<(&Key, Entry<'_, J>)>,
     key: &Key,
 ) -> Result<usize, usize>
-    requires { Rise entries.now.items }
-    ensures { MatchResult result (IsAt entries.now.items key.now) (IsGap entries.now.items key.now) }
+    requires { Rise (keyed entries.now.items) }
+    ensures { MatchResult result (IsAt (keyed entries.now.items) key.now) (IsGap (keyed entries.now.items) key.now) }
 {
     entries.binary_search_by(|entry| entry.0.cmp(key))
 }
 
 /// Puts an entry at the key.
 fn put_entry<'t, J: PlanName>(
-    entries: &mut VecDeque<(Key, Entry<'t, J>)>,
-    key: &Key,
+    entries: &mut VecDeque<(&'t Key, Entry<'t, J>)>,
+    key: &'t Key,
     made: Entry<'t, J>,
 ) -> Result<(), AllocError>
-    requires { Rise entries.old.items }
-    ensures put { OnOk result (entries.new.items ≡ fin.put key_cmp key.now made.entry entries.old.items) }
+    requires { Rise (keyed entries.old.items) }
+    ensures put { OnOk result (keyed entries.new.items ≡ fin.put key_cmp key.now made.entry (keyed entries.old.items)) }
     ensures same { OnErr result (entries.new.items ≡ entries.old.items) }
-    ensures absent { OnErr result (fin.find key_cmp key.now entries.old.items ≡ None) }
-    ensures rising { Rise entries.new.items }
+    ensures absent { OnErr result (fin.find key_cmp key.now (keyed entries.old.items) ≡ None) }
+    ensures rising { Rise (keyed entries.new.items) }
 {
     match position_of(entries, key) {
         Ok(position) => {
-            entries[position] = (*key, made);
+            entries[position] = (key, made);
             Ok(())
         }
         Err(position) => match insert_at(entries, position, key, made) {
@@ -148,26 +149,26 @@ fn put_entry<'t, J: PlanName>(
 
 /// Puts an entry at a position, and makes no more room than it needs while they are few: entries stay until the run ends.
 fn insert_at<'t, J: PlanName>(
-    entries: &mut VecDeque<(Key, Entry<'t, J>)>,
+    entries: &mut VecDeque<(&'t Key, Entry<'t, J>)>,
     position: usize,
-    key: &Key,
+    key: &'t Key,
     made: Entry<'t, J>,
 ) -> Result<(), AllocError>
     requires { position ≤ length entries.old.items }
-    ensures items { OnOk result (entries.new.items ≡ insert entries.old.items position (key.now, made.entry)) }
+    ensures items { OnOk result (entries.new.items ≡ insert entries.old.items position (key.entry, made.entry)) }
     ensures same { OnErr result (entries.new.items ≡ entries.old.items) }
 {
     if entries.len() < FEW {
         entries.reserve_exact(1)?;
     }
-    match entries.insert(position, (*key, made)) {
+    match entries.insert(position, (key, made)) {
         Ok(()) => Ok(()),
         Err(_) => Err(AllocError),
     }
 }
 
 /// Makes each entry suspect.
-fn mark_all<J: PlanName>(entries: &mut VecDeque<(Key, Entry<'_, J>)>)
+fn mark_all<J: PlanName>(entries: &mut VecDeque<(&Key, Entry<'_, J>)>)
     ensures { entries.new.items ≡ all_marked entries.old.items }
 {
     for i in 0..entries.len() {
@@ -178,9 +179,9 @@ fn mark_all<J: PlanName>(entries: &mut VecDeque<(Key, Entry<'_, J>)>)
 
 /// The i-th entry, by keys.
 fn nth_entry<'m, 't, J: PlanName>(
-    entries: &'m VecDeque<(Key, Entry<'t, J>)>,
+    entries: &'m VecDeque<(&'t Key, Entry<'t, J>)>,
     i: usize,
-) -> Option<&'m (Key, Entry<'t, J>)>
+) -> Option<&'m (&'t Key, Entry<'t, J>)>
     ensures nth { option_copied result ≡ slice_get entries.now.items i }
     ensures few { length entries.now.items < 2 ^ 64 }
 {
@@ -188,17 +189,17 @@ fn nth_entry<'m, 't, J: PlanName>(
 }
 
 /// The least key whose entry isn't of this attempt.
-fn left_key<'m, 't, J: PlanName>(
-    entries: &'m VecDeque<(Key, Entry<'t, J>)>,
+fn left_key<'t, J: PlanName>(
+    entries: &VecDeque<(&'t Key, Entry<'t, J>)>,
     attempt: u32,
-) -> Option<&'m Key>
-    requires { Rise entries.now.items }
-    ensures { MatchOption result (AllOf (line_of entries.now.items) attempt) (λ k. IsLeastLeft (line_of entries.now.items) attempt k.now) }
+) -> Option<&'t Key>
+    requires { Rise (keyed entries.now.items) }
+    ensures { MatchOption result (AllOf (line_of (keyed entries.now.items)) attempt) (λ k. IsLeastLeft (line_of (keyed entries.now.items)) attempt k.now) }
 {
     for i in 0..entries.len() {
         let (key, made) = &entries[i];
         if made.attempt != attempt {
-            return Some(key);
+            return Some(*key);
         }
     }
     None

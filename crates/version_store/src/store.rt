@@ -125,7 +125,7 @@ impl<'t, J: PlanName> EntryStore<'t, J> {
     }
 
     /// The least key at which a line has an entry of another attempt; None where it has none.
-    pub fn left(&self, line: u64, attempt: u32) -> Option<&Key>
+    pub fn left(&self, line: u64, attempt: u32) -> Option<&'t Key>
         ensures { MatchOption result (AllOf (line_at self.now line) attempt) (λ k. IsLeastLeft (line_at self.now line) attempt k.now) }
     {
         let Some(position) = self.position(line) else {
@@ -134,14 +134,14 @@ impl<'t, J: PlanName> EntryStore<'t, J> {
         self.lines[position].left(attempt)
     }
 
-    /// The entry of a line at a key is of this attempt, and stands at this place. It isn't suspect. Without memory
-    /// nothing changes.
+    /// The entry of a line at a key is of this attempt, and stands at this place. It isn't suspect. It borrows the key. Without
+    /// memory nothing changes.
     pub fn place(
         &mut self,
         alloc: Global,
         line: u64,
         attempt: u32,
-        key: &Key,
+        key: &'t Key,
         place: Place<'t, J>,
     ) -> Result<(), AllocError>
         requires { IsLine self.old line }

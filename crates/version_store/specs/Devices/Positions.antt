@@ -25,5 +25,5 @@ pub record IsGap {X : Type 0} (es : List (Key × X)) (k : Key) (i : ℕ) : Type 
 abbrev pub marked : {J : Type 0} → Entry J → Entry J
 marked e = record { attempt = e.attempt; suspect = true; place = e.place }
 
-abbrev pub all_marked : {J : Type 0} → List (Key × Entry J) → List (Key × Entry J)
+abbrev pub all_marked : {K J : Type 0} → List (K × Entry J) → List (K × Entry J)
 all_marked es = map (λ e. (e.0, marked e.1)) es

@@ -22,6 +22,6 @@ invariant_of-self-in-Ok c =
     let fresh : note_of notes c.args.note.key ≡ None = ap (λ (ns : List Note). note_of ns c.args.note.key) c.self.view_is ∙ c.requires in
     let end : c.len-position.result ≡ length notes = search rules in
     let long : 8 ≤ length notes = omega (arith, end, c.if-position-lt-FEW.false) in
-    rw c.in_ok-push.ensures.items
+    rw c.in_ok-push-2.ensures.items
     (kept-more notes c.args.note c.self.inside.positions.entries c.insert.new.self.entries c.self.invariant fresh long
-    (λ k. c.in-Ok.ensures.updates.0 k ∙ ap (λ n. cond (is_at (key_cmp c.args.note.key) k) (Some n) (lookup (is_at (key_cmp k)) c.self.inside.positions.entries)) end))
+    (λ k. rw (← c.key-key.ensures) (c.in-Ok.ensures.updates.0 k) ∙ ap (λ n. cond (is_at (key_cmp c.args.note.key) k) (Some n) (lookup (is_at (key_cmp k)) c.self.inside.positions.entries)) end))

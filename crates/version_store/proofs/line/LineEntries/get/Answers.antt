@@ -1,23 +1,27 @@
+use denote.Ref.{Bor}
 use Rattle.std.proofs.Common.{Some, ap, sym, ◌∙◌}
 use Rattle.std.specs.Prelude.{option_map}
 use Rattle.circ_records.specs.declared.key.Key.{Key}
-use Rattle.version_store.specs.Entries.{shown}
+use Rattle.version_store.specs.Entries.{keyed, shown}
 use Rattle.version_store.specs.declared.entry.Entry.{Entry}
+use Rattle.version_store.proofs.Keyed.{keyed_at, keyed_length}
 use Rattle.version_store.proofs.Positions.{at_find, gap_find}
 use Rattle.version_store.proofs.Views.{get_shown}
 use Rattle.version_store.proofs.line.LineEntries.get.Goals as goal
 
 pub index-requires : goal.index-requires
-index-requires g c = rw c.self.inside.entries.ok.0 c.in-Ok.ensures.within
+index-requires g c = rw (c.self.inside.entries.ok.0, ← keyed_length c.self.inside.entries.items) c.in-Ok.ensures.within
 
 pub returns-in-Ok : goal.returns-in-Ok
 returns-in-Ok g c =
     let es = c.self.inside.entries.items in
+    let d = c.index.result.now in
     rw (← c.self.view_is)
-    (ap (λ (e : Key × Entry g.row.J.Denot). Some (shown e.1)) c.index.ensures
-    ∙ sym (get_shown es c.args.key.now ∙ ap (option_map shown) (at_find es c.args.key.now c.in-Ok.position c.index.result.now c.self.invariant c.in-Ok.ensures)))
+    (ap (λ (e : Bor Key × Entry g.row.J.Denot). Some (shown e.1)) c.index.ensures
+    ∙ ap (λ (e : Key × Entry g.row.J.Denot). Some (shown e.1)) (sym (keyed_at es c.in-Ok.position d))
+    ∙ sym (get_shown (keyed es) c.args.key.now ∙ ap (option_map shown) (at_find (keyed es) c.args.key.now c.in-Ok.position (d.0.now, d.1) c.self.invariant c.in-Ok.ensures)))
 
 pub returns-in-Err : goal.returns-in-Err
 returns-in-Err g c =
     let es = c.self.inside.entries.items in
-    rw (← c.self.view_is) (sym (get_shown es c.args.key.now ∙ ap (option_map shown) (gap_find es c.args.key.now c.in-Err.field-0 c.in-Err.ensures)))
+    rw (← c.self.view_is) (sym (get_shown (keyed es) c.args.key.now ∙ ap (option_map shown) (gap_find (keyed es) c.args.key.now c.in-Err.field-0 c.in-Err.ensures)))

@@ -12,7 +12,7 @@ use crate::asked::Asked;
 use crate::lookup::read_after;
 use circ_records::{Fee, FeeType, Ids, Key, Patron, Record, Shared, put_fee};
 use read_set::{Article, Draft, Member, Source, Stop, Verdict, known_fee};
-use sip_reader::{Amount, Id};
+use sip_reader::{Amount, Id, KeptId};
 use std::alloc::{AllocError, Global};
 
 #[tactic(auto, unfolding(read_set::specs::Fees::rest_of))]
@@ -34,14 +34,14 @@ pub fn owed_of<S: Source>(
     alloc: Global,
     source: &mut S,
     writes: &Draft,
-    fees: &[Id],
+    fees: &[KeptId],
 ) -> Result<u128, Stop>
     ensures gives { Follows result (follow (S.has source.new) (owed_at writes.now fees.now)) }
     ensures keeps { Gains (S.has source.old) (S.has source.new) (owed_at writes.now fees.now) }
 {
     let mut sum: u128 = 0;
     for id in fees {
-        let found = read_after(alloc, source, writes, &Key::Fee(*id))?;
+        let found = read_after(alloc, source, writes, &Key::Fee(id.id()))?;
         sum += u128::from(rest(known_fee(&found)));
     }
     Ok(sum)
@@ -54,7 +54,7 @@ pub fn owed_once<S: Source>(
     alloc: Global,
     source: &mut S,
     writes: &Draft,
-    fees: &[Id],
+    fees: &[KeptId],
     sum: &mut Option<u128>,
 ) -> Result<u128, Stop>
     requires { IsKnown (S.has source.old) writes.now fees.now sum.old }

@@ -8,7 +8,7 @@ ghost use Rattle.read_set.specs.Ids.{same, has_id, without, without_all};
 ghost use Rattle.read_set.specs.Queues.{position_from, waits, has_queue, first_is_another, without_hold, with_pickup};
 
 use circ_records::{Hold, Holds, Ids};
-use sip_reader::{Id, Text};
+use sip_reader::{Id, KeptId, Text};
 use std::alloc::{AllocError, Global};
 use std::collections::BTreeSet;
 
@@ -19,6 +19,13 @@ pub fn is_same(a: &Id, b: &Id) -> bool
     a == b
 }
 
+/// Whether a kept id is this id.
+fn is_kept(kept: &KeptId, id: &Id) -> bool
+    ensures { result ≡ same kept.now id.now }
+{
+    kept.order(id).is_eq()
+}
+
 /// The list without an id, at each of its positions.
 pub fn without(alloc: Global, ids: &Ids, id: &Id) -> Result<Ids, AllocError>
     ensures { IfOk result (λ left. left ≡ without id.now ids.now) }
@@ -27,27 +34,27 @@ pub fn without(alloc: Global, ids: &Ids, id: &Id) -> Result<Ids, AllocError>
     Ok(Ids::from_vec(kept))
 }
 
-fn kept(alloc: Global, ids: &[Id], id: &Id) -> Result<Vec<Id>, AllocError>
+fn kept(alloc: Global, ids: &[KeptId], id: &Id) -> Result<Vec<KeptId>, AllocError>
     ensures { IfOk result (λ v. v.items ≡ without id.now ids.now) }
 {
     let mut kept = Vec::new(alloc);
     for other in ids {
-        if !is_same(other, id) {
-            kept.push(*other)?;
+        if !is_kept(other, id) {
+            kept.push(other.clone()?)?;
         }
     }
     Ok(kept)
 }
 
 /// Whether an id stands in a list.
-pub fn has_id(ids: &[Id], id: &Id) -> bool
+pub fn has_id(ids: &[KeptId], id: &Id) -> bool
     ensures { result ≡ has_id id.now ids.now }
 {
-    ids.iter().any(|other| is_same(other, id))
+    ids.iter().any(|other| is_kept(other, id))
 }
 
 /// The list without each id of another.
-pub fn without_all(alloc: Global, ids: &Ids, gone: &[Id]) -> Result<Ids, AllocError>
+pub fn without_all(alloc: Global, ids: &Ids, gone: &[KeptId]) -> Result<Ids, AllocError>
     ensures { IfOk result (λ left. left ≡ without_all gone.now ids.now) }
 {
     let all = set_of(alloc, gone)?;
@@ -55,12 +62,12 @@ pub fn without_all(alloc: Global, ids: &Ids, gone: &[Id]) -> Result<Ids, AllocEr
     Ok(Ids::from_vec(kept))
 }
 
-fn set_of(alloc: Global, ids: &[Id]) -> Result<BTreeSet<Id>, AllocError>
+fn set_of(alloc: Global, ids: &[KeptId]) -> Result<BTreeSet<Id>, AllocError>
     ensures { IfOk result (λ s. (q : List ℕ) → contains (slice_cmp nat_cmp) s q ≡ has_id q ids.now) }
 {
     let mut set = BTreeSet::new(alloc);
     for id in ids {
-        set.insert(*id)?;
+        set.insert(id.id())?;
     }
     Ok(set)
 }
@@ -68,17 +75,17 @@ fn set_of(alloc: Global, ids: &[Id]) -> Result<BTreeSet<Id>, AllocError>
 /// The ids that aren't gone; the gone ones are as a list and as a set.
 fn kept_all(
     alloc: Global,
-    ids: &[Id],
-    _gone: &[Id],
+    ids: &[KeptId],
+    _gone: &[KeptId],
     all: &BTreeSet<Id>,
-) -> Result<Vec<Id>, AllocError>
+) -> Result<Vec<KeptId>, AllocError>
     requires { (q : List ℕ) → contains (slice_cmp nat_cmp) all.now q ≡ has_id q _gone.now }
     ensures { IfOk result (λ v. v.items ≡ without_all _gone.now ids.now) }
 {
     let mut kept = Vec::new(alloc);
     for other in ids {
-        if !all.contains(other) {
-            kept.push(*other)?;
+        if !all.contains(&other.id()) {
+            kept.push(other.clone()?)?;
         }
     }
     Ok(kept)

@@ -201,7 +201,7 @@ fn begin(alloc: Global, member: Member) -> Renewals
 fn take_turns<S: Source>(
     line: &Line<'_>,
     request: &RenewAll,
-    items: &[Id],
+    items: &[KeptId],
     member: Member,
     source: &mut S,
 ) -> Result<Renewals, Stop>
@@ -212,7 +212,7 @@ fn take_turns<S: Source>(
     let mut sum = None;
     let mut done = begin(line.alloc, member);
     for item in items {
-        let a = ask_for(request, *item);
+        let a = ask_for(request, item.id());
         let asked = Asked {
             alloc: line.alloc,
             policy: line.policy,

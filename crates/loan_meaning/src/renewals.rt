@@ -76,22 +76,31 @@ pub fn test_renewal<S: Source>(
     test_owing(asked, writes, member, article, sum, source)
 }
 
-fn renew_loan(alloc: Global, due: Day, loan: Option<Loan>) -> Result<Option<KeptLoan>, AllocError>
-    ensures { IfOk result (λ renewed. renewed ≡ renewed_loan due loan) }
+fn renew_loan(due: Day, loan: Option<Loan>) -> Option<Loan>
+    ensures { result ≡ renewed_loan due loan }
 {
-    let Some(loan) = loan else {
-        return Ok(None);
-    };
-    let renewed = Loan {
-        patron: loan.patron,
-        due,
-        renewals: if loan.renewals < u32::MAX {
-            loan.renewals + 1
-        } else {
-            loan.renewals
-        },
-    };
-    Ok(Some(KeptLoan::new(alloc, &renewed)?))
+    match loan {
+        Some(loan) => Some(Loan {
+            patron: loan.patron,
+            due,
+            renewals: if loan.renewals < u32::MAX {
+                loan.renewals + 1
+            } else {
+                loan.renewals
+            },
+        }),
+        None => None,
+    }
+}
+
+/// The same loan, kept.
+fn keep_loan(alloc: Global, loan: Option<Loan>) -> Result<Option<KeptLoan>, AllocError>
+    ensures { IfOk result (λ kept. kept ≡ loan) }
+{
+    match loan {
+        Some(loan) => Ok(Some(KeptLoan::new(alloc, &loan)?)),
+        None => Ok(None),
+    }
 }
 
 /// The item with its loan renewed.
@@ -99,7 +108,7 @@ pub fn renew_loan_of(alloc: Global, due: Day, article: Article) -> Result<Item, 
     ensures { IfOk result (λ i. i ≡ renewed due article.item) }
 {
     let mut item = Item::of(alloc, article.into_item())?;
-    item.loan = renew_loan(alloc, due, item.loan())?;
+    item.loan = keep_loan(alloc, renew_loan(due, item.loan()))?;
     Ok(item)
 }
 

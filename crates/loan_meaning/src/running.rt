@@ -5,10 +5,10 @@ ghost use Rattle.loan_meaning.specs.Devices.Sums.{begins_as_made, charged_by, no
 
 use crate::fees::nothing;
 use read_set::Verdict;
-use sip_reader::{Amount, Id};
+use sip_reader::{Amount, Id, KeptId};
 
 /// Whether an id begins as those of the fees that a line makes.
-fn may_be_made(n: u64, id: &Id) -> bool
+fn may_be_made(n: u64, id: &KeptId) -> bool
     ensures { result ≡ begins_as_made n id.now }
 {
     let first = Id::of_fee(n, 0);
@@ -18,7 +18,7 @@ fn may_be_made(n: u64, id: &Id) -> bool
 
 /// Whether no id of a list begins so: then the fees that a line makes are new to the list, as they are on records of a real
 /// moment.
-pub fn are_new(n: u64, fees: &[Id]) -> bool
+pub fn are_new(n: u64, fees: &[KeptId]) -> bool
     ensures { result ≡ none_begins_as_made n fees.now }
 {
     fees.iter().all(|id| !may_be_made(n, id))

@@ -143,7 +143,7 @@ fn meant_ids<S: Source>(
 #[tactic(auto, using(read_set::proofs::Gaining::gains_none, read_set::proofs::Gaining::gains_first))]
 fn pay_all<S: Source>(
     alloc: Global,
-    ids: &[Id],
+    ids: &[KeptId],
     amount: u64,
     source: &mut S,
 ) -> Result<Payments, Stop>
@@ -159,8 +159,9 @@ fn pay_all<S: Source>(
         if done.left == 0 {
             return Ok(done);
         }
-        let found = read_after(alloc, source, &done.writes, &Key::Fee(*id))?;
-        done = pay(alloc, id, done, known_fee(&found))?;
+        let id = id.id();
+        let found = read_after(alloc, source, &done.writes, &Key::Fee(id))?;
+        done = pay(alloc, &id, done, known_fee(&found))?;
     }
     Ok(done)
 }
@@ -202,7 +203,7 @@ fn close(alloc: Global, closed: &Ids, member: Member) -> Result<Patron, AllocErr
     Ok(patron)
 }
 
-fn is_some_id(ids: &[Id]) -> bool
+fn is_some_id(ids: &[KeptId]) -> bool
     ensures { result ≡ is_any ids.now }
 {
     !ids.is_empty()

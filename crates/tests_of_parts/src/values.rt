@@ -1,5 +1,6 @@
 //! Days, dates, amounts, ids, texts and words.
 
+use circ_records::{KeptKey, KeptLoan, Key, Loan};
 use sip_reader::{
     AMOUNT_MAX, Amount, Day, Id, KeptId, Kind, Passed, Reading, Stamp, Text, Why, push_amount,
     read_request, sum_of, unsummed, without_line_end,
@@ -111,12 +112,16 @@ fn ids_and_texts(rt: HostRuntime) -> Result<(), Fail> {
 #[test]
 fn kept_ids(rt: HostRuntime) -> Result<(), Fail> {
     let longest = [b'7'; 64];
-    for length in [1, 9, 30, 31, 64] {
+    for length in [1, 9, 14, 15, 64] {
         let bytes = &longest[..length];
         let id = Id::new(bytes).expect(&rt, "an id");
         let kept = KeptId::new(rt.alloc(), &id)?;
         assert!(rt; kept.as_bytes() == bytes && kept.id() == id, "{length}");
-        assert!(rt; kept.copy(rt.alloc())?.as_bytes() == bytes, "{length}");
+        assert!(rt; kept.clone()?.as_bytes() == bytes, "{length}");
+        assert!(rt;
+            kept.order(&id).is_eq() && kept == kept.clone()?,
+            "{length}"
+        );
         let read = KeptId::read(rt.alloc(), bytes)?.expect(&rt, "an id");
         assert!(rt; read.id() == id, "{length}");
     }
@@ -142,4 +147,38 @@ fn ends_and_sums(rt: HostRuntime) {
 fn words(rt: HostRuntime) {
     assert!(rt; Kind::BlockPatron.digits() == "01" && Passed::Title.word() == "title");
     assert!(rt; Passed::TerminalStatus.word() == "99" && Why::TooLong.word() == "too_long");
+}
+
+/// Keys of each kind are kept as they are, and no other key is a kept one.
+#[test]
+fn kept_keys(rt: HostRuntime) -> Result<(), Fail> {
+    for bytes in [b"7".as_slice(), b"I00001", b"R9999999999-12345"] {
+        let id = Id::new(bytes).expect(&rt, "an id");
+        let keys = [Key::Patron(id), Key::Item(id), Key::Fee(id)];
+        for (i, key) in keys.iter().enumerate() {
+            let kept = KeptKey::new(rt.alloc(), key)?;
+            assert!(rt; kept.key() == *key && kept.clone()?.key() == *key);
+            for (j, other) in keys.iter().enumerate() {
+                assert!(rt; kept.is(other) == (i == j));
+            }
+        }
+        let other = Key::Item(Id::new(b"I00002").expect(&rt, "an id"));
+        assert!(rt; !KeptKey::new(rt.alloc(), &keys[1])?.is(&other));
+    }
+    Ok(())
+}
+
+/// A kept loan is the loan that it was made of.
+#[test]
+fn kept_loans(rt: HostRuntime) -> Result<(), Fail> {
+    for patron in [b"P1".as_slice(), b"21234000123456789"] {
+        let loan = Loan {
+            patron: Id::new(patron).expect(&rt, "an id"),
+            due: Day::of(2026, 3, 16).expect(&rt, "a day"),
+            renewals: 2,
+        };
+        let kept = KeptLoan::new(rt.alloc(), &loan)?.clone()?.loan();
+        assert!(rt; kept.patron == loan.patron && kept.due == loan.due && kept.renewals == 2);
+    }
+    Ok(())
 }

@@ -113,8 +113,8 @@ fn fields_of(text: &str) -> [&str; 6] {
 
 fn patron_in(alloc: Global, fields: &[&str; 6]) -> Result<Option<Record>, AllocError> {
     let name = text_in(alloc, fields[1])?;
-    let loans = Ids::from_vec(ids_in(alloc, fields[4])?);
-    let fees = Ids::from_vec(ids_in(alloc, fields[5])?);
+    let loans = list_in(alloc, fields[4])?;
+    let fees = list_in(alloc, fields[5])?;
     let (Some(name), Some(class)) = (name, Id::new(fields[2].as_bytes())) else {
         return Ok(None);
     };
@@ -188,6 +188,14 @@ fn text_in(alloc: Global, text: &str) -> Result<Option<Text>, AllocError> {
     Text::read(alloc, if text == "-" { b"" } else { text.as_bytes() })
 }
 
+fn list_in(alloc: Global, text: &str) -> Result<Ids, AllocError> {
+    let mut list = Ids::new(alloc);
+    for id in ids_in(alloc, text)? {
+        list.push(id)?;
+    }
+    Ok(list)
+}
+
 fn ids_in(alloc: Global, text: &str) -> Result<Vec<Id>, AllocError> {
     let mut ids = Vec::new(alloc);
     for id in text.split('+') {
@@ -259,7 +267,7 @@ fn tell_patron(out: &mut String, patron: &Patron) -> Result<(), AllocError> {
 }
 
 /// The next field, a list of ids.
-fn tell_ids(out: &mut String, ids: &[Id]) -> Result<(), AllocError> {
+fn tell_ids(out: &mut String, ids: &[KeptId]) -> Result<(), AllocError> {
     out.push_str(", ")?;
     if ids.is_empty() {
         out.push_str("-")?;
@@ -268,7 +276,7 @@ fn tell_ids(out: &mut String, ids: &[Id]) -> Result<(), AllocError> {
         if i > 0 {
             out.push_str("+")?;
         }
-        out.push_str(shown(id))?;
+        out.push_str(shown(&id.id()))?;
     }
     Ok(())
 }

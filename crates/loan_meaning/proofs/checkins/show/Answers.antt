@@ -6,5 +6,5 @@ use Rattle.loan_meaning.proofs.checkins.show.Goals as goal
 pub returns : goal.returns
 returns c =
     let all : ReturnedItem = returned_item c.args.item.now in
-    ap₂ (λ (l t : List ℕ). record all { location = l; title = t; properties = c.in_ok-copy-3.field-0 }) c.in_ok-copy.ensures c.in_ok-copy-2.ensures
-    ∙ ap (λ (p : List ℕ). record all { properties = p }) c.in_ok-copy-3.ensures
+    ap₂ (λ (l t : List ℕ). record all { location = l; title = t; properties = c.in_ok-clone-3.field-0 }) c.in_ok-clone.ensures.cases c.in_ok-clone-2.ensures.cases
+    ∙ ap (λ (p : List ℕ). record all { properties = p }) c.in_ok-clone-3.ensures.cases

@@ -30,14 +30,14 @@ loop-hold-preserved c =
     let more : List Hold = drop (l.hold-index + 1) c.args.holds.now in
     let all : List Hold = with_pickup patron pickup c.args.holds.now in
     let cuts : rest ≡ h ∷ more = cut c.args.holds.now l.hold-index h c.loop-hold-test.true c.hold-item.is in
-    let copied : c.in_ok-hold.hold ≡ h = c.in_ok-hold.ensures in
+    let copied : c.in_ok-hold.hold ≡ h = c.in_ok-hold.ensures.cases in
     let left : Bool → List Hold = λ b. (if b then more else with_pickup patron pickup more) in
     let pushed : (b : Bool) (x : Hold) → c.if-not-found.found ≡ b → c.if-not-found.hold ≡ x → c.push.new.self.items ++ left c.if-not-found.found ≡ (l.kept.items ++ x ∷ []) ++ left b = λ b x f e.
     ap (λ (xs : List Hold). xs ++ left c.if-not-found.found) (c.in_ok-push.ensures.items ∙ ap (λ (y : Hold). l.kept.items ++ y ∷ []) e) ∙ ap (λ (a : Bool). (l.kept.items ++ x ∷ []) ++ left a) f in
     elim c.if-not-found.branch [
       | then-not-found+then-is_same+in_ok-hold-2 w ↦
           (let its : same h.patron patron ≡ true = ap (λ (x : Hold). same x.patron patron) (sym copied) ∙ sym w.is_same.ensures ∙ w.if-is_same.true in
-          let changed : c.if-not-found.hold ≡ record h { pickup = pickup } = w.hold-is ∙ ap₂ (λ (x : Hold) (t : List ℕ). record x { pickup = t }) copied w.in_ok-hold-2.ensures in
+          let changed : c.if-not-found.hold ≡ record h { pickup = pickup } = w.hold-is ∙ ap₂ (λ (x : Hold) (t : List ℕ). record x { pickup = t }) copied w.in_ok-hold-2.ensures.cases in
           pushed true (record h { pickup = pickup }) w.found-is changed
           ∙ picked_up patron pickup l.kept.items rest more all h cuts its
           (ap (λ (b : Bool). l.kept.items ++ (if b then rest else with_pickup patron pickup rest)) (sym w.if-not-found.true) ∙ l.invariant))

@@ -6,7 +6,7 @@ use Rattle.read_set.specs.Ids.{same}
 use Rattle.read_set.specs.Queues.{without_hold}
 use Rattle.loan_meaning.proofs.Walking.{cut, left_out, kept_still}
 use Rattle.loan_meaning.proofs.lists.holds_without.Goals as goal
-use Rattle.loan_meaning.proofs.lists.holds_without.Goals.{then-not-found+then-is_same, else-not-found+in_ok-copy+in_ok-push, else-not-found-via-then-not-found+else-is_same, else-not-found-via-else-not-found}
+use Rattle.loan_meaning.proofs.lists.holds_without.Goals.{then-not-found+then-is_same, else-not-found+in_ok-clone+in_ok-push, else-not-found-via-then-not-found+else-is_same, else-not-found-via-else-not-found}
 
 none_left : (b : Bool) (patron : List ℕ) (kept rest all : List Hold) → rest ≡ [] → kept ++ (if b then rest else without_hold patron rest) ≡ all → kept ≡ all
 none_left true patron kept rest all is e = sym (append-nil kept) ∙ ap (λ xs. kept ++ xs) (sym is) ∙ e
@@ -34,12 +34,12 @@ loop-hold-preserved c =
           (ap₂ (λ (v : Vec Hold Global) (b : Bool). v.items ++ (if b then more else without_hold patron more)) w.kept-is w.found-is
           ∙ left_out patron l.kept.items rest more all h cuts (sym w.is_same.ensures ∙ w.if-is_same.true)
           (ap (λ (b : Bool). l.kept.items ++ (if b then rest else without_hold patron rest)) (sym w.if-not-found.true) ∙ l.invariant))
-      | else-not-found+in_ok-copy+in_ok-push w ↦
+      | else-not-found+in_ok-clone+in_ok-push w ↦
           (let others : l.found ≡ false → same h.patron patron ≡ false = elim w.else-not-found.branch [
             | else-not-found-via-then-not-found+else-is_same v ↦ λ _. sym v.is_same.ensures ∙ v.if-is_same.false
             | else-not-found-via-else-not-found v ↦ λ f. (let clash : true ≡ false = sym v.if-not-found.false ∙ f in cc)
           ] in
           ap₂ (λ (v : Vec Hold Global) (b : Bool). v.items ++ (if b then more else without_hold patron more)) w.kept-is w.found-is
-          ∙ ap (λ (xs : List Hold). xs ++ (if l.found then more else without_hold patron more)) (w.in_ok-push.ensures.items ∙ ap (λ (x : Hold). l.kept.items ++ x ∷ []) w.in_ok-copy.ensures)
+          ∙ ap (λ (xs : List Hold). xs ++ (if l.found then more else without_hold patron more)) (w.in_ok-push.ensures.items ∙ ap (λ (x : Hold). l.kept.items ++ x ∷ []) w.in_ok-clone.ensures.cases)
           ∙ kept_still patron l.found l.kept.items rest more all h cuts others l.invariant)
     ]

@@ -6,4 +6,4 @@ use Rattle.loan_meaning.proofs.telling.show.Goals as goal
 pub returns : goal.returns
 returns c =
     let all : KnownItem = known_item c.args.item.now in
-    ap₂ (λ (t p : List ℕ). record all { title = t; properties = p }) c.in_ok-copy.ensures c.in_ok-copy-2.ensures
+    ap₂ (λ (t p : List ℕ). record all { title = t; properties = p }) c.in_ok-clone.ensures.cases c.in_ok-clone-2.ensures.cases

@@ -116,7 +116,7 @@ fn kept_ids(rt: HostRuntime) -> Result<(), Fail> {
         let id = Id::new(bytes).expect(&rt, "an id");
         let kept = KeptId::new(rt.alloc(), &id)?;
         assert!(rt; kept.as_bytes() == bytes && kept.id() == id, "{length}");
-        assert!(rt; kept.copy(rt.alloc())?.as_bytes() == bytes, "{length}");
+        assert!(rt; kept.clone()?.as_bytes() == bytes, "{length}");
         let read = KeptId::read(rt.alloc(), bytes)?.expect(&rt, "an id");
         assert!(rt; read.id() == id, "{length}");
     }

@@ -1,8 +1,9 @@
 -- Notes: one more, and the i-th.
-use Rattle.std.proofs.Common.{◌≡◌, ℕ, zero, suc, ◌-◌, ◌<◌, ◌≤◌, Bool, true, false, cond, List, [], ◌∷◌, ◌++◌, length, slice_get, refl, sym, ap, ◌∙◌, arith, Some, None, map, subst}
-use Rattle.std.specs.Prelude.{option_map, ◌||◌}
+use Rattle.std.proofs.Common.{◌≡◌, ℕ, zero, suc, ◌-◌, ◌<◌, ◌≤◌, Bool, true, false, cond, List, [], ◌∷◌, ◌++◌, length, slice_get, refl, sym, ap, ◌∙◌, arith, None, map, subst}
+use Rattle.std.specs.Prelude.{Option, option_map, ◌||◌}
 use Rattle.std.specs.BTreeMap.{is_at}
-use Rattle.std.specs.BTreeSet.{BTreeSet, contains}
+use Rattle.std.specs.Global.{Box}
+use Rattle.std.specs.BTreeSet.{BTreeSet}
 use Rattle.std.specs.List.{list_any, IsDistinct}
 use Rattle.std.specs.Ordering.{eq_by_cmp}
 use Rattle.std.proofs.Common.{length-append, take, take_all}
@@ -13,7 +14,10 @@ use Rattle.std.proofs.lemmas.Map.Keys.{IsDistinct-push}
 use Rattle.circ_records.specs.Keys.{key_cmp, key_cmp_total}
 use Rattle.circ_records.specs.declared.key.Key.{Key}
 use Rattle.board_lines.specs.declared.notes.PlaceNote.{PlaceNote}
-use Rattle.board_lines.specs.Notes.{Noted, noted, few, is_key_in, is_noted, AreNoted, AreOnce, ArePlaced, IsPlaced}
+use Rattle.board_lines.specs.Notes.{Noted, noted, few, is_indexed, is_key_in, is_noted, AreNoted, AreOnce, ArePlaced, IsPlaced}
+
+abbrev Index : Type 0
+Index = Option (Box (BTreeSet Key))
 
 pub length_noted : {J : Type 0} (ns : List (PlaceNote J)) → length (map noted ns) ≡ length ns
 length_noted [] = refl
@@ -83,7 +87,7 @@ if_either a true c = refl
 if_either a false c = refl
 
 -- one more note among the first few
-pub noted_few : {J : Type 0} (ns : List (PlaceNote J)) (index : BTreeSet Key) (n : PlaceNote J)
+pub noted_few : {J : Type 0} (ns : List (PlaceNote J)) (index : Index) (n : PlaceNote J)
     → AreNoted ns index
     → is_noted (map noted ns) n.key ≡ false
     → IsPlaced (noted n)
@@ -91,8 +95,8 @@ pub noted_few : {J : Type 0} (ns : List (PlaceNote J)) (index : BTreeSet Key) (n
     → AreNoted (ns ++ n ∷ []) index
 noted_few ns index n kept fresh here short = record {
   each = λ q.
-      ap (λ b. b || contains key_cmp index q) (few_more ns n q short)
-      ∙ if_either (is_key_in (few ns) q) (eq_by_cmp key_cmp q n.key) (contains key_cmp index q)
+      ap (λ b. b || is_indexed index q) (few_more ns n q short)
+      ∙ if_either (is_key_in (few ns) q) (eq_by_cmp key_cmp q n.key) (is_indexed index q)
       ∙ ap (λ b. cond (eq_by_cmp key_cmp q n.key) true b) (kept.each q)
       ∙ sym (any_push (λ (x : Noted). is_at (key_cmp q) x.key) (map noted ns) (noted n))
       ∙ ap (λ notes. is_noted notes q) (sym (noted_push ns n));
@@ -101,18 +105,18 @@ noted_few ns index n kept fresh here short = record {
 }
 
 -- one more note behind them, whose key is found
-pub noted_more : {J : Type 0} (ns : List (PlaceNote J)) (old new : BTreeSet Key) (n : PlaceNote J)
+pub noted_more : {J : Type 0} (ns : List (PlaceNote J)) (old new : Index) (n : PlaceNote J)
     → AreNoted ns old
     → is_noted (map noted ns) n.key ≡ false
     → IsPlaced (noted n)
     → 8 ≤ length ns
-    → ((q : Key) → contains key_cmp new q ≡ cond (eq_by_cmp key_cmp n.key q) true (contains key_cmp old q))
+    → ((q : Key) → is_indexed new q ≡ cond (eq_by_cmp key_cmp n.key q) true (is_indexed old q))
     → AreNoted (ns ++ n ∷ []) new
 noted_more ns old new n kept fresh here long u = record {
   each = λ q.
-      ap (λ ms. is_key_in ms q || contains key_cmp new q) (take-append-le 8 ns (n ∷ []) long)
-      ∙ ap (λ b. is_key_in (few ns) q || b) (u q ∙ ap (λ b. cond b true (contains key_cmp old q)) ((eq_by_cmp_equiv key_cmp_total).symm n.key q))
-      ∙ any_if (is_key_in (few ns) q) (eq_by_cmp key_cmp q n.key) (contains key_cmp old q)
+      ap (λ ms. is_key_in ms q || is_indexed new q) (take-append-le 8 ns (n ∷ []) long)
+      ∙ ap (λ b. is_key_in (few ns) q || b) (u q ∙ ap (λ b. cond b true (is_indexed old q)) ((eq_by_cmp_equiv key_cmp_total).symm n.key q))
+      ∙ any_if (is_key_in (few ns) q) (eq_by_cmp key_cmp q n.key) (is_indexed old q)
       ∙ ap (λ b. cond (eq_by_cmp key_cmp q n.key) true b) (kept.each q)
       ∙ sym (any_push (λ (x : Noted). is_at (key_cmp q) x.key) (map noted ns) (noted n))
       ∙ ap (λ notes. is_noted notes q) (sym (noted_push ns n));
@@ -130,20 +134,20 @@ pushed_popped old pushed left x n push many pop =
     ∙ take_all (length old) old (omega arith)
 
 -- an index of the same keys
-pub noted_again : {J : Type 0} (ns : List (PlaceNote J)) (old new : BTreeSet Key) → AreNoted ns old → new.keys ≡ old.keys → AreNoted ns new
+pub noted_again : {J : Type 0} (ns : List (PlaceNote J)) (old new : Index) → AreNoted ns old → ((q : Key) → is_indexed new q ≡ is_indexed old q) → AreNoted ns new
 noted_again ns old new kept same = record {
-  each = λ q. ap (λ js. is_key_in (few ns) q || list_any (is_at (key_cmp q)) js) same ∙ kept.each q;
+  each = λ q. ap (λ b. is_key_in (few ns) q || b) (same q) ∙ kept.each q;
   once = kept.once;
   placed = kept.placed;
 }
 
--- nothing is noted, and the index is empty
-none_kept : {J : Type 0} (index : BTreeSet Key) → index.keys ≡ [] → AreNoted {J = J} [] index
-none_kept index no_index = record {
-  each = λ q. ap (λ js. list_any (is_at (key_cmp q)) js) no_index;
+-- nothing is noted, and there is no index
+none_kept : {J : Type 0} → AreNoted {J = J} [] None
+none_kept = record {
+  each = λ q. refl;
   once = none_once;
   placed = none_placed;
 }
 
-pub nothing_noted : {J : Type 0} (ns : List (PlaceNote J)) (index : BTreeSet Key) → ns ≡ [] → index.keys ≡ [] → AreNoted ns index
-nothing_noted ns index no_notes no_index = subst (λ ms. AreNoted ms index) (sym no_notes) (none_kept index no_index)
+pub nothing_noted : {J : Type 0} (ns : List (PlaceNote J)) → ns ≡ [] → AreNoted ns None
+nothing_noted ns no_notes = subst (λ ms. AreNoted ms None) (sym no_notes) none_kept

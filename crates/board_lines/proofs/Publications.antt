@@ -1,4 +1,5 @@
 -- A version of a line in hand is published, act by act.
+use denote.Ref.{Bor}
 use Rattle.std.proofs.Common.{◌≡◌, ◌≢◌, ℕ, suc, ◌+◌, ◌-◌, ◌<◌, Bool, true, false, List, Option, Some, None, length, set, get_or, refl, sym, ap, subst, ◌∙◌, ◌⊎◌, inl, inr, arith, length-set, get_or-set_same}
 use Rattle.std.specs.Prelude.{option_map, IsSomeAnd}
 use Rattle.std.specs.Bool.{Decides}
@@ -367,11 +368,11 @@ module _ (plan : Planned) (a : Parts) (kept : IsKept plan a) (w n : ℕ) (notes 
 
 -- ---- what an act is
 pub act_left : (r : Row) (v : Contents) (act : Act) → IsAct r v act → (act ≡ acts.Finish → ⊥) → AllPlaced r v → NoneLeft r v → ⊥
-act_left r v (acts.Write k count) h not all none = h.1.apart (all k h.0 h.1.written)
-act_left r v (acts.Lift k) h not all none = h.1.left.2 (none k h.1.left.0 h.1.left.1)
+act_left r v (acts.Write k count) h not all none = h.1.apart (all k.now h.0 h.1.written)
+act_left r v (acts.Lift k) h not all none = h.1.left.2 (none k.now h.1.left.0 h.1.left.1)
 act_left r v acts.Finish h not all none = not refl
 
-pub no_other : (act : Act) → (act ≡ acts.Finish → ⊥) → ((k : Key) → act ≡ acts.Lift k → ⊥) → ((k : Key) (count : ℕ) → act ≡ acts.Write k count → ⊥) → ⊥
+pub no_other : (act : Act) → (act ≡ acts.Finish → ⊥) → ((k : Bor Key) → act ≡ acts.Lift k → ⊥) → ((k : Bor Key) (count : ℕ) → act ≡ acts.Write k count → ⊥) → ⊥
 no_other (acts.Write k count) f l w = w k count refl
 no_other (acts.Lift k) f l w = l k refl
 no_other acts.Finish f l w = f refl

@@ -63,6 +63,6 @@ IsFirstApart l a writes (Some i) =
 -- The next act: the next write is placed; when all are placed, the least key that an earlier attempt left is lifted; when none
 -- is left, all is published.
 abbrev pub IsAct : Row → Contents → Act → Type 0
-IsAct r v (acts.Write k count) = (value : Record) × IsNextWrite r v k value
-IsAct r v (acts.Lift k) = AllPlaced r v × IsNextLeft r v k
+IsAct r v (acts.Write k count) = (value : Record) × IsNextWrite r v k.now value
+IsAct r v (acts.Lift k) = AllPlaced r v × IsNextLeft r v k.now
 IsAct r v acts.Finish = AllPlaced r v × NoneLeft r v

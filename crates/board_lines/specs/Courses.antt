@@ -27,7 +27,7 @@ FirstPlacedBut l a writes k count = (j : ℕ) (x : Key × Record) → j < count 
 
 -- so many writes are placed once the act is done
 abbrev pub ComesTo : Line → Contents → Act → Type 0
-ComesTo l v (acts.Write k count) = FirstPlacedBut l v.attempt v.writes k count
+ComesTo l v (acts.Write k count) = FirstPlacedBut l v.attempt v.writes k.now count
 ComesTo l v (acts.Lift k) = Unit {0}
 ComesTo l v acts.Finish = Unit {0}
 

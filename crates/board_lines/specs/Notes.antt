@@ -1,5 +1,6 @@
 -- What a line has noted, by places: the base's record, or what the version at a place writes.
-use Rattle.std.specs.Prelude.{◌≡◌, ◌↔◌, ◌||◌, ℕ, Bool, List, map, slice_get, take, Option, Some, None, option_map}
+use Rattle.std.specs.Prelude.{◌≡◌, ◌↔◌, ◌||◌, ℕ, Bool, false, List, map, slice_get, take, Option, Some, None, option_map}
+use Rattle.std.specs.Global.{Box}
 use Rattle.std.specs.BTreeMap.{is_at}
 use Rattle.std.specs.BTreeSet.{BTreeSet, contains}
 use Rattle.std.specs.List.{list_any, IsDistinct}
@@ -81,9 +82,14 @@ few notes = take 8 notes
 abbrev pub is_key_in : {J : Type 0} → List (PlaceNote J) → Key → Bool
 is_key_in notes k = list_any (λ n. eq_by_cmp key_cmp k n.key) notes
 
+-- whether a key is in the index, if there is one
+abbrev pub is_indexed : Option (Box (BTreeSet Key)) → Key → Bool
+is_indexed None k = false
+is_indexed (Some keys) k = contains key_cmp keys.value k
+
 -- the keys, of which each is there once, can be found: among the first few, or by the index; a name has no place just where it is
 -- the base's
-pub record AreNoted {J : Type 0} (notes : List (PlaceNote J)) (index : BTreeSet Key) : Type 0 where
-  pub each : (k : Key) → (is_key_in (few notes) k || contains key_cmp index k) ≡ is_noted (map noted notes) k
+pub record AreNoted {J : Type 0} (notes : List (PlaceNote J)) (index : Option (Box (BTreeSet Key))) : Type 0 where
+  pub each : (k : Key) → (is_key_in (few notes) k || is_indexed index k) ≡ is_noted (map noted notes) k
   pub once : AreOnce (map noted notes)
   pub placed : ArePlaced (map noted notes)

@@ -534,7 +534,7 @@ impl<'p, 't, J: PlanName> Lines<'p, 't, J> {
     }
 
     /// The next act of the publication of the version at a place, so many of whose first writes are placed.
-    fn act(&self, line: u64, place: Place<'t, J>, count: usize) -> Act
+    fn act(&self, line: u64, place: Place<'t, J>, count: usize) -> Act<'t>
         requires there { IsLine self.now line }
         requires placed { FirstPlaced (row_at self.now line).entries (contents_at place).attempt (contents_at place).writes count }
         ensures act { IsAct (row_at self.now line) (contents_at place.entry) result }
@@ -555,22 +555,22 @@ impl<'p, 't, J: PlanName> Lines<'p, 't, J> {
         &mut self,
         worker: u32,
         line: u64,
-        key: Key,
+        key: &'t Key,
         place: Place<'t, J>,
         count: usize,
     ) -> Result<(), AllocError>
         requires may { MayPublish self.old worker line (notes_at self.old line) }
         requires fits { Fits self.old line (notes_at self.old line) (contents_at place) }
         requires version { IsVersion J.plan (contents_at place) }
-        requires next { (value : Record) × IsNextWrite (row_at self.old line) (contents_at place) key value }
-        requires first { FirstPlacedBut (row_at self.old line).entries (contents_at place).attempt (contents_at place).writes key count }
+        requires next { (value : Record) × IsNextWrite (row_at self.old line) (contents_at place) key.now value }
+        requires first { FirstPlacedBut (row_at self.old line).entries (contents_at place).attempt (contents_at place).writes key.now count }
         requires room { HasRoom self.old }
-        ensures placed { OnOk result (self.new ≡ placed self.old worker line (notes_at self.old line) (contents_at place.entry) key) }
+        ensures placed { OnOk result (self.new ≡ placed self.old worker line (notes_at self.old line) (contents_at place.entry) key.now) }
         ensures same { OnErr result (self.new ≡ self.old) }
     {
         let alloc = *self.rows.allocator();
         let attempt = place.show().attempt();
-        let Ok(()) = self.entries.place(alloc, line, attempt, &key, place) else {
+        let Ok(()) = self.entries.place(alloc, line, attempt, key, place) else {
             return Err(AllocError);
         };
         self.attempts.go_on(line, LineState::Placing { worker });
@@ -584,17 +584,17 @@ impl<'p, 't, J: PlanName> Lines<'p, 't, J> {
     }
 
     /// Takes away the entry at the next key that an earlier attempt left.
-    fn lift(&mut self, worker: u32, line: u64, key: Key, place: Place<'t, J>)
+    fn lift(&mut self, worker: u32, line: u64, key: &Key, place: Place<'t, J>)
         requires may { MayPublish self.old worker line (notes_at self.old line) }
         requires fits { Fits self.old line (notes_at self.old line) (contents_at place) }
         requires version { IsVersion J.plan (contents_at place) }
         requires all { AllPlaced (row_at self.old line) (contents_at place) }
-        requires next { IsNextLeft (row_at self.old line) (contents_at place) key }
+        requires next { IsNextLeft (row_at self.old line) (contents_at place) key.now }
         requires room { HasRoom self.old }
-        ensures { self.new ≡ lifted self.old worker line (notes_at self.old line) (contents_at place.entry) key }
+        ensures { self.new ≡ lifted self.old worker line (notes_at self.old line) (contents_at place.entry) key.now }
     {
         let placed = place.show().writes().len();
-        self.entries.lift(line, &key);
+        self.entries.lift(line, key);
         self.attempts.go_on(line, LineState::Placing { worker });
         let clock = self.clock + 1;
         let row = &mut self.rows[(line - self.plan.first()) as usize];

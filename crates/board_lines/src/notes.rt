@@ -1,7 +1,10 @@
 //! What a line has noted while it runs.
 
-ghost use Rattle.std.specs.Prelude.{◌≡◌, ◌++◌, ◌∷◌, [], OnOk, OnErr, length, slice_get, map, true, false, option_copied, option_map};
-ghost use Rattle.board_lines.specs.Notes.{by_place, few, is_key_in, is_noted, key_and_name_of, named_in, note_with, AreOnce, ArePlaced, IsPlaced};
+ghost use Rattle.std.specs.Prelude.{◌≡◌, ◌++◌, ◌∷◌, [], cond, OnOk, OnErr, length, slice_get, map, true, false, option_copied, option_map};
+ghost use Rattle.std.specs.Ordering.{eq_by_cmp};
+ghost use Rattle.circ_records.specs.Keys.{key_cmp};
+ghost use Rattle.circ_records.specs.declared.key.Key.{Key};
+ghost use Rattle.board_lines.specs.Notes.{by_place, few, is_indexed, is_key_in, is_noted, key_and_name_of, named_in, note_with, AreOnce, ArePlaced, IsPlaced};
 
 use circ_records::Key;
 use read_set::{Name, PlanName};
@@ -49,8 +52,8 @@ const FEW: usize = 8;
 /// What a line has noted, in the order of looking: keys, names and places. It holds no record.
 pub struct PlaceNotes<'t, J: PlanName> {
     notes: Vec<PlaceNote<'t, J>>,
-    /// The keys again that aren't among the first few, to be found.
-    index: BTreeSet<Key>,
+    /// The keys again that aren't among the first few, to be found. Most lines never have it, and then it takes 8 bytes.
+    index: Option<Box<BTreeSet<Key>>>,
 }
 
 impl<J: PlanName> Drop for PlaceNotes<'_, J> {
@@ -79,7 +82,7 @@ impl<'t, J: PlanName> PlaceNotes<'t, J> {
     {
         PlaceNotes {
             notes: Vec::new(alloc),
-            index: BTreeSet::new(alloc),
+            index: None,
         }
     }
 
@@ -87,7 +90,7 @@ impl<'t, J: PlanName> PlaceNotes<'t, J> {
     pub fn has(&self, key: &Key) -> bool
         ensures { result ≡ is_noted self.now key.now }
     {
-        is_among(first_few(&self.notes), key) || self.index.contains(key)
+        is_among(first_few(&self.notes), key) || is_indexed(&self.index, key)
     }
 
     /// One more note, of a key that isn't noted; it has no place just where its name is the base's. Without memory nothing
@@ -98,6 +101,7 @@ impl<'t, J: PlanName> PlaceNotes<'t, J> {
         ensures ok { OnOk result (self.new ≡ self.old ++ note_with key.now seen.entry ∷ []) }
         ensures err { OnErr result (self.new ≡ self.old) }
     {
+        let alloc = *self.notes.allocator();
         let position = self.notes.len();
         let Ok(()) = self.notes.push(PlaceNote { key: *key, seen }) else {
             return Err(AllocError);
@@ -105,11 +109,11 @@ impl<'t, J: PlanName> PlaceNotes<'t, J> {
         if position < FEW {
             return Ok(());
         }
-        match self.index.insert(*key) {
-            Ok(_) => Ok(()),
-            Err(_) => {
+        match enter(alloc, &mut self.index, key) {
+            Ok(()) => Ok(()),
+            Err(refused) => {
                 self.notes.pop();
-                Err(AllocError)
+                Err(refused)
             }
         }
     }
@@ -120,7 +124,7 @@ impl<'t, J: PlanName> PlaceNotes<'t, J> {
     {
         self.notes.clear();
         self.notes.shrink_to_fit();
-        self.index.clear();
+        self.index = None;
     }
 
     /// How many there are. No key is noted twice, and a note has no place just where its name is the base's.
@@ -179,6 +183,33 @@ fn is_among<J: PlanName>(notes: &[PlaceNote<'_, J>], key: &Key) -> bool
     ensures { result ≡ is_key_in notes.now key.now }
 {
     notes.iter().any(|note| *key == note.key)
+}
+
+/// Whether a key is in the index, if there is one.
+fn is_indexed(index: &Option<Box<BTreeSet<Key>>>, key: &Key) -> bool
+    ensures { result ≡ is_indexed index.now key.now }
+{
+    match index {
+        Some(keys) => keys.contains(key),
+        None => false,
+    }
+}
+
+/// One more key in the index, which the first key makes. Without memory it has the keys that it had.
+fn enter(alloc: Global, index: &mut Option<Box<BTreeSet<Key>>>, key: &Key) -> Result<(), AllocError>
+    ensures put { OnOk result ((q : Key) → is_indexed index.new q ≡ cond (eq_by_cmp key_cmp key.now q) true (is_indexed index.old q)) }
+    ensures same { OnErr result ((q : Key) → is_indexed index.new q ≡ is_indexed index.old q) }
+{
+    if let Some(keys) = index {
+        return match keys.insert(*key) {
+            Ok(_) => Ok(()),
+            Err(_) => Err(AllocError),
+        };
+    }
+    let mut keys = BTreeSet::new(alloc);
+    keys.insert(*key)?;
+    *index = Some(Box::new(alloc, keys)?);
+    Ok(())
 }
 
 fn nth<'n, 't, J: PlanName>(notes: &'n [PlaceNote<'t, J>], i: usize) -> Option<&'n PlaceNote<'t, J>>

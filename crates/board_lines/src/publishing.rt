@@ -18,11 +18,11 @@ use version_store::{EntryStore, Place};
 
 /// What a publication does next.
 #[derive(Clone, Copy)]
-pub(crate) enum Act {
-    /// It places the write at this key. After it so many of the first writes are placed.
-    Write(Key, usize),
+pub(crate) enum Act<'t> {
+    /// It places the write at this key, which stands in the version. After it so many of the first writes are placed.
+    Write(&'t Key, usize),
     /// It takes away the entry at this key, which an earlier attempt left.
-    Lift(Key),
+    Lift(&'t Key),
     /// Nothing: all is published.
     Finish,
 }
@@ -66,12 +66,12 @@ pub(crate) fn settled<J: PlanName>(place: Place<'_, J>)
 
 /// The next act of the publication of a version of a line, so many of whose first writes are placed. It looks at none of
 /// these again.
-pub(crate) fn act_of<J: PlanName>(
-    entries: &EntryStore<'_, J>,
+pub(crate) fn act_of<'t, J: PlanName>(
+    entries: &EntryStore<'t, J>,
     line: u64,
-    version: &Version<J>,
+    version: &'t Version<J>,
     placed: usize,
-) -> Act
+) -> Act<'t>
     requires { FirstPlaced (line_at entries.now line) version.now.attempt version.now.writes placed }
     ensures act { (r : Row) → r.entries ≡ line_at entries.now line → IsAct r version.now result }
     ensures comes { ComesTo (line_at entries.now line) version.now result }
@@ -79,10 +79,10 @@ pub(crate) fn act_of<J: PlanName>(
     let writes = version.writes();
     let attempt = version.attempt();
     if let Some(i) = next_write(entries, line, attempt, writes, placed) {
-        return Act::Write(writes[i].0, i + 1);
+        return Act::Write(&writes[i].0, i + 1);
     }
     match entries.left(line, attempt) {
-        Some(key) => Act::Lift(*key),
+        Some(key) => Act::Lift(key),
         None => Act::Finish,
     }
 }

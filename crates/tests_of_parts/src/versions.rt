@@ -51,20 +51,21 @@ fn made(line: u64, attempt: u32) -> Found {
 fn place_first<'t, J: PlanName, R: Wait + AllocGlobal + Abort>(
     rt: &R,
     table: &'t VersionTable<J>,
+    item: &'t Key,
+    patron: &'t Key,
     store: &mut EntryStore<'t, J>,
 ) -> Result<Place<'t, J>, AllocError>
     requires named { J.plan ≡ no_plan }
     requires line { IsLine store.old 8 }
     ensures { IsLine store.new 8 }
 {
-    let (item, patron) = (key(rt, 1), key(rt, 3));
     let first = put_version(rt, table, 8, 0)?;
-    store.place(rt.alloc(), 8, 0, &item, first)?;
-    store.place(rt.alloc(), 8, 0, &patron, first)?;
-    assert!(rt; store.name(&item, 8) == Found::Named(Name::Base));
-    assert!(rt; store.name(&item, 9) == made(8, 0) && store.name(&patron, 10) == made(8, 0));
+    store.place(rt.alloc(), 8, 0, item, first)?;
+    store.place(rt.alloc(), 8, 0, patron, first)?;
+    assert!(rt; store.name(item, 8) == Found::Named(Name::Base));
+    assert!(rt; store.name(item, 9) == made(8, 0) && store.name(patron, 10) == made(8, 0));
     store.suspect_all(8);
-    assert!(rt; store.name(&patron, 9) == Found::Suspect { line: 8 });
+    assert!(rt; store.name(patron, 9) == Found::Suspect { line: 8 });
     Ok(first)
 }
 
@@ -72,19 +73,20 @@ fn place_first<'t, J: PlanName, R: Wait + AllocGlobal + Abort>(
 fn place_again<'t, J: PlanName, R: Wait + AllocGlobal + Abort>(
     rt: &R,
     table: &'t VersionTable<J>,
+    item: &'t Key,
+    patron: &Key,
     store: &mut EntryStore<'t, J>,
 ) -> Result<(), AllocError>
     requires named { J.plan ≡ no_plan }
     requires line { IsLine store.old 8 }
     ensures { IsLine store.new 8 }
 {
-    let (item, patron) = (key(rt, 1), key(rt, 3));
     let second = put_version(rt, table, 8, 1)?;
-    store.place(rt.alloc(), 8, 1, &item, second)?;
-    assert!(rt; store.name(&item, 9) == made(8, 1));
-    assert!(rt; store.name(&patron, 9) == Found::Suspect { line: 8 });
-    assert!(rt; store.attempt_at(8, &item) == Some(1) && store.attempt_at(8, &patron) == Some(0));
-    assert!(rt; is_key(store.left(8, 1), &patron) && is_key(store.left(8, 0), &item));
+    store.place(rt.alloc(), 8, 1, item, second)?;
+    assert!(rt; store.name(item, 9) == made(8, 1));
+    assert!(rt; store.name(patron, 9) == Found::Suspect { line: 8 });
+    assert!(rt; store.attempt_at(8, item) == Some(1) && store.attempt_at(8, patron) == Some(0));
+    assert!(rt; is_key(store.left(8, 1), patron) && is_key(store.left(8, 0), item));
     Ok(())
 }
 
@@ -105,13 +107,15 @@ fn lift_left<J: PlanName>(rt: &impl Abort, store: &mut EntryStore<'_, J>)
 fn two_attempts<'t, J: PlanName, R: Wait + AllocGlobal + Abort>(
     rt: &R,
     table: &'t VersionTable<J>,
+    item: &'t Key,
+    patron: &'t Key,
     store: &mut EntryStore<'t, J>,
 ) -> Result<(), AllocError>
     requires named { J.plan ≡ no_plan }
     requires line { IsLine store.old 8 }
 {
-    let first = place_first(rt, table, store)?;
-    place_again(rt, table, store)?;
+    let first = place_first(rt, table, item, patron, store)?;
+    place_again(rt, table, item, patron, store)?;
     lift_left(rt, store);
     assert!(rt; first.show().attempt() == 0);
     Ok(())
@@ -135,7 +139,8 @@ fn attempt_of<J: PlanName>(seen: Seen<'_, J>) -> Option<u32> {
 #[test]
 fn two_attempts_at_a_line(rt: HostRuntime) -> Result<(), Fail> {
     let table: VersionTable<Brand> = VersionTable::new(rt.alloc())?;
+    let (item, patron) = (key(&rt, 1), key(&rt, 3));
     let mut store = EntryStore::new(rt.alloc(), 7, 3)?;
-    two_attempts(&rt, &table, &mut store)?;
+    two_attempts(&rt, &table, &item, &patron, &mut store)?;
     Ok(())
 }

@@ -6,6 +6,7 @@ ghost use Rattle.version_store.specs.Entries.{HasLines};
 
 use super::plain::PlainStore;
 use super::{key, put_version};
+use circ_records::Key;
 use read_set::{Name, PlanName};
 use std::alloc::AllocError;
 use std::marker::Brand;
@@ -76,6 +77,7 @@ fn agree_at<J: PlanName>(
 fn call<'t, J: PlanName, R: Wait + AllocGlobal + Abort>(
     rt: &R,
     table: &'t VersionTable<J>,
+    keys: &'t [Key; 5],
     store: &mut EntryStore<'t, J>,
     plain: &mut PlainStore,
     seed: u32,
@@ -85,7 +87,7 @@ fn call<'t, J: PlanName, R: Wait + AllocGlobal + Abort>(
     ensures { HasLines FIRST 6 store.new }
 {
     let line = FIRST + (seed >> 8) as u64 % LINES;
-    let chosen = key(rt, seed >> 16);
+    let chosen = &keys[((seed >> 16) % 5) as usize];
     let choice = (seed >> 24) % 8;
     if choice == 0 {
         store.suspect_all(line);
@@ -93,20 +95,21 @@ fn call<'t, J: PlanName, R: Wait + AllocGlobal + Abort>(
         return Ok(());
     }
     if choice < 4 {
-        store.lift(line, &chosen);
-        plain.lift(line, &chosen);
+        store.lift(line, chosen);
+        plain.lift(line, chosen);
         return Ok(());
     }
     let attempt = seed % 7;
     let place = put_version(rt, table, line, attempt)?;
-    store.place(rt.alloc(), line, attempt, &chosen, place)?;
-    plain.place(line, attempt, chosen)
+    store.place(rt.alloc(), line, attempt, chosen, place)?;
+    plain.place(line, attempt, *chosen)
 }
 
 /// 300 calls: places, lifts and marks of six lines and five keys, in an order of chance, with attempts that don't rise.
 fn calls<'t, J: PlanName, R: Wait + AllocGlobal + Abort>(
     rt: &R,
     table: &'t VersionTable<J>,
+    keys: &'t [Key; 5],
     store: &mut EntryStore<'t, J>,
 ) -> Result<(), AllocError>
     requires named { J.plan ≡ no_plan }
@@ -116,7 +119,7 @@ fn calls<'t, J: PlanName, R: Wait + AllocGlobal + Abort>(
     let mut seed = 12345u32;
     for _turn in 0..300u32 {
         seed = seed.wrapping_mul(1664525).wrapping_add(1013904223);
-        call(rt, table, store, &mut plain, seed)?;
+        call(rt, table, keys, store, &mut plain, seed)?;
         agree(rt, store, &plain);
     }
     Ok(())
@@ -125,7 +128,8 @@ fn calls<'t, J: PlanName, R: Wait + AllocGlobal + Abort>(
 #[test]
 fn both_stores_agree(rt: HostRuntime) -> Result<(), Fail> {
     let table: VersionTable<Brand> = VersionTable::new(rt.alloc())?;
+    let keys = [0, 1, 2, 3, 4].map(|number| key(&rt, number));
     let mut store = EntryStore::new(rt.alloc(), FIRST, LINES as usize)?;
-    calls(&rt, &table, &mut store)?;
+    calls(&rt, &table, &keys, &mut store)?;
     Ok(())
 }

@@ -1,5 +1,6 @@
-use Rattle.std.proofs.Common.{◌≡◌, Some, Option, sym, ap, ◌∙◌}
+use Rattle.std.proofs.Common.{◌≡◌, Some, Option, sym, ap₂, ◌∙◌}
 use Rattle.std.specs.Prelude.{option_map}
+use Rattle.circ_records.specs.declared.key.Key.{Key}
 use Rattle.circ_records.specs.declared.record.Record.{Record}
 use Rattle.read_set.specs.declared.notes.Note.{Note}
 use Rattle.board_lines.specs.Notes.{contents_at, found_by}
@@ -11,6 +12,6 @@ returns g c =
     let base = c.args.plan.now.base in
     let k = c.in-Some.key.now in
     let n = c.in-Some-seen.seen in
-    let note : Option Record → Note = λ found. record { key = k; name = n.name; found = found } in
+    let note : Key → Option Record → Note = λ key found. record { key = key; name = n.name; found = found } in
     let found : c.in_ok-copied.field-0 ≡ found_by base k (option_map contents_at n.place) = c.in_ok-copied.ensures ∙ c.record_seen.ensures in
-    ap (λ x. Some (note x)) found ∙ sym (nth_note base c.args.noted.now c.args.i k (n.name, option_map contents_at n.place) c.in-Some.ensures c.in-Some-seen.ensures)
+    ap₂ (λ q x. Some (note q x)) c.in_ok-new.ensures found ∙ sym (nth_note base c.args.noted.now c.args.i k (n.name, option_map contents_at n.place) c.in-Some.ensures c.in-Some-seen.ensures)

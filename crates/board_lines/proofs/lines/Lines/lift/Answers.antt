@@ -116,13 +116,13 @@ invariant_of-self g c =
     let k_is : k ≡ record { notes = (get_or parts.rows (n - parts.states.first) no_notes).notes; contents = Some v; course = come; changed = a.clock + 1 } =
     ap (λ (y : Kept). record { notes = y.notes; contents = Some v; course = come; changed = a.clock + 1 }) (sym was) in
     let all : AllPlaced (row_at (board_of plan.base parts) n) v = subst (λ (b : Board). AllPlaced (row_at b n) v) (sym is) c.requires.all in
-    let next : IsNextLeft (row_at (board_of plan.base parts) n) v c.args.key = subst (λ (b : Board). IsNextLeft (row_at b n) v c.args.key) (sym is) c.requires.next in
+    let next : IsNextLeft (row_at (board_of plan.base parts) n) v c.args.key.now = subst (λ (b : Board). IsNextLeft (row_at b n) v c.args.key.now) (sym is) c.requires.next in
     let room : HasRoom (board_of plan.base parts) = subst HasRoom (sym is) c.requires.room in
-    let l = remove (store.line_at a.entries n) c.args.key in
-    let l_is : l ≡ remove (row_at (board_of plan.base parts) n).entries c.args.key =
-    ap (λ (x : store.Line). remove x c.args.key) (sym (entries_there plan parts kept n there)) in
+    let l = remove (store.line_at a.entries n) c.args.key.now in
+    let l_is : l ≡ remove (row_at (board_of plan.base parts) n).entries c.args.key.now =
+    ap (λ (x : store.Line). remove x c.args.key.now) (sym (entries_there plan parts kept n there)) in
     let up : Rising v.writes = writes_rise v.writes (subst (λ (t : Contents). IsStrictlySortedBy key_cmp (map (λ e. e.0) t.writes)) c.show.ensures c.writes-placed.ensures.rising) in
-    (c.self.invariant.0, lifted_kept_here plan parts kept w n (notes_at (board_of plan.base parts) n) may v q l k come c.go_on.ensures c.lift.ensures rows_is k_is refl refl refl c.args.key fits c.requires.version room all next l_is up)
+    (c.self.invariant.0, lifted_kept_here plan parts kept w n (notes_at (board_of plan.base parts) n) may v q l k come c.go_on.ensures c.lift.ensures rows_is k_is refl refl refl c.args.key.now fits c.requires.version room all next l_is up)
 
 pub returns : goal.returns
 returns g c =
@@ -160,10 +160,10 @@ returns g c =
     let k_is : k ≡ record { notes = (get_or parts.rows (n - parts.states.first) no_notes).notes; contents = Some v; course = come; changed = a.clock + 1 } =
     ap (λ (y : Kept). record { notes = y.notes; contents = Some v; course = come; changed = a.clock + 1 }) (sym was) in
     let all : AllPlaced (row_at (board_of plan.base parts) n) v = subst (λ (b : Board). AllPlaced (row_at b n) v) (sym is) c.requires.all in
-    let next : IsNextLeft (row_at (board_of plan.base parts) n) v c.args.key = subst (λ (b : Board). IsNextLeft (row_at b n) v c.args.key) (sym is) c.requires.next in
+    let next : IsNextLeft (row_at (board_of plan.base parts) n) v c.args.key.now = subst (λ (b : Board). IsNextLeft (row_at b n) v c.args.key.now) (sym is) c.requires.next in
     let room : HasRoom (board_of plan.base parts) = subst HasRoom (sym is) c.requires.room in
-    let l = remove (store.line_at a.entries n) c.args.key in
-    let l_is : l ≡ remove (row_at (board_of plan.base parts) n).entries c.args.key =
-    ap (λ (x : store.Line). remove x c.args.key) (sym (entries_there plan parts kept n there)) in
-    subst (λ (b : Board). board_of a.plan.now.base q ≡ lifted b w n (notes_at b n) v c.args.key) is
-    (ap (λ (x : Planned). board_of x.base q) c.self.invariant.0 ∙ lifted_board plan parts kept w n (notes_at (board_of plan.base parts) n) may v q l k come c.go_on.ensures c.lift.ensures rows_is k_is refl refl refl c.args.key fits c.requires.version room all next l_is)
+    let l = remove (store.line_at a.entries n) c.args.key.now in
+    let l_is : l ≡ remove (row_at (board_of plan.base parts) n).entries c.args.key.now =
+    ap (λ (x : store.Line). remove x c.args.key.now) (sym (entries_there plan parts kept n there)) in
+    subst (λ (b : Board). board_of a.plan.now.base q ≡ lifted b w n (notes_at b n) v c.args.key.now) is
+    (ap (λ (x : Planned). board_of x.base q) c.self.invariant.0 ∙ lifted_board plan parts kept w n (notes_at (board_of plan.base parts) n) may v q l k come c.go_on.ensures c.lift.ensures rows_is k_is refl refl refl c.args.key.now fits c.requires.version room all next l_is)

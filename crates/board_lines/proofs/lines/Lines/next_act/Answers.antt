@@ -66,7 +66,7 @@ lift-requires g c =
     let v : Contents = c.args.place.version.now in
     let may : MayPublish b w n (notes_at b n) = c.requires.may in
     let fit : Fits b n (notes_at b n) v = c.requires.fits in
-    let act : AllPlaced (row_at b n) v × IsNextLeft (row_at b n) v c.in-Lift.key = subst (IsAct (row_at b n) v) c.in-Lift.is c.act-act.ensures.act in
+    let act : AllPlaced (row_at b n) v × IsNextLeft (row_at b n) v c.in-Lift.key.now = subst (IsAct (row_at b n) v) c.in-Lift.is c.act-act.ensures.act in
     let room : HasRoom b = c.has_room.ensures.0 c.if-not-has_room.false in
     record { may = may; fits = fit; version = c.requires.version; all = act.0; next = act.1; room = room }
 
@@ -78,9 +78,9 @@ returns-in-Lift g c =
     let v : Contents = c.args.place.version.now in
     let may : MayPublish b w n (notes_at b n) = c.requires.may in
     let fit : Fits b n (notes_at b n) v = c.requires.fits in
-    let act : AllPlaced (row_at b n) v × IsNextLeft (row_at b n) v c.in-Lift.key = subst (IsAct (row_at b n) v) c.in-Lift.is c.act-act.ensures.act in
+    let act : AllPlaced (row_at b n) v × IsNextLeft (row_at b n) v c.in-Lift.key.now = subst (IsAct (row_at b n) v) c.in-Lift.is c.act-act.ensures.act in
     let room : HasRoom b = c.has_room.ensures.0 c.if-not-has_room.false in
-    (n, notes_at b n, may, fit, act.0, c.in-Lift.key, act.1, room, c.lift.ensures)
+    (n, notes_at b n, may, fit, act.0, c.in-Lift.key.now, act.1, room, c.lift.ensures)
 
 pub place-requires : goal.place-requires
 place-requires g c =
@@ -90,8 +90,8 @@ place-requires g c =
     let v : Contents = c.args.place.version.now in
     let may : MayPublish b w n (notes_at b n) = c.requires.may in
     let fit : Fits b n (notes_at b n) v = c.requires.fits in
-    let act : (value : Record) × IsNextWrite (row_at b n) v c.in-Write.key value = subst (IsAct (row_at b n) v) c.in-Write.is c.act-act.ensures.act in
-    let first : FirstPlacedBut (row_at b n).entries v.attempt v.writes c.in-Write.key c.in-Write.count = subst (ComesTo (row_at b n).entries v) c.in-Write.is c.act-act.ensures.comes in
+    let act : (value : Record) × IsNextWrite (row_at b n) v c.in-Write.key.now value = subst (IsAct (row_at b n) v) c.in-Write.is c.act-act.ensures.act in
+    let first : FirstPlacedBut (row_at b n).entries v.attempt v.writes c.in-Write.key.now c.in-Write.count = subst (ComesTo (row_at b n).entries v) c.in-Write.is c.act-act.ensures.comes in
     let room : HasRoom b = c.has_room.ensures.0 c.if-not-has_room.false in
     record { may = may; fits = fit; version = c.requires.version; next = act; first = first; room = room }
 
@@ -103,9 +103,9 @@ returns-in-Ok g c =
     let v : Contents = c.args.place.version.now in
     let may : MayPublish b w n (notes_at b n) = c.requires.may in
     let fit : Fits b n (notes_at b n) v = c.requires.fits in
-    let act : (value : Record) × IsNextWrite (row_at b n) v c.in-Write.key value = subst (IsAct (row_at b n) v) c.in-Write.is c.act-act.ensures.act in
+    let act : (value : Record) × IsNextWrite (row_at b n) v c.in-Write.key.now value = subst (IsAct (row_at b n) v) c.in-Write.is c.act-act.ensures.act in
     let room : HasRoom b = c.has_room.ensures.0 c.if-not-has_room.false in
-    (n, notes_at b n, may, fit, c.in-Write.key, act.0, act.1, room, c.in-Ok.ensures.placed)
+    (n, notes_at b n, may, fit, c.in-Write.key.now, act.0, act.1, room, c.in-Ok.ensures.placed)
 
 pub returns-in-Err : goal.returns-in-Err
 returns-in-Err g c =
@@ -115,6 +115,6 @@ returns-in-Err g c =
     let v : Contents = c.args.place.version.now in
     let may : MayPublish b w n (notes_at b n) = c.requires.may in
     let fit : Fits b n (notes_at b n) v = c.requires.fits in
-    let act : (value : Record) × IsNextWrite (row_at b n) v c.in-Write.key value = subst (IsAct (row_at b n) v) c.in-Write.is c.act-act.ensures.act in
+    let act : (value : Record) × IsNextWrite (row_at b n) v c.in-Write.key.now value = subst (IsAct (row_at b n) v) c.in-Write.is c.act-act.ensures.act in
     let room : HasRoom b = c.has_room.ensures.0 c.if-not-has_room.false in
-    ((placed b w n (notes_at b n) v c.in-Write.key, (n, notes_at b n, may, fit, c.in-Write.key, act.0, act.1, room, refl)), c.in-Err.ensures.same)
+    ((placed b w n (notes_at b n) v c.in-Write.key.now, (n, notes_at b n, may, fit, c.in-Write.key.now, act.0, act.1, room, refl)), c.in-Err.ensures.same)

@@ -128,16 +128,16 @@ invariant_of-self-2 g c =
     map-set row_shown a.rows.items (n - c.first.result) row ∙ ap (λ x. set parts.rows (n - x) k) f in
     let k_is : k ≡ record { notes = (get_or parts.rows (n - parts.states.first) no_notes).notes; contents = Some v; course = come; changed = a.clock + 1 } =
     ap (λ (y : Kept). record { notes = y.notes; contents = Some v; course = come; changed = a.clock + 1 }) (sym was) in
-    let next : (value : Record) × IsNextWrite (row_at (board_of plan.base parts) n) v c.args.key value = subst (λ (b : Board). (value : Record) × IsNextWrite (row_at b n) v c.args.key value) (sym is) c.requires.next in
+    let next : (value : Record) × IsNextWrite (row_at (board_of plan.base parts) n) v c.args.key.now value = subst (λ (b : Board). (value : Record) × IsNextWrite (row_at b n) v c.args.key.now value) (sym is) c.requires.next in
     let room : HasRoom (board_of plan.base parts) = subst HasRoom (sym is) c.requires.room in
-    let l = insert (store.line_at a.entries n) c.args.key (shown_by c.attempt-attempt.result v) in
+    let l = insert (store.line_at a.entries n) c.args.key.now (shown_by c.attempt-attempt.result v) in
     let attempt_is : c.attempt-attempt.result ≡ v.attempt = c.attempt-attempt.ensures ∙ ap (λ (x : Contents). x.attempt) c.show.ensures in
-    let l_is : l ≡ insert (row_at (board_of plan.base parts) n).entries c.args.key (shown_by v.attempt v) =
-    ap (λ x. insert (store.line_at a.entries n) c.args.key (shown_by x v)) attempt_is
-    ∙ ap (λ (x : store.Line). insert x c.args.key (shown_by v.attempt v)) (sym (entries_there plan parts kept n there)) in
-    let but : FirstPlacedBut (row_at (board_of plan.base parts) n).entries v.attempt v.writes c.args.key c.args.count =
-    subst (λ (b : Board). FirstPlacedBut (row_at b n).entries v.attempt v.writes c.args.key c.args.count) (sym is) c.requires.first in
-    (c.self.invariant.0, placed_kept_here plan parts kept w n (notes_at (board_of plan.base parts) n) may v q l k come c.go_on.ensures c.in-Ok.ensures.placed rows_is k_is refl refl refl c.args.key fits c.requires.version room next l_is but)
+    let l_is : l ≡ insert (row_at (board_of plan.base parts) n).entries c.args.key.now (shown_by v.attempt v) =
+    ap (λ x. insert (store.line_at a.entries n) c.args.key.now (shown_by x v)) attempt_is
+    ∙ ap (λ (x : store.Line). insert x c.args.key.now (shown_by v.attempt v)) (sym (entries_there plan parts kept n there)) in
+    let but : FirstPlacedBut (row_at (board_of plan.base parts) n).entries v.attempt v.writes c.args.key.now c.args.count =
+    subst (λ (b : Board). FirstPlacedBut (row_at b n).entries v.attempt v.writes c.args.key.now c.args.count) (sym is) c.requires.first in
+    (c.self.invariant.0, placed_kept_here plan parts kept w n (notes_at (board_of plan.base parts) n) may v q l k come c.go_on.ensures c.in-Ok.ensures.placed rows_is k_is refl refl refl c.args.key.now fits c.requires.version room next l_is but)
 
 pub returns-clause-placed : goal.returns-clause-placed
 returns-clause-placed g c =
@@ -174,15 +174,15 @@ returns-clause-placed g c =
     map-set row_shown a.rows.items (n - c.first.result) row ∙ ap (λ x. set parts.rows (n - x) k) f in
     let k_is : k ≡ record { notes = (get_or parts.rows (n - parts.states.first) no_notes).notes; contents = Some v; course = come; changed = a.clock + 1 } =
     ap (λ (y : Kept). record { notes = y.notes; contents = Some v; course = come; changed = a.clock + 1 }) (sym was) in
-    let next : (value : Record) × IsNextWrite (row_at (board_of plan.base parts) n) v c.args.key value = subst (λ (b : Board). (value : Record) × IsNextWrite (row_at b n) v c.args.key value) (sym is) c.requires.next in
+    let next : (value : Record) × IsNextWrite (row_at (board_of plan.base parts) n) v c.args.key.now value = subst (λ (b : Board). (value : Record) × IsNextWrite (row_at b n) v c.args.key.now value) (sym is) c.requires.next in
     let room : HasRoom (board_of plan.base parts) = subst HasRoom (sym is) c.requires.room in
-    let l = insert (store.line_at a.entries n) c.args.key (shown_by c.attempt-attempt.result v) in
+    let l = insert (store.line_at a.entries n) c.args.key.now (shown_by c.attempt-attempt.result v) in
     let attempt_is : c.attempt-attempt.result ≡ v.attempt = c.attempt-attempt.ensures ∙ ap (λ (x : Contents). x.attempt) c.show.ensures in
-    let l_is : l ≡ insert (row_at (board_of plan.base parts) n).entries c.args.key (shown_by v.attempt v) =
-    ap (λ x. insert (store.line_at a.entries n) c.args.key (shown_by x v)) attempt_is
-    ∙ ap (λ (x : store.Line). insert x c.args.key (shown_by v.attempt v)) (sym (entries_there plan parts kept n there)) in
-    subst (λ (b : Board). board_of a.plan.now.base q ≡ placed b w n (notes_at b n) v c.args.key) is
-    (ap (λ (x : Planned). board_of x.base q) c.self.invariant.0 ∙ placed_board plan parts kept w n (notes_at (board_of plan.base parts) n) may v q l k come c.go_on.ensures c.in-Ok.ensures.placed rows_is k_is refl refl refl c.args.key fits c.requires.version room next l_is)
+    let l_is : l ≡ insert (row_at (board_of plan.base parts) n).entries c.args.key.now (shown_by v.attempt v) =
+    ap (λ x. insert (store.line_at a.entries n) c.args.key.now (shown_by x v)) attempt_is
+    ∙ ap (λ (x : store.Line). insert x c.args.key.now (shown_by v.attempt v)) (sym (entries_there plan parts kept n there)) in
+    subst (λ (b : Board). board_of a.plan.now.base q ≡ placed b w n (notes_at b n) v c.args.key.now) is
+    (ap (λ (x : Planned). board_of x.base q) c.self.invariant.0 ∙ placed_board plan parts kept w n (notes_at (board_of plan.base parts) n) may v q l k come c.go_on.ensures c.in-Ok.ensures.placed rows_is k_is refl refl refl c.args.key.now fits c.requires.version room next l_is)
 
 pub invariant_of-self : goal.invariant_of-self
 invariant_of-self g c =

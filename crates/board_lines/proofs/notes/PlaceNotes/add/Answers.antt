@@ -1,4 +1,4 @@
-use Rattle.std.proofs.Common.{◌≡◌, ◌<◌, ◌≤◌, ◌∷◌, [], sym, false, subst, length, arith, rules}
+use Rattle.std.proofs.Common.{◌≡◌, ◌<◌, ◌≤◌, sym, false, subst, length, arith, rules}
 use Rattle.board_lines.specs.Notes.{is_noted}
 use Rattle.board_lines.specs.declared.notes.PlaceNote.{PlaceNote}
 use Rattle.board_lines.proofs.Noting.{noted_again, noted_few, noted_more, pushed_popped}
@@ -12,17 +12,17 @@ invariant_of-self-then-position-lt-FEW g c =
     rw (c.in-Ok.ensures.items)
     (noted_few a.notes.items a.index (record { key = c.args.key.now; seen = c.args.seen }) c.self.invariant (subst (λ n. is_noted n c.args.key.now ≡ false) (sym c.self.view_is) c.requires.fresh) c.requires.placed short)
 
-pub invariant_of-self-in-Ok-insert : goal.invariant_of-self-in-Ok-insert
-invariant_of-self-in-Ok-insert g c =
+pub invariant_of-self-in-Ok-enter : goal.invariant_of-self-in-Ok-enter
+invariant_of-self-in-Ok-enter g c =
     let a = c.self.inside in
     let end : c.len-position.result ≡ length a.notes.items = search rules in
     let long : 8 ≤ length a.notes.items = omega (arith, end, c.if-position-lt-FEW.false) in
     rw (c.in-Ok.ensures.items)
-    (noted_more a.notes.items a.index c.insert.new.self (record { key = c.args.key.now; seen = c.args.seen }) c.self.invariant (subst (λ n. is_noted n c.args.key.now ≡ false) (sym c.self.view_is) c.requires.fresh) c.requires.placed long c.in-Ok-insert.ensures.updates.0)
+    (noted_more a.notes.items a.index c.enter.new.index (record { key = c.args.key.now; seen = c.args.seen }) c.self.invariant (subst (λ n. is_noted n c.args.key.now ≡ false) (sym c.self.view_is) c.requires.fresh) c.requires.placed long c.in-Ok-enter.ensures.put)
 
 pub invariant_of-self-in-Err : goal.invariant_of-self-in-Err
 invariant_of-self-in-Err g c =
     let a = c.self.inside in
     let made : PlaceNote _ = record { key = c.args.key.now; seen = c.args.seen } in
     let same : c.pop.new.self.items ≡ a.notes.items = pushed_popped a.notes.items c.push.new.self.items c.pop.new.self.items made c.push.new.self.len c.in-Ok.ensures.items c.push.new.self.ok.0 c.pop.ensures.rest in
-    rw same (noted_again a.notes.items a.index c.insert.new.self c.self.invariant c.in-Err.ensures.err)
+    rw same (noted_again a.notes.items a.index c.enter.new.index c.self.invariant c.in-Err.ensures.same)

@@ -2,4 +2,4 @@ use Rattle.board_lines.proofs.Noting.{nothing_noted}
 use Rattle.board_lines.proofs.notes.PlaceNotes.new.Goals as goal
 
 pub invariant_of-result : goal.invariant_of-result
-invariant_of-result g c = nothing_noted c.new.result.items c.new-2.result c.new.ensures.items c.new-2.ensures.empty
+invariant_of-result g c = nothing_noted c.new.result.items c.new.ensures.items

@@ -73,6 +73,12 @@ impl IndexPart {
         let Some(column) = self.columns.get(key) else {
             return None;
         };
+        // most lines come behind all that have an entry there
+        if let Some(last) = column.last() {
+            if *last < below {
+                return Some(*last);
+            }
+        }
         let Some(line) = column.range(..below).next_back() else {
             return None;
         };

@@ -75,7 +75,7 @@ impl KeptId {
     pub fn order(&self, other: &Id) -> Ordering
         ensures { result ≡ slice_cmp nat_cmp self.now other.now }
     {
-        self.as_bytes().cmp(other.as_bytes())
+        self.text.as_bytes().cmp(other.as_bytes())
     }
 }
 

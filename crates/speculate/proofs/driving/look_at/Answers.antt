@@ -1,4 +1,5 @@
-use Rattle.std.proofs.Common.{◌≡◌, List, ◌∷◌, [], ◌++◌, Option, ap, option_map, map, subst, sym, ◌∙◌}
+use Rattle.std.proofs.Common.{◌≡◌, List, ◌∷◌, [], ◌++◌, Option, ap, ap₂, option_map, map, subst, sym, ◌∙◌}
+use Rattle.circ_records.specs.declared.key.Key.{Key}
 use Rattle.circ_records.specs.declared.record.Record.{Record}
 use Rattle.std.proofs.lemmas.Result.{err_from_is_err_and}
 use Rattle.read_set.specs.Plans.{Planned}
@@ -24,6 +25,14 @@ returns-in_err-add-clause-fault g c =
     let p = err_from_is_err_and c.from_residual-in_err-add.result c.from_residual-in_err-add.ensures.1 in
     rw (p.1, p.2) (seen_stops g.J.PlanName.plan c.args.board.now c.look.new.self c.args.line c.args.notes.now c.args.key.now c.in-Seen.name c.in-Seen.place c.requires.reads c.in-Seen.ensures)
 
+pub returns-in_err-new-clause-fault : goal.returns-in_err-new-clause-fault
+returns-in_err-new-clause-fault g c =
+    let p = err_from_is_err_and c.from_residual-in_err-new.result c.from_residual-in_err-new.ensures.1 in
+    rw (p.1, p.2) (seen_stops g.J.PlanName.plan c.args.board.now c.look.new.self c.args.line c.args.notes.now c.args.key.now c.in-Seen.name c.in-Seen.place c.requires.reads c.in-Seen.ensures)
+
+pub returns-in_err-new-clause-led : goal.returns-in_err-new-clause-led
+returns-in_err-new-clause-led g c = led g.J.PlanName.plan c.args.board.now c.look.new.self (Look 0 c.args.key.now) c.look.result tt c.look.ensures
+
 pub returns-in_err-found-clause-led : goal.returns-in_err-found-clause-led
 returns-in_err-found-clause-led g c = led g.J.PlanName.plan c.args.board.now c.look.new.self (Look 0 c.args.key.now) c.look.result tt c.look.ensures
 
@@ -40,7 +49,7 @@ returns-clause-reads g c =
     let is : c.in_ok-found.found ≡ found_by plan.base k (option_map contents_at place) =
     c.in_ok-found.ensures ∙ c.record_seen.ensures ∙ ap (λ (p : Planned). found_by p.base k (option_map contents_at place)) c.plan-plan.ensures.plan in
     let noted : c.add.new.self ≡ notes ++ record { key = k; name = name; found = found_by plan.base k (option_map contents_at place) } ∷ [] =
-    c.in_ok-add.ensures.ok ∙ ap (λ (f : Option Record). notes ++ record { key = k; name = name; found = f } ∷ []) is in
+    c.in_ok-add.ensures.ok ∙ ap₂ (λ (q : Key) (f : Option Record). notes ++ record { key = q; name = name; found = f } ∷ []) c.in_ok-new.ensures is in
     subst (λ (ns : List Note). Reads plan c.look.new.self c.args.line ns) (sym noted)
     (look_seen plan c.args.board.now c.look.new.self c.args.line notes k name place c.requires.reads c.in-Seen.ensures)
 
@@ -50,4 +59,5 @@ returns-clause-led g c = led g.J.PlanName.plan c.args.board.now c.look.new.self 
 pub returns-clause-keys : goal.returns-clause-keys
 returns-clause-keys g c =
     ap (λ (ns : List Note). map (λ (n : Note). n.key) ns) c.in_ok-add.ensures.ok
-    ∙ keys_more c.args.notes.now (record { key = c.args.key.now; name = c.in-Seen.name; found = c.in_ok-found.found })
+    ∙ keys_more c.args.notes.now (record { key = c.in_ok-new.field-0; name = c.in-Seen.name; found = c.in_ok-found.found })
+    ∙ ap (λ (q : Key). map (λ (n : Note). n.key) c.args.notes.now ++ q ∷ []) c.in_ok-new.ensures

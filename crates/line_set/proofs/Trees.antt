@@ -3,7 +3,7 @@ use Rattle.std.proofs.Common.{◌≡◌, ◌≢◌, ℕ, zero, suc, ◌+◌, ◌
 use Rattle.std.proofs.lemmas.Bool.{cases_eq, cases_lt, lt-ltb, le-ltb}
 use Rattle.std.proofs.lemmas.List.{get_or_past}
 use Rattle.line_set.specs.Trees.{node_at, joined, AllBut, IsPower, IsTree, IsLeastFrom}
-use Rattle.line_set.specs.Devices.Rows.{below, IsAbove, IsInRow, NoneSet, IsNext}
+use Rattle.line_set.specs.Devices.Rows.{below, IsAbove, IsInRow, IsSet, NoneSet, IsNext}
 
 -- ---- numbers below a node
 pub below_le : (i j k : ℕ) → i ≤ j → below i k ≤ below j k
@@ -105,6 +105,45 @@ raised_below flags nodes n within =
     set_below flags (set nodes n true) n
     (node_inner flags (set nodes n true) n (omega (arith, within, length-set nodes n true)) ∙ get_or-set_same nodes n true false within)
 
+pub pow_suc : (h : ℕ) → 2 ^ suc h ≡ 2 * 2 ^ h
+pow_suc h = omega arith
+
+-- a node is cleared below which none is set: now only the one above it may be wrong
+pub lowered : (flags nodes : List Bool) (n : ℕ) → 1 ≤ n → n < length nodes → AllBut flags nodes n → joined flags nodes n ≡ false → AllBut flags (set nodes n false) (n / 2)
+lowered flags nodes n some within each e = subst (λ v. AllBut flags (set nodes n v) (n / 2)) e (mended flags nodes n some within each)
+
+-- and that one is set still
+pub set_still : (flags nodes : List Bool) (n : ℕ) → 1 ≤ n → n < length nodes → AllBut flags nodes n → get_or nodes n false ≡ true → IsSet (set nodes n false) (n / 2)
+set_still flags nodes n some within each e one =
+    get_or-set_other nodes n (n / 2) false false (λ x. omega (arith, x, some))
+    ∙ each (n / 2) one (omega (arith, within)) (λ x. omega (arith, x, some))
+    ∙ set_below flags nodes n (node_inner flags nodes n within ∙ e)
+
+-- a node that is set stays, where one below it is set
+pub right_already : (flags nodes : List Bool) (n : ℕ) → AllBut flags nodes n → get_or nodes n false ≡ true → joined flags nodes n ≡ true → AllBut flags nodes 0
+right_already flags nodes n each e j i one lt ne = elim (cases_eq i n) [
+  | inl same ↦ subst (λ x. get_or nodes x false ≡ joined flags nodes x) (sym same) (e ∙ sym j)
+  | inr other ↦ each i one lt other
+]
+
+-- the node above a flag that is set is set
+pub set_above : (flags nodes : List Bool) (p : ℕ) → AllBut flags nodes 0 → p < length nodes → get_or flags p false ≡ true → IsSet nodes ((length nodes + p) / 2)
+set_above flags nodes p each within e one =
+    each ((length nodes + p) / 2) one (omega (arith, within)) (λ x. omega (arith, x, one))
+    ∙ set_below flags nodes (length nodes + p)
+    (node_flag flags nodes (length nodes + p) (omega arith) ∙ ap (λ x. get_or flags x false) (omega arith) ∙ e)
+
+-- both nodes below a node are among the nodes, where the one from which one comes is
+pub both_inner : (nodes : List Bool) (n : ℕ) → IsPower (length nodes) → 1 ≤ n → n < length nodes → 2 * (n / 2) + 1 < length nodes
+both_inner nodes n (zero, e) some within = absurd (omega (arith, e, some, within))
+both_inner nodes n (suc h, e) some within =
+    let even : length nodes ≡ 2 * 2 ^ h = e ∙ pow_suc h in
+    omega (arith, even, some, within)
+
+pub joined_inner : (flags nodes : List Bool) (n : ℕ) → 2 * n + 1 < length nodes → joined flags nodes n ≡ (get_or nodes (2 * n) false || get_or nodes (2 * n + 1) false)
+joined_inner flags nodes n within =
+    ap₂ (λ a b. a || b) (node_inner flags nodes (2 * n) (omega (arith, within))) (node_inner flags nodes (2 * n + 1) within)
+
 -- the nodes from one on are right, and the one before it is made
 pub made_from : (flags nodes : List Bool) (n : ℕ) → 1 ≤ n → n < length nodes
     → ((i : ℕ) → n < i → i < length nodes → get_or nodes i false ≡ joined flags nodes i)
@@ -130,9 +169,6 @@ inner_of nodes i k h = let g = below_past (2 * (i + 1)) k in omega (arith, h.hig
 pow_some : (h : ℕ) → 1 ≤ 2 ^ h
 pow_some zero = omega arith
 pow_some (suc h) = omega (arith, pow_some h)
-
-pub pow_suc : (h : ℕ) → 2 ^ suc h ≡ 2 * 2 ^ h
-pow_suc h = omega arith
 
 pub power_some : (n : ℕ) → IsPower n → 1 ≤ n
 power_some n p = let g = pow_some p.0 in omega (arith, g, p.1)

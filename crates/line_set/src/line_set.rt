@@ -1,7 +1,7 @@
 //! A set of lines by their positions.
 
 ghost use Rattle.std.specs.Prelude.{◌≡◌, ℕ, ◌+◌, ◌*◌, ◌/◌, ◌<◌, ◌≤◌, length, replicate, slice_set, slice_index_or, true, false, IfOk, Some};
-ghost use Rattle.line_set.specs.Devices.Rows.{IsNext, IsNextNode};
+ghost use Rattle.line_set.specs.Devices.Rows.{IsNext, IsNextNode, IsSet};
 ghost use Rattle.line_set.specs.Trees.{AllBut, IsLeastFrom, IsPower, IsTree, joined, node_at};
 
 use std::alloc::{AllocError, Global};
@@ -78,6 +78,9 @@ impl LineSet {
         requires { position < length self.old }
         ensures { self.new ≡ slice_set self.old position false }
     {
+        if !self.flags[position] {
+            return;
+        }
         self.flags[position] = false;
         mend(&self.flags, &mut self.nodes, position);
     }
@@ -131,20 +134,27 @@ fn join(flags: &[bool], nodes: &[bool], node: usize) -> bool
     is_set(flags, nodes, 2 * node) || is_set(flags, nodes, 2 * node + 1)
 }
 
-/// Mends the nodes above a position whose flag was changed, up to one that stays as it is.
+/// Clears the nodes above a position that was taken out just now, up to one below which another is set.
 fn mend(flags: &[bool], nodes: &mut [bool], position: usize)
     requires within { position < length nodes.old }
     requires few { length nodes.old ≤ 2 * POSITIONS_MAX }
+    requires power { IsPower (length nodes.old) }
     requires each { AllBut flags.now nodes.old ((length nodes.old + position) / 2) }
+    requires set { IsSet nodes.old ((length nodes.old + position) / 2) }
     ensures { AllBut flags.now nodes.new 0 }
 {
     let mut node = (nodes.len() + position) / 2;
+    if node == 0 || join(flags, nodes, node) {
+        return;
+    }
+    nodes[node] = false;
+    node /= 2;
+    // (in most sets that this is called on, no other position is left: so it goes up to the root)
     while node > 0 {
-        let joined = join(flags, nodes, node);
-        if nodes[node] == joined {
+        if nodes[2 * node] || nodes[2 * node + 1] {
             return;
         }
-        nodes[node] = joined;
+        nodes[node] = false;
         node /= 2;
     }
 }

@@ -19,6 +19,9 @@ use std::marker::Model;
 /// Up to so many records are kept as a list, which costs less than a map.
 const FEW: usize = 8;
 
+/// Room for so many records is made first: most lines that write any write two.
+const USUAL: usize = 2;
+
 /// The records that a line writes so far. Of several under one key the newest counts.
 pub struct Draft {
     kept: Kept,
@@ -89,14 +92,17 @@ impl Draft {
         }
     }
 
-    /// Makes a map of the records, where they are no longer few. It is made of copies, so that the list stands where
-    /// memory runs out on the way.
+    /// Makes room for the first records, and a map of the records where they are no longer few. It is made of copies, so that
+    /// the list stands where memory runs out on the way.
     fn make_room(&mut self) -> Result<(), AllocError>
         ensures { self.new ≡ self.old }
     {
         let Kept::Few(list) = &mut self.kept else {
             return Ok(());
         };
+        if list.is_empty() {
+            list.reserve_exact(USUAL)?;
+        }
         if list.len() < FEW {
             return Ok(());
         }

@@ -61,6 +61,9 @@ pub(crate) fn copy_found(found: &Option<Record>) -> Result<Option<Record>, Alloc
 /// than they do.
 const FEW: usize = 8;
 
+/// Room for so many notes is made first: most lines have two, and versions stay until the run ends.
+const USUAL: usize = 2;
+
 /// What a line has read, in the order of reading. No key is noted twice.
 pub struct Notes {
     entries: Vec<Note>,
@@ -109,7 +112,7 @@ impl Notes {
     {
         let position = self.entries.len();
         if position < FEW {
-            self.entries.push(note)?;
+            push_among_few(&mut self.entries, note)?;
             return Ok(());
         }
         let key = note.key.key();
@@ -165,6 +168,18 @@ fn first_few(notes: &[Note]) -> &[Note]
     } else {
         &notes[..FEW]
     }
+}
+
+/// One more note. Without memory nothing changes.
+fn push_among_few(entries: &mut Vec<Note>, note: Note) -> Result<(), AllocError>
+    ensures ok { OnOk result (entries.new.items ≡ entries.old.items ++ note ∷ []) }
+    ensures err { OnErr result (entries.new.items ≡ entries.old.items) }
+{
+    if entries.is_empty() {
+        entries.reserve_exact(USUAL)?;
+    }
+    entries.push(note)?;
+    Ok(())
 }
 
 /// The note of a key, looked for one by one.

@@ -17,6 +17,9 @@ use std::marker::Model;
 /// Up to so many entries take no more room than they need.
 const FEW: usize = 8;
 
+/// Room for so many entries is made first: most lines that write have two.
+const USUAL: usize = 2;
+
 /// The entries of one line as a list that rises by key. A version's writes rise too, so most entries go behind the last,
 /// and those that are lifted stand near an end: there a queue moves few others. Each borrows its key from the writes of the version at
 /// its place: so it takes 24 bytes, and with a key of its own it would take 88.
@@ -158,7 +161,9 @@ fn insert_at<'t, J: PlanName>(
     ensures items { OnOk result (entries.new.items ≡ insert entries.old.items position (key.entry, made.entry)) }
     ensures same { OnErr result (entries.new.items ≡ entries.old.items) }
 {
-    if entries.len() < FEW {
+    if entries.is_empty() {
+        entries.reserve_exact(USUAL)?;
+    } else if entries.len() < FEW {
         entries.reserve_exact(1)?;
     }
     match entries.insert(position, (key, made)) {

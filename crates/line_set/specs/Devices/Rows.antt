@@ -37,3 +37,7 @@ pub record IsNext (flags nodes : List Bool) (from i : ℕ) : Type 0 where
 abbrev pub IsNextNode : List Bool → List Bool → ℕ → Option ℕ → Type 0
 IsNextNode flags nodes from None = (p : ℕ) → from ≤ p → slice_index_or flags p false ≡ false
 IsNextNode flags nodes from (Some i) = IsNext flags nodes from i
+
+-- a node is set; 0 is none
+abbrev pub IsSet : List Bool → ℕ → Type 0
+IsSet nodes i = 1 ≤ i → slice_index_or nodes i false ≡ true

@@ -52,7 +52,7 @@ const FEW: usize = 8;
 /// What a line has noted, in the order of looking: keys, names and places. It holds no record.
 pub struct PlaceNotes<'t, J: PlanName> {
     notes: Vec<PlaceNote<'t, J>>,
-    /// The keys again that aren't among the first few, to be found. Most lines never have it, and then it takes 8 bytes.
+    /// The keys again that aren't among the first few, to be found. Most lines never have it.
     index: Option<Box<BTreeSet<Key>>>,
 }
 

@@ -2,6 +2,8 @@
 //! over all of them. It is made whole at the start: no change of it takes memory.
 #![tactic(auto)]
 
+mod flag_tree;
 mod line_set;
 
-pub use line_set::{LineSet, POSITIONS_MAX};
+pub use flag_tree::POSITIONS_MAX;
+pub use line_set::LineSet;

@@ -1,38 +1,36 @@
 //! A set of lines by their positions.
 
-ghost use Rattle.std.specs.Prelude.{◌≡◌, ℕ, ◌+◌, ◌*◌, ◌/◌, ◌<◌, ◌≤◌, length, replicate, slice_set, slice_index_or, true, false, IfOk, Some};
-ghost use Rattle.line_set.specs.Devices.Rows.{IsNext, IsNextNode, IsSet};
-ghost use Rattle.line_set.specs.Trees.{AllBut, IsLeastFrom, IsPower, IsTree, joined, node_at};
+ghost use Rattle.std.specs.Prelude.{◌≡◌, ℕ, ◌<◌, ◌≤◌, length, replicate, slice_set, slice_index_or, true, false, IfOk, IsTrue, ◌↔◌, Some};
+ghost use Rattle.line_set.specs.Devices.Apart.{lesser_from};
+ghost use Rattle.line_set.specs.Trees.{IsLeastFrom};
 
+use crate::flag_tree::{FlagTree, POSITIONS_MAX};
 use std::alloc::{AllocError, Global};
 use std::marker::Model;
 
-/// The most positions of a set: as many as a journal has lines.
-pub const POSITIONS_MAX: usize = 1_000_000;
-
-/// Some of the positions 0 to so many. Over the flags of the positions stands a tree, each node of which says whether there is
-/// one below it: node 1 is the root, nodes 2 n and 2 n + 1 are below node n, and the flags are the last row.
+/// Some of the positions 0 to so many. One of them may stand apart from the tree: most sets of lines have one position at a time, and
+/// such a set never goes up and down the tree.
 pub struct LineSet {
-    flags: Vec<bool>,
-    /// The nodes above the flags; their number is a power of two, and number 0 is none of them.
-    nodes: Vec<bool>,
+    tree: FlagTree,
+    /// A position of the set that the tree doesn't have.
+    apart: Option<usize>,
 }
 
 impl Drop for LineSet {
     fn drop(self) {
-        let LineSet { flags: _, nodes: _ } = self;
+        let LineSet { tree: _, apart: _ } = self;
     }
 }
 
 impl Model for LineSet {
     ghost use Rattle.std.specs.Prelude.{List, Bool};
-    ghost use Rattle.line_set.specs.Trees.{IsTree};
+    ghost use Rattle.line_set.specs.Devices.Apart.{IsApart, with_apart};
 
     ghost Value = { List Bool };
 
-    ghost view = { λ s. s.flags.items };
+    ghost view = { λ s. with_apart s.tree s.apart };
 
-    ghost invariant = { λ s. IsTree s.flags.items s.nodes.items };
+    ghost invariant = { λ s. IsApart s.tree s.apart };
 }
 
 impl LineSet {
@@ -41,22 +39,15 @@ impl LineSet {
         requires { len ≤ POSITIONS_MAX }
         ensures { IfOk result (λ s. s ≡ replicate len all) }
     {
-        let width = row_width(len);
-        let flags = vec![in alloc; all; len]?;
-        let mut nodes = vec![in alloc; false; width]?;
-        let mut node = width;
-        while node > 1 {
-            node -= 1;
-            nodes[node] = join(&flags, &nodes, node);
-        }
-        Ok(LineSet { flags, nodes })
+        let tree = FlagTree::new(alloc, len, all)?;
+        Ok(LineSet { tree, apart: None })
     }
 
     /// Whether a position is in the set.
     pub fn has(&self, position: usize) -> bool
         ensures { result ≡ slice_index_or self.now position false }
     {
-        position < self.flags.len() && self.flags[position]
+        is_one(self.apart, position) || self.tree.has(position)
     }
 
     /// Adds a position.
@@ -64,12 +55,12 @@ impl LineSet {
         requires { position < length self.old }
         ensures { self.new ≡ slice_set self.old position true }
     {
-        self.flags[position] = true;
-        let mut node = (self.nodes.len() + position) / 2;
-        // up to a node that is set already, as each above it is then
-        while node > 0 && !self.nodes[node] {
-            self.nodes[node] = true;
-            node /= 2;
+        if self.has(position) {
+            return;
+        }
+        match self.apart {
+            Some(_) => self.tree.insert(position),
+            None => self.apart = Some(position),
         }
     }
 
@@ -78,123 +69,44 @@ impl LineSet {
         requires { position < length self.old }
         ensures { self.new ≡ slice_set self.old position false }
     {
-        if !self.flags[position] {
-            return;
+        if is_one(self.apart, position) {
+            self.apart = None;
+        } else {
+            self.tree.remove(position);
         }
-        self.flags[position] = false;
-        mend(&self.flags, &mut self.nodes, position);
     }
 
     /// The least position of the set from this one on.
     pub fn least_from(&self, from: usize) -> Option<usize>
         ensures { IsLeastFrom self.now from result }
     {
-        if from >= self.flags.len() {
-            return None;
+        let least = self.tree.least_from(from);
+        match self.apart {
+            Some(apart) => lesser(apart, from, least),
+            None => least,
         }
-        // (most of the time a set of lines that are to be checked, or are in check, is empty)
-        if !is_set(&self.flags, &self.nodes, 1) {
-            return None;
-        }
-        let node = next_set(&self.flags, &self.nodes, from)?;
-        Some(least_below(&self.flags, &self.nodes, from, node))
     }
 }
 
-/// The least power of two that is at least `len`.
-fn row_width(len: usize) -> usize
-    requires { len ≤ POSITIONS_MAX }
-    ensures covers { len ≤ result }
-    ensures power { IsPower result }
-    ensures few { result ≤ 2 * POSITIONS_MAX }
+/// Whether a position is the one that stands apart.
+fn is_one(apart: Option<usize>, position: usize) -> bool
+    ensures { IsTrue result ↔ (apart ≡ Some position) }
 {
-    let mut width = 1;
-    while width < len {
-        width *= 2;
-    }
-    width
-}
-
-/// What is at a node.
-fn is_set(flags: &[bool], nodes: &[bool], node: usize) -> bool
-    ensures { result ≡ node_at flags.now nodes.now node }
-{
-    if node < nodes.len() {
-        return nodes[node];
-    }
-    let position = node - nodes.len();
-    position < flags.len() && flags[position]
-}
-
-/// What the two nodes below a node make of it.
-fn join(flags: &[bool], nodes: &[bool], node: usize) -> bool
-    requires { node ≤ 2 * POSITIONS_MAX }
-    ensures { result ≡ joined flags.now nodes.now node }
-{
-    is_set(flags, nodes, 2 * node) || is_set(flags, nodes, 2 * node + 1)
-}
-
-/// Clears the nodes above a position that was taken out just now, up to one below which another is set.
-fn mend(flags: &[bool], nodes: &mut [bool], position: usize)
-    requires within { position < length nodes.old }
-    requires few { length nodes.old ≤ 2 * POSITIONS_MAX }
-    requires power { IsPower (length nodes.old) }
-    requires each { AllBut flags.now nodes.old ((length nodes.old + position) / 2) }
-    requires set { IsSet nodes.old ((length nodes.old + position) / 2) }
-    ensures { AllBut flags.now nodes.new 0 }
-{
-    let mut node = (nodes.len() + position) / 2;
-    if node == 0 || join(flags, nodes, node) {
-        return;
-    }
-    nodes[node] = false;
-    node /= 2;
-    // (in most sets that this is called on, no other position is left: so it goes up to the root)
-    while node > 0 {
-        if nodes[2 * node] || nodes[2 * node + 1] {
-            return;
-        }
-        nodes[node] = false;
-        node /= 2;
+    match apart {
+        Some(apart) => apart == position,
+        None => false,
     }
 }
 
-/// A set node before which no flag is set, from a position on. It looks at no more nodes than twice the rows.
-fn next_set(flags: &[bool], nodes: &[bool], from: usize) -> Option<usize>
-    requires tree { IsTree flags.now nodes.now }
-    requires within { from < length nodes.now }
-    ensures { IsNextNode flags.now nodes.now from result }
+/// The lesser of a position, where it isn't below `from`, and the least of the others.
+fn lesser(apart: usize, from: usize, least: Option<usize>) -> Option<usize>
+    ensures { result ≡ lesser_from apart from least }
 {
-    let mut node = nodes.len() + from;
-    // the number of flags below the node, and the first of them, in the row of the flags
-    let mut width = 1;
-    let mut first = node;
-    while !is_set(flags, nodes, node) {
-        node += 1;
-        first += width;
-        if first == 2 * nodes.len() {
-            return None;
-        }
-        if node % 2 == 0 {
-            node /= 2;
-            width *= 2;
-        }
+    if apart < from {
+        return least;
     }
-    Some(node)
-}
-
-/// The least set flag below a set node.
-fn least_below(flags: &[bool], nodes: &[bool], from: usize, top: usize) -> usize
-    requires tree { IsTree flags.now nodes.now }
-    requires next { IsNext flags.now nodes.now from top }
-    ensures { IsLeastFrom flags.now from (Some result) }
-{
-    let mut node = top;
-    while node < nodes.len() {
-        node *= 2;
-        if !is_set(flags, nodes, node) {
-            node += 1;
-        }
+    match least {
+        Some(least) if least < apart => Some(least),
+        _ => Some(apart),
     }
-    node - nodes.len()
 }

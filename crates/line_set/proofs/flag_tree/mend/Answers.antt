@@ -1,7 +1,7 @@
 use Rattle.std.proofs.Common.{◌≡◌, ℕ, ◌+◌, ◌/◌, ◌<◌, ◌≤◌, Bool, false, ◌||◌, length, length-set, sym, subst, ap₂, ◌∙◌, arith}
 use Rattle.line_set.specs.Trees.{AllBut, IsPower, joined}
 use Rattle.line_set.proofs.Trees.{both_inner, joined_inner, lowered, set_still}
-use Rattle.line_set.proofs.line_set.mend.Goals as goal
+use Rattle.line_set.proofs.flag_tree.mend.Goals as goal
 
 pub loop-node-init : goal.loop-node-init
 loop-node-init c =

@@ -1,7 +1,7 @@
 use Rattle.std.proofs.Common.{◌+◌, ◌*◌, ◌<◌, ◌≤◌, length}
 use Rattle.line_set.specs.Devices.Rows.{IsSet}
 use Rattle.line_set.specs.Trees.{AllBut, IsPower}
-use Rattle.line_set.proofs.line_set.mend.Given as goal
+use Rattle.line_set.proofs.flag_tree.mend.Given as goal
 
 -- each node but the next is what those below it make of it; the next is set, and both below it are nodes
 abbrev pub invariant-loop-node : goal.invariant-loop-node

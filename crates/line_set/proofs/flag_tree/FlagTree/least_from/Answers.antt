@@ -1,7 +1,7 @@
 use Rattle.std.proofs.Common.{◌≡◌, false, rules}
 use Rattle.line_set.specs.Trees.{node_at}
 use Rattle.line_set.proofs.Trees.{none_at_all}
-use Rattle.line_set.proofs.line_set.LineSet.least_from.Goals as goal
+use Rattle.line_set.proofs.flag_tree.FlagTree.least_from.Goals as goal
 
 pub returns-then-not-is_set : goal.returns-then-not-is_set
 returns-then-not-is_set c p from =

@@ -1,6 +1,6 @@
 use Rattle.std.proofs.Common.{suc, arith}
 use Rattle.line_set.proofs.Trees.{pow_suc}
-use Rattle.line_set.proofs.line_set.row_width.Goals as goal
+use Rattle.line_set.proofs.flag_tree.row_width.Goals as goal
 
 pub loop-width-preserved : goal.loop-width-preserved
 loop-width-preserved c =

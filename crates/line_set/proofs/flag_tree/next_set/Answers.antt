@@ -1,7 +1,7 @@
 use Rattle.std.proofs.Common.{◌≡◌, ◌+◌, false, length, sym, ◌∙◌, arith}
 use Rattle.line_set.specs.Trees.{node_at}
 use Rattle.line_set.proofs.Trees.{next_first, next_within, next_none, next_in_row, next_up, none_past, wide_some, below_past}
-use Rattle.line_set.proofs.line_set.next_set.Goals as goal
+use Rattle.line_set.proofs.flag_tree.next_set.Goals as goal
 
 pub overflow_add-node-in-loop-node : goal.overflow_add-node-in-loop-node
 overflow_add-node-in-loop-node c =

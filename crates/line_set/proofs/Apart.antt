@@ -1,0 +1,22 @@
+-- A set of which one position stands apart from the tree.
+use Rattle.std.proofs.Common.{◌≡◌, ◌≢◌, ℕ, ◌<◌, Bool, true, false, List, length, set, get_or, Option, Some, None, refl, sym, ap, subst, ◌∙◌, inl, inr}
+use Rattle.std.proofs.lemmas.Bool.{cases_eq}
+use Rattle.std.proofs.lemmas.List.{set_comm, set-get_or, set-set}
+use Rattle.line_set.specs.Devices.Apart.{with_apart, IsApart}
+
+-- another position is put into the tree
+pub put_beside : (flags : List Bool) (p n : ℕ) → with_apart (set flags n true) (Some p) ≡ set (with_apart flags (Some p)) n true
+put_beside flags p n = elim (cases_eq n p) [
+  | inl e ↦ rw e refl
+  | inr other ↦ set_comm flags n p true true other
+]
+
+-- the position that stands apart is taken out
+pub taken_apart : (flags : List Bool) (n : ℕ) → IsApart flags (Some n) → flags ≡ set (with_apart flags (Some n)) n false
+taken_apart flags n is =
+    sym (set-set flags n true false ∙ ap (set flags n) (sym is.1) ∙ set-get_or flags n false)
+
+-- another position is taken out of the tree
+pub taken_beside : (flags : List Bool) (apart : Option ℕ) (n : ℕ) → (apart ≡ Some n → ⊥) → with_apart (set flags n false) apart ≡ set (with_apart flags apart) n false
+taken_beside flags None n other = refl
+taken_beside flags (Some p) n other = set_comm flags n p false true (λ e. other (ap Some (sym e)))

@@ -11,7 +11,7 @@ use circ_policy::Policy;
 use circ_records::{Key, Patron, Record};
 use loan_meaning::{owed_of, patron_of};
 use read_set::{Draft, Effect, Member, Source, Stop, Writes};
-use sip_answer::{Answer, KnownPatron, PatronAnswer, PatronStatus};
+use sip_answer::{Answer, KnownPatron, Owed, PatronAnswer, PatronStatus};
 use sip_reader::{KeptId, Stamp};
 use std::alloc::{AllocError, Global};
 
@@ -96,7 +96,7 @@ fn block_member(asked: &BlockAsked<'_>, member: Member, owes: u128) -> Result<Ef
     let status = status_of_member(asked.blocks, &member, owes);
     let known = KnownPatron {
         name: member.patron.get().name.clone()?,
-        owed: owes,
+        owed: Owed::new(asked.alloc, owes)?,
     };
     let patron = blocked(asked.alloc, asked.blocks, member)?;
     let written = Record::patron(asked.alloc, patron)?;

@@ -1,6 +1,10 @@
 //! What is answered: for each kind of response all that is written of it.
+//!
+//! Fields lie in memory in their order here, and the answer of each line stays to the end of a run: so small ones stand together,
+//! in front, where none leaves a gap before the next.
 
 use crate::item_ids::ItemIds;
+use crate::owed::Owed;
 use circ_policy::{DueForm, MediaType};
 use sip_reader::{Amount, Day, KeptId, Stamp, Text};
 
@@ -49,12 +53,12 @@ impl Drop for Answer {
 pub struct PatronAnswer {
     /// The request's transaction date.
     pub date: Stamp,
-    pub institution: KeptId,
-    pub patron: KeptId,
     /// The status after the change.
     pub status: PatronStatus,
     /// The currency of what is owed, three letters.
     pub currency: [u8; 3],
+    pub institution: KeptId,
+    pub patron: KeptId,
     /// Where the patron is known.
     pub known: Option<KnownPatron>,
 }
@@ -63,10 +67,10 @@ impl Drop for PatronAnswer {
     fn drop(self) {
         let PatronAnswer {
             date: _,
-            institution: _,
-            patron: _,
             status: _,
             currency: _,
+            institution: _,
+            patron: _,
             known: _,
         } = self;
     }
@@ -90,8 +94,8 @@ pub struct PatronStatus {
 /// What an answer shows of a patron that is known.
 pub struct KnownPatron {
     pub name: Text,
-    /// What is owed, in hundredths.
-    pub owed: u128,
+    /// What is owed.
+    pub owed: Owed,
 }
 
 impl Drop for KnownPatron {
@@ -104,25 +108,25 @@ impl Drop for KnownPatron {
 pub struct CheckinAnswer {
     /// The request's transaction date.
     pub date: Stamp,
+    /// Whether somebody waits for the item.
+    pub alert: bool,
     pub institution: KeptId,
     pub item: KeptId,
     /// Where the item is known.
     pub known: Option<ReturnedItem>,
     /// Whose loan ended, where one did.
     pub borrower: Option<KeptId>,
-    /// Whether somebody waits for the item.
-    pub alert: bool,
 }
 
 impl Drop for CheckinAnswer {
     fn drop(self) {
         let CheckinAnswer {
             date: _,
+            alert: _,
             institution: _,
             item: _,
             known: _,
             borrower: _,
-            alert: _,
         } = self;
     }
 }
@@ -150,36 +154,36 @@ impl Drop for ReturnedItem {
 pub struct LoanAnswer {
     /// The request's transaction date.
     pub date: Stamp,
+    /// Whether a renewal was made.
+    pub renewed: bool,
+    /// How the due day is written.
+    pub due_form: DueForm,
+    /// The due day, where a loan or a renewal was made.
+    pub due: Option<Day>,
+    /// The currency of the rental, three letters.
+    pub currency: [u8; 3],
     pub institution: KeptId,
     pub patron: KeptId,
     pub item: KeptId,
     /// Where the item is known.
     pub known: Option<KnownItem>,
-    /// The due day, where a loan or a renewal was made.
-    pub due: Option<Day>,
-    /// How that day is written.
-    pub due_form: DueForm,
-    /// Whether a renewal was made.
-    pub renewed: bool,
     /// The rental that was charged, or for which the request is refused, in hundredths.
     pub rental: Option<Amount>,
-    /// The currency of the rental, three letters.
-    pub currency: [u8; 3],
 }
 
 impl Drop for LoanAnswer {
     fn drop(self) {
         let LoanAnswer {
             date: _,
+            renewed: _,
+            due_form: _,
+            due: _,
+            currency: _,
             institution: _,
             patron: _,
             item: _,
             known: _,
-            due: _,
-            due_form: _,
-            renewed: _,
             rental: _,
-            currency: _,
         } = self;
     }
 }
@@ -240,18 +244,18 @@ impl Drop for TitledItem {
 pub struct FeePaidAnswer {
     /// The request's transaction date.
     pub date: Stamp,
+    pub accepted: bool,
     pub institution: KeptId,
     pub patron: KeptId,
-    pub accepted: bool,
 }
 
 impl Drop for FeePaidAnswer {
     fn drop(self) {
         let FeePaidAnswer {
             date: _,
+            accepted: _,
             institution: _,
             patron: _,
-            accepted: _,
         } = self;
     }
 }
@@ -260,8 +264,8 @@ impl Drop for FeePaidAnswer {
 pub struct RenewAllAnswer {
     /// The request's transaction date.
     pub date: Stamp,
-    pub institution: KeptId,
     pub ok: bool,
+    pub institution: KeptId,
     /// The items that were renewed, in the order of the patron's list.
     pub renewed: ItemIds,
     /// The items that weren't, in that order.
@@ -272,8 +276,8 @@ impl Drop for RenewAllAnswer {
     fn drop(self) {
         let RenewAllAnswer {
             date: _,
-            institution: _,
             ok: _,
+            institution: _,
             renewed: _,
             unrenewed: _,
         } = self;
@@ -284,12 +288,12 @@ impl Drop for RenewAllAnswer {
 pub struct HoldAnswer {
     /// The request's transaction date.
     pub date: Stamp,
-    pub institution: KeptId,
-    pub patron: KeptId,
-    pub item: KeptId,
     pub ok: bool,
     /// Whether the item waits for this patron.
     pub available: bool,
+    pub institution: KeptId,
+    pub patron: KeptId,
+    pub item: KeptId,
     /// The patron's position in the queue, where a hold was added or changed.
     pub position: Option<QueuePosition>,
     /// Where the item is known.
@@ -300,11 +304,11 @@ impl Drop for HoldAnswer {
     fn drop(self) {
         let HoldAnswer {
             date: _,
+            ok: _,
+            available: _,
             institution: _,
             patron: _,
             item: _,
-            ok: _,
-            available: _,
             position: _,
             title: _,
         } = self;

@@ -6,6 +6,7 @@ mod comparing;
 mod field;
 mod item_ids;
 mod laws;
+mod owed;
 mod writing;
 
 pub use answer::{
@@ -17,4 +18,5 @@ pub use comparing::differences;
 pub use field::Field;
 pub use item_ids::ItemIds;
 pub use laws::own_text_agrees;
+pub use owed::Owed;
 pub use writing::write_answer;

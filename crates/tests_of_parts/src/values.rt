@@ -1,6 +1,7 @@
-//! Days, dates, amounts, ids, texts and words.
+//! Days, dates, amounts, sums that are owed, ids, texts and words.
 
 use circ_records::{KeptKey, KeptLoan, Key, Loan};
+use sip_answer::Owed;
 use sip_reader::{
     AMOUNT_MAX, Amount, Day, Id, KeptId, Kind, Passed, Reading, Stamp, Text, Why, push_amount,
     read_request, sum_of, unsummed, without_line_end,
@@ -84,6 +85,16 @@ fn amounts(rt: HostRuntime) -> Result<(), Fail> {
         let mut out = Vec::new(rt.alloc());
         push_amount(&mut out, hundredths)?;
         assert!(rt; out.as_slice() == want.as_bytes(), "{want}");
+    }
+    Ok(())
+}
+
+/// What is owed is kept as it is, also above the greatest amount.
+#[test]
+fn sums_that_are_owed(rt: HostRuntime) -> Result<(), Fail> {
+    for (hundredths, want) in AMOUNTS {
+        let owed = Owed::new(rt.alloc(), hundredths)?;
+        assert!(rt; owed.hundredths() == hundredths, "{want}");
     }
     Ok(())
 }

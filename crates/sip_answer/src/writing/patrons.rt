@@ -15,7 +15,7 @@ pub fn put_block_patron(out: &mut Vec<u8>, answer: &PatronAnswer) -> Result<(), 
 {
     put_patron(out, b"24", answer)?;
     match &answer.known {
-        Some(patron) => put_money(out, &answer.currency, patron.owed),
+        Some(patron) => put_money(out, &answer.currency, patron.owed.hundredths()),
         None => Ok(()),
     }
 }

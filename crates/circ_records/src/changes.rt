@@ -104,10 +104,10 @@ fn put_loan(alloc: Global, patron: &mut Shared<Patron>, item: Id) -> Result<(), 
     ensures err { OnErr result (patron.new ≡ patron.old) }
 {
     match patron.sole() {
-        Some(patron) => patron.loans.push(item),
+        Some(patron) => patron.loans.push(alloc, item),
         None => {
-            let mut other = patron.get().copy(alloc)?;
-            other.loans.push(item)?;
+            let mut other = patron.get().copy()?;
+            other.loans.push(alloc, item)?;
             *patron = Shared::new(alloc, other)?;
             Ok(())
         }
@@ -121,10 +121,10 @@ pub fn put_fee(alloc: Global, patron: &mut Shared<Patron>, fee: Id) -> Result<()
     ensures err { OnErr result (patron.new ≡ patron.old) }
 {
     match patron.sole() {
-        Some(patron) => patron.fees.push(fee),
+        Some(patron) => patron.fees.push(alloc, fee),
         None => {
-            let mut other = patron.get().copy(alloc)?;
-            other.fees.push(fee)?;
+            let mut other = patron.get().copy()?;
+            other.fees.push(alloc, fee)?;
             *patron = Shared::new(alloc, other)?;
             Ok(())
         }

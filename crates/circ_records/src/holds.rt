@@ -92,11 +92,6 @@ impl Holds {
         Ok(Holds { holds })
     }
 
-    /// Where its memory is from.
-    pub(crate) fn allocator(&self) -> Global {
-        *self.holds.allocator()
-    }
-
     pub fn len(&self) -> usize
         ensures { result ≡ length self.now }
     {

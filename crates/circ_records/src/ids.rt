@@ -1,41 +1,22 @@
 ghost use Rattle.std.specs.Prelude.{◌≡◌, ◌++◌, ◌∷◌, [], IfOk, OnOk, OnErr, length, IsTrue, ◌↔◌};
-ghost use Rattle.circ_records.specs.Devices.IdLists.{ids_held};
 
+use crate::shared::Shared;
 use sip_reader::{Id, KeptId};
 use std::alloc::{AllocError, Global};
 use std::marker::Model;
-use std::mem::replace;
-use std::ops::Deref;
-use std::sync::Arc;
 
 /// Up to so many ids take no more room than they need: most lists have no more, and lists of records stay.
 const FEW: usize = 8;
 
-/// A list of ids, as a patron's loans or open fees, the oldest first.
+/// A list of ids, as a patron's loans or open fees, the oldest first. The empty one takes no memory, and another has its memory
+/// together with its copies.
 pub struct Ids {
-    held: Held,
+    held: Option<Shared<Vec<KeptId>>>,
 }
 
 impl Drop for Ids {
     fn drop(self) {
         let Ids { held: _ } = self;
-    }
-}
-
-/// Where the ids of a list stand.
-enum Held {
-    /// In memory of its own, where it may grow.
-    Own(Vec<KeptId>),
-    /// In memory that it has together with its copies.
-    Shared(Arc<Vec<KeptId>>),
-}
-
-impl Drop for Held {
-    fn drop(self) {
-        match self {
-            Held::Own(_) => {}
-            Held::Shared(_) => {}
-        }
     }
 }
 
@@ -50,98 +31,85 @@ impl Model for Ids {
 
 impl Ids {
     /// The empty list.
-    pub fn new(alloc: Global) -> Ids
+    pub fn new() -> Ids
         ensures { result ≡ [] }
     {
-        Ids::from_vec(Vec::new(alloc))
+        Ids { held: None }
     }
 
     /// The list of these ids.
-    pub fn from_vec(ids: Vec<KeptId>) -> Ids
-        ensures { result ≡ ids.items }
+    pub fn from_vec(alloc: Global, ids: Vec<KeptId>) -> Result<Ids, AllocError>
+        ensures { IfOk result (λ l. l ≡ ids.items) }
     {
-        Ids {
-            held: Held::Own(ids),
+        if ids.is_empty() {
+            return Ok(Ids::new());
         }
+        let mut ids = ids;
+        ids.shrink_to_fit();
+        let held = Shared::new(alloc, ids)?;
+        Ok(Ids { held: Some(held) })
     }
 
     /// One more id at the end. Without memory the list stays.
-    pub fn push(&mut self, id: Id) -> Result<(), AllocError>
+    pub fn push(&mut self, alloc: Global, id: Id) -> Result<(), AllocError>
         ensures ok { OnOk result (self.new ≡ self.old ++ id ∷ []) }
         ensures err { OnErr result (self.new ≡ self.old) }
     {
-        let id = KeptId::new(self.allocator(), &id)?;
+        let id = KeptId::new(alloc, &id)?;
         match &mut self.held {
-            Held::Own(ids) => put_last(ids, id),
-            Held::Shared(ids) => {
-                let longer = with_last(Deref::deref(ids), id)?;
-                self.held = Held::Own(longer);
+            Some(ids) => put_behind(alloc, ids, id),
+            None => {
+                let one = with_last(alloc, &[], id)?;
+                self.held = Some(Shared::new(alloc, one)?);
                 Ok(())
             }
         }
     }
 
-    /// The same list.
-    pub fn copy(&self, alloc: Global) -> Result<Ids, AllocError>
+    /// The same list. It takes no memory.
+    pub fn copy(&self) -> Result<Ids, AllocError>
         ensures { IfOk result (λ ids. ids ≡ self.now) }
     {
         let held = match &self.held {
-            Held::Own(ids) => Held::Own(Vec::from_clones(alloc, ids.as_slice())?),
-            Held::Shared(ids) => Held::Shared(Arc::try_clone(ids)?),
+            Some(ids) => Some(ids.copy()?),
+            None => None,
         };
         Ok(Ids { held })
-    }
-
-    /// From now on its copies have their memory together with it, where there is memory to say so.
-    pub(crate) fn share(&mut self)
-        ensures { self.new ≡ self.old }
-    {
-        let Held::Own(own) = &mut self.held else {
-            return;
-        };
-        if own.is_empty() {
-            return;
-        }
-        let alloc = *own.allocator();
-        let mut ids = replace(own, Vec::new(alloc));
-        ids.shrink_to_fit();
-        self.held = shared(alloc, ids);
-    }
-
-    /// Where its memory is from.
-    pub(crate) fn allocator(&self) -> Global {
-        match &self.held {
-            Held::Own(ids) => *ids.allocator(),
-            Held::Shared(ids) => *Deref::deref(ids).allocator(),
-        }
     }
 
     pub fn len(&self) -> usize
         ensures { result ≡ length self.now }
     {
-        self.held.as_slice().len()
+        self.as_slice().len()
     }
 
     pub fn is_empty(&self) -> bool
         ensures { IsTrue result ↔ (self.now ≡ []) }
     {
-        self.held.as_slice().is_empty()
+        self.as_slice().is_empty()
     }
 
     pub fn as_slice(&self) -> &[KeptId]
         ensures { result.now ≡ self.now }
     {
-        self.held.as_slice()
+        match &self.held {
+            Some(ids) => ids.get().as_slice(),
+            None => &[],
+        }
     }
 }
 
-impl Held {
-    fn as_slice(&self) -> &[KeptId]
-        ensures { result.now ≡ ids_held self.now }
-    {
-        match self {
-            Held::Own(ids) => ids.as_slice(),
-            Held::Shared(ids) => Deref::deref(ids).as_slice(),
+/// One more id behind the others, in their place where no copy has them. Without memory nothing changes.
+fn put_behind(alloc: Global, ids: &mut Shared<Vec<KeptId>>, id: KeptId) -> Result<(), AllocError>
+    ensures ok { OnOk result (ids.new.items ≡ ids.old.items ++ id ∷ []) }
+    ensures err { OnErr result (ids.new.items ≡ ids.old.items) }
+{
+    match ids.sole() {
+        Some(own) => put_last(own, id),
+        None => {
+            let longer = with_last(alloc, ids.get().as_slice(), id)?;
+            *ids = Shared::new(alloc, longer)?;
+            Ok(())
         }
     }
 }
@@ -159,24 +127,13 @@ fn put_last(ids: &mut Vec<KeptId>, id: KeptId) -> Result<(), AllocError>
 }
 
 /// The ids, and one more behind them.
-fn with_last(ids: &Vec<KeptId>, id: KeptId) -> Result<Vec<KeptId>, AllocError>
-    ensures { IfOk result (λ v. v.items ≡ ids.now.items ++ id ∷ []) }
+fn with_last(alloc: Global, ids: &[KeptId], id: KeptId) -> Result<Vec<KeptId>, AllocError>
+    ensures { IfOk result (λ v. v.items ≡ ids.now ++ id ∷ []) }
 {
-    let alloc = *ids.allocator();
     let mut longer = Vec::with_capacity(alloc, ids.len().saturating_add(1))?;
-    for other in ids.as_slice() {
+    for other in ids {
         longer.push(other.clone()?)?;
     }
     longer.push(id)?;
     Ok(longer)
-}
-
-/// The ids in memory that can be shared, or as they are where there is none.
-fn shared(alloc: Global, ids: Vec<KeptId>) -> Held
-    ensures { ids_held result ≡ ids.items }
-{
-    match Arc::new(alloc, ids) {
-        Ok(ids) => Held::Shared(ids),
-        Err(refused) => Held::Own(refused.value),
-    }
 }

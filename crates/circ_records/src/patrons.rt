@@ -146,7 +146,7 @@ fn patron_of(alloc: Global, row: &ByteRecord) -> Result<Patron, AllocError>
         name: Text::new(alloc, column(row, 1))?,
         class: KeptId::new(alloc, &id_at(row, 2))?,
         blocked: flag_of(column(row, 3)).unwrap(),
-        loans: Ids::new(alloc),
-        fees: Ids::new(alloc),
+        loans: Ids::new(),
+        fees: Ids::new(),
     })
 }

@@ -208,13 +208,10 @@ const FEE_TYPES: [FeeType; 9] = [
 ];
 
 impl Record {
-    /// The record of a patron. From now on a copy of the patron has the memory of the lists together with it.
+    /// The record of a patron.
     pub fn patron(alloc: Global, patron: Patron) -> Result<Record, AllocError>
         ensures { IfOk result (λ r. r ≡ record_of.Patron patron) }
     {
-        let mut patron = patron;
-        patron.loans.share();
-        patron.fees.share();
         Ok(Record::Patron(Shared::new(alloc, patron)?))
     }
 
@@ -256,26 +253,26 @@ impl Clone for Record {
 }
 
 impl Patron {
-    /// The same patron.
-    pub fn copy(&self, alloc: Global) -> Result<Patron, AllocError>
+    /// The same patron. It takes no memory beyond its own fields.
+    pub fn copy(&self) -> Result<Patron, AllocError>
         ensures { IfOk result (λ p. p ≡ self.now) }
     {
         Ok(Patron {
             name: self.name.clone()?,
             class: self.class.clone()?,
             blocked: self.blocked,
-            loans: self.loans.copy(alloc)?,
-            fees: self.fees.copy(alloc)?,
+            loans: self.loans.copy()?,
+            fees: self.fees.copy()?,
         })
     }
 
     /// A patron on its own, to be changed: the very fields, where nobody else has the record, and else a copy.
-    pub fn of(alloc: Global, shared: Shared<Patron>) -> Result<Patron, AllocError>
+    pub fn of(shared: Shared<Patron>) -> Result<Patron, AllocError>
         ensures { IfOk result (λ p. p ≡ shared) }
     {
         match shared.into_sole() {
             Ok(patron) => Ok(patron),
-            Err(shared) => shared.get().copy(alloc),
+            Err(shared) => shared.get().copy(),
         }
     }
 }

@@ -10,11 +10,12 @@ use std::alloc::{AllocError, Global};
 use std::collections::BTreeMap;
 use std::marker::Model;
 
-/// Whose record it is: the base's, or that of an attempt at a line.
+/// Whose record it is: the base's, or that of an attempt at a line. The attempt stands first, so that it shares a word with
+/// the tag.
 #[derive(Clone, Copy, PartialEq, Eq)]
 pub enum Name {
     Base,
-    Made { line: u64, attempt: u32 },
+    Made { attempt: u32, line: u64 },
 }
 
 /// What was found at a key, a record or none, under its name.

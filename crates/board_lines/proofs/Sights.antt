@@ -25,8 +25,8 @@ use Rattle.board_lines.proofs.Rows.{entries_at}
 
 -- ---- names and records of what is seen
 sight_some : {J : Type 0} (b : Bool) (base : Entries) (k : Key) (p : ℕ × Shown) (x : PlacedName J)
-    → IsNameOf (if b then SeesSuspect p.0 else Sees (Made p.0 p.1.attempt) p.1.contents) x
-    → (if b then Suspect p.0 else Named (Made p.0 p.1.attempt) ≡ Named x.name) × (found_by base k (option_map contents_at x.place) ≡ written_at p.1 k)
+    → IsNameOf (if b then SeesSuspect p.0 else Sees (Made p.1.attempt p.0) p.1.contents) x
+    → (if b then Suspect p.0 else Named (Made p.1.attempt p.0) ≡ Named x.name) × (found_by base k (option_map contents_at x.place) ≡ written_at p.1 k)
 sight_some true base k p x h = absurd h
 sight_some false base k p x h = (ap Named (sym h.0), ap (found_by base k) h.1)
 
@@ -36,10 +36,10 @@ sight_named base k None x h = (ap Named (sym h.0), ap (λ p. found_by base k (op
 sight_named base k (Some p) x h = sight_some p.1.suspect base k p x h
 
 placed_some : {J : Type 0} (b : Bool) (k : Key) (p : ℕ × Shown) (x : PlacedName J)
-    → IsNameOf (if b then SeesSuspect p.0 else Sees (Made p.0 p.1.attempt) p.1.contents) x → IsPlaced (note_with k x)
+    → IsNameOf (if b then SeesSuspect p.0 else Sees (Made p.1.attempt p.0) p.1.contents) x → IsPlaced (note_with k x)
 placed_some true k p x h = absurd h
 placed_some false k p x h = (
-  λ e. absurd (let z : Made p.0 p.1.attempt ≡ Base = sym h.0 ∙ e in cc),
+  λ e. absurd (let z : Made p.1.attempt p.0 ≡ Base = sym h.0 ∙ e in cc),
   λ e. absurd (none-some p.1.contents (sym e ∙ h.1)),
 )
 
@@ -48,8 +48,8 @@ pub sight_placed : {J : Type 0} (k : Key) (o : Option (ℕ × Shown)) (x : Place
 sight_placed k None x h = (λ e. ap (option_map contents_at) h.1, λ e. h.0)
 sight_placed k (Some p) x h = placed_some p.1.suspect k p x h
 
-suspect_some : (b : Bool) (p : ℕ × Shown) (m : ℕ) → if b then SeesSuspect p.0 else Sees (Made p.0 p.1.attempt) p.1.contents ≡ SeesSuspect m
-    → if b then Suspect p.0 else Named (Made p.0 p.1.attempt) ≡ Suspect m
+suspect_some : (b : Bool) (p : ℕ × Shown) (m : ℕ) → if b then SeesSuspect p.0 else Sees (Made p.1.attempt p.0) p.1.contents ≡ SeesSuspect m
+    → if b then Suspect p.0 else Named (Made p.1.attempt p.0) ≡ Suspect m
 suspect_some true p m h = (let e : p.0 ≡ m = cc in ap Suspect e)
 suspect_some false p m h = absurd (cc)
 

@@ -81,7 +81,7 @@ module _ (plan : Planned) (rows others : ℕ → Row) (clock later n : ℕ) (r :
 
   note_by_keep : (q : ℕ) (k : Key) (v : Option Record) (name : Name) → NoteBy plan rows q k v name → NoteBy plan others q k v name
   note_by_keep q k v Base h = h
-  note_by_keep q k v (Made m a) h = known_keep q m a k v h
+  note_by_keep q k v (Made a m) h = known_keep q m a k v h
 
   pub note_keep : (q : ℕ) (x : Note) → NoteHolds plan rows q x → NoteHolds plan others q x
   note_keep q x h = note_by_keep q x.key x.found x.name h

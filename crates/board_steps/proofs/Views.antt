@@ -24,21 +24,21 @@ pub visible_entry : (rows : ℕ → Row) (n : ℕ) (k : Key) (p : ℕ × Shown) 
 visible_entry rows zero k p h = absurd (none-some p h)
 visible_entry rows (suc n) k p h = above_entry rows n k p (entry (rows n) k) (seen_entry rows n k) refl (visible_entry rows n k p) h
 
-named_made : (b : Bool) (x y m a : ℕ) → if b then Suspect x else Named (Made x y) ≡ Named (Made m a) → (x ≡ m) × (y ≡ a)
+named_made : (b : Bool) (x y m a : ℕ) → if b then Suspect x else Named (Made y x) ≡ Named (Made a m) → (x ≡ m) × (y ≡ a)
 named_made true x y m a h = absurd (cc)
 named_made false x y m a h = (cc, cc)
 
-named_base : (b : Bool) (x y : ℕ) → if b then Suspect x else Named (Made x y) ≡ Named Base → ⊥
+named_base : (b : Bool) (x y : ℕ) → if b then Suspect x else Named (Made y x) ≡ Named Base → ⊥
 named_base true x y h = cc
 named_base false x y h = cc
 
-found_of_made : (m a : ℕ) (o : Option (ℕ × Shown)) → found_of o ≡ Named (Made m a) → (e : Shown) × (o ≡ Some (m, e)) × (e.attempt ≡ a)
+found_of_made : (m a : ℕ) (o : Option (ℕ × Shown)) → found_of o ≡ Named (Made a m) → (e : Shown) × (o ≡ Some (m, e)) × (e.attempt ≡ a)
 found_of_made m a None h = absurd (cc)
 found_of_made m a (Some p) h =
     let r = named_made _ _ _ m a h in
     (p.1, ap (λ (x : ℕ). Some (x, p.1)) r.0, r.1)
 
-pub found_made : (rows : ℕ → Row) (n : ℕ) (k : Key) (m a : ℕ) → found rows n k ≡ Named (Made m a) → (e : Shown) × (seen_entry rows n k ≡ Some (m, e)) × (e.attempt ≡ a)
+pub found_made : (rows : ℕ → Row) (n : ℕ) (k : Key) (m a : ℕ) → found rows n k ≡ Named (Made a m) → (e : Shown) × (seen_entry rows n k ≡ Some (m, e)) × (e.attempt ≡ a)
 found_made rows n k m a h = found_of_made m a (seen_entry rows n k) h
 
 found_of_base : (o : Option (ℕ × Shown)) → found_of o ≡ Named Base → o ≡ None
@@ -47,7 +47,7 @@ found_of_base (Some p) h = absurd (named_base _ _ _ h)
 
 note_by_value : (plan : Planned) (rows : ℕ → Row) (n : ℕ) (k : Key) (v : Option Record) (name : Name) → NoteBy plan rows n k v name → found rows n k ≡ Named name → v ≡ value_at plan rows n k
 note_by_value plan rows n k v Base h f = h ∙ sym (ap (λ (o : Option (ℕ × Shown)). record_of k o (record_at plan.base k)) (found_of_base (seen_entry rows n k) f))
-note_by_value plan rows n k v (Made m a) h f =
+note_by_value plan rows n k v (Made a m) h f =
     let r = found_made rows n k m a f in
     let q = visible_entry rows n k (m, r.0) r.1 in
     h.same r.0 q.1 r.2 ∙ sym (ap (λ (o : Option (ℕ × Shown)). record_of k o (record_at plan.base k)) r.1)
@@ -59,7 +59,7 @@ note_value plan rows n x h f = note_by_value plan rows n x.key x.found x.name h 
 -- what is seen now may be noted
 pub seen_now : (plan : Planned) (rows : ℕ → Row) (n : ℕ) (k : Key) (name : Name) → ((m : ℕ) (q : Key) (e : Shown) → entry (rows m) q ≡ Some e → e.attempt < (rows m).next) → found rows n k ≡ Named name → NoteBy plan rows n k (value_at plan rows n k) name
 seen_now plan rows n k Base begun f = ap (λ (o : Option (ℕ × Shown)). record_of k o (record_at plan.base k)) (found_of_base (seen_entry rows n k) f)
-seen_now plan rows n k (Made m a) begun f =
+seen_now plan rows n k (Made a m) begun f =
     let r = found_made rows n k m a f in
     let q = visible_entry rows n k (m, r.0) r.1 in
     let is : value_at plan rows n k ≡ written_at r.0 k = ap (λ (o : Option (ℕ × Shown)). record_of k o (record_at plan.base k)) r.1 in

@@ -30,7 +30,7 @@ pub record Known (rows : ℕ → Row) (n m a : ℕ) (k : Key) (v : Option Record
 -- a noted Base has the base's record or absence
 abbrev pub NoteBy : Planned → (ℕ → Row) → ℕ → Key → Option Record → Name → Type 0
 NoteBy plan rows n k v Base = v ≡ record_at plan.base k
-NoteBy plan rows n k v (Made m a) = Known rows n m a k v
+NoteBy plan rows n k v (Made a m) = Known rows n m a k v
 
 abbrev pub NoteHolds : Planned → (ℕ → Row) → ℕ → Note → Type 0
 NoteHolds plan rows n x = NoteBy plan rows n x.key x.found x.name

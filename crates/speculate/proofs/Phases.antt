@@ -45,7 +45,7 @@ found_same rows others n k same = ap found_of (seen_same rows others n k same)
 still_now : (rows others : ℕ → Row) (n : ℕ) (notes : List Note) → ((m : ℕ) → m < n → others m ≡ rows m) → EachNote notes (IsNow rows n) → EachNote notes (IsNow others n)
 still_now rows others n notes same now j x at = found_same rows others n x.key same ∙ now j x at
 
-not_suspect : (b : Bool) (x y a m : ℕ) → b ≡ false → if b then Suspect x else Named (names.Made y a) ≡ Suspect m → ⊥
+not_suspect : (b : Bool) (x y a m : ℕ) → b ≡ false → if b then Suspect x else Named (names.Made a y) ≡ Suspect m → ⊥
 not_suspect true x y a m e h = cc
 not_suspect false x y a m e h = cc
 

@@ -99,7 +99,7 @@ contents_seen lines n k = option_map (λ p. p.1.contents) (visible lines n k)
 -- the name of the visible entry, Base where there is none; a suspect entry equals no name
 abbrev pub found_of : Option (ℕ × Shown) → Found
 found_of None = found.Named names.Base
-found_of (Some p) = if p.1.suspect then found.Suspect p.0 else found.Named (names.Made p.0 p.1.attempt)
+found_of (Some p) = if p.1.suspect then found.Suspect p.0 else found.Named (names.Made p.1.attempt p.0)
 
 abbrev pub found_at : (ℕ → Line) → ℕ → Key → Found
 found_at lines n k = found_of (visible lines n k)
@@ -112,7 +112,7 @@ pub data Sight : Type 0 where
 
 abbrev pub sight_of : Option (ℕ × Shown) → Sight
 sight_of None = SeesBase
-sight_of (Some p) = if p.1.suspect then SeesSuspect p.0 else Sees (names.Made p.0 p.1.attempt) p.1.contents
+sight_of (Some p) = if p.1.suspect then SeesSuspect p.0 else Sees (names.Made p.1.attempt p.0) p.1.contents
 
 abbrev pub sight_at : (ℕ → Line) → ℕ → Key → Sight
 sight_at lines n k = sight_of (visible lines n k)

@@ -1,10 +1,9 @@
 -- Entries with the keys that they borrow.
 use denote.Ref.{Bor}
-use Rattle.std.proofs.Common.{◌≡◌, ℕ, zero, suc, ◌+◌, ◌<◌, ◌≤◌, Option, Ok, Err, Result, List, [], ◌∷◌, ◌++◌, length, get_or, set, take, drop, refl, sym, ap, ap₂, subst, ◌∙◌, arith}
+use Rattle.std.proofs.Common.{◌≡◌, ℕ, zero, suc, ◌+◌, ◌<◌, Option, List, [], ◌∷◌, ◌++◌, length, get_or, set, take, drop, refl, sym, ap, ap₂, ◌∙◌, arith}
 use Rattle.std.specs.Prelude.{option_map, slice_get}
 use Rattle.std.specs.List.{insert, remove}
-use Rattle.std.specs.List.Sorted.{IsBinarySearchResult}
-use Rattle.std.specs.Ordering.{ordering_index}
+use Rattle.std.specs.declared.cmp.Ordering.{Ordering}
 use Rattle.std.proofs.lemmas.List.{length-map, map-append, map-set, take-map, drop-map, drop_more}
 use Rattle.std.proofs.lemmas.Option.{slice_get-map}
 use Rattle.circ_records.specs.Keys.{key_cmp}
@@ -43,22 +42,15 @@ module _ {X : Type 0} where
       ∙ ap₂ (λ (a b : List (Key × X)). a ++ b) (sym (take-map keyed_one i es)) (sym (drop-map keyed_one (suc i) es))
 
   -- ---- a search
-  -- a key that isn't borrowed, as one that is
-  abbrev lent : Key × X → Bor Key × X
-  lent d = (record { ref_ptr = (0, 0); now = d.0 }, d.1)
+  pub keyed_here : (es : List (Bor Key × X)) (i : ℕ) (e : Bor Key × X) → i < length es → e ≡ get_or es i e → (d : Key × X) → get_or (keyed es) i d ≡ keyed_one e
+  keyed_here [] i e within is d = absurd (omega (arith, within))
+  keyed_here (x ∷ es) zero e within is d = ap keyed_one (sym is)
+  keyed_here (x ∷ es) (suc i) e within is d = keyed_here es i e (omega (arith, within)) is d
 
-  pub keyed_search : (es : List (Bor Key × X)) (k : Key) (r : Result ℕ ℕ)
-      → IsBinarySearchResult (λ (e : Bor Key × X). key_cmp e.0.now k) es r → IsBinarySearchResult (λ (e : Key × X). key_cmp e.0 k) (keyed es) r
-  keyed_search es k (Ok i) found = λ d. ap (λ (e : Key × X). key_cmp e.0 k) (keyed_at es i (lent d)) ∙ found (lent d)
-  keyed_search es k (Err i) parts = λ rises.
-      let order = λ (e : Key × X). key_cmp e.0 k in
-      let at = parts (λ a b d low high.
-      subst (λ (n : ℕ). n ≤ ordering_index (order (keyed_one (get_or es b d)))) (ap (λ e. ordering_index (order e)) (keyed_at es a d))
-      (subst (λ (n : ℕ). ordering_index (order (get_or (keyed es) a (keyed_one d))) ≤ n) (ap (λ e. ordering_index (order e)) (keyed_at es b d))
-      (rises a b (keyed_one d) low (omega (arith, high, keyed_length es))))) in (
-        λ j d low high. ap order (keyed_at es j (lent d)) ∙ at.0 j (lent d) low high,
-        λ j d low high. ap order (keyed_at es j (lent d)) ∙ at.1 j (lent d) low (omega (arith, high, keyed_length es)),
-      )
+  -- how the key of an entry stands to another is how the entry's stands to it
+  pub ordered_here : (es : List (Bor Key × X)) (k : Key) (i : ℕ) (e : Bor Key × X) (found o : Ordering) → i < length es → e ≡ get_or es i e
+      → found ≡ key_cmp e.0.now k → found ≡ o → (d : Key × X) → key_cmp (get_or (keyed es) i d).0 k ≡ o
+  ordered_here es k i e found o within is order is_o d = ap (λ (x : Key × X). key_cmp x.0 k) (keyed_here es i e within is d) ∙ sym order ∙ is_o
 
   -- ---- a walk
   pub keyed_more : (es : List (Bor Key × X)) (i : ℕ) (e : Bor Key × X) → i < length es → e ≡ get_or es i e

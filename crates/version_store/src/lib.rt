@@ -10,6 +10,7 @@ mod entry;
 mod index;
 mod line;
 mod part;
+mod short;
 mod store;
 mod table;
 

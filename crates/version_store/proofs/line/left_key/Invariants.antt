@@ -5,4 +5,4 @@ use Rattle.version_store.proofs.line.left_key.Given as goal
 
 -- the entries so far are of the attempt
 abbrev pub invariant-loop-i : goal.invariant-loop-i
-invariant-loop-i g l = Went (IsOwn l.attempt) (keyed l.entries.items) (drop l.i (keyed l.entries.items))
+invariant-loop-i g l = Went (IsOwn l.attempt) (keyed l.entries) (drop l.i (keyed l.entries))

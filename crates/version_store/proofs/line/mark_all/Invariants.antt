@@ -4,4 +4,4 @@ use Rattle.version_store.proofs.line.mark_all.Given as goal
 
 -- the first are suspect
 abbrev pub invariant-loop-i : goal.invariant-loop-i
-invariant-loop-i g l = l.entries.items ≡ all_marked (take l.i l.initial.entries.items) ++ drop l.i l.initial.entries.items
+invariant-loop-i g l = l.entries ≡ all_marked (take l.i l.initial.entries) ++ drop l.i l.initial.entries

@@ -1,5 +1,5 @@
 use denote.Ref.{Bor}
-use Rattle.std.proofs.Common.{Some, ap, sym, ◌∙◌}
+use Rattle.std.proofs.Common.{Some, ap, arith, sym, ◌∙◌}
 use Rattle.std.specs.Prelude.{option_map}
 use Rattle.circ_records.specs.declared.key.Key.{Key}
 use Rattle.version_store.specs.Entries.{keyed, shown}
@@ -10,11 +10,11 @@ use Rattle.version_store.proofs.Views.{get_shown}
 use Rattle.version_store.proofs.line.LineEntries.get.Goals as goal
 
 pub index-requires : goal.index-requires
-index-requires g c = rw (c.self.inside.entries.ok.0, ← keyed_length c.self.inside.entries.items) c.in-Ok.ensures.within
+index-requires g c = omega (arith, c.in-Ok.ensures.within, keyed_length c.self.inside.entries)
 
 pub returns-in-Ok : goal.returns-in-Ok
 returns-in-Ok g c =
-    let es = c.self.inside.entries.items in
+    let es = c.self.inside.entries in
     let d = c.index.result.now in
     rw (← c.self.view_is)
     (ap (λ (e : Bor Key × Entry g.row.J.Denot). Some (shown e.1)) c.index.ensures
@@ -23,5 +23,5 @@ returns-in-Ok g c =
 
 pub returns-in-Err : goal.returns-in-Err
 returns-in-Err g c =
-    let es = c.self.inside.entries.items in
+    let es = c.self.inside.entries in
     rw (← c.self.view_is) (sym (get_shown (keyed es) c.args.key.now ∙ ap (option_map shown) (gap_find (keyed es) c.args.key.now c.in-Err.field-0 c.in-Err.ensures)))

@@ -8,10 +8,10 @@ use Rattle.version_store.proofs.line.LineEntries.suspect_all.Goals as goal
 
 pub returns : goal.returns
 returns g c =
-    let es = c.self.inside.entries.items in
+    let es = c.self.inside.entries in
     rw (← c.self.view_is) (ap (λ l. line_of (keyed l)) c.mark_all.ensures ∙ ap line_of (keyed_marked es) ∙ line_marked (keyed es))
 
 pub invariant_of-self : goal.invariant_of-self
 invariant_of-self g c =
-    let es = c.self.inside.entries.items in
+    let es = c.self.inside.entries in
     subst Rise (sym (ap (λ l. keyed l) c.mark_all.ensures ∙ keyed_marked es)) (subst T (sym (sorted_map marked (keyed es))) c.self.invariant)

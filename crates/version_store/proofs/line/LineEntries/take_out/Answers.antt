@@ -1,5 +1,4 @@
-use Rattle.std.proofs.Common.{◌≡◌, ◌<◌, Option, Some, None, ap, sym, subst, ◌∙◌}
-use Rattle.std.specs.Prelude.{IsSome, OnSome}
+use Rattle.std.proofs.Common.{◌≡◌, ap, arith, sym, subst, ◌∙◌}
 use Rattle.std.specs.FinMap.Entries.{is_sorted-where_key, where_key}
 use Rattle.circ_records.specs.Keys.{key_cmp}
 use Rattle.version_store.specs.Entries.{keyed, line_of}
@@ -9,34 +8,24 @@ use Rattle.version_store.proofs.Positions.{at_out, gap_out, others}
 use Rattle.version_store.proofs.Views.{line_out}
 use Rattle.version_store.proofs.line.LineEntries.take_out.Goals as goal
 
-if_some : {A : Type 0} (P : Type 0) (o : Option A) → IsSome o → OnSome o P → P
-if_some P None h p = cc
-if_some P (Some x) h p = p
+out_here : (g : _) (c : goal.After-remove g) → keyed c.remove.new.self ≡ where_key key_cmp (others c.args.key.now) (keyed c.self.inside.entries)
+out_here g c =
+    let es = c.self.inside.entries in
+    ap (λ l. keyed l) c.remove.ensures
+    ∙ keyed_remove es c.in-Ok.position
+    ∙ at_out (keyed es) c.args.key.now c.in-Ok.position c.self.invariant c.in-Ok.ensures
+
+pub remove-requires : goal.remove-requires
+remove-requires g c = omega (arith, c.in-Ok.ensures.within, keyed_length c.self.inside.entries)
 
 pub invariant_of-self : goal.invariant_of-self
-invariant_of-self g c =
-    let m = c.self.inside.entries in
-    let k = c.args.key.now in
-    let within : c.in-Ok.position < m.len = subst (λ n. c.in-Ok.position < n) (keyed_length m.items ∙ sym m.ok.0) c.in-Ok.ensures.within in
-    let out : keyed c.remove.new.self.items ≡ where_key key_cmp (others k) (keyed m.items) =
-    ap (λ l. keyed l) (if_some _ c.remove.result (c.remove.ensures.variant.1 within) c.remove.ensures.items)
-    ∙ keyed_remove m.items c.in-Ok.position
-    ∙ at_out (keyed m.items) k c.in-Ok.position c.self.invariant c.in-Ok.ensures in
-    subst Rise (sym out) (is_sorted-where_key key_cmp (others k) (keyed m.items) c.self.invariant)
+invariant_of-self g c = subst Rise (sym (out_here g c)) (is_sorted-where_key key_cmp (others c.args.key.now) (keyed c.self.inside.entries) c.self.invariant)
 
 pub returns-in-Ok : goal.returns-in-Ok
-returns-in-Ok g c =
-    let m = c.self.inside.entries in
-    let k = c.args.key.now in
-    let within : c.in-Ok.position < m.len = subst (λ n. c.in-Ok.position < n) (keyed_length m.items ∙ sym m.ok.0) c.in-Ok.ensures.within in
-    let out : keyed c.remove.new.self.items ≡ where_key key_cmp (others k) (keyed m.items) =
-    ap (λ l. keyed l) (if_some _ c.remove.result (c.remove.ensures.variant.1 within) c.remove.ensures.items)
-    ∙ keyed_remove m.items c.in-Ok.position
-    ∙ at_out (keyed m.items) k c.in-Ok.position c.self.invariant c.in-Ok.ensures in
-    rw (← c.self.view_is) (ap line_of out ∙ line_out (keyed m.items) k)
+returns-in-Ok g c = rw (← c.self.view_is) (ap line_of (out_here g c) ∙ line_out (keyed c.self.inside.entries) c.args.key.now)
 
 pub returns-in_default : goal.returns-in_default
 returns-in_default g c =
-    let es = keyed c.self.inside.entries.items in
+    let es = keyed c.self.inside.entries in
     let k = c.args.key.now in
     rw (← c.self.view_is) (ap line_of (sym (gap_out es k c.in_default.field-0 c.in_default.ensures)) ∙ line_out es k)

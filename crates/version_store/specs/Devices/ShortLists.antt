@@ -1,0 +1,10 @@
+-- A device of proofs: the list that a short list is.
+use Rattle.std.specs.Prelude.{List, [], ◌∷◌}
+use Rattle.version_store.specs.declared.short.Held.{Held}
+use Rattle.version_store.specs.declared.short.Held.TheVariants.{Nothing, One, Two, Many}
+
+abbrev pub listed : {T : Type 0} → Held T → List T
+listed Nothing = []
+listed (One first) = first ∷ []
+listed (Two first second) = first ∷ second ∷ []
+listed (Many many) = many.items

@@ -48,7 +48,7 @@ loop-batch-preserved g c =
     let before = c.loop-batch.invariant in
     let made = c.in_ok-whole-2.ensures all told (omega arith) before.heads before.told (subst (λ ps. AreParts told all ps) (sym items) parts.1) in
     let many : length c.in_ok-parts-2.field-0.items ≡ n = ap length items ∙ parts.0 in
-    let same : take ((told + length c.in_ok-parts-2.field-0.items) * 4096) all ≡ take ((c.loop-batch.batch + 1) * 16 * 4096) all = taken-same all _ _ (elim (cases_lt (told + 64) (length lines / 4096 + 1)) [
+    let same : take ((told + length c.in_ok-parts-2.field-0.items) * 4096) all ≡ take ((c.loop-batch.batch + 1) * 16 * 4096) all = taken-same all _ _ (elim (cases_lt (told + 16) (length lines / 4096 + 1)) [
       | inl full ↦ inl (omega (arith, many, full, c.min.ensures))
       | inr last ↦ inr (omega (arith, many, last, few, c.min.ensures), omega (arith, few, last))
     ]) in

@@ -1,5 +1,5 @@
 -- How a line lies in memory: its three texts one behind the other, with a comma between.
-use Rattle.std.specs.Prelude.{◌≤◌, ◌+◌, ◌++◌, ◌∷◌, ℕ, List, length, take, drop}
+use Rattle.std.specs.Prelude.{◌≡◌, ◌≤◌, ◌+◌, ◌++◌, ◌∷◌, ℕ, List, length, take, drop}
 use Rattle.std.specs.Int.{IsInRange}
 use Rattle.sip_reader.specs.Texts.{line_number_max}
 use Rattle.journal_table.specs.Entry.{Entry}
@@ -17,18 +17,32 @@ joined connection request response = connection ++ comma ∷ (request ++ comma �
 
 -- in the journal's own bytes, or in a copy
 abbrev pub text_of : Texts → List ℕ
-text_of (Lent bytes) = bytes.now
-text_of (Own bytes) = bytes.items
+text_of (Lent connection request bytes) = bytes.now
+text_of (Own own) = own.value.bytes.items
+
+abbrev pub connection_len : Texts → ℕ
+connection_len (Lent connection request bytes) = connection
+connection_len (Own own) = own.value.connection_len
+
+abbrev pub request_len : Texts → ℕ
+request_len (Lent connection request bytes) = request
+request_len (Own own) = own.value.request_len
+
+-- where these three texts stand
+pub record AreTexts (texts : Texts) (connection request response : List ℕ) : Type 0 where
+  pub joins : text_of texts ≡ joined connection request response
+  pub first : connection_len texts ≡ length connection
+  pub second : request_len texts ≡ length request
 
 abbrev pub entry_of : Inside → Entry
 entry_of l = record {
   number = l.number;
-  connection = take l.connection_len (text_of l.texts);
-  request = take l.request_len (drop (l.connection_len + 1) (text_of l.texts));
-  response = drop (l.connection_len + 1 + l.request_len + 1) (text_of l.texts);
+  connection = take (connection_len l.texts) (text_of l.texts);
+  request = take (request_len l.texts) (drop (connection_len l.texts + 1) (text_of l.texts));
+  response = drop (connection_len l.texts + 1 + request_len l.texts + 1) (text_of l.texts);
 }
 
 -- the texts lie one behind the other; rules number and connection: a number from 1 to 9,999,999,999, a connection of at most 64 bytes
 abbrev pub IsLaidOut : Inside → Type 0
 IsLaidOut l =
-    (l.connection_len + 1 + l.request_len + 1 ≤ length (text_of l.texts)) × IsInRange 1 line_number_max l.number × (l.connection_len ≤ CONNECTION_LIMIT)
+    (connection_len l.texts + 1 + request_len l.texts + 1 ≤ length (text_of l.texts)) × IsInRange 1 line_number_max l.number × (connection_len l.texts ≤ CONNECTION_LIMIT)

@@ -6,7 +6,7 @@ ghost use Rattle.csv.specs.Records.{fields_of};
 ghost use Rattle.sip_reader.specs.Texts.{line_number_max};
 ghost use Rattle.journal_table.specs.Journal.{Gives, line_at};
 ghost use Rattle.journal_table.specs.Journal as Journal;
-ghost use Rattle.journal_table.specs.Layout.{joined, text_of};
+ghost use Rattle.journal_table.specs.Layout.{AreTexts, connection_len, joined, request_len, text_of};
 ghost use Rattle.journal_table.specs.declared.TheConstants.{CONNECTION_LIMIT};
 
 use crate::error::{JournalError, JournalRule};
@@ -23,8 +23,6 @@ use std::marker::Model;
 pub struct Line<'t> {
     number: u64,
     texts: Texts<'t>,
-    connection_len: usize,
-    request_len: usize,
 }
 
 impl Drop for Line<'_> {
@@ -32,26 +30,50 @@ impl Drop for Line<'_> {
         let Line {
             number: _,
             texts: _,
-            connection_len: _,
-            request_len: _,
         } = self;
     }
 }
 
-/// Where the three texts of a line stand, with a comma between.
+/// Where the three texts of a line stand, with a comma between, and how long the first two are. Lines stay until the run ends,
+/// and nearly all are lent: so the lengths of these are kept in few bytes.
 enum Texts<'t> {
     /// In the bytes of the journal.
-    Lent(&'t [u8]),
+    Lent {
+        connection_len: u8,
+        request_len: u32,
+        bytes: &'t [u8],
+    },
     /// In memory of their own.
-    Own(Vec<u8>),
+    Own(Box<OwnTexts>),
 }
 
 impl Drop for Texts<'_> {
     fn drop(self) {
         match self {
-            Texts::Lent(_) => {}
+            Texts::Lent {
+                connection_len: _,
+                request_len: _,
+                bytes: _,
+            } => {}
             Texts::Own(_) => {}
         }
+    }
+}
+
+/// The three texts of a line in memory of their own, and how long the first two are.
+struct OwnTexts {
+    connection_len: usize,
+    request_len: usize,
+    bytes: Vec<u8>,
+}
+
+impl Drop for OwnTexts {
+    fn drop(self) {
+        let OwnTexts {
+            connection_len: _,
+            request_len: _,
+            bytes: _,
+        } = self;
     }
 }
 
@@ -68,7 +90,7 @@ impl<'t> Model for Line<'t> {
 }
 
 impl<'t> Texts<'t> {
-    /// The texts of the next row.
+    /// The texts of the next row. They are lent where they stand in the journal and are of a usual length.
     fn of(
         alloc: Global,
         rows: &mut RowTexts<'t>,
@@ -77,11 +99,18 @@ impl<'t> Texts<'t> {
         request: &[u8],
         response: &[u8],
     ) -> Result<Texts<'t>, AllocError>
-        ensures { IfOk result (λ texts. text_of texts ≡ joined connection.now request.now response.now) }
+        ensures { IfOk result (λ texts. AreTexts texts connection.now request.now response.now) }
     {
-        match rows.next(number, connection, request, response) {
-            Some(text) => Ok(Texts::Lent(text)),
-            None => Texts::own(alloc, connection, request, response),
+        let Some(bytes) = rows.next(number, connection, request, response) else {
+            return Texts::own(alloc, connection, request, response);
+        };
+        match (u8::try_from(connection.len()), u32::try_from(request.len())) {
+            (Ok(connection_len), Ok(request_len)) => Ok(Texts::Lent {
+                connection_len,
+                request_len,
+                bytes,
+            }),
+            _ => Texts::own(alloc, connection, request, response),
         }
     }
 
@@ -92,34 +121,72 @@ impl<'t> Texts<'t> {
         request: &[u8],
         response: &[u8],
     ) -> Result<Texts<'t>, AllocError>
-        ensures { IfOk result (λ texts. text_of texts ≡ joined connection.now request.now response.now) }
+        ensures { IfOk result (λ texts. AreTexts texts connection.now request.now response.now) }
     {
-        let length = connection
-            .len()
-            .saturating_add(request.len())
-            .saturating_add(response.len())
-            .saturating_add(2);
-        let mut bytes = Vec::with_capacity(alloc, length)?;
-        bytes.extend_from_slice(connection)?;
-        bytes.push(b',')?;
-        bytes.extend_from_slice(request)?;
-        bytes.push(b',')?;
-        bytes.extend_from_slice(response)?;
-        Ok(Texts::Own(bytes))
+        let own = OwnTexts {
+            connection_len: connection.len(),
+            request_len: request.len(),
+            bytes: with_commas(alloc, connection, request, response)?,
+        };
+        match Box::new(alloc, own) {
+            Ok(own) => Ok(Texts::Own(own)),
+            Err(_) => Err(AllocError),
+        }
     }
 
     fn as_bytes(&self) -> &[u8]
         ensures { result.now ≡ text_of self.now }
     {
         match self {
-            Texts::Lent(bytes) => bytes,
-            Texts::Own(bytes) => bytes.as_slice(),
+            Texts::Lent { bytes, .. } => bytes,
+            Texts::Own(own) => own.bytes.as_slice(),
+        }
+    }
+
+    fn connection_len(&self) -> usize
+        ensures { result ≡ connection_len self.now }
+    {
+        match self {
+            Texts::Lent { connection_len, .. } => usize::from(*connection_len),
+            Texts::Own(own) => own.connection_len,
+        }
+    }
+
+    fn request_len(&self) -> usize
+        ensures { result ≡ request_len self.now }
+    {
+        match self {
+            Texts::Lent { request_len, .. } => *request_len as usize,
+            Texts::Own(own) => own.request_len,
         }
     }
 }
 
+/// Three texts one behind the other, with a comma between.
+fn with_commas(
+    alloc: Global,
+    connection: &[u8],
+    request: &[u8],
+    response: &[u8],
+) -> Result<Vec<u8>, AllocError>
+    ensures { IfOk result (λ bytes. bytes.items ≡ joined connection.now request.now response.now) }
+{
+    let length = connection
+        .len()
+        .saturating_add(request.len())
+        .saturating_add(response.len())
+        .saturating_add(2);
+    let mut bytes = Vec::with_capacity(alloc, length)?;
+    bytes.extend_from_slice(connection)?;
+    bytes.push(b',')?;
+    bytes.extend_from_slice(request)?;
+    bytes.push(b',')?;
+    bytes.extend_from_slice(response)?;
+    Ok(bytes)
+}
+
 impl<'t> Line<'t> {
-    /// A line of these texts, whose lengths are known.
+    /// A line of these texts.
     fn new(
         number: u64,
         texts: Texts<'t>,
@@ -129,15 +196,10 @@ impl<'t> Line<'t> {
     ) -> Line<'t>
         requires number { IsInRange 1 line_number_max number }
         requires short { length connection.now ≤ CONNECTION_LIMIT }
-        requires texts { text_of texts ≡ joined connection.now request.now response.now }
+        requires texts { AreTexts texts connection.now request.now response.now }
         ensures { result ≡ record { number = number; connection = connection.now; request = request.now; response = response.now } }
     {
-        Line {
-            number,
-            texts,
-            connection_len: connection.len(),
-            request_len: request.len(),
-        }
+        Line { number, texts }
     }
 
     /// The number, from 1 to 9,999,999,999.
@@ -153,22 +215,24 @@ impl<'t> Line<'t> {
         ensures value { result.now ≡ self.now.connection }
         ensures short { length self.now.connection ≤ CONNECTION_LIMIT }
     {
-        &self.texts.as_bytes()[..self.connection_len]
+        &self.texts.as_bytes()[..self.texts.connection_len()]
     }
 
     /// The request, as it was received.
     pub fn request(&self) -> &[u8]
         ensures { result.now ≡ self.now.request }
     {
-        let begin = self.connection_len + 1;
-        &self.texts.as_bytes()[begin..begin + self.request_len]
+        let bytes = self.texts.as_bytes();
+        let begin = self.texts.connection_len() + 1;
+        &bytes[begin..begin + self.texts.request_len()]
     }
 
     /// The response that was recorded, of any length.
     pub fn response(&self) -> &[u8]
         ensures { result.now ≡ self.now.response }
     {
-        &self.texts.as_bytes()[self.connection_len + 1 + self.request_len + 1..]
+        let bytes = self.texts.as_bytes();
+        &bytes[self.texts.connection_len() + 1 + self.texts.request_len() + 1..]
     }
 }
 

@@ -55,7 +55,7 @@ pub fn report(
 }
 
 /// So many stretches are told side by side and then joined: enough for all cores, and their texts are few beside the whole.
-const BATCH: usize = 64;
+const BATCH: usize = 16;
 
 /// The same, written by as many threads as there are processors, a stretch of lines at a time.
 pub fn report_parallel(

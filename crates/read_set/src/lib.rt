@@ -10,6 +10,7 @@ mod laws;
 mod notes;
 mod noting;
 mod plan;
+mod positions;
 mod progress;
 mod sorted;
 mod source;

@@ -5,9 +5,9 @@ ghost use Rattle.std.specs.Option.{option_copied};
 ghost use Rattle.read_set.specs.Notes.{note_of, IsOnceEach};
 ghost use Rattle.read_set.specs.Devices.Positions.{few};
 
+use crate::positions::Positions;
 use circ_records::{KeptKey, Key, Record};
 use std::alloc::{AllocError, Global};
-use std::collections::BTreeMap;
 use std::marker::Model;
 
 /// Whose record it is: the base's, or that of an attempt at a line. The attempt stands first, so that it shares a word with
@@ -69,7 +69,7 @@ const USUAL: usize = 2;
 pub struct Notes {
     entries: Vec<Note>,
     /// Where the note of each key stands that isn't among the first few.
-    positions: BTreeMap<Key, usize>,
+    positions: Positions,
 }
 
 impl Drop for Notes {
@@ -91,7 +91,7 @@ impl Model for Notes {
 
     ghost view = { λ n. n.entries.items };
 
-    ghost invariant = { λ n. AreKept n.entries.items n.positions.entries };
+    ghost invariant = { λ n. AreKept n.entries.items n.positions };
 }
 
 impl Notes {
@@ -101,7 +101,7 @@ impl Notes {
     {
         Notes {
             entries: Vec::new(alloc),
-            positions: BTreeMap::new(alloc),
+            positions: Positions::new(),
         }
     }
 
@@ -116,13 +116,14 @@ impl Notes {
             push_among_few(&mut self.entries, note)?;
             return Ok(());
         }
+        let alloc = *self.entries.allocator();
         let key = note.key.key();
         self.entries.push(note)?;
-        match self.positions.insert(key, position) {
-            Ok(_) => Ok(()),
-            Err(_) => {
+        match self.positions.insert(alloc, key, position) {
+            Ok(()) => Ok(()),
+            Err(refused) => {
                 self.entries.pop();
-                Err(AllocError)
+                Err(refused)
             }
         }
     }
@@ -132,7 +133,7 @@ impl Notes {
         ensures { option_copied result ≡ note_of self.now key.now }
     {
         match self.positions.get(key) {
-            Some(position) => self.entries.get(*position),
+            Some(position) => self.entries.get(position),
             None => note_among(first_few(&self.entries), key),
         }
     }

@@ -14,7 +14,7 @@ invariant_of-self-then-position-lt-FEW c =
     let end : c.len-position.result ≡ length notes = search rules in
     let short : length notes < 8 = omega (arith, end, c.if-position-lt-FEW.true) in
     rw c.in_ok-push_among_few.ensures.ok
-    (kept-few notes c.args.note c.self.inside.positions.entries c.self.invariant fresh short)
+    (kept-few notes c.args.note c.self.inside.positions c.self.invariant fresh short)
 
 pub invariant_of-self-in-Ok : goal.invariant_of-self-in-Ok
 invariant_of-self-in-Ok c =
@@ -23,5 +23,5 @@ invariant_of-self-in-Ok c =
     let end : c.len-position.result ≡ length notes = search rules in
     let long : 8 ≤ length notes = omega (arith, end, c.if-position-lt-FEW.false) in
     rw c.in_ok-push.ensures.items
-    (kept-more notes c.args.note c.self.inside.positions.entries c.insert.new.self.entries c.self.invariant fresh long
-    (λ k. rw (← c.key-key.ensures) (c.in-Ok.ensures.updates.0 k) ∙ ap (λ n. cond (is_at (key_cmp c.args.note.key) k) (Some n) (lookup (is_at (key_cmp k)) c.self.inside.positions.entries)) end))
+    (kept-more notes c.args.note c.self.inside.positions c.insert.new.self c.self.invariant fresh long
+    (λ k. rw (← c.key-key.ensures) (c.in-Ok.ensures.ok k) ∙ ap (λ n. cond (is_at (key_cmp c.args.note.key) k) (Some n) (lookup (is_at (key_cmp k)) c.self.inside.positions)) end))

@@ -10,7 +10,7 @@ ghost use Rattle.read_set.specs.Devices.Drafts.{Rise, entries_in};
 ghost use Rattle.read_set.specs.Effects.{unwritten};
 
 use crate::sorted::{copied, found_in, map_of, put_in, put_over};
-use circ_records::{Key, Record};
+use circ_records::{KeptKey, Key, Record};
 use sip_answer::Answer;
 use std::alloc::{AllocError, Global};
 use std::collections::BTreeMap;
@@ -33,9 +33,10 @@ impl Drop for Draft {
     }
 }
 
-/// A few records are a list, rising by key. More are a map, so that each costs little however many are there before it.
+/// A few records are a list, rising by key, with kept keys. More are a map, so that each costs little however many are there
+/// before it.
 enum Kept {
-    Few(Vec<(Key, Record)>),
+    Few(Vec<(KeptKey, Record)>),
     Many(BTreeMap<Key, Record>),
 }
 
@@ -139,15 +140,16 @@ fn listed(alloc: Global, map: BTreeMap<Key, Record>) -> Result<Writes, AllocErro
     ensures { IfOk result (λ w. w ≡ map.entries) }
 {
     let mut entries = Vec::with_capacity(alloc, map.len())?;
-    for entry in map {
-        entries.push(entry)?;
+    for (key, record) in map {
+        entries.push((KeptKey::new(alloc, &key)?, record))?;
     }
     Ok(Writes { entries })
 }
 
-/// The records that a line writes, each under its key, in the order of keys.
+/// The records that a line writes, each under its key, in the order of keys. The keys are kept ones: versions stay until the
+/// run ends.
 pub struct Writes {
-    entries: Vec<(Key, Record)>,
+    entries: Vec<(KeptKey, Record)>,
 }
 
 impl Drop for Writes {
@@ -185,12 +187,13 @@ impl Writes {
         ensures { IfOk result (λ w. w ≡ (key, written) ∷ []) }
     {
         let mut entries = Vec::with_capacity(alloc, 1)?;
-        entries.push((key, written))?;
+        let kept = KeptKey::new(alloc, &key)?;
+        entries.push((kept, written))?;
         Ok(Writes { entries })
     }
 
     /// The records with their keys, rising.
-    pub fn as_slice(&self) -> &[(Key, Record)]
+    pub fn as_slice(&self) -> &[(KeptKey, Record)]
         ensures writes { result.now ≡ self.now }
         ensures rising { IsStrictlySortedBy key_cmp (map (λ e. e.0) self.now) }
     {
@@ -205,7 +208,7 @@ impl Writes {
     }
 
     /// The records with their keys, rising, given away.
-    pub fn into_vec(self) -> Vec<(Key, Record)>
+    pub fn into_vec(self) -> Vec<(KeptKey, Record)>
         ensures { result.items ≡ self }
     {
         let Writes { entries } = self;

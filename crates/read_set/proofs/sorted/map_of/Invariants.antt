@@ -1,8 +1,8 @@
 use Rattle.std.proofs.Common.{◌≡◌, ◌++◌, length}
 use Rattle.read_set.proofs.sorted.map_of.Given as goal
 
-abbrev pub invariant-loop-key : goal.invariant-loop-key
-invariant-loop-key l = l.left.items ++ l.map.entries ≡ l.fn.entries.items
+abbrev pub invariant-loop-kept : goal.invariant-loop-kept
+invariant-loop-kept l = l.left.items ++ l.map.entries ≡ l.fn.entries.items
 
-abbrev pub decreases-loop-key : goal.decreases-loop-key
-decreases-loop-key l = length l.left.items
+abbrev pub decreases-loop-kept : goal.decreases-loop-kept
+decreases-loop-kept l = length l.left.items

@@ -1,4 +1,4 @@
-use Rattle.std.proofs.Common.{◌≡◌, ◌∙◌, ap, arith, length, rules, subst, sym}
+use Rattle.std.proofs.Common.{ap, arith, length, rules, subst, sym}
 use Rattle.read_set.specs.Devices.Drafts.{Rise}
 use Rattle.read_set.proofs.Drafting.{inserted, replaced, rises-more}
 use Rattle.read_set.proofs.sorted.put_in.Goals as goal
@@ -16,15 +16,18 @@ insert-requires c =
     omega (arith, within, long, c.as_slice.ensures.len)
 
 pub returns-in-Ok-clause-ok : goal.returns-in-Ok-clause-ok
-returns-in-Ok-clause-ok c = (replaced c.args.entries.now.items c.args.key c.args.written c.in-Ok.position (search rules)).1
+returns-in-Ok-clause-ok c = rw c.in_ok-kept.ensures (replaced c.args.entries.now.items c.args.key c.args.written c.in-Ok.position (search rules)).1
 
 pub returns-in-Ok-clause-rising : goal.returns-in-Ok-clause-rising
 returns-in-Ok-clause-rising c =
-    subst Rise (sym (replaced c.args.entries.now.items c.args.key c.args.written c.in-Ok.position (search rules)).1) (rises-more c.args.entries.now.items c.args.key c.args.written c.requires)
+    rw c.in_ok-kept.ensures
+    (subst Rise (sym (replaced c.args.entries.now.items c.args.key c.args.written c.in-Ok.position (search rules)).1) (rises-more c.args.entries.now.items c.args.key c.args.written c.requires))
 
 pub returns-in_ok-insert-in-Err-clause-ok : goal.returns-in_ok-insert-in-Err-clause-ok
-returns-in_ok-insert-in-Err-clause-ok c = c.in_ok-insert-in-Err.ensures.items ∙ (inserted c.args.entries.now.items c.args.key c.args.written c.in-Err.position (search rules)).1
+returns-in_ok-insert-in-Err-clause-ok c =
+    rw (c.in_ok-insert-in-Err.ensures.items, c.in_ok-kept.ensures) (inserted c.args.entries.now.items c.args.key c.args.written c.in-Err.position (search rules)).1
 
 pub returns-in_ok-insert-in-Err-clause-rising : goal.returns-in_ok-insert-in-Err-clause-rising
 returns-in_ok-insert-in-Err-clause-rising c =
-    subst Rise (sym (c.in_ok-insert-in-Err.ensures.items ∙ (inserted c.args.entries.now.items c.args.key c.args.written c.in-Err.position (search rules)).1)) (rises-more c.args.entries.now.items c.args.key c.args.written c.requires)
+    rw (c.in_ok-insert-in-Err.ensures.items, c.in_ok-kept.ensures)
+    (subst Rise (sym (inserted c.args.entries.now.items c.args.key c.args.written c.in-Err.position (search rules)).1) (rises-more c.args.entries.now.items c.args.key c.args.written c.requires))

@@ -29,7 +29,7 @@ use crate::reply::Reply;
 use crate::row::{Course, Row};
 use crate::same::same_notes;
 use attempts::{AttemptTable, Counts, LineState};
-use circ_records::Key;
+use circ_records::{KeptKey, Key};
 use read_set::{Name, Plan, PlanName};
 use std::alloc::{AllocError, Global};
 use std::marker::Model;
@@ -458,7 +458,7 @@ impl<'p, 't, J: PlanName> Lines<'p, 't, J> {
             return Reply::ClockSpent;
         }
         if let Act::Lift(key) = act {
-            self.lift(worker, line, key, place);
+            self.lift(worker, line, &key.key(), place);
             return Reply::Lifted;
         }
         let Act::Write(key, count) = act else {
@@ -555,7 +555,7 @@ impl<'p, 't, J: PlanName> Lines<'p, 't, J> {
         &mut self,
         worker: u32,
         line: u64,
-        key: &'t Key,
+        key: &'t KeptKey,
         place: Place<'t, J>,
         count: usize,
     ) -> Result<(), AllocError>

@@ -12,7 +12,7 @@ ghost use Rattle.board_lines.specs.Notes.{contents_at};
 
 use crate::hand::Hand;
 use attempts::LineState;
-use circ_records::{Key, Record};
+use circ_records::{KeptKey, Record};
 use read_set::{PlanName, Version};
 use version_store::{EntryStore, Place};
 
@@ -20,9 +20,9 @@ use version_store::{EntryStore, Place};
 #[derive(Clone, Copy)]
 pub(crate) enum Act<'t> {
     /// It places the write at this key, which stands in the version. After it so many of the first writes are placed.
-    Write(&'t Key, usize),
+    Write(&'t KeptKey, usize),
     /// It takes away the entry at this key, which an earlier attempt left.
-    Lift(&'t Key),
+    Lift(&'t KeptKey),
     /// Nothing: all is published.
     Finish,
 }
@@ -92,7 +92,7 @@ fn next_write<J: PlanName>(
     entries: &EntryStore<'_, J>,
     line: u64,
     attempt: u32,
-    writes: &[(Key, Record)],
+    writes: &[(KeptKey, Record)],
     placed: usize,
 ) -> Option<usize>
     requires { FirstPlaced (line_at entries.now line) attempt writes.now placed }
@@ -107,10 +107,15 @@ fn next_write<J: PlanName>(
 }
 
 /// Whether a line's entry at a key is of an attempt.
-fn is_placed<J: PlanName>(entries: &EntryStore<'_, J>, line: u64, attempt: u32, key: &Key) -> bool
+fn is_placed<J: PlanName>(
+    entries: &EntryStore<'_, J>,
+    line: u64,
+    attempt: u32,
+    key: &KeptKey,
+) -> bool
     ensures { Decides result (IsPlacedAt (line_at entries.now line) attempt key.now) }
 {
-    match entries.attempt_at(line, key) {
+    match entries.attempt_at(line, &key.key()) {
         Some(own) => own == attempt,
         None => false,
     }

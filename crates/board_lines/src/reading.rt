@@ -15,11 +15,11 @@ use std::alloc::{AllocError, Global};
 use version_store::Place;
 
 /// The record that is written at a key.
-pub fn written<'w>(writes: &'w [(Key, Record)], key: &Key) -> Option<&'w Record>
+pub fn written<'w>(writes: &'w [(KeptKey, Record)], key: &Key) -> Option<&'w Record>
     requires { IsStrictlySortedBy key_cmp (map (λ e. e.0) writes.now) }
     ensures { option_copied result ≡ record_at writes.now key.now }
 {
-    let Ok(place) = writes.binary_search_by(|write| write.0.cmp(key)) else {
+    let Ok(place) = writes.binary_search_by(|write| write.0.key().cmp(key)) else {
         return None;
     };
     Some(&writes[place].1)

@@ -46,8 +46,8 @@ impl Live {
         ensures { OnOk result ((k : Key) → standing self.new k ≡ put writes (standing self.old) k) }
     {
         let mut left = writes.into_vec();
-        while let Some((key, written)) = left.pop() {
-            self.write(key, written)?;
+        while let Some((kept, written)) = left.pop() {
+            self.write(kept.key(), written)?;
         }
         Ok(())
     }

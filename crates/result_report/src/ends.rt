@@ -10,7 +10,7 @@ ghost use Rattle.result_report.specs.Ends.{AreRecordsAt, HasAt, keys_named, line
 ghost use Rattle.result_report.specs.Report.{answers_behind};
 
 use crate::outcome::Outcome;
-use circ_records::{Key, Record, Records};
+use circ_records::{KeptKey, Key, Record, Records};
 use read_set::Plan;
 use sip_answer::Answer;
 use std::alloc::{AllocError, Global};
@@ -47,7 +47,7 @@ pub trait End<'e> {
         ensures { result ≡ attempted self.now line };
 
     /// The i-th key, from 0, of the records that a line wrote, with the attempt that wrote it; none past the last.
-    fn keys_of(&self, line: u64, i: usize) -> Option<(&Key, u32)>
+    fn keys_of(&self, line: u64, i: usize) -> Option<(&KeptKey, u32)>
         ensures value { option_map (λ e. (e.0.now, e.1)) result ≡ slice_get (entered self.now line) i }
         ensures few { length (entered self.now line) < 2 ^ 64 };
 
@@ -147,7 +147,7 @@ fn take_entries<'e, E: End<'e>>(
 {
     let mut i = 0;
     while let Some(entry) = end.keys_of(line, i) {
-        take_record(end, entry.0, records)?;
+        take_record(end, &entry.0.key(), records)?;
         i += 1;
     }
     Ok(())

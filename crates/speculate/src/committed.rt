@@ -8,7 +8,7 @@ ghost use Rattle.board_steps.specs.Board.{IsCommitted, row_at, value_at};
 ghost use Rattle.version_store.specs.Entries.{IsNamedAt};
 
 use crate::board::Board;
-use circ_records::{Key, Record};
+use circ_records::{KeptKey, Key, Record};
 use read_set::PlanName;
 use sip_answer::Answer;
 
@@ -29,7 +29,7 @@ impl<'p, 't, J: PlanName> Board<'p, 't, J> {
     }
 
     /// The i-th key, from 0 and rising, at which a line has an entry, and the attempt of that entry; None past the last.
-    pub(crate) fn keys_of(&self, line: u64, i: usize) -> Option<(&Key, u32)>
+    pub(crate) fn keys_of(&self, line: u64, i: usize) -> Option<(&KeptKey, u32)>
         ensures value { IsNamedAt (slice_get (fin.entries (row_at self.now line).entries) i) result }
         ensures few { length (fin.entries (row_at self.now line).entries) < 2 ^ 64 }
     {

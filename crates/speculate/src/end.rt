@@ -1,7 +1,7 @@
 //! A board on which all lines are committed, as the end of a run.
 
 use crate::finished::Finished;
-use circ_records::{Key, Record};
+use circ_records::{KeptKey, Key, Record};
 use read_set::{Plan, PlanName};
 use result_report::End;
 use sip_answer::Answer;
@@ -40,7 +40,7 @@ impl<'t, J: PlanName> End<'t> for Finished<'_, 't, J> {
         Finished::attempt(self, line)
     }
 
-    fn keys_of(&self, line: u64, i: usize) -> Option<(&Key, u32)> {
+    fn keys_of(&self, line: u64, i: usize) -> Option<(&KeptKey, u32)> {
         Finished::keys_of(self, line, i)
     }
 

@@ -9,7 +9,7 @@ ghost use Rattle.speculate.specs.Finishing.{IsWhole};
 ghost use Rattle.version_store.specs.Entries.{IsNamedAt};
 
 use crate::board::Board;
-use circ_records::{Key, Record};
+use circ_records::{KeptKey, Key, Record};
 use read_set::{Plan, PlanName};
 use sip_answer::Answer;
 use std::marker::Model;
@@ -102,7 +102,7 @@ impl<'p, 't, J: PlanName> Finished<'p, 't, J> {
     }
 
     /// The i-th key, from 0 and rising, at which a line left a record, and the attempt that left it; None past the last.
-    pub fn keys_of(&self, line: u64, i: usize) -> Option<(&Key, u32)>
+    pub fn keys_of(&self, line: u64, i: usize) -> Option<(&KeptKey, u32)>
         ensures value { IsNamedAt (slice_get (fin.entries (row_at self.now line).entries) i) result }
         ensures few { length (fin.entries (row_at self.now line).entries) < 2 ^ 64 }
     {

@@ -5,7 +5,7 @@ ghost use Rattle.version_store.specs.Entries.{IsLine};
 mod agreement;
 mod plain;
 
-use circ_records::Key;
+use circ_records::{KeptKey, Key};
 use read_set::{Name, Notes, PlanName, Version, Writes};
 use sip_reader::Id;
 use std::alloc::AllocError;
@@ -24,6 +24,11 @@ fn key(rt: &impl Abort, number: u32) -> Key {
         3 => Key::Patron(id),
         _ => Key::Fee(id),
     }
+}
+
+/// One of the five, kept.
+fn kept_key<R: AllocGlobal + Abort>(rt: &R, number: u32) -> Result<KeptKey, AllocError> {
+    KeptKey::new(rt.alloc(), &key(rt, number))
 }
 
 /// A version of a line that a plan of nothing lacks: it reads, writes and answers nothing.
@@ -51,8 +56,8 @@ fn made(line: u64, attempt: u32) -> Found {
 fn place_first<'t, J: PlanName, R: Wait + AllocGlobal + Abort>(
     rt: &R,
     table: &'t VersionTable<J>,
-    item: &'t Key,
-    patron: &'t Key,
+    item: &'t KeptKey,
+    patron: &'t KeptKey,
     store: &mut EntryStore<'t, J>,
 ) -> Result<Place<'t, J>, AllocError>
     requires named { J.plan ≡ no_plan }
@@ -62,10 +67,11 @@ fn place_first<'t, J: PlanName, R: Wait + AllocGlobal + Abort>(
     let first = put_version(rt, table, 8, 0)?;
     store.place(rt.alloc(), 8, 0, item, first)?;
     store.place(rt.alloc(), 8, 0, patron, first)?;
-    assert!(rt; store.name(item, 8) == Found::Named(Name::Base));
-    assert!(rt; store.name(item, 9) == made(8, 0) && store.name(patron, 10) == made(8, 0));
+    let (item, patron) = (item.key(), patron.key());
+    assert!(rt; store.name(&item, 8) == Found::Named(Name::Base));
+    assert!(rt; store.name(&item, 9) == made(8, 0) && store.name(&patron, 10) == made(8, 0));
     store.suspect_all(8);
-    assert!(rt; store.name(patron, 9) == Found::Suspect { line: 8 });
+    assert!(rt; store.name(&patron, 9) == Found::Suspect { line: 8 });
     Ok(first)
 }
 
@@ -73,7 +79,7 @@ fn place_first<'t, J: PlanName, R: Wait + AllocGlobal + Abort>(
 fn place_again<'t, J: PlanName, R: Wait + AllocGlobal + Abort>(
     rt: &R,
     table: &'t VersionTable<J>,
-    item: &'t Key,
+    item: &'t KeptKey,
     patron: &Key,
     store: &mut EntryStore<'t, J>,
 ) -> Result<(), AllocError>
@@ -83,10 +89,11 @@ fn place_again<'t, J: PlanName, R: Wait + AllocGlobal + Abort>(
 {
     let second = put_version(rt, table, 8, 1)?;
     store.place(rt.alloc(), 8, 1, item, second)?;
-    assert!(rt; store.name(item, 9) == made(8, 1));
+    let item = item.key();
+    assert!(rt; store.name(&item, 9) == made(8, 1));
     assert!(rt; store.name(patron, 9) == Found::Suspect { line: 8 });
-    assert!(rt; store.attempt_at(8, item) == Some(1) && store.attempt_at(8, patron) == Some(0));
-    assert!(rt; is_key(store.left(8, 1), patron) && is_key(store.left(8, 0), item));
+    assert!(rt; store.attempt_at(8, &item) == Some(1) && store.attempt_at(8, patron) == Some(0));
+    assert!(rt; is_key(store.left(8, 1), patron) && is_key(store.left(8, 0), &item));
     Ok(())
 }
 
@@ -107,23 +114,23 @@ fn lift_left<J: PlanName>(rt: &impl Abort, store: &mut EntryStore<'_, J>)
 fn two_attempts<'t, J: PlanName, R: Wait + AllocGlobal + Abort>(
     rt: &R,
     table: &'t VersionTable<J>,
-    item: &'t Key,
-    patron: &'t Key,
+    item: &'t KeptKey,
+    patron: &'t KeptKey,
     store: &mut EntryStore<'t, J>,
 ) -> Result<(), AllocError>
     requires named { J.plan ≡ no_plan }
     requires line { IsLine store.old 8 }
 {
     let first = place_first(rt, table, item, patron, store)?;
-    place_again(rt, table, item, patron, store)?;
+    place_again(rt, table, item, &patron.key(), store)?;
     lift_left(rt, store);
     assert!(rt; first.show().attempt() == 0);
     Ok(())
 }
 
-fn is_key(found: Option<&Key>, key: &Key) -> bool {
+fn is_key(found: Option<&KeptKey>, key: &Key) -> bool {
     match found {
-        Some(found) => found == key,
+        Some(found) => found.is(key),
         None => false,
     }
 }
@@ -139,7 +146,7 @@ fn attempt_of<J: PlanName>(seen: Seen<'_, J>) -> Option<u32> {
 #[test]
 fn two_attempts_at_a_line(rt: HostRuntime) -> Result<(), Fail> {
     let table: VersionTable<Brand> = VersionTable::new(rt.alloc())?;
-    let (item, patron) = (key(&rt, 1), key(&rt, 3));
+    let (item, patron) = (kept_key(&rt, 1)?, kept_key(&rt, 3)?);
     let mut store = EntryStore::new(rt.alloc(), 7, 3)?;
     two_attempts(&rt, &table, &item, &patron, &mut store)?;
     Ok(())

@@ -1,7 +1,7 @@
 //! What is collected of an end that lends other things than a replay comes to.
 
 use crate::library::plan_of;
-use circ_records::{Fee, FeeType, Key, Record, Records};
+use circ_records::{Fee, FeeType, KeptKey, Key, Record, Records};
 use read_set::Plan;
 use result_report::{End, Outcome, collect};
 use sip_answer::Answer;
@@ -13,7 +13,7 @@ use std::test::Fail;
 struct Odd<'p> {
     plan: &'p Plan,
     answer: &'p Answer,
-    keys: Vec<(Key, u32)>,
+    keys: Vec<(KeptKey, u32)>,
     found: Record,
 }
 
@@ -53,7 +53,7 @@ impl<'p> End<'p> for Odd<'p> {
         7
     }
 
-    fn keys_of(&self, _line: u64, i: usize) -> Option<(&Key, u32)> {
+    fn keys_of(&self, _line: u64, i: usize) -> Option<(&KeptKey, u32)> {
         let entry = self.keys.get(i)?;
         Some((&entry.0, entry.1))
     }
@@ -88,7 +88,7 @@ fn odd_end<'p>(
     Ok(Some(Odd {
         plan,
         answer,
-        keys: vec![in alloc; (key, 4u32); 2]?,
+        keys: vec![in alloc; (KeptKey::new(alloc, &key)?, 4u32); 2]?,
         found: Record::fee(alloc, fee)?,
     }))
 }

@@ -8,7 +8,7 @@ use crate::entry::{Entry, Found, Seen};
 use crate::index::KeyIndex;
 use crate::line::LineEntries;
 use crate::table::Place;
-use circ_records::Key;
+use circ_records::{KeptKey, Key};
 use read_set::{Name, PlanName};
 use std::alloc::{AllocError, Global};
 use std::marker::Model;
@@ -104,7 +104,7 @@ impl<'t, J: PlanName> EntryStore<'t, J> {
     }
 
     /// The i-th key, from 0 and rising, at which a line has an entry, and the attempt of that entry; None past the last.
-    pub fn keys_of(&self, line: u64, i: usize) -> Option<(&Key, u32)>
+    pub fn keys_of(&self, line: u64, i: usize) -> Option<(&KeptKey, u32)>
         ensures value { IsNamedAt (slice_get (fin.entries (line_at self.now line)) i) result }
         ensures few { length (fin.entries (line_at self.now line)) < 2 ^ 64 }
     {
@@ -125,7 +125,7 @@ impl<'t, J: PlanName> EntryStore<'t, J> {
     }
 
     /// The least key at which a line has an entry of another attempt; None where it has none.
-    pub fn left(&self, line: u64, attempt: u32) -> Option<&'t Key>
+    pub fn left(&self, line: u64, attempt: u32) -> Option<&'t KeptKey>
         ensures { MatchOption result (AllOf (line_at self.now line) attempt) (λ k. IsLeastLeft (line_at self.now line) attempt k.now) }
     {
         let Some(position) = self.position(line) else {
@@ -141,7 +141,7 @@ impl<'t, J: PlanName> EntryStore<'t, J> {
         alloc: Global,
         line: u64,
         attempt: u32,
-        key: &'t Key,
+        key: &'t KeptKey,
         place: Place<'t, J>,
     ) -> Result<(), AllocError>
         requires { IsLine self.old line }
@@ -153,14 +153,15 @@ impl<'t, J: PlanName> EntryStore<'t, J> {
             suspect: false,
             place,
         };
-        let Ok(()) = self.index.set(alloc, key, line) else {
+        let at = key.key();
+        let Ok(()) = self.index.set(alloc, &at, line) else {
             return Err(AllocError);
         };
         let row = &mut self.lines[(line - self.first) as usize];
         match row.put(key, made) {
             Ok(()) => Ok(()),
             Err(refused) => {
-                self.index.clear(key, line);
+                self.index.clear(&at, line);
                 Err(refused)
             }
         }

@@ -97,10 +97,11 @@ fn tell_left<J: PlanName>(
     line: u64,
 ) -> Result<(), AllocError> {
     for i in 0..MANY {
-        if let Some((key, attempt)) = finished.keys_of(line, i) {
+        if let Some((kept, attempt)) = finished.keys_of(line, i) {
             write!(text, "{line}.{attempt} ")?;
-            if let Some(record) = finished.final_of(key) {
-                tell_record(text, key, record)?;
+            let key = kept.key();
+            if let Some(record) = finished.final_of(&key) {
+                tell_record(text, &key, record)?;
             }
             text.push('\n')?;
         }

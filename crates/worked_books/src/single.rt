@@ -156,15 +156,15 @@ fn tell_want(wants: &mut String, key: &Key) -> Result<(), AllocError> {
 fn told(
     alloc: Global,
     answer: &Option<Answer>,
-    writes: &[(Key, Record)],
+    writes: &[(KeptKey, Record)],
 ) -> Result<String, AllocError> {
     let mut out = String::new(alloc);
     if let Some(answer) = answer {
         let text = write_answer(alloc, answer, None)?;
         writeln!(out, "{}", from_utf8(text.as_slice()).unwrap_or("?"))?;
     }
-    for (key, record) in writes {
-        tell(&mut out, key, record)?;
+    for (kept, record) in writes {
+        tell(&mut out, &kept.key(), record)?;
     }
     Ok(out)
 }

@@ -5,8 +5,8 @@ ghost use Rattle.read_set.specs.Plans.{no_plan};
 ghost use Rattle.version_store.specs.Entries.{HasLines};
 
 use super::plain::PlainStore;
-use super::{key, put_version};
-use circ_records::Key;
+use super::{kept_key, key, put_version};
+use circ_records::KeptKey;
 use read_set::{Name, PlanName};
 use std::alloc::AllocError;
 use std::marker::Brand;
@@ -68,7 +68,7 @@ fn agree_at<J: PlanName>(
     assert!(rt; shown == plain.shown_at(&chosen, line));
     let ours = match store.keys_of(line, number as usize) {
         None => None,
-        Some((key, attempt)) => Some((*key, attempt)),
+        Some((kept, attempt)) => Some((kept.key(), attempt)),
     };
     assert!(rt; ours == plain.keys_of(line, number as usize));
 }
@@ -77,7 +77,7 @@ fn agree_at<J: PlanName>(
 fn call<'t, J: PlanName, R: Wait + AllocGlobal + Abort>(
     rt: &R,
     table: &'t VersionTable<J>,
-    keys: &'t [Key; 5],
+    keys: &'t [KeptKey; 5],
     store: &mut EntryStore<'t, J>,
     plain: &mut PlainStore,
     seed: u32,
@@ -94,22 +94,23 @@ fn call<'t, J: PlanName, R: Wait + AllocGlobal + Abort>(
         plain.suspect_all(line);
         return Ok(());
     }
+    let at = chosen.key();
     if choice < 4 {
-        store.lift(line, chosen);
-        plain.lift(line, chosen);
+        store.lift(line, &at);
+        plain.lift(line, &at);
         return Ok(());
     }
     let attempt = seed % 7;
     let place = put_version(rt, table, line, attempt)?;
     store.place(rt.alloc(), line, attempt, chosen, place)?;
-    plain.place(line, attempt, *chosen)
+    plain.place(line, attempt, at)
 }
 
 /// 300 calls: places, lifts and marks of six lines and five keys, in an order of chance, with attempts that don't rise.
 fn calls<'t, J: PlanName, R: Wait + AllocGlobal + Abort>(
     rt: &R,
     table: &'t VersionTable<J>,
-    keys: &'t [Key; 5],
+    keys: &'t [KeptKey; 5],
     store: &mut EntryStore<'t, J>,
 ) -> Result<(), AllocError>
     requires named { J.plan ≡ no_plan }
@@ -128,7 +129,13 @@ fn calls<'t, J: PlanName, R: Wait + AllocGlobal + Abort>(
 #[test]
 fn both_stores_agree(rt: HostRuntime) -> Result<(), Fail> {
     let table: VersionTable<Brand> = VersionTable::new(rt.alloc())?;
-    let keys = [0, 1, 2, 3, 4].map(|number| key(&rt, number));
+    let keys = [
+        kept_key(&rt, 0)?,
+        kept_key(&rt, 1)?,
+        kept_key(&rt, 2)?,
+        kept_key(&rt, 3)?,
+        kept_key(&rt, 4)?,
+    ];
     let mut store = EntryStore::new(rt.alloc(), FIRST, LINES as usize)?;
     calls(&rt, &table, &keys, &mut store)?;
     Ok(())

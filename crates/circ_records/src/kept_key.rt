@@ -4,11 +4,12 @@ ghost use Rattle.std.specs.Prelude.{◌≡◌, IfOk};
 ghost use Rattle.std.specs.Cmp.Lexicographic.{slice_cmp};
 ghost use Rattle.std.specs.Ordering.{eq_by_cmp, nat_cmp};
 ghost use Rattle.circ_records.specs.Devices.KeptKeys.{key_kept};
-ghost use Rattle.circ_records.specs.Keys.{key_cmp};
+ghost use Rattle.circ_records.specs.Keys.{key_cmp, kind, id_of};
 
 use crate::key::Key;
 use sip_reader::{Id, KeptId};
 use std::alloc::{AllocError, Global};
+use std::cmp::Ordering;
 use std::marker::Model;
 
 /// A key as notes keep it: its id is a kept one, so it takes three words where a `Key` has room for the longest id.
@@ -72,6 +73,18 @@ impl KeptKey {
         }
     }
 
+    /// How it goes against a key, in the order of keys. No `Key` is made of it, which has room for the longest id.
+    pub fn order(&self, key: &Key) -> Ordering
+        ensures { result ≡ key_cmp self.now key.now }
+    {
+        let (kind, other_kind) = (self.kept.kind(), key.kind());
+        if kind == other_kind {
+            self.kept.id().order(key.id())
+        } else {
+            kind.cmp(&other_kind)
+        }
+    }
+
     /// Whether it is this key.
     pub fn is(&self, key: &Key) -> bool
         ensures { result ≡ eq_by_cmp key_cmp key.now self.now }
@@ -94,6 +107,24 @@ impl KeptKey {
 }
 
 impl Kept {
+    fn kind(&self) -> u8
+        ensures { result ≡ kind (key_kept self.now) }
+    {
+        match self {
+            Kept::Patron(_) => 0,
+            Kept::Item(_) => 1,
+            Kept::Fee(_) => 2,
+        }
+    }
+
+    fn id(&self) -> &KeptId
+        ensures { result.now ≡ id_of (key_kept self.now) }
+    {
+        match self {
+            Kept::Patron(id) | Kept::Item(id) | Kept::Fee(id) => id,
+        }
+    }
+
     fn copy(&self) -> Result<Kept, AllocError>
         ensures { IfOk result (λ kept. key_kept kept ≡ key_kept self.now) }
     {

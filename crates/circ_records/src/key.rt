@@ -17,7 +17,7 @@ pub enum Key {
 }
 
 impl Key {
-    fn kind(&self) -> u8
+    pub(crate) fn kind(&self) -> u8
         ensures { result ≡ kind self.now }
     {
         match self {

@@ -19,7 +19,7 @@ pub fn written<'w>(writes: &'w [(KeptKey, Record)], key: &Key) -> Option<&'w Rec
     requires { IsStrictlySortedBy key_cmp (map (λ e. e.0) writes.now) }
     ensures { option_copied result ≡ record_at writes.now key.now }
 {
-    let Ok(place) = writes.binary_search_by(|write| write.0.key().cmp(key)) else {
+    let Ok(place) = writes.binary_search_by(|write| write.0.order(key)) else {
         return None;
     };
     Some(&writes[place].1)

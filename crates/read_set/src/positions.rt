@@ -12,7 +12,7 @@ use std::collections::BTreeMap;
 use std::marker::Model;
 
 /// The position of each key's note that isn't among the first few. Nearly all lines have no such note, and versions stay
-/// until the run ends: so the map is made with the first of them, and without it this takes one word.
+/// until the run ends: so the map is made with the first of them, and without it this takes two words.
 pub struct Positions {
     map: Option<Box<BTreeMap<Key, usize>>>,
 }

@@ -27,7 +27,7 @@ pub fn found_in<'e>(entries: &'e [(KeptKey, Record)], key: &Key) -> Option<&'e R
 fn order(key: &Key, kept: &KeptKey) -> Ordering
     ensures { result ≡ key_cmp key.now kept.now }
 {
-    key.cmp(&kept.key())
+    kept.order(key).reverse()
 }
 
 /// The position of a key, or else the position to which it goes.

@@ -1,4 +1,5 @@
 pub mod Columns
+pub mod Rising
 pub mod Positions
 pub mod Keyed
 pub mod Views

@@ -1,4 +1,5 @@
 -- Devices of proofs: how things are kept or counted. No promise is read here.
+pub mod Columns
 pub mod Parts
 pub mod Positions
 pub mod ShortLists

@@ -1,7 +1,7 @@
 -- Which lines have an entry at a key, as the index has it.
-use Rattle.std.specs.Prelude.{◌≡◌, ℕ, ◌<◌, Bool, true, false, Option, Some, None, cond, length, slice_get}
+use Rattle.std.specs.Prelude.{◌≡◌, ℕ, ◌<◌, Bool, true, false, List, Option, Some, None, cond, length, slice_get}
 use Rattle.std.specs.BTreeMap.{get}
-use Rattle.std.specs.BTreeSet.{BTreeSet, contains}
+use Rattle.std.specs.List.{list_any}
 use Rattle.std.specs.Ordering.{nat_cmp, eq_by_cmp}
 use Rattle.circ_records.specs.Keys.{key_cmp}
 use Rattle.circ_records.specs.declared.key.Key.{Key}
@@ -9,9 +9,13 @@ use Rattle.version_store.specs.Devices.Parts.{part_of}
 use Rattle.version_store.specs.declared.part.IndexPart.{IndexPart}
 use Rattle.version_store.specs.declared.index.KeyIndex.{KeyIndex}
 
-abbrev pub in_column : Option (BTreeSet ℕ) → ℕ → Bool
+-- whether a line is one of a column
+abbrev pub has : List ℕ → ℕ → Bool
+has column n = list_any (λ m. eq_by_cmp nat_cmp m n) column
+
+abbrev pub in_column : Option (List ℕ) → ℕ → Bool
 in_column None n = false
-in_column (Some column) n = contains nat_cmp column n
+in_column (Some column) n = has column n
 
 -- whether a line has an entry at a key, by the part of the index in which the key stands
 abbrev pub in_part : IndexPart → Key → ℕ → Bool

@@ -6,6 +6,7 @@
 //! names and places, and no record. It stands on the versions of `read_set`; the board stands on it.
 #![tactic(auto)]
 
+mod column;
 mod entry;
 mod index;
 mod line;

@@ -6,13 +6,14 @@ ghost use Rattle.circ_records.specs.Keys.{key_cmp};
 ghost use Rattle.circ_records.specs.declared.key.Key.{Key};
 ghost use Rattle.version_store.specs.Index.{IsLatest, in_part, with_at};
 
+use crate::column::Column;
 use circ_records::Key;
 use std::alloc::{AllocError, Global};
-use std::collections::{BTreeMap, BTreeSet};
+use std::collections::BTreeMap;
 
 /// For each key of a part the lines that have an entry there.
 pub struct IndexPart {
-    columns: BTreeMap<Key, BTreeSet<u64>>,
+    columns: BTreeMap<Key, Column>,
 }
 
 impl Drop for IndexPart {
@@ -40,8 +41,8 @@ impl IndexPart {
             return self.open(alloc, key, line);
         };
         match column.insert(line) {
-            Ok(_) => Ok(()),
-            Err(_) => Err(AllocError),
+            Ok(()) => Ok(()),
+            Err(refused) => Err(refused),
         }
     }
 
@@ -51,7 +52,7 @@ impl IndexPart {
         ensures put { OnOk result ((q : Key) (m : ℕ) → in_part self.new q m ≡ with_at key.now line true (in_part self.old) q m) }
         ensures same { OnErr result ((q : Key) (m : ℕ) → in_part self.new q m ≡ in_part self.old q m) }
     {
-        let mut column = BTreeSet::new(alloc);
+        let mut column = Column::new(alloc);
         column.insert(line)?;
         self.columns.insert(*key, column)?;
         Ok(())
@@ -62,7 +63,7 @@ impl IndexPart {
         ensures { (q : Key) (m : ℕ) → in_part self.new q m ≡ with_at key.now line false (in_part self.old) q m }
     {
         if let Some(column) = self.columns.get_mut(key) {
-            let _ = column.remove(&line);
+            column.remove(line);
         }
     }
 
@@ -73,15 +74,6 @@ impl IndexPart {
         let Some(column) = self.columns.get(key) else {
             return None;
         };
-        // most lines come behind all that have an entry there
-        if let Some(last) = column.last() {
-            if *last < below {
-                return Some(*last);
-            }
-        }
-        let Some(line) = column.range(..below).next_back() else {
-            return None;
-        };
-        Some(*line)
+        column.latest_below(below)
     }
 }

@@ -9,7 +9,7 @@ returns-in-Some c = λ q m.
     let there = sym c.in-Some.ensures.value in
     changed c.args.self.now.columns (c.get_mut.follows.lender c.remove.new.self) c.args.key.now q c.args.line m false c.in-Some.column.now c.remove.new.self there
     ((c.get_mut.follows.holds c.remove.new.self).3 (some_is _ _ there)).0
-    c.remove.ensures.updates.0
+    c.remove.ensures
 
 pub returns-in_default : goal.returns-in_default
 returns-in_default c = λ q m. rw c.get_mut.follows.holds-at-none (untouched (get key_cmp c.args.self.now.columns) c.args.key.now q c.args.line m (sym c.in_default.ensures.value))

@@ -3,5 +3,5 @@ use Rattle.version_store.proofs.part.IndexPart.open.Goals as goal
 
 pub returns-clause-put : goal.returns-clause-put
 returns-clause-put c = λ q m.
-    begun c.args.self.now.columns c.insert-2.new.self c.args.key.now q c.args.line m c.new-column.result c.insert.new.self c.requires.first c.new-column.ensures.empty
-    c.in_ok-insert-2.ensures.updates.0 c.in_ok-insert.ensures.updates.0
+    begun c.args.self.now.columns c.insert-2.new.self c.args.key.now q c.args.line m c.new-column.result c.insert.new.self c.requires.first c.new-column.ensures
+    c.in_ok-insert-2.ensures.updates.0 c.in_ok-insert.ensures.put

@@ -7,11 +7,11 @@ returns-in-Err-clause-same c = λ q m.
     let there = sym c.in-Some.ensures.value in
     kept c.args.self.now.columns (c.get_mut.follows.lender c.insert.new.self) c.args.key.now q m c.in-Some.column.now c.insert.new.self there
     ((c.get_mut.follows.holds c.insert.new.self).3 (some_is _ _ there)).0
-    c.in-Err.ensures.err
+    c.in-Err.ensures.same
 
 pub returns-in-Ok-clause-put : goal.returns-in-Ok-clause-put
 returns-in-Ok-clause-put c = λ q m.
     let there = sym c.in-Some.ensures.value in
     changed c.args.self.now.columns (c.get_mut.follows.lender c.insert.new.self) c.args.key.now q c.args.line m true c.in-Some.column.now c.insert.new.self there
     ((c.get_mut.follows.holds c.insert.new.self).3 (some_is _ _ there)).0
-    c.in-Ok.ensures.updates.0
+    c.in-Ok.ensures.put

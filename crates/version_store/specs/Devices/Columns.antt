@@ -1,0 +1,24 @@
+-- A device of proofs: how the lines of a column are kept, and where a line stands among them.
+use Rattle.std.specs.Prelude.{◌≡◌, ℕ, ◌<◌, ◌≤◌, List, length, slice_index_or}
+use Rattle.std.specs.List.{AllPairs}
+
+-- each line is below those behind it
+abbrev pub Rising : List ℕ → Type 0
+Rising column = AllPairs (λ m n. m < n) column
+
+-- the line stands at the position
+pub record StandsAt (column : List ℕ) (line i : ℕ) : Type 0 where
+  pub within : i < length column
+  pub same : slice_index_or column i 0 ≡ line
+
+-- it doesn't stand there, and goes to the position
+pub record GoesTo (column : List ℕ) (line i : ℕ) : Type 0 where
+  pub within : i ≤ length column
+  pub below : (j : ℕ) → j < i → slice_index_or column j 0 < line
+  pub above : (j : ℕ) → i ≤ j → j < length column → line < slice_index_or column j 0
+
+-- the first lines, so many, are below the line, and no other
+pub record AreBelow (column : List ℕ) (line count : ℕ) : Type 0 where
+  pub within : count ≤ length column
+  pub below : (j : ℕ) → j < count → slice_index_or column j 0 < line
+  pub rest : (j : ℕ) → count ≤ j → j < length column → line ≤ slice_index_or column j 0

@@ -1,0 +1,118 @@
+//! The lines that have an entry at one key.
+
+ghost use Rattle.std.specs.Prelude.{◌≡◌, ℕ, OnOk, OnErr, [], MatchResult, ◌≤◌, cond, true, false, length};
+ghost use Rattle.std.specs.List.{insert};
+ghost use Rattle.std.specs.Ordering.{eq_by_cmp, nat_cmp};
+ghost use Rattle.version_store.specs.Index.{IsLatest, has};
+ghost use Rattle.version_store.specs.Devices.Columns.{AreBelow, GoesTo, Rising, StandsAt};
+
+use std::alloc::{AllocError, Global};
+use std::marker::Model;
+
+/// Up to so many lines take no more room than they need.
+const FEW: usize = 8;
+
+/// The lines that have an entry at one key, as a vector that rises: most keys have few lines, which so take 8 bytes each.
+pub struct Column {
+    lines: Vec<u64>,
+}
+
+impl Drop for Column {
+    fn drop(self) {
+        let Column { lines: _ } = self;
+    }
+}
+
+impl Model for Column {
+    ghost use Rattle.std.specs.Prelude.{List, ℕ};
+
+    ghost Value = { List ℕ };
+
+    ghost view = { λ c. c.lines.items };
+
+    ghost use Rattle.version_store.specs.Devices.Columns.{Rising};
+
+    ghost invariant = { λ c. Rising c.lines.items };
+}
+
+impl Column {
+    /// No line.
+    pub fn new(alloc: Global) -> Column
+        ensures { result ≡ [] }
+    {
+        Column {
+            lines: Vec::new(alloc),
+        }
+    }
+
+    /// The line is in it.
+    pub fn insert(&mut self, line: u64) -> Result<(), AllocError>
+        ensures put { OnOk result ((m : ℕ) → has self.new m ≡ cond (eq_by_cmp nat_cmp line m) true (has self.old m)) }
+        ensures same { OnErr result (self.new ≡ self.old) }
+    {
+        let Err(position) = position_of(&self.lines, line) else {
+            return Ok(());
+        };
+        insert_at(&mut self.lines, position, line)
+    }
+
+    /// The line isn't in it.
+    pub fn remove(&mut self, line: u64)
+        ensures { (m : ℕ) → has self.new m ≡ cond (eq_by_cmp nat_cmp line m) false (has self.old m) }
+    {
+        if let Ok(position) = position_of(&self.lines, line) {
+            let _ = self.lines.remove(position);
+        }
+    }
+
+    /// The greatest line below this one.
+    pub fn latest_below(&self, below: u64) -> Option<u64>
+        ensures { IsLatest (has self.now) below result }
+    {
+        let count = count_below(&self.lines, below);
+        if count == 0 {
+            return None;
+        }
+        Some(self.lines[count - 1])
+    }
+}
+
+/// The position of a line, or else the position to which it goes.
+fn position_of(lines: &[u64], line: u64) -> Result<usize, usize>
+    requires { Rising lines.now }
+    ensures { MatchResult result (StandsAt lines.now line) (GoesTo lines.now line) }
+{
+    // most lines come behind all others
+    if let Some(last) = lines.last() {
+        if *last < line {
+            return Err(lines.len());
+        }
+    }
+    lines.binary_search(&line)
+}
+
+/// How many lines are below this one.
+fn count_below(lines: &[u64], line: u64) -> usize
+    requires { Rising lines.now }
+    ensures { AreBelow lines.now line result }
+{
+    match position_of(lines, line) {
+        Ok(position) => position,
+        Err(position) => position,
+    }
+}
+
+/// Puts a line at a position, and makes no more room than it needs while they are few: a column stays until the run ends.
+fn insert_at(lines: &mut Vec<u64>, position: usize, line: u64) -> Result<(), AllocError>
+    requires { position ≤ length lines.old.items }
+    ensures items { OnOk result (lines.new.items ≡ insert lines.old.items position line) }
+    ensures same { OnErr result (lines.new.items ≡ lines.old.items) }
+{
+    if lines.len() < FEW {
+        lines.reserve_exact(1)?;
+    }
+    match lines.insert(position, line) {
+        Ok(()) => Ok(()),
+        Err(_) => Err(AllocError),
+    }
+}

@@ -8,7 +8,7 @@ ghost use Rattle.version_store.specs.Devices.Positions.{IsAt, IsGap, Rise, all_m
 
 use crate::entry::Entry;
 use crate::short::ShortList;
-use circ_records::Key;
+use circ_records::{KeptKey, Key};
 use read_set::PlanName;
 use std::alloc::{AllocError, Global};
 use std::cmp::Ordering;
@@ -16,7 +16,7 @@ use std::marker::Model;
 
 /// An entry at the key that it borrows from the writes of the version at its place: so it takes 24 bytes, and with a key of its
 /// own it would take 88.
-type Placed<'t, J> = (&'t Key, Entry<'t, J>);
+type Placed<'t, J> = (&'t KeptKey, Entry<'t, J>);
 
 /// The entries of one line as a list that rises by key. Most lines that write have two: those stand in place.
 pub struct LineEntries<'t, J: PlanName> {
@@ -68,7 +68,12 @@ impl<'t, J: PlanName> LineEntries<'t, J> {
     }
 
     /// Puts an entry at a key.
-    pub fn put(&mut self, alloc: Global, key: &'t Key, made: Entry<'t, J>) -> Result<(), AllocError>
+    pub fn put(
+        &mut self,
+        alloc: Global,
+        key: &'t KeptKey,
+        made: Entry<'t, J>,
+    ) -> Result<(), AllocError>
         ensures put { OnOk result (self.new ≡ fin.insert self.old key.now (shown made.entry)) }
         ensures same { OnErr result (self.new ≡ self.old) }
         ensures absent { OnErr result (fin.get self.old key.now ≡ None) }
@@ -93,7 +98,7 @@ impl<'t, J: PlanName> LineEntries<'t, J> {
     }
 
     /// The i-th key, rising, and the attempt of its entry.
-    pub fn nth(&self, i: usize) -> Option<(&Key, u32)>
+    pub fn nth(&self, i: usize) -> Option<(&KeptKey, u32)>
         ensures value { IsNamedAt (slice_get (fin.entries self.now) i) result }
         ensures few { length (fin.entries self.now) < 2 ^ 64 }
     {
@@ -104,7 +109,7 @@ impl<'t, J: PlanName> LineEntries<'t, J> {
     }
 
     /// The least key whose entry isn't of this attempt.
-    pub fn left(&self, attempt: u32) -> Option<&'t Key>
+    pub fn left(&self, attempt: u32) -> Option<&'t KeptKey>
         ensures { MatchOption result (AllOf self.now attempt) (λ k. IsLeastLeft self.now attempt k.now) }
     {
         left_key(&self.entries, attempt)
@@ -120,7 +125,7 @@ fn position_of<J: PlanName>(entries: &ShortList<Placed<'_, J>>, key: &Key) -> Re
     let mut high = entries.len();
     while low < high {
         let middle = low + (high - low) / 2;
-        match entries[middle].0.cmp(key) {
+        match entries[middle].0.order(key) {
             Ordering::Equal => return Ok(middle),
             Ordering::Less => low = middle + 1,
             Ordering::Greater => high = middle,
@@ -133,7 +138,7 @@ fn position_of<J: PlanName>(entries: &ShortList<Placed<'_, J>>, key: &Key) -> Re
 fn put_entry<'t, J: PlanName>(
     entries: &mut ShortList<Placed<'t, J>>,
     alloc: Global,
-    key: &'t Key,
+    key: &'t KeptKey,
     made: Entry<'t, J>,
 ) -> Result<(), AllocError>
     requires { Rise (keyed entries.old) }
@@ -142,7 +147,7 @@ fn put_entry<'t, J: PlanName>(
     ensures absent { OnErr result (fin.find key_cmp key.now (keyed entries.old) ≡ None) }
     ensures rising { Rise (keyed entries.new) }
 {
-    match position_of(entries, key) {
+    match position_of(entries, &key.key()) {
         Ok(position) => {
             entries.set(position, (key, made));
             Ok(())
@@ -180,7 +185,10 @@ fn nth_entry<'m, 't, J: PlanName>(
 }
 
 /// The least key whose entry isn't of this attempt.
-fn left_key<'t, J: PlanName>(entries: &ShortList<Placed<'t, J>>, attempt: u32) -> Option<&'t Key>
+fn left_key<'t, J: PlanName>(
+    entries: &ShortList<Placed<'t, J>>,
+    attempt: u32,
+) -> Option<&'t KeptKey>
     requires { Rise (keyed entries.now) }
     ensures { MatchOption result (AllOf (line_of (keyed entries.now)) attempt) (λ k. IsLeastLeft (line_of (keyed entries.now)) attempt k.now) }
 {

@@ -1,18 +1,17 @@
 //! Keys that are kept.
 
 ghost use Rattle.std.specs.Prelude.{◌≡◌, IfOk};
-ghost use Rattle.std.specs.Cmp.Lexicographic.{slice_cmp};
-ghost use Rattle.std.specs.Ordering.{eq_by_cmp, nat_cmp};
+ghost use Rattle.std.specs.Ordering.{eq_by_cmp};
 ghost use Rattle.circ_records.specs.Devices.KeptKeys.{key_kept};
 ghost use Rattle.circ_records.specs.Keys.{key_cmp, kind, id_of};
 
 use crate::key::Key;
-use sip_reader::{Id, KeptId};
+use sip_reader::{Id, LongId, ShortId};
 use std::alloc::{AllocError, Global};
 use std::cmp::Ordering;
 use std::marker::Model;
 
-/// A key as notes keep it: its id is a kept one, so it takes three words where a `Key` has room for the longest id.
+/// A key as notes keep it: its id takes only the room that it needs, so a kept key takes two words where a `Key` has room for the longest id.
 pub struct KeptKey {
     kept: Kept,
 }
@@ -23,19 +22,25 @@ impl Drop for KeptKey {
     }
 }
 
-/// The kind of record, and its id.
+/// The kind of record, and its id: the kind stands in the tag, since beside a short id there is no room for more.
 enum Kept {
-    Patron(KeptId),
-    Item(KeptId),
-    Fee(KeptId),
+    ShortPatron(ShortId),
+    ShortItem(ShortId),
+    ShortFee(ShortId),
+    LongPatron(LongId),
+    LongItem(LongId),
+    LongFee(LongId),
 }
 
 impl Drop for Kept {
     fn drop(self) {
         match self {
-            Kept::Patron(_) => {}
-            Kept::Item(_) => {}
-            Kept::Fee(_) => {}
+            Kept::ShortPatron(_) => {}
+            Kept::ShortItem(_) => {}
+            Kept::ShortFee(_) => {}
+            Kept::LongPatron(_) => {}
+            Kept::LongItem(_) => {}
+            Kept::LongFee(_) => {}
         }
     }
 }
@@ -54,10 +59,9 @@ impl KeptKey {
     pub fn new(alloc: Global, key: &Key) -> Result<KeptKey, AllocError>
         ensures { IfOk result (λ kept. kept ≡ key.now) }
     {
-        let kept = match key {
-            Key::Patron(id) => Kept::Patron(KeptId::new(alloc, id)?),
-            Key::Item(id) => Kept::Item(KeptId::new(alloc, id)?),
-            Key::Fee(id) => Kept::Fee(KeptId::new(alloc, id)?),
+        let kept = match ShortId::new(key.id()) {
+            Some(id) => Kept::short(key, id),
+            None => Kept::long(key, LongId::new(alloc, key.id())?),
         };
         Ok(KeptKey { kept })
     }
@@ -66,10 +70,11 @@ impl KeptKey {
     pub fn key(&self) -> Key
         ensures { result ≡ self.now }
     {
+        let id = self.kept.id();
         match &self.kept {
-            Kept::Patron(id) => Key::Patron(id.id()),
-            Kept::Item(id) => Key::Item(id.id()),
-            Kept::Fee(id) => Key::Fee(id.id()),
+            Kept::ShortPatron(_) | Kept::LongPatron(_) => Key::Patron(id),
+            Kept::ShortItem(_) | Kept::LongItem(_) => Key::Item(id),
+            Kept::ShortFee(_) | Kept::LongFee(_) => Key::Fee(id),
         }
     }
 
@@ -79,7 +84,7 @@ impl KeptKey {
     {
         let (kind, other_kind) = (self.kept.kind(), key.kind());
         if kind == other_kind {
-            self.kept.id().order(key.id())
+            self.kept.as_bytes().cmp(key.id().as_bytes())
         } else {
             kind.cmp(&other_kind)
         }
@@ -89,39 +94,60 @@ impl KeptKey {
     pub fn is(&self, key: &Key) -> bool
         ensures { result ≡ eq_by_cmp key_cmp key.now self.now }
     {
-        match key {
-            Key::Patron(id) => match &self.kept {
-                Kept::Patron(kept) => is_kept(id, kept),
-                _ => false,
-            },
-            Key::Item(id) => match &self.kept {
-                Kept::Item(kept) => is_kept(id, kept),
-                _ => false,
-            },
-            Key::Fee(id) => match &self.kept {
-                Kept::Fee(kept) => is_kept(id, kept),
-                _ => false,
-            },
-        }
+        self.kept.kind() == key.kind() && key.id().as_bytes().cmp(self.kept.as_bytes()).is_eq()
     }
 }
 
 impl Kept {
+    /// A key whose id is short.
+    fn short(key: &Key, id: ShortId) -> Kept
+        requires { id ≡ id_of key.now }
+        ensures { key_kept result ≡ key.now }
+    {
+        match key {
+            Key::Patron(_) => Kept::ShortPatron(id),
+            Key::Item(_) => Kept::ShortItem(id),
+            Key::Fee(_) => Kept::ShortFee(id),
+        }
+    }
+
+    /// A key whose id isn't short.
+    fn long(key: &Key, id: LongId) -> Kept
+        requires { id ≡ id_of key.now }
+        ensures { key_kept result ≡ key.now }
+    {
+        match key {
+            Key::Patron(_) => Kept::LongPatron(id),
+            Key::Item(_) => Kept::LongItem(id),
+            Key::Fee(_) => Kept::LongFee(id),
+        }
+    }
+
     fn kind(&self) -> u8
         ensures { result ≡ kind (key_kept self.now) }
     {
         match self {
-            Kept::Patron(_) => 0,
-            Kept::Item(_) => 1,
-            Kept::Fee(_) => 2,
+            Kept::ShortPatron(_) | Kept::LongPatron(_) => 0,
+            Kept::ShortItem(_) | Kept::LongItem(_) => 1,
+            Kept::ShortFee(_) | Kept::LongFee(_) => 2,
         }
     }
 
-    fn id(&self) -> &KeptId
+    fn as_bytes(&self) -> &[u8]
         ensures { result.now ≡ id_of (key_kept self.now) }
     {
         match self {
-            Kept::Patron(id) | Kept::Item(id) | Kept::Fee(id) => id,
+            Kept::ShortPatron(id) | Kept::ShortItem(id) | Kept::ShortFee(id) => id.as_bytes(),
+            Kept::LongPatron(id) | Kept::LongItem(id) | Kept::LongFee(id) => id.as_bytes(),
+        }
+    }
+
+    fn id(&self) -> Id
+        ensures { result ≡ id_of (key_kept self.now) }
+    {
+        match self {
+            Kept::ShortPatron(id) | Kept::ShortItem(id) | Kept::ShortFee(id) => id.id(),
+            Kept::LongPatron(id) | Kept::LongItem(id) | Kept::LongFee(id) => id.id(),
         }
     }
 
@@ -129,18 +155,14 @@ impl Kept {
         ensures { IfOk result (λ kept. key_kept kept ≡ key_kept self.now) }
     {
         match self {
-            Kept::Patron(id) => Ok(Kept::Patron(id.clone()?)),
-            Kept::Item(id) => Ok(Kept::Item(id.clone()?)),
-            Kept::Fee(id) => Ok(Kept::Fee(id.clone()?)),
+            Kept::ShortPatron(id) => Ok(Kept::ShortPatron(id.copy())),
+            Kept::ShortItem(id) => Ok(Kept::ShortItem(id.copy())),
+            Kept::ShortFee(id) => Ok(Kept::ShortFee(id.copy())),
+            Kept::LongPatron(id) => Ok(Kept::LongPatron(id.clone()?)),
+            Kept::LongItem(id) => Ok(Kept::LongItem(id.clone()?)),
+            Kept::LongFee(id) => Ok(Kept::LongFee(id.clone()?)),
         }
     }
-}
-
-/// Whether an id is the kept one.
-fn is_kept(id: &Id, kept: &KeptId) -> bool
-    ensures { result ≡ eq_by_cmp (slice_cmp nat_cmp) id.now kept.now }
-{
-    id.as_bytes().cmp(kept.as_bytes()).is_eq()
 }
 
 /// A clone is the same key. It takes no memory.

@@ -88,6 +88,15 @@ impl Id {
         self.bytes.as_bytes()
     }
 
+    /// Its bytes, known to be those of an id.
+    pub(crate) fn as_valid(&self) -> &[u8]
+        ensures bytes { result.now ≡ self.now }
+        ensures valid { is_id self.now ≡ true }
+    {
+        let Id { bytes } = self;
+        bytes.as_bytes()
+    }
+
     /// Its bytes as a text.
     pub(crate) fn to_text(&self, alloc: Global) -> Result<Text, AllocError>
         ensures text { IfOk result (λ t. t ≡ self.now) }

@@ -14,10 +14,12 @@ mod id;
 mod kept;
 mod kind;
 mod laws;
+mod long_id;
 mod numerals;
 mod read;
 mod request;
 mod short;
+mod short_id;
 mod stamp;
 mod sum;
 mod text;
@@ -27,12 +29,14 @@ pub use day::Day;
 pub use id::{ID_MAX, Id, LINE_NUMBER_END, LINE_NUMBER_MAX};
 pub use kept::KeptId;
 pub use laws::{amounts_read_back, first_field_counts, pieces_tell_the_rest};
+pub use long_id::LongId;
 pub use numerals::{all_digits, number_of_digits};
 pub use read::{MESSAGE_MAX, read_request, without_line_end};
 pub use request::{
     Act, BlockPatron, Checkin, Checkout, FeePaid, HoldMode, HoldRequest, ItemStatus, Kind, Passed,
     PatronEnable, Reading, Renew, RenewAll, Request, Why,
 };
+pub use short_id::{SHORT_ID_MAX, ShortId};
 pub use stamp::{STAMP_LEN, Stamp};
 pub use sum::{sum_of, unsummed};
 pub use text::{TEXT_MAX, Text};

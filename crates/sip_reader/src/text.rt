@@ -139,7 +139,7 @@ impl Held {
 }
 
 /// The bytes, and zeros behind them.
-fn in_front(bytes: &[u8]) -> [u8; 14]
+pub(crate) fn in_front(bytes: &[u8]) -> [u8; 14]
     requires { length bytes.now ≤ 14 }
     ensures { result ≡ bytes.now ++ replicate (14 - length bytes.now) 0 }
 {

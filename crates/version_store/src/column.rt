@@ -12,7 +12,8 @@ use std::marker::Model;
 /// Up to so many lines take no more room than they need.
 const FEW: usize = 8;
 
-/// The lines that have an entry at one key, as a vector that rises: most keys have few lines, which so take 8 bytes each.
+/// The lines that have an entry at one key, as a vector that rises. Most keys have few, and there a tree's least node takes more
+/// than all of them. Mostly lines come rising, and a late one is taken out: so few others are moved.
 pub struct Column {
     lines: Vec<u64>,
 }

@@ -41,7 +41,7 @@ fn drive<J: PlanName + 'static, R: Clock + AllocGlobal + Wait>(rt: &R, plan: &Pl
 {
     let alloc = rt.alloc();
     let start = Instant::now(rt)?;
-    let table = VersionTable::new(alloc)?;
+    let table = VersionTable::for_lines(alloc, plan.readings().len())?;
     let mut board: Board<'_, '_, J> = Board::new(alloc, plan, 1)?;
     if drive_in_order(rt, alloc, &table, &mut board).is_err() {
         bail!("the board stops");

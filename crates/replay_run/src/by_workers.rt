@@ -81,7 +81,7 @@ fn run_named<J: PlanName + Send + Sync + 'static, G: Gate + Sync, R: Threads + W
     ensures { IsMade (record { plan = plan.now; lines = journal.now }) result }
 {
     for _ in rt.forever() {
-        let table: VersionTable<J> = VersionTable::new(alloc)?;
+        let table: VersionTable<J> = VersionTable::for_lines(alloc, plan.readings().len())?;
         let board = Board::new(alloc, plan, workers)?;
         let shared = SharedBoard::new(board, &table);
         let run = run_workers(rt, alloc, &shared, gate);

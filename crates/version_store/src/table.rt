@@ -2,22 +2,28 @@
 
 ghost use Rattle.std.specs.Prelude.{◌≡◌, IfOk, IfErr};
 
-use boxcar::Vec;
 use read_set::{PlanName, Version};
 use std::alloc::{AllocError, Global};
 use std::sync::Wait;
 
-/// The versions that were made. None is changed or leaves before the table does. Each has memory of its own: the vector makes
-/// room for up to twice as many as there are, and writes to all of it, so what stands there is to be small.
+/// A shelf for so many lines. A shelf makes room for twice as many versions as it has when seven eighths of its room are taken, and
+/// writes to all of it: this many lines, and a few that are run again, stay below such a mark, so that little room is made in vain.
+const LINES_A_SHELF: usize = 57_000;
+
+/// The versions that were made. None is changed or leaves before the table does. Each has memory of its own, since a shelf makes
+/// more room than it needs: so what stands there is to be small.
 pub struct VersionTable<J: PlanName> {
-    versions: Vec<Box<Version<J>>>,
+    shelves: Vec<Shelf<J>>,
     alloc: Global,
 }
+
+/// Some of the versions.
+type Shelf<J> = boxcar::Vec<Box<Version<J>>>;
 
 impl<J: PlanName> Drop for VersionTable<J> {
     fn drop(self) {
         let VersionTable {
-            versions: _,
+            shelves: _,
             alloc: _,
         } = self;
     }
@@ -43,12 +49,19 @@ impl<'t, J: PlanName> Clone for Place<'t, J> {
 impl<'t, J: PlanName> Copy for Place<'t, J> {}
 
 impl<J: PlanName> VersionTable<J> {
-    /// A table with no version.
+    /// A table with no version, for the versions of a few lines. More of them only take more room than they need.
     pub fn new(alloc: Global) -> Result<VersionTable<J>, AllocError> {
-        Ok(VersionTable {
-            versions: Vec::new(alloc)?,
-            alloc,
-        })
+        VersionTable::for_lines(alloc, 1)
+    }
+
+    /// A table with no version, for the versions of so many lines.
+    pub fn for_lines(alloc: Global, lines: usize) -> Result<VersionTable<J>, AllocError> {
+        let count = lines / LINES_A_SHELF + 1;
+        let mut shelves = Vec::with_capacity(alloc, count)?;
+        for _i in 0..count {
+            shelves.push(Shelf::new(alloc)?)?;
+        }
+        Ok(VersionTable { shelves, alloc })
     }
 
     /// Puts a version into the table; where there is no memory for it, it is handed back.
@@ -60,17 +73,28 @@ impl<J: PlanName> VersionTable<J> {
         ensures put { IfOk result (λ p. p.version.now ≡ version) }
         ensures back { IfErr result (λ v. v ≡ version) }
     {
+        let Some(shelf) = shelf_of(&self.shelves, version.line()) else {
+            return Err(version);
+        };
         let boxed = match Box::new(self.alloc, version) {
             Ok(boxed) => boxed,
             Err(refused) => return Err(refused.value),
         };
-        match self.versions.push_shown(rt, boxed) {
+        match shelf.push_shown(rt, boxed) {
             Ok(pushed) => Ok(Place {
-                version: self.versions.value(&pushed).as_ref(),
+                version: shelf.value(&pushed).as_ref(),
             }),
             Err(boxed) => Err(Box::into_inner(boxed)),
         }
     }
+}
+
+/// The shelf on which the versions of a line stand: the lines go round all shelves.
+fn shelf_of<J: PlanName>(shelves: &[Shelf<J>], line: u64) -> Option<&Shelf<J>> {
+    if shelves.is_empty() {
+        return None;
+    }
+    shelves.get((line % shelves.len() as u64) as usize)
 }
 
 impl<'t, J: PlanName> Place<'t, J> {

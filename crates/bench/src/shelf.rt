@@ -56,15 +56,15 @@ impl Looks for Shelf {
 /// A patron P1 with so many items on loan, all of media type 005.
 pub(crate) fn lend(alloc: Global, count: u64) -> Result<Shelf, AllocError> {
     let mut records = BTreeMap::new(alloc);
-    let mut loans = Ids::new(alloc);
+    let mut loans = Ids::new();
     let patron = id(b"P1")?;
     for k in 0..count {
         let id = Id::of_fee(7, k);
-        loans.push(id)?;
+        loans.push(alloc, id)?;
         let item = lent(alloc, patron)?;
         let _ = records.insert(Key::Item(id), Record::item(alloc, item)?)?;
     }
-    let record = member(alloc, loans, Ids::new(alloc))?;
+    let record = member(alloc, loans, Ids::new())?;
     let _ = records.insert(Key::Patron(patron), record)?;
     Ok(Shelf { records })
 }
@@ -72,11 +72,11 @@ pub(crate) fn lend(alloc: Global, count: u64) -> Result<Shelf, AllocError> {
 /// A patron P1 with so many fees of 0.01 each.
 pub(crate) fn owe(alloc: Global, count: u64) -> Result<Shelf, AllocError> {
     let mut records = BTreeMap::new(alloc);
-    let mut fees = Ids::new(alloc);
+    let mut fees = Ids::new();
     let patron = id(b"P1")?;
     for k in 0..count {
         let fee = Id::of_fee(7, k);
-        fees.push(fee)?;
+        fees.push(alloc, fee)?;
         let charged = Fee {
             patron,
             kind: FeeType::Rental,
@@ -85,7 +85,7 @@ pub(crate) fn owe(alloc: Global, count: u64) -> Result<Shelf, AllocError> {
         };
         let _ = records.insert(Key::Fee(fee), Record::fee(alloc, charged)?)?;
     }
-    let record = member(alloc, Ids::new(alloc), fees)?;
+    let record = member(alloc, Ids::new(), fees)?;
     let _ = records.insert(Key::Patron(patron), record)?;
     Ok(Shelf { records })
 }

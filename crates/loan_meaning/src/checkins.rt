@@ -90,9 +90,9 @@ fn return_from(
 ) -> Result<Patron, AllocError>
     ensures { IfOk result (λ p. p ≡ returner n item.now fee member.patron) }
 {
-    let mut patron = Patron::of(alloc, member.into_patron())?;
+    let mut patron = Patron::of(member.into_patron())?;
     patron.loans = without(alloc, &patron.loans, item)?;
-    list_fee(n, 0, fee, &mut patron.fees)?;
+    list_fee(alloc, n, 0, fee, &mut patron.fees)?;
     Ok(patron)
 }
 

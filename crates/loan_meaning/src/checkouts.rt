@@ -100,7 +100,7 @@ fn end_other_loan(
 fn without_loan(alloc: Global, item: &Id, other: Member) -> Result<Patron, AllocError>
     ensures { IfOk result (λ p. p ≡ record other.patron { loans = without item.now other.patron.loans }) }
 {
-    let mut patron = Patron::of(alloc, other.into_patron())?;
+    let mut patron = Patron::of(other.into_patron())?;
     patron.loans = without(alloc, &patron.loans, item)?;
     Ok(patron)
 }
@@ -146,10 +146,10 @@ fn list_loan(
     ensures err { OnErr result (loans.new ≡ loans.old) }
 {
     if !has_lent_to(&a.patron, loan) {
-        return loans.push(a.item);
+        return loans.push(alloc, a.item);
     }
     let mut others = without(alloc, loans, &a.item)?;
-    others.push(a.item)?;
+    others.push(alloc, a.item)?;
     *loans = others;
     Ok(())
 }
@@ -196,9 +196,9 @@ fn make_loan(
     let due = due_of(asked, &article.media);
     let charge = charge_of(a, &article.media);
     let answer = tell_made(asked, &article, due, false, charge)?;
-    let mut patron = Patron::of(alloc, member.into_patron())?;
+    let mut patron = Patron::of(member.into_patron())?;
     list_loan(alloc, a, loan_in(&article), &mut patron.loans)?;
-    list_fee(asked.number, 0, charge, &mut patron.fees)?;
+    list_fee(alloc, asked.number, 0, charge, &mut patron.fees)?;
     let writes = write_lending(asked, due, charge, patron, article, other)?;
     Ok(Effect {
         writes: writes.finish(alloc)?,

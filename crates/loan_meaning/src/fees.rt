@@ -116,12 +116,18 @@ pub fn nothing() -> Amount
 }
 
 /// It goes last in the patron's list. Without memory the list stays.
-pub fn list_fee(line: u64, k: u64, amount: Amount, fees: &mut Ids) -> Result<(), AllocError>
+pub fn list_fee(
+    alloc: Global,
+    line: u64,
+    k: u64,
+    amount: Amount,
+    fees: &mut Ids,
+) -> Result<(), AllocError>
     ensures ok { OnOk result (fees.new ≡ with_fee line k amount fees.old) }
     ensures err { OnErr result (fees.new ≡ fees.old) }
 {
     if has_amount(amount) {
-        fees.push(Id::of_fee(line, k))?;
+        fees.push(alloc, Id::of_fee(line, k))?;
     }
     Ok(())
 }

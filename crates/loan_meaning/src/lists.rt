@@ -31,7 +31,7 @@ pub fn without(alloc: Global, ids: &Ids, id: &Id) -> Result<Ids, AllocError>
     ensures { IfOk result (λ left. left ≡ without id.now ids.now) }
 {
     let kept = kept(alloc, ids.as_slice(), id)?;
-    Ok(Ids::from_vec(kept))
+    Ids::from_vec(alloc, kept)
 }
 
 fn kept(alloc: Global, ids: &[KeptId], id: &Id) -> Result<Vec<KeptId>, AllocError>
@@ -59,7 +59,7 @@ pub fn without_all(alloc: Global, ids: &Ids, gone: &[KeptId]) -> Result<Ids, All
 {
     let all = set_of(alloc, gone)?;
     let kept = kept_all(alloc, ids.as_slice(), gone, &all)?;
-    Ok(Ids::from_vec(kept))
+    Ids::from_vec(alloc, kept)
 }
 
 fn set_of(alloc: Global, ids: &[KeptId]) -> Result<BTreeSet<Id>, AllocError>

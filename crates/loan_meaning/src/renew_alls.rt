@@ -273,7 +273,7 @@ fn renew_each<S: Source>(
     ensures gives { Follows result (follow (S.has source.new) (renew_all_rule_known line.now.policy.now line.now.number request.now line.now.date (Some member))) }
     ensures keeps { Gains (S.has source.old) (S.has source.new) (renew_all_rule_known line.now.policy.now line.now.number request.now line.now.date (Some member)) }
 {
-    let items = member.patron.get().loans.copy(line.alloc)?;
+    let items = member.patron.get().loans.copy()?;
     let done = take_turns(line, request, items.as_slice(), member, source)?;
     Ok(finish(line, request, done)?)
 }

@@ -119,8 +119,8 @@ fn make_renewal(asked: &Asked<'_>, member: Member, article: Article) -> Result<E
     let due = due_of(asked, &article.media);
     let charge = charge_of(&asked.request, &article.media);
     let answer = tell_made(asked, &article, due, true, charge)?;
-    let mut patron = Patron::of(asked.alloc, member.into_patron())?;
-    list_fee(asked.number, 0, charge, &mut patron.fees)?;
+    let mut patron = Patron::of(member.into_patron())?;
+    list_fee(asked.alloc, asked.number, 0, charge, &mut patron.fees)?;
     let writes = write_renewal(asked, due, charge, patron, article)?;
     Ok(Effect {
         writes: writes.finish(asked.alloc)?,

@@ -81,10 +81,10 @@ fn answer(
     }
 }
 
-fn blocked(alloc: Global, blocks: bool, member: Member) -> Result<Patron, AllocError>
+fn blocked(blocks: bool, member: Member) -> Result<Patron, AllocError>
     ensures { IfOk result (λ p. p ≡ record member.patron { blocked = blocks }) }
 {
-    let mut patron = Patron::of(alloc, member.into_patron())?;
+    let mut patron = Patron::of(member.into_patron())?;
     patron.blocked = blocks;
     Ok(patron)
 }
@@ -98,7 +98,7 @@ fn block_member(asked: &BlockAsked<'_>, member: Member, owes: u128) -> Result<Ef
         name: member.patron.get().name.clone()?,
         owed: Owed::new(asked.alloc, owes)?,
     };
-    let patron = blocked(asked.alloc, asked.blocks, member)?;
+    let patron = blocked(asked.blocks, member)?;
     let written = Record::patron(asked.alloc, patron)?;
     let writes = Writes::one(asked.alloc, Key::Patron(asked.id.id()), written)?;
     Ok(Effect {

@@ -74,7 +74,7 @@ fn pay_part(
     done.writes
         .put(Key::Fee(*id), Record::fee(alloc, with_paid(fee, part))?)?;
     if part == rest(fee) {
-        done.closed.push(*id)?;
+        done.closed.push(alloc, *id)?;
     }
     Ok(done)
 }
@@ -107,11 +107,11 @@ fn only(alloc: Global, id: &Id, fees: &Ids, fee: Option<Fee>) -> Result<Ids, All
 {
     match fee {
         Some(_) => {
-            let mut ids = Ids::new(alloc);
-            ids.push(*id)?;
+            let mut ids = Ids::new();
+            ids.push(alloc, *id)?;
             Ok(ids)
         }
-        None => fees.copy(alloc),
+        None => fees.copy(),
     }
 }
 
@@ -132,10 +132,10 @@ fn meant_ids<S: Source>(
             if has_id(fees.as_slice(), &id) {
                 named_ids(alloc, &id, fees, source)
             } else {
-                Ok(fees.copy(alloc)?)
+                Ok(fees.copy()?)
             }
         }
-        None => Ok(fees.copy(alloc)?),
+        None => Ok(fees.copy()?),
     }
 }
 
@@ -153,7 +153,7 @@ fn pay_all<S: Source>(
     let mut done = Payments {
         left: amount,
         writes: Draft::new(alloc),
-        closed: Ids::new(alloc),
+        closed: Ids::new(),
     };
     for id in ids {
         if done.left == 0 {
@@ -198,7 +198,7 @@ fn refuse(
 fn close(alloc: Global, closed: &Ids, member: Member) -> Result<Patron, AllocError>
     ensures { IfOk result (λ p. p ≡ record member.patron { fees = without_all closed.now member.patron.fees }) }
 {
-    let mut patron = Patron::of(alloc, member.into_patron())?;
+    let mut patron = Patron::of(member.into_patron())?;
     patron.fees = without_all(alloc, &patron.fees, closed.as_slice())?;
     Ok(patron)
 }

@@ -170,7 +170,7 @@ fn kept_keys(rt: HostRuntime) -> Result<(), Fail> {
             let kept = KeptKey::new(rt.alloc(), key)?;
             assert!(rt; kept.key() == *key && kept.clone()?.key() == *key);
             for (j, other) in keys.iter().enumerate() {
-                assert!(rt; kept.is(other) == (i == j));
+                assert!(rt; kept.is(other) == (i == j) && kept.order(other) == i.cmp(&j));
             }
         }
         let other = Key::Item(Id::new(b"I00002").expect(&rt, "an id"));

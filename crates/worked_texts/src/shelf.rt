@@ -189,9 +189,9 @@ fn text_in(alloc: Global, text: &str) -> Result<Option<Text>, AllocError> {
 }
 
 fn list_in(alloc: Global, text: &str) -> Result<Ids, AllocError> {
-    let mut list = Ids::new(alloc);
+    let mut list = Ids::new();
     for id in ids_in(alloc, text)? {
-        list.push(id)?;
+        list.push(alloc, id)?;
     }
     Ok(list)
 }

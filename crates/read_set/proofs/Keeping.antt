@@ -1,6 +1,6 @@
 -- Notes, and the positions of their keys.
-use Rattle.std.proofs.Common.{◌≡◌, ℕ, zero, suc, ◌+◌, ◌<◌, ◌≤◌, List, [], ◌∷◌, ◌++◌, Bool, true, false, cond, Option, Some, None, length, get_or, map, take, take_all, arith, refl, sym, ap, ◌∙◌, subst}
-use Rattle.std.specs.Prelude.{slice_get, ◌||◌}
+use Rattle.std.proofs.Common.{◌≡◌, Global, Result, Ok, Err, Vec, ℕ, zero, suc, ◌+◌, ◌<◌, ◌≤◌, List, [], ◌∷◌, ◌++◌, Bool, true, false, cond, Option, Some, None, length, get_or, map, take, take_all, arith, refl, sym, ap, ◌∙◌, subst}
+use Rattle.std.specs.Prelude.{OnErr, OnOk, nat_lt, slice_get, ◌||◌}
 use Rattle.std.specs.BTreeMap.{is_at}
 use Rattle.std.specs.Cmp.{eq_by_cmp_equiv}
 use Rattle.std.specs.List.{IsDistinct, AllByRecursion, list_any}
@@ -9,6 +9,7 @@ use Rattle.std.specs.Option.{option_map}
 use Rattle.std.specs.Ordering.{eq_by_cmp, is_eq, ordering_reverse}
 use Rattle.std.specs.declared.cmp.Ordering.{Ordering}
 use Rattle.std.specs.declared.cmp.Ordering.TheVariants.{Less, Equal, Greater}
+use Rattle.std.proofs.lemmas.Bool.{ltb-false, ltb-true}
 use Rattle.std.proofs.lemmas.List.{take-append-le}
 use Rattle.std.proofs.lemmas.Option.{slice_get-get_or}
 use Rattle.std.proofs.lemmas.Map.Keys.{IsDistinct-head, IsDistinct-push, IsDistinct-tail}
@@ -17,8 +18,10 @@ use Rattle.circ_records.specs.declared.key.Key.{Key}
 use Rattle.circ_records.specs.declared.record.Record.{Record}
 use Rattle.read_set.specs.Maps.{Map, Agrees}
 use Rattle.read_set.specs.Notes.{note_of, noted, IsOnceEach}
-use Rattle.read_set.specs.Devices.Positions.{IsPosition, AreKept}
+use Rattle.read_set.specs.Devices.Positions.{AreKept, HasRoom, IsPosition, notes_in, positions_in}
 use Rattle.read_set.specs.Settling.{AreTrue}
+use Rattle.read_set.specs.declared.notes.Kept.{Kept}
+use Rattle.read_set.specs.declared.notes.Kept.TheVariants.{Few}
 use Rattle.read_set.specs.declared.notes.Note.{Note}
 
 reversed : (o : Ordering) → is_eq (ordering_reverse o) ≡ is_eq o
@@ -95,19 +98,31 @@ few-step notes note k false (Some i) short fresh found h =
     let within : i < length notes = h.0 in
     (omega arith, before-end notes note i within ∙ h.1 ∙ sym found)
 
--- a position that a key had, or that of the new note, where it is none of the first few
-position-step : (notes : List Note) (note : Note) (k : Key) (b : Bool) (old new : Option ℕ) → 8 ≤ length notes
+-- the first few notes stay the first few: all that there are, or those before the new one
+few-more : (notes : List Note) (note : Note) (k : Key) → note_of (notes ++ note ∷ []) k ≡ note_of notes k → note_of notes k ≡ note_of (take 8 notes) k
+    → note_of (notes ++ note ∷ []) k ≡ note_of (take 8 (notes ++ note ∷ [])) k
+few-more notes note k same h = by (nat_lt (length notes) 8) refl
+  where
+    by : (b : Bool) → nat_lt (length notes) 8 ≡ b → note_of (notes ++ note ∷ []) k ≡ note_of (take 8 (notes ++ note ∷ [])) k
+    by true e =
+        let more : length (notes ++ note ∷ []) ≡ length notes + 1 = longer notes note in
+        let short : length notes < 8 = ltb-true (length notes) 8 e in
+        ap (λ ns. note_of ns k) (sym (take_all 8 (notes ++ note ∷ []) (omega arith)))
+    by false e = same ∙ h ∙ ap (λ ns. note_of ns k) (sym (take-append-le 8 notes (note ∷ []) (ltb-false (length notes) 8 e)))
+
+-- a position that a key had, or that of the new note
+position-step : (notes : List Note) (note : Note) (k : Key) (b : Bool) (old new : Option ℕ)
     → note_of (notes ++ note ∷ []) k ≡ cond b (Some note) (note_of notes k) → new ≡ cond b (Some (length notes)) old
     → IsPosition notes k old → IsPosition (notes ++ note ∷ []) k new
-position-step notes note k true old None long found e h = cc
-position-step notes note k true old (Some i) long found e h =
+position-step notes note k true old None found e h = cc
+position-step notes note k true old (Some i) found e h =
     let same : i ≡ length notes = cc in
     let more : length (notes ++ note ∷ []) ≡ length notes + 1 = longer notes note in
     (omega arith, ap (slice_get (notes ++ note ∷ [])) same ∙ at-end notes note ∙ sym found)
-position-step notes note k false None None long found e h = found ∙ h ∙ ap (λ ns. note_of ns k) (sym (take-append-le 8 notes (note ∷ []) long))
-position-step notes note k false None (Some i) long found e h = cc
-position-step notes note k false (Some j) None long found e h = cc
-position-step notes note k false (Some j) (Some i) long found e h =
+position-step notes note k false None None found e h = few-more notes note k found h
+position-step notes note k false None (Some i) found e h = cc
+position-step notes note k false (Some j) None found e h = cc
+position-step notes note k false (Some j) (Some i) found e h =
     let same : i ≡ j = cc in
     let within : i < length notes = let at = h.0 in omega arith in
     let more : length (notes ++ note ∷ []) ≡ length notes + 1 = longer notes note in
@@ -134,13 +149,22 @@ kept-few notes note positions h fresh short = record {
   kept = λ k. few-step notes note k (is_at (key_cmp k) note.key) (lookup (is_at (key_cmp k)) positions) short (unnoted-there notes note k fresh) (found-more notes note k (unnoted-there notes note k fresh)) (h.kept k);
 }
 
--- one more note behind them, and its position
-pub kept-more : (notes : List Note) (note : Note) (old new : List (Key × ℕ)) → AreKept notes old → note_of notes note.key ≡ None → 8 ≤ length notes
+-- one more note in a list, where there was memory for it
+pub kept-if-added : {A E : Type 0} (r : Result A E) (kept : Kept) (list new : Vec Note Global) (note : Note) → kept ≡ Few list → AreKept (notes_in kept) (positions_in kept) → note_of (notes_in kept) note.key ≡ None
+    → HasRoom kept → OnOk r (new.items ≡ list.items ++ note ∷ []) → OnErr r (new.items ≡ list.items) → AreKept new.items []
+kept-if-added (Ok _) kept list new note is h fresh room ok err =
+    subst (λ (ns : List Note). AreKept ns []) (sym ok)
+    (kept-few list.items note [] (subst (λ (k : Kept). AreKept (notes_in k) (positions_in k)) is h) (subst (λ (k : Kept). note_of (notes_in k) note.key ≡ None) is fresh) (subst HasRoom is room))
+kept-if-added (Err _) kept list new note is h fresh room ok err =
+    subst (λ (ns : List Note). AreKept ns []) (sym err) (subst (λ (k : Kept). AreKept (notes_in k) (positions_in k)) is h)
+
+-- one more note, and its position
+pub kept-more : (notes : List Note) (note : Note) (old new : List (Key × ℕ)) → AreKept notes old → note_of notes note.key ≡ None
     → ((k : Key) → lookup (is_at (key_cmp k)) new ≡ cond (is_at (key_cmp note.key) k) (Some (length notes)) (lookup (is_at (key_cmp k)) old))
     → AreKept (notes ++ note ∷ []) new
-kept-more notes note old new h fresh long updates = record {
+kept-more notes note old new h fresh updates = record {
   once = once-more notes note h.once fresh;
-  kept = λ k. position-step notes note k (is_at (key_cmp k) note.key) (lookup (is_at (key_cmp k)) old) (lookup (is_at (key_cmp k)) new) long
+  kept = λ k. position-step notes note k (is_at (key_cmp k) note.key) (lookup (is_at (key_cmp k)) old) (lookup (is_at (key_cmp k)) new)
       (found-more notes note k (unnoted-there notes note k fresh))
       (updates k ∙ ap (λ b. cond b (Some (length notes)) (lookup (is_at (key_cmp k)) old)) (either-way note.key k))
       (h.kept k);

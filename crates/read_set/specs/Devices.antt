@@ -1,4 +1,3 @@
 -- Devices of proofs: how things are kept or counted. No promise is read here.
 pub mod Drafts
-pub mod Placed
 pub mod Positions

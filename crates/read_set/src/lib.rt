@@ -10,7 +10,6 @@ mod laws;
 mod notes;
 mod noting;
 mod plan;
-mod positions;
 mod progress;
 mod sorted;
 mod source;

@@ -3,11 +3,11 @@
 ghost use Rattle.std.specs.Prelude.{◌≡◌, ◌++◌, ◌∷◌, [], None, IfOk, OnOk, OnErr};
 ghost use Rattle.std.specs.Option.{option_copied};
 ghost use Rattle.read_set.specs.Notes.{note_of, IsOnceEach};
-ghost use Rattle.read_set.specs.Devices.Positions.{few};
+ghost use Rattle.read_set.specs.Devices.Positions.{AreKept, HasRoom, few, notes_in, positions_in};
 
-use crate::positions::Positions;
 use circ_records::{KeptKey, Key, Record};
 use std::alloc::{AllocError, Global};
+use std::collections::BTreeMap;
 use std::marker::Model;
 
 /// Whose record it is: the base's, or that of an attempt at a line. The attempt stands first, so that it shares a word with
@@ -67,14 +67,41 @@ const USUAL: usize = 2;
 
 /// What a line has read, in the order of reading. No key is noted twice.
 pub struct Notes {
-    entries: Vec<Note>,
-    /// Where the note of each key stands that isn't among the first few.
-    positions: Positions,
+    kept: Kept,
 }
 
 impl Drop for Notes {
     fn drop(self) {
-        let Notes {
+        let Notes { kept: _ } = self;
+    }
+}
+
+/// A few notes are a list. More stand behind a pointer together with their positions: nearly all lines have few, and versions
+/// stay until the run ends.
+enum Kept {
+    Few(Vec<Note>),
+    Many(Box<Many>),
+}
+
+impl Drop for Kept {
+    fn drop(self) {
+        match self {
+            Kept::Few(_) => {}
+            Kept::Many(_) => {}
+        }
+    }
+}
+
+/// Notes that aren't few.
+struct Many {
+    entries: Vec<Note>,
+    /// Where the note of each key stands that isn't among the first few.
+    positions: BTreeMap<Key, usize>,
+}
+
+impl Drop for Many {
+    fn drop(self) {
+        let Many {
             entries: _,
             positions: _,
         } = self;
@@ -87,11 +114,11 @@ impl Model for Notes {
 
     ghost Value = { List Note };
 
-    ghost use Rattle.read_set.specs.Devices.Positions.{AreKept};
+    ghost use Rattle.read_set.specs.Devices.Positions.{AreKept, notes_in, positions_in};
 
-    ghost view = { λ n. n.entries.items };
+    ghost view = { λ n. notes_in n.kept };
 
-    ghost invariant = { λ n. AreKept n.entries.items n.positions };
+    ghost invariant = { λ n. AreKept (notes_in n.kept) (positions_in n.kept) };
 }
 
 impl Notes {
@@ -100,8 +127,7 @@ impl Notes {
         ensures { result ≡ [] }
     {
         Notes {
-            entries: Vec::new(alloc),
-            positions: Positions::new(),
+            kept: Kept::Few(Vec::new(alloc)),
         }
     }
 
@@ -111,20 +137,10 @@ impl Notes {
         ensures ok { OnOk result (self.new ≡ self.old ++ note ∷ []) }
         ensures err { OnErr result (self.new ≡ self.old) }
     {
-        let position = self.entries.len();
-        if position < FEW {
-            push_among_few(&mut self.entries, note)?;
-            return Ok(());
-        }
-        let alloc = *self.entries.allocator();
-        let key = note.key.key();
-        self.entries.push(note)?;
-        match self.positions.insert(alloc, key, position) {
-            Ok(()) => Ok(()),
-            Err(refused) => {
-                self.entries.pop();
-                Err(refused)
-            }
+        make_room(&mut self.kept)?;
+        match &mut self.kept {
+            Kept::Few(list) => push_among_few(list, note),
+            Kept::Many(many) => many.add(note),
         }
     }
 
@@ -132,9 +148,9 @@ impl Notes {
     pub fn get(&self, key: &Key) -> Option<&Note>
         ensures { option_copied result ≡ note_of self.now key.now }
     {
-        match self.positions.get(key) {
-            Some(position) => self.entries.get(position),
-            None => note_among(first_few(&self.entries), key),
+        match &self.kept {
+            Kept::Few(list) => note_among(list.as_slice(), key),
+            Kept::Many(many) => many.get(key),
         }
     }
 
@@ -142,7 +158,10 @@ impl Notes {
     pub(crate) fn shrink_to_fit(&mut self)
         ensures { self.new ≡ self.old }
     {
-        self.entries.shrink_to_fit();
+        match &mut self.kept {
+            Kept::Few(list) => list.shrink_to_fit(),
+            Kept::Many(many) => many.entries.shrink_to_fit(),
+        }
     }
 
     /// The notes in the order of reading.
@@ -150,7 +169,10 @@ impl Notes {
         ensures notes { result.now ≡ self.now }
         ensures once { IsOnceEach self.now }
     {
-        self.entries.as_slice()
+        match &self.kept {
+            Kept::Few(list) => list.as_slice(),
+            Kept::Many(many) => many.entries.as_slice(),
+        }
     }
 
     /// The same notes.
@@ -159,6 +181,70 @@ impl Notes {
     {
         copy_notes(alloc, self.as_slice())
     }
+}
+
+impl Many {
+    /// One more note, and its position. Without memory nothing changes.
+    fn add(&mut self, note: Note) -> Result<(), AllocError>
+        requires kept { AreKept self.old.entries.items self.old.positions.entries }
+        requires fresh { note_of self.old.entries.items note.key ≡ None }
+        ensures kept { AreKept self.new.entries.items self.new.positions.entries }
+        ensures ok { OnOk result (self.new.entries.items ≡ self.old.entries.items ++ note ∷ []) }
+        ensures err { OnErr result (self.new.entries.items ≡ self.old.entries.items) }
+    {
+        let position = self.entries.len();
+        let key = note.key.key();
+        self.entries.push(note)?;
+        match self.positions.insert(key, position) {
+            Ok(_) => Ok(()),
+            Err(_) => {
+                self.entries.pop();
+                Err(AllocError)
+            }
+        }
+    }
+
+    /// The note of a key.
+    fn get(&self, key: &Key) -> Option<&Note>
+        requires { AreKept self.now.entries.items self.now.positions.entries }
+        ensures { option_copied result ≡ note_of self.now.entries.items key.now }
+    {
+        match self.positions.get(key).copied() {
+            Some(position) => self.entries.get(position),
+            None => note_among(first_few(&self.entries), key),
+        }
+    }
+}
+
+/// Moves a few notes behind a pointer, where they are no longer few with one more.
+fn make_room(kept: &mut Kept) -> Result<(), AllocError>
+    ensures notes { notes_in kept.new ≡ notes_in kept.old }
+    ensures positions { positions_in kept.new ≡ positions_in kept.old }
+    ensures room { OnOk result (HasRoom kept.new) }
+{
+    let Kept::Few(list) = kept else {
+        return Ok(());
+    };
+    if list.len() < FEW {
+        return Ok(());
+    }
+    let alloc = *list.allocator();
+    let mut many = no_notes(alloc)?;
+    std::mem::swap(&mut many.entries, list);
+    *kept = Kept::Many(many);
+    Ok(())
+}
+
+/// A place for more notes than a few, without any.
+fn no_notes(alloc: Global) -> Result<Box<Many>, AllocError>
+    ensures notes { IfOk result (λ many. many.value.entries.items ≡ []) }
+    ensures positions { IfOk result (λ many. many.value.positions.entries ≡ []) }
+{
+    let many = Many {
+        entries: Vec::new(alloc),
+        positions: BTreeMap::new(alloc),
+    };
+    Ok(Box::new(alloc, many)?)
 }
 
 /// The first few notes.

@@ -2,4 +2,4 @@ use Rattle.read_set.proofs.Keeping.{kept-none}
 use Rattle.read_set.proofs.notes.Notes.new.Goals as goal
 
 pub invariant_of-result : goal.invariant_of-result
-invariant_of-result c = rw (c.new.ensures.items, c.new-2.ensures) kept-none
+invariant_of-result c = rw c.new.ensures.items kept-none

@@ -151,3 +151,7 @@ none_kept = record {
 
 pub nothing_noted : {J : Type 0} (ns : List (PlaceNote J)) → ns ≡ [] → AreNoted ns None
 nothing_noted ns no_notes = subst (λ ms. AreNoted ms None) (sym no_notes) none_kept
+
+-- the first note
+pub noted_first : {J : Type 0} (ns : List (PlaceNote J)) (n : PlaceNote J) → ns ≡ n ∷ [] → IsPlaced (noted n) → AreNoted ns None
+noted_first ns n first here = subst (λ ms. AreNoted ms None) (sym first) (noted_few [] None n none_kept refl here (omega arith))

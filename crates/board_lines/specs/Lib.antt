@@ -1,6 +1,7 @@
 pub mod Acts
 pub mod Committed
 pub mod Courses
+pub mod Devices
 pub mod Hands
 pub mod Notes
 pub mod Parts

@@ -157,8 +157,9 @@ impl<'p, 't, J: PlanName> Lines<'p, 't, J> {
                 return Reply::Suspect { line: suspect };
             }
         };
+        let alloc = *self.rows.allocator();
         let row = &mut self.rows[(line - self.plan.first()) as usize];
-        match row.notes.add(key, seen) {
+        match row.notes.add(alloc, key, seen) {
             Ok(()) => Reply::Seen {
                 name: seen.name,
                 place: seen.place,
@@ -671,7 +672,7 @@ fn rows_of<'t, J: PlanName>(alloc: Global, lines: usize) -> Result<Vec<Row<'t, J
 {
     let mut rows = Vec::with_capacity(alloc, lines)?;
     for _i in 0..lines {
-        rows.push(Row::new(alloc))?;
+        rows.push(Row::new())?;
     }
     Ok(rows)
 }

@@ -1,10 +1,11 @@
 //! What a line has noted while it runs.
 
-ghost use Rattle.std.specs.Prelude.{◌≡◌, ◌++◌, ◌∷◌, [], cond, OnOk, OnErr, length, slice_get, map, true, false, option_copied, option_map};
+ghost use Rattle.std.specs.Prelude.{◌≡◌, ◌++◌, ◌∷◌, [], cond, IfOk, OnOk, OnErr, length, slice_get, map, true, false, option_copied, option_map};
 ghost use Rattle.std.specs.Ordering.{eq_by_cmp};
 ghost use Rattle.circ_records.specs.Keys.{key_cmp};
 ghost use Rattle.circ_records.specs.declared.key.Key.{Key};
-ghost use Rattle.board_lines.specs.Notes.{by_place, few, is_indexed, is_key_in, is_noted, key_and_name_of, named_in, note_with, AreOnce, ArePlaced, IsPlaced};
+ghost use Rattle.board_lines.specs.Devices.Held.{notes_in};
+ghost use Rattle.board_lines.specs.Notes.{by_place, few, is_indexed, is_key_in, is_noted, key_and_name_of, named_in, note_with, noted, AreNoted, AreOnce, ArePlaced, IsPlaced};
 
 use circ_records::Key;
 use read_set::{Name, PlanName};
@@ -49,16 +50,32 @@ impl<J: PlanName> Drop for PlaceNote<'_, J> {
 /// than they do.
 const FEW: usize = 8;
 
-/// What a line has noted, in the order of looking: keys, names and places. It holds no record.
-pub struct PlaceNotes<'t, J: PlanName> {
+/// Room for so many notes is made first: most lines have two.
+const USUAL: usize = 2;
+
+/// The notes of a line that has some, in the order of looking.
+struct Held<'t, J: PlanName> {
     notes: Vec<PlaceNote<'t, J>>,
     /// The keys again that aren't among the first few, to be found. Most lines never have it.
     index: Option<Box<BTreeSet<Key>>>,
 }
 
+impl<J: PlanName> Drop for Held<'_, J> {
+    fn drop(self) {
+        let Held { notes: _, index: _ } = self;
+    }
+}
+
+/// What a line has noted, in the order of looking: keys, names and places. It holds no record. The board has this of each
+/// line until the run ends, and a line has notes only while it is on its way: so they stand behind a box, made with the first
+/// of them, and without notes this takes two words.
+pub struct PlaceNotes<'t, J: PlanName> {
+    held: Option<Box<Held<'t, J>>>,
+}
+
 impl<J: PlanName> Drop for PlaceNotes<'_, J> {
     fn drop(self) {
-        let PlaceNotes { notes: _, index: _ } = self;
+        let PlaceNotes { held: _ } = self;
     }
 }
 
@@ -68,40 +85,112 @@ impl<'t, J: PlanName> Model for PlaceNotes<'t, J> {
 
     ghost Value = { List Noted };
 
+    ghost use Rattle.board_lines.specs.Devices.Held.{index_in, notes_in};
     ghost use Rattle.board_lines.specs.Notes.{AreNoted, noted};
 
-    ghost view = { λ n. map noted n.notes.items };
+    ghost view = { λ n. map noted (notes_in n.held) };
 
-    ghost invariant = { λ n. AreNoted n.notes.items n.index };
+    ghost invariant = { λ n. AreNoted (notes_in n.held) (index_in n.held) };
 }
 
 impl<'t, J: PlanName> PlaceNotes<'t, J> {
     /// No notes.
-    pub fn new(alloc: Global) -> PlaceNotes<'t, J>
+    pub fn new() -> PlaceNotes<'t, J>
         ensures { result ≡ [] }
     {
-        PlaceNotes {
-            notes: Vec::new(alloc),
-            index: None,
-        }
+        PlaceNotes { held: None }
     }
 
     /// Whether a key is noted.
     pub fn has(&self, key: &Key) -> bool
         ensures { result ≡ is_noted self.now key.now }
     {
-        is_among(first_few(&self.notes), key) || is_indexed(&self.index, key)
+        match &self.held {
+            Some(held) => is_among(first_few(&held.notes), key) || is_indexed(&held.index, key),
+            None => false,
+        }
     }
 
     /// One more note, of a key that isn't noted; it has no place just where its name is the base's. Without memory nothing
     /// changes.
-    pub(crate) fn add(&mut self, key: &Key, seen: PlacedName<'t, J>) -> Result<(), AllocError>
+    pub(crate) fn add(
+        &mut self,
+        alloc: Global,
+        key: &Key,
+        seen: PlacedName<'t, J>,
+    ) -> Result<(), AllocError>
         requires fresh { is_noted self.old key.now ≡ false }
         requires placed { IsPlaced (note_with key.now seen) }
         ensures ok { OnOk result (self.new ≡ self.old ++ note_with key.now seen.entry ∷ []) }
         ensures err { OnErr result (self.new ≡ self.old) }
     {
-        let alloc = *self.notes.allocator();
+        if let Some(held) = &mut self.held {
+            return held.add(alloc, key, seen);
+        }
+        self.held = Some(first_held(alloc, key, seen)?);
+        Ok(())
+    }
+
+    /// No notes any more. Their memory is given back.
+    pub fn clear(&mut self)
+        ensures { self.new ≡ [] }
+    {
+        self.held = None;
+    }
+
+    /// How many there are. No key is noted twice, and a note has no place just where its name is the base's.
+    pub fn len(&self) -> usize
+        ensures count { result ≡ length self.now }
+        ensures once { AreOnce self.now }
+        ensures placed { ArePlaced self.now }
+    {
+        match &self.held {
+            Some(held) => held.notes.len(),
+            None => 0,
+        }
+    }
+
+    /// The key of the i-th note, from 0.
+    pub fn key(&self, i: usize) -> Option<&Key>
+        ensures { option_copied result ≡ option_map (λ n. n.key) (slice_get self.now i) }
+    {
+        match nth(&self.held, i) {
+            Some(note) => Some(&note.key),
+            None => None,
+        }
+    }
+
+    /// The key and the name of the i-th note, from 0.
+    pub fn named(&self, i: usize) -> Option<(Key, Name)>
+        ensures { result ≡ option_map key_and_name_of (slice_get self.now i) }
+    {
+        match nth(&self.held, i) {
+            Some(note) => Some((note.key, note.seen.name)),
+            None => None,
+        }
+    }
+
+    /// The name and the place of the i-th note, from 0.
+    pub fn seen(&self, i: usize) -> Option<PlacedName<'t, J>>
+        ensures { option_map by_place result ≡ option_map named_in (slice_get self.now i) }
+    {
+        match nth(&self.held, i) {
+            Some(note) => Some(note.seen),
+            None => None,
+        }
+    }
+}
+
+impl<'t, J: PlanName> Held<'t, J> {
+    /// One more note, of a key that isn't noted. Without memory the notes stay as they are.
+    fn add(&mut self, alloc: Global, key: &Key, seen: PlacedName<'t, J>) -> Result<(), AllocError>
+        requires noted { AreNoted self.old.notes.items self.old.index }
+        requires fresh { is_noted (map noted self.old.notes.items) key.now ≡ false }
+        requires placed { IsPlaced (note_with key.now seen) }
+        ensures noted { AreNoted self.new.notes.items self.new.index }
+        ensures ok { OnOk result (map noted self.new.notes.items ≡ map noted self.old.notes.items ++ note_with key.now seen.entry ∷ []) }
+        ensures err { OnErr result (map noted self.new.notes.items ≡ map noted self.old.notes.items) }
+    {
         let position = self.notes.len();
         let Ok(()) = self.notes.push(PlaceNote { key: *key, seen }) else {
             return Err(AllocError);
@@ -117,53 +206,25 @@ impl<'t, J: PlanName> PlaceNotes<'t, J> {
             }
         }
     }
+}
 
-    /// No notes any more. Their memory is given back.
-    pub fn clear(&mut self)
-        ensures { self.new ≡ [] }
-    {
-        self.notes.clear();
-        self.notes.shrink_to_fit();
-        self.index = None;
-    }
-
-    /// How many there are. No key is noted twice, and a note has no place just where its name is the base's.
-    pub fn len(&self) -> usize
-        ensures count { result ≡ length self.now }
-        ensures once { AreOnce self.now }
-        ensures placed { ArePlaced self.now }
-    {
-        self.notes.len()
-    }
-
-    /// The key of the i-th note, from 0.
-    pub fn key(&self, i: usize) -> Option<&Key>
-        ensures { option_copied result ≡ option_map (λ n. n.key) (slice_get self.now i) }
-    {
-        match nth(&self.notes, i) {
-            Some(note) => Some(&note.key),
-            None => None,
-        }
-    }
-
-    /// The key and the name of the i-th note, from 0.
-    pub fn named(&self, i: usize) -> Option<(Key, Name)>
-        ensures { result ≡ option_map key_and_name_of (slice_get self.now i) }
-    {
-        match nth(&self.notes, i) {
-            Some(note) => Some((note.key, note.seen.name)),
-            None => None,
-        }
-    }
-
-    /// The name and the place of the i-th note, from 0.
-    pub fn seen(&self, i: usize) -> Option<PlacedName<'t, J>>
-        ensures { option_map by_place result ≡ option_map named_in (slice_get self.now i) }
-    {
-        match nth(&self.notes, i) {
-            Some(note) => Some(note.seen),
-            None => None,
-        }
+/// A line's first note, with room for as many as most lines have.
+fn first_held<'t, J: PlanName>(
+    alloc: Global,
+    key: &Key,
+    seen: PlacedName<'t, J>,
+) -> Result<Box<Held<'t, J>>, AllocError>
+    requires { IsPlaced (note_with key.now seen) }
+    ensures noted { IfOk result (λ held. AreNoted held.value.notes.items held.value.index) }
+    ensures note { IfOk result (λ held. map noted held.value.notes.items ≡ note_with key.now seen.entry ∷ []) }
+{
+    let mut notes = Vec::with_capacity(alloc, USUAL)?;
+    let Ok(()) = notes.push(PlaceNote { key: *key, seen }) else {
+        return Err(AllocError);
+    };
+    match Box::new(alloc, Held { notes, index: None }) {
+        Ok(held) => Ok(held),
+        Err(_) => Err(AllocError),
     }
 }
 
@@ -212,8 +273,15 @@ fn enter(alloc: Global, index: &mut Option<Box<BTreeSet<Key>>>, key: &Key) -> Re
     Ok(())
 }
 
-fn nth<'n, 't, J: PlanName>(notes: &'n [PlaceNote<'t, J>], i: usize) -> Option<&'n PlaceNote<'t, J>>
-    ensures { option_copied result ≡ slice_get notes.now i }
+/// The i-th note, from 0.
+fn nth<'n, 't, J: PlanName>(
+    held: &'n Option<Box<Held<'t, J>>>,
+    i: usize,
+) -> Option<&'n PlaceNote<'t, J>>
+    ensures { option_copied result ≡ slice_get (notes_in held.now) i }
 {
-    notes.get(i)
+    match held {
+        Some(held) => held.notes.get(i),
+        None => None,
+    }
 }

@@ -2,7 +2,6 @@
 
 use crate::notes::PlaceNotes;
 use read_set::PlanName;
-use std::alloc::Global;
 use version_store::Place;
 
 /// How far the publication of a version has come.
@@ -37,11 +36,11 @@ impl<'t, J: PlanName> Row<'t, J> {
     ghost use Rattle.board_lines.specs.Parts.{no_notes, row_shown};
 
     /// The row of a line that never ran.
-    pub fn new(alloc: Global) -> Row<'t, J>
+    pub fn new() -> Row<'t, J>
         ensures { row_shown result ≡ no_notes }
     {
         Row {
-            notes: PlaceNotes::new(alloc),
+            notes: PlaceNotes::new(),
             version: None,
             course: Course { placed: 0 },
             changed: 0,

@@ -10,7 +10,7 @@ ghost use Rattle.board_lines.specs.Notes.{found_by, notes_by, contents_at};
 
 use crate::notes::{PlaceNotes, PlacedName};
 use circ_records::{KeptKey, Key, Record};
-use read_set::{Note, Notes, Plan, PlanName};
+use read_set::{Note, NotedRecord, Notes, Plan, PlanName};
 use std::alloc::{AllocError, Global};
 use version_store::Place;
 
@@ -70,10 +70,11 @@ fn read_note<J: PlanName>(
     let Some(seen) = noted.seen(i) else {
         unreachable!()
     };
+    let found = NotedRecord::new(copied(record_seen(plan, key, seen.place))?);
     Ok(Note {
         key: KeptKey::new(alloc, key)?,
         name: seen.name,
-        found: copied(record_seen(plan, key, seen.place))?,
+        found,
     })
 }
 

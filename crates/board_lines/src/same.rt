@@ -1,13 +1,13 @@
 //! Whether a version has read what its line has noted.
 
-ghost use Rattle.std.specs.Prelude.{◌≡◌, Some, option_copied, option_map, slice_get};
+ghost use Rattle.std.specs.Prelude.{◌≡◌, Some, option_map, slice_get};
 ghost use Rattle.std.specs.Bool.{Decides};
 ghost use Rattle.board_lines.specs.Notes.{found_by, notes_by, contents_at};
 
 use crate::notes::PlaceNotes;
 use crate::reading::record_seen;
-use circ_records::{KeptKey, Key, Record};
-use read_set::{Name, Note, Plan, PlanName};
+use circ_records::{KeptKey, Key};
+use read_set::{Name, Note, NotedRecord, Plan, PlanName};
 use version_store::Place;
 
 /// Whether the notes of a version are those of its line: keys, names and records.
@@ -53,26 +53,11 @@ fn same_found<J: PlanName>(
     plan: &Plan,
     key: &Key,
     place: Option<Place<'_, J>>,
-    theirs: &Option<Record>,
+    theirs: &NotedRecord,
 ) -> bool
     ensures { Decides result (theirs.now ≡ found_by plan.now.base key.now (option_map contents_at place.entry)) }
 {
-    same_part(theirs, record_seen(plan, key, place))
-}
-
-fn same_part(a: &Option<Record>, b: Option<&Record>) -> bool
-    ensures { Decides result (a.now ≡ option_copied b.entry) }
-{
-    match a {
-        Some(ours) => match b {
-            Some(theirs) => ours.is_same(theirs),
-            None => false,
-        },
-        None => match b {
-            Some(_) => false,
-            None => true,
-        },
-    }
+    theirs.is_same(record_seen(plan, key, place))
 }
 
 fn same_name(a: Name, b: Name) -> bool

@@ -5,84 +5,71 @@ ghost use Rattle.std.specs.Bool.{Decides};
 
 use crate::holds::{Hold, Holds};
 use crate::ids::Ids;
-use crate::record::{Fee, FeeType, Item, KeptLoan, Patron, Record};
+use crate::record::{Fee, FeeType, Item, KeptLoan, Patron};
 use circ_policy::MediaType;
 use sip_reader::{Amount, Day, Id, KeptId, Text};
 
-impl Record {
-    /// Whether two records are the same: of one kind, and alike in each field.
-    pub fn is_same(&self, other: &Record) -> bool
+impl Patron {
+    /// Whether two patrons are the same: alike in each field.
+    pub fn is_same(&self, other: &Patron) -> bool
         ensures { Decides result (self.now ≡ other.now) }
     {
-        match self {
-            Record::Patron(ours) => match other {
-                Record::Patron(theirs) => same_patron(ours.get(), theirs.get()),
-                _ => false,
-            },
-            Record::Item(ours) => match other {
-                Record::Item(theirs) => same_item(ours.get(), theirs.get()),
-                _ => false,
-            },
-            Record::Fee(ours) => match other {
-                Record::Fee(theirs) => same_fee(ours.get(), theirs.get()),
-                _ => false,
-            },
+        if !same_text(&self.name, &other.name) {
+            return false;
         }
+        if !same_kept_id(&self.class, &other.class) {
+            return false;
+        }
+        if self.blocked != other.blocked {
+            return false;
+        }
+        if !same_ids(&self.loans, &other.loans) {
+            return false;
+        }
+        same_ids(&self.fees, &other.fees)
     }
 }
 
-fn same_patron(a: &Patron, b: &Patron) -> bool
-    ensures { Decides result (a.now ≡ b.now) }
-{
-    if !same_text(&a.name, &b.name) {
-        return false;
+impl Item {
+    /// Whether two items are the same: alike in each field.
+    pub fn is_same(&self, other: &Item) -> bool
+        ensures { Decides result (self.now ≡ other.now) }
+    {
+        if !same_text(&self.title, &other.title) {
+            return false;
+        }
+        if !same_media(self.media, other.media) {
+            return false;
+        }
+        if !same_text(&self.location, &other.location) {
+            return false;
+        }
+        if !same_text(&self.properties, &other.properties) {
+            return false;
+        }
+        if !same_lending(&self.loan, &other.loan) {
+            return false;
+        }
+        same_holds(&self.holds, &other.holds)
     }
-    if !same_kept_id(&a.class, &b.class) {
-        return false;
-    }
-    if a.blocked != b.blocked {
-        return false;
-    }
-    if !same_ids(&a.loans, &b.loans) {
-        return false;
-    }
-    same_ids(&a.fees, &b.fees)
 }
 
-fn same_item(a: &Item, b: &Item) -> bool
-    ensures { Decides result (a.now ≡ b.now) }
-{
-    if !same_text(&a.title, &b.title) {
-        return false;
+impl Fee {
+    /// Whether two fees are the same: alike in each field.
+    pub fn is_same(&self, other: &Fee) -> bool
+        ensures { Decides result (self.now ≡ other.now) }
+    {
+        if !same_id(&self.patron, &other.patron) {
+            return false;
+        }
+        if !same_kind(self.kind, other.kind) {
+            return false;
+        }
+        if !same_amount(self.amount, other.amount) {
+            return false;
+        }
+        same_amount(self.paid, other.paid)
     }
-    if !same_media(a.media, b.media) {
-        return false;
-    }
-    if !same_text(&a.location, &b.location) {
-        return false;
-    }
-    if !same_text(&a.properties, &b.properties) {
-        return false;
-    }
-    if !same_lending(&a.loan, &b.loan) {
-        return false;
-    }
-    same_holds(&a.holds, &b.holds)
-}
-
-fn same_fee(a: &Fee, b: &Fee) -> bool
-    ensures { Decides result (a.now ≡ b.now) }
-{
-    if !same_id(&a.patron, &b.patron) {
-        return false;
-    }
-    if !same_kind(a.kind, b.kind) {
-        return false;
-    }
-    if !same_amount(a.amount, b.amount) {
-        return false;
-    }
-    same_amount(a.paid, b.paid)
 }
 
 fn same_lending(a: &Option<KeptLoan>, b: &Option<KeptLoan>) -> bool

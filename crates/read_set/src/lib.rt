@@ -5,6 +5,7 @@
 #![tactic(auto)]
 
 mod effect;
+mod found;
 mod known;
 mod laws;
 mod notes;
@@ -17,6 +18,7 @@ mod verdict;
 mod version;
 
 pub use effect::{Draft, Effect, Writes};
+pub use found::NotedRecord;
 pub use known::{Article, Member, known_fee, known_item, known_patron};
 pub use laws::{
     final_tables_read_back, meaning_keeps_coherence, read_plans_stay_coherent,

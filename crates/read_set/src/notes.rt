@@ -5,7 +5,8 @@ ghost use Rattle.std.specs.Option.{option_copied};
 ghost use Rattle.read_set.specs.Notes.{note_of, IsOnceEach};
 ghost use Rattle.read_set.specs.Devices.Positions.{AreKept, HasRoom, few, notes_in, positions_in};
 
-use circ_records::{KeptKey, Key, Record};
+use crate::found::NotedRecord;
+use circ_records::{KeptKey, Key};
 use std::alloc::{AllocError, Global};
 use std::collections::BTreeMap;
 use std::marker::Model;
@@ -22,7 +23,7 @@ pub enum Name {
 pub struct Note {
     pub key: KeptKey,
     pub name: Name,
-    pub found: Option<Record>,
+    pub found: NotedRecord,
 }
 
 impl Drop for Note {
@@ -43,18 +44,8 @@ impl Note {
         Ok(Note {
             key: self.key.clone()?,
             name: self.name,
-            found: copy_found(&self.found)?,
+            found: self.found.copy()?,
         })
-    }
-}
-
-/// The same record, or none.
-pub(crate) fn copy_found(found: &Option<Record>) -> Result<Option<Record>, AllocError>
-    ensures { IfOk result (λ r. r ≡ found.now) }
-{
-    match found {
-        Some(found) => Ok(Some(found.copy()?)),
-        None => Ok(None),
     }
 }
 

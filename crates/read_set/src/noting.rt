@@ -5,7 +5,8 @@ ghost use Rattle.read_set.specs.Asks.{follow, Ask, Give, Gains};
 ghost use Rattle.read_set.specs.Notes.{note_of, noted};
 ghost use Rattle.read_set.specs.Stops.{Follows};
 
-use crate::notes::{Name, Note, Notes, copy_found};
+use crate::found::NotedRecord;
+use crate::notes::{Name, Note, Notes};
 use crate::source::{Source, Stop};
 use circ_records::{KeptKey, Key, Record};
 use std::alloc::{AllocError, Global};
@@ -54,7 +55,7 @@ impl<N: NotesName> Source for NotesSource<'_, N> {
     #[tactic(auto, using(crate::proofs::Gaining::gains_none))]
     fn read(&mut self, _alloc: Global, key: &Key) -> Result<Option<Record>, Stop> {
         match self.notes.get(key) {
-            Some(note) => Ok(copy_found(&note.found)?),
+            Some(note) => Ok(note.found.record()?),
             None => Err(Stop::Unnoted(*key)),
         }
     }
@@ -85,7 +86,7 @@ impl<L: Looks> Source for Noting<L> {
     #[tactic(auto, using(crate::proofs::Gaining::gains_none))]
     fn read(&mut self, alloc: Global, key: &Key) -> Result<Option<Record>, Stop> {
         match self.notes.get(key) {
-            Some(note) => Ok(copy_found(&note.found)?),
+            Some(note) => Ok(note.found.record()?),
             None => look_for(alloc, &mut self.notes, &mut self.looks, key),
         }
     }
@@ -123,7 +124,8 @@ fn note_found(
     ensures gives { Follows result (follow (noted notes.new) (Ask key.now Give)) }
     ensures keeps { Gains (noted notes.old) (noted notes.new) (Ask key.now Give) }
 {
-    let copy = copy_found(&found)?;
+    let found = NotedRecord::new(found);
+    let copy = found.record()?;
     notes.add(Note {
         key: KeptKey::new(alloc, key)?,
         name,

@@ -16,7 +16,7 @@ use crate::steps::BoardFault;
 use board_lines::{Reply, copied, record_seen};
 use circ_records::{KeptKey, Key, Record};
 use message_meaning::{need, perform};
-use read_set::{Looks, Name, Need, Note, Notes, Noting, PlanName, Stop, Version};
+use read_set::{Looks, Name, Need, Note, NotedRecord, Notes, Noting, PlanName, Stop, Version};
 use std::alloc::{AllocError, Global};
 use std::sync::Wait;
 use version_store::{Place, VersionTable};
@@ -183,6 +183,7 @@ fn look_at<J: PlanName>(
         _ => unreachable!(),
     };
     let found = copied(record_seen(plan, key, place))?;
+    let found = NotedRecord::new(found);
     notes.add(Note {
         key: KeptKey::new(alloc, key)?,
         name,

@@ -37,10 +37,7 @@ fn record_noted<J: PlanName>(version: &Version<J>, key: &Key) -> Result<Option<R
     let Some(note) = version.reads().get(key) else {
         return Ok(None);
     };
-    match &note.found {
-        Some(record) => Ok(Some(record.copy()?)),
-        None => Ok(None),
-    }
+    note.found.record()
 }
 
 /// The version that writes a noted record, of a line that does nothing.

@@ -6,7 +6,7 @@ ghost use Rattle.read_set.specs.Notes.{noted};
 use crate::checked::must_be;
 use circ_records::{KeptKey, Key, Record};
 use message_meaning::{need, perform};
-use read_set::{Name, Need, Note, Notes, Noting, Plan, PlanName};
+use read_set::{Name, Need, Note, NotedRecord, Notes, Noting, Plan, PlanName};
 use sip_answer::{Answer, write_answer};
 use std::alloc::{AllocError, Global};
 use std::marker::Brand;
@@ -136,7 +136,7 @@ fn ask<J: PlanName>(
 fn look(alloc: Global, shelf: &Shelf, key: Key, notes: &mut Notes) -> Result<(), AllocError>
     requires { noted notes.old key ≡ None }
 {
-    let found = shelf.copy_at(&key)?;
+    let found = NotedRecord::new(shelf.copy_at(&key)?);
     let name = Name::Base;
     notes.add(Note {
         key: KeptKey::new(alloc, &key)?,

@@ -46,8 +46,8 @@ returns-clause-reads g c =
     let notes = c.args.notes.now in
     let name = c.in-Seen.name in
     let place = c.in-Seen.place in
-    let is : c.in_ok-found.found ≡ found_by plan.base k (option_map contents_at place) =
-    c.in_ok-found.ensures ∙ c.record_seen.ensures ∙ ap (λ (p : Planned). found_by p.base k (option_map contents_at place)) c.plan-plan.ensures.plan in
+    let is : c.new-found.result ≡ found_by plan.base k (option_map contents_at place) =
+    c.new-found.ensures ∙ c.in_ok-found.ensures ∙ c.record_seen.ensures ∙ ap (λ (p : Planned). found_by p.base k (option_map contents_at place)) c.plan-plan.ensures.plan in
     let noted : c.add.new.self ≡ notes ++ record { key = k; name = name; found = found_by plan.base k (option_map contents_at place) } ∷ [] =
     c.in_ok-add.ensures.ok ∙ ap₂ (λ (q : Key) (f : Option Record). notes ++ record { key = q; name = name; found = f } ∷ []) c.in_ok-new.ensures is in
     subst (λ (ns : List Note). Reads plan c.look.new.self c.args.line ns) (sym noted)

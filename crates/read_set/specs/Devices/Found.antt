@@ -1,0 +1,13 @@
+-- A device of proofs: how a note keeps what it found.
+use Rattle.std.specs.Prelude.{Option, Some, None}
+use Rattle.circ_records.specs.declared.record.Record.{Record}
+use Rattle.circ_records.specs.declared.record.Record.TheVariants as record_of
+use Rattle.read_set.specs.declared.found.Held.{Held}
+use Rattle.read_set.specs.declared.found.Held.TheVariants.{Nothing, Patron, Item, Fee}
+
+-- the record that is kept, or none
+abbrev pub record_in : Held → Option Record
+record_in Nothing = None
+record_in (Patron patron) = Some (record_of.Patron patron)
+record_in (Item item) = Some (record_of.Item item)
+record_in (Fee fee) = Some (record_of.Fee fee)

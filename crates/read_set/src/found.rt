@@ -1,0 +1,133 @@
+//! What a note found.
+
+ghost use Rattle.std.specs.Prelude.{◌≡◌, IfOk, None, Some};
+ghost use Rattle.std.specs.Bool.{Decides};
+ghost use Rattle.std.specs.Option.{option_copied};
+ghost use Rattle.read_set.specs.Devices.Found.{record_in};
+
+use circ_records::{Fee, Item, Patron, Record, Shared};
+use std::alloc::AllocError;
+use std::marker::Model;
+
+/// A record, or none, as a note keeps it: versions stay until the run ends, and this takes a word less than an
+/// `Option<Record>`.
+pub struct NotedRecord {
+    held: Held,
+}
+
+impl Drop for NotedRecord {
+    fn drop(self) {
+        let NotedRecord { held: _ } = self;
+    }
+}
+
+enum Held {
+    Nothing,
+    Patron(Shared<Patron>),
+    Item(Shared<Item>),
+    Fee(Shared<Fee>),
+}
+
+impl Drop for Held {
+    fn drop(self) {
+        match self {
+            Held::Nothing => {}
+            Held::Patron(_) => {}
+            Held::Item(_) => {}
+            Held::Fee(_) => {}
+        }
+    }
+}
+
+impl Model for NotedRecord {
+    ghost use Rattle.std.specs.Prelude.{Option};
+    ghost use Rattle.circ_records.specs.declared.record.Record.{Record};
+
+    ghost Value = { Option Record };
+
+    ghost use Rattle.read_set.specs.Devices.Found.{record_in};
+
+    ghost view = { λ n. record_in n.held };
+}
+
+impl NotedRecord {
+    /// A record, or none, to be kept.
+    pub fn new(found: Option<Record>) -> NotedRecord
+        ensures { result ≡ found }
+    {
+        match found {
+            Some(record) => NotedRecord { held: holding(record) },
+            None => NotedRecord {
+                held: Held::Nothing,
+            },
+        }
+    }
+
+    /// The record, or none. It takes no memory.
+    pub fn record(&self) -> Result<Option<Record>, AllocError>
+        ensures { IfOk result (λ r. r ≡ self.now) }
+    {
+        match &self.held {
+            Held::Nothing => Ok(None),
+            Held::Patron(patron) => Ok(Some(Record::Patron(patron.copy()?))),
+            Held::Item(item) => Ok(Some(Record::Item(item.copy()?))),
+            Held::Fee(fee) => Ok(Some(Record::Fee(fee.copy()?))),
+        }
+    }
+
+    /// The same record, or none. It takes no memory.
+    pub fn copy(&self) -> Result<NotedRecord, AllocError>
+        ensures { IfOk result (λ n. n ≡ self.now) }
+    {
+        Ok(NotedRecord::new(self.record()?))
+    }
+
+    /// Whether it is that record, or none.
+    pub fn is_same(&self, other: Option<&Record>) -> bool
+        ensures { Decides result (self.now ≡ option_copied other.entry) }
+    {
+        match other {
+            Some(record) => self.is_record(record),
+            None => self.is_nothing(),
+        }
+    }
+
+    fn is_record(&self, other: &Record) -> bool
+        ensures { Decides result (self.now ≡ Some other.now) }
+    {
+        match &self.held {
+            Held::Nothing => false,
+            Held::Patron(ours) => match other {
+                Record::Patron(theirs) => ours.get().is_same(theirs.get()),
+                _ => false,
+            },
+            Held::Item(ours) => match other {
+                Record::Item(theirs) => ours.get().is_same(theirs.get()),
+                _ => false,
+            },
+            Held::Fee(ours) => match other {
+                Record::Fee(theirs) => ours.get().is_same(theirs.get()),
+                _ => false,
+            },
+        }
+    }
+
+    fn is_nothing(&self) -> bool
+        ensures { Decides result (self.now ≡ None) }
+    {
+        match &self.held {
+            Held::Nothing => true,
+            _ => false,
+        }
+    }
+}
+
+fn holding(found: Record) -> Held
+    ensures { record_in result ≡ Some found }
+{
+    match found {
+        Record::Patron(patron) => Held::Patron(patron),
+        Record::Item(item) => Held::Item(item),
+        Record::Fee(fee) => Held::Fee(fee),
+    }
+}

@@ -56,7 +56,9 @@ impl NotedRecord {
         ensures { result ≡ found }
     {
         match found {
-            Some(record) => NotedRecord { held: holding(record) },
+            Some(record) => NotedRecord {
+                held: holding(record),
+            },
             None => NotedRecord {
                 held: Held::Nothing,
             },

@@ -59,5 +59,5 @@ returns-clause-led g c = led g.J.PlanName.plan c.args.board.now c.look.new.self 
 pub returns-clause-keys : goal.returns-clause-keys
 returns-clause-keys g c =
     ap (λ (ns : List Note). map (λ (n : Note). n.key) ns) c.in_ok-add.ensures.ok
-    ∙ keys_more c.args.notes.now (record { key = c.in_ok-new.field-0; name = c.in-Seen.name; found = c.in_ok-found.found })
+    ∙ keys_more c.args.notes.now (record { key = c.in_ok-new.field-0; name = c.in-Seen.name; found = c.new-found.result })
     ∙ ap (λ (q : Key). map (λ (n : Note). n.key) c.args.notes.now ++ q ∷ []) c.in_ok-new.ensures

@@ -1,12 +1,13 @@
 -- Bytes with zeros behind them go as the bytes do, and as the numbers that they spell.
-use Rattle.std.proofs.Common.{◌≡◌, ◌≤◌, ◌<◌, ◌+◌, ◌-◌, ◌*◌, ◌++◌, ℕ, zero, suc, List, [], ◌∷◌, length, take, drop, get_or, replicate, refl, ap, sym, ◌∙◌, arith, drop-cons, drop-drop, length-drop, get_or-drop, lit<}
-use Rattle.std.proofs.Math.Seq.{take-add}
-use Rattle.std.proofs.lemmas.List.{take-append-drop}
+use Rattle.std.proofs.Common.{◌≡◌, ◌≤◌, ◌<◌, ◌+◌, ◌-◌, ◌*◌, ◌++◌, ℕ, zero, suc, List, [], ◌∷◌, length, take, drop, get_or, replicate, refl, ap, sym, ◌∙◌, arith, drop-cons, drop-drop, length-append, length-drop, get_or-drop, lit<}
+use Rattle.std.proofs.Math.Seq.{take-add, take-append-add, take-append_seam, drop-append_seam}
+use Rattle.std.proofs.lemmas.List.{take-append-drop, take-append-le, take_all, drop-append-le, replicate-append-replicate}
 use Rattle.std.proofs.lemmas.Grind.{common_steps}
 use Rattle.std.proofs.lemmas.Cmp.{tied_itself, nat_list_cmp_total}
 use Rattle.std.proofs.lemmas.List.{length-replicate}
 use Rattle.std.specs.Cmp.{nat_cmp_is, ranks}
 use Rattle.std.specs.Cmp.Lexicographic.{slice_cmp}
+use Rattle.std.specs.FinMap.{nat_cmp-IsAntisymmetric, slice_cmp-IsAntisymmetric}
 use Rattle.std.specs.Ordering.{MatchOrdering, nat_cmp, ordering_then}
 use Rattle.std.specs.Slice.Scan.{big_endian}
 use Rattle.std.specs.declared.cmp.Ordering.{Ordering}
@@ -130,7 +131,7 @@ fronts (suc m) (suc n) p q (x ∷ xs) (y ∷ ys) a b e g h =
     ∙ then_assoc (nat_cmp x y) (slice_cmp nat_cmp xs ys) (nat_cmp m n)
     ∙ ap (ordering_then (ordering_then (nat_cmp x y) (slice_cmp nat_cmp xs ys))) (next_cmp m n)
 
-pub padded_order : (m n : ℕ) (xs ys : List ℕ) → IsPadded m xs → IsPadded n ys
+pub padded_order : (m n : ℕ) (xs ys : List ℕ) → IsPadded 64 m xs → IsPadded 64 n ys
     → slice_cmp nat_cmp (take m xs) (take n ys) ≡ ordering_then (slice_cmp nat_cmp xs ys) (nat_cmp m n)
 padded_order m n xs ys g h =
     fronts m n (64 - m) (64 - n) xs ys (omega (arith, g.within, g.whole)) (omega (arith, h.within, h.whole)) (g.whole ∙ sym h.whole) g.rest h.rest
@@ -250,12 +251,125 @@ fewer_zeros zero n = let e : n ≡ n - 0 = omega arith in ap zeros e
 fewer_zeros (suc i) zero = let e : 0 ≡ 0 - suc i = omega arith in ap zeros e
 fewer_zeros (suc i) (suc n) = let e : n - i ≡ suc n - suc i = omega arith in fewer_zeros i n ∙ ap zeros e
 
-zeros_behind : (m j : ℕ) (xs : List ℕ) → IsPadded m xs → m ≤ j → drop j xs ≡ replicate (64 - j) 0
+zeros_behind : (m j : ℕ) (xs : List ℕ) → IsPadded 64 m xs → m ≤ j → drop j xs ≡ replicate (64 - j) 0
 zeros_behind m j xs h le =
     let e : m + (j - m) ≡ j = omega arith in
     let n : 64 - m - (j - m) ≡ 64 - j = omega arith in
     ap (λ k. drop k xs) (sym e) ∙ sym (drop-drop (j - m) m xs) ∙ ap (drop (j - m)) h.rest ∙ fewer_zeros (j - m) (64 - m) ∙ ap zeros n
 
 -- behind both fronts there are zeros alone
-pub both_zero : (m n j : ℕ) (xs ys : List ℕ) → IsPadded m xs → IsPadded n ys → m ≤ j → n ≤ j → drop j xs ≡ drop j ys
+pub both_zero : (m n j : ℕ) (xs ys : List ℕ) → IsPadded 64 m xs → IsPadded 64 n ys → m ≤ j → n ≤ j → drop j xs ≡ drop j ys
 both_zero m n j xs ys g h a b = zeros_behind m j xs g a ∙ sym (zeros_behind n j ys h b)
+
+-- ---- few bytes against more of them
+few_as_many : (m : ℕ) (xs : List ℕ) → IsPadded 14 m xs → drop m (xs ++ zeros 50) ≡ zeros (64 - m)
+few_as_many m xs h =
+    let n : 14 - m + 50 ≡ 64 - m = omega (arith, h.within) in
+    drop-append-le m xs (zeros 50) (omega (arith, h.within, h.whole))
+    ∙ ap (λ us. us ++ zeros 50) h.rest
+    ∙ replicate-append-replicate (14 - m) 50 0
+    ∙ ap zeros n
+
+-- 14 bytes that have zeros behind the first m, with zeros as far as 64
+pub many : (m : ℕ) (xs : List ℕ) → IsPadded 14 m xs → IsPadded 64 m (xs ++ zeros 50)
+many m xs h = record {
+  within = omega (arith, h.within);
+  whole = grind (arith, common_steps, h.whole);
+  rest = few_as_many m xs h;
+}
+
+-- the bytes behind the first 14, of which the few have none
+behind_few : (m n : ℕ) (ys : List ℕ) → m ≤ 14 → IsPadded 64 n ys
+    → ordering_then (slice_cmp nat_cmp (zeros 50) (drop 14 ys)) (nat_cmp m n) ≡ nat_cmp m n
+behind_few m n ys small h = by (nat_cmp 14 n) (ranks 14 n)
+  where
+    none : n ≤ 14 → ordering_then (slice_cmp nat_cmp (zeros 50) (drop 14 ys)) (nat_cmp m n) ≡ nat_cmp m n
+    none le =
+        ap (λ us. ordering_then (slice_cmp nat_cmp (zeros 50) us) (nat_cmp m n)) (zeros_behind n 14 ys h le)
+        ∙ ap (λ r. ordering_then r (nat_cmp m n)) (tied_itself nat_list_cmp_total (zeros 50))
+
+    by : (r : Ordering) → MatchOrdering r (14 < n) (14 ≡ n) (n < 14) → ordering_then (slice_cmp nat_cmp (zeros 50) (drop 14 ys)) (nat_cmp m n) ≡ nat_cmp m n
+    by Less l =
+        let more : 14 < n = l in
+        let below : Less ≡ nat_cmp m n = nat_cmp_is m n Less (omega arith) in
+        ap (ordering_then (slice_cmp nat_cmp (zeros 50) (drop 14 ys))) (sym below)
+        ∙ none_below 50 (drop 14 ys) (omega (arith, length-drop 14 ys, h.whole))
+        ∙ below
+    by Equal l = let all : 14 ≡ n = l in none (omega arith)
+    by Greater l = let fewer : n < 14 = l in none (omega arith)
+
+pub few_order : (m n : ℕ) (xs ys : List ℕ) → IsPadded 14 m xs → IsPadded 64 n ys
+    → slice_cmp nat_cmp (take m xs) (take n ys) ≡ ordering_then (slice_cmp nat_cmp xs (take 14 ys)) (nat_cmp m n)
+few_order m n xs ys g h =
+    ap (λ us. slice_cmp nat_cmp us (take n ys)) (sym (take-append-le m xs (zeros 50) (omega (arith, g.within, g.whole))))
+    ∙ padded_order m n (xs ++ zeros 50) ys (many m xs g) h
+    ∙ ap (λ us. ordering_then (slice_cmp nat_cmp (xs ++ zeros 50) us) (nat_cmp m n)) (sym (take-append-drop 14 ys))
+    ∙ ap (λ r. ordering_then r (nat_cmp m n)) (parted xs (take 14 ys) (zeros 50) (drop 14 ys) (g.whole ∙ sym (length_take 14 ys (omega (arith, h.whole)))))
+    ∙ sym (then_assoc (slice_cmp nat_cmp xs (take 14 ys)) (slice_cmp nat_cmp (zeros 50) (drop 14 ys)) (nat_cmp m n))
+    ∙ ap (ordering_then (slice_cmp nat_cmp xs (take 14 ys))) (behind_few m n ys g.within h)
+
+-- two words cover 14 bytes, the second from the seventh byte on: where the first ones are the same, the second ones decide
+word_behind : (zs : List ℕ) → length zs ≡ 14 → take 6 zs ++ word 6 zs ≡ zs
+word_behind zs e = sym (take-add 6 8 zs) ∙ take_all 14 zs (omega arith)
+
+six_of_eight : (zs : List ℕ) → length zs ≡ 14 → take 6 zs ≡ take 6 (take 8 zs)
+six_of_eight zs e =
+    ap (take 6) (sym (take-append-drop 8 zs))
+    ∙ take-append-le 6 (take 8 zs) (drop 8 zs) (omega (arith, length_take 8 zs (omega arith)))
+
+pub last_word : (xs ys : List ℕ) → length xs ≡ 14 → length ys ≡ 14 → Small xs → Small ys
+    → big_endian 0 (word 0 xs) ≡ big_endian 0 (word 0 ys)
+    → nat_cmp (big_endian 0 (word 6 xs)) (big_endian 0 (word 6 ys)) ≡ slice_cmp nat_cmp xs ys
+last_word xs ys d e g h s =
+    let long : length xs ≡ length ys = d ∙ sym e in
+    let eight : take 8 xs ≡ take 8 ys = slice_cmp-IsAntisymmetric nat_cmp-IsAntisymmetric (take 8 xs) (take 8 ys)
+    (alike 0 xs ys long g h (omega arith) (big_endian 0 (word 0 xs)) (big_endian 0 (word 0 ys)) refl refl s refl) in
+    let six : take 6 xs ≡ take 6 ys = six_of_eight xs d ∙ ap (take 6) eight ∙ sym (six_of_eight ys e) in
+    sym (ap (λ us. slice_cmp nat_cmp us ys) (sym (word_behind xs d))
+    ∙ ap (slice_cmp nat_cmp (take 6 xs ++ word 6 xs)) (sym (word_behind ys e))
+    ∙ parted (take 6 xs) (take 6 ys) (word 6 xs) (word 6 ys) (ap length six)
+    ∙ ap (λ us. ordering_then (slice_cmp nat_cmp us (take 6 ys)) (slice_cmp nat_cmp (word 6 xs) (word 6 ys))) six
+    ∙ ap (λ r. ordering_then r (slice_cmp nat_cmp (word 6 xs) (word 6 ys))) (tied_itself nat_list_cmp_total (take 6 ys))
+    ∙ words 6 xs ys long g h (omega arith))
+
+-- ---- few bytes and zeros, of more bytes
+first_zeros : (n : ℕ) → take n (zeros (n + 50)) ≡ zeros n
+first_zeros n =
+    let whole : length (zeros n) ≡ n = length-replicate n 0 in
+    ap (take n) (sym (replicate-append-replicate n 50 0))
+    ∙ take-append-le n (zeros n) (zeros 50) (omega (arith, whole))
+    ∙ take_all n (zeros n) (omega (arith, whole))
+
+module _ (s : List ℕ) (le : length s ≤ 14) where
+  first_14 : take 14 (s ++ zeros (64 - length s)) ≡ s ++ zeros (14 - length s)
+  first_14 =
+      let all : length s + (14 - length s) ≡ 14 = omega arith in
+      let more : 14 - length s + 50 ≡ 64 - length s = omega arith in
+      ap (λ n. take n (s ++ zeros (64 - length s))) (sym all)
+      ∙ take-append-add s (zeros (64 - length s)) (14 - length s)
+      ∙ ap (λ n. s ++ take (14 - length s) (zeros n)) (sym more)
+      ∙ ap (λ us. s ++ us) (first_zeros (14 - length s))
+
+  pub few_of : IsPadded 14 (length s) (take 14 (s ++ zeros (64 - length s)))
+  few_of = record {
+    within = le;
+    whole = ap length first_14 ∙ length-append s (zeros (14 - length s)) ∙ omega (arith, length-replicate {A = ℕ} (14 - length s) 0);
+    rest = ap (drop (length s)) first_14 ∙ drop-append_seam s (zeros (14 - length s));
+  }
+
+  pub few_are : take (length s) (take 14 (s ++ zeros (64 - length s))) ≡ s
+  few_are = ap (take (length s)) first_14 ∙ take-append_seam s (zeros (14 - length s))
+
+many_of : (s : List ℕ) → length s ≤ 64 → IsPadded 64 (length s) (s ++ zeros (64 - length s))
+many_of s le = record {
+  within = le;
+  whole = length-append s (zeros (64 - length s)) ∙ omega (arith, length-replicate {A = ℕ} (64 - length s) 0);
+  rest = drop-append_seam s (zeros (64 - length s));
+}
+
+pub few_against : (m : ℕ) (xs s ys : List ℕ) → IsPadded 14 m xs → length s ≤ 64 → ys ≡ s ++ zeros (64 - length s)
+    → slice_cmp nat_cmp (take m xs) s ≡ ordering_then (slice_cmp nat_cmp xs (take 14 ys)) (nat_cmp m (length s))
+few_against m xs s ys g le e =
+    let h : IsPadded 64 (length s) ys = rw e (many_of s le) in
+    let front : take (length s) ys ≡ s = rw e (take-append_seam s (zeros (64 - length s))) in
+    ap (slice_cmp nat_cmp (take m xs)) (sym front) ∙ few_order m (length s) xs ys g h

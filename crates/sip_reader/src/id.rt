@@ -58,6 +58,15 @@ impl Id {
         }
     }
 
+    /// The id of bytes that are one, in its form.
+    #[tactic(auto, unfolding(crate::specs::Texts::is_id))]
+    pub(crate) fn of_short(bytes: Short) -> Id
+        requires { is_id bytes ≡ true }
+        ensures { result ≡ bytes }
+    {
+        Id { bytes }
+    }
+
     /// The id of bytes that are one.
     #[tactic(auto, unfolding(crate::specs::Texts::is_id))]
     pub(crate) fn of_valid(bytes: &[u8]) -> Id
@@ -89,12 +98,12 @@ impl Id {
     }
 
     /// Its bytes, known to be those of an id.
-    pub(crate) fn as_valid(&self) -> &[u8]
+    pub(crate) fn as_valid(&self) -> &Short
         ensures bytes { result.now ≡ self.now }
         ensures valid { is_id self.now ≡ true }
     {
         let Id { bytes } = self;
-        bytes.as_bytes()
+        bytes
     }
 
     /// Its bytes as a text.

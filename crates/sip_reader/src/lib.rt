@@ -9,6 +9,7 @@ mod act;
 mod amount;
 mod checks;
 mod day;
+mod few;
 mod fields;
 mod id;
 mod kept;

@@ -35,7 +35,7 @@ impl LongId {
     pub fn new(alloc: Global, id: &Id) -> Result<LongId, AllocError>
         ensures { IfOk result (λ long. long ≡ id.now) }
     {
-        let bytes = ArcSlice::from_slice(alloc, id.as_valid())?;
+        let bytes = ArcSlice::from_slice(alloc, id.as_valid().as_bytes())?;
         Ok(LongId { bytes })
     }
 

@@ -4,7 +4,9 @@ ghost use Rattle.std.specs.Prelude.{◌≡◌, ◌≤◌, ◌+◌, ◌*◌, ◌+
 ghost use Rattle.std.specs.Cmp.Lexicographic.{slice_cmp};
 ghost use Rattle.std.specs.Ordering.{nat_cmp};
 ghost use Rattle.std.specs.Slice.Scan.{big_endian};
+ghost use Rattle.sip_reader.specs.Devices.Padding.{IsPadded};
 
+use crate::few::FEW_MAX;
 use std::cmp::Ordering;
 use std::marker::Model;
 
@@ -28,11 +30,11 @@ impl Model for Short {
 
     ghost view = { λ s. take s.len s.bytes };
 
-    ghost invariant = { λ s. IsPadded s.len s.bytes };
+    ghost invariant = { λ s. IsPadded SHORT_MAX s.len s.bytes };
 
     ghost inverse = { λ v. record { bytes = v ++ replicate (SHORT_MAX - length v) 0; len = length v } };
 
-    ghost inverse_ok = { λ a h. Prim.rw (back a.len a.bytes h, front_length a.len a.bytes h) refl };
+    ghost inverse_ok = { λ a h. Prim.rw (back SHORT_MAX a.len a.bytes h, front_length SHORT_MAX a.len a.bytes h) refl };
 }
 
 impl Short {
@@ -45,6 +47,16 @@ impl Short {
             bytes: padded(bytes),
             len: bytes.len() as u8,
         }
+    }
+
+    /// The first `len` of bytes behind which zeros stand: so many are copied whatever `len` is, which takes no call.
+    pub fn of_few(few: &[u8; FEW_MAX], len: u8) -> Short
+        requires { IsPadded FEW_MAX len few.now }
+        ensures { result ≡ take len few.now }
+    {
+        let mut whole = [0; SHORT_MAX];
+        whole[..FEW_MAX].copy_from_slice(few);
+        Short { bytes: whole, len }
     }
 
     /// The same with more bytes behind.
@@ -68,6 +80,14 @@ impl Short {
         ensures { result.now ≡ self.now }
     {
         &self.bytes[..self.len as usize]
+    }
+
+    /// The bytes and zeros behind them.
+    pub fn filled(&self) -> &[u8; SHORT_MAX]
+        ensures bytes { result.now ≡ self.now ++ replicate (SHORT_MAX - length self.now) 0 }
+        ensures within { length self.now ≤ SHORT_MAX }
+    {
+        &self.bytes
     }
 
     /// How the bytes go in the order of bytes.
@@ -115,8 +135,8 @@ fn order_of(a: &[u8; SHORT_MAX], b: &[u8; SHORT_MAX], words: usize) -> Ordering
 }
 
 /// The number that eight bytes spell, the first the greatest.
-fn word_at(bytes: &[u8; SHORT_MAX], i: usize) -> u64
-    requires { i + 8 ≤ SHORT_MAX }
+pub(crate) fn word_at(bytes: &[u8], i: usize) -> u64
+    requires { i + 8 ≤ length bytes.now }
     ensures { result ≡ big_endian 0 (take 8 (drop i bytes.now)) }
 {
     u64::from_be_bytes([

@@ -1,0 +1,100 @@
+//! Up to 14 bytes that take no memory of their own.
+
+ghost use Rattle.std.specs.Prelude.{◌≡◌, if◌then◌else◌, nat_le, Some, None, length};
+ghost use Rattle.std.specs.Cmp.Lexicographic.{slice_cmp};
+ghost use Rattle.std.specs.Ordering.{eq_by_cmp, nat_cmp};
+
+use crate::short::{Short, word_at};
+use std::cmp::Ordering;
+use std::marker::Model;
+
+/// The greatest number of bytes: with their count and a tag they take two words.
+pub const FEW_MAX: usize = 14;
+
+/// Up to 14 bytes. An enum has room for its tag beside them.
+#[derive(Clone, Copy)]
+pub struct Few {
+    /// Zeros stand behind the first `len`.
+    bytes: [u8; FEW_MAX],
+    len: u8,
+}
+
+impl Model for Few {
+    ghost use Rattle.std.specs.Prelude.{ℕ, List, ◌++◌, ◌-◌, ◌≤◌, ◌≡◌, length, take, drop, replicate, refl};
+    ghost use Rattle.sip_reader.specs.Devices.Padding.{IsPadded, back, front_length};
+    ghost use Rattle.sip_reader.specs.declared.few.TheConstants.{FEW_MAX};
+
+    ghost Value = { List ℕ };
+
+    ghost view = { λ f. take f.len f.bytes };
+
+    ghost invariant = { λ f. IsPadded FEW_MAX f.len f.bytes };
+
+    ghost inverse = { λ v. record { bytes = v ++ replicate (FEW_MAX - length v) 0; len = length v } };
+
+    ghost inverse_ok = { λ a h. Prim.rw (back FEW_MAX a.len a.bytes h, front_length FEW_MAX a.len a.bytes h) refl };
+}
+
+impl Few {
+    /// The same bytes, where they are few: 14 are copied whatever their number is, which takes no call.
+    pub fn new(short: &Short) -> Option<Few>
+        ensures { result ≡ (if nat_le (length short.now) FEW_MAX then Some short.now else None) }
+    {
+        let len = short.as_bytes().len();
+        if len <= FEW_MAX {
+            let mut bytes = [0; FEW_MAX];
+            bytes.copy_from_slice(&short.filled()[..FEW_MAX]);
+            let len = len as u8;
+            Some(Few { bytes, len })
+        } else {
+            None
+        }
+    }
+
+    /// The same bytes with room for more.
+    pub fn short(&self) -> Short
+        ensures { result ≡ self.now }
+    {
+        Short::of_few(&self.bytes, self.len)
+    }
+
+    /// The bytes.
+    pub fn as_bytes(&self) -> &[u8]
+        ensures { result.now ≡ self.now }
+    {
+        &self.bytes[..self.len as usize]
+    }
+
+    /// How they go against others in the order of bytes. Others that are more differ among the first 14, or are longer.
+    pub fn order(&self, other: &Short) -> Ordering
+        ensures { result ≡ slice_cmp nat_cmp self.now other.now }
+    {
+        match order_of(&self.bytes, &other.filled()[..FEW_MAX]) {
+            Ordering::Less => Ordering::Less,
+            Ordering::Equal => (self.len as usize).cmp(&other.as_bytes().len()),
+            Ordering::Greater => Ordering::Greater,
+        }
+    }
+
+    /// Whether they are these.
+    pub fn is(&self, other: &Short) -> bool
+        ensures { result ≡ eq_by_cmp (slice_cmp nat_cmp) other.now self.now }
+    {
+        self.order(other).is_eq()
+    }
+}
+
+/// How 14 bytes go in the order of bytes, seen in two words, since keys are compared all the time.
+fn order_of(a: &[u8], b: &[u8]) -> Ordering
+    requires these { length a.now ≡ FEW_MAX }
+    requires others { length b.now ≡ FEW_MAX }
+    ensures { result ≡ slice_cmp nat_cmp a.now b.now }
+{
+    let (first, other) = (word_at(a, 0), word_at(b, 0));
+    if first != other {
+        return first.cmp(&other);
+    }
+    // the last eight bytes: two of them are seen again, and no byte alone
+    let (last, another) = (word_at(a, 6), word_at(b, 6));
+    last.cmp(&another)
+}

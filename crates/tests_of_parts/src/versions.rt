@@ -3,6 +3,7 @@ ghost use Rattle.read_set.specs.Plans.{no_plan};
 ghost use Rattle.version_store.specs.Entries.{IsLine};
 
 mod agreement;
+mod crowd;
 mod plain;
 
 use circ_records::{KeptKey, Key};

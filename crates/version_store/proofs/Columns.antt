@@ -3,8 +3,7 @@ use Rattle.std.proofs.Common.{◌≡◌, ℕ, Bool, true, false, cond, Option, S
 use Rattle.std.specs.Ordering.{nat_cmp, eq_by_cmp, is_eq}
 use Rattle.std.specs.declared.cmp.Ordering.{Ordering}
 use Rattle.std.specs.declared.cmp.Ordering.TheVariants.{Less, Equal, Greater}
-use Rattle.std.specs.Option.{IsSome}
-use Rattle.std.specs.BTreeMap.{BTreeMap, get}
+use Rattle.std.specs.Option.{IsSome, option_or}
 use Rattle.circ_records.specs.Keys.{key_cmp, key_cmp-IsAntisymmetric}
 use Rattle.circ_records.specs.declared.key.Key.{Key}
 use Rattle.version_store.specs.Index.{has, in_column, with_at}
@@ -33,16 +32,16 @@ begun_if n m column before true h g = rw (h refl) g
 begun_if n m column before false h g = refl
 
 -- a column that is new has one line
-pub begun : (old new : BTreeMap Key (List ℕ)) (k q : Key) (n m : ℕ) (empty column : List ℕ)
-    → get key_cmp old k ≡ None
+pub begun : (old new : Key → Option (List ℕ)) (k q : Key) (n m : ℕ) (empty column : List ℕ)
+    → old k ≡ None
     → empty ≡ []
-    → ((p : Key) → get key_cmp new p ≡ cond (eq_by_cmp key_cmp k p) (Some column) (get key_cmp old p))
+    → ((p : Key) → new p ≡ cond (eq_by_cmp key_cmp k p) (Some column) (old p))
     → ((p : ℕ) → has column p ≡ cond (eq_by_cmp nat_cmp n p) true (has empty p))
-    → in_column (get key_cmp new q) m ≡ with_at k n true (λ x y. in_column (get key_cmp old x) y) q m
+    → in_column (new q) m ≡ with_at k n true (λ x y. in_column (old x) y) q m
 begun old new k q n m empty column none e u v =
     ap (λ o. in_column o m) (u q)
-    ∙ begun_if n m column (get key_cmp old q) (eq_by_cmp key_cmp k q)
-    (λ t. ap (get key_cmp old) (sym (same_key k q t)) ∙ none)
+    ∙ begun_if n m column (old q) (eq_by_cmp key_cmp k q)
+    (λ t. ap old (sym (same_key k q t)) ∙ none)
     (v m ∙ ap (cond (eq_by_cmp nat_cmp n m) true) (in_empty empty m e))
 
 changed_if : (n m : ℕ) (w : Bool) (old new : List ℕ) (before : Option (List ℕ)) (b : Bool)
@@ -53,15 +52,15 @@ changed_if n m w old new before true h g = rw (h refl) g
 changed_if n m w old new before false h g = refl
 
 -- a column in which one line was changed
-pub changed : (old new : BTreeMap Key (List ℕ)) (k q : Key) (n m : ℕ) (w : Bool) (was is : List ℕ)
-    → get key_cmp old k ≡ Some was
-    → ((p : Key) → get key_cmp new p ≡ cond (eq_by_cmp key_cmp k p) (Some is) (get key_cmp old p))
+pub changed : (old new : Key → Option (List ℕ)) (k q : Key) (n m : ℕ) (w : Bool) (was is : List ℕ)
+    → old k ≡ Some was
+    → ((p : Key) → new p ≡ cond (eq_by_cmp key_cmp k p) (Some is) (old p))
     → ((p : ℕ) → has is p ≡ cond (eq_by_cmp nat_cmp n p) w (has was p))
-    → in_column (get key_cmp new q) m ≡ with_at k n w (λ x y. in_column (get key_cmp old x) y) q m
+    → in_column (new q) m ≡ with_at k n w (λ x y. in_column (old x) y) q m
 changed old new k q n m w was is there u v =
     ap (λ o. in_column o m) (u q)
-    ∙ changed_if n m w was is (get key_cmp old q) (eq_by_cmp key_cmp k q)
-    (λ e. ap (get key_cmp old) (sym (same_key k q e)) ∙ there) (v m)
+    ∙ changed_if n m w was is (old q) (eq_by_cmp key_cmp k q)
+    (λ e. ap old (sym (same_key k q e)) ∙ there) (v m)
 
 kept_if : (m : ℕ) (old new : List ℕ) (before : Option (List ℕ)) (b : Bool)
     → (b ≡ true → before ≡ Some old) → new ≡ old
@@ -70,15 +69,15 @@ kept_if m old new before true h g = rw (h refl, g) refl
 kept_if m old new before false h g = refl
 
 -- a column that was written back as it was
-pub kept : (old new : BTreeMap Key (List ℕ)) (k q : Key) (m : ℕ) (was is : List ℕ)
-    → get key_cmp old k ≡ Some was
-    → ((p : Key) → get key_cmp new p ≡ cond (eq_by_cmp key_cmp k p) (Some is) (get key_cmp old p))
+pub kept : (old new : Key → Option (List ℕ)) (k q : Key) (m : ℕ) (was is : List ℕ)
+    → old k ≡ Some was
+    → ((p : Key) → new p ≡ cond (eq_by_cmp key_cmp k p) (Some is) (old p))
     → is ≡ was
-    → in_column (get key_cmp new q) m ≡ in_column (get key_cmp old q) m
+    → in_column (new q) m ≡ in_column (old q) m
 kept old new k q m was is there u v =
     ap (λ o. in_column o m) (u q)
-    ∙ kept_if m was is (get key_cmp old q) (eq_by_cmp key_cmp k q)
-    (λ e. ap (get key_cmp old) (sym (same_key k q e)) ∙ there) v
+    ∙ kept_if m was is (old q) (eq_by_cmp key_cmp k q)
+    (λ e. ap old (sym (same_key k q e)) ∙ there) v
 
 at_none : (b c : Bool) (o : Option (List ℕ)) (m : ℕ) → (b ≡ true → o ≡ None) → in_column o m ≡ cond b (cond c false (in_column o m)) (in_column o m)
 at_none false c o m h = refl
@@ -89,3 +88,30 @@ at_none true false o m h = refl
 pub untouched : (f : Key → Option (List ℕ)) (k q : Key) (n m : ℕ)
     → f k ≡ None → in_column (f q) m ≡ with_at k n false (λ x y. in_column (f x) y) q m
 untouched f k q n m none = at_none (eq_by_cmp key_cmp k q) (eq_by_cmp nat_cmp n m) (f q) m (λ e. ap f (sym (same_key k q e)) ∙ none)
+
+-- ---- a few keys in front of others
+-- one column of the few is another
+front_if : (b : Bool) (x : List ℕ) (o p : Option (List ℕ)) → option_or (cond b (Some x) o) p ≡ cond b (Some x) (option_or o p)
+front_if true x o p = refl
+front_if false x o p = refl
+
+pub in_front : (old new rest : Key → Option (List ℕ)) (k q : Key) (is : List ℕ)
+    → ((p : Key) → new p ≡ cond (eq_by_cmp key_cmp k p) (Some is) (old p))
+    → option_or (new q) (rest q) ≡ cond (eq_by_cmp key_cmp k q) (Some is) (option_or (old q) (rest q))
+in_front old new rest k q is u = ap (λ o. option_or o (rest q)) (u q) ∙ front_if (eq_by_cmp key_cmp k q) is (old q) (rest q)
+
+-- one line of the others is changed
+behind_if : (b c w : Bool) (m : ℕ) (o old new : Option (List ℕ)) → (b ≡ true → o ≡ None)
+    → in_column new m ≡ cond b (cond c w (in_column old m)) (in_column old m)
+    → in_column (option_or o new) m ≡ cond b (cond c w (in_column (option_or o old) m)) (in_column (option_or o old) m)
+behind_if b c w m None old new h g = g
+behind_if true c w m (Some x) old new h g = cc (h refl)
+behind_if false c w m (Some x) old new h g = refl
+
+pub behind : (few old new : Key → Option (List ℕ)) (was : Key → ℕ → Bool) (k q : Key) (n m : ℕ) (w : Bool) → few k ≡ None
+    → ((p : Key) (l : ℕ) → was p l ≡ in_column (old p) l)
+    → ((p : Key) (l : ℕ) → in_column (new p) l ≡ with_at k n w was p l)
+    → in_column (option_or (few q) (new q)) m ≡ with_at k n w (λ x y. in_column (option_or (few x) (old x)) y) q m
+behind few old new was k q n m w none same u =
+    behind_if (eq_by_cmp key_cmp k q) (eq_by_cmp nat_cmp n m) w m (few q) (old q) (new q) (λ t. ap few (sym (same_key k q t)) ∙ none)
+    (u q m ∙ ap (λ b. cond (eq_by_cmp key_cmp k q) (cond (eq_by_cmp nat_cmp n m) w b) b) (same q m))

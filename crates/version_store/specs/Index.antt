@@ -5,7 +5,8 @@ use Rattle.std.specs.List.{list_any}
 use Rattle.std.specs.Ordering.{nat_cmp, eq_by_cmp}
 use Rattle.circ_records.specs.Keys.{key_cmp}
 use Rattle.circ_records.specs.declared.key.Key.{Key}
-use Rattle.version_store.specs.Devices.Parts.{part_of}
+use Rattle.version_store.specs.Devices.Parts.{column_in, part_of}
+use Rattle.version_store.specs.declared.map.ColumnMap.{ColumnMap}
 use Rattle.version_store.specs.declared.part.IndexPart.{IndexPart}
 use Rattle.version_store.specs.declared.index.KeyIndex.{KeyIndex}
 
@@ -17,9 +18,13 @@ abbrev pub in_column : Option (List ℕ) → ℕ → Bool
 in_column None n = false
 in_column (Some column) n = has column n
 
+-- whether a line has an entry at a key, by a map of columns
+abbrev pub in_map : ColumnMap → Key → ℕ → Bool
+in_map map k n = in_column (get key_cmp map.columns k) n
+
 -- whether a line has an entry at a key, by the part of the index in which the key stands
 abbrev pub in_part : IndexPart → Key → ℕ → Bool
-in_part part k n = in_column (get key_cmp part.columns k) n
+in_part part k n = in_column (column_in part k) n
 
 abbrev pub in_parts : Option IndexPart → Key → ℕ → Bool
 in_parts None k n = false

@@ -7,27 +7,27 @@ ghost use Rattle.version_store.specs.Devices.Parts.{hashed};
 ghost use Rattle.version_store.specs.Devices.Parts as Parts;
 
 use crate::part::IndexPart;
-use circ_records::Key;
+use circ_records::{KeptKey, Key};
 use std::alloc::{AllocError, Global};
 
 /// A part for so many lines: it then has few keys.
-const LINES_A_PART: usize = 64;
+const LINES_A_PART: usize = 4;
 
 /// For each key the lines that have an entry there. A key stands in the part that its bytes choose, so a look-up goes
 /// through few keys; where all keys choose one part, it is as if there were no other.
-pub struct KeyIndex {
-    parts: Vec<IndexPart>,
+pub struct KeyIndex<'t> {
+    parts: Vec<IndexPart<'t>>,
 }
 
-impl Drop for KeyIndex {
+impl Drop for KeyIndex<'_> {
     fn drop(self) {
         let KeyIndex { parts: _ } = self;
     }
 }
 
-impl KeyIndex {
+impl<'t> KeyIndex<'t> {
     /// None of so many lines has an entry.
-    pub fn new(alloc: Global, lines: usize) -> Result<KeyIndex, AllocError>
+    pub fn new(alloc: Global, lines: usize) -> Result<KeyIndex<'t>, AllocError>
         ensures { IfOk result (λ index. (q : Key) (m : ℕ) → at index q m ≡ false) }
     {
         let count = lines / LINES_A_PART + 1;
@@ -39,7 +39,14 @@ impl KeyIndex {
     }
 
     /// The line has an entry at the key.
-    pub fn set(&mut self, alloc: Global, key: &Key, line: u64) -> Result<(), AllocError>
+    pub fn set(
+        &mut self,
+        alloc: Global,
+        key: &Key,
+        kept: &'t KeptKey,
+        line: u64,
+    ) -> Result<(), AllocError>
+        requires { kept.now ≡ key.now }
         ensures put { OnOk result ((q : Key) (m : ℕ) → at self.new q m ≡ with_at key.now line true (at self.old) q m) }
         ensures same { OnErr result ((q : Key) (m : ℕ) → at self.new q m ≡ at self.old q m) }
     {
@@ -48,7 +55,7 @@ impl KeyIndex {
             return Err(AllocError);
         }
         let part = &mut self.parts[position];
-        match part.set(alloc, key, line) {
+        match part.set(alloc, key, kept, line) {
             Ok(()) => Ok(()),
             Err(refused) => Err(refused),
         }

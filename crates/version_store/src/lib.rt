@@ -10,6 +10,7 @@ mod column;
 mod entry;
 mod index;
 mod line;
+mod map;
 mod part;
 mod short;
 mod store;

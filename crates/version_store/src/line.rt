@@ -71,14 +71,16 @@ impl<'t, J: PlanName> LineEntries<'t, J> {
     pub fn put(
         &mut self,
         alloc: Global,
-        key: &'t KeptKey,
+        key: &Key,
+        kept: &'t KeptKey,
         made: Entry<'t, J>,
     ) -> Result<(), AllocError>
+        requires { kept.now ≡ key.now }
         ensures put { OnOk result (self.new ≡ fin.insert self.old key.now (shown made.entry)) }
         ensures same { OnErr result (self.new ≡ self.old) }
         ensures absent { OnErr result (fin.get self.old key.now ≡ None) }
     {
-        put_entry(&mut self.entries, alloc, key, made)
+        put_entry(&mut self.entries, alloc, key, kept, made)
     }
 
     /// Takes the entry at a key out.
@@ -138,21 +140,23 @@ fn position_of<J: PlanName>(entries: &ShortList<Placed<'_, J>>, key: &Key) -> Re
 fn put_entry<'t, J: PlanName>(
     entries: &mut ShortList<Placed<'t, J>>,
     alloc: Global,
-    key: &'t KeptKey,
+    key: &Key,
+    kept: &'t KeptKey,
     made: Entry<'t, J>,
 ) -> Result<(), AllocError>
-    requires { Rise (keyed entries.old) }
+    requires rising { Rise (keyed entries.old) }
+    requires kept { kept.now ≡ key.now }
     ensures put { OnOk result (keyed entries.new ≡ fin.put key_cmp key.now made.entry (keyed entries.old)) }
     ensures same { OnErr result (entries.new ≡ entries.old) }
     ensures absent { OnErr result (fin.find key_cmp key.now (keyed entries.old) ≡ None) }
     ensures rising { Rise (keyed entries.new) }
 {
-    match position_of(entries, &key.key()) {
+    match position_of(entries, key) {
         Ok(position) => {
-            entries.set(position, (key, made));
+            entries.set(position, (kept, made));
             Ok(())
         }
-        Err(position) => match entries.insert(alloc, position, (key, made)) {
+        Err(position) => match entries.insert(alloc, position, (kept, made)) {
             Ok(()) => Ok(()),
             Err(refused) => Err(refused),
         },

@@ -1,60 +1,114 @@
 //! A part of the index.
 
-ghost use Rattle.std.specs.Prelude.{◌≡◌, ℕ, OnOk, OnErr, None, true, false};
-ghost use Rattle.std.specs.BTreeMap.{get};
+ghost use Rattle.std.specs.Prelude.{◌≡◌, ◌<◌, ℕ, IfOk, OnOk, OnErr, None, true, false, length};
+ghost use Rattle.std.specs.List.{position};
 ghost use Rattle.circ_records.specs.Keys.{key_cmp};
+ghost use Rattle.std.specs.Ordering.{eq_by_cmp};
 ghost use Rattle.circ_records.specs.declared.key.Key.{Key};
-ghost use Rattle.version_store.specs.Index.{IsLatest, in_part, with_at};
+ghost use Rattle.version_store.specs.Devices.Parts.{among};
+ghost use Rattle.version_store.specs.Index.{IsLatest, in_column, in_part, with_at};
 
 use crate::column::Column;
-use circ_records::Key;
+use crate::map::ColumnMap;
+use circ_records::{KeptKey, Key};
 use std::alloc::{AllocError, Global};
-use std::collections::BTreeMap;
+
+/// So many keys of a part are looked through one by one: a part mostly has fewer, and a map of them would take more memory than
+/// they do.
+const FEW: usize = 16;
+
+/// The lines that have an entry at a key, which is borrowed from the writes of a version that was placed there: so both take 32
+/// bytes, and with a key of its own they would take 96.
+type KeyColumn<'t> = (&'t KeptKey, Column);
 
 /// For each key of a part the lines that have an entry there.
-pub struct IndexPart {
-    columns: BTreeMap<Key, Column>,
+pub struct IndexPart<'t> {
+    few: Vec<KeyColumn<'t>>,
+    /// The keys that came when there were a few: whoever chooses ids can put all keys into one part.
+    others: Option<Box<ColumnMap>>,
 }
 
-impl Drop for IndexPart {
+impl Drop for IndexPart<'_> {
     fn drop(self) {
-        let IndexPart { columns: _ } = self;
+        let IndexPart { few: _, others: _ } = self;
     }
 }
 
-impl IndexPart {
+impl<'t> IndexPart<'t> {
     /// No line has an entry.
-    pub fn new(alloc: Global) -> IndexPart
+    pub fn new(alloc: Global) -> IndexPart<'t>
         ensures { (q : Key) (m : ℕ) → in_part result q m ≡ false }
     {
         IndexPart {
-            columns: BTreeMap::new(alloc),
+            few: Vec::new(alloc),
+            others: None,
         }
     }
 
     /// The line has an entry at the key.
-    pub fn set(&mut self, alloc: Global, key: &Key, line: u64) -> Result<(), AllocError>
+    pub fn set(
+        &mut self,
+        alloc: Global,
+        key: &Key,
+        kept: &'t KeptKey,
+        line: u64,
+    ) -> Result<(), AllocError>
+        requires { kept.now ≡ key.now }
         ensures put { OnOk result ((q : Key) (m : ℕ) → in_part self.new q m ≡ with_at key.now line true (in_part self.old) q m) }
         ensures same { OnErr result ((q : Key) (m : ℕ) → in_part self.new q m ≡ in_part self.old q m) }
     {
-        let Some(column) = self.columns.get_mut(key) else {
-            return self.open(alloc, key, line);
+        let Some(position) = position_among(&self.few, key) else {
+            return self.set_other(alloc, key, kept, line);
         };
-        match column.insert(line) {
+        let column = &mut self.few[position];
+        match column.1.insert(line) {
             Ok(()) => Ok(()),
             Err(refused) => Err(refused),
         }
     }
 
-    /// The line is the first that has an entry at the key.
-    fn open(&mut self, alloc: Global, key: &Key, line: u64) -> Result<(), AllocError>
-        requires first { get key_cmp self.old.columns key.now ≡ None }
+    /// The line has an entry at a key that isn't among the few.
+    fn set_other(
+        &mut self,
+        alloc: Global,
+        key: &Key,
+        kept: &'t KeptKey,
+        line: u64,
+    ) -> Result<(), AllocError>
+        requires kept { kept.now ≡ key.now }
+        requires absent { among self.old.few.items key.now ≡ None }
         ensures put { OnOk result ((q : Key) (m : ℕ) → in_part self.new q m ≡ with_at key.now line true (in_part self.old) q m) }
         ensures same { OnErr result ((q : Key) (m : ℕ) → in_part self.new q m ≡ in_part self.old q m) }
     {
-        let mut column = Column::new(alloc);
-        column.insert(line)?;
-        self.columns.insert(*key, column)?;
+        let Some(others) = &mut self.others else {
+            return self.open(alloc, key, kept, line);
+        };
+        match others.set(alloc, key, line) {
+            Ok(()) => Ok(()),
+            Err(refused) => Err(refused),
+        }
+    }
+
+    /// The line is the first that has an entry at the key, and all keys so far are among the few.
+    fn open(
+        &mut self,
+        alloc: Global,
+        key: &Key,
+        kept: &'t KeptKey,
+        line: u64,
+    ) -> Result<(), AllocError>
+        requires kept { kept.now ≡ key.now }
+        requires absent { among self.old.few.items key.now ≡ None }
+        requires only { self.old.others ≡ None }
+        ensures put { OnOk result ((q : Key) (m : ℕ) → in_part self.new q m ≡ with_at key.now line true (in_part self.old) q m) }
+        ensures same { OnErr result ((q : Key) (m : ℕ) → in_part self.new q m ≡ in_part self.old q m) }
+    {
+        if self.few.len() < FEW {
+            return open_among(&mut self.few, alloc, kept, line);
+        }
+        let mut others = ColumnMap::new(alloc);
+        others.set(alloc, key, line)?;
+        self.others = Some(Box::new(alloc, others)?);
         Ok(())
     }
 
@@ -62,8 +116,13 @@ impl IndexPart {
     pub fn clear(&mut self, key: &Key, line: u64)
         ensures { (q : Key) (m : ℕ) → in_part self.new q m ≡ with_at key.now line false (in_part self.old) q m }
     {
-        if let Some(column) = self.columns.get_mut(key) {
-            column.remove(line);
+        if let Some(position) = position_among(&self.few, key) {
+            let column = &mut self.few[position];
+            column.1.remove(line);
+            return;
+        }
+        if let Some(others) = &mut self.others {
+            others.clear(key, line);
         }
     }
 
@@ -71,9 +130,37 @@ impl IndexPart {
     pub fn latest_below(&self, key: &Key, below: u64) -> Option<u64>
         ensures { IsLatest (in_part self.now key.now) below result }
     {
-        let Some(column) = self.columns.get(key) else {
+        if let Some(position) = position_among(&self.few, key) {
+            return self.few[position].1.latest_below(below);
+        }
+        let Some(others) = &self.others else {
             return None;
         };
-        column.latest_below(below)
+        others.latest_below(key, below)
     }
+}
+
+/// The position of a key among a few.
+fn position_among(few: &[KeyColumn<'_>], key: &Key) -> Option<usize>
+    ensures { result ≡ position (λ c. eq_by_cmp key_cmp key.now c.0.now) few.now }
+{
+    few.iter().position(|column| column.0.is(key))
+}
+
+/// One more key, at which one line has an entry, in no more room than is needed: a part stays until the run ends.
+fn open_among<'t>(
+    few: &mut Vec<KeyColumn<'t>>,
+    alloc: Global,
+    kept: &'t KeptKey,
+    line: u64,
+) -> Result<(), AllocError>
+    requires { among few.old.items kept.now ≡ None }
+    ensures put { OnOk result ((q : Key) (m : ℕ) → in_column (among few.new.items q) m ≡ with_at kept.now line true (λ k n. in_column (among few.old.items k) n) q m) }
+    ensures same { OnErr result (few.new.items ≡ few.old.items) }
+{
+    let mut column = Column::new(alloc);
+    column.insert(line)?;
+    few.reserve_exact(1)?;
+    few.push((kept, column))?;
+    Ok(())
 }

@@ -17,7 +17,7 @@ use std::marker::Model;
 pub struct EntryStore<'t, J: PlanName> {
     first: u64,
     lines: Vec<LineEntries<'t, J>>,
-    index: KeyIndex,
+    index: KeyIndex<'t>,
 }
 
 impl<J: PlanName> Drop for EntryStore<'_, J> {
@@ -154,11 +154,11 @@ impl<'t, J: PlanName> EntryStore<'t, J> {
             place,
         };
         let at = key.key();
-        let Ok(()) = self.index.set(alloc, &at, line) else {
+        let Ok(()) = self.index.set(alloc, &at, key, line) else {
             return Err(AllocError);
         };
         let row = &mut self.lines[(line - self.first) as usize];
-        match row.put(alloc, key, made) {
+        match row.put(alloc, &at, key, made) {
             Ok(()) => Ok(()),
             Err(refused) => {
                 self.index.clear(&at, line);

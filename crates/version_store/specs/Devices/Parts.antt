@@ -1,7 +1,13 @@
--- A device of proofs: the part of the index in which a key stands.
-use Rattle.std.specs.Prelude.{ℕ, ◌+◌, ◌*◌, ◌^◌, ◌%◌, List, [], ◌∷◌, nat_eq, if◌then◌else◌}
-use Rattle.circ_records.specs.Keys.{id_of}
+-- A device of proofs: the part of the index in which a key stands, and the key's column in it.
+use denote.Ref.{Bor}
+use Rattle.std.specs.Prelude.{ℕ, ◌+◌, ◌*◌, ◌^◌, ◌%◌, List, [], ◌∷◌, Option, nat_eq, option_and_then, if◌then◌else◌}
+use Rattle.std.specs.BTreeMap.{get, is_at}
+use Rattle.std.specs.Map.{lookup}
+use Rattle.std.specs.Option.{option_or}
+use Rattle.circ_records.specs.Keys.{id_of, key_cmp}
 use Rattle.circ_records.specs.declared.key.Key.{Key}
+use Rattle.version_store.specs.Entries.{keyed}
+use Rattle.version_store.specs.declared.part.IndexPart.{IndexPart}
 
 -- the number that bytes spell behind a number, each worth 31 of the next, as far as 64 bits reach
 abbrev pub hashed : ℕ → List ℕ → ℕ
@@ -11,3 +17,15 @@ hashed h (b ∷ bs) = hashed (((h * 31) % 2 ^ 64 + b) % 2 ^ 64) bs
 -- of so many parts
 abbrev pub part_of : Key → ℕ → ℕ
 part_of k n = if nat_eq n 0 then 0 else hashed 0 (id_of k) % n
+
+-- the column of a key among a few
+abbrev pub among : List (Bor Key × List ℕ) → Key → Option (List ℕ)
+among few k = lookup (is_at (key_cmp k)) (keyed few)
+
+-- and among the others of a part, where it has any
+abbrev pub in_others : IndexPart → Key → Option (List ℕ)
+in_others part k = option_and_then (λ others. get key_cmp others.value.columns k) part.others
+
+-- and in a part
+abbrev pub column_in : IndexPart → Key → Option (List ℕ)
+column_in part k = option_or (among part.few.items k) (in_others part k)

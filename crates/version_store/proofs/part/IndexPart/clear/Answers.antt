@@ -1,15 +1,32 @@
-use Rattle.std.proofs.Common.{sym, false}
+use Rattle.std.proofs.Common.{◌≡◌, ◌∙◌, Some, None, ap, sym, false}
 use Rattle.std.specs.BTreeMap.{get}
+use Rattle.std.specs.List.{position}
 use Rattle.circ_records.specs.Keys.{key_cmp}
-use Rattle.version_store.proofs.Columns.{changed, untouched, some_is}
+use Rattle.version_store.specs.Devices.Parts.{among, column_in, in_others}
+use Rattle.version_store.specs.Index.{in_column, in_map}
+use Rattle.version_store.proofs.Columns.{behind, untouched}
+use Rattle.version_store.proofs.Few.{absent, is_of, line_changed, nowhere}
 use Rattle.version_store.proofs.part.IndexPart.clear.Goals as goal
 
 pub returns-in-Some : goal.returns-in-Some
 returns-in-Some c = λ q m.
-    let there = sym c.in-Some.ensures.value in
-    changed c.args.self.now.columns (c.get_mut.follows.lender c.remove.new.self) c.args.key.now q c.args.line m false c.in-Some.column.now c.remove.new.self there
-    ((c.get_mut.follows.holds c.remove.new.self).3 (some_is _ _ there)).0
-    c.remove.ensures
+    let few = c.args.self.now.few.items in
+    let k = c.args.key.now in
+    let here : position (is_of k) few ≡ Some c.in-Some.position = ap (position (is_of k)) (sym c.deref.ensures.value) ∙ sym c.position_among.ensures ∙ c.in-Some.is in
+    line_changed few (in_others c.args.self.now) k q c.in-Some.position c.index_mut-column.result.now c.remove.new.self c.args.line m false here c.index_mut-column.ensures.value c.remove.ensures
 
-pub returns-in_default : goal.returns-in_default
-returns-in_default c = λ q m. rw c.get_mut.follows.holds-at-none (untouched (get key_cmp c.args.self.now.columns) c.args.key.now q c.args.line m (sym c.in_default.ensures.value))
+pub returns-in-Some-others : goal.returns-in-Some-others
+returns-in-Some-others c = λ q m.
+    let part = c.args.self.now in
+    let k = c.args.key.now in
+    let gone : position (is_of k) part.few.items ≡ None = ap (position (is_of k)) (sym c.deref.ensures.value) ∙ sym c.position_among.ensures ∙ c.in_default.is in
+    behind (among part.few.items) (in_others part) (get key_cmp c.clear.new.self.columns) (in_map c.deref_mut.result.now) k q c.args.line m false (absent part.few.items k gone)
+    (λ p l. ap (λ map. in_map map p l) c.deref_mut.ensures.value ∙ ap (λ o. in_column (in_others (record { few = part.few; others = o }) p) l) (sym c.in-Some-others.is))
+    c.clear.ensures
+
+pub returns-in_default-others : goal.returns-in_default-others
+returns-in_default-others c = λ q m.
+    let part = c.args.self.now in
+    let k = c.args.key.now in
+    let gone : position (is_of k) part.few.items ≡ None = ap (position (is_of k)) (sym c.deref.ensures.value) ∙ sym c.position_among.ensures ∙ c.in_default.is in
+    untouched (column_in part) k q c.args.line m (nowhere part k gone c.in_default-others.is)

@@ -1,22 +1,51 @@
 ghost use Rattle.std.specs.Prelude.{◌≡◌, ◌++◌, ◌∷◌, [], IfOk, OnOk, OnErr, length, IsTrue, ◌↔◌};
+ghost use Rattle.circ_records.specs.Devices.IdLists.{ids_held};
 
 use crate::shared::Shared;
 use sip_reader::{Id, KeptId};
 use std::alloc::{AllocError, Global};
 use std::marker::Model;
 
-/// Up to so many ids take no more room than they need: most lists have no more, and lists of records stay.
-const FEW: usize = 8;
+/// Lists of up to so many ids stand in one block of memory: most have no more, and a run keeps each list that a line writes.
+const FEW: usize = 6;
 
 /// A list of ids, as a patron's loans or open fees, the oldest first. The empty one takes no memory, and another has its memory
 /// together with its copies.
 pub struct Ids {
-    held: Option<Shared<Vec<KeptId>>>,
+    held: Held,
 }
 
 impl Drop for Ids {
     fn drop(self) {
         let Ids { held: _ } = self;
+    }
+}
+
+/// Where the ids of a list stand: those of a short one in one block of memory, of as many as they are. Those of a longer one have a
+/// block that may have room for more, beside another that knows how many they are.
+enum Held {
+    None,
+    One(Shared<[KeptId; 1]>),
+    Two(Shared<[KeptId; 2]>),
+    Three(Shared<[KeptId; 3]>),
+    Four(Shared<[KeptId; 4]>),
+    Five(Shared<[KeptId; 5]>),
+    Six(Shared<[KeptId; 6]>),
+    Many(Shared<Vec<KeptId>>),
+}
+
+impl Drop for Held {
+    fn drop(self) {
+        match self {
+            Held::None => {}
+            Held::One(_) => {}
+            Held::Two(_) => {}
+            Held::Three(_) => {}
+            Held::Four(_) => {}
+            Held::Five(_) => {}
+            Held::Six(_) => {}
+            Held::Many(_) => {}
+        }
     }
 }
 
@@ -34,20 +63,25 @@ impl Ids {
     pub fn new() -> Ids
         ensures { result ≡ [] }
     {
-        Ids { held: None }
+        Ids { held: Held::None }
     }
 
     /// The list of these ids.
     pub fn from_vec(alloc: Global, ids: Vec<KeptId>) -> Result<Ids, AllocError>
         ensures { IfOk result (λ l. l ≡ ids.items) }
     {
-        if ids.is_empty() {
-            return Ok(Ids::new());
-        }
         let mut ids = ids;
-        ids.shrink_to_fit();
-        let held = Shared::new(alloc, ids)?;
-        Ok(Ids { held: Some(held) })
+        if ids.len() > FEW {
+            ids.shrink_to_fit();
+            let held = Held::Many(Shared::new(alloc, ids)?);
+            return Ok(Ids { held });
+        }
+        match ids.pop() {
+            Some(last) => Ok(Ids {
+                held: Held::longer(alloc, ids.as_slice(), last)?,
+            }),
+            None => Ok(Ids::new()),
+        }
     }
 
     /// One more id at the end. Without memory the list stays.
@@ -57,10 +91,9 @@ impl Ids {
     {
         let id = KeptId::new(alloc, &id)?;
         match &mut self.held {
-            Some(ids) => put_behind(alloc, ids, id),
-            None => {
-                let one = with_last(alloc, &[], id)?;
-                self.held = Some(Shared::new(alloc, one)?);
+            Held::Many(ids) => put_behind(alloc, ids, id),
+            few => {
+                *few = Held::longer(alloc, few.as_slice(), id)?;
                 Ok(())
             }
         }
@@ -70,10 +103,7 @@ impl Ids {
     pub fn copy(&self) -> Result<Ids, AllocError>
         ensures { IfOk result (λ ids. ids ≡ self.now) }
     {
-        let held = match &self.held {
-            Some(ids) => Some(ids.copy()?),
-            None => None,
-        };
+        let held = self.held.copy()?;
         Ok(Ids { held })
     }
 
@@ -92,9 +122,69 @@ impl Ids {
     pub fn as_slice(&self) -> &[KeptId]
         ensures { result.now ≡ self.now }
     {
-        match &self.held {
-            Some(ids) => ids.get().as_slice(),
-            None => &[],
+        self.held.as_slice()
+    }
+}
+
+impl Held {
+    /// The ids, and one more behind them.
+    fn longer(alloc: Global, ids: &[KeptId], last: KeptId) -> Result<Held, AllocError>
+        ensures { IfOk result (λ held. ids_held held ≡ ids.now ++ last ∷ []) }
+    {
+        Ok(match ids {
+            [] => Held::One(Shared::new(alloc, [last])?),
+            [a] => Held::Two(Shared::new(alloc, [a.clone()?, last])?),
+            [a, b] => Held::Three(Shared::new(alloc, [a.clone()?, b.clone()?, last])?),
+            [a, b, c] => Held::Four(Shared::new(
+                alloc,
+                [a.clone()?, b.clone()?, c.clone()?, last],
+            )?),
+            [a, b, c, d] => Held::Five(Shared::new(
+                alloc,
+                [a.clone()?, b.clone()?, c.clone()?, d.clone()?, last],
+            )?),
+            [a, b, c, d, e] => Held::Six(Shared::new(
+                alloc,
+                [
+                    a.clone()?,
+                    b.clone()?,
+                    c.clone()?,
+                    d.clone()?,
+                    e.clone()?,
+                    last,
+                ],
+            )?),
+            _ => Held::Many(Shared::new(alloc, with_last(alloc, ids, last)?)?),
+        })
+    }
+
+    fn copy(&self) -> Result<Held, AllocError>
+        ensures { IfOk result (λ held. ids_held held ≡ ids_held self.now) }
+    {
+        Ok(match self {
+            Held::None => Held::None,
+            Held::One(ids) => Held::One(ids.copy()?),
+            Held::Two(ids) => Held::Two(ids.copy()?),
+            Held::Three(ids) => Held::Three(ids.copy()?),
+            Held::Four(ids) => Held::Four(ids.copy()?),
+            Held::Five(ids) => Held::Five(ids.copy()?),
+            Held::Six(ids) => Held::Six(ids.copy()?),
+            Held::Many(ids) => Held::Many(ids.copy()?),
+        })
+    }
+
+    fn as_slice(&self) -> &[KeptId]
+        ensures { result.now ≡ ids_held self.now }
+    {
+        match self {
+            Held::None => &[],
+            Held::One(ids) => ids.get().as_slice(),
+            Held::Two(ids) => ids.get().as_slice(),
+            Held::Three(ids) => ids.get().as_slice(),
+            Held::Four(ids) => ids.get().as_slice(),
+            Held::Five(ids) => ids.get().as_slice(),
+            Held::Six(ids) => ids.get().as_slice(),
+            Held::Many(ids) => ids.get().as_slice(),
         }
     }
 }
@@ -105,35 +195,23 @@ fn put_behind(alloc: Global, ids: &mut Shared<Vec<KeptId>>, id: KeptId) -> Resul
     ensures err { OnErr result (ids.new.items ≡ ids.old.items) }
 {
     match ids.sole() {
-        Some(own) => put_last(own, id),
+        Some(own) => own.push(id)?,
         None => {
             let longer = with_last(alloc, ids.get().as_slice(), id)?;
             *ids = Shared::new(alloc, longer)?;
-            Ok(())
         }
     }
-}
-
-/// One more id at the end. Without memory nothing changes.
-fn put_last(ids: &mut Vec<KeptId>, id: KeptId) -> Result<(), AllocError>
-    ensures ok { OnOk result (ids.new.items ≡ ids.old.items ++ id ∷ []) }
-    ensures err { OnErr result (ids.new.items ≡ ids.old.items) }
-{
-    if ids.len() < FEW {
-        ids.reserve_exact(1)?;
-    }
-    ids.push(id)?;
     Ok(())
 }
 
 /// The ids, and one more behind them.
-fn with_last(alloc: Global, ids: &[KeptId], id: KeptId) -> Result<Vec<KeptId>, AllocError>
-    ensures { IfOk result (λ v. v.items ≡ ids.now ++ id ∷ []) }
+fn with_last(alloc: Global, ids: &[KeptId], last: KeptId) -> Result<Vec<KeptId>, AllocError>
+    ensures { IfOk result (λ v. v.items ≡ ids.now ++ last ∷ []) }
 {
     let mut longer = Vec::with_capacity(alloc, ids.len().saturating_add(1))?;
-    for other in ids {
-        longer.push(other.clone()?)?;
+    for id in ids {
+        longer.push(id.clone()?)?;
     }
-    longer.push(id)?;
+    longer.push(last)?;
     Ok(longer)
 }

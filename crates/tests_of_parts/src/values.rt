@@ -1,6 +1,6 @@
-//! Days, dates, amounts, sums that are owed, ids, texts and words.
+//! Days, dates, amounts, sums that are owed, ids and lists of them, texts and words.
 
-use circ_records::{KeptKey, KeptLoan, Key, Loan};
+use circ_records::{Ids, KeptKey, KeptLoan, Key, Loan};
 use sip_answer::Owed;
 use sip_reader::{
     AMOUNT_MAX, Amount, Day, Id, KeptId, Kind, Passed, Reading, Stamp, Text, Why, push_amount,
@@ -141,6 +141,34 @@ fn kept_ids(rt: HostRuntime) -> Result<(), Fail> {
         assert!(rt; KeptId::read(rt.alloc(), other)?.is_none());
     }
     Ok(())
+}
+
+/// Lists of few ids and of many are in order as they grow, and a copy stays as it was.
+#[test]
+fn lists_of_ids(rt: HostRuntime) -> Result<(), Fail> {
+    let alloc = rt.alloc();
+    let (mut own, mut copied) = (Ids::new(), Ids::new());
+    for count in 0..10 {
+        let before = copied.copy()?;
+        own.push(alloc, Id::of_fee(count, 0))?;
+        copied.push(alloc, Id::of_fee(count, 0))?;
+        let made = Ids::from_vec(alloc, Vec::from_clones(alloc, before.as_slice())?)?;
+        assert!(rt;
+            are_first(&before, count) && are_first(&made, count),
+            "{count}"
+        );
+        assert!(rt;
+            are_first(&own, count + 1) && are_first(&copied, count + 1),
+            "{count}"
+        );
+    }
+    Ok(())
+}
+
+/// Whether these are the ids of the first fees of so many lines.
+fn are_first(ids: &Ids, count: u64) -> bool {
+    let mut numbered = (0..count).zip(ids.as_slice());
+    ids.len() as u64 == count && numbered.all(|(n, id)| id.id() == Id::of_fee(n, 0))
 }
 
 #[test]

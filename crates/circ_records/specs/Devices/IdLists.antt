@@ -1,6 +1,14 @@
--- The ids of a list, the empty one without memory: a device of proofs.
-use Rattle.std.specs.Prelude.{ℕ, List, [], Option, Some, None, Vec}
+-- A device of proofs: the ids of a list, however many blocks of memory they stand in.
+use Rattle.std.specs.Prelude.{ℕ, List, []}
+use Rattle.circ_records.specs.declared.ids.Held.{Held}
+use Rattle.circ_records.specs.declared.ids.Held.TheVariants as held
 
-abbrev pub ids_held : {Z : Type 0} → Option (Vec (List ℕ) Z) → List (List ℕ)
-ids_held (Some ids) = ids.items
-ids_held None = []
+abbrev pub ids_held : Held → List (List ℕ)
+ids_held held.None = []
+ids_held (held.One ids) = ids
+ids_held (held.Two ids) = ids
+ids_held (held.Three ids) = ids
+ids_held (held.Four ids) = ids
+ids_held (held.Five ids) = ids
+ids_held (held.Six ids) = ids
+ids_held (held.Many ids) = ids.items

@@ -19,4 +19,4 @@ pub use field::Field;
 pub use item_ids::ItemIds;
 pub use laws::own_text_agrees;
 pub use owed::Owed;
-pub use writing::write_answer;
+pub use writing::{put_answer, write_answer};

@@ -1,7 +1,7 @@
 //! Answers as bytes.
 //!
-//! Where memory runs out a part of an answer may stand in the text: `write_answer` drops it, so the functions that put the
-//! parts there say nothing of it.
+//! Where memory runs out a part of an answer may stand in the text. `write_answer` drops it, and `put_answer` clears it before
+//! the next answer, so the functions that put the parts there say nothing of it.
 
 ghost use Rattle.std.specs.Prelude.{◌≡◌, ◌++◌, IfOk, OnOk};
 ghost use Rattle.sip_answer.specs.Texts.{answer_text};
@@ -22,7 +22,6 @@ const ROOM: usize = 256;
 
 /// An answer's bytes, as they stand in a table: without the carriage return. Where the request had a sequence digit, they
 /// end in the error detection of SIP 2.00 with that digit; the request to send again never does.
-#[tactic(auto, unfolding(crate::specs::Texts::answer_text))]
 pub fn write_answer(
     alloc: Global,
     answer: &Answer,
@@ -31,23 +30,34 @@ pub fn write_answer(
     ensures { IfOk result (λ v. v.items ≡ answer_text answer.now sequence) }
 {
     let mut out = Vec::with_capacity(alloc, ROOM)?;
-    match answer {
-        Answer::BlockPatron(a) => patrons::put_block_patron(&mut out, a)?,
-        Answer::Checkin(a) => items::put_checkin(&mut out, a)?,
-        Answer::Checkout(a) => loans::put_loan(&mut out, b"12", a)?,
-        Answer::Hold(a) => items::put_hold(&mut out, a)?,
-        Answer::ItemStatus(a) => items::put_item_status(&mut out, a)?,
-        Answer::PatronEnable(a) => patrons::put_patron(&mut out, b"26", a)?,
-        Answer::Renew(a) => loans::put_loan(&mut out, b"30", a)?,
-        Answer::FeePaid(a) => patrons::put_fee_paid(&mut out, a)?,
-        Answer::RenewAll(a) => loans::put_renew_all(&mut out, a)?,
-        Answer::Resend => {
-            out.extend_from_slice(b"96AZFEF6")?;
-            return Ok(out);
-        }
-    }
-    if let Some(digit) = sequence {
-        put_detection(&mut out, digit)?;
-    }
+    put_answer(&mut out, answer, sequence)?;
     Ok(out)
+}
+
+/// The same, in place of what stood in `out`: so one piece of memory serves for answer after answer.
+#[tactic(auto, unfolding(crate::specs::Texts::answer_text))]
+pub fn put_answer(
+    out: &mut Vec<u8>,
+    answer: &Answer,
+    sequence: Option<u8>,
+) -> Result<(), AllocError>
+    ensures { OnOk result (out.new.items ≡ answer_text answer.now sequence) }
+{
+    out.clear();
+    match answer {
+        Answer::BlockPatron(a) => patrons::put_block_patron(out, a)?,
+        Answer::Checkin(a) => items::put_checkin(out, a)?,
+        Answer::Checkout(a) => loans::put_loan(out, b"12", a)?,
+        Answer::Hold(a) => items::put_hold(out, a)?,
+        Answer::ItemStatus(a) => items::put_item_status(out, a)?,
+        Answer::PatronEnable(a) => patrons::put_patron(out, b"26", a)?,
+        Answer::Renew(a) => loans::put_loan(out, b"30", a)?,
+        Answer::FeePaid(a) => patrons::put_fee_paid(out, a)?,
+        Answer::RenewAll(a) => loans::put_renew_all(out, a)?,
+        Answer::Resend => return out.extend_from_slice(b"96AZFEF6"),
+    }
+    match sequence {
+        Some(digit) => put_detection(out, digit),
+        None => Ok(()),
+    }
 }

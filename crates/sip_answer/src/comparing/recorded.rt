@@ -1,12 +1,13 @@
 //! What can be read in a recorded response.
 
 ghost use Rattle.std.specs.Prelude.{◌≡◌, ◌≤◌, ◌<◌, ◌+◌, true, length};
-ghost use Rattle.std.specs.Option.{option_copied};
+ghost use Rattle.std.specs.Option.{option_and_then, option_copied};
 ghost use Rattle.sip_reader.specs.Amounts.{amount_of};
+ghost use Rattle.sip_reader.specs.Bytes as byte;
 ghost use Rattle.sip_reader.specs.Dates.{two_at};
 ghost use Rattle.sip_reader.specs.Fields.{field, or_else, pieces, text_after};
 ghost use Rattle.sip_reader.specs.Reading.{says_yes};
-ghost use Rattle.sip_answer.specs.Recorded.{are_digits, count_at, due_in, fee_in, fee_of, flag_of, ok_of, valid_in};
+ghost use Rattle.sip_answer.specs.Recorded.{are_digits, count_at, day_in, due_in, fee_in, fee_of, flag_of, ok_of, valid_in};
 
 use super::due_dates::day_in;
 use sip_reader::{Amount, Day};
@@ -95,23 +96,37 @@ pub fn text_of(piece: &[u8], a: u8, b: u8) -> Option<&[u8]>
     }
 }
 
-/// The day of the due date.
-#[tactic(auto, unfolding(crate::specs::Recorded::due_in))]
-pub fn due_in(rest: &[u8]) -> Option<Day>
-    ensures { result ≡ due_in rest.now }
+/// The day of the due date, and the fee in hundredths, 0 where it is missing or empty.
+#[tactic(auto, unfolding(crate::specs::Recorded::due_in, crate::specs::Recorded::fee_in))]
+pub fn due_and_fee(rest: &[u8]) -> (Option<Day>, Option<u64>)
+    ensures due { result.0 ≡ due_in rest.now }
+    ensures fee { result.1 ≡ fee_in rest.now }
 {
-    match first_field(rest, b'A', b'H') {
+    let (due, fee) = due_and_fee_texts(rest);
+    (day_of(due), fee_of(fee))
+}
+
+/// The texts of both, from one pass over the pieces.
+fn due_and_fee_texts(rest: &[u8]) -> (Option<&[u8]>, Option<&[u8]>)
+    ensures due { option_copied result.0 ≡ field byte.A byte.H (pieces rest.now) }
+    ensures fee { option_copied result.1 ≡ field byte.B byte.V (pieces rest.now) }
+{
+    let mut due = None;
+    let mut fee = None;
+    for piece in rest.split(|b| *b == b'|') {
+        due = or_text_after(due, b'A', b'H', piece);
+        fee = or_text_after(fee, b'B', b'V', piece);
+    }
+    (due, fee)
+}
+
+fn day_of(text: Option<&[u8]>) -> Option<Day>
+    ensures { result ≡ option_and_then day_in (option_copied text.entry) }
+{
+    match text {
         Some(text) => day_in(text),
         None => None,
     }
-}
-
-/// The fee in hundredths, 0 where it is missing or empty.
-#[tactic(auto, unfolding(crate::specs::Recorded::fee_in))]
-pub fn fee_in(rest: &[u8]) -> Option<u64>
-    ensures { result ≡ fee_in rest.now }
-{
-    fee_of(first_field(rest, b'B', b'V'))
 }
 
 fn fee_of(text: Option<&[u8]>) -> Option<u64>

@@ -2,10 +2,9 @@
 
 ghost use Rattle.std.specs.Prelude.{◌≡◌, ◌≤◌, ◌<◌, ◌+◌, ◌++◌, IfOk, length, drop, unwrap_or};
 ghost use Rattle.sip_answer.specs.Differ.{capped, checkin_words, due_words, fee_paid_words, hold_words, is_same, is_same_status, is_set, item_status_words, loan_words, patron_words, renew_all_words, word_unless};
-ghost use Rattle.sip_answer.specs.Recorded.{due_in};
 
 use super::items::is_same_as_recorded;
-use super::recorded::{count_at, due_in, fee_in, flag_of, ok_of, valid_in};
+use super::recorded::{count_at, due_and_fee, flag_of, ok_of, valid_in};
 use super::words::Words;
 use crate::answer::{
     CheckinAnswer, FeePaidAnswer, HoldAnswer, ItemStatusAnswer, LoanAnswer, PatronAnswer,
@@ -136,11 +135,12 @@ pub fn compare_loan(
         return Ok(None);
     };
     let (_, rest) = response.split_at(LOAN_FIXED);
-    let Some(fee) = fee_in(rest) else {
+    let (recorded, fee) = due_and_fee(rest);
+    let Some(fee) = fee else {
         return Ok(None);
     };
     let words = Words::new(alloc).unless(Field::Ok, is_same(answer.due.is_some(), ok))?;
-    let words = compare_due(words, answer.due, ok, rest)?;
+    let words = compare_due(words, answer.due, ok, recorded)?;
     let words = words.unless(Field::Fee, rental_of(answer.rental) == fee)?;
     Ok(Some(words))
 }
@@ -156,8 +156,13 @@ fn rental_of(rental: Option<Amount>) -> u64
 
 /// The word for the due day, which is compared where both oks are 1.
 #[tactic(auto, unfolding(crate::specs::Differ::due_words, crate::specs::Differ::word_unless))]
-fn compare_due(words: Words, due: Option<Day>, ok: bool, rest: &[u8]) -> Result<Words, AllocError>
-    ensures { IfOk result (λ w. w ≡ words ++ due_words due ok (due_in rest.now)) }
+fn compare_due(
+    words: Words,
+    due: Option<Day>,
+    ok: bool,
+    recorded: Option<Day>,
+) -> Result<Words, AllocError>
+    ensures { IfOk result (λ w. w ≡ words ++ due_words due ok recorded) }
 {
     let Some(day) = due else {
         return Ok(words);
@@ -165,7 +170,7 @@ fn compare_due(words: Words, due: Option<Day>, ok: bool, rest: &[u8]) -> Result<
     if !ok {
         return Ok(words);
     }
-    match due_in(rest) {
+    match recorded {
         Some(recorded) => words.unless(Field::Due, day.number() == recorded.number()),
         None => words.unless(Field::Due, false),
     }

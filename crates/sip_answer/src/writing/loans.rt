@@ -117,7 +117,7 @@ fn put_count(out: &mut Vec<u8>, n: usize) -> Result<(), AllocError>
 }
 
 #[tactic(auto, unfolding(crate::specs::Parts::each))]
-fn put_each(out: &mut Vec<u8>, id: &[u8], items: &[Id]) -> Result<(), AllocError>
+fn put_each(out: &mut Vec<u8>, id: &[u8; 2], items: &[Id]) -> Result<(), AllocError>
     ensures { OnOk result (out.new.items ≡ out.old.items ++ each id.now items.now) }
 {
     for item in items {

@@ -13,18 +13,18 @@ pub const COUNT_MAX: usize = 9999;
 
 /// A field: its identifier, its text and a bar.
 #[tactic(auto, unfolding(crate::specs::Parts::field))]
-pub fn put_field(out: &mut Vec<u8>, id: &[u8], text: &[u8]) -> Result<(), AllocError>
+pub fn put_field(out: &mut Vec<u8>, id: &[u8; 2], text: &[u8]) -> Result<(), AllocError>
     ensures { OnOk result (out.new.items ≡ out.old.items ++ field id.now text.now) }
 {
     out.extend_from_slice(id)?;
     out.extend_from_slice(text)?;
-    out.extend_from_slice(b"|")?;
+    out.push(b'|')?;
     Ok(())
 }
 
 /// A field that is left out where its text is empty.
 #[tactic(auto, unfolding(crate::specs::Parts::filled))]
-pub fn put_filled(out: &mut Vec<u8>, id: &[u8], text: &[u8]) -> Result<(), AllocError>
+pub fn put_filled(out: &mut Vec<u8>, id: &[u8; 2], text: &[u8]) -> Result<(), AllocError>
     ensures { OnOk result (out.new.items ≡ out.old.items ++ filled id.now text.now) }
 {
     if text.is_empty() {
@@ -53,7 +53,7 @@ pub fn put_flag(out: &mut Vec<u8>, yes: bool) -> Result<(), AllocError>
 }
 
 /// A field that holds a number.
-pub fn put_number(out: &mut Vec<u8>, id: &[u8], n: usize) -> Result<(), AllocError>
+pub fn put_number(out: &mut Vec<u8>, id: &[u8; 2], n: usize) -> Result<(), AllocError>
     ensures { OnOk result (out.new.items ≡ out.old.items ++ field id.now (decimal n)) }
 {
     put_field(out, id, Buffer::new().format(n).as_bytes())
@@ -67,7 +67,8 @@ pub fn put_money(out: &mut Vec<u8>, currency: &[u8], hundredths: u128) -> Result
     put_field(out, b"BH", currency)?;
     out.extend_from_slice(b"BV")?;
     push_amount(out, hundredths)?;
-    out.extend_from_slice(b"|")
+    out.push(b'|')?;
+    Ok(())
 }
 
 fn hex(n: u16) -> u8
@@ -85,20 +86,19 @@ fn hex(n: u16) -> u8
 fn put_hex(out: &mut Vec<u8>, n: u16) -> Result<(), AllocError>
     ensures { OnOk result (out.new.items ≡ out.old.items ++ hex_digits n) }
 {
-    out.push(hex(n / 4096))?;
-    out.push(hex(n / 256 % 16))?;
-    out.push(hex(n / 16 % 16))?;
-    out.push(hex(n % 16))?;
-    Ok(())
+    out.extend_from_slice(&[
+        hex(n / 4096),
+        hex(n / 256 % 16),
+        hex(n / 16 % 16),
+        hex(n % 16),
+    ])
 }
 
 /// Error detection: AY, the sequence digit, AZ, and the sum of all bytes up to there.
 pub fn put_detection(out: &mut Vec<u8>, sequence: u8) -> Result<(), AllocError>
     ensures { OnOk result (out.new.items ≡ with_sequence out.old.items (Some sequence)) }
 {
-    out.extend_from_slice(b"AY")?;
-    out.push(sequence)?;
-    out.extend_from_slice(b"AZ")?;
+    out.extend_from_slice(&[b'A', b'Y', sequence, b'A', b'Z'])?;
     let sum = sum_of(out.as_slice());
     put_hex(out, sum)
 }

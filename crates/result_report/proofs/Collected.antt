@@ -3,17 +3,19 @@ use Rattle.std.proofs.Common.{◌≡◌, ◌∙◌, ◌+◌, ◌<◌, ◌⊎◌,
 use Rattle.std.specs.Prelude.{slice_get}
 use Rattle.std.specs.BTreeMap.{is_at}
 use Rattle.std.specs.List.{list_any, range_with_len}
-use Rattle.std.specs.Ordering.{is_eq, ordering_reverse}
+use Rattle.std.specs.Ordering.{eq_by_cmp, is_eq, ordering_reverse}
 use Rattle.std.specs.declared.cmp.Ordering.{Ordering}
 use Rattle.std.specs.declared.cmp.Ordering.TheVariants.{Less, Equal, Greater}
 use Rattle.std.proofs.lemmas.Grind.{flat_map-append}
 use Rattle.std.proofs.lemmas.List.{append-nil}
 use Rattle.std.proofs.lemmas.List.Folds.{list_any-append}
+use Rattle.std.proofs.lemmas.Map.{update_all_push}
 use Rattle.circ_records.specs.Keys.{key_cmp, key_cmp-IsAntisymmetric, key_cmp_total}
 use Rattle.circ_records.specs.Records.{Entries, record_at}
 use Rattle.circ_records.specs.declared.key.Key.{Key}
 use Rattle.circ_records.specs.declared.record.Record.{Record}
 use Rattle.read_set.specs.Maps.{Map}
+use Rattle.result_report.specs.Devices.Listed.{Lists, listed}
 use Rattle.result_report.specs.Ends.{HasAt, keys_named, lines_keys, only_at}
 
 equal-of : (o : Ordering) → is_eq o ≡ true → o ≡ Equal
@@ -46,7 +48,8 @@ same-choice false true x h = elim (h refl) [
 ]
 
 -- nothing is to be taken, since there is nothing, or it was taken
-unchanged : (keys : List Key) (M : Map) (old : Entries) (key : Key) → ((list_any (is_at (key_cmp key)) keys ≡ true) ⊎ (M key ≡ None)) → HasAt keys M old → HasAt (keys ++ key ∷ []) M old
+unchanged : (keys : List Key) (M old : Map) (key : Key) → ((list_any (is_at (key_cmp key)) keys ≡ true) ⊎ (M key ≡ None)) → ((k : Key) → old k ≡ only_at keys M k)
+    → (k : Key) → old k ≡ only_at (keys ++ key ∷ []) M k
 unchanged keys M old key settled has k =
     has k
     ∙ same-choice (list_any (is_at (key_cmp k)) keys) (is_at (key_cmp k) key) (M k)
@@ -59,10 +62,13 @@ some-chosen false x some = cc some
 
 -- a record that is there was taken
 pub already : (keys : List Key) (M : Map) (old : Entries) (key : Key) → IsSome (record_at old key) → HasAt keys M old → HasAt (keys ++ key ∷ []) M old
-already keys M old key some has = unchanged keys M old key (inl (some-chosen (list_any (is_at (key_cmp key)) keys) (M key) (subst IsSome (has key) some))) has
+already keys M old key some has = unchanged keys M (record_at old) key (inl (some-chosen (list_any (is_at (key_cmp key)) keys) (M key) (subst IsSome (has key) some))) has
 
 pub nothing : (keys : List Key) (M : Map) (old : Entries) (key : Key) → None ≡ M key → HasAt keys M old → HasAt (keys ++ key ∷ []) M old
-nothing keys M old key none has = unchanged keys M old key (inr (sym none)) has
+nothing keys M old key none has = unchanged keys M (record_at old) key (inr (sym none)) has
+
+pub nothing-listed : (keys : List Key) (M : Map) (found : Entries) (key : Key) → None ≡ M key → Lists keys M found → Lists (keys ++ key ∷ []) M found
+nothing-listed keys M found key none has = unchanged keys M (listed found) key (inr (sym none)) has
 
 taken-choice : (b t : Bool) (r : Record) (x : Option Record) → (t ≡ true → Some r ≡ x) → cond t (Some r) (cond b x None) ≡ cond (b || (t || false)) x None
 taken-choice true true r x h = h refl
@@ -71,14 +77,23 @@ taken-choice true false r x h = refl
 taken-choice false false r x h = refl
 
 -- a record more is taken
-pub taken : (keys : List Key) (M : Map) (old new : Entries) (key : Key) (r : Record) → Some r ≡ M key
-    → ((k : Key) → record_at new k ≡ cond (is_at (key_cmp key) k) (Some r) (record_at old k)) → HasAt keys M old → HasAt (keys ++ key ∷ []) M new
-taken keys M old new key r there updates has k =
+one-more : (keys : List Key) (M old new : Map) (key : Key) (r : Record) → Some r ≡ M key
+    → ((k : Key) → new k ≡ cond (is_at (key_cmp key) k) (Some r) (old k)) → ((k : Key) → old k ≡ only_at keys M k) → (k : Key) → new k ≡ only_at (keys ++ key ∷ []) M k
+one-more keys M old new key r there updates has k =
     updates k
     ∙ ap (λ found. cond (is_at (key_cmp key) k) (Some r) found) (has k)
     ∙ ap (λ t. cond t (Some r) (only_at keys M k)) (either-way key k)
     ∙ taken-choice (list_any (is_at (key_cmp k)) keys) (is_at (key_cmp k) key) r (M k) (λ tie. there ∙ ap M (sym (one-key k key tie)))
     ∙ ap (λ b. cond b (M k) None) (sym (among keys key k))
+
+pub taken : (keys : List Key) (M : Map) (old new : Entries) (key : Key) (r : Record) → Some r ≡ M key
+    → ((k : Key) → record_at new k ≡ cond (is_at (key_cmp key) k) (Some r) (record_at old k)) → HasAt keys M old → HasAt (keys ++ key ∷ []) M new
+taken keys M old new key r there updates has = one-more keys M (record_at old) (record_at new) key r there updates has
+
+pub taken-listed : (keys : List Key) (M : Map) (found : Entries) (key : Key) (r : Record) → Some r ≡ M key → Lists keys M found → Lists (keys ++ key ∷ []) M (found ++ (key, r) ∷ [])
+taken-listed keys M found key r there has =
+    one-more keys M (listed found) (listed (found ++ (key, r) ∷ [])) key r there
+    (λ k. sym (update_all_push (eq_by_cmp key_cmp) (λ _. None) (listed found) found (key, r) k refl)) has
 
 -- the numbers up to the next one
 range-next : (a n j : ℕ) → a + n ≡ j → range_with_len a (suc n) ≡ range_with_len a n ++ j ∷ []
@@ -124,16 +139,3 @@ pub entry-more : (M : Map) (map_entries : Entries) (keys : List Key) (entries : 
     → HasAt ((keys ++ keys_named (take i entries)) ++ e.0 ∷ []) M map_entries → HasAt (keys ++ keys_named (take (i + 1) entries)) M map_entries
 entry-more M map_entries keys entries i e at has =
     subst (λ ks. HasAt ks M map_entries) (append_assoc keys (keys_named (take i entries)) (e.0 ∷ []) ∙ ap (λ (l : List Key). keys ++ l) (keys-next entries i e at)) has
-
-either-first : (b t : Bool) (x : Option Record) → cond (b || (t || false)) x None ≡ cond (t || b) x None
-either-first true true x = refl
-either-first true false x = refl
-either-first false true x = refl
-either-first false false x = refl
-
--- the key that was taken last, told first
-pub key-first : (keys : List Key) (key : Key) (M : Map) (entries : Entries) → HasAt (keys ++ key ∷ []) M entries → HasAt (key ∷ keys) M entries
-key-first keys key M entries has k =
-    has k
-    ∙ ap (λ b. cond b (M k) None) (among keys key k)
-    ∙ either-first (list_any (is_at (key_cmp k)) keys) (is_at (key_cmp k) key) (M k)

@@ -4,3 +4,4 @@ pub mod Tellings
 pub mod Tables
 pub mod Stretches
 pub mod Ends
+pub mod Devices

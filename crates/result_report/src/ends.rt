@@ -1,11 +1,14 @@
 //! The end of a run, and what is collected from it.
 
 ghost use Rattle.std.specs.Prelude.{◌≡◌, ◌≤◌, ◌<◌, ◌+◌, ◌++◌, ◌∷◌, ◌^◌, [], ℕ, List, Option, IfOk, OnOk, length, map, option_copied, option_map, slice_get};
+ghost use Rattle.std.specs.BTreeMap.{IsOrdered};
 ghost use Rattle.std.specs.List.{range_with_len};
+ghost use Rattle.circ_records.specs.Keys.{key_cmp};
 ghost use Rattle.circ_records.specs.declared.key.Key.{Key};
 ghost use Rattle.circ_records.specs.declared.record.Record.{Record};
 ghost use Rattle.read_set.specs.Plans.{Planned};
 ghost use Rattle.sip_answer.specs.declared.answer.Answer.{Answer};
+ghost use Rattle.result_report.specs.Devices.Listed.{Lists};
 ghost use Rattle.result_report.specs.Ends.{AreRecordsAt, HasAt, keys_named, lines_keys, named_keys, numbers_of};
 ghost use Rattle.result_report.specs.Report.{answers_behind};
 
@@ -65,8 +68,7 @@ pub fn collect<'e, E: End<'e>>(alloc: Global, end: &E) -> Result<Outcome<'e>, Al
 {
     let first = end.plan().first();
     let count = end.plan().readings().len();
-    let mut records = BTreeMap::new(alloc);
-    take_base(end, &mut records)?;
+    let mut records = base_records(alloc, end)?;
     take_lines(end, first, count, &mut records)?;
     Ok(Outcome {
         records: Records::from_map(records),
@@ -107,19 +109,35 @@ fn collect_attempts<'e, E: End<'e>>(
     Ok(attempts)
 }
 
-/// Takes the records at the keys of the plan. Where memory runs out `collect` drops the records, here and below.
-fn take_base<'e, E: End<'e>>(end: &E, records: &mut BTreeMap<Key, Record>) -> Result<(), AllocError>
-    ensures { OnOk result (HasAt [] (E.left end.now) records.old.entries
-        → HasAt (map (λ e. e.0) (E.planned end.now).base) (E.left end.now) records.new.entries) }
+/// The records at the keys of the plan. These rise, so the map is made of them at once, and none is looked for in it.
+fn base_records<'e, E: End<'e>>(alloc: Global, end: &E) -> Result<BTreeMap<Key, Record>, AllocError>
+    ensures rising { IfOk result (λ m. IsOrdered key_cmp m) }
+    ensures records { IfOk result (λ m. HasAt (map (λ e. e.0) (E.planned end.now).base) (E.left end.now) m.entries) }
 {
-    // the greatest first: a search in the map then ends at the first key of each node
-    for key in end.plan().keys().rev() {
-        put_record(end, key, records)?;
+    let keys = end.plan().keys();
+    let mut found = Vec::with_capacity(alloc, keys.len())?;
+    for key in keys {
+        list_record(end, key, &mut found)?;
+    }
+    found.into_iter().collect(alloc)
+}
+
+/// Puts the record at a key behind others.
+fn list_record<'e, E: End<'e>>(
+    end: &E,
+    key: &Key,
+    found: &mut Vec<(Key, Record)>,
+) -> Result<(), AllocError>
+    ensures { OnOk result ((keys : List Key) → Lists keys (E.left end.now) found.old.items
+        → Lists (keys ++ key.now ∷ []) (E.left end.now) found.new.items) }
+{
+    if let Some(record) = end.final_of(key) {
+        found.push((*key, record.copy()?))?;
     }
     Ok(())
 }
 
-/// Takes the records at the keys of what the lines wrote.
+/// Takes the records at the keys of what the lines wrote. Where memory runs out `collect` drops the records, here and below.
 fn take_lines<'e, E: End<'e>>(
     end: &E,
     first: u64,

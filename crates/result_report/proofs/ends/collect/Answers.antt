@@ -1,4 +1,4 @@
-use Rattle.std.proofs.Common.{◌≡◌, ◌∙◌, ℕ, List, [], ◌++◌, map, length, ap, ap₂, sym, refl, subst, rules}
+use Rattle.std.proofs.Common.{◌≡◌, ◌∙◌, ℕ, List, ◌++◌, map, length, ap, ap₂, sym, subst, rules}
 use Rattle.std.specs.List.{range_with_len}
 use Rattle.std.proofs.lemmas.List.{length-map}
 use Rattle.read_set.specs.Plans.{Planned}
@@ -31,9 +31,8 @@ returns-clause-records g c =
     let plan = g.E.End.planned c.args.end.now in
     let keys = map (λ e. e.0) plan.base in
     let same = numbers _ c.readings.result.now plan c.plan.result.now c.plan-2.result.now _ _ c.plan.ensures c.plan-2.ensures c.first-first.ensures c.len-count.ensures.len c.readings.ensures.readings in
-    let none : HasAt [] M c.new-records.result.entries = subst (λ es. HasAt [] M es) (sym c.new-records.ensures.empty) (λ k. refl) in
     record {
       rising = search rules;
       same = subst (λ es. HasAt (keys ++ lines_keys entered (numbers_of plan)) M es) (sym c.from_map.ensures)
-          (subst (λ ns. HasAt (keys ++ lines_keys entered ns) M c.take_lines.new.records.entries) same (c.in_ok-take_lines.ensures keys (c.in_ok-take_base.ensures none)));
+          (subst (λ ns. HasAt (keys ++ lines_keys entered ns) M c.take_lines.new.records.entries) same (c.in_ok-take_lines.ensures keys c.in_ok-records.ensures.records));
     }

@@ -1,7 +1,8 @@
 //! Keys that are kept.
 
 ghost use Rattle.std.specs.Prelude.{◌≡◌, IfOk};
-ghost use Rattle.std.specs.Ordering.{eq_by_cmp};
+ghost use Rattle.std.specs.Cmp.Lexicographic.{slice_cmp};
+ghost use Rattle.std.specs.Ordering.{eq_by_cmp, nat_cmp};
 ghost use Rattle.circ_records.specs.Devices.KeptKeys.{key_kept};
 ghost use Rattle.circ_records.specs.Keys.{key_cmp, kind, id_of};
 
@@ -84,7 +85,7 @@ impl KeptKey {
     {
         let (kind, other_kind) = (self.kept.kind(), key.kind());
         if kind == other_kind {
-            self.kept.as_bytes().cmp(key.id().as_bytes())
+            self.kept.order(key.id())
         } else {
             kind.cmp(&other_kind)
         }
@@ -94,7 +95,7 @@ impl KeptKey {
     pub fn is(&self, key: &Key) -> bool
         ensures { result ≡ eq_by_cmp key_cmp key.now self.now }
     {
-        self.kept.kind() == key.kind() && key.id().as_bytes().cmp(self.kept.as_bytes()).is_eq()
+        self.kept.kind() == key.kind() && self.kept.is(key.id())
     }
 }
 
@@ -133,12 +134,27 @@ impl Kept {
         }
     }
 
-    fn as_bytes(&self) -> &[u8]
-        ensures { result.now ≡ id_of (key_kept self.now) }
+    /// How its id goes against another, in the order of bytes.
+    fn order(&self, other: &Id) -> Ordering
+        ensures { result ≡ slice_cmp nat_cmp (id_of (key_kept self.now)) other.now }
     {
         match self {
-            Kept::ShortPatron(id) | Kept::ShortItem(id) | Kept::ShortFee(id) => id.as_bytes(),
-            Kept::LongPatron(id) | Kept::LongItem(id) | Kept::LongFee(id) => id.as_bytes(),
+            Kept::ShortPatron(id) | Kept::ShortItem(id) | Kept::ShortFee(id) => id.order(other),
+            Kept::LongPatron(id) | Kept::LongItem(id) | Kept::LongFee(id) => {
+                id.as_bytes().cmp(other.as_bytes())
+            }
+        }
+    }
+
+    /// Whether its id is this one.
+    fn is(&self, other: &Id) -> bool
+        ensures { result ≡ eq_by_cmp (slice_cmp nat_cmp) other.now (id_of (key_kept self.now)) }
+    {
+        match self {
+            Kept::ShortPatron(id) | Kept::ShortItem(id) | Kept::ShortFee(id) => id.is(other),
+            Kept::LongPatron(id) | Kept::LongItem(id) | Kept::LongFee(id) => {
+                other.as_bytes().cmp(id.as_bytes()).is_eq()
+            }
         }
     }
 

@@ -207,6 +207,32 @@ fn kept_keys(rt: HostRuntime) -> Result<(), Fail> {
     Ok(())
 }
 
+/// Kept keys go as keys do: by the first eight bytes of their ids, by those behind them, and by how many there are.
+#[test]
+fn order_of_kept_keys(rt: HostRuntime) -> Result<(), Fail> {
+    let rising = [
+        b"7".as_slice(),
+        b"7\0",
+        b"70000000",
+        b"700000001",
+        b"70000000123456",
+        b"70000000123456\0",
+        b"700000001234567",
+        b"70000000123457",
+        b"8",
+    ];
+    for (i, bytes) in rising.iter().enumerate() {
+        let key = Key::Item(Id::new(bytes).expect(&rt, "an id"));
+        let kept = KeptKey::new(rt.alloc(), &key)?;
+        for (j, other) in rising.iter().enumerate() {
+            let other = Key::Item(Id::new(other).expect(&rt, "an id"));
+            assert!(rt; kept.order(&other) == i.cmp(&j), "{i} {j}");
+            assert!(rt; kept.is(&other) == (i == j), "{i} {j}");
+        }
+    }
+    Ok(())
+}
+
 /// A kept loan is the loan that it was made of.
 #[test]
 fn kept_loans(rt: HostRuntime) -> Result<(), Fail> {

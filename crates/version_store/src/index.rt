@@ -11,7 +11,7 @@ use circ_records::{KeptKey, Key};
 use std::alloc::{AllocError, Global};
 
 /// A part for so many lines: it then has few keys.
-const LINES_A_PART: usize = 4;
+const LINES_A_PART: usize = 8;
 
 /// For each key the lines that have an entry there. A key stands in the part that its bytes choose, so a look-up goes
 /// through few keys; where all keys choose one part, it is as if there were no other.

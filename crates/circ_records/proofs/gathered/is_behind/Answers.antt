@@ -1,6 +1,5 @@
-use Rattle.std.proofs.Common.{◌≡◌, ◌∙◌, sym, ap, rules, Some, None, length, ◌-◌, true}
+use Rattle.std.proofs.Common.{◌≡◌, rules, Some, None, length, ◌-◌}
 use Rattle.std.specs.Prelude.{slice_get}
-use Rattle.std.specs.Option.{option_copied}
 use Rattle.std.specs.declared.cmp.Ordering.TheVariants.{Less}
 use Rattle.circ_records.specs.Keys.{key_cmp}
 use Rattle.circ_records.proofs.Gathering.{behind-list, behind-map, lesser}

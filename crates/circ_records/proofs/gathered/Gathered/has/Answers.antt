@@ -1,9 +1,8 @@
-use Rattle.std.proofs.Common.{◌≡◌, ◌∙◌, ap, sym, rules, true, false}
-use Rattle.std.specs.Prelude.{◌||◌, is_some}
+use Rattle.std.proofs.Common.{◌∙◌, ap, sym}
+use Rattle.std.specs.Prelude.{◌||◌}
 use Rattle.std.specs.List.{list_any}
 use Rattle.std.specs.Ordering.{eq_by_cmp}
 use Rattle.circ_records.specs.Keys.{key_cmp}
-use Rattle.circ_records.specs.Records.{record_at}
 use Rattle.circ_records.proofs.Gathering.{some-either}
 use Rattle.circ_records.proofs.gathered.Gathered.has.Goals as goal
 

@@ -1,4 +1,4 @@
-use Rattle.std.proofs.Common.{◌≡◌, ◌++◌, ◌∙◌, ap, sym, rules, false}
+use Rattle.std.proofs.Common.{◌++◌, ap, sym}
 use Rattle.std.specs.Prelude.{is_some}
 use Rattle.circ_records.specs.Devices.Gathering.{IsBehind}
 use Rattle.circ_records.proofs.Gathering.{listed-put, listed-rising, none-behind}

@@ -9,6 +9,7 @@ pub mod Entering
 pub mod Entries
 pub mod Faults
 pub mod FirstBroken
+pub mod Gathering
 pub mod ItemsTold
 pub mod Kept
 pub mod Lookups

@@ -7,7 +7,8 @@ use Rattle.std.specs.Ordering.{eq_by_cmp, is_eq, nat_cmp}
 use Rattle.std.specs.Cmp.Lexicographic.{slice_cmp}
 use Rattle.circ_records.specs.Changes.{IsChanged, changed}
 use Rattle.circ_records.specs.Keys.{key_cmp}
-use Rattle.circ_records.specs.Read.{Tells, no_rows, to_closed, to_fees, to_holds, to_items, to_loans, to_patrons}
+use Rattle.circ_records.specs.Read.{AreTold, Tells, no_rows, to_closed, to_fees, to_holds, to_items, to_loans, to_patrons}
+use Rattle.circ_records.specs.Records.{Entries, record_at}
 use Rattle.circ_records.specs.Rules.{has_row}
 use Rattle.circ_records.specs.Tables.{Row, Rows, field}
 use Rattle.circ_records.specs.Told.{closed_told, fee_told, fees_of, hold_in, item_told, item_with, loan_in, loans_of, patron_told, patron_with, queue_of, row_with}
@@ -43,23 +44,23 @@ part g c true x y z (Some row) r was h is = ap (option_map (changed c)) was ∙ 
 part g c false x y z o r was h is = was ∙ ap (λ w. option_map (g w) o) (sym is)
 
 -- a row of patrons more, whose id is new
-pub tells-patron : (r : Rows) (before : List Row) (row : Row) (old new : BTreeMap Key Record) (x : Record)
-    → Tells (to_patrons r before) old → has_row 0 (field 0 row) before ≡ false → x ≡ patron_told no_rows (field 0 row) row
-    → ((q : Key) → get key_cmp new q ≡ cond (eq_by_cmp key_cmp (key.Patron (field 0 row)) q) (Some x) (get key_cmp old q))
-    → Tells (to_patrons r (before ++ row ∷ [])) new
+pub tells-patron : (r : Rows) (before : List Row) (row : Row) (old new : Entries) (x : Record)
+    → AreTold (to_patrons r before) old → has_row 0 (field 0 row) before ≡ false → x ≡ patron_told no_rows (field 0 row) row
+    → ((q : Key) → record_at new q ≡ cond (eq_by_cmp key_cmp (key.Patron (field 0 row)) q) (Some x) (record_at old q))
+    → AreTold (to_patrons r (before ++ row ∷ [])) new
 tells-patron r before row old new x tells fresh is updates (key.Patron q) =
-    updates (key.Patron q) ∙ put (patron_told no_rows) q row before x (get key_cmp old (key.Patron q)) (tells (key.Patron q)) fresh is
+    updates (key.Patron q) ∙ put (patron_told no_rows) q row before x (record_at old (key.Patron q)) (tells (key.Patron q)) fresh is
 tells-patron r before row old new x tells fresh is updates (key.Item q) = updates (key.Item q) ∙ tells (key.Item q)
 tells-patron r before row old new x tells fresh is updates (key.Fee q) = updates (key.Fee q) ∙ tells (key.Fee q)
 
 -- a row of items more, whose id is new
-pub tells-item : (r : Rows) (before : List Row) (row : Row) (old new : BTreeMap Key Record) (x : Record)
-    → Tells (to_items r before) old → has_row 0 (field 0 row) before ≡ false → x ≡ item_told no_rows (field 0 row) row
-    → ((q : Key) → get key_cmp new q ≡ cond (eq_by_cmp key_cmp (key.Item (field 0 row)) q) (Some x) (get key_cmp old q))
-    → Tells (to_items r (before ++ row ∷ [])) new
+pub tells-item : (r : Rows) (before : List Row) (row : Row) (old new : Entries) (x : Record)
+    → AreTold (to_items r before) old → has_row 0 (field 0 row) before ≡ false → x ≡ item_told no_rows (field 0 row) row
+    → ((q : Key) → record_at new q ≡ cond (eq_by_cmp key_cmp (key.Item (field 0 row)) q) (Some x) (record_at old q))
+    → AreTold (to_items r (before ++ row ∷ [])) new
 tells-item r before row old new x tells fresh is updates (key.Patron q) = updates (key.Patron q) ∙ tells (key.Patron q)
 tells-item r before row old new x tells fresh is updates (key.Item q) =
-    updates (key.Item q) ∙ put (item_told no_rows) q row before x (get key_cmp old (key.Item q)) (tells (key.Item q)) fresh is
+    updates (key.Item q) ∙ put (item_told no_rows) q row before x (record_at old (key.Item q)) (tells (key.Item q)) fresh is
 tells-item r before row old new x tells fresh is updates (key.Fee q) = updates (key.Fee q) ∙ tells (key.Fee q)
 
 -- a row of loans more, whose item stands in none before

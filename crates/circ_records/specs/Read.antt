@@ -9,6 +9,7 @@ use Rattle.csv.specs.Records.{fields_of}
 use Rattle.csv_table.specs.declared.TableError.{TableError}
 use Rattle.csv_table.specs.declared.TableError.TheVariants as refusal
 use Rattle.circ_records.specs.Keys.{key_cmp}
+use Rattle.circ_records.specs.Records.{Entries, record_at}
 use Rattle.circ_records.specs.Rules.{has_hold}
 use Rattle.circ_records.specs.Tables.{Row, Rows}
 use Rattle.circ_records.specs.Told.{told}
@@ -52,7 +53,11 @@ to_closed rows closed = record { patrons = rows.patrons; items = rows.items; loa
 abbrev pub to_holds : Rows → List Row → Rows
 to_holds rows holds = record { patrons = rows.patrons; items = rows.items; loans = rows.loans; fees = rows.fees; closed = rows.closed; holds = holds }
 
--- a map has the records that rows tell
+-- entries have the records that rows tell
+abbrev pub AreTold : Rows → Entries → Type 0
+AreTold rows entries = (k : Key) → record_at entries k ≡ told rows k
+
+-- a map has them
 abbrev pub Tells : Rows → BTreeMap Key Record → Type 0
 Tells rows records = (k : Key) → get key_cmp records k ≡ told rows k
 

@@ -13,6 +13,7 @@ ghost use Rattle.circ_records.specs.Told.{entries_told};
 use crate::closed::add_closed;
 use crate::fault::BaseError;
 use crate::fees::add_fees;
+use crate::gathered::Gathered;
 use crate::items::add_items;
 use crate::key::Key;
 use crate::loans::add_loans;
@@ -103,9 +104,10 @@ fn records_of(
     ensures coherent { IfOk result (λ m. Coherent policy.now (number_before first) m.entries) }
     ensures err { IfErr result (λ e. Breaks e (first_broken policy.now first (rows_in rows.now))) }
 {
-    let mut records = BTreeMap::new(alloc);
-    add_patrons(alloc, policy, rows, &mut records)?;
-    add_items(alloc, policy, rows, &mut records)?;
+    let mut gathered = Gathered::new(alloc);
+    add_patrons(alloc, policy, rows, &mut gathered)?;
+    add_items(alloc, policy, rows, &mut gathered)?;
+    let mut records = gathered.into_map(alloc)?;
     add_loans(alloc, rows, &mut records)?;
     add_fees(alloc, first, rows, &mut records)?;
     add_closed(alloc, first, rows, &mut records)?;

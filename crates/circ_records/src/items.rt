@@ -1,45 +1,39 @@
 //! The table of items.
 
-ghost use Rattle.std.specs.Prelude.{◌≡◌, ◌++◌, ◌∷◌, [], List, true, false, None, IsSome, IfOk, IfErr, OnOk, IsTrue};
-ghost use Rattle.std.specs.BTreeMap.{IsOrdered};
+ghost use Rattle.std.specs.Prelude.{◌≡◌, ◌++◌, ◌∷◌, [], List, true, false, None, is_some, IsSome, IfSome, IfOk, IfErr, OnOk};
 ghost use Rattle.csv.specs.Records.{fields_of};
 ghost use Rattle.circ_policy.specs.Medias.{media_of_code};
-ghost use Rattle.sip_reader.specs.Texts.{is_id};
 ghost use Rattle.circ_records.specs.Base.{Breaks, broken_items};
-ghost use Rattle.circ_records.specs.Keys.{key_cmp};
-ghost use Rattle.circ_records.specs.Read.{Tells, no_rows, rows_in, to_items, to_patrons};
+ghost use Rattle.circ_records.specs.Read.{AreTold, no_rows, rows_in, to_items, to_patrons};
 ghost use Rattle.circ_records.specs.Rules as Rules;
 ghost use Rattle.circ_records.specs.Tables.{Row, Rows, field};
 ghost use Rattle.circ_records.specs.Told.{item_told};
 ghost use Rattle.circ_records.specs.declared.record.Record.TheVariants as record_of;
 
 use crate::fault::{BaseError, BaseRule};
+use crate::gathered::Gathered;
 use crate::holds::Holds;
 use crate::key::Key;
-use crate::known::has_item;
 use crate::record::{Item, Record};
 use crate::rows::TableRows;
 use crate::tables::TableName;
-use crate::texts::{id_at, is_text};
+use crate::texts::is_text;
 use circ_policy::{MediaType, Policy};
 use csv::ByteRecord;
 use csv_table::column;
 use sip_reader::{Id, Text};
 use std::alloc::{AllocError, Global};
-use std::collections::BTreeMap;
 
 /// Puts the items of the table among the records, or tells the first rule that a row breaks.
 pub(crate) fn add_items(
     alloc: Global,
     policy: &Policy,
     rows: &TableRows,
-    records: &mut BTreeMap<Key, Record>,
+    records: &mut Gathered,
 ) -> Result<(), BaseError>
-    requires told { Tells (to_patrons (rows_in rows.now) (rows_in rows.now).patrons) records.old }
-    requires rising { IsOrdered key_cmp records.old }
+    requires told { AreTold (to_patrons (rows_in rows.now) (rows_in rows.now).patrons) records.old }
     ensures ok { OnOk result (broken_items policy.now (rows_in rows.now) ≡ None) }
-    ensures told { OnOk result (Tells (to_items (rows_in rows.now) (rows_in rows.now).items) records.new) }
-    ensures rising { OnOk result (IsOrdered key_cmp records.new) }
+    ensures told { OnOk result (AreTold (to_items (rows_in rows.now) (rows_in rows.now).items) records.new) }
     ensures err { IfErr result (λ e. Breaks e (broken_items policy.now (rows_in rows.now))) }
 {
     for (i, row) in rows.items.iter().enumerate() {
@@ -62,37 +56,45 @@ fn put_item(
     alloc: Global,
     policy: &Policy,
     row: &ByteRecord,
-    records: &mut BTreeMap<Key, Record>,
+    records: &mut Gathered,
 ) -> Result<Option<BaseRule>, AllocError>
-    ensures rule { IfOk result (λ broken. (r : Rows) → Tells r records.old → broken ≡ Rules.item_rule policy.now r.items (fields_of row.now)) }
-    ensures told { IfOk result (λ broken. broken ≡ None → (r : Rows) (before : List Row) → Tells (to_items r before) records.old → Rules.has_row 0 (field 0 (fields_of row.now)) before ≡ false → Tells (to_items r (before ++ fields_of row.now ∷ [])) records.new) }
-    ensures rising { IfOk result (λ broken. broken ≡ None → IsOrdered key_cmp records.new) }
+    ensures rule { IfOk result (λ broken. (r : Rows) → AreTold r records.old → broken ≡ Rules.item_rule policy.now r.items (fields_of row.now)) }
+    ensures told { IfOk result (λ broken. broken ≡ None → (r : Rows) (before : List Row) → AreTold (to_items r before) records.old → Rules.has_row 0 (field 0 (fields_of row.now)) before ≡ false → AreTold (to_items r (before ++ fields_of row.now ∷ [])) records.new) }
 {
-    if !has_texts(row) {
-        Ok(Some(BaseRule::Text))
-    } else if !is_lent_by(policy, row) {
-        if has_item(records, id_at(row, 0)) {
+    let Some(id) = id_of(row) else {
+        return Ok(Some(BaseRule::Text));
+    };
+    if !is_lent_by(policy, row) {
+        if is_double(records, id) {
             Ok(Some(BaseRule::Double))
         } else {
             Ok(Some(BaseRule::Media))
         }
-    } else if add_item(alloc, row, records)? {
+    } else if add_item(alloc, id, row, records)? {
         Ok(Some(BaseRule::Double))
     } else {
         Ok(None)
     }
 }
 
+/// The id of a row, where all its texts are such.
 #[tactic(auto, unfolding(crate::specs::Rules::has_item_texts))]
-fn has_texts(row: &ByteRecord) -> bool
-    ensures value { result ≡ Rules.has_item_texts (fields_of row.now) }
-    ensures id { IsTrue result → is_id (field 0 (fields_of row.now)) ≡ true }
+fn id_of(row: &ByteRecord) -> Option<Id>
+    ensures texts { is_some result ≡ Rules.has_item_texts (fields_of row.now) }
+    ensures id { IfSome result (λ id. id ≡ field 0 (fields_of row.now)) }
 {
-    Id::new(column(row, 0)).is_some()
-        && is_text(column(row, 1))
+    let Some(id) = Id::new(column(row, 0)) else {
+        return None;
+    };
+    if is_text(column(row, 1))
         && is_text(column(row, 2))
         && is_text(column(row, 3))
         && is_text(column(row, 4))
+    {
+        Some(id)
+    } else {
+        None
+    }
 }
 
 /// Whether the policy has the media type of a row.
@@ -107,31 +109,29 @@ fn is_lent_by(policy: &Policy, row: &ByteRecord) -> bool
     }
 }
 
-/// Puts the item of a row among the records, and says whether there was one with its id.
+/// Whether there is an item with this id.
+fn is_double(records: &Gathered, id: Id) -> bool
+    ensures { (r : Rows) → AreTold r records.now → result ≡ Rules.has_row 0 id r.items }
+{
+    records.has(&Key::Item(id))
+}
+
+/// Puts the item of a row among the records under its id, and says whether there was one.
 fn add_item(
     alloc: Global,
+    id: Id,
     row: &ByteRecord,
-    records: &mut BTreeMap<Key, Record>,
+    records: &mut Gathered,
 ) -> Result<bool, AllocError>
+    requires id { id ≡ field 0 (fields_of row.now) }
     requires texts { Rules.has_item_texts (fields_of row.now) ≡ true }
     requires media { IsSome (media_of_code (field 2 (fields_of row.now))) }
-    ensures double { IfOk result (λ double. (r : Rows) → Tells r records.old → double ≡ Rules.has_row 0 (field 0 (fields_of row.now)) r.items) }
-    ensures told { OnOk result ((r : Rows) (before : List Row) → Tells (to_items r before) records.old → Rules.has_row 0 (field 0 (fields_of row.now)) before ≡ false → Tells (to_items r (before ++ fields_of row.now ∷ [])) records.new) }
-    ensures rising { OnOk result (IsOrdered key_cmp records.new) }
+    ensures double { IfOk result (λ double. (r : Rows) → AreTold r records.old → double ≡ Rules.has_row 0 (field 0 (fields_of row.now)) r.items) }
+    ensures told { OnOk result ((r : Rows) (before : List Row) → AreTold (to_items r before) records.old → Rules.has_row 0 (field 0 (fields_of row.now)) before ≡ false → AreTold (to_items r (before ++ fields_of row.now ∷ [])) records.new) }
 {
     let item = item_of(alloc, row)?;
     let told = Record::item(alloc, item)?;
-    let before = records.insert(Key::Item(row_id(row)), told)?;
-    Ok(before.is_some())
-}
-
-/// The id of a row whose texts are such.
-#[tactic(auto, unfolding(crate::specs::Rules::has_item_texts))]
-fn row_id(row: &ByteRecord) -> Id
-    requires { Rules.has_item_texts (fields_of row.now) ≡ true }
-    ensures { result ≡ field 0 (fields_of row.now) }
-{
-    id_at(row, 0)
+    records.put(alloc, Key::Item(id), told)
 }
 
 /// The item of a row, which nobody has and nobody waits for.

@@ -11,6 +11,7 @@ mod closed;
 mod fault;
 mod fee_rows;
 mod fees;
+mod gathered;
 mod holds;
 mod ids;
 mod item_rows;

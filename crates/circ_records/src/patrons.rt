@@ -1,12 +1,10 @@
 //! The table of patrons.
 
-ghost use Rattle.std.specs.Prelude.{◌≡◌, ◌++◌, ◌∷◌, [], List, true, false, None, is_some, IfOk, IfErr, OnOk, IsTrue};
-ghost use Rattle.std.specs.BTreeMap.{IsOrdered};
+ghost use Rattle.std.specs.Prelude.{◌≡◌, ◌++◌, ◌∷◌, [], List, true, false, None, is_some, IfSome, IfOk, IfErr, OnOk, IsTrue};
 ghost use Rattle.csv.specs.Records.{fields_of};
 ghost use Rattle.sip_reader.specs.Texts.{is_id};
 ghost use Rattle.circ_records.specs.Base.{Breaks, broken_patrons};
-ghost use Rattle.circ_records.specs.Keys.{key_cmp};
-ghost use Rattle.circ_records.specs.Read.{Tells, no_rows, rows_in, to_patrons};
+ghost use Rattle.circ_records.specs.Read.{AreTold, no_rows, rows_in, to_patrons};
 ghost use Rattle.circ_records.specs.Rules as Rules;
 ghost use Rattle.circ_records.specs.Tables.{Row, Rows, field};
 ghost use Rattle.circ_records.specs.Told.{patron_told};
@@ -14,9 +12,9 @@ ghost use Rattle.circ_records.specs.Values.{flag_of};
 ghost use Rattle.circ_records.specs.declared.record.Record.TheVariants as record_of;
 
 use crate::fault::{BaseError, BaseRule};
+use crate::gathered::Gathered;
 use crate::ids::Ids;
 use crate::key::Key;
-use crate::known::has_patron;
 use crate::record::{Patron, Record};
 use crate::rows::TableRows;
 use crate::tables::TableName;
@@ -27,20 +25,17 @@ use csv::ByteRecord;
 use csv_table::column;
 use sip_reader::{Id, KeptId, Text};
 use std::alloc::{AllocError, Global};
-use std::collections::BTreeMap;
 
 /// Puts the patrons of the table among the records, or tells the first rule that a row breaks.
 pub(crate) fn add_patrons(
     alloc: Global,
     policy: &Policy,
     rows: &TableRows,
-    records: &mut BTreeMap<Key, Record>,
+    records: &mut Gathered,
 ) -> Result<(), BaseError>
-    requires told { Tells no_rows records.old }
-    requires rising { IsOrdered key_cmp records.old }
+    requires told { AreTold no_rows records.old }
     ensures ok { OnOk result (broken_patrons policy.now (rows_in rows.now) ≡ None) }
-    ensures told { OnOk result (Tells (to_patrons (rows_in rows.now) (rows_in rows.now).patrons) records.new) }
-    ensures rising { OnOk result (IsOrdered key_cmp records.new) }
+    ensures told { OnOk result (AreTold (to_patrons (rows_in rows.now) (rows_in rows.now).patrons) records.new) }
     ensures err { IfErr result (λ e. Breaks e (broken_patrons policy.now (rows_in rows.now))) }
 {
     for (i, row) in rows.patrons.iter().enumerate() {
@@ -63,35 +58,43 @@ fn put_patron(
     alloc: Global,
     policy: &Policy,
     row: &ByteRecord,
-    records: &mut BTreeMap<Key, Record>,
+    records: &mut Gathered,
 ) -> Result<Option<BaseRule>, AllocError>
-    ensures rule { IfOk result (λ broken. (r : Rows) → Tells r records.old → broken ≡ Rules.patron_rule policy.now r.patrons (fields_of row.now)) }
-    ensures told { IfOk result (λ broken. broken ≡ None → (r : Rows) (before : List Row) → Tells (to_patrons r before) records.old → Rules.has_row 0 (field 0 (fields_of row.now)) before ≡ false → Tells (to_patrons r (before ++ fields_of row.now ∷ [])) records.new) }
-    ensures rising { IfOk result (λ broken. broken ≡ None → IsOrdered key_cmp records.new) }
+    ensures rule { IfOk result (λ broken. (r : Rows) → AreTold r records.old → broken ≡ Rules.patron_rule policy.now r.patrons (fields_of row.now)) }
+    ensures told { IfOk result (λ broken. broken ≡ None → (r : Rows) (before : List Row) → AreTold (to_patrons r before) records.old → Rules.has_row 0 (field 0 (fields_of row.now)) before ≡ false → AreTold (to_patrons r (before ++ fields_of row.now ∷ [])) records.new) }
 {
-    if !has_texts(row) {
-        Ok(Some(BaseRule::Text))
-    } else if flag_of(column(row, 3)).is_none() {
+    let Some(id) = id_of(row) else {
+        return Ok(Some(BaseRule::Text));
+    };
+    if flag_of(column(row, 3)).is_none() {
         Ok(Some(BaseRule::Value))
     } else if !has_class(policy, column(row, 2)) {
-        if has_patron(records, id_at(row, 0)) {
+        if is_double(records, id) {
             Ok(Some(BaseRule::Double))
         } else {
             Ok(Some(BaseRule::Class))
         }
-    } else if add_patron(alloc, row, records)? {
+    } else if add_patron(alloc, id, row, records)? {
         Ok(Some(BaseRule::Double))
     } else {
         Ok(None)
     }
 }
 
+/// The id of a row, where all its texts are such.
 #[tactic(auto, unfolding(crate::specs::Rules::has_patron_texts))]
-fn has_texts(row: &ByteRecord) -> bool
-    ensures value { result ≡ Rules.has_patron_texts (fields_of row.now) }
-    ensures id { IsTrue result → is_id (field 0 (fields_of row.now)) ≡ true }
+fn id_of(row: &ByteRecord) -> Option<Id>
+    ensures texts { is_some result ≡ Rules.has_patron_texts (fields_of row.now) }
+    ensures id { IfSome result (λ id. id ≡ field 0 (fields_of row.now)) }
 {
-    Id::new(column(row, 0)).is_some() && is_text(column(row, 1)) && is_text(column(row, 2))
+    let Some(id) = Id::new(column(row, 0)) else {
+        return None;
+    };
+    if is_text(column(row, 1)) && is_text(column(row, 2)) {
+        Some(id)
+    } else {
+        None
+    }
 }
 
 /// Whether the policy has a class of this name.
@@ -106,32 +109,30 @@ fn has_class(policy: &Policy, name: &[u8]) -> bool
     }
 }
 
-/// Puts the patron of a row among the records, and says whether there was one with its id.
+/// Whether there is a patron with this id.
+fn is_double(records: &Gathered, id: Id) -> bool
+    ensures { (r : Rows) → AreTold r records.now → result ≡ Rules.has_row 0 id r.patrons }
+{
+    records.has(&Key::Patron(id))
+}
+
+/// Puts the patron of a row among the records under its id, and says whether there was one.
 fn add_patron(
     alloc: Global,
+    id: Id,
     row: &ByteRecord,
-    records: &mut BTreeMap<Key, Record>,
+    records: &mut Gathered,
 ) -> Result<bool, AllocError>
+    requires id { id ≡ field 0 (fields_of row.now) }
     requires texts { Rules.has_patron_texts (fields_of row.now) ≡ true }
     requires value { is_some (flag_of (field 3 (fields_of row.now))) ≡ true }
     requires class { is_id (field 2 (fields_of row.now)) ≡ true }
-    ensures double { IfOk result (λ double. (r : Rows) → Tells r records.old → double ≡ Rules.has_row 0 (field 0 (fields_of row.now)) r.patrons) }
-    ensures told { OnOk result ((r : Rows) (before : List Row) → Tells (to_patrons r before) records.old → Rules.has_row 0 (field 0 (fields_of row.now)) before ≡ false → Tells (to_patrons r (before ++ fields_of row.now ∷ [])) records.new) }
-    ensures rising { OnOk result (IsOrdered key_cmp records.new) }
+    ensures double { IfOk result (λ double. (r : Rows) → AreTold r records.old → double ≡ Rules.has_row 0 (field 0 (fields_of row.now)) r.patrons) }
+    ensures told { OnOk result ((r : Rows) (before : List Row) → AreTold (to_patrons r before) records.old → Rules.has_row 0 (field 0 (fields_of row.now)) before ≡ false → AreTold (to_patrons r (before ++ fields_of row.now ∷ [])) records.new) }
 {
     let patron = patron_of(alloc, row)?;
     let told = Record::patron(alloc, patron)?;
-    let before = records.insert(Key::Patron(row_id(row)), told)?;
-    Ok(before.is_some())
-}
-
-/// The id of a row whose texts are such.
-#[tactic(auto, unfolding(crate::specs::Rules::has_patron_texts))]
-fn row_id(row: &ByteRecord) -> Id
-    requires { Rules.has_patron_texts (fields_of row.now) ≡ true }
-    ensures { result ≡ field 0 (fields_of row.now) }
-{
-    id_at(row, 0)
+    records.put(alloc, Key::Patron(id), told)
 }
 
 /// The patron of a row, who has nothing and owes nothing.

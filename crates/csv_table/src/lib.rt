@@ -17,6 +17,9 @@ pub use reader::RowReader;
 use std::alloc::{AllocError, AllocFailed, Global};
 pub use text::{TableText, reads_back};
 
+/// Room for the bytes of most rows: one that has more grows.
+const ROW_ROOM: usize = 48;
+
 /// Why a text gives no rows.
 #[derive(Clone, Copy, Debug, PartialEq, Eq)]
 pub enum TableError {
@@ -88,9 +91,10 @@ pub fn read_table(
 {
     let mut reader = RowReader::under(alloc, header, text)?;
     let mut rows = Vec::new(alloc);
-    let mut row = ByteRecord::new(alloc);
+    let mut row = ByteRecord::with_capacity(alloc, ROW_ROOM, header.len())?;
     while reader.next(&mut row)? {
-        rows.push(row.clone()?)?;
+        rows.push(row)?;
+        row = ByteRecord::with_capacity(alloc, ROW_ROOM, header.len())?;
     }
     Ok(rows)
 }

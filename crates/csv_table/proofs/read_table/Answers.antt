@@ -8,6 +8,6 @@ use Rattle.csv_table.proofs.read_table.Goals as goal
 
 pub loop-row-preserved : goal.loop-row-preserved
 loop-row-preserved c =
-    rw (c.in_ok-push.ensures.items, map_push fields_of c.loop-row.rows.items c.in_ok-clone.field-0, c.in_ok-clone.ensures.cases)
+    rw (c.in_ok-push.ensures.items, map_push fields_of c.loop-row.rows.items c.next.new.row)
     (keeps-all (map fields_of c.loop-row.rows.items) (fields_of c.next.new.row) c.loop-row.reader.rows c.next.new.self.rows (rows_under (bytes_of c.args.header.now) c.args.text.now)
     (c.in_ok-next.ensures.row c.if-branch.true) c.loop-row.invariant)

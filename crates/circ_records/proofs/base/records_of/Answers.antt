@@ -1,9 +1,13 @@
+use Rattle.std.proofs.Common.{◌∙◌}
 use Rattle.circ_records.specs.Read.{rows_in}
 use Rattle.circ_records.specs.Records.{record_at}
 use Rattle.circ_records.proofs.Entering.{entries-told}
 use Rattle.circ_records.proofs.CoherentBase.{coherent-rows}
 use Rattle.circ_records.proofs.FirstBroken.{by-closed, by-fees, by-holds, by-items, by-loans, by-patrons, none-broken, still-breaks}
 use Rattle.circ_records.proofs.base.records_of.Goals as goal
+
+pub add_loans-requires-clause-told : goal.add_loans-requires-clause-told
+add_loans-requires-clause-told c = λ k. c.in_ok-records.ensures.same k ∙ c.in_ok-add_items.ensures.told k
 
 pub returns-in_err-add_patrons-clause-err : goal.returns-in_err-add_patrons-clause-err
 returns-in_err-add_patrons-clause-err c =

@@ -1,7 +1,7 @@
 use Rattle.std.proofs.Common.{◌≡◌, ◌++◌, ◌∷◌, [], ◌+◌, List, Some, None, map, rules, ◌∙◌, take, sym, refl, subst, add-one}
 use Rattle.std.proofs.Math.Seq.{take-suc}
 use Rattle.csv.specs.Records.{fields_of}
-use Rattle.circ_records.specs.Read.{Tells, rows_in, to_items}
+use Rattle.circ_records.specs.Read.{AreTold, rows_in, to_items}
 use Rattle.circ_records.specs.Rules.{item_rule}
 use Rattle.circ_records.specs.Tables.{Row}
 use Rattle.circ_records.specs.declared.tables.TableName.TheVariants as table
@@ -31,6 +31,5 @@ loop-i-preserved c =
     let more : take (c.loop-i.i + 1) rows ≡ before ++ row ∷ [] = rw (add-one, take-suc rows c.loop-i.i [] below, at) refl in
     record {
       keeps = keeps-more table.Items (item_rule c.args.policy.now) rows c.loop-i.i row below at none inv.keeps;
-      rising = c.in_ok-broken.ensures.rising is;
-      tells = subst (λ (xs : List Row). Tells (to_items (rows_in c.args.rows.now) xs) c.put_item.new.records) (sym more) (c.in_ok-broken.ensures.told is (rows_in c.args.rows.now) before inv.tells (kept-item c.args.policy.now before row none).fresh);
+      tells = subst (λ (xs : List Row). AreTold (to_items (rows_in c.args.rows.now) xs) c.put_item.new.records) (sym more) (c.in_ok-broken.ensures.told is (rows_in c.args.rows.now) before inv.tells (kept-item c.args.policy.now before row none).fresh);
     }

@@ -1,7 +1,5 @@
 use Rattle.std.proofs.Common.{take}
-use Rattle.std.specs.BTreeMap.{IsOrdered}
-use Rattle.circ_records.specs.Keys.{key_cmp}
-use Rattle.circ_records.specs.Read.{Tells, rows_in, to_items}
+use Rattle.circ_records.specs.Read.{AreTold, rows_in, to_items}
 use Rattle.circ_records.specs.Rules.{item_rule}
 use Rattle.circ_records.specs.declared.tables.TableName.TheVariants as table
 use Rattle.circ_records.proofs.Broken.{KeepsUpTo}
@@ -11,6 +9,5 @@ use Rattle.circ_records.proofs.items.add_items.Given as goal
 abbrev pub invariant-loop-i : goal.invariant-loop-i
 invariant-loop-i l = record {
   keeps : KeepsUpTo table.Items (item_rule l.policy) (rows_in l.rows).items l.i;
-  rising : IsOrdered key_cmp l.records;
-  tells : Tells (to_items (rows_in l.rows) (take l.i (rows_in l.rows).items)) l.records;
+  tells : AreTold (to_items (rows_in l.rows) (take l.i (rows_in l.rows).items)) l.records;
 }

@@ -38,7 +38,7 @@ impl<'t> KeyIndex<'t> {
         Ok(KeyIndex { parts })
     }
 
-    /// The line has an entry at the key.
+    /// The line has an entry at the key. One that is new is borrowed.
     pub fn set(
         &mut self,
         alloc: Global,

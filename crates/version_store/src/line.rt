@@ -67,7 +67,7 @@ impl<'t, J: PlanName> LineEntries<'t, J> {
         }
     }
 
-    /// Puts an entry at a key.
+    /// Puts an entry at a key, and borrows the key.
     pub fn put(
         &mut self,
         alloc: Global,

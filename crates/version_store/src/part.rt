@@ -1,9 +1,9 @@
 //! A part of the index.
 
-ghost use Rattle.std.specs.Prelude.{◌≡◌, ◌<◌, ℕ, IfOk, OnOk, OnErr, None, true, false, length};
+ghost use Rattle.std.specs.Prelude.{◌≡◌, ℕ, OnOk, OnErr, None, true, false};
 ghost use Rattle.std.specs.List.{position};
-ghost use Rattle.circ_records.specs.Keys.{key_cmp};
 ghost use Rattle.std.specs.Ordering.{eq_by_cmp};
+ghost use Rattle.circ_records.specs.Keys.{key_cmp};
 ghost use Rattle.circ_records.specs.declared.key.Key.{Key};
 ghost use Rattle.version_store.specs.Devices.Parts.{among};
 ghost use Rattle.version_store.specs.Index.{IsLatest, in_column, in_part, with_at};
@@ -45,7 +45,7 @@ impl<'t> IndexPart<'t> {
         }
     }
 
-    /// The line has an entry at the key.
+    /// The line has an entry at the key. One that is new is borrowed.
     pub fn set(
         &mut self,
         alloc: Global,

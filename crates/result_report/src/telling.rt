@@ -9,7 +9,7 @@ use crate::listing::Listing;
 use crate::texts::{Sizes, Texts};
 use crate::words::{joined_words, reason_of, sequence_of};
 use journal_table::Line;
-use sip_answer::{Answer, differences, write_answer};
+use sip_answer::{Answer, differences, put_answer};
 use sip_reader::Reading;
 use std::alloc::{AllocError, Global};
 
@@ -24,6 +24,8 @@ pub struct Telling {
     pub answers: Listing,
     pub report: Listing,
     pub passed: Listing,
+    /// The text of the answer last told: its memory serves for the next.
+    pub text: Vec<u8>,
 }
 
 impl Drop for Telling {
@@ -32,6 +34,7 @@ impl Drop for Telling {
             answers: _,
             report: _,
             passed: _,
+            text: _,
         } = self;
     }
 }
@@ -50,6 +53,7 @@ impl Telling {
             answers: Listing::under(alloc, &ANSWERS_HEADER)?,
             report: Listing::under(alloc, &REPORT_HEADER)?,
             passed: Listing::under(alloc, &PASSED_HEADER)?,
+            text: Vec::new(alloc),
         })
     }
 
@@ -61,6 +65,7 @@ impl Telling {
             answers,
             report,
             passed,
+            text: _,
         } = self;
         Ok(Texts {
             sizes: Sizes {
@@ -87,7 +92,7 @@ impl Telling {
     {
         match answer {
             Some(answer) => {
-                tell_answer(alloc, &mut self.answers, line, reading, answer)?;
+                tell_answer(&mut self.text, &mut self.answers, line, reading, answer)?;
                 tell_differences(alloc, &mut self.report, line, answer)
             }
             None => tell_reason(&mut self.passed, line, reading),
@@ -97,7 +102,7 @@ impl Telling {
 
 /// An answered line, with the text of its answer.
 fn tell_answer(
-    alloc: Global,
+    text: &mut Vec<u8>,
     answers: &mut Listing,
     line: &Line,
     reading: &Reading,
@@ -106,7 +111,7 @@ fn tell_answer(
     requires { HasRoomFor answers.old }
     ensures { OnOk result (Gains (answer_row (line.now, reading.now, Some answer.now)) answers.old answers.new) }
 {
-    let text = write_answer(alloc, answer, sequence_of(reading))?;
+    put_answer(text, answer, sequence_of(reading))?;
     answers.row(line, text.as_slice())
 }
 

@@ -1,4 +1,5 @@
-use Rattle.std.proofs.Common.{arith, ◌-◌, drop, subst}
+use Rattle.std.proofs.Common.{arith, ◌≡◌, ◌-◌, drop, inl, inr, subst, take}
+use Rattle.std.proofs.lemmas.Bool.{cases_lt}
 use Rattle.std.specs.Prelude.{option_copied}
 use Rattle.result_report.specs.Report.{LineResult, answers_behind, line_results}
 use Rattle.result_report.specs.Stretches.{between}
@@ -34,3 +35,16 @@ loop-position-preserved c =
       ];
       begun = λ less. absurd (omega (arith, c.loop-position-test.true, begun));
     }
+
+pub returns : goal.returns
+returns c =
+    let position = c.loop-position.position in
+    let from = c.args.from in
+    let to = c.args.to in
+    let all = line_results c.args.lines.now c.args.plan.now.readings (answers_behind c.args.answers.now) in
+    let begun = c.loop-position.auto.position in
+    let same : position - from ≡ to - from = elim (cases_lt to from) [
+      | inl less ↦ omega (arith, c.loop-position.invariant.begun less, less)
+      | inr le ↦ omega (arith, le, c.loop-position-test.false, c.loop-position.auto.position-end le, begun)
+    ] in
+    subst (λ n. Tells (take n (drop from all)) c.loop-position.telling) same c.loop-position.invariant.line_results

@@ -49,16 +49,10 @@ pub fn is_bad_field(layout: Layout, rest: &[u8], fields: Fields<'_>) -> bool
         || layout.pickup && len_of(fields.pickup) > TEXT_MAX
 }
 
-/// Whether a CR or LF stands somewhere. It looks at each byte, also behind the first that it finds, so that a processor compares many
-/// at once: nearly no message has one.
 fn has_line_end(rest: &[u8]) -> bool
     ensures { result ≡ list_any is_line_end rest.now }
 {
-    let mut found = false;
-    for b in rest {
-        found = found | (*b == b'\r') | (*b == b'\n');
-    }
-    found
+    rest.iter().any(|b| *b == b'\r' || *b == b'\n')
 }
 
 /// The length of a text, where it is there.

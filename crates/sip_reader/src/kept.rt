@@ -61,7 +61,10 @@ impl KeptId {
     pub fn id(&self) -> Id
         ensures { result ≡ self.now }
     {
-        Id::of_valid(self.text.as_bytes())
+        match self.text.few() {
+            Some(few) => Id::of_short(few.short()),
+            None => Id::of_valid(self.text.as_bytes()),
+        }
     }
 
     /// Its bytes.
@@ -75,7 +78,10 @@ impl KeptId {
     pub fn order(&self, other: &Id) -> Ordering
         ensures { result ≡ slice_cmp nat_cmp self.now other.now }
     {
-        self.text.as_bytes().cmp(other.as_bytes())
+        match self.text.few() {
+            Some(few) => few.order(other.as_valid()),
+            None => self.text.as_bytes().cmp(other.as_bytes()),
+        }
     }
 }
 
@@ -97,7 +103,10 @@ impl PartialEq for KeptId {
     ghost laws = { Prim.search (comparing, rules) };
 
     fn eq(&self, other: &KeptId) -> bool {
-        self.as_bytes().cmp(other.as_bytes()).is_eq()
+        match (self.text.few(), other.text.few()) {
+            (Some(few), Some(others)) => few.order_few(others).is_eq(),
+            _ => self.as_bytes().cmp(other.as_bytes()).is_eq(),
+        }
     }
 }
 

@@ -1,6 +1,6 @@
 //! Ids that are kept.
 
-ghost use Rattle.std.specs.Prelude.{◌≡◌, IfOk, if◌then◌else◌, Some, None};
+ghost use Rattle.std.specs.Prelude.{◌≡◌, true, IfOk, if◌then◌else◌, Some, None};
 ghost use Rattle.std.specs.Cmp.Lexicographic.{slice_cmp};
 ghost use Rattle.std.specs.Cmp.Rules.{comparing};
 ghost use Rattle.std.specs.Ordering.{nat_cmp, eq_by_cmp};
@@ -46,15 +46,23 @@ impl KeptId {
     }
 
     /// The id of these bytes, kept.
-    #[tactic(auto, using(crate::proofs::Clean::id_is_text))]
     pub fn read(alloc: Global, bytes: &[u8]) -> Result<Option<KeptId>, AllocError>
         ensures { IfOk result (λ kept. kept ≡ (if is_id bytes.now then Some bytes.now else None)) }
     {
         if !is_valid(bytes) {
             return Ok(None);
         }
+        Ok(Some(KeptId::of_valid(alloc, bytes)?))
+    }
+
+    /// The id of bytes that are one, kept.
+    #[tactic(auto, using(crate::proofs::Clean::id_is_text))]
+    pub(crate) fn of_valid(alloc: Global, bytes: &[u8]) -> Result<KeptId, AllocError>
+        requires { is_id bytes.now ≡ true }
+        ensures { IfOk result (λ kept. kept ≡ bytes.now) }
+    {
         let text = Text::new(alloc, bytes)?;
-        Ok(Some(KeptId { text }))
+        Ok(KeptId { text })
     }
 
     /// The id.

@@ -131,10 +131,10 @@ fronts (suc m) (suc n) p q (x ∷ xs) (y ∷ ys) a b e g h =
     ∙ then_assoc (nat_cmp x y) (slice_cmp nat_cmp xs ys) (nat_cmp m n)
     ∙ ap (ordering_then (ordering_then (nat_cmp x y) (slice_cmp nat_cmp xs ys))) (next_cmp m n)
 
-pub padded_order : (m n : ℕ) (xs ys : List ℕ) → IsPadded 64 m xs → IsPadded 64 n ys
+pub padded_order : (max m n : ℕ) (xs ys : List ℕ) → IsPadded max m xs → IsPadded max n ys
     → slice_cmp nat_cmp (take m xs) (take n ys) ≡ ordering_then (slice_cmp nat_cmp xs ys) (nat_cmp m n)
-padded_order m n xs ys g h =
-    fronts m n (64 - m) (64 - n) xs ys (omega (arith, g.within, g.whole)) (omega (arith, h.within, h.whole)) (g.whole ∙ sym h.whole) g.rest h.rest
+padded_order max m n xs ys g h =
+    fronts m n (max - m) (max - n) xs ys (omega (arith, g.within, g.whole)) (omega (arith, h.within, h.whole)) (g.whole ∙ sym h.whole) g.rest h.rest
 
 -- ---- eight bytes from a place on
 -- n bytes from i + k on, as they are read
@@ -302,7 +302,7 @@ pub few_order : (m n : ℕ) (xs ys : List ℕ) → IsPadded 14 m xs → IsPadded
     → slice_cmp nat_cmp (take m xs) (take n ys) ≡ ordering_then (slice_cmp nat_cmp xs (take 14 ys)) (nat_cmp m n)
 few_order m n xs ys g h =
     ap (λ us. slice_cmp nat_cmp us (take n ys)) (sym (take-append-le m xs (zeros 50) (omega (arith, g.within, g.whole))))
-    ∙ padded_order m n (xs ++ zeros 50) ys (many m xs g) h
+    ∙ padded_order 64 m n (xs ++ zeros 50) ys (many m xs g) h
     ∙ ap (λ us. ordering_then (slice_cmp nat_cmp (xs ++ zeros 50) us) (nat_cmp m n)) (sym (take-append-drop 14 ys))
     ∙ ap (λ r. ordering_then r (nat_cmp m n)) (parted xs (take 14 ys) (zeros 50) (drop 14 ys) (g.whole ∙ sym (length_take 14 ys (omega (arith, h.whole)))))
     ∙ sym (then_assoc (slice_cmp nat_cmp xs (take 14 ys)) (slice_cmp nat_cmp (zeros 50) (drop 14 ys)) (nat_cmp m n))

@@ -24,11 +24,11 @@ pub fn asked_act(
     alloc: Global,
     kind: Kind,
     message: &[u8],
-    fields: Fields<'_>,
+    fields: &Fields<'_>,
 ) -> Result<Act, AllocError>
     requires long { fixed_len (layout_of kind) ≤ length message.now }
-    requires fits { Fits (layout_of kind) (texts_behind fields) }
-    ensures { IfOk result (λ act. act ≡ act_of kind message.now (texts_behind fields.entry)) }
+    requires fits { Fits (layout_of kind) (texts_behind fields.now) }
+    ensures { IfOk result (λ act. act ≡ act_of kind message.now (texts_behind fields.now)) }
 {
     match kind {
         Kind::BlockPatron => block_patron(alloc, fields),
@@ -43,19 +43,19 @@ pub fn asked_act(
     }
 }
 
-fn block_patron(alloc: Global, fields: Fields<'_>) -> Result<Act, AllocError>
-    requires { is_id (unwrap_or (texts_behind fields).patron []) ≡ true }
-    ensures { IfOk result (λ act. act ≡ act_of kinds.BlockPatron [] (texts_behind fields.entry)) }
+fn block_patron(alloc: Global, fields: &Fields<'_>) -> Result<Act, AllocError>
+    requires { is_id (unwrap_or (texts_behind fields.now).patron []) ≡ true }
+    ensures { IfOk result (λ act. act ≡ act_of kinds.BlockPatron [] (texts_behind fields.now)) }
 {
     Ok(Act::BlockPatron(BlockPatron {
         patron: id_of(alloc, fields.patron)?,
     }))
 }
 
-fn checkin(alloc: Global, message: &[u8], fields: Fields<'_>) -> Result<Act, AllocError>
+fn checkin(alloc: Global, message: &[u8], fields: &Fields<'_>) -> Result<Act, AllocError>
     requires long { 39 ≤ length message.now }
-    requires item { is_id (unwrap_or (texts_behind fields).item []) ≡ true }
-    ensures { IfOk result (λ act. act ≡ act_of kinds.Checkin message.now (texts_behind fields.entry)) }
+    requires item { is_id (unwrap_or (texts_behind fields.now).item []) ≡ true }
+    ensures { IfOk result (λ act. act ≡ act_of kinds.Checkin message.now (texts_behind fields.now)) }
 {
     Ok(Act::Checkin(Checkin {
         back: day_in(&message[21..39]),
@@ -64,11 +64,11 @@ fn checkin(alloc: Global, message: &[u8], fields: Fields<'_>) -> Result<Act, All
     }))
 }
 
-fn checkout(alloc: Global, message: &[u8], fields: Fields<'_>) -> Result<Act, AllocError>
+fn checkout(alloc: Global, message: &[u8], fields: &Fields<'_>) -> Result<Act, AllocError>
     requires long { 40 ≤ length message.now }
-    requires patron { is_id (unwrap_or (texts_behind fields).patron []) ≡ true }
-    requires item { is_id (unwrap_or (texts_behind fields).item []) ≡ true }
-    ensures { IfOk result (λ act. act ≡ act_of kinds.Checkout message.now (texts_behind fields.entry)) }
+    requires patron { is_id (unwrap_or (texts_behind fields.now).patron []) ≡ true }
+    requires item { is_id (unwrap_or (texts_behind fields.now).item []) ≡ true }
+    ensures { IfOk result (λ act. act ≡ act_of kinds.Checkout message.now (texts_behind fields.now)) }
 {
     Ok(Act::Checkout(Checkout {
         renewal: message[2] == b'Y',
@@ -81,12 +81,12 @@ fn checkout(alloc: Global, message: &[u8], fields: Fields<'_>) -> Result<Act, Al
     }))
 }
 
-fn hold(alloc: Global, message: &[u8], fields: Fields<'_>) -> Result<Act, AllocError>
+fn hold(alloc: Global, message: &[u8], fields: &Fields<'_>) -> Result<Act, AllocError>
     requires long { 3 ≤ length message.now }
-    requires patron { is_id (unwrap_or (texts_behind fields).patron []) ≡ true }
-    requires item { is_id (unwrap_or (texts_behind fields).item []) ≡ true }
-    requires pickup { is_text (unwrap_or (texts_behind fields).pickup []) ≡ true }
-    ensures { IfOk result (λ act. act ≡ act_of kinds.Hold message.now (texts_behind fields.entry)) }
+    requires patron { is_id (unwrap_or (texts_behind fields.now).patron []) ≡ true }
+    requires item { is_id (unwrap_or (texts_behind fields.now).item []) ≡ true }
+    requires pickup { is_text (unwrap_or (texts_behind fields.now).pickup []) ≡ true }
+    ensures { IfOk result (λ act. act ≡ act_of kinds.Hold message.now (texts_behind fields.now)) }
 {
     let pickup = Text::new(alloc, fields.pickup.unwrap_or(&[]))?;
     Ok(Act::Hold(HoldRequest {
@@ -97,10 +97,10 @@ fn hold(alloc: Global, message: &[u8], fields: Fields<'_>) -> Result<Act, AllocE
     }))
 }
 
-fn item_status(alloc: Global, fields: Fields<'_>) -> Result<Act, AllocError>
-    requires item { is_id (unwrap_or (texts_behind fields).item []) ≡ true }
-    requires properties { is_text (unwrap_or (texts_behind fields).properties []) ≡ true }
-    ensures { IfOk result (λ act. act ≡ act_of kinds.ItemStatus [] (texts_behind fields.entry)) }
+fn item_status(alloc: Global, fields: &Fields<'_>) -> Result<Act, AllocError>
+    requires item { is_id (unwrap_or (texts_behind fields.now).item []) ≡ true }
+    requires properties { is_text (unwrap_or (texts_behind fields.now).properties []) ≡ true }
+    ensures { IfOk result (λ act. act ≡ act_of kinds.ItemStatus [] (texts_behind fields.now)) }
 {
     let properties = match fields.properties {
         Some(text) => Some(Text::new(alloc, text)?),
@@ -112,20 +112,20 @@ fn item_status(alloc: Global, fields: Fields<'_>) -> Result<Act, AllocError>
     }))
 }
 
-fn patron_enable(alloc: Global, fields: Fields<'_>) -> Result<Act, AllocError>
-    requires { is_id (unwrap_or (texts_behind fields).patron []) ≡ true }
-    ensures { IfOk result (λ act. act ≡ act_of kinds.PatronEnable [] (texts_behind fields.entry)) }
+fn patron_enable(alloc: Global, fields: &Fields<'_>) -> Result<Act, AllocError>
+    requires { is_id (unwrap_or (texts_behind fields.now).patron []) ≡ true }
+    ensures { IfOk result (λ act. act ≡ act_of kinds.PatronEnable [] (texts_behind fields.now)) }
 {
     Ok(Act::PatronEnable(PatronEnable {
         patron: id_of(alloc, fields.patron)?,
     }))
 }
 
-fn renew(alloc: Global, message: &[u8], fields: Fields<'_>) -> Result<Act, AllocError>
+fn renew(alloc: Global, message: &[u8], fields: &Fields<'_>) -> Result<Act, AllocError>
     requires long { 40 ≤ length message.now }
-    requires patron { is_id (unwrap_or (texts_behind fields).patron []) ≡ true }
-    requires item { is_id (unwrap_or (texts_behind fields).item []) ≡ true }
-    ensures { IfOk result (λ act. act ≡ act_of kinds.Renew message.now (texts_behind fields.entry)) }
+    requires patron { is_id (unwrap_or (texts_behind fields.now).patron []) ≡ true }
+    requires item { is_id (unwrap_or (texts_behind fields.now).item []) ≡ true }
+    ensures { IfOk result (λ act. act ≡ act_of kinds.Renew message.now (texts_behind fields.now)) }
 {
     Ok(Act::Renew(Renew {
         third_party: message[2] == b'Y',
@@ -137,11 +137,11 @@ fn renew(alloc: Global, message: &[u8], fields: Fields<'_>) -> Result<Act, Alloc
     }))
 }
 
-fn fee_paid(alloc: Global, message: &[u8], fields: Fields<'_>) -> Result<Act, AllocError>
+fn fee_paid(alloc: Global, message: &[u8], fields: &Fields<'_>) -> Result<Act, AllocError>
     requires long { 27 ≤ length message.now }
-    requires patron { is_id (unwrap_or (texts_behind fields).patron []) ≡ true }
-    requires amount { is_none (option_and_then amount_of (texts_behind fields).amount) ≡ false }
-    ensures { IfOk result (λ act. act ≡ act_of kinds.FeePaid message.now (texts_behind fields.entry)) }
+    requires patron { is_id (unwrap_or (texts_behind fields.now).patron []) ≡ true }
+    requires amount { is_none (option_and_then amount_of (texts_behind fields.now).amount) ≡ false }
+    ensures { IfOk result (λ act. act ≡ act_of kinds.FeePaid message.now (texts_behind fields.now)) }
 {
     Ok(Act::FeePaid(FeePaid {
         patron: id_of(alloc, fields.patron)?,
@@ -151,9 +151,9 @@ fn fee_paid(alloc: Global, message: &[u8], fields: Fields<'_>) -> Result<Act, Al
     }))
 }
 
-fn renew_all(alloc: Global, fields: Fields<'_>) -> Result<Act, AllocError>
-    requires { is_id (unwrap_or (texts_behind fields).patron []) ≡ true }
-    ensures { IfOk result (λ act. act ≡ act_of kinds.RenewAll [] (texts_behind fields.entry)) }
+fn renew_all(alloc: Global, fields: &Fields<'_>) -> Result<Act, AllocError>
+    requires { is_id (unwrap_or (texts_behind fields.now).patron []) ≡ true }
+    ensures { IfOk result (λ act. act ≡ act_of kinds.RenewAll [] (texts_behind fields.now)) }
 {
     Ok(Act::RenewAll(RenewAll {
         patron: id_of(alloc, fields.patron)?,
@@ -166,8 +166,7 @@ fn id_of(alloc: Global, text: Option<&[u8]>) -> Result<KeptId, AllocError>
     requires { is_id (unwrap_or (option_copied text) []) ≡ true }
     ensures { IfOk result (λ id. id ≡ unwrap_or (option_copied text.entry) []) }
 {
-    let read = KeptId::read(alloc, text.unwrap_or(&[]))?;
-    Ok(read.unwrap())
+    KeptId::of_valid(alloc, text.unwrap_or(&[]))
 }
 
 /// The amount that a tested field holds.

@@ -14,8 +14,8 @@ use crate::{Amount, ID_MAX, TEXT_MAX};
 
 /// Whether a flag isn't one.
 #[tactic(auto, unfolding(crate::specs::Reading::has_bad_flag))]
-pub fn is_bad_flag(layout: Layout, flags: &[u8]) -> bool
-    ensures { result ≡ has_bad_flag layout flags.now }
+pub fn is_bad_flag(layout: &Layout, flags: &[u8]) -> bool
+    ensures { result ≡ has_bad_flag layout.now flags.now }
 {
     if layout.hold_mode {
         !are_hold_modes(flags)
@@ -38,8 +38,8 @@ fn are_hold_modes(flags: &[u8]) -> bool
 
 /// Whether a CR or LF stands behind the fixed part, or a piece of one byte, or a field that is used and too long.
 #[tactic(auto, unfolding(crate::specs::Reading::has_bad_field))]
-pub fn is_bad_field(layout: Layout, rest: &[u8], fields: Fields<'_>) -> bool
-    ensures { result ≡ has_bad_field layout rest.now (texts_behind fields.entry) }
+pub fn is_bad_field(layout: &Layout, rest: &[u8], fields: &Fields<'_>) -> bool
+    ensures { result ≡ has_bad_field layout.now rest.now (texts_behind fields.now) }
 {
     has_line_end(rest)
         || fields.short
@@ -73,16 +73,16 @@ fn is_missing_or_empty(text: Option<&[u8]>) -> bool
 
 /// Whether a title stands where the item's id should be.
 #[tactic(auto, unfolding(crate::specs::Reading::names_title))]
-pub fn is_by_title(layout: Layout, fields: Fields<'_>) -> bool
-    ensures { result ≡ names_title layout (texts_behind fields.entry) }
+pub fn is_by_title(layout: &Layout, fields: &Fields<'_>) -> bool
+    ensures { result ≡ names_title layout.now (texts_behind fields.now) }
 {
     layout.title && is_missing_or_empty(fields.item) && !is_missing_or_empty(fields.title)
 }
 
 /// Whether a required id is missing or empty, or a required amount is missing.
 #[tactic(auto, unfolding(crate::specs::Reading::lacks_field))]
-pub fn is_lacking(layout: Layout, fields: Fields<'_>) -> bool
-    ensures { result ≡ lacks_field layout (texts_behind fields.entry) }
+pub fn is_lacking(layout: &Layout, fields: &Fields<'_>) -> bool
+    ensures { result ≡ lacks_field layout.now (texts_behind fields.now) }
 {
     layout.patron && is_missing_or_empty(fields.patron)
         || layout.item && is_missing_or_empty(fields.item)
@@ -91,8 +91,8 @@ pub fn is_lacking(layout: Layout, fields: Fields<'_>) -> bool
 
 /// Whether a required amount isn't one.
 #[tactic(auto, unfolding(crate::specs::Reading::has_bad_amount))]
-pub fn is_bad_amount(layout: Layout, fields: Fields<'_>) -> bool
-    ensures { result ≡ has_bad_amount layout (texts_behind fields.entry) }
+pub fn is_bad_amount(layout: &Layout, fields: &Fields<'_>) -> bool
+    ensures { result ≡ has_bad_amount layout.now (texts_behind fields.now) }
 {
     layout.amount && amount_in(fields.amount).is_none()
 }

@@ -1,6 +1,6 @@
 //! Up to 14 bytes that take no memory of their own.
 
-ghost use Rattle.std.specs.Prelude.{◌≡◌, if◌then◌else◌, nat_le, Some, None, length};
+ghost use Rattle.std.specs.Prelude.{◌≡◌, ◌≤◌, ◌++◌, ◌-◌, if◌then◌else◌, nat_le, Some, None, length, replicate};
 ghost use Rattle.std.specs.Cmp.Lexicographic.{slice_cmp};
 ghost use Rattle.std.specs.Ordering.{eq_by_cmp, nat_cmp};
 
@@ -36,6 +36,17 @@ impl Model for Few {
 }
 
 impl Few {
+    /// These bytes.
+    pub fn of(bytes: &[u8]) -> Few
+        requires { length bytes.now ≤ FEW_MAX }
+        ensures { result ≡ bytes.now }
+    {
+        Few {
+            bytes: padded(bytes),
+            len: bytes.len() as u8,
+        }
+    }
+
     /// The same bytes, where they are few: 14 are copied whatever their number is, which takes no call.
     pub fn new(short: &Short) -> Option<Few>
         ensures { result ≡ (if nat_le (length short.now) FEW_MAX then Some short.now else None) }
@@ -76,6 +87,17 @@ impl Few {
         }
     }
 
+    /// How they go against others that are few.
+    pub fn order_few(&self, other: &Few) -> Ordering
+        ensures { result ≡ slice_cmp nat_cmp self.now other.now }
+    {
+        match order_of(&self.bytes, &other.bytes) {
+            Ordering::Less => Ordering::Less,
+            Ordering::Equal => self.len.cmp(&other.len),
+            Ordering::Greater => Ordering::Greater,
+        }
+    }
+
     /// Whether they are these.
     pub fn is(&self, other: &Short) -> bool
         ensures { result ≡ eq_by_cmp (slice_cmp nat_cmp) other.now self.now }
@@ -97,4 +119,14 @@ fn order_of(a: &[u8], b: &[u8]) -> Ordering
     // the last eight bytes: two of them are seen again, and no byte alone
     let (last, another) = (word_at(a, 6), word_at(b, 6));
     last.cmp(&another)
+}
+
+/// The bytes and zeros behind them.
+fn padded(bytes: &[u8]) -> [u8; FEW_MAX]
+    requires { length bytes.now ≤ FEW_MAX }
+    ensures { result ≡ bytes.now ++ replicate (FEW_MAX - length bytes.now) 0 }
+{
+    let mut whole = [0; FEW_MAX];
+    whole[..bytes.len()].copy_from_slice(bytes);
+    whole
 }

@@ -48,43 +48,29 @@ impl<'a> Fields<'a> {
             short: false,
         };
         for piece in rest.split(|b| *b == b'|') {
-            fields = fields.with(piece);
+            fields.note(piece);
         }
         fields
     }
 
-    /// The same with one piece more. Its first letter tells which few of the fields it may be.
-    fn with(self, piece: &'a [u8]) -> Fields<'a>
-        ensures { texts_behind result ≡ with_piece (texts_behind self.entry) piece.now }
+    /// One piece more. Its first letter tells which few of the fields it may be.
+    fn note(&mut self, piece: &'a [u8])
+        ensures { texts_behind self.new ≡ with_piece (texts_behind self.old) piece.now }
     {
         let letter = first_byte(piece);
-        let short = is_short_so_far(self.short, piece);
+        self.short = is_short_so_far(self.short, piece);
         if letter == b'A' {
-            Fields {
-                patron: first(self.patron, b'A', b'A', piece),
-                item: first(self.item, b'A', b'B', piece),
-                title: first(self.title, b'A', b'J', piece),
-                short,
-                ..self
-            }
+            self.patron = first(self.patron, b'A', b'A', piece);
+            self.item = first(self.item, b'A', b'B', piece);
+            self.title = first(self.title, b'A', b'J', piece);
         } else if letter == b'B' {
-            Fields {
-                cancel: first(self.cancel, b'B', b'I', piece),
-                agreed: first(self.agreed, b'B', b'O', piece),
-                pickup: first(self.pickup, b'B', b'S', piece),
-                amount: first(self.amount, b'B', b'V', piece),
-                short,
-                ..self
-            }
+            self.cancel = first(self.cancel, b'B', b'I', piece);
+            self.agreed = first(self.agreed, b'B', b'O', piece);
+            self.pickup = first(self.pickup, b'B', b'S', piece);
+            self.amount = first(self.amount, b'B', b'V', piece);
         } else if letter == b'C' {
-            Fields {
-                fee: first(self.fee, b'C', b'G', piece),
-                properties: first(self.properties, b'C', b'H', piece),
-                short,
-                ..self
-            }
-        } else {
-            Fields { short, ..self }
+            self.fee = first(self.fee, b'C', b'G', piece);
+            self.properties = first(self.properties, b'C', b'H', piece);
         }
     }
 }

@@ -1,6 +1,6 @@
 //! Ids that are kept.
 
-ghost use Rattle.std.specs.Prelude.{◌≡◌, IfOk, if◌then◌else◌, Some, None};
+ghost use Rattle.std.specs.Prelude.{◌≡◌, true, IfOk, if◌then◌else◌, Some, None};
 ghost use Rattle.std.specs.Cmp.Lexicographic.{slice_cmp};
 ghost use Rattle.std.specs.Cmp.Rules.{comparing};
 ghost use Rattle.std.specs.Ordering.{nat_cmp, eq_by_cmp};
@@ -46,22 +46,33 @@ impl KeptId {
     }
 
     /// The id of these bytes, kept.
-    #[tactic(auto, using(crate::proofs::Clean::id_is_text))]
     pub fn read(alloc: Global, bytes: &[u8]) -> Result<Option<KeptId>, AllocError>
         ensures { IfOk result (λ kept. kept ≡ (if is_id bytes.now then Some bytes.now else None)) }
     {
         if !is_valid(bytes) {
             return Ok(None);
         }
+        Ok(Some(KeptId::of_valid(alloc, bytes)?))
+    }
+
+    /// The id of bytes that are one, kept.
+    #[tactic(auto, using(crate::proofs::Clean::id_is_text))]
+    pub(crate) fn of_valid(alloc: Global, bytes: &[u8]) -> Result<KeptId, AllocError>
+        requires { is_id bytes.now ≡ true }
+        ensures { IfOk result (λ kept. kept ≡ bytes.now) }
+    {
         let text = Text::new(alloc, bytes)?;
-        Ok(Some(KeptId { text }))
+        Ok(KeptId { text })
     }
 
     /// The id.
     pub fn id(&self) -> Id
         ensures { result ≡ self.now }
     {
-        Id::of_valid(self.text.as_bytes())
+        match self.text.few() {
+            Some(few) => Id::of_short(few.short()),
+            None => Id::of_valid(self.text.as_bytes()),
+        }
     }
 
     /// Its bytes.
@@ -75,7 +86,10 @@ impl KeptId {
     pub fn order(&self, other: &Id) -> Ordering
         ensures { result ≡ slice_cmp nat_cmp self.now other.now }
     {
-        self.text.as_bytes().cmp(other.as_bytes())
+        match self.text.few() {
+            Some(few) => few.order(other.as_valid()),
+            None => self.text.as_bytes().cmp(other.as_bytes()),
+        }
     }
 }
 
@@ -97,7 +111,10 @@ impl PartialEq for KeptId {
     ghost laws = { Prim.search (comparing, rules) };
 
     fn eq(&self, other: &KeptId) -> bool {
-        self.as_bytes().cmp(other.as_bytes()).is_eq()
+        match (self.text.few(), other.text.few()) {
+            (Some(few), Some(others)) => few.order_few(others).is_eq(),
+            _ => self.as_bytes().cmp(other.as_bytes()).is_eq(),
+        }
     }
 }
 

@@ -80,24 +80,24 @@ fn read_kind(
     let Some(date) = Stamp::new(&message[at..at + STAMP_LEN]) else {
         return Ok(Reading::Unread(Why::BadDate));
     };
-    if is_bad_flag(layout, &message[2..at]) {
+    if is_bad_flag(&layout, &message[2..at]) {
         return Ok(Reading::Unread(Why::BadFlag));
     }
     let rest = &message[fixed..];
     let fields = Fields::read(rest);
-    if is_bad_field(layout, rest, fields) {
+    if is_bad_field(&layout, rest, &fields) {
         return Ok(Reading::Unread(Why::BadField));
     }
-    if is_by_title(layout, fields) {
+    if is_by_title(&layout, &fields) {
         return Ok(Reading::Passed(Passed::Title));
     }
-    if is_lacking(layout, fields) {
+    if is_lacking(&layout, &fields) {
         return Ok(Reading::Unread(Why::MissingField));
     }
-    if is_bad_amount(layout, fields) {
+    if is_bad_amount(&layout, &fields) {
         return Ok(Reading::Unread(Why::BadAmount));
     }
-    let act = asked_act(alloc, kind, message, fields)?;
+    let act = asked_act(alloc, kind, message, &fields)?;
     Ok(asked(sequence, date, act))
 }
 

@@ -1,9 +1,10 @@
 //! Texts of records and messages.
 
-ghost use Rattle.std.specs.Prelude.{◌≡◌, ◌≤◌, ◌++◌, ◌-◌, true, IfOk, if◌then◌else◌, Some, None, length, replicate};
-ghost use Rattle.sip_reader.specs.Devices.Held.{IsWithin, bytes_held};
+ghost use Rattle.std.specs.Prelude.{◌≡◌, true, IfOk, IfSome, if◌then◌else◌, Some, None};
+ghost use Rattle.sip_reader.specs.Devices.Held.{bytes_held};
 ghost use Rattle.sip_reader.specs.Texts.{is_text};
 
+use crate::few::{FEW_MAX, Few};
 use crate::id::has_barred;
 use std::alloc::{AllocError, Global};
 use std::marker::Model;
@@ -11,10 +12,6 @@ use std::sync::ArcSlice;
 
 /// The longest text, in bytes.
 pub const TEXT_MAX: usize = 1024;
-
-/// The longest text that takes no memory of its own, in bytes: with their count and a tag they take two words. Ids, of which a
-/// line keeps many, are mostly no longer.
-const FEW_MAX: usize = 14;
 
 /// A text of a record or a message: at most 1,024 bytes without a bar, CR or LF.
 pub struct Text {
@@ -29,8 +26,8 @@ impl Drop for Text {
 
 /// Where the bytes of a text stand.
 enum Held {
-    /// In place: the first `len` of these.
-    Few { bytes: [u8; 14], len: u8 },
+    /// In place, as most ids do, of which a line keeps many.
+    Few(Few),
     /// In memory that it has together with its copies.
     Many(ArcSlice<u8>),
 }
@@ -38,7 +35,7 @@ enum Held {
 impl Drop for Held {
     fn drop(self) {
         match self {
-            Held::Few { bytes: _, len: _ } => {}
+            Held::Few(_) => {}
             Held::Many(_) => {}
         }
     }
@@ -46,14 +43,14 @@ impl Drop for Held {
 
 impl Model for Text {
     ghost use Rattle.std.specs.Prelude.{ℕ, List, ◌≡◌, true};
-    ghost use Rattle.sip_reader.specs.Devices.Held.{IsWithin, bytes_held};
+    ghost use Rattle.sip_reader.specs.Devices.Held.{bytes_held};
     ghost use Rattle.sip_reader.specs.Texts.{is_text};
 
     ghost Value = { List ℕ };
 
     ghost view = { λ t. bytes_held t.held };
 
-    ghost invariant = { λ t. (is_text (bytes_held t.held) ≡ true) × IsWithin t.held };
+    ghost invariant = { λ t. is_text (bytes_held t.held) ≡ true };
 }
 
 impl Text {
@@ -84,6 +81,16 @@ impl Text {
     {
         self.held.as_slice()
     }
+
+    /// Its bytes, where they stand in place.
+    pub(crate) fn few(&self) -> Option<&Few>
+        ensures { IfSome result (λ few. few.now ≡ self.now) }
+    {
+        match &self.held {
+            Held::Few(few) => Some(few),
+            Held::Many(_) => None,
+        }
+    }
 }
 
 /// A clone is the same text. It takes no memory.
@@ -100,52 +107,32 @@ impl Clone for Text {
 
 impl Held {
     fn of(alloc: Global, bytes: &[u8]) -> Result<Held, AllocError>
-        ensures within { IfOk result IsWithin }
-        ensures bytes { IfOk result (λ held. bytes_held held ≡ bytes.now) }
+        ensures { IfOk result (λ held. bytes_held held ≡ bytes.now) }
     {
         if bytes.len() <= FEW_MAX {
-            return Ok(Held::Few {
-                bytes: in_front(bytes),
-                len: bytes.len() as u8,
-            });
+            return Ok(Held::Few(Few::of(bytes)));
         }
         let bytes = ArcSlice::from_slice(alloc, bytes)?;
         Ok(Held::Many(bytes))
     }
 
     fn as_slice(&self) -> &[u8]
-        requires { IsWithin self.now }
         ensures { result.now ≡ bytes_held self.now }
     {
         match self {
-            Held::Few { bytes, len } => &bytes[..*len as usize],
+            Held::Few(few) => few.as_bytes(),
             Held::Many(bytes) => bytes.as_slice(),
         }
     }
 
     fn copy(&self) -> Result<Held, AllocError>
-        requires { IsWithin self.now }
-        ensures within { IfOk result IsWithin }
-        ensures bytes { IfOk result (λ held. bytes_held held ≡ bytes_held self.now) }
+        ensures { IfOk result (λ held. bytes_held held ≡ bytes_held self.now) }
     {
         match self {
-            Held::Few { bytes, len } => Ok(Held::Few {
-                bytes: *bytes,
-                len: *len,
-            }),
+            Held::Few(few) => Ok(Held::Few(*few)),
             Held::Many(bytes) => Ok(Held::Many(bytes.clone()?)),
         }
     }
-}
-
-/// The bytes, and zeros behind them.
-pub(crate) fn in_front(bytes: &[u8]) -> [u8; 14]
-    requires { length bytes.now ≤ 14 }
-    ensures { result ≡ bytes.now ++ replicate (14 - length bytes.now) 0 }
-{
-    let mut whole = [0; 14];
-    whole[..bytes.len()].copy_from_slice(bytes);
-    whole
 }
 
 #[tactic(auto, unfolding(crate::specs::Texts::is_text))]

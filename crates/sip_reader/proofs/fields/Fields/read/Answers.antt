@@ -9,7 +9,7 @@ use Rattle.sip_reader.proofs.fields.Fields.read.Goals as goal
 
 pub loop-piece-preserved : goal.loop-piece-preserved
 loop-piece-preserved c =
-    c.with-fields.ensures ∙ ap (λ t. with_piece t c.in-Some.piece.now) c.loop-piece.invariant
+    c.note.ensures ∙ ap (λ t. with_piece t c.in-Some.piece.now) c.loop-piece.invariant
     ∙ sym (texts_push (map (λ p. p.now) c.loop-piece.yielded) c.in-Some.piece.now) ∙ ap texts (sym (map_push (λ p. p.now) c.loop-piece.yielded c.in-Some.piece))
 
 pub returns : goal.returns

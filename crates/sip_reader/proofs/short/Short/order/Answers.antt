@@ -9,7 +9,7 @@ returns-in-Less c =
     let xs = c.self.inside in
     let ys = c.other.inside in
     let is : c.order_of.result ≡ Less = search rules in
-    rw (← c.self.view_is, ← c.other.view_is, padded_order xs.len ys.len xs.bytes ys.bytes c.self.invariant c.other.invariant)
+    rw (← c.self.view_is, ← c.other.view_is, padded_order 64 xs.len ys.len xs.bytes ys.bytes c.self.invariant c.other.invariant)
     (ap (λ r. ordering_then r (nat_cmp xs.len ys.len)) (sym is ∙ c.order_of.ensures))
 
 pub returns-in-Equal : goal.returns-in-Equal
@@ -17,7 +17,7 @@ returns-in-Equal c =
     let xs = c.self.inside in
     let ys = c.other.inside in
     let is : c.order_of.result ≡ Equal = search rules in
-    rw (← c.self.view_is, ← c.other.view_is, padded_order xs.len ys.len xs.bytes ys.bytes c.self.invariant c.other.invariant)
+    rw (← c.self.view_is, ← c.other.view_is, padded_order 64 xs.len ys.len xs.bytes ys.bytes c.self.invariant c.other.invariant)
     (c.cmp.ensures ∙ ap (λ r. ordering_then r (nat_cmp xs.len ys.len)) (sym is ∙ c.order_of.ensures))
 
 pub returns-in-Greater : goal.returns-in-Greater
@@ -25,7 +25,7 @@ returns-in-Greater c =
     let xs = c.self.inside in
     let ys = c.other.inside in
     let is : c.order_of.result ≡ Greater = search rules in
-    rw (← c.self.view_is, ← c.other.view_is, padded_order xs.len ys.len xs.bytes ys.bytes c.self.invariant c.other.invariant)
+    rw (← c.self.view_is, ← c.other.view_is, padded_order 64 xs.len ys.len xs.bytes ys.bytes c.self.invariant c.other.invariant)
     (ap (λ r. ordering_then r (nat_cmp xs.len ys.len)) (sym is ∙ c.order_of.ensures))
 
 pub order_of-requires-clause-rest : goal.order_of-requires-clause-rest

@@ -8,16 +8,15 @@ use Rattle.std.proofs.lemmas.Grind.{common_steps}
 use Rattle.circ_policy.specs.declared.due_form.DueForm.{DueForm}
 use Rattle.circ_policy.specs.declared.due_form.DueForm.TheVariants as form
 use Rattle.sip_reader.specs.Days.{day_at, day_of_month, month_of, year_of}
-use Rattle.sip_reader.specs.Texts.{is_barred}
+use Rattle.sip_answer.specs.Devices.ReadBack.{is_bar, is_whole}
 use Rattle.sip_answer.specs.DueDates.{date_text, due_text, four_digits, two_digits}
-use Rattle.sip_answer.specs.Laws.{is_clean}
 use Rattle.sip_answer.specs.Recorded.{day_in, is_iso, is_plain, is_us}
 use Rattle.sip_answer.proofs.Calendar.{parts_fit, real_day}
 
 -- a digit as it is written
 record IsWritten (k : ℕ) : Type 0 where
   digit : is_ascii_digit (48 + k) ≡ true
-  clean : is_barred (48 + k) ≡ false
+  clean : is_bar (48 + k) ≡ false
 
 written : (k : ℕ) → k < 10 → IsWritten k
 written k small = record { digit = grind (arith, common_steps); clean = grind (arith, common_steps) }
@@ -58,7 +57,7 @@ date_read form.Sip y m d h = rw (h.y1.digit, h.y2.digit, h.y3.digit, h.y4.digit,
 date_read form.Iso y m d h = rw (h.y1.digit, h.y2.digit, h.y3.digit, h.y4.digit, h.m1.digit, h.m2.digit, h.d1.digit, h.d2.digit, four y, two m, two d) refl
 date_read form.Us y m d h = rw (h.m1.digit, h.m2.digit, h.d1.digit, h.d2.digit, h.y1.digit, h.y2.digit, h.y3.digit, h.y4.digit, four y, two m, two d) refl
 
-date_clean : (f : DueForm) (y m d : ℕ) → Digits y m d → is_clean (date_text f y m d) ≡ true
+date_clean : (f : DueForm) (y m d : ℕ) → Digits y m d → is_whole (date_text f y m d) ≡ true
 unfolding four_digits two_digits
 date_clean form.Sip y m d h = rw (h.y1.clean, h.y2.clean, h.y3.clean, h.y4.clean, h.m1.clean, h.m2.clean, h.d1.clean, h.d2.clean) refl
 date_clean form.Iso y m d h = rw (h.y1.clean, h.y2.clean, h.y3.clean, h.y4.clean, h.m1.clean, h.m2.clean, h.d1.clean, h.d2.clean) refl
@@ -73,7 +72,7 @@ pub due_read : (f : DueForm) (n : ℕ) → IsInRange 4_346_020 7_304_483 n → d
 unfolding due_text
 due_read f n range = date_read f (year_of n) (month_of n) (day_of_month n) (day_digits n range) ∙ real_day n range
 
-pub due_clean : (f : DueForm) (due : Option ℕ) → IfSome due (λ n. IsInRange 4_346_020 7_304_483 n) → is_clean (option_map_or (due_text f) due []) ≡ true
+pub due_clean : (f : DueForm) (due : Option ℕ) → IfSome due (λ n. IsInRange 4_346_020 7_304_483 n) → is_whole (option_map_or (due_text f) due []) ≡ true
 unfolding due_text
 due_clean f None range = refl
 due_clean f (Some n) range = date_clean f (year_of n) (month_of n) (day_of_month n) (day_digits n range)

@@ -1,3 +1,4 @@
+pub mod AmountDigits
 pub mod Calendar
 pub mod DueTexts
 pub mod FirstFields
@@ -8,4 +9,5 @@ pub mod OwnLoans
 pub mod OwnPatrons
 pub mod OwnRenewals
 pub mod OwnText
+pub mod OwnTexts
 pub mod Written

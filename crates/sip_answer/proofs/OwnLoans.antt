@@ -15,11 +15,11 @@ use Rattle.circ_policy.specs.declared.due_form.DueForm.{DueForm}
 use Rattle.circ_policy.specs.declared.media_type.MediaType.{MediaType}
 use Rattle.circ_policy.specs.declared.media_type.MediaType.TheVariants.{Other, Book, Magazine, BoundJournal, AudioTape, VideoTape, Cd, Diskette, BookWithDiskette, BookWithCd, BookWithTape}
 use Rattle.sip_reader.specs.Amounts.{amount_of, amount_text}
-use Rattle.sip_reader.specs.Texts.{is_barred}
 use Rattle.sip_reader.proofs.AmountTexts.{amount_of-amount_text, digits_all}
+use Rattle.sip_answer.specs.Devices.ReadBack.{is_bar, is_whole}
 use Rattle.sip_answer.specs.Differ.{due_words, loan_words, word_unless}
 use Rattle.sip_answer.specs.DueDates.{due_text}
-use Rattle.sip_answer.specs.Laws.{is_clean, loan_texts, LoanParts}
+use Rattle.sip_answer.specs.Laws.{loan_texts, LoanParts}
 use Rattle.sip_answer.specs.Parts.{digit, field, filled, flag, given}
 use Rattle.sip_answer.specs.Recorded.{day_in, due_in, fee_in, fee_of}
 use Rattle.sip_answer.specs.Texts.{loan_text, money}
@@ -34,35 +34,35 @@ use Rattle.sip_answer.proofs.OwnText.{Agreeing}
 use Rattle.sip_answer.proofs.Written.{digit_is, ends_field, ends_filled, ends_given, flag_byte, flag_is, is_same-itself, ok_byte, ok_read}
 
 -- an amount as it is written has no bar, CR or LF
-digit_clean : (b : ℕ) → is_ascii_digit b ≡ true → is_barred b ≡ false
+digit_clean : (b : ℕ) → is_ascii_digit b ≡ true → is_bar b ≡ false
 digit_clean b digit = grind (arith, common_steps)
 
-digits_clean : (ds : List ℕ) → list_all is_ascii_digit ds ≡ true → list_any is_barred ds ≡ false
+digits_clean : (ds : List ℕ) → list_all is_ascii_digit ds ≡ true → list_any is_bar ds ≡ false
 digits_clean [] all = refl
 digits_clean (b ∷ ds) all =
     let parts = and_parts (is_ascii_digit b) (list_all is_ascii_digit ds) all in
     rw (digit_clean b parts.0, digits_clean ds parts.1) refl
 
-written_clean : (k : ℕ) → k < 10 → is_barred (48 + k) ≡ false
+written_clean : (k : ℕ) → k < 10 → is_bar (48 + k) ≡ false
 written_clean k small = grind (arith, common_steps)
 
-amount_clean : (n : ℕ) → n ≤ 99_999_999_999 → is_clean (amount_text n) ≡ true
+amount_clean : (n : ℕ) → n ≤ 99_999_999_999 → is_whole (amount_text n) ≡ true
 unfolding amount_text
 amount_clean n most =
     let w = decimal (n / 100) in
-    let whole : list_any is_barred w ≡ false = digits_clean w (digits_all w (decimal_is_IsNumeral (n / 100) (omega (arith, most))).0.1) in
+    let whole : list_any is_bar w ≡ false = digits_clean w (digits_all w (decimal_is_IsNumeral (n / 100) (omega (arith, most))).0.1) in
     rw (
       decimal_digit (n / 10 % 10) (omega arith),
       decimal_digit (n % 10) (omega arith),
-      list_any-append is_barred (w ++ codes "." ++ (48 + n / 10 % 10) ∷ []) ((48 + n % 10) ∷ []),
-      list_any-append is_barred (w ++ codes ".") ((48 + n / 10 % 10) ∷ []),
-      list_any-append is_barred w (codes "."),
+      list_any-append is_bar (w ++ codes "." ++ (48 + n / 10 % 10) ∷ []) ((48 + n % 10) ∷ []),
+      list_any-append is_bar (w ++ codes ".") ((48 + n / 10 % 10) ∷ []),
+      list_any-append is_bar w (codes "."),
       whole,
       written_clean (n / 10 % 10) (omega arith),
       written_clean (n % 10) (omega arith),
     ) refl
 
-media_clean : (m : MediaType) → is_clean (media_code m) ≡ true
+media_clean : (m : MediaType) → is_whole (media_code m) ≡ true
 media_clean Other = refl
 media_clean Book = refl
 media_clean Magazine = refl
@@ -85,11 +85,11 @@ fee_read (x ∷ t) n e = e
 behind : Option KnownItem → List ℕ
 behind known = given (codes "CK") (option_map (λ (i : KnownItem). media_code i.media) known) ++ filled (codes "CH") (option_map_or (λ (i : KnownItem). i.properties) known [])
 
-coded_clean : (known : Option KnownItem) → is_clean (unwrap_or (option_map (λ (i : KnownItem). media_code i.media) known) []) ≡ true
+coded_clean : (known : Option KnownItem) → is_whole (unwrap_or (option_map (λ (i : KnownItem). media_code i.media) known) []) ≡ true
 coded_clean None = refl
 coded_clean (Some i) = media_clean i.media
 
-no_fee : (known : Option KnownItem) → is_clean (option_map_or (λ (i : KnownItem). i.properties) known []) ≡ true → first 66 86 (behind known) ≡ None
+no_fee : (known : Option KnownItem) → is_whole (option_map_or (λ (i : KnownItem). i.properties) known []) ≡ true → first 66 86 (behind known) ≡ None
 unfolding behind
 no_fee known clean =
     past_given 67 75 66 86 (option_map (λ (i : KnownItem). media_code i.media) known) (filled (codes "CH") (option_map_or (λ (i : KnownItem). i.properties) known [])) refl refl (coded_clean known)
@@ -98,7 +98,7 @@ no_fee known clean =
 charged : List ℕ → Option ℕ → List ℕ
 charged currency rental = option_map_or (λ (r : ℕ). field (codes "BT") (codes "06") ++ money currency r) rental []
 
-rental_read : (currency : List ℕ) (rental : Option ℕ) (known : Option KnownItem) → is_clean currency ≡ true → is_clean (option_map_or (λ (i : KnownItem). i.properties) known []) ≡ true
+rental_read : (currency : List ℕ) (rental : Option ℕ) (known : Option KnownItem) → is_whole currency ≡ true → is_whole (option_map_or (λ (i : KnownItem). i.properties) known []) ≡ true
     → IfSome rental (λ r. r ≤ 99_999_999_999) → fee_of (first 66 86 (charged currency rental ++ behind known)) ≡ Some (unwrap_or rental 0)
 unfolding charged
 rental_read currency None known c1 c2 most = rw (no_fee known c2) refl
@@ -124,32 +124,32 @@ fields a =
     ++ (field (codes "AH") (due_of a) ++ (charged a.currency a.rental ++ behind a.known)))))
 
 record Clean (a : LoanAnswer) : Type 0 where
-  institution : is_clean a.institution ≡ true
-  patron : is_clean a.patron ≡ true
-  item : is_clean a.item ≡ true
-  currency : is_clean a.currency ≡ true
-  title : is_clean (title_of a) ≡ true
-  properties : is_clean (option_map_or (λ (i : KnownItem). i.properties) a.known []) ≡ true
+  institution : is_whole a.institution ≡ true
+  patron : is_whole a.patron ≡ true
+  item : is_whole a.item ≡ true
+  currency : is_whole a.currency ≡ true
+  title : is_whole (title_of a) ≡ true
+  properties : is_whole (option_map_or (λ (i : KnownItem). i.properties) a.known []) ≡ true
 
-texts_clean : (known : Option KnownItem) → list_all is_clean (option_map_or (λ (i : KnownItem). i.title ∷ i.properties ∷ []) known []) ≡ true
-    → (is_clean (option_map_or (λ (i : KnownItem). i.title) known []) ≡ true) × (is_clean (option_map_or (λ (i : KnownItem). i.properties) known []) ≡ true)
+texts_clean : (known : Option KnownItem) → list_all is_whole (option_map_or (λ (i : KnownItem). i.title ∷ i.properties ∷ []) known []) ≡ true
+    → (is_whole (option_map_or (λ (i : KnownItem). i.title) known []) ≡ true) × (is_whole (option_map_or (λ (i : KnownItem). i.properties) known []) ≡ true)
 texts_clean None clean = (refl, refl)
 texts_clean (Some i) clean =
-    let parts = and_parts (is_clean i.title) (is_clean i.properties && true) clean in
-    (parts.0, (and_parts (is_clean i.properties) true parts.1).0)
+    let parts = and_parts (is_whole i.title) (is_whole i.properties && true) clean in
+    (parts.0, (and_parts (is_whole i.properties) true parts.1).0)
 
-clean_of : (a : LoanAnswer) → list_all is_clean (loan_texts a) ≡ true → Clean a
+clean_of : (a : LoanAnswer) → list_all is_whole (loan_texts a) ≡ true → Clean a
 unfolding title_of
 clean_of a clean =
     let known = option_map_or (λ (i : KnownItem). i.title ∷ i.properties ∷ []) a.known [] in
-    let c1 = and_parts (is_clean a.institution) (list_all is_clean (a.patron ∷ a.item ∷ a.currency ∷ known)) clean in
-    let c2 = and_parts (is_clean a.patron) (list_all is_clean (a.item ∷ a.currency ∷ known)) c1.1 in
-    let c3 = and_parts (is_clean a.item) (list_all is_clean (a.currency ∷ known)) c2.1 in
-    let c4 = and_parts (is_clean a.currency) (list_all is_clean known) c3.1 in
+    let c1 = and_parts (is_whole a.institution) (list_all is_whole (a.patron ∷ a.item ∷ a.currency ∷ known)) clean in
+    let c2 = and_parts (is_whole a.patron) (list_all is_whole (a.item ∷ a.currency ∷ known)) c1.1 in
+    let c3 = and_parts (is_whole a.item) (list_all is_whole (a.currency ∷ known)) c2.1 in
+    let c4 = and_parts (is_whole a.currency) (list_all is_whole known) c3.1 in
     let c5 = texts_clean a.known c4.1 in
     record { institution = c1.0; patron = c2.0; item = c3.0; currency = c4.0; title = c5.0; properties = c5.1 }
 
-due_found : (a : LoanAnswer) → Clean a → is_clean (due_of a) ≡ true → first 65 72 (fields a) ≡ Some (due_of a)
+due_found : (a : LoanAnswer) → Clean a → is_whole (due_of a) ≡ true → first 65 72 (fields a) ≡ Some (due_of a)
 unfolding fields
 due_found a c due =
     let dues = field (codes "AH") (due_of a) ++ (charged a.currency a.rental ++ behind a.known) in
@@ -161,7 +161,7 @@ due_found a c due =
     ∙ past 65 74 65 72 (title_of a) dues refl refl c.title
     ∙ here 65 72 (due_of a) (charged a.currency a.rental ++ behind a.known) refl refl due
 
-fee_found : (a : LoanAnswer) → Clean a → is_clean (due_of a) ≡ true → first 66 86 (fields a) ≡ first 66 86 (charged a.currency a.rental ++ behind a.known)
+fee_found : (a : LoanAnswer) → Clean a → is_whole (due_of a) ≡ true → first 66 86 (fields a) ≡ first 66 86 (charged a.currency a.rental ++ behind a.known)
 unfolding fields
 fee_found a c due =
     let dues = field (codes "AH") (due_of a) ++ (charged a.currency a.rental ++ behind a.known) in
@@ -228,11 +228,11 @@ ends id a =
     ends_filled (due ++ charged a.currency a.rental ++ given (codes "CK") media) (codes "CH") (option_map_or (λ (i : KnownItem). i.properties) a.known [])
     (ends_given (due ++ charged a.currency a.rental) (codes "CK") media (ends_charged due a.currency a.rental dued))
 
-none : (x y : ℕ) (a : LoanAnswer) → list_all is_clean (loan_texts a) ≡ true → LoanParts a → loan_words a (loan_text (x ∷ y ∷ []) a) ≡ Some []
+none : (x y : ℕ) (a : LoanAnswer) → list_all is_whole (loan_texts a) ≡ true → LoanParts a → loan_words a (loan_text (x ∷ y ∷ []) a) ≡ Some []
 unfolding fee_in due_in first due_of
 none x y a clean parts =
     let c = clean_of a clean in
-    let dated : is_clean (due_of a) ≡ true = due_clean a.due_form a.due parts.1 in
+    let dated : is_whole (due_of a) ≡ true = due_clean a.due_form a.due parts.1 in
     let long : 18 ≤ length (a.date ++ fields a) = simp length-append (omega (arith, parts.0)) in
     let fee : fee_in (drop 18 (a.date ++ fields a)) ≡ Some (unwrap_or a.rental 0) =
     rw (behind_date a.date (fields a) parts.0) (ap fee_of (fee_found a c dated) ∙ rental_read a.currency a.rental a.known c.currency c.properties parts.2) in
@@ -244,9 +244,9 @@ text_long : (x y : ℕ) (a : LoanAnswer) → 2 ≤ length (loan_text (x ∷ y �
 text_long x y a = subst (λ (t : List ℕ). 2 ≤ length t) (sym (shape x y a)) (omega arith)
 
 -- Checkout response (12).
-pub checkout : (a : LoanAnswer) → list_all is_clean (loan_texts a) ≡ true → LoanParts a → Agreeing (answers.Checkout a) (loan_text (codes "12") a)
+pub checkout : (a : LoanAnswer) → list_all is_whole (loan_texts a) ≡ true → LoanParts a → Agreeing (answers.Checkout a) (loan_text (codes "12") a)
 checkout a clean parts = record { end = ends (codes "12") a; long = text_long 49 50 a; kind = refl; none = none 49 50 a clean parts }
 
 -- Renew response (30).
-pub renew : (a : LoanAnswer) → list_all is_clean (loan_texts a) ≡ true → LoanParts a → Agreeing (answers.Renew a) (loan_text (codes "30") a)
+pub renew : (a : LoanAnswer) → list_all is_whole (loan_texts a) ≡ true → LoanParts a → Agreeing (answers.Renew a) (loan_text (codes "30") a)
 renew a clean parts = record { end = ends (codes "30") a; long = text_long 51 48 a; kind = refl; none = none 51 48 a clean parts }

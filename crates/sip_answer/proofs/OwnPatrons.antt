@@ -7,8 +7,9 @@ use Rattle.std.proofs.lemmas.Bool.{and_parts, le-ltb}
 use Rattle.std.proofs.lemmas.List.{length-append}
 use Rattle.std.proofs.Math.Seq.{drop-append_seam}
 use Rattle.sip_reader.specs.Amounts.{amount_text}
+use Rattle.sip_answer.specs.Devices.ReadBack.{is_whole}
 use Rattle.sip_answer.specs.Differ.{is_response, is_same_status, patron_words, word_unless, words_of}
-use Rattle.sip_answer.specs.Laws.{is_clean, patron_texts}
+use Rattle.sip_answer.specs.Laws.{patron_texts}
 use Rattle.sip_answer.specs.Parts.{field, flag}
 use Rattle.sip_reader.specs.Reading.{says_yes}
 use Rattle.sip_answer.specs.Recorded.{valid_in}
@@ -54,7 +55,7 @@ patron_none a x y more long valid =
     rw (le-ltb (length (x ∷ y ∷ status_bytes a.status more)) 37 (omega arith), status_read a.status x y more, valid, is_same-itself (is_some a.known)) refl
 
 -- the valid patron that is written is read
-flag_clean : (b : Bool) → is_clean (flag b) ≡ true
+flag_clean : (b : Bool) → is_whole (flag b) ≡ true
 unfolding flag
 flag_clean true = refl
 flag_clean false = refl
@@ -64,22 +65,22 @@ unfolding flag
 yes_read true = refl
 yes_read false = refl
 
-name_clean : (known : Option KnownPatron) → list_all is_clean (option_map_or (λ (p : KnownPatron). p.name ∷ []) known []) ≡ true → is_clean (option_map_or (λ (p : KnownPatron). p.name) known []) ≡ true
+name_clean : (known : Option KnownPatron) → list_all is_whole (option_map_or (λ (p : KnownPatron). p.name ∷ []) known []) ≡ true → is_whole (option_map_or (λ (p : KnownPatron). p.name) known []) ≡ true
 name_clean None clean = refl
-name_clean (Some p) clean = (and_parts (is_clean p.name) true clean).0
+name_clean (Some p) clean = (and_parts (is_whole p.name) true clean).0
 
 fields : PatronAnswer → List ℕ → List ℕ
 fields a more =
     field (codes "AO") a.institution ++ (field (codes "AA") a.patron ++ (field (codes "AE") (option_map_or (λ (p : KnownPatron). p.name) a.known []) ++ (field (codes "BL") (flag (is_some a.known)) ++ more)))
 
-valid_read : (a : PatronAnswer) (more : List ℕ) → list_all is_clean (patron_texts a) ≡ true → valid_in (fields a more) ≡ is_some a.known
+valid_read : (a : PatronAnswer) (more : List ℕ) → list_all is_whole (patron_texts a) ≡ true → valid_in (fields a more) ≡ is_some a.known
 unfolding valid_in first fields
 valid_read a more clean =
     let name = option_map_or (λ (p : KnownPatron). p.name) a.known [] in
     let known = option_map_or (λ (p : KnownPatron). p.name ∷ []) a.known [] in
-    let c1 = and_parts (is_clean a.institution) (list_all is_clean (a.patron ∷ a.currency ∷ known)) clean in
-    let c2 = and_parts (is_clean a.patron) (list_all is_clean (a.currency ∷ known)) c1.1 in
-    let c3 = and_parts (is_clean a.currency) (list_all is_clean known) c2.1 in
+    let c1 = and_parts (is_whole a.institution) (list_all is_whole (a.patron ∷ a.currency ∷ known)) clean in
+    let c2 = and_parts (is_whole a.patron) (list_all is_whole (a.currency ∷ known)) c1.1 in
+    let c3 = and_parts (is_whole a.currency) (list_all is_whole known) c2.1 in
     let last = field (codes "BL") (flag (is_some a.known)) ++ more in
     let names = field (codes "AE") name ++ last in
     let found : first 66 76 (fields a more) ≡ Some (flag (is_some a.known)) =
@@ -99,7 +100,7 @@ shape x y a more = rw (mark_is a.status.charge_denied, mark_is a.status.renewal_
     (ap (λ (t : List ℕ). x ∷ y ∷ status_bytes a.status t)
     (regroup a.date (field (codes "AO") a.institution) (field (codes "AA") a.patron) (field (codes "AE") (option_map_or (λ (p : KnownPatron). p.name) a.known [])) (field (codes "BL") (flag (is_some a.known))) more))
 
-none : (x y : ℕ) (a : PatronAnswer) (more : List ℕ) → list_all is_clean (patron_texts a) ≡ true → length a.date ≡ 18
+none : (x y : ℕ) (a : PatronAnswer) (more : List ℕ) → list_all is_whole (patron_texts a) ≡ true → length a.date ≡ 18
     → patron_words a (patron_text (x ∷ y ∷ []) a ++ more) ≡ Some []
 none x y a more clean date =
     let long : 18 ≤ length (a.date ++ fields a more) = simp length-append (omega arith) in
@@ -128,12 +129,12 @@ ends id a =
     ++ field (codes "AE") (option_map_or (λ (p : KnownPatron). p.name) a.known [])) (codes "BL") (flag (is_some a.known))
 
 -- Patron enable response (26).
-pub patron_enable : (a : PatronAnswer) → list_all is_clean (patron_texts a) ≡ true → length a.date ≡ 18 → Agreeing (answers.PatronEnable a) (patron_text (codes "26") a)
+pub patron_enable : (a : PatronAnswer) → list_all is_whole (patron_texts a) ≡ true → length a.date ≡ 18 → Agreeing (answers.PatronEnable a) (patron_text (codes "26") a)
 patron_enable a clean date =
     subst (Agreeing (answers.PatronEnable a)) (append-nil (patron_text (codes "26") a))
     (agreeing 50 54 a [] (answers.PatronEnable a) (rw (append-nil (patron_text (codes "26") a)) (ends (codes "26") a)) refl (none 50 54 a [] clean date))
 
 -- Patron status response (24).
-pub block_patron : (a : PatronAnswer) → list_all is_clean (patron_texts a) ≡ true → length a.date ≡ 18 → Agreeing (answers.BlockPatron a) (patron_text (codes "24") a ++ owed_text a)
+pub block_patron : (a : PatronAnswer) → list_all is_whole (patron_texts a) ≡ true → length a.date ≡ 18 → Agreeing (answers.BlockPatron a) (patron_text (codes "24") a ++ owed_text a)
 block_patron a clean date =
     agreeing 50 52 a (owed_text a) (answers.BlockPatron a) (ends_owed (patron_text (codes "24") a) a.currency a.known (ends (codes "24") a)) refl (none 50 52 a (owed_text a) clean date)

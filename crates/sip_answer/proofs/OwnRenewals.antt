@@ -7,10 +7,9 @@ use Rattle.std.proofs.lemmas.Bool.{and_parts, le-ltb, ltb-false}
 use Rattle.std.proofs.lemmas.Grind.{common_steps}
 use Rattle.std.proofs.lemmas.List.{length-append}
 use Rattle.std.proofs.lemmas.List.Folds.{list_all-append}
-use Rattle.sip_reader.specs.Texts.{is_barred}
+use Rattle.sip_answer.specs.Devices.ReadBack.{is_bar, is_whole}
 use Rattle.sip_answer.specs.Differ.{are_same_items, capped, renew_all_words, times_in, word_unless}
 use Rattle.sip_answer.specs.DueDates.{four_digits}
-use Rattle.sip_answer.specs.Laws.{is_clean}
 use Rattle.sip_answer.specs.Parts.{count, digit, each, field}
 use Rattle.sip_answer.specs.Recorded.{count_at, items_in}
 use Rattle.sip_answer.specs.Texts.{renew_all_text}
@@ -52,27 +51,27 @@ second_count x y z j k more small =
     rw (digit_fits (k / 1000) (omega arith), digit_fits (k / 100 % 10) (omega arith), digit_fits (k / 10 % 10) (omega arith), digit_fits (k % 10) (omega arith)) (ap Some (omega arith))
 
 -- the items that are written are read
-items_here : (a b : ℕ) (items : List (List ℕ)) (more : List ℕ) → list_any is_barred (a ∷ b ∷ []) ≡ false → (eqb a a && eqb b b) ≡ true → list_all is_clean items ≡ true
+items_here : (a b : ℕ) (items : List (List ℕ)) (more : List ℕ) → list_any is_bar (a ∷ b ∷ []) ≡ false → (eqb a a && eqb b b) ≡ true → list_all is_whole items ≡ true
     → items_in a b (each (a ∷ b ∷ []) items ++ more) ≡ items ++ items_in a b more
 unfolding items_in each
 items_here a b [] more id same clean = refl
 items_here a b (x ∷ xs) more id same clean =
-    let parts = and_parts (is_clean x) (list_all is_clean xs) clean in
+    let parts = and_parts (is_whole x) (list_all is_whole xs) clean in
     let rest = flat_map (field (a ∷ b ∷ [])) xs in
     rw (append_assoc (field (a ∷ b ∷ []) x) rest more, piece_of a b x (rest ++ more) id parts.0, named a b a b x same)
     (ap (λ (l : List (List ℕ)). x ∷ l) (items_here a b xs more id same parts.1))
 
-items_past : (a b c d : ℕ) (items : List (List ℕ)) (more : List ℕ) → list_any is_barred (a ∷ b ∷ []) ≡ false → (eqb a c && eqb b d) ≡ false → list_all is_clean items ≡ true
+items_past : (a b c d : ℕ) (items : List (List ℕ)) (more : List ℕ) → list_any is_bar (a ∷ b ∷ []) ≡ false → (eqb a c && eqb b d) ≡ false → list_all is_whole items ≡ true
     → items_in c d (each (a ∷ b ∷ []) items ++ more) ≡ items_in c d more
 unfolding items_in each
 items_past a b c d [] more id apart clean = refl
 items_past a b c d (x ∷ xs) more id apart clean =
-    let parts = and_parts (is_clean x) (list_all is_clean xs) clean in
+    let parts = and_parts (is_whole x) (list_all is_whole xs) clean in
     let rest = flat_map (field (a ∷ b ∷ [])) xs in
     rw (append_assoc (field (a ∷ b ∷ []) x) rest more, piece_of a b x (rest ++ more) id parts.0, other a b c d x apart)
     (items_past a b c d xs more id apart parts.1)
 
-field_past : (a b c d : ℕ) (text more : List ℕ) → list_any is_barred (a ∷ b ∷ []) ≡ false → (eqb a c && eqb b d) ≡ false → is_clean text ≡ true → items_in c d (field (a ∷ b ∷ []) text ++ more) ≡ items_in c d more
+field_past : (a b c d : ℕ) (text more : List ℕ) → list_any is_bar (a ∷ b ∷ []) ≡ false → (eqb a c && eqb b d) ≡ false → is_whole text ≡ true → items_in c d (field (a ∷ b ∷ []) text ++ more) ≡ items_in c d more
 unfolding items_in
 field_past a b c d text more id apart clean = rw (piece_of a b text more id clean, other a b c d text apart) refl
 
@@ -94,7 +93,7 @@ no_items : (c d : ℕ) → items_in c d [] ≡ []
 unfolding items_in
 no_items c d = refl
 
-renewed_read : (a : RenewAllAnswer) → is_clean a.institution ≡ true → list_all is_clean a.renewed ≡ true → list_all is_clean a.unrenewed ≡ true → items_in 66 77 (fields a) ≡ a.renewed
+renewed_read : (a : RenewAllAnswer) → is_whole a.institution ≡ true → list_all is_whole a.renewed ≡ true → list_all is_whole a.unrenewed ≡ true → items_in 66 77 (fields a) ≡ a.renewed
 unfolding fields
 renewed_read a c1 c2 c3 =
     let last = each (codes "BN") a.unrenewed in
@@ -103,7 +102,7 @@ renewed_read a c1 c2 c3 =
     ∙ ap (λ (l : List (List ℕ)). a.renewed ++ l) (ap (items_in 66 77) (sym (append-nil last)) ∙ items_past 66 78 66 77 a.unrenewed [] refl refl c3 ∙ no_items 66 77)
     ∙ append-nil a.renewed
 
-unrenewed_read : (a : RenewAllAnswer) → is_clean a.institution ≡ true → list_all is_clean a.renewed ≡ true → list_all is_clean a.unrenewed ≡ true → items_in 66 78 (fields a) ≡ a.unrenewed
+unrenewed_read : (a : RenewAllAnswer) → is_whole a.institution ≡ true → list_all is_whole a.renewed ≡ true → list_all is_whole a.unrenewed ≡ true → items_in 66 78 (fields a) ≡ a.unrenewed
 unfolding fields
 unrenewed_read a c1 c2 c3 =
     let last = each (codes "BN") a.unrenewed in
@@ -152,11 +151,11 @@ ends_each x id [] end = rw (append-nil x) end
 ends_each x id (item ∷ items) end =
     rw (← append_assoc x (field id item) (flat_map (field id) items)) (ends_each (x ++ field id item) id items (ends_field x id item))
 
-pub renew_all : (a : RenewAllAnswer) → list_all is_clean (a.institution ∷ a.renewed ++ a.unrenewed) ≡ true → length a.date ≡ 18 → Agreeing (answers.RenewAll a) (renew_all_text a)
+pub renew_all : (a : RenewAllAnswer) → list_all is_whole (a.institution ∷ a.renewed ++ a.unrenewed) ≡ true → length a.date ≡ 18 → Agreeing (answers.RenewAll a) (renew_all_text a)
 renew_all a clean date =
-    let names = and_parts (is_clean a.institution) (list_all is_clean (a.renewed ++ a.unrenewed)) clean in
-    let both : (list_all is_clean a.renewed && list_all is_clean a.unrenewed) ≡ true = rw (list_all-append is_clean a.renewed a.unrenewed) at names.1 in
-    let lists = and_parts (list_all is_clean a.renewed) (list_all is_clean a.unrenewed) both in
+    let names = and_parts (is_whole a.institution) (list_all is_whole (a.renewed ++ a.unrenewed)) clean in
+    let both : (list_all is_whole a.renewed && list_all is_whole a.unrenewed) ≡ true = rw (list_all-append is_whole a.renewed a.unrenewed) at names.1 in
+    let lists = and_parts (list_all is_whole a.renewed) (list_all is_whole a.unrenewed) both in
     let more = a.date ++ fields a in
     let long : 18 ≤ length more = simp length-append (omega arith) in
     let renewed : items_in 66 77 (drop 18 more) ≡ a.renewed = rw (behind_date a.date (fields a) date) (renewed_read a names.0 lists.0 lists.1) in

@@ -1,3 +1,4 @@
+pub mod Devices
 pub mod Differ
 pub mod DueDates
 pub mod Laws

@@ -5,12 +5,14 @@ ghost use Rattle.sip_answer.specs.Differ.{differ, differ_body, identifier_of, is
 
 mod due_dates;
 mod items;
+mod own_text;
 mod recorded;
 mod responses;
 mod words;
 
 use crate::answer::Answer;
 use crate::field::Field;
+pub use own_text::is_own_text;
 use responses::{
     compare_checkin, compare_fee_paid, compare_hold, compare_item_status, compare_loan,
     compare_patron, compare_renew_all,

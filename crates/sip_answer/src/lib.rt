@@ -14,7 +14,7 @@ pub use answer::{
     LoanAnswer, PatronAnswer, PatronStatus, QueuePosition, RenewAllAnswer, ReturnedItem,
     TitledItem,
 };
-pub use comparing::differences;
+pub use comparing::{differences, is_own_text};
 pub use field::Field;
 pub use item_ids::ItemIds;
 pub use laws::own_text_agrees;

@@ -1,6 +1,7 @@
 //! The parts of which a response is made, each appended to what is written before.
 
-ghost use Rattle.std.specs.Prelude.{◌≡◌, ◌++◌, ◌<◌, OnOk, Some, decimal};
+ghost use Rattle.std.specs.Prelude.{◌≡◌, ◌++◌, ◌<◌, ◌/◌, ◌%◌, OnOk, Some, codes, decimal};
+ghost use Rattle.sip_reader.specs.Amounts.{amount_text};
 ghost use Rattle.sip_answer.specs.Texts.{money};
 ghost use Rattle.sip_answer.specs.Parts.{field, filled, digit, flag, hex_digit, hex_digits, with_sequence};
 
@@ -66,9 +67,37 @@ pub fn put_money(out: &mut Vec<u8>, currency: &[u8], hundredths: u128) -> Result
 {
     put_field(out, b"BH", currency)?;
     out.extend_from_slice(b"BV")?;
-    push_amount(out, hundredths)?;
+    put_amount(out, hundredths)?;
     out.push(b'|')?;
     Ok(())
+}
+
+/// An amount in hundredths. Most fit 64 bits, which are divided much faster than 128.
+fn put_amount(out: &mut Vec<u8>, hundredths: u128) -> Result<(), AllocError>
+    ensures { OnOk result (out.new.items ≡ out.old.items ++ amount_text hundredths) }
+{
+    match u64::try_from(hundredths) {
+        Ok(few) => put_few(out, few),
+        Err(_) => push_amount(out, hundredths),
+    }
+}
+
+#[tactic(auto, unfolding(sip_reader::specs::Amounts::amount_text))]
+fn put_few(out: &mut Vec<u8>, hundredths: u64) -> Result<(), AllocError>
+    ensures { OnOk result (out.new.items ≡ out.old.items ++ amount_text hundredths) }
+{
+    out.extend_from_slice(Buffer::new().format(hundredths / 100).as_bytes())?;
+    out.extend_from_slice(&behind_point(hundredths))
+}
+
+/// The point, and the two digits behind it.
+#[tactic(auto, using(crate::proofs::AmountDigits::two_digits))]
+fn behind_point(hundredths: u64) -> [u8; 3]
+    ensures { result ≡ codes "." ++ decimal (hundredths / 10 % 10) ++ decimal (hundredths % 10) }
+{
+    let tens = (hundredths / 10 % 10) as u8;
+    let ones = (hundredths % 10) as u8;
+    [b'.', b'0' + tens, b'0' + ones]
 }
 
 fn hex(n: u16) -> u8

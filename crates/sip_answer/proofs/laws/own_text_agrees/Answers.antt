@@ -1,31 +1,45 @@
-use Rattle.std.proofs.Common.{◌≡◌, ℕ, true, [], Option}
-use Rattle.std.specs.Prelude.{IfSome}
-use Rattle.std.specs.Char.{is_ascii_digit}
-use Rattle.std.specs.List.{list_all}
-use Rattle.sip_answer.specs.Differ.{differ}
-use Rattle.sip_answer.specs.Laws.{is_clean, texts_of, PartsFit}
-use Rattle.sip_answer.specs.Texts.{answer_text, checkin_text, fee_paid_text, hold_text, item_status_text, loan_text, owed_text, patron_text, renew_all_text}
+use Rattle.std.proofs.Common.{◌≡◌, ℕ, Bool, true, false, not, List, [], ◌∷◌, refl, sym}
+use Rattle.std.specs.List.{list_all, list_any}
+use Rattle.std.proofs.lemmas.Bool.{and_parts, or_parts}
+use Rattle.sip_reader.specs.Texts.{is_barred, is_line_end}
+use Rattle.sip_answer.specs.Devices.ReadBack.{ReadsBack, is_bar, is_whole}
+use Rattle.sip_answer.specs.Laws.{is_clean, loan_texts, patron_texts, texts_of, PartsFit}
 use Rattle.sip_answer.specs.declared.answer.Answer.{Answer}
 use Rattle.sip_answer.specs.declared.answer.Answer.TheVariants as answers
-use Rattle.sip_answer.proofs.OwnLoans.{checkout, renew}
-use Rattle.sip_answer.proofs.OwnPatrons.{block_patron, patron_enable}
-use Rattle.sip_answer.proofs.OwnRenewals.{renew_all}
-use Rattle.sip_answer.proofs.OwnText.{agrees, checkin, fee_paid, hold, item_status, resend}
+use Rattle.sip_answer.proofs.OwnTexts.{own_agrees}
 use Rattle.sip_answer.proofs.laws.own_text_agrees.Goals as goal
-use Rattle.std.specs.Prelude.{codes, ◌++◌}
 
-by_kind : (a : Answer) (s : Option ℕ) → list_all is_clean (texts_of a) ≡ true → PartsFit a → IfSome s (λ b. is_ascii_digit b ≡ true) → differ a (answer_text a s) ≡ []
-unfolding answer_text
-by_kind (answers.BlockPatron a) s clean parts digit = agrees (answers.BlockPatron a) (patron_text (codes "24") a ++ owed_text a) s (block_patron a clean parts) digit
-by_kind (answers.Checkin a) s clean parts digit = agrees (answers.Checkin a) (checkin_text a) s (checkin a parts) digit
-by_kind (answers.Checkout a) s clean parts digit = agrees (answers.Checkout a) (loan_text (codes "12") a) s (checkout a clean parts) digit
-by_kind (answers.Hold a) s clean parts digit = agrees (answers.Hold a) (hold_text a) s (hold a parts) digit
-by_kind (answers.ItemStatus a) s clean parts digit = agrees (answers.ItemStatus a) (item_status_text a) s (item_status a parts) digit
-by_kind (answers.PatronEnable a) s clean parts digit = agrees (answers.PatronEnable a) (patron_text (codes "26") a) s (patron_enable a clean parts) digit
-by_kind (answers.Renew a) s clean parts digit = agrees (answers.Renew a) (loan_text (codes "30") a) s (renew a clean parts) digit
-by_kind (answers.FeePaid a) s clean parts digit = agrees (answers.FeePaid a) (fee_paid_text a) s (fee_paid a parts) digit
-by_kind (answers.RenewAll a) s clean parts digit = agrees (answers.RenewAll a) (renew_all_text a) s (renew_all a clean parts) digit
-by_kind answers.Resend s clean parts digit = resend
+-- a text without a bar, CR or LF has no bar
+not_any : (b : Bool) → not b ≡ true → b ≡ false
+not_any true e = sym e
+not_any false e = refl
+
+no_bar : (text : List ℕ) → list_any is_barred text ≡ false → list_any is_bar text ≡ false
+no_bar [] none = refl
+no_bar (x ∷ text) none =
+    let parts = or_parts (is_barred x) (list_any is_barred text) none in
+    rw ((or_parts (is_bar x) (is_line_end x) parts.0).0, no_bar text parts.1) refl
+
+whole : (text : List ℕ) → is_clean text ≡ true → is_whole text ≡ true
+whole text clean = rw (no_bar text (not_any (list_any is_barred text) clean)) refl
+
+all_whole : (texts : List (List ℕ)) → list_all is_clean texts ≡ true → list_all is_whole texts ≡ true
+all_whole [] clean = refl
+all_whole (x ∷ texts) clean =
+    let parts = and_parts (is_clean x) (list_all is_clean texts) clean in
+    rw (whole x parts.0, all_whole texts parts.1) refl
+
+known : (a : Answer) → list_all is_clean (texts_of a) ≡ true → PartsFit a → ReadsBack a
+known (answers.BlockPatron a) clean parts = (parts, all_whole (patron_texts a) clean)
+known (answers.Checkin a) clean parts = parts
+known (answers.Checkout a) clean parts = (all_whole (loan_texts a) clean, parts)
+known (answers.Hold a) clean parts = parts
+known (answers.ItemStatus a) clean parts = parts
+known (answers.PatronEnable a) clean parts = (parts, all_whole (patron_texts a) clean)
+known (answers.Renew a) clean parts = (all_whole (loan_texts a) clean, parts)
+known (answers.FeePaid a) clean parts = parts
+known (answers.RenewAll a) clean parts = (parts, all_whole (texts_of (answers.RenewAll a)) clean)
+known answers.Resend clean parts = parts
 
 pub returns : goal.returns
-returns c = by_kind
+returns c = λ a s clean parts digit. own_agrees a s (known a clean parts) digit

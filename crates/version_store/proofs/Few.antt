@@ -1,5 +1,4 @@
 -- A few keys, each with its column: where a key stands, and what is among them after a change.
-use denote.Ref.{Bor}
 use Rattle.std.proofs.Common.{◌≡◌, ℕ, zero, suc, ◌<◌, Bool, true, false, cond, Option, Some, None, List, [], ◌∷◌, ◌++◌, length, get_or, set, refl, subst, sym, ap, ◌∙◌, arith, inl, inr, true≢false}
 use Rattle.std.specs.List.{position, position_or_len}
 use Rattle.std.specs.Option.{option_or}
@@ -20,10 +19,10 @@ use Rattle.version_store.proofs.Views.{turn}
 
 -- a key with its column
 abbrev pub Kept : Type 0
-Kept = Bor Key × List ℕ
+Kept = Key × List ℕ
 
 abbrev pub is_of : Key → Kept → Bool
-is_of k c = eq_by_cmp key_cmp k c.0.now
+is_of k c = eq_by_cmp key_cmp k c.0
 
 -- ---- where a key stands
 pub record StandsFirst (cs : List Kept) (k : Key) (i : ℕ) : Type 0 where
@@ -82,14 +81,14 @@ pub exchanged : (cs : List Kept) (k q : Key) (i : ℕ) (x : Kept) → StandsFirs
     → among (set cs i x) q ≡ cond (eq_by_cmp key_cmp k q) (Some x.1) (among cs q)
 exchanged [] k q i x at e = absurd (omega (arith, at.within))
 exchanged (c ∷ cs) k q zero x at e =
-    let one : k ≡ c.0.now = same_key k c.0.now (at.same x) in
-    ap (λ (b : Bor Key). cond (eq_by_cmp key_cmp q b.now) (Some x.1) (among cs q)) e
-    ∙ here_if (eq_by_cmp key_cmp q c.0.now) c.1 x.1 (among cs q)
+    let one : k ≡ c.0 = same_key k c.0 (at.same x) in
+    ap (λ (b : Key). cond (eq_by_cmp key_cmp q b) (Some x.1) (among cs q)) e
+    ∙ here_if (eq_by_cmp key_cmp q c.0) c.1 x.1 (among cs q)
     ∙ ap (λ b. cond b (Some x.1) (among (c ∷ cs) q)) (ap (eq_by_cmp key_cmp q) (sym one) ∙ turn q k)
 exchanged (c ∷ cs) k q (suc i) x at e =
-    ap (cond (eq_by_cmp key_cmp q c.0.now) (Some c.1)) (exchanged cs k q i x (behind c cs k i at) e)
-    ∙ there_if (eq_by_cmp key_cmp q c.0.now) (eq_by_cmp key_cmp k q) c.1 x.1 (among cs q)
-    (λ a b. apart (is_of k c) (ap (λ p. eq_by_cmp key_cmp p c.0.now) (same_key k q b) ∙ a) (at.before 0 x (omega arith)))
+    ap (cond (eq_by_cmp key_cmp q c.0) (Some c.1)) (exchanged cs k q i x (behind c cs k i at) e)
+    ∙ there_if (eq_by_cmp key_cmp q c.0) (eq_by_cmp key_cmp k q) c.1 x.1 (among cs q)
+    (λ a b. apart (is_of k c) (ap (λ p. eq_by_cmp key_cmp p c.0) (same_key k q b) ∙ a) (at.before 0 x (omega arith)))
 
 -- ---- one more key
 none_first : (b : Bool) (x : List ℕ) (o : Option (List ℕ)) → cond b (Some x) o ≡ None → b ≡ false
@@ -100,13 +99,13 @@ none_later : (b : Bool) (x : List ℕ) (o : Option (List ℕ)) → cond b (Some 
 none_later true x o e = absurd (none-some x (sym e))
 none_later false x o e = e
 
-pub joined : (cs : List Kept) (k q : Key) (x : Kept) → among cs k ≡ None → x.0.now ≡ k
+pub joined : (cs : List Kept) (k q : Key) (x : Kept) → among cs k ≡ None → x.0 ≡ k
     → among (cs ++ x ∷ []) q ≡ cond (eq_by_cmp key_cmp k q) (Some x.1) (among cs q)
 joined [] k q x none e = ap (λ b. cond b (Some x.1) None) (ap (eq_by_cmp key_cmp q) e ∙ turn q k)
 joined (c ∷ cs) k q x none e =
-    ap (cond (eq_by_cmp key_cmp q c.0.now) (Some c.1)) (joined cs k q x (none_later (is_of k c) c.1 (among cs k) none) e)
-    ∙ there_if (eq_by_cmp key_cmp q c.0.now) (eq_by_cmp key_cmp k q) c.1 x.1 (among cs q)
-    (λ a b. apart (is_of k c) (ap (λ p. eq_by_cmp key_cmp p c.0.now) (same_key k q b) ∙ a) (none_first (is_of k c) c.1 (among cs k) none))
+    ap (cond (eq_by_cmp key_cmp q c.0) (Some c.1)) (joined cs k q x (none_later (is_of k c) c.1 (among cs k) none) e)
+    ∙ there_if (eq_by_cmp key_cmp q c.0) (eq_by_cmp key_cmp k q) c.1 x.1 (among cs q)
+    (λ a b. apart (is_of k c) (ap (λ p. eq_by_cmp key_cmp p c.0) (same_key k q b) ∙ a) (none_first (is_of k c) c.1 (among cs k) none))
 
 -- ---- a few keys in front of others
 here : (cs : List Kept) (k : Key) (i : ℕ) (was : Kept) → position (is_of k) cs ≡ Some i → was ≡ get_or cs i was → among cs k ≡ Some was.1
@@ -129,7 +128,7 @@ line_changed cs rest k q i was column n m w e is v =
     v
 
 -- a key that is new among them has one line
-pub line_first : (cs : List Kept) (k q : Key) (x : Kept) (n m : ℕ) (empty : List ℕ) → among cs k ≡ None → x.0.now ≡ k → empty ≡ []
+pub line_first : (cs : List Kept) (k q : Key) (x : Kept) (n m : ℕ) (empty : List ℕ) → among cs k ≡ None → x.0 ≡ k → empty ≡ []
     → ((p : ℕ) → has x.1 p ≡ cond (eq_by_cmp nat_cmp n p) true (has empty p))
     → in_column (among (cs ++ x ∷ []) q) m ≡ with_at k n true (λ y z. in_column (among cs y) z) q m
 line_first cs k q x n m empty none e bare v =

@@ -1,9 +1,9 @@
 -- An index in parts.
 use Rattle.std.proofs.Common.{◌≡◌, ℕ, zero, suc, ◌+◌, ◌*◌, ◌^◌, ◌%◌, Bool, true, false, cond, List, [], ◌∷◌, ◌++◌, length, Some, refl, sym, ap, ◌∙◌, inl, inr, length-set}
-use Rattle.std.specs.Prelude.{slice_get, slice_set}
+use Rattle.std.specs.Prelude.{nat_eq, slice_get, slice_set}
 use Rattle.std.specs.Ordering.{nat_cmp, eq_by_cmp}
-use Rattle.std.proofs.lemmas.Bool.{cases_eq}
-use Rattle.circ_records.specs.Keys.{key_cmp}
+use Rattle.std.proofs.lemmas.Bool.{cases_eq, eqb-true}
+use Rattle.circ_records.specs.Keys.{id_of, key_cmp}
 use Rattle.circ_records.specs.declared.key.Key.{Key}
 use Rattle.version_store.specs.Index.{in_part, in_parts, with_at}
 use Rattle.version_store.specs.Devices.Parts.{hashed, part_of}
@@ -14,6 +14,16 @@ use Rattle.version_store.proofs.Columns.{same_key}
 pub hashed_more : (xs : List ℕ) (h b : ℕ) → hashed h (xs ++ b ∷ []) ≡ ((hashed h xs * 31) % 2 ^ 64 + b) % 2 ^ 64
 hashed_more [] h b = refl
 hashed_more (x ∷ xs) h b = hashed_more xs _ b
+
+not_true : (b : Bool) → (b ≡ true → ⊥) → b ≡ false
+not_true false h = refl
+not_true true h = absurd (h refl)
+
+-- keys with other numbers are others
+pub apart_by_number : (k q : Key) (m n : ℕ) → m ≡ hashed 0 (id_of k) → n ≡ hashed 0 (id_of q) → (n ≡ m → ⊥) → nat_eq n m ≡ eq_by_cmp key_cmp k q
+apart_by_number k q m n hm hn apart =
+    not_true (nat_eq n m) (λ t. apart (eqb-true n m t))
+    ∙ sym (not_true (eq_by_cmp key_cmp k q) (λ t. apart (hn ∙ ap (λ x. hashed 0 (id_of x)) (sym (same_key k q t)) ∙ sym hm)))
 
 -- parts in which no line has an entry
 abbrev pub AreBare : List IndexPart → Type 0
@@ -56,10 +66,6 @@ by_part ps i p new change there h off q m =
 
 off_key : (b c w x : Bool) → b ≡ false → x ≡ cond b (cond c w x) x
 off_key b c w x e = rw e refl
-
-not_true : (b : Bool) → (b ≡ true → ⊥) → b ≡ false
-not_true false h = refl
-not_true true h = absurd (h refl)
 
 -- one line was entered at one key, or taken out
 pub entered : (ps : List IndexPart) (i : ℕ) (p new : IndexPart) (k : Key) (n : ℕ) (w : Bool)

@@ -3,11 +3,10 @@
 ghost use Rattle.std.specs.Prelude.{◌≡◌, ℕ, IfOk, OnOk, OnErr, true, false};
 ghost use Rattle.circ_records.specs.declared.key.Key.{Key};
 ghost use Rattle.version_store.specs.Index.{IsLatest, at, with_at};
-ghost use Rattle.version_store.specs.Devices.Parts.{hashed};
-ghost use Rattle.version_store.specs.Devices.Parts as Parts;
 
+use crate::numbered::Sought;
 use crate::part::IndexPart;
-use circ_records::{KeptKey, Key};
+use circ_records::KeptKey;
 use std::alloc::{AllocError, Global};
 
 /// A part for so many lines: it then has few keys.
@@ -42,7 +41,7 @@ impl<'t> KeyIndex<'t> {
     pub fn set(
         &mut self,
         alloc: Global,
-        key: &Key,
+        key: &Sought<'_>,
         kept: &'t KeptKey,
         line: u64,
     ) -> Result<(), AllocError>
@@ -50,7 +49,7 @@ impl<'t> KeyIndex<'t> {
         ensures put { OnOk result ((q : Key) (m : ℕ) → at self.new q m ≡ with_at key.now line true (at self.old) q m) }
         ensures same { OnErr result ((q : Key) (m : ℕ) → at self.new q m ≡ at self.old q m) }
     {
-        let position = part_of(key, self.parts.len());
+        let position = key.part_of(self.parts.len());
         if position >= self.parts.len() {
             return Err(AllocError);
         }
@@ -62,10 +61,10 @@ impl<'t> KeyIndex<'t> {
     }
 
     /// The line has no entry at the key.
-    pub fn clear(&mut self, key: &Key, line: u64)
+    pub fn clear(&mut self, key: &Sought<'_>, line: u64)
         ensures { (q : Key) (m : ℕ) → at self.new q m ≡ with_at key.now line false (at self.old) q m }
     {
-        let position = part_of(key, self.parts.len());
+        let position = key.part_of(self.parts.len());
         if position >= self.parts.len() {
             return;
         }
@@ -74,33 +73,12 @@ impl<'t> KeyIndex<'t> {
     }
 
     /// The greatest line below this one that has an entry at the key.
-    pub fn latest_below(&self, key: &Key, below: u64) -> Option<u64>
+    pub fn latest_below(&self, key: &Sought<'_>, below: u64) -> Option<u64>
         ensures { IsLatest (at self.now key.now) below result }
     {
-        let Some(part) = self.parts.get(part_of(key, self.parts.len())) else {
+        let Some(part) = self.parts.get(key.part_of(self.parts.len())) else {
             return None;
         };
         part.latest_below(key, below)
     }
-}
-
-/// In which of so many parts a key stands.
-fn part_of(key: &Key, parts: usize) -> usize
-    ensures { result ≡ Parts.part_of key.now parts }
-{
-    if parts == 0 {
-        return 0;
-    }
-    (number_of(key.id().as_bytes()) % parts as u64) as usize
-}
-
-/// The number that bytes spell, each worth 31 of the next, as far as 64 bits reach.
-fn number_of(bytes: &[u8]) -> u64
-    ensures { result ≡ hashed 0 bytes.now }
-{
-    let mut number: u64 = 0;
-    for b in bytes {
-        number = number.wrapping_mul(31).wrapping_add(u64::from(*b));
-    }
-    number
 }

@@ -11,6 +11,7 @@ mod entry;
 mod index;
 mod line;
 mod map;
+mod numbered;
 mod part;
 mod short;
 mod store;

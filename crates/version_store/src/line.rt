@@ -110,6 +110,13 @@ impl<'t, J: PlanName> LineEntries<'t, J> {
         Some((entry.0, entry.1.attempt))
     }
 
+    /// How many entries there are.
+    pub fn count(&self) -> usize
+        ensures { result ≡ length (fin.entries self.now) }
+    {
+        self.entries.len()
+    }
+
     /// The least key whose entry isn't of this attempt.
     pub fn left(&self, attempt: u32) -> Option<&'t KeptKey>
         ensures { MatchOption result (AllOf self.now attempt) (λ k. IsLeastLeft self.now attempt k.now) }

@@ -10,16 +10,17 @@ ghost use Rattle.version_store.specs.Index.{IsLatest, in_column, in_part, with_a
 
 use crate::column::Column;
 use crate::map::ColumnMap;
-use circ_records::{KeptKey, Key};
+use crate::numbered::{IndexKey, Sought};
+use circ_records::KeptKey;
 use std::alloc::{AllocError, Global};
 
 /// So many keys of a part are looked through one by one: a part mostly has fewer, and a map of them would take more memory than
 /// they do.
 const FEW: usize = 16;
 
-/// The lines that have an entry at a key, which is borrowed from the writes of a version that was placed there: so both take 32
+/// The lines that have an entry at a key, which is borrowed from the writes of a version that was placed there: so both take 40
 /// bytes, and with a key of its own they would take 96.
-type KeyColumn<'t> = (&'t KeptKey, Column);
+type KeyColumn<'t> = (IndexKey<'t>, Column);
 
 /// For each key of a part the lines that have an entry there.
 pub struct IndexPart<'t> {
@@ -49,7 +50,7 @@ impl<'t> IndexPart<'t> {
     pub fn set(
         &mut self,
         alloc: Global,
-        key: &Key,
+        key: &Sought<'_>,
         kept: &'t KeptKey,
         line: u64,
     ) -> Result<(), AllocError>
@@ -71,7 +72,7 @@ impl<'t> IndexPart<'t> {
     fn set_other(
         &mut self,
         alloc: Global,
-        key: &Key,
+        key: &Sought<'_>,
         kept: &'t KeptKey,
         line: u64,
     ) -> Result<(), AllocError>
@@ -83,7 +84,7 @@ impl<'t> IndexPart<'t> {
         let Some(others) = &mut self.others else {
             return self.open(alloc, key, kept, line);
         };
-        match others.set(alloc, key, line) {
+        match others.set(alloc, key.key(), line) {
             Ok(()) => Ok(()),
             Err(refused) => Err(refused),
         }
@@ -93,7 +94,7 @@ impl<'t> IndexPart<'t> {
     fn open(
         &mut self,
         alloc: Global,
-        key: &Key,
+        key: &Sought<'_>,
         kept: &'t KeptKey,
         line: u64,
     ) -> Result<(), AllocError>
@@ -104,16 +105,16 @@ impl<'t> IndexPart<'t> {
         ensures same { OnErr result ((q : Key) (m : ℕ) → in_part self.new q m ≡ in_part self.old q m) }
     {
         if self.few.len() < FEW {
-            return open_among(&mut self.few, alloc, kept, line);
+            return open_among(&mut self.few, alloc, key, kept, line);
         }
         let mut others = ColumnMap::new(alloc);
-        others.set(alloc, key, line)?;
+        others.set(alloc, key.key(), line)?;
         self.others = Some(Box::new(alloc, others)?);
         Ok(())
     }
 
     /// The line has no entry at the key.
-    pub fn clear(&mut self, key: &Key, line: u64)
+    pub fn clear(&mut self, key: &Sought<'_>, line: u64)
         ensures { (q : Key) (m : ℕ) → in_part self.new q m ≡ with_at key.now line false (in_part self.old) q m }
     {
         if let Some(position) = position_among(&self.few, key) {
@@ -122,12 +123,12 @@ impl<'t> IndexPart<'t> {
             return;
         }
         if let Some(others) = &mut self.others {
-            others.clear(key, line);
+            others.clear(key.key(), line);
         }
     }
 
     /// The greatest line below this one that has an entry at the key.
-    pub fn latest_below(&self, key: &Key, below: u64) -> Option<u64>
+    pub fn latest_below(&self, key: &Sought<'_>, below: u64) -> Option<u64>
         ensures { IsLatest (in_part self.now key.now) below result }
     {
         if let Some(position) = position_among(&self.few, key) {
@@ -136,13 +137,13 @@ impl<'t> IndexPart<'t> {
         let Some(others) = &self.others else {
             return None;
         };
-        others.latest_below(key, below)
+        others.latest_below(key.key(), below)
     }
 }
 
 /// The position of a key among a few.
-fn position_among(few: &[KeyColumn<'_>], key: &Key) -> Option<usize>
-    ensures { result ≡ position (λ c. eq_by_cmp key_cmp key.now c.0.now) few.now }
+fn position_among(few: &[KeyColumn<'_>], key: &Sought<'_>) -> Option<usize>
+    ensures { result ≡ position (λ c. eq_by_cmp key_cmp key.now c.0) few.now }
 {
     few.iter().position(|column| column.0.is(key))
 }
@@ -151,16 +152,18 @@ fn position_among(few: &[KeyColumn<'_>], key: &Key) -> Option<usize>
 fn open_among<'t>(
     few: &mut Vec<KeyColumn<'t>>,
     alloc: Global,
+    key: &Sought<'_>,
     kept: &'t KeptKey,
     line: u64,
 ) -> Result<(), AllocError>
-    requires { among few.old.items kept.now ≡ None }
+    requires kept { kept.now ≡ key.now }
+    requires absent { among few.old.items kept.now ≡ None }
     ensures put { OnOk result ((q : Key) (m : ℕ) → in_column (among few.new.items q) m ≡ with_at kept.now line true (λ k n. in_column (among few.old.items k) n) q m) }
     ensures same { OnErr result (few.new.items ≡ few.old.items) }
 {
     let mut column = Column::new(alloc);
     column.insert(line)?;
     few.reserve_exact(1)?;
-    few.push((kept, column))?;
+    few.push((IndexKey::new(key, kept), column))?;
     Ok(())
 }

@@ -7,6 +7,7 @@ ghost use Rattle.version_store.specs.Entries.{AllOf, IsLeastLeft, IsLine, IsName
 use crate::entry::{Entry, Found, Seen};
 use crate::index::KeyIndex;
 use crate::line::LineEntries;
+use crate::numbered::Sought;
 use crate::table::Place;
 use circ_records::{KeptKey, Key};
 use read_set::{Name, PlanName};
@@ -114,6 +115,16 @@ impl<'t, J: PlanName> EntryStore<'t, J> {
         self.lines[position].nth(i)
     }
 
+    /// How many entries a line has.
+    pub fn count_of(&self, line: u64) -> usize
+        ensures { result ≡ length (fin.entries (line_at self.now line)) }
+    {
+        let Some(position) = self.position(line) else {
+            return 0;
+        };
+        self.lines[position].count()
+    }
+
     /// The attempt of a line's entry at a key; None where it has no entry.
     pub fn attempt_at(&self, line: u64, key: &Key) -> Option<u32>
         ensures { result ≡ attempt_at (line_at self.now line) key.now }
@@ -154,14 +165,15 @@ impl<'t, J: PlanName> EntryStore<'t, J> {
             place,
         };
         let at = key.key();
-        let Ok(()) = self.index.set(alloc, &at, key, line) else {
+        let sought = Sought::new(&at);
+        let Ok(()) = self.index.set(alloc, &sought, key, line) else {
             return Err(AllocError);
         };
         let row = &mut self.lines[(line - self.first) as usize];
         match row.put(alloc, &at, key, made) {
             Ok(()) => Ok(()),
             Err(refused) => {
-                self.index.clear(&at, line);
+                self.index.clear(&sought, line);
                 Err(refused)
             }
         }
@@ -176,7 +188,8 @@ impl<'t, J: PlanName> EntryStore<'t, J> {
         };
         let row = &mut self.lines[position];
         row.take_out(key);
-        self.index.clear(key, line);
+        let sought = Sought::new(key);
+        self.index.clear(&sought, line);
     }
 
     /// Each entry of a line is suspect.
@@ -208,7 +221,8 @@ impl<'t, J: PlanName> EntryStore<'t, J> {
     fn latest(&self, key: &Key, below: u64) -> Option<(u64, Entry<'t, J>)>
         ensures { option_map (λ p. (p.0, shown p.1)) result ≡ visible (line_at self.now) below key.now }
     {
-        let Some(line) = self.index.latest_below(key, below) else {
+        let sought = Sought::new(key);
+        let Some(line) = self.index.latest_below(&sought, below) else {
             return None;
         };
         match self.lines[(line - self.first) as usize].get(key) {

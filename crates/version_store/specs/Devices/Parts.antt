@@ -1,12 +1,10 @@
 -- A device of proofs: the part of the index in which a key stands, and the key's column in it.
-use denote.Ref.{Bor}
 use Rattle.std.specs.Prelude.{ℕ, ◌+◌, ◌*◌, ◌^◌, ◌%◌, List, [], ◌∷◌, Option, nat_eq, option_and_then, if◌then◌else◌}
 use Rattle.std.specs.BTreeMap.{get, is_at}
 use Rattle.std.specs.Map.{lookup}
 use Rattle.std.specs.Option.{option_or}
 use Rattle.circ_records.specs.Keys.{id_of, key_cmp}
 use Rattle.circ_records.specs.declared.key.Key.{Key}
-use Rattle.version_store.specs.Entries.{keyed}
 use Rattle.version_store.specs.declared.part.IndexPart.{IndexPart}
 
 -- the number that bytes spell behind a number, each worth 31 of the next, as far as 64 bits reach
@@ -19,8 +17,8 @@ abbrev pub part_of : Key → ℕ → ℕ
 part_of k n = if nat_eq n 0 then 0 else hashed 0 (id_of k) % n
 
 -- the column of a key among a few
-abbrev pub among : List (Bor Key × List ℕ) → Key → Option (List ℕ)
-among few k = lookup (is_at (key_cmp k)) (keyed few)
+abbrev pub among : List (Key × List ℕ) → Key → Option (List ℕ)
+among few k = lookup (is_at (key_cmp k)) few
 
 -- and among the others of a part, where it has any
 abbrev pub in_others : IndexPart → Key → Option (List ℕ)

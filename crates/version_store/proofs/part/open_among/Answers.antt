@@ -1,4 +1,4 @@
-use Rattle.std.proofs.Common.{◌≡◌, ◌∙◌, ◌++◌, ◌∷◌, [], ap, refl}
+use Rattle.std.proofs.Common.{◌≡◌, ◌∙◌, ◌++◌, ◌∷◌, [], ap}
 use Rattle.version_store.specs.Devices.Parts.{among}
 use Rattle.version_store.specs.Index.{in_column}
 use Rattle.version_store.proofs.Few.{line_first}
@@ -8,6 +8,6 @@ pub returns-clause-put : goal.returns-clause-put
 returns-clause-put c = λ q m.
     let few = c.args.few.now.items in
     let column = c.insert.new.self in
-    let items : c.push.new.self.items ≡ few ++ (c.args.kept, column) ∷ [] = c.in_ok-push.ensures.items ∙ ap (λ l. l ++ (c.args.kept, column) ∷ []) c.in_ok-reserve_exact.ensures.items in
+    let items : c.push.new.self.items ≡ few ++ (c.new.result, column) ∷ [] = c.in_ok-push.ensures.items ∙ ap (λ l. l ++ (c.new.result, column) ∷ []) c.in_ok-reserve_exact.ensures.items in
     ap (λ l. in_column (among l q) m) items
-    ∙ line_first few c.args.kept.now q (c.args.kept, column) c.args.line m c.new-column.result c.requires refl c.new-column.ensures c.in_ok-insert.ensures.put
+    ∙ line_first few c.args.kept.now q (c.new.result, column) c.args.line m c.new-column.result c.requires.absent c.new.ensures c.new-column.ensures c.in_ok-insert.ensures.put

@@ -1,5 +1,6 @@
 use Rattle.std.proofs.Common.{◌≡◌, ◌∙◌, Some, None, ap, subst, sym}
 use Rattle.std.specs.List.{position}
+use Rattle.circ_records.specs.declared.key.Key.{Key}
 use Rattle.version_store.specs.Devices.Parts.{in_others}
 use Rattle.version_store.specs.Index.{IsLatest, in_column, in_map}
 use Rattle.version_store.proofs.Few.{is_of, latest_first, latest_other, nowhere}
@@ -26,4 +27,4 @@ returns c =
     let gone : position (is_of k) part.few.items ≡ None = ap (position (is_of k)) (sym c.deref.ensures.value) ∙ sym c.position_among.ensures ∙ c.in_default.is in
     latest_other part.few.items (in_others part k) k c.args.below c.latest_below-2.result gone
     (subst (λ o. IsLatest (λ n. in_column (in_others (record { few = part.few; others = o }) k) n) c.args.below c.latest_below-2.result) (sym c.in-Some-others.is)
-    (subst (λ map. IsLatest (in_map map k) c.args.below c.latest_below-2.result) c.deref-2.ensures c.latest_below-2.ensures))
+    (subst (λ map. IsLatest (in_map map k) c.args.below c.latest_below-2.result) c.deref-2.ensures (subst (λ (p : Key). IsLatest (in_map c.deref-2.result.now p) c.args.below c.latest_below-2.result) c.key.ensures c.latest_below-2.ensures)))

@@ -1,5 +1,7 @@
-use Rattle.std.proofs.Common.{◌≡◌, ◌<◌, ◌-◌, length, sym, ap, ◌∙◌, arith, rules, Some}
+use Rattle.std.proofs.Common.{◌≡◌, ◌<◌, ◌-◌, length, sym, ap, subst, ◌∙◌, arith, rules, Some, None}
 use Rattle.std.specs.FinMap.{get}
+use Rattle.circ_records.specs.declared.key.Key.{Key}
+use Rattle.version_store.specs.Index.{IsLatest, at}
 use Rattle.version_store.specs.Entries.{Store, IsLine, Line, line_at, shown}
 use Rattle.version_store.proofs.Sights.{is_line, has_none, has_one, line_read, visible_none, visible_last, none_is_none}
 use Rattle.version_store.proofs.store.EntryStore.latest.Goals as goal
@@ -8,21 +10,26 @@ pub returns-in_default : goal.returns-in_default
 returns-in_default g c =
     let a = c.self.inside in
     let s : Store = record { first = a.first; lines = a.lines.items } in
+    let none : IsLatest (at a.index c.args.key.now) c.args.below None = subst (λ (k : Key). IsLatest (at a.index k) c.args.below None) c.new-sought.ensures c.in_default.ensures in
     rw (← c.self.view_is)
-    (sym (visible_none (line_at s) c.args.key.now c.args.below (λ m l. has_none a.index s c.args.key.now m c.self.invariant (c.in_default.ensures m l))))
+    (sym (visible_none (line_at s) c.args.key.now c.args.below (λ m l. has_none a.index s c.args.key.now m c.self.invariant (none m l))))
 
 pub overflow_sub-line : goal.overflow_sub-line
 overflow_sub-line g c =
     let a = c.self.inside in
     let s : Store = record { first = a.first; lines = a.lines.items } in
-    let there : IsLine s c.in-Some.line = is_line s c.args.key.now c.in-Some.line (has_one a.index s c.args.key.now c.in-Some.line c.self.invariant c.in-Some.ensures.1) in
+    let last : IsLatest (at a.index c.args.key.now) c.args.below (Some c.in-Some.line) =
+    subst (λ (k : Key). IsLatest (at a.index k) c.args.below (Some c.in-Some.line)) c.new-sought.ensures c.in-Some.ensures in
+    let there : IsLine s c.in-Some.line = is_line s c.args.key.now c.in-Some.line (has_one a.index s c.args.key.now c.in-Some.line c.self.invariant last.1) in
     there.0
 
 pub index-requires : goal.index-requires
 index-requires g c =
     let a = c.self.inside in
     let s : Store = record { first = a.first; lines = a.lines.items } in
-    let there : IsLine s c.in-Some.line = is_line s c.args.key.now c.in-Some.line (has_one a.index s c.args.key.now c.in-Some.line c.self.invariant c.in-Some.ensures.1) in
+    let last : IsLatest (at a.index c.args.key.now) c.args.below (Some c.in-Some.line) =
+    subst (λ (k : Key). IsLatest (at a.index k) c.args.below (Some c.in-Some.line)) c.new-sought.ensures c.in-Some.ensures in
+    let there : IsLine s c.in-Some.line = is_line s c.args.key.now c.in-Some.line (has_one a.index s c.args.key.now c.in-Some.line c.self.invariant last.1) in
     let l : c.in-Some.line - a.first < length a.lines.items = omega (arith, there.0, there.1) in
     search (rules, l)
 
@@ -30,20 +37,24 @@ pub returns-in-Some-get : goal.returns-in-Some-get
 returns-in-Some-get g c =
     let a = c.self.inside in
     let s : Store = record { first = a.first; lines = a.lines.items } in
+    let last : IsLatest (at a.index c.args.key.now) c.args.below (Some c.in-Some.line) =
+    subst (λ (k : Key). IsLatest (at a.index k) c.args.below (Some c.in-Some.line)) c.new-sought.ensures c.in-Some.ensures in
     let n = c.in-Some.line in
-    let there : IsLine s n = is_line s c.args.key.now n (has_one a.index s c.args.key.now n c.self.invariant c.in-Some.ensures.1) in
+    let there : IsLine s n = is_line s c.args.key.now n (has_one a.index s c.args.key.now n c.self.invariant last.1) in
     let row : c.index.result.now ≡ line_at s n = line_read s n c.index.result.now there c.index.ensures in
     let here : get (line_at s n) c.args.key.now ≡ Some (shown c.in-Some-get.made) = sym (c.in-Some-get.ensures ∙ ap (λ (l : Line). get l c.args.key.now) row) in
     rw (← c.self.view_is)
-    (sym (visible_last (line_at s) c.args.key.now c.args.below n (shown c.in-Some-get.made) c.in-Some.ensures.0 here
-    (λ m p q. has_none a.index s c.args.key.now m c.self.invariant (c.in-Some.ensures.2 m p q))))
+    (sym (visible_last (line_at s) c.args.key.now c.args.below n (shown c.in-Some-get.made) last.0 here
+    (λ m p q. has_none a.index s c.args.key.now m c.self.invariant (last.2 m p q))))
 
-pub returns-in-None : goal.returns-in-None
-returns-in-None g c =
+pub returns : goal.returns
+returns g c =
     let a = c.self.inside in
     let s : Store = record { first = a.first; lines = a.lines.items } in
+    let last : IsLatest (at a.index c.args.key.now) c.args.below (Some c.in-Some.line) =
+    subst (λ (k : Key). IsLatest (at a.index k) c.args.below (Some c.in-Some.line)) c.new-sought.ensures c.in-Some.ensures in
     let n = c.in-Some.line in
-    let one = has_one a.index s c.args.key.now n c.self.invariant c.in-Some.ensures.1 in
+    let one = has_one a.index s c.args.key.now n c.self.invariant last.1 in
     let there : IsLine s n = is_line s c.args.key.now n one in
     let row : c.index.result.now ≡ line_at s n = line_read s n c.index.result.now there c.index.ensures in
     absurd (none_is_none (get (line_at s n) c.args.key.now) (sym (c.in-None.ensures ∙ ap (λ (l : Line). get l c.args.key.now) row)) one)

@@ -1,7 +1,7 @@
 use Rattle.std.proofs.Common.{◌≡◌, suc, ◌+◌, ◌<◌, ◌∙◌, ap, sym, take, length, get_or, arith, rules, take-suc}
 use Rattle.version_store.specs.Devices.Parts.{hashed}
 use Rattle.version_store.proofs.Parts.{hashed_more}
-use Rattle.version_store.proofs.index.number_of.Goals as goal
+use Rattle.version_store.proofs.numbered.number_of.Goals as goal
 
 pub loop-b-preserved : goal.loop-b-preserved
 loop-b-preserved c =

@@ -1,5 +1,6 @@
 pub mod AmountTexts
 pub mod Barless
+pub mod Blocks
 pub mod Clean
 pub mod Digits
 pub mod FeeIds

@@ -1,3 +1,4 @@
 -- Devices of proofs: how things are kept or counted. No promise is read here.
 pub mod Held
 pub mod Padding
+pub mod Plain

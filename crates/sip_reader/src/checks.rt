@@ -1,16 +1,21 @@
 //! The tests that a request of a layout has to pass.
 
-ghost use Rattle.std.specs.Prelude.{◌≡◌, [], length, unwrap_or};
+ghost use Rattle.std.specs.Prelude.{◌≡◌, ◌≤◌, ◌+◌, [], IsTrue, length, unwrap_or};
 ghost use Rattle.std.specs.List.{list_all, list_any};
 ghost use Rattle.std.specs.Option.{option_and_then, option_copied};
 ghost use Rattle.sip_reader.specs.Amounts.{amount_of};
 ghost use Rattle.sip_reader.specs.Reading.{has_bad_amount, has_bad_field, has_bad_flag, is_blank, is_hold_mode, is_yes_or_no, lacks_field, names_title};
+ghost use Rattle.sip_reader.specs.Devices.Plain.{IsPlainBetween};
 ghost use Rattle.sip_reader.specs.Texts.{is_line_end};
 ghost use Rattle.sip_reader.specs.Views.{texts_behind};
 
 use crate::fields::Fields;
 use crate::kind::Layout;
 use crate::{Amount, ID_MAX, TEXT_MAX};
+use std::simd::prelude::*;
+
+/// How many bytes a processor looks at at once.
+const BLOCK: usize = 16;
 
 /// Whether a flag isn't one.
 #[tactic(auto, unfolding(crate::specs::Reading::has_bad_flag))]
@@ -49,10 +54,39 @@ pub fn is_bad_field(layout: &Layout, rest: &[u8], fields: &Fields<'_>) -> bool
         || layout.pickup && len_of(fields.pickup) > TEXT_MAX
 }
 
+/// Whether a CR or LF stands somewhere. Where 16 bytes at a time are all greater than both, which is nearly always so, no byte is
+/// looked at by itself.
 fn has_line_end(rest: &[u8]) -> bool
     ensures { result ≡ list_any is_line_end rest.now }
 {
+    if rest.len() >= BLOCK && is_plain_by_blocks(rest) {
+        return false;
+    }
     rest.iter().any(|b| *b == b'\r' || *b == b'\n')
+}
+
+/// Whether all bytes are greater than CR, seen in blocks. The last block may reach over a part of the one before.
+fn is_plain_by_blocks(bytes: &[u8]) -> bool
+    requires { BLOCK ≤ length bytes.now }
+    ensures { IsTrue result → IsPlainBetween bytes.now 0 (length bytes.now) }
+{
+    let mut at = 0;
+    while bytes.len() - at > BLOCK {
+        if !is_plain_block(bytes, at) {
+            return false;
+        }
+        at += BLOCK;
+    }
+    is_plain_block(bytes, bytes.len() - BLOCK)
+}
+
+/// Whether the bytes of one block are greater than CR.
+fn is_plain_block(bytes: &[u8], at: usize) -> bool
+    requires { at + BLOCK ≤ length bytes.now }
+    ensures { IsTrue result → IsPlainBetween bytes.now at (at + BLOCK) }
+{
+    let small = u8x16::from_slice(&bytes[at..]).simd_le(u8x16::splat(b'\r'));
+    small.to_bitmask() == 0
 }
 
 /// The length of a text, where it is there.

@@ -1,15 +1,16 @@
 //! The three result tables, told line by line.
 
-ghost use Rattle.std.specs.Prelude.{[], Some, None, IfOk, OnOk, option_copied};
-ghost use Rattle.result_report.specs.Report.{answer_row, difference_row, passed_row};
+ghost use Rattle.std.specs.Prelude.{◌≡◌, [], None, IfOk, OnOk, option_copied};
+ghost use Rattle.result_report.specs.Report.{difference_row, passed_row};
 ghost use Rattle.result_report.specs.Listings.{Gains, HasRoomFor};
 ghost use Rattle.sip_answer.specs.Differ.{differ};
+ghost use Rattle.sip_answer.specs.Texts.{answer_text};
 
 use crate::listing::Listing;
 use crate::texts::{Sizes, Texts};
 use crate::words::{joined_words, reason_of, sequence_of};
 use journal_table::Line;
-use sip_answer::{Answer, differences, put_answer};
+use sip_answer::{Answer, differences, is_own_text, put_answer};
 use sip_reader::Reading;
 use std::alloc::{AllocError, Global};
 
@@ -92,39 +93,34 @@ impl Telling {
     {
         match answer {
             Some(answer) => {
-                tell_answer(&mut self.text, &mut self.answers, line, reading, answer)?;
-                tell_differences(alloc, &mut self.report, line, answer)
+                let sequence = sequence_of(reading);
+                put_answer(&mut self.text, answer, sequence)?;
+                let text = self.text.as_slice();
+                self.answers.row(line, text)?;
+                tell_differences(alloc, &mut self.report, line, answer, sequence, text)
             }
             None => tell_reason(&mut self.passed, line, reading),
         }
     }
 }
 
-/// An answered line, with the text of its answer.
-fn tell_answer(
-    text: &mut Vec<u8>,
-    answers: &mut Listing,
-    line: &Line,
-    reading: &Reading,
-    answer: &Answer,
-) -> Result<(), AllocError>
-    requires { HasRoomFor answers.old }
-    ensures { OnOk result (Gains (answer_row (line.now, reading.now, Some answer.now)) answers.old answers.new) }
-{
-    put_answer(text, answer, sequence_of(reading))?;
-    answers.row(line, text.as_slice())
-}
-
-/// An answered line whose recorded response differs, with the words of what differs.
+/// An answered line whose recorded response differs, with the words of what differs. Where the response is the text that was just written
+/// of the answer, nothing has to be looked for in it.
 fn tell_differences(
     alloc: Global,
     report: &mut Listing,
     line: &Line,
     answer: &Answer,
+    sequence: Option<u8>,
+    text: &[u8],
 ) -> Result<(), AllocError>
-    requires { HasRoomFor report.old }
+    requires room { HasRoomFor report.old }
+    requires written { text.now ≡ answer_text answer.now sequence }
     ensures { OnOk result (Gains (difference_row line.now (differ answer.now line.now.response)) report.old report.new) }
 {
+    if is_own_text(answer, sequence, text, line.response()) {
+        return Ok(());
+    }
     let fields = differences(alloc, answer, line.response())?;
     if fields.is_empty() {
         return Ok(());

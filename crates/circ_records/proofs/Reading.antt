@@ -69,7 +69,6 @@ none-at : (all left : Option (List Row)) (n : ℕ) → IsAt all left n → left 
 none-at None left n at e = refl
 none-at (Some xs) left n at e = cc (at, e)
 
-
 refuses : (e : BaseError) (name : TableName) (all left : Option (List Row)) (n : ℕ) (fault : Option BaseError) → IsAt all left n → Fails e (table_rows name left) → Stops e name all fault
 refuses error.Memory name all left n fault at h = tt
 refuses (error.Table t) name all left n fault at h =

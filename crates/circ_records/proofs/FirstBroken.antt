@@ -1,18 +1,11 @@
 -- The first broken rule of the tables, table by table.
-use Rattle.std.proofs.Common.{◌≡◌, ℕ, Option, None, Result, Ok, Err, ap, ◌∙◌}
-use Rattle.std.specs.Prelude.{IfErr}
+use Rattle.std.proofs.Common.{◌≡◌, ℕ, Option, None, ap, ◌∙◌}
 use Rattle.std.specs.Option.{option_or}
-use Rattle.std.specs.Result.{IsErrAnd}
 use Rattle.circ_policy.specs.Terms.{Terms}
 use Rattle.circ_records.specs.Base.{Breaks, broken_closed, broken_fees, broken_holds, broken_items, broken_loans, broken_patrons, first_broken}
 use Rattle.circ_records.specs.Tables.{Rows}
 use Rattle.circ_records.specs.declared.fault.BaseError.{BaseError}
 use Rattle.circ_records.specs.declared.fault.BaseError.TheVariants as error
-
--- a fault that is passed on
-pub still-breaks : {A : Type 0} (r : Result A BaseError) (was : BaseError) (fault : Option BaseError) → IsErrAnd r (λ e. e ≡ was) → Breaks was fault → IfErr r (λ e. Breaks e fault)
-still-breaks (Ok x) was fault h b = absurd h
-still-breaks (Err e) was fault h b = rw h b
 
 here : (e : BaseError) (o p : Option BaseError) → Breaks e o → Breaks e (option_or o p)
 here error.Memory o p h = tt

@@ -16,8 +16,10 @@ pub mod Lookups
 pub mod Picked
 pub mod ReadAgain
 pub mod ReadBack
+pub mod Reading
 pub mod RowLists
 pub mod RowsKept
+pub mod Stopped
 pub mod Telling
 pub mod ToldBack
 pub mod Unbroken

@@ -1,35 +1,70 @@
 -- What the parts of the reading cite.
-use Rattle.std.specs.Prelude.{◌≡◌, ℕ, List, [], map}
+use Rattle.std.specs.Prelude.{◌≡◌, ℕ, List, [], Option, Some, IsSome, Err, unwrap_or}
 use Rattle.std.specs.BTreeMap.{BTreeMap, get}
 use Rattle.std.specs.BTreeSet.{BTreeSet, contains}
 use Rattle.std.specs.Cmp.Lexicographic.{slice_cmp}
 use Rattle.std.specs.Ordering.{nat_cmp, ordering_then}
 use Rattle.std.specs.declared.cmp.Ordering.{Ordering}
-use Rattle.csv.specs.Records.{fields_of}
+use Rattle.csv_table.specs.Rows.{rows_under}
 use Rattle.csv_table.specs.declared.TableError.{TableError}
 use Rattle.csv_table.specs.declared.TableError.TheVariants as refusal
+use Rattle.circ_records.specs.Base.{holds_rows_of, rows_of, table_rows}
 use Rattle.circ_records.specs.Keys.{key_cmp}
 use Rattle.circ_records.specs.Records.{Entries, record_at}
 use Rattle.circ_records.specs.Rules.{has_hold}
-use Rattle.circ_records.specs.Tables.{Row, Rows}
+use Rattle.circ_records.specs.Tables.{Row, Rows, closed_header, fees_header, items_header, loans_header, patrons_header, texts_of}
 use Rattle.circ_records.specs.Told.{told}
 use Rattle.circ_records.specs.declared.fault.BaseError.{BaseError}
 use Rattle.circ_records.specs.declared.fault.BaseError.TheVariants as error
 use Rattle.circ_records.specs.declared.key.Key.{Key}
 use Rattle.circ_records.specs.declared.record.Record.{Record}
-use Rattle.circ_records.specs.declared.rows.TableRows.{TableRows}
 use Rattle.circ_records.specs.declared.tables.TableName.{TableName}
+use Rattle.circ_records.specs.declared.tables.Tables.{Tables}
 
--- the rows that were read
-abbrev pub rows_in : TableRows → Rows
+-- what is left of a table that is read row by row: how many rows came before, how many bytes are left at most, and the
+-- rows in them, where the whole is a table
+pub record Left : Type 0 where
+  pub table : TableName
+  pub count : ℕ
+  pub size : ℕ
+  pub rows : Option (List Row)
+
+-- the rows of a text that is a table
+abbrev pub some_rows : Option (List Row) → List Row
+some_rows rows = unwrap_or rows []
+
+-- the rows of the texts that are tables
+abbrev pub rows_in : Tables → Rows
 rows_in t = record {
-  patrons = map fields_of t.patrons.items;
-  items = map fields_of t.items.items;
-  loans = map fields_of t.loans.items;
-  fees = map fields_of t.fees.items;
-  closed = map fields_of t.closed.items;
-  holds = map fields_of t.holds.items;
+  patrons = some_rows (rows_under patrons_header t.patrons.items);
+  items = some_rows (rows_under items_header t.items.items);
+  loans = some_rows (rows_under loans_header t.loans.items);
+  fees = some_rows (rows_under fees_header t.fees.items);
+  closed = some_rows (rows_under closed_header t.closed.items);
+  holds = some_rows (holds_rows_of t.holds.items);
 }
+
+-- all texts are tables
+pub record AreTables (t : Tables) : Type 0 where
+  pub patrons : IsSome (rows_under patrons_header t.patrons.items)
+  pub items : IsSome (rows_under items_header t.items.items)
+  pub loans : IsSome (rows_under loans_header t.loans.items)
+  pub fees : IsSome (rows_under fees_header t.fees.items)
+  pub closed : IsSome (rows_under closed_header t.closed.items)
+  pub holds : IsSome (holds_rows_of t.holds.items)
+
+-- why a table was read no further, unless memory ran out: it is none, or a row breaks a rule. What is behind that row wasn't
+-- read, so the rule is the fault that is due where all of it is a table
+abbrev pub Stops : BaseError → TableName → Option (List Row) → Option BaseError → Type 0
+Stops error.Memory name rows fault = Unit {0}
+Stops (error.Table t) name rows fault = table_rows name rows ≡ Err (error.Table t)
+Stops (error.Rule t row rule) name rows fault = IsSome rows → fault ≡ Some (error.Rule t row rule)
+
+-- the same of all tables, one behind the other
+abbrev pub StopsAll : BaseError → Tables → Option BaseError → Type 0
+StopsAll error.Memory tables fault = Unit {0}
+StopsAll (error.Table t) tables fault = rows_of (texts_of tables) ≡ Err (error.Table t)
+StopsAll (error.Rule t row rule) tables fault = AreTables tables → fault ≡ Some (error.Rule t row rule)
 
 -- rows of the first tables alone: the reading goes table by table
 abbrev pub no_rows : Rows

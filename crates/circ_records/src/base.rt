@@ -2,10 +2,10 @@
 
 ghost use Rattle.std.specs.Prelude.{◌≡◌, [], None, map, option_copied, IfOk, IfErr};
 ghost use Rattle.std.specs.List.Sorted.{IsStrictlySortedBy};
-ghost use Rattle.circ_records.specs.Base.{Breaks, Gives, base_of, first_broken};
+ghost use Rattle.circ_records.specs.Base.{Gives, base_of, first_broken};
 ghost use Rattle.circ_records.specs.Coherent.{Coherent, number_before};
 ghost use Rattle.circ_records.specs.Keys.{key_cmp};
-ghost use Rattle.circ_records.specs.Read.{rows_in};
+ghost use Rattle.circ_records.specs.Read.{AreTables, StopsAll, rows_in};
 ghost use Rattle.circ_records.specs.Records.{record_at};
 ghost use Rattle.circ_records.specs.Tables.{texts_of};
 ghost use Rattle.circ_records.specs.Told.{entries_told};
@@ -20,7 +20,7 @@ use crate::loans::add_loans;
 use crate::patrons::add_patrons;
 use crate::queues::add_holds;
 use crate::record::Record;
-use crate::rows::TableRows;
+use crate::rows::check_tables;
 use crate::tables::Tables;
 use circ_policy::Policy;
 use std::alloc::Global;
@@ -62,9 +62,15 @@ impl Base {
         ensures told { Gives result (base_of policy.now (texts_of tables.now) first) }
         ensures coherent { IfOk result (λ b. Coherent policy.now (number_before first) b) }
     {
-        let rows = TableRows::read(alloc, tables)?;
-        let records = records_of(alloc, policy, &rows, first)?;
-        Ok(Base { records })
+        match records_of(alloc, policy, tables, first) {
+            Ok(records) => Ok(Base { records }),
+            Err(BaseError::Rule { table, row, rule }) => {
+                check_tables(alloc, tables)?;
+                Err(BaseError::Rule { table, row, rule })
+            }
+            Err(BaseError::Table { table }) => Err(BaseError::Table { table }),
+            Err(BaseError::Memory) => Err(BaseError::Memory),
+        }
     }
 
     /// The record at a key.
@@ -96,21 +102,22 @@ impl Base {
 fn records_of(
     alloc: Global,
     policy: &Policy,
-    rows: &TableRows,
+    tables: &Tables,
     first: Option<u64>,
 ) -> Result<BTreeMap<Key, Record>, BaseError>
-    ensures ok { IfOk result (λ m. first_broken policy.now first (rows_in rows.now) ≡ None) }
-    ensures told { IfOk result (λ m. m.entries ≡ entries_told (rows_in rows.now)) }
+    ensures read { IfOk result (λ m. AreTables tables.now) }
+    ensures ok { IfOk result (λ m. first_broken policy.now first (rows_in tables.now) ≡ None) }
+    ensures told { IfOk result (λ m. m.entries ≡ entries_told (rows_in tables.now)) }
     ensures coherent { IfOk result (λ m. Coherent policy.now (number_before first) m.entries) }
-    ensures err { IfErr result (λ e. Breaks e (first_broken policy.now first (rows_in rows.now))) }
+    ensures err { IfErr result (λ e. StopsAll e tables.now (first_broken policy.now first (rows_in tables.now))) }
 {
     let mut gathered = Gathered::new(alloc);
-    add_patrons(alloc, policy, rows, &mut gathered)?;
-    add_items(alloc, policy, rows, &mut gathered)?;
+    add_patrons(alloc, policy, tables, &mut gathered)?;
+    add_items(alloc, policy, tables, &mut gathered)?;
     let mut records = gathered.into_map(alloc)?;
-    add_loans(alloc, rows, &mut records)?;
-    add_fees(alloc, first, rows, &mut records)?;
-    add_closed(alloc, first, rows, &mut records)?;
-    add_holds(alloc, rows, &mut records)?;
+    add_loans(alloc, tables, &mut records)?;
+    add_fees(alloc, first, tables, &mut records)?;
+    add_closed(alloc, first, tables, &mut records)?;
+    add_holds(alloc, tables, &mut records)?;
     Ok(records)
 }

@@ -1,15 +1,17 @@
 //! The table of closed fees, which are paid in full.
 
-ghost use Rattle.std.specs.Prelude.{◌≡◌, ◌++◌, ◌∷◌, [], List, ◌||◌, true, false, None, IfErr, OnOk};
+ghost use Rattle.std.specs.Prelude.{◌≡◌, ◌++◌, ◌∷◌, [], List, ◌||◌, true, false, None, IsSome, IfErr, OnOk};
 ghost use Rattle.std.specs.BTreeMap.{IsOrdered};
 ghost use Rattle.csv.specs.Records.{fields_of};
-ghost use Rattle.circ_records.specs.Base.{Breaks, broken_closed};
+ghost use Rattle.csv_table.specs.Rows.{rows_under};
+ghost use Rattle.circ_records.specs.Base.{broken_closed};
 ghost use Rattle.circ_records.specs.Keys.{key_cmp};
-ghost use Rattle.circ_records.specs.Read.{Tells, rows_in, to_closed, to_fees};
+ghost use Rattle.circ_records.specs.Read.{Stops, Tells, rows_in, to_closed, to_fees};
 ghost use Rattle.circ_records.specs.Rules as Rules;
-ghost use Rattle.circ_records.specs.Tables.{Row, Rows, field};
+ghost use Rattle.circ_records.specs.Tables.{Row, Rows, field, closed_header};
 ghost use Rattle.circ_records.specs.Told.{closed_told};
 ghost use Rattle.circ_records.specs.declared.record.Record.TheVariants as record_of;
+ghost use Rattle.circ_records.specs.declared.tables.TableName.TheVariants as table;
 
 use crate::fault::{BaseError, BaseRule};
 use crate::fees::{has_closed_values, has_texts};
@@ -17,8 +19,8 @@ use crate::key::Key;
 use crate::known::{has_fee, has_patron};
 use crate::made_fees::is_taken;
 use crate::record::{Fee, FeeType, Record};
-use crate::rows::TableRows;
-use crate::tables::TableName;
+use crate::rows::{CLOSED, TableRows};
+use crate::tables::{TableName, Tables};
 use crate::texts::id_at;
 use csv::ByteRecord;
 use csv_table::column;
@@ -31,26 +33,23 @@ use std::collections::BTreeMap;
 pub(crate) fn add_closed(
     alloc: Global,
     first: Option<u64>,
-    rows: &TableRows,
+    tables: &Tables,
     records: &mut BTreeMap<Key, Record>,
 ) -> Result<(), BaseError>
-    requires told { Tells (to_fees (rows_in rows.now) (rows_in rows.now).fees) records.old }
+    requires told { Tells (to_fees (rows_in tables.now) (rows_in tables.now).fees) records.old }
     requires rising { IsOrdered key_cmp records.old }
-    ensures ok { OnOk result (broken_closed first (rows_in rows.now) ≡ None) }
-    ensures told { OnOk result (Tells (to_closed (rows_in rows.now) (rows_in rows.now).closed) records.new) }
+    ensures read { OnOk result (IsSome (rows_under closed_header tables.now.closed.items)) }
+    ensures ok { OnOk result (broken_closed first (rows_in tables.now) ≡ None) }
+    ensures told { OnOk result (Tells (to_closed (rows_in tables.now) (rows_in tables.now).closed) records.new) }
     ensures rising { OnOk result (IsOrdered key_cmp records.new) }
-    ensures err { IfErr result (λ e. Breaks e (broken_closed first (rows_in rows.now))) }
+    ensures err { IfErr result (λ e. Stops e table.Closed (rows_under closed_header tables.now.closed.items) (broken_closed first (rows_in tables.now))) }
 {
-    for (i, row) in rows.closed.iter().enumerate() {
-        match broken_rule(first, records, row) {
-            Some(rule) => {
-                return Err(BaseError::Rule {
-                    table: TableName::Closed,
-                    row: i + 1,
-                    rule,
-                });
-            }
-            None => add_fee(alloc, row, records)?,
+    let mut rows = TableRows::under(alloc, TableName::Closed, &CLOSED, &tables.closed)?;
+    let mut row = ByteRecord::new(alloc);
+    while rows.next(&mut row)? {
+        match broken_rule(first, records, &row) {
+            Some(rule) => return Err(rows.broken(rule)),
+            None => add_fee(alloc, &row, records)?,
         }
     }
     Ok(())

@@ -1,17 +1,19 @@
 //! The table of open fees, and what it shares with that of closed ones.
 
-ghost use Rattle.std.specs.Prelude.{◌≡◌, ◌++◌, ◌∷◌, [], List, true, false, None, IfErr, OnOk, IsTrue};
+ghost use Rattle.std.specs.Prelude.{◌≡◌, ◌++◌, ◌∷◌, [], List, true, false, None, IsSome, IfErr, OnOk, IsTrue};
 ghost use Rattle.std.specs.BTreeMap.{IsOrdered};
 ghost use Rattle.csv.specs.Records.{fields_of};
+ghost use Rattle.csv_table.specs.Rows.{rows_under};
 ghost use Rattle.sip_reader.specs.Texts.{is_id};
-ghost use Rattle.circ_records.specs.Base.{Breaks, broken_fees};
+ghost use Rattle.circ_records.specs.Base.{broken_fees};
 ghost use Rattle.circ_records.specs.Keys.{key_cmp};
-ghost use Rattle.circ_records.specs.Read.{Tells, rows_in, to_fees, to_loans};
+ghost use Rattle.circ_records.specs.Read.{Stops, Tells, rows_in, to_fees, to_loans};
 ghost use Rattle.circ_records.specs.Rules as Rules;
-ghost use Rattle.circ_records.specs.Tables.{Row, Rows, field};
+ghost use Rattle.circ_records.specs.Tables.{Row, Rows, field, fees_header};
 ghost use Rattle.circ_records.specs.Told.{fee_told};
 ghost use Rattle.circ_records.specs.Values as Values;
 ghost use Rattle.circ_records.specs.declared.record.Record.TheVariants as record_of;
+ghost use Rattle.circ_records.specs.declared.tables.TableName.TheVariants as table;
 
 use crate::changes::{Change, change_at};
 use crate::fault::{BaseError, BaseRule};
@@ -19,8 +21,8 @@ use crate::key::Key;
 use crate::known::{has_fee, has_patron};
 use crate::made_fees::is_taken;
 use crate::record::{Fee, FeeType, Record};
-use crate::rows::TableRows;
-use crate::tables::TableName;
+use crate::rows::{FEES, TableRows};
+use crate::tables::{TableName, Tables};
 use crate::texts::id_at;
 use csv::ByteRecord;
 use csv_table::column;
@@ -33,26 +35,23 @@ use std::collections::BTreeMap;
 pub(crate) fn add_fees(
     alloc: Global,
     first: Option<u64>,
-    rows: &TableRows,
+    tables: &Tables,
     records: &mut BTreeMap<Key, Record>,
 ) -> Result<(), BaseError>
-    requires told { Tells (to_loans (rows_in rows.now) (rows_in rows.now).loans) records.old }
+    requires told { Tells (to_loans (rows_in tables.now) (rows_in tables.now).loans) records.old }
     requires rising { IsOrdered key_cmp records.old }
-    ensures ok { OnOk result (broken_fees first (rows_in rows.now) ≡ None) }
-    ensures told { OnOk result (Tells (to_fees (rows_in rows.now) (rows_in rows.now).fees) records.new) }
+    ensures read { OnOk result (IsSome (rows_under fees_header tables.now.fees.items)) }
+    ensures ok { OnOk result (broken_fees first (rows_in tables.now) ≡ None) }
+    ensures told { OnOk result (Tells (to_fees (rows_in tables.now) (rows_in tables.now).fees) records.new) }
     ensures rising { OnOk result (IsOrdered key_cmp records.new) }
-    ensures err { IfErr result (λ e. Breaks e (broken_fees first (rows_in rows.now))) }
+    ensures err { IfErr result (λ e. Stops e table.Fees (rows_under fees_header tables.now.fees.items) (broken_fees first (rows_in tables.now))) }
 {
-    for (i, row) in rows.fees.iter().enumerate() {
-        match broken_rule(first, records, row) {
-            Some(rule) => {
-                return Err(BaseError::Rule {
-                    table: TableName::Fees,
-                    row: i + 1,
-                    rule,
-                });
-            }
-            None => add_fee(alloc, row, records)?,
+    let mut rows = TableRows::under(alloc, TableName::Fees, &FEES, &tables.fees)?;
+    let mut row = ByteRecord::new(alloc);
+    while rows.next(&mut row)? {
+        match broken_rule(first, records, &row) {
+            Some(rule) => return Err(rows.broken(rule)),
+            None => add_fee(alloc, &row, records)?,
         }
     }
     Ok(())

@@ -2,21 +2,23 @@
 
 ghost use Rattle.std.specs.Prelude.{◌≡◌, ◌++◌, ◌∷◌, [], List, true, false, None, is_some, IsSome, IfSome, IfOk, IfErr, OnOk};
 ghost use Rattle.csv.specs.Records.{fields_of};
+ghost use Rattle.csv_table.specs.Rows.{rows_under};
 ghost use Rattle.circ_policy.specs.Medias.{media_of_code};
-ghost use Rattle.circ_records.specs.Base.{Breaks, broken_items};
-ghost use Rattle.circ_records.specs.Read.{AreTold, no_rows, rows_in, to_items, to_patrons};
+ghost use Rattle.circ_records.specs.Base.{broken_items};
+ghost use Rattle.circ_records.specs.Read.{AreTold, Stops, no_rows, rows_in, to_items, to_patrons};
 ghost use Rattle.circ_records.specs.Rules as Rules;
-ghost use Rattle.circ_records.specs.Tables.{Row, Rows, field};
+ghost use Rattle.circ_records.specs.Tables.{Row, Rows, field, items_header};
 ghost use Rattle.circ_records.specs.Told.{item_told};
 ghost use Rattle.circ_records.specs.declared.record.Record.TheVariants as record_of;
+ghost use Rattle.circ_records.specs.declared.tables.TableName.TheVariants as table;
 
 use crate::fault::{BaseError, BaseRule};
 use crate::gathered::Gathered;
 use crate::holds::Holds;
 use crate::key::Key;
 use crate::record::{Item, Record};
-use crate::rows::TableRows;
-use crate::tables::TableName;
+use crate::rows::{ITEMS, TableRows};
+use crate::tables::{TableName, Tables};
 use crate::texts::is_text;
 use circ_policy::{MediaType, Policy};
 use csv::ByteRecord;
@@ -28,22 +30,21 @@ use std::alloc::{AllocError, Global};
 pub(crate) fn add_items(
     alloc: Global,
     policy: &Policy,
-    rows: &TableRows,
+    tables: &Tables,
     records: &mut Gathered,
 ) -> Result<(), BaseError>
-    requires told { AreTold (to_patrons (rows_in rows.now) (rows_in rows.now).patrons) records.old }
-    ensures ok { OnOk result (broken_items policy.now (rows_in rows.now) ≡ None) }
-    ensures told { OnOk result (AreTold (to_items (rows_in rows.now) (rows_in rows.now).items) records.new) }
-    ensures err { IfErr result (λ e. Breaks e (broken_items policy.now (rows_in rows.now))) }
+    requires told { AreTold (to_patrons (rows_in tables.now) (rows_in tables.now).patrons) records.old }
+    ensures read { OnOk result (IsSome (rows_under items_header tables.now.items.items)) }
+    ensures ok { OnOk result (broken_items policy.now (rows_in tables.now) ≡ None) }
+    ensures told { OnOk result (AreTold (to_items (rows_in tables.now) (rows_in tables.now).items) records.new) }
+    ensures err { IfErr result (λ e. Stops e table.Items (rows_under items_header tables.now.items.items) (broken_items policy.now (rows_in tables.now))) }
 {
-    for (i, row) in rows.items.iter().enumerate() {
-        let broken = put_item(alloc, policy, row, records)?;
+    let mut rows = TableRows::under(alloc, TableName::Items, &ITEMS, &tables.items)?;
+    let mut row = ByteRecord::new(alloc);
+    while rows.next(&mut row)? {
+        let broken = put_item(alloc, policy, &row, records)?;
         if let Some(rule) = broken {
-            return Err(BaseError::Rule {
-                table: TableName::Items,
-                row: i + 1,
-                rule,
-            });
+            return Err(rows.broken(rule));
         }
     }
     Ok(())

@@ -1,23 +1,25 @@
 //! The table of loans.
 
-ghost use Rattle.std.specs.Prelude.{◌≡◌, ◌++◌, ◌∷◌, [], List, true, false, None, IfErr, OnOk, IsTrue};
+ghost use Rattle.std.specs.Prelude.{◌≡◌, ◌++◌, ◌∷◌, [], List, true, false, None, IsSome, IfErr, OnOk, IsTrue};
 ghost use Rattle.std.specs.BTreeMap.{IsOrdered};
 ghost use Rattle.csv.specs.Records.{fields_of};
+ghost use Rattle.csv_table.specs.Rows.{rows_under};
 ghost use Rattle.sip_reader.specs.Texts.{is_id};
-ghost use Rattle.circ_records.specs.Base.{Breaks, broken_loans};
+ghost use Rattle.circ_records.specs.Base.{broken_loans};
 ghost use Rattle.circ_records.specs.Keys.{key_cmp};
-ghost use Rattle.circ_records.specs.Read.{Tells, rows_in, to_items, to_loans};
+ghost use Rattle.circ_records.specs.Read.{Stops, Tells, rows_in, to_items, to_loans};
 ghost use Rattle.circ_records.specs.Rules as Rules;
-ghost use Rattle.circ_records.specs.Tables.{Row, Rows, field};
+ghost use Rattle.circ_records.specs.Tables.{Row, Rows, field, loans_header};
 ghost use Rattle.circ_records.specs.Told.{loan_in};
+ghost use Rattle.circ_records.specs.declared.tables.TableName.TheVariants as table;
 
 use crate::changes::{Change, change_at};
 use crate::fault::{BaseError, BaseRule};
 use crate::key::Key;
 use crate::known::{has_item, has_patron, is_lent};
 use crate::record::{Loan, Record};
-use crate::rows::TableRows;
-use crate::tables::TableName;
+use crate::rows::{LOANS, TableRows};
+use crate::tables::{TableName, Tables};
 use crate::texts::id_at;
 use crate::values::{due_of, renewals_of};
 use csv::ByteRecord;
@@ -29,26 +31,23 @@ use std::collections::BTreeMap;
 /// Puts the loans of the table among the records, or tells the first rule that a row breaks.
 pub(crate) fn add_loans(
     alloc: Global,
-    rows: &TableRows,
+    tables: &Tables,
     records: &mut BTreeMap<Key, Record>,
 ) -> Result<(), BaseError>
-    requires told { Tells (to_items (rows_in rows.now) (rows_in rows.now).items) records.old }
+    requires told { Tells (to_items (rows_in tables.now) (rows_in tables.now).items) records.old }
     requires rising { IsOrdered key_cmp records.old }
-    ensures ok { OnOk result (broken_loans (rows_in rows.now) ≡ None) }
-    ensures told { OnOk result (Tells (to_loans (rows_in rows.now) (rows_in rows.now).loans) records.new) }
+    ensures read { OnOk result (IsSome (rows_under loans_header tables.now.loans.items)) }
+    ensures ok { OnOk result (broken_loans (rows_in tables.now) ≡ None) }
+    ensures told { OnOk result (Tells (to_loans (rows_in tables.now) (rows_in tables.now).loans) records.new) }
     ensures rising { OnOk result (IsOrdered key_cmp records.new) }
-    ensures err { IfErr result (λ e. Breaks e (broken_loans (rows_in rows.now))) }
+    ensures err { IfErr result (λ e. Stops e table.Loans (rows_under loans_header tables.now.loans.items) (broken_loans (rows_in tables.now))) }
 {
-    for (i, row) in rows.loans.iter().enumerate() {
-        match broken_rule(records, row) {
-            Some(rule) => {
-                return Err(BaseError::Rule {
-                    table: TableName::Loans,
-                    row: i + 1,
-                    rule,
-                });
-            }
-            None => add_loan(alloc, row, records)?,
+    let mut rows = TableRows::under(alloc, TableName::Loans, &LOANS, &tables.loans)?;
+    let mut row = ByteRecord::new(alloc);
+    while rows.next(&mut row)? {
+        match broken_rule(records, &row) {
+            Some(rule) => return Err(rows.broken(rule)),
+            None => add_loan(alloc, &row, records)?,
         }
     }
     Ok(())

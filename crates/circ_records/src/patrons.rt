@@ -1,23 +1,25 @@
 //! The table of patrons.
 
-ghost use Rattle.std.specs.Prelude.{◌≡◌, ◌++◌, ◌∷◌, [], List, true, false, None, is_some, IfSome, IfOk, IfErr, OnOk, IsTrue};
+ghost use Rattle.std.specs.Prelude.{◌≡◌, ◌++◌, ◌∷◌, [], List, true, false, None, is_some, IfSome, IfOk, IsSome, IfErr, OnOk, IsTrue};
 ghost use Rattle.csv.specs.Records.{fields_of};
+ghost use Rattle.csv_table.specs.Rows.{rows_under};
 ghost use Rattle.sip_reader.specs.Texts.{is_id};
-ghost use Rattle.circ_records.specs.Base.{Breaks, broken_patrons};
-ghost use Rattle.circ_records.specs.Read.{AreTold, no_rows, rows_in, to_patrons};
+ghost use Rattle.circ_records.specs.Base.{broken_patrons};
+ghost use Rattle.circ_records.specs.Read.{AreTold, Stops, no_rows, rows_in, to_patrons};
 ghost use Rattle.circ_records.specs.Rules as Rules;
-ghost use Rattle.circ_records.specs.Tables.{Row, Rows, field};
+ghost use Rattle.circ_records.specs.Tables.{Row, Rows, field, patrons_header};
 ghost use Rattle.circ_records.specs.Told.{patron_told};
 ghost use Rattle.circ_records.specs.Values.{flag_of};
 ghost use Rattle.circ_records.specs.declared.record.Record.TheVariants as record_of;
+ghost use Rattle.circ_records.specs.declared.tables.TableName.TheVariants as table;
 
 use crate::fault::{BaseError, BaseRule};
 use crate::gathered::Gathered;
 use crate::ids::Ids;
 use crate::key::Key;
 use crate::record::{Patron, Record};
-use crate::rows::TableRows;
-use crate::tables::TableName;
+use crate::rows::{PATRONS, TableRows};
+use crate::tables::{TableName, Tables};
 use crate::texts::{id_at, is_text};
 use crate::values::flag_of;
 use circ_policy::Policy;
@@ -30,22 +32,21 @@ use std::alloc::{AllocError, Global};
 pub(crate) fn add_patrons(
     alloc: Global,
     policy: &Policy,
-    rows: &TableRows,
+    tables: &Tables,
     records: &mut Gathered,
 ) -> Result<(), BaseError>
     requires told { AreTold no_rows records.old }
-    ensures ok { OnOk result (broken_patrons policy.now (rows_in rows.now) ≡ None) }
-    ensures told { OnOk result (AreTold (to_patrons (rows_in rows.now) (rows_in rows.now).patrons) records.new) }
-    ensures err { IfErr result (λ e. Breaks e (broken_patrons policy.now (rows_in rows.now))) }
+    ensures read { OnOk result (IsSome (rows_under patrons_header tables.now.patrons.items)) }
+    ensures ok { OnOk result (broken_patrons policy.now (rows_in tables.now) ≡ None) }
+    ensures told { OnOk result (AreTold (to_patrons (rows_in tables.now) (rows_in tables.now).patrons) records.new) }
+    ensures err { IfErr result (λ e. Stops e table.Patrons (rows_under patrons_header tables.now.patrons.items) (broken_patrons policy.now (rows_in tables.now))) }
 {
-    for (i, row) in rows.patrons.iter().enumerate() {
-        let broken = put_patron(alloc, policy, row, records)?;
+    let mut rows = TableRows::under(alloc, TableName::Patrons, &PATRONS, &tables.patrons)?;
+    let mut row = ByteRecord::new(alloc);
+    while rows.next(&mut row)? {
+        let broken = put_patron(alloc, policy, &row, records)?;
         if let Some(rule) = broken {
-            return Err(BaseError::Rule {
-                table: TableName::Patrons,
-                row: i + 1,
-                rule,
-            });
+            return Err(rows.broken(rule));
         }
     }
     Ok(())

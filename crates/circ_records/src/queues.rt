@@ -1,15 +1,16 @@
 //! The table of holds: who waits for which item.
 
-ghost use Rattle.std.specs.Prelude.{◌≡◌, ◌++◌, ◌∷◌, [], ℕ, List, true, false, None, IfErr, IfOk, OnOk, IsTrue};
+ghost use Rattle.std.specs.Prelude.{◌≡◌, ◌++◌, ◌∷◌, [], ℕ, List, true, false, None, IsSome, IfErr, IfOk, OnOk, IsTrue};
 ghost use Rattle.std.specs.BTreeMap.{IsOrdered};
 ghost use Rattle.csv.specs.Records.{fields_of};
 ghost use Rattle.sip_reader.specs.Texts.{is_id, is_text};
-ghost use Rattle.circ_records.specs.Base.{Breaks, broken_holds};
+ghost use Rattle.circ_records.specs.Base.{broken_holds, holds_rows_of};
 ghost use Rattle.circ_records.specs.Keys.{key_cmp};
-ghost use Rattle.circ_records.specs.Read.{AreWaiting, Tells, rows_in, to_closed, to_holds};
+ghost use Rattle.circ_records.specs.Read.{AreWaiting, Stops, Tells, rows_in, to_closed, to_holds};
 ghost use Rattle.circ_records.specs.Rules as Rules;
 ghost use Rattle.circ_records.specs.Tables.{Row, Rows, field};
 ghost use Rattle.circ_records.specs.Told.{hold_in};
+ghost use Rattle.circ_records.specs.declared.tables.TableName.TheVariants as table;
 
 use crate::changes::{Change, change_at};
 use crate::fault::{BaseError, BaseRule};
@@ -17,8 +18,8 @@ use crate::holds::Hold;
 use crate::key::Key;
 use crate::known::{has_item, has_patron, is_borrower, is_full};
 use crate::record::Record;
-use crate::rows::TableRows;
-use crate::tables::TableName;
+use crate::rows::{HOLDS, TableRows};
+use crate::tables::{TableName, Tables};
 use crate::texts::{id_at, is_text};
 use csv::ByteRecord;
 use csv_table::column;
@@ -29,29 +30,29 @@ use std::collections::{BTreeMap, BTreeSet};
 /// Puts the holds of the table into the queues of their items, or tells the first rule that a row breaks.
 pub(crate) fn add_holds(
     alloc: Global,
-    rows: &TableRows,
+    tables: &Tables,
     records: &mut BTreeMap<Key, Record>,
 ) -> Result<(), BaseError>
-    requires told { Tells (to_closed (rows_in rows.now) (rows_in rows.now).closed) records.old }
+    requires told { Tells (to_closed (rows_in tables.now) (rows_in tables.now).closed) records.old }
     requires rising { IsOrdered key_cmp records.old }
-    ensures ok { OnOk result (broken_holds (rows_in rows.now) ≡ None) }
-    ensures told { OnOk result (Tells (to_holds (rows_in rows.now) (rows_in rows.now).holds) records.new) }
+    ensures read { OnOk result (IsSome (holds_rows_of tables.now.holds.items)) }
+    ensures ok { OnOk result (broken_holds (rows_in tables.now) ≡ None) }
+    ensures told { OnOk result (Tells (to_holds (rows_in tables.now) (rows_in tables.now).holds) records.new) }
     ensures rising { OnOk result (IsOrdered key_cmp records.new) }
-    ensures err { IfErr result (λ e. Breaks e (broken_holds (rows_in rows.now))) }
+    ensures err { IfErr result (λ e. Stops e table.Holds (holds_rows_of tables.now.holds.items) (broken_holds (rows_in tables.now))) }
 {
+    if tables.holds.is_empty() {
+        return Ok(());
+    }
+    let mut rows = TableRows::under(alloc, TableName::Holds, &HOLDS, &tables.holds)?;
+    let mut row = ByteRecord::new(alloc);
     let mut waiting = BTreeSet::new(alloc);
-    for (i, row) in rows.holds.iter().enumerate() {
-        match broken_rule(records, &waiting, row) {
-            Some(rule) => {
-                return Err(BaseError::Rule {
-                    table: TableName::Holds,
-                    row: i + 1,
-                    rule,
-                });
-            }
+    while rows.next(&mut row)? {
+        match broken_rule(records, &waiting, &row) {
+            Some(rule) => return Err(rows.broken(rule)),
             None => {
-                add_hold(alloc, row, records)?;
-                add_waiting(row, &mut waiting)?;
+                add_hold(alloc, &row, records)?;
+                add_waiting(&row, &mut waiting)?;
             }
         }
     }

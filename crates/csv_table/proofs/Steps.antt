@@ -1,12 +1,12 @@
 -- What a reader of rows has left, one record further.
-use Rattle.std.proofs.Common.{Bor, ◌≡◌, ◌≢◌, ◌<◌, ◌+◌, ◌++◌, ℕ, zero, suc, List, [], ◌∷◌, length, append_assoc, Option, Some, None, Bool, true, false, refl, sym, ap, ◌∙◌, arith, eq-eqb}
+use Rattle.std.proofs.Common.{Bor, ◌≡◌, ◌≢◌, ◌<◌, ◌≤◌, ◌+◌, ℕ, zero, suc, List, [], ◌∷◌, length, Option, Some, None, Bool, true, false, refl, sym, ap, ◌∙◌, arith, eq-eqb}
 use Rattle.std.specs.Prelude.{◌==◌, ◌&&◌, IfSome, IsSome, option_map, if◌then◌else◌}
 use Rattle.std.specs.List.{list_all}
 use Rattle.std.specs.Option.{option_and_then}
 use Rattle.csv.specs.declared.reader.Trim.TheVariants as trim
 use Rattle.std.proofs.lemmas.Bool.{ne_eqb}
 use Rattle.csv.specs.Machine.{Read, ends_at_end, next_record}
-use Rattle.csv.specs.Reading.{ExplainsRead, NextIs, ReadRecord, ReadsNext, default_config, pending_of, records_from, records_next, strip_bom}
+use Rattle.csv.specs.Reading.{ExplainsRead, NextIs, ReadRecord, ReadsNext, default_config, pending_of, records_from, records_next, is_bom, strip_bom}
 use Rattle.csv.specs.declared.error.ErrorKind.{ErrorKind}
 use Rattle.csv.specs.declared.error.ErrorKind.TheVariants as kind
 use Rattle.csv.specs.declared.parser.State.{State}
@@ -187,6 +187,28 @@ header-reading a b text f config start strict trims source r first same =
       between = rw state q.1;
     }
 
+-- a byte order mark is taken off, and nothing is put there
+strip-shorter : (text : List ℕ) → length (strip_bom text) ≤ length text
+unfolding strip_bom
+strip-shorter [] = omega arith
+strip-shorter (a ∷ []) = omega arith
+strip-shorter (a ∷ b ∷ []) = omega arith
+strip-shorter (a ∷ b ∷ c ∷ rest) = by (is_bom a b c)
+  where
+    by : (t : Bool) → length (if t then rest else a ∷ b ∷ c ∷ rest) ≤ length (a ∷ b ∷ c ∷ rest)
+    by true = omega arith
+    by false = omega arith
+
+-- a reader that has read the header has fewer bytes left than the text
+pub header-size : (a b : Reader (Bor (List ℕ))) (text : List ℕ) (f : List (List ℕ)) (most : ℕ) → a.config ≡ default_config → a.state ≡ st.StartRecord
+    → left_of a ≡ Some (strip_bom text) → ReadRecord (λ s. Some s.now) a b true f → length text < most → (unread_by b).size < most
+header-size a b text f most config start source r few =
+    let (p, read, fields, state, left) = took st.StartRecord b.state (strip_bom text) (pending_of (Some b.rdr.now) b) f (rw (config, start, source) at r.0) in
+    let after : left_of b ≡ pending_of (Some b.rdr.now) b = rw r.1 refl in
+    let fewer : length p.2 < length (strip_bom text) = (leaves-fewer st.StartRecord (strip_bom text) p refl read).0 in
+    let shorter : length (strip_bom text) ≤ length text = strip-shorter text in
+    rw (after, left) (omega arith)
+
 -- a text whose first record is no header
 other-first : (text : List ℕ) (header f : List (List ℕ)) (t : State) (k : Option (List ℕ)) → ReadsNext default_config st.StartRecord (Some (strip_bom text)) k true f t
     → is_row f header ≡ false → rows_under header text ≡ None
@@ -208,11 +230,3 @@ pub reads-no-header : (a b : Reader (Bor (List ℕ))) (text : List ℕ) (header 
     → left_of a ≡ Some (strip_bom text) → ReadRecord (λ s. Some s.now) a b found f → (found && is_row f header) ≡ false → rows_under header text ≡ None
 reads-no-header a b text header f true config start source r other = other-first text header f b.state (pending_of (Some b.rdr.now) b) (rw (config, start, source) at r.0) other
 reads-no-header a b text header f false config start source r other = no-first text header f b.state (pending_of (Some b.rdr.now) b) (rw (config, start, source) at r.0)
-
--- what a loop that keeps every row has
-pub keeps-all : {X : Type 0} (front : List X) (row : X) (left rest : Option (List X)) (all : Option (List X)) → left ≡ option_map (λ rest. row ∷ rest) rest
-    → option_map (λ rest. front ++ rest) left ≡ all → option_map (λ rest. (front ++ row ∷ []) ++ rest) rest ≡ all
-keeps-all front row left None all was so_far = rw was at so_far
-keeps-all front row left (Some rest) all was so_far =
-    let one : front ++ row ∷ rest ≡ (front ++ row ∷ []) ++ rest = simp append_assoc in
-    ap Some (sym one) ∙ (rw was at so_far)

@@ -1,6 +1,6 @@
 //! A table that is read row by row.
 
-ghost use Rattle.std.specs.Prelude.{◌≡◌, ◌<◌, ◌∷◌, [], true, false, Some, None, IfOk, IfErr, OnErr, IsErr, option_map};
+ghost use Rattle.std.specs.Prelude.{◌≡◌, ◌<◌, ◌≤◌, ◌^◌, ◌∷◌, [], true, false, Some, None, IfOk, IfErr, OnErr, IsErr, option_map, length};
 ghost use Rattle.csv.specs.Records.{fields_of};
 ghost use Rattle.csv_table.specs.Rows.{rows_under};
 ghost use Rattle.csv_table.specs.Text.{bytes_of};
@@ -55,7 +55,10 @@ impl<'a> RowReader<'a> {
     ) -> Result<RowReader<'a>, TableError>
         ensures ok { IfOk result (λ rows. rows.rows ≡ rows_under (bytes_of header.now) text.now) }
         ensures table { IfErr result (λ e. e ≡ table.Table → rows_under (bytes_of header.now) text.now ≡ None) }
+        // Whoever counts the rows can do so, as each takes a byte at least.
+        ensures size { IfOk result (λ rows. rows.size < 2 ^ 64) }
     {
+        size_fits(text);
         let mut reader = ReaderBuilder::new()
             .has_headers(false)
             .from_reader(alloc, text);
@@ -75,6 +78,7 @@ impl<'a> RowReader<'a> {
         // A row is the first of those that were left.
         ensures row { IfOk result (λ found. found ≡ true → self.old.rows ≡ option_map (λ rest. fields_of row.new ∷ rest) self.new.rows) }
         ensures shorter { IfOk result (λ found. found ≡ true → self.new.size < self.old.size) }
+        ensures size { self.new.size ≤ self.old.size }
         ensures end { IfOk result (λ found. found ≡ false → (self.old.rows ≡ Some []) × (self.new.rows ≡ Some [])) }
 
         // Only a row of another length refuses the table.
@@ -99,4 +103,11 @@ impl<'a> RowReader<'a> {
             }
         }
     }
+}
+
+/// The bytes of a text are fewer than `usize` counts, as their number shows.
+fn size_fits(text: &[u8])
+    ensures { length text.now < 2 ^ 64 }
+{
+    let _size = text.len();
 }

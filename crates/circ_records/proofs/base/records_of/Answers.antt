@@ -3,7 +3,8 @@ use Rattle.circ_records.specs.Read.{rows_in}
 use Rattle.circ_records.specs.Records.{record_at}
 use Rattle.circ_records.proofs.Entering.{entries-told}
 use Rattle.circ_records.proofs.CoherentBase.{coherent-rows}
-use Rattle.circ_records.proofs.FirstBroken.{by-closed, by-fees, by-holds, by-items, by-loans, by-patrons, none-broken, still-breaks}
+use Rattle.circ_records.proofs.FirstBroken.{none-broken}
+use Rattle.circ_records.proofs.Stopped.{in-closed, in-fees, in-holds, in-items, in-loans, in-patrons, still-stops}
 use Rattle.circ_records.proofs.base.records_of.Goals as goal
 
 pub add_loans-requires-clause-told : goal.add_loans-requires-clause-told
@@ -11,37 +12,37 @@ add_loans-requires-clause-told c = λ k. c.in_ok-records.ensures.same k ∙ c.in
 
 pub returns-in_err-add_patrons-clause-err : goal.returns-in_err-add_patrons-clause-err
 returns-in_err-add_patrons-clause-err c =
-    still-breaks _ _ _ c.from_residual.ensures.1 (by-patrons _ c.args.policy.now c.args.first (rows_in c.args.rows.now) c.in_err-add_patrons.ensures.err)
+    still-stops _ _ _ _ c.from_residual.ensures.1 (in-patrons _ c.args.policy.now c.args.first c.args.tables.now c.in_err-add_patrons.ensures.err)
 
 pub returns-in_err-add_items-clause-err : goal.returns-in_err-add_items-clause-err
 returns-in_err-add_items-clause-err c =
-    still-breaks _ _ _ c.from_residual-in_err-add_items.ensures.1 (by-items _ c.args.policy.now c.args.first (rows_in c.args.rows.now) c.in_ok-add_patrons.ensures.ok c.in_err-add_items.ensures.err)
+    still-stops _ _ _ _ c.from_residual-in_err-add_items.ensures.1 (in-items _ c.args.policy.now c.args.first c.args.tables.now c.in_ok-add_patrons.ensures.read c.in_ok-add_patrons.ensures.ok c.in_err-add_items.ensures.err)
 
 pub returns-in_err-add_loans-clause-err : goal.returns-in_err-add_loans-clause-err
 returns-in_err-add_loans-clause-err c =
-    still-breaks _ _ _ c.from_residual-in_err-add_loans.ensures.1 (by-loans _ c.args.policy.now c.args.first (rows_in c.args.rows.now) c.in_ok-add_patrons.ensures.ok c.in_ok-add_items.ensures.ok c.in_err-add_loans.ensures.err)
+    still-stops _ _ _ _ c.from_residual-in_err-add_loans.ensures.1 (in-loans _ c.args.policy.now c.args.first c.args.tables.now c.in_ok-add_patrons.ensures.read c.in_ok-add_patrons.ensures.ok c.in_ok-add_items.ensures.read c.in_ok-add_items.ensures.ok c.in_err-add_loans.ensures.err)
 
 pub returns-in_err-add_fees-clause-err : goal.returns-in_err-add_fees-clause-err
 returns-in_err-add_fees-clause-err c =
-    still-breaks _ _ _ c.from_residual-in_err-add_fees.ensures.1 (by-fees _ c.args.policy.now c.args.first (rows_in c.args.rows.now) c.in_ok-add_patrons.ensures.ok c.in_ok-add_items.ensures.ok c.in_ok-add_loans.ensures.ok c.in_err-add_fees.ensures.err)
+    still-stops _ _ _ _ c.from_residual-in_err-add_fees.ensures.1 (in-fees _ c.args.policy.now c.args.first c.args.tables.now c.in_ok-add_patrons.ensures.read c.in_ok-add_patrons.ensures.ok c.in_ok-add_items.ensures.read c.in_ok-add_items.ensures.ok c.in_ok-add_loans.ensures.read c.in_ok-add_loans.ensures.ok c.in_err-add_fees.ensures.err)
 
 pub returns-in_err-add_closed-clause-err : goal.returns-in_err-add_closed-clause-err
 returns-in_err-add_closed-clause-err c =
-    still-breaks _ _ _ c.from_residual-in_err-add_closed.ensures.1 (by-closed _ c.args.policy.now c.args.first (rows_in c.args.rows.now) c.in_ok-add_patrons.ensures.ok c.in_ok-add_items.ensures.ok c.in_ok-add_loans.ensures.ok c.in_ok-add_fees.ensures.ok c.in_err-add_closed.ensures.err)
+    still-stops _ _ _ _ c.from_residual-in_err-add_closed.ensures.1 (in-closed _ c.args.policy.now c.args.first c.args.tables.now c.in_ok-add_patrons.ensures.read c.in_ok-add_patrons.ensures.ok c.in_ok-add_items.ensures.read c.in_ok-add_items.ensures.ok c.in_ok-add_loans.ensures.read c.in_ok-add_loans.ensures.ok c.in_ok-add_fees.ensures.read c.in_ok-add_fees.ensures.ok c.in_err-add_closed.ensures.err)
 
 pub returns-in_err-add_holds-clause-err : goal.returns-in_err-add_holds-clause-err
 returns-in_err-add_holds-clause-err c =
-    still-breaks _ _ _ c.from_residual-in_err-add_holds.ensures.1 (by-holds _ c.args.policy.now c.args.first (rows_in c.args.rows.now) c.in_ok-add_patrons.ensures.ok c.in_ok-add_items.ensures.ok c.in_ok-add_loans.ensures.ok c.in_ok-add_fees.ensures.ok c.in_ok-add_closed.ensures.ok c.in_err-add_holds.ensures.err)
+    still-stops _ _ _ _ c.from_residual-in_err-add_holds.ensures.1 (in-holds _ c.args.policy.now c.args.first c.args.tables.now c.in_ok-add_patrons.ensures.read c.in_ok-add_patrons.ensures.ok c.in_ok-add_items.ensures.read c.in_ok-add_items.ensures.ok c.in_ok-add_loans.ensures.read c.in_ok-add_loans.ensures.ok c.in_ok-add_fees.ensures.read c.in_ok-add_fees.ensures.ok c.in_ok-add_closed.ensures.read c.in_ok-add_closed.ensures.ok c.in_err-add_holds.ensures.err)
 
 pub returns-clause-ok : goal.returns-clause-ok
 returns-clause-ok c =
-    none-broken c.args.policy.now c.args.first (rows_in c.args.rows.now) c.in_ok-add_patrons.ensures.ok c.in_ok-add_items.ensures.ok c.in_ok-add_loans.ensures.ok c.in_ok-add_fees.ensures.ok c.in_ok-add_closed.ensures.ok c.in_ok-add_holds.ensures.ok
+    none-broken c.args.policy.now c.args.first (rows_in c.args.tables.now) c.in_ok-add_patrons.ensures.ok c.in_ok-add_items.ensures.ok c.in_ok-add_loans.ensures.ok c.in_ok-add_fees.ensures.ok c.in_ok-add_closed.ensures.ok c.in_ok-add_holds.ensures.ok
 
 pub returns-clause-told : goal.returns-clause-told
-returns-clause-told c = entries-told (rows_in c.args.rows.now) c.add_holds.new.records c.in_ok-add_holds.ensures.rising c.in_ok-add_holds.ensures.told
+returns-clause-told c = entries-told (rows_in c.args.tables.now) c.add_holds.new.records c.in_ok-add_holds.ensures.rising c.in_ok-add_holds.ensures.told
 
 pub returns-clause-coherent : goal.returns-clause-coherent
 returns-clause-coherent c =
-    coherent-rows c.args.policy.now c.args.first (rows_in c.args.rows.now) (record_at c.add_holds.new.records.entries)
+    coherent-rows c.args.policy.now c.args.first (rows_in c.args.tables.now) (record_at c.add_holds.new.records.entries)
     c.in_ok-add_patrons.ensures.ok c.in_ok-add_items.ensures.ok c.in_ok-add_loans.ensures.ok c.in_ok-add_fees.ensures.ok c.in_ok-add_closed.ensures.ok c.in_ok-add_holds.ensures.ok
     c.in_ok-add_holds.ensures.told

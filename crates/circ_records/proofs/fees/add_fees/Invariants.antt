@@ -1,16 +1,25 @@
-use Rattle.std.proofs.Common.{take}
+use Rattle.std.proofs.Common.{◌≡◌, take}
+use Rattle.std.specs.Prelude.{IsSome}
 use Rattle.std.specs.BTreeMap.{IsOrdered}
+use Rattle.csv_table.specs.Rows.{rows_under}
 use Rattle.circ_records.specs.Keys.{key_cmp}
 use Rattle.circ_records.specs.Read.{Tells, rows_in, to_fees}
 use Rattle.circ_records.specs.Rules.{fee_rule}
+use Rattle.circ_records.specs.Tables.{fees_header}
 use Rattle.circ_records.specs.declared.tables.TableName.TheVariants as table
 use Rattle.circ_records.proofs.Broken.{KeepsUpTo}
+use Rattle.circ_records.proofs.Reading.{IsAt}
 use Rattle.circ_records.proofs.fees.add_fees.Given as goal
 
--- no row so far breaks a rule, and the map has the records that they tell
-abbrev pub invariant-loop-i : goal.invariant-loop-i
-invariant-loop-i l = record {
-  keeps : KeepsUpTo table.Fees (fee_rule l.first (rows_in l.rows).patrons) (rows_in l.rows).fees l.i;
+-- where all is a table, no row so far breaks a rule, and the map has the records that they tell
+abbrev pub invariant-loop-row : goal.invariant-loop-row
+invariant-loop-row l = record {
+  named : l.rows.table ≡ table.Fees;
+  at : IsAt (rows_under fees_header l.tables.fees.items) l.rows.rows l.rows.count;
+  keeps : IsSome (rows_under fees_header l.tables.fees.items) → KeepsUpTo table.Fees (fee_rule l.first (rows_in l.tables).patrons) (rows_in l.tables).fees l.rows.count;
   rising : IsOrdered key_cmp l.records;
-  tells : Tells (to_fees (rows_in l.rows) (take l.i (rows_in l.rows).fees)) l.records;
+  tells : IsSome (rows_under fees_header l.tables.fees.items) → Tells (to_fees (rows_in l.tables) (take l.rows.count (rows_in l.tables).fees)) l.records;
 }
+
+abbrev pub decreases-loop-row : goal.decreases-loop-row
+decreases-loop-row l = l.rows.size

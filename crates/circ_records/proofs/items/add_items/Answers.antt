@@ -1,35 +1,79 @@
-use Rattle.std.proofs.Common.{◌≡◌, ◌++◌, ◌∷◌, [], ◌+◌, List, Some, None, map, rules, ◌∙◌, take, sym, refl, subst, add-one}
+use Rattle.std.proofs.Common.{◌≡◌, ◌++◌, ◌∷◌, [], ◌+◌, List, Some, None, rules, take, sym, refl, subst, add-one, ◌∙◌}
+use Rattle.std.specs.Prelude.{IsSome}
 use Rattle.std.proofs.Math.Seq.{take-suc}
+use Rattle.std.proofs.lemmas.List.{take_all}
 use Rattle.csv.specs.Records.{fields_of}
+use Rattle.csv_table.specs.Rows.{rows_under}
+use Rattle.circ_records.specs.Base.{broken_items}
 use Rattle.circ_records.specs.Read.{AreTold, rows_in, to_items}
 use Rattle.circ_records.specs.Rules.{item_rule}
-use Rattle.circ_records.specs.Tables.{Row}
+use Rattle.circ_records.specs.Tables.{Row, items_header}
 use Rattle.circ_records.specs.declared.tables.TableName.TheVariants as table
-use Rattle.circ_records.proofs.Broken.{breaks-here, keeps-more}
+use Rattle.circ_records.proofs.Broken.{breaks-here, keeps-all, keeps-more}
 use Rattle.circ_records.proofs.Kept.{kept-item}
-use Rattle.circ_records.proofs.Lookups.{item-among}
+use Rattle.circ_records.proofs.Reading.{end-all, end-some, refused, row-at, start-at, step-at}
 use Rattle.circ_records.proofs.items.add_items.Goals as goal
 
 pub returns-in-Some-clause-err : goal.returns-in-Some-clause-err
 returns-in-Some-clause-err c =
-    let is : c.in_ok-broken.broken ≡ Some c.in-Some.rule = search rules in
-    let inv = c.loop-i.invariant in
-    let rows = map fields_of c.args.rows.now.items.items in
-    let (below, at) = item-among fields_of c.args.rows.now.items.items c.deref-row-items.result.now c.loop-i.i c.row-item.result c.deref-row-items.ensures.value c.loop-i-test.true c.row-item.is in
-    breaks-here table.Items (item_rule c.args.policy.now) rows c.loop-i.i (fields_of c.row-item.result) c.in-Some.rule below at
-    (sym (c.in_ok-broken.ensures.rule (to_items (rows_in c.args.rows.now) (take c.loop-i.i rows)) inv.tells) ∙ is) inv.keeps
+    let broken : c.in_ok-broken.broken ≡ Some c.in-Some.rule = search rules in
+    let inv = c.loop-row.invariant in
+    let all = rows_under items_header c.args.tables.now.items.items in
+    let rows = (rows_in c.args.tables.now).items in
+    let n = c.loop-row.rows.count in
+    let row = fields_of c.next.new.row in
+    let was = c.in_ok-next.ensures.row c.if-branch.true in
+    rw (c.broken.ensures, c.in_ok-next.ensures.table ∙ inv.named, c.in_ok-next.ensures.count c.if-branch.true) (λ (is : IsSome all).
+    let (below, at) = row-at all _ _ row n inv.at was is in
+    breaks-here table.Items (item_rule c.args.policy.now) rows n row c.in-Some.rule below at (sym (c.in_ok-broken.ensures.rule (to_items (rows_in c.args.tables.now) (take n rows)) (inv.tells is)) ∙ broken) (inv.keeps is))
 
-pub loop-i-preserved : goal.loop-i-preserved
-loop-i-preserved c =
-    let is : c.in_ok-broken.broken ≡ None = search rules in
-    let inv = c.loop-i.invariant in
-    let rows = map fields_of c.args.rows.now.items.items in
-    let row = fields_of c.row-item.result in
-    let before = take c.loop-i.i rows in
-    let (below, at) = item-among fields_of c.args.rows.now.items.items c.deref-row-items.result.now c.loop-i.i c.row-item.result c.deref-row-items.ensures.value c.loop-i-test.true c.row-item.is in
-    let none : item_rule c.args.policy.now before row ≡ None = sym (c.in_ok-broken.ensures.rule (to_items (rows_in c.args.rows.now) before) inv.tells) ∙ is in
-    let more : take (c.loop-i.i + 1) rows ≡ before ++ row ∷ [] = rw (add-one, take-suc rows c.loop-i.i [] below, at) refl in
+pub loop-row-preserved : goal.loop-row-preserved
+loop-row-preserved c =
+    let whole : c.in_ok-broken.broken ≡ None = search rules in
+    let inv = c.loop-row.invariant in
+    let all = rows_under items_header c.args.tables.now.items.items in
+    let rows = (rows_in c.args.tables.now).items in
+    let n = c.loop-row.rows.count in
+    let row = fields_of c.next.new.row in
+    let was = c.in_ok-next.ensures.row c.if-branch.true in
+    let before = take n rows in
+    let count = c.in_ok-next.ensures.count c.if-branch.true in
+    let none : (is : IsSome all) → item_rule c.args.policy.now before row ≡ None = λ is. sym (c.in_ok-broken.ensures.rule (to_items (rows_in c.args.tables.now) before) (inv.tells is)) ∙ whole in
+    let more : (is : IsSome all) → take (n + 1) rows ≡ before ++ row ∷ [] = λ is. let (below, at) = row-at all _ _ row n inv.at was is in rw (add-one, take-suc rows n [] below, at) refl in
     record {
-      keeps = keeps-more table.Items (item_rule c.args.policy.now) rows c.loop-i.i row below at none inv.keeps;
-      tells = subst (λ (xs : List Row). AreTold (to_items (rows_in c.args.rows.now) xs) c.put_item.new.records) (sym more) (c.in_ok-broken.ensures.told is (rows_in c.args.rows.now) before inv.tells (kept-item c.args.policy.now before row none).fresh);
+      named = c.in_ok-next.ensures.table ∙ inv.named;
+      at = step-at all _ _ row n _ inv.at was count;
+      keeps = λ is. let (below, at) = row-at all _ _ row n inv.at was is in rw count (keeps-more table.Items (item_rule c.args.policy.now) rows n row below at (none is) (inv.keeps is));
+      tells = λ is. rw count (subst (λ (xs : List Row). AreTold (to_items (rows_in c.args.tables.now) xs) c.put_item.new.records) (sym (more is)) (c.in_ok-broken.ensures.told whole (rows_in c.args.tables.now) before (inv.tells is) (kept-item c.args.policy.now before row (none is)).fresh));
     }
+
+pub returns-in_err-next-clause-err : goal.returns-in_err-next-clause-err
+returns-in_err-next-clause-err c =
+    let inv = c.loop-row.invariant in
+    refused _ _ table.Items c.loop-row.rows.table (rows_under items_header c.args.tables.now.items.items) c.loop-row.rows.rows c.loop-row.rows.count (broken_items c.args.policy.now (rows_in c.args.tables.now))
+    c.from_residual-in_err-next.ensures.1 inv.named inv.at c.in_err-next.ensures.err
+
+pub loop-row-init : goal.loop-row-init
+loop-row-init c = record {
+  named = c.in_ok-rows.ensures.table;
+  at = start-at _ _ _ (rw c.deref.ensures.value at c.in_ok-rows.ensures.rows) c.in_ok-rows.ensures.count;
+  keeps = λ is. rw c.in_ok-rows.ensures.count refl;
+  tells = λ is. rw c.in_ok-rows.ensures.count c.requires.told;
+}
+
+pub returns-clause-read : goal.returns-clause-read
+returns-clause-read c = end-some (rows_under items_header c.args.tables.now.items.items) _ _ c.loop-row.invariant.at (c.in_ok-next.ensures.end c.if-branch.false)
+
+pub returns-clause-ok : goal.returns-clause-ok
+returns-clause-ok c =
+    let inv = c.loop-row.invariant in
+    let all = rows_under items_header c.args.tables.now.items.items in
+    let left = c.in_ok-next.ensures.end c.if-branch.false in
+    keeps-all table.Items (item_rule c.args.policy.now) (rows_in c.args.tables.now).items c.loop-row.rows.count (end-all all _ _ inv.at left) (inv.keeps (end-some all _ _ inv.at left))
+
+pub returns-clause-told : goal.returns-clause-told
+returns-clause-told c =
+    let inv = c.loop-row.invariant in
+    let all = rows_under items_header c.args.tables.now.items.items in
+    let left = c.in_ok-next.ensures.end c.if-branch.false in
+    subst (λ (xs : List Row). AreTold (to_items (rows_in c.args.tables.now) xs) c.loop-row.records) (take_all c.loop-row.rows.count (rows_in c.args.tables.now).items (end-all all _ _ inv.at left)) (inv.tells (end-some all _ _ inv.at left))

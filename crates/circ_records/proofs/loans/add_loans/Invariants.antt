@@ -1,16 +1,25 @@
-use Rattle.std.proofs.Common.{take}
+use Rattle.std.proofs.Common.{◌≡◌, take}
+use Rattle.std.specs.Prelude.{IsSome}
 use Rattle.std.specs.BTreeMap.{IsOrdered}
+use Rattle.csv_table.specs.Rows.{rows_under}
 use Rattle.circ_records.specs.Keys.{key_cmp}
 use Rattle.circ_records.specs.Read.{Tells, rows_in, to_loans}
 use Rattle.circ_records.specs.Rules.{loan_rule}
+use Rattle.circ_records.specs.Tables.{loans_header}
 use Rattle.circ_records.specs.declared.tables.TableName.TheVariants as table
 use Rattle.circ_records.proofs.Broken.{KeepsUpTo}
+use Rattle.circ_records.proofs.Reading.{IsAt}
 use Rattle.circ_records.proofs.loans.add_loans.Given as goal
 
--- no row so far breaks a rule, and the map has the records that they tell
-abbrev pub invariant-loop-i : goal.invariant-loop-i
-invariant-loop-i l = record {
-  keeps : KeepsUpTo table.Loans (loan_rule (rows_in l.rows).patrons (rows_in l.rows).items) (rows_in l.rows).loans l.i;
+-- where all is a table, no row so far breaks a rule, and the map has the records that they tell
+abbrev pub invariant-loop-row : goal.invariant-loop-row
+invariant-loop-row l = record {
+  named : l.rows.table ≡ table.Loans;
+  at : IsAt (rows_under loans_header l.tables.loans.items) l.rows.rows l.rows.count;
+  keeps : IsSome (rows_under loans_header l.tables.loans.items) → KeepsUpTo table.Loans (loan_rule (rows_in l.tables).patrons (rows_in l.tables).items) (rows_in l.tables).loans l.rows.count;
   rising : IsOrdered key_cmp l.records;
-  tells : Tells (to_loans (rows_in l.rows) (take l.i (rows_in l.rows).loans)) l.records;
+  tells : IsSome (rows_under loans_header l.tables.loans.items) → Tells (to_loans (rows_in l.tables) (take l.rows.count (rows_in l.tables).loans)) l.records;
 }
+
+abbrev pub decreases-loop-row : goal.decreases-loop-row
+decreases-loop-row l = l.rows.size

@@ -1,17 +1,25 @@
-use Rattle.std.proofs.Common.{take}
+use Rattle.std.proofs.Common.{◌≡◌, take}
+use Rattle.std.specs.Prelude.{IsSome}
 use Rattle.std.specs.BTreeMap.{IsOrdered}
+use Rattle.circ_records.specs.Base.{holds_rows_of}
 use Rattle.circ_records.specs.Keys.{key_cmp}
 use Rattle.circ_records.specs.Read.{AreWaiting, Tells, rows_in, to_holds}
 use Rattle.circ_records.specs.Rules.{hold_rule}
 use Rattle.circ_records.specs.declared.tables.TableName.TheVariants as table
 use Rattle.circ_records.proofs.Broken.{KeepsUpTo}
+use Rattle.circ_records.proofs.Reading.{IsAt}
 use Rattle.circ_records.proofs.queues.add_holds.Given as goal
 
--- no row so far breaks a rule, and the map has the records that they tell
-abbrev pub invariant-loop-i : goal.invariant-loop-i
-invariant-loop-i l = record {
-  keeps : KeepsUpTo table.Holds (hold_rule (rows_in l.rows).patrons (rows_in l.rows).items (rows_in l.rows).loans) (rows_in l.rows).holds l.i;
+-- where all is a table, no row so far breaks a rule, and the map has the records that they tell
+abbrev pub invariant-loop-waiting : goal.invariant-loop-waiting
+invariant-loop-waiting l = record {
+  named : l.rows.table ≡ table.Holds;
+  at : IsAt (holds_rows_of l.tables.holds.items) l.rows.rows l.rows.count;
+  keeps : IsSome (holds_rows_of l.tables.holds.items) → KeepsUpTo table.Holds (hold_rule (rows_in l.tables).patrons (rows_in l.tables).items (rows_in l.tables).loans) (rows_in l.tables).holds l.rows.count;
   rising : IsOrdered key_cmp l.records;
-  tells : Tells (to_holds (rows_in l.rows) (take l.i (rows_in l.rows).holds)) l.records;
-  waiting : AreWaiting (take l.i (rows_in l.rows).holds) l.waiting;
+  tells : IsSome (holds_rows_of l.tables.holds.items) → Tells (to_holds (rows_in l.tables) (take l.rows.count (rows_in l.tables).holds)) l.records;
+  waiting : IsSome (holds_rows_of l.tables.holds.items) → AreWaiting (take l.rows.count (rows_in l.tables).holds) l.waiting;
 }
+
+abbrev pub decreases-loop-waiting : goal.decreases-loop-waiting
+decreases-loop-waiting l = l.rows.size

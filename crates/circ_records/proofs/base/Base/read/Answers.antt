@@ -3,25 +3,28 @@ use Rattle.circ_records.specs.Base.{◌>>=◌, base_of, first_broken, rows_of, u
 use Rattle.circ_records.specs.Read.{rows_in}
 use Rattle.circ_records.specs.Tables.{Rows, texts_of}
 use Rattle.circ_records.specs.Told.{entries_told}
-use Rattle.circ_records.proofs.Faults.{breaks-fails, fails-first, fails-then, passed-on}
+use Rattle.circ_records.proofs.Faults.{fails-first, passed-on}
+use Rattle.circ_records.proofs.Stopped.{rule-due, stops-otherwise, tables-read}
 use Rattle.circ_records.proofs.base.Base.read.Goals as goal
 
-pub returns-in_err-rows-clause-told : goal.returns-in_err-rows-clause-told
+pub returns-in-Ok-clause-told : goal.returns-in-Ok-clause-told
 unfolding base_of
-returns-in_err-rows-clause-told c = passed-on _ _ _ c.from_residual.ensures.1
-    (fails-first _ (rows_of (texts_of c.args.tables.now)) (λ rows. unless_broken (first_broken c.args.policy.now c.args.first rows) (entries_told rows)) c.in_err-rows.ensures.err)
+returns-in-Ok-clause-told c =
+    let rows = rows_in c.args.tables.now in
+    ap (λ r. r >>= λ (rows : Rows). unless_broken (first_broken c.args.policy.now c.args.first rows) (entries_told rows)) (tables-read c.args.tables.now c.in-Ok.ensures.read)
+    ∙ ap (λ o. unless_broken o (entries_told rows)) c.in-Ok.ensures.ok
+    ∙ ap Ok (sym c.in-Ok.ensures.told)
 
-pub returns-in_err-records-clause-told : goal.returns-in_err-records-clause-told
+pub returns-in_err-check_tables-in-Err-Rule-clause-told : goal.returns-in_err-check_tables-in-Err-Rule-clause-told
 unfolding base_of
-returns-in_err-records-clause-told c = passed-on _ _ _ c.from_residual-in_err-records.ensures.1
-    (fails-then _ (rows_of (texts_of c.args.tables.now)) (rows_in c.in_ok-rows.rows) (λ rows. unless_broken (first_broken c.args.policy.now c.args.first rows) (entries_told rows))
-    c.in_ok-rows.ensures.ok
-    (breaks-fails _ (first_broken c.args.policy.now c.args.first (rows_in c.in_ok-rows.rows)) (entries_told (rows_in c.in_ok-rows.rows)) c.in_err-records.ensures.err))
+returns-in_err-check_tables-in-Err-Rule-clause-told c = passed-on _ _ _ c.from_residual.ensures.1
+    (fails-first _ (rows_of (texts_of c.args.tables.now)) (λ rows. unless_broken (first_broken c.args.policy.now c.args.first rows) (entries_told rows)) c.in_err-check_tables-in-Err-Rule.ensures.err)
 
-pub returns-clause-told : goal.returns-clause-told
-unfolding base_of
-returns-clause-told c =
-    let rows = rows_in c.in_ok-rows.rows in
-    ap (λ r. r >>= λ (rows : Rows). unless_broken (first_broken c.args.policy.now c.args.first rows) (entries_told rows)) c.in_ok-rows.ensures.ok
-    ∙ ap (λ o. unless_broken o (entries_told rows)) c.in_ok-records.ensures.ok
-    ∙ ap Ok (sym c.in_ok-records.ensures.told)
+pub returns-in_ok-check_tables-in-Err-Rule-clause-told : goal.returns-in_ok-check_tables-in-Err-Rule-clause-told
+returns-in_ok-check_tables-in-Err-Rule-clause-told c =
+    rule-due c.args.policy.now c.args.tables.now c.args.first c.in-Err-Rule.table c.in-Err-Rule.row c.in-Err-Rule.rule
+    (rw c.in-Err-Rule.field-0-is at c.in-Err-Rule.ensures.err) c.in_ok-check_tables-in-Err-Rule.ensures.ok
+
+pub returns-in-Err-Table-clause-told : goal.returns-in-Err-Table-clause-told
+returns-in-Err-Table-clause-told c =
+    stops-otherwise c.args.policy.now c.args.tables.now c.args.first c.in-Err-Table.table (rw c.in-Err-Table.field-0-is at c.in-Err-Table.ensures.err)

@@ -1,7 +1,10 @@
-use Rattle.std.proofs.Common.{inl, refl, sym, ◌∙◌}
+use Rattle.std.proofs.Common.{◌<◌, ◌≤◌, ℕ, arith, inl, refl, sym, ◌∙◌}
 use Rattle.csv.specs.Records.{fields_of}
 use Rattle.csv_table.proofs.Steps.{reads-end, reads-refused, reads-row}
 use Rattle.csv_table.proofs.reader.RowReader.next.Goals as goal
+
+no-more : (a b : ℕ) → a < b → a ≤ b
+no-more a b h = omega arith
 
 pub invariant_of-self : goal.invariant_of-self
 invariant_of-self c =
@@ -35,3 +38,10 @@ returns-in-Err-clause-table c =
     let is = c.self.invariant c.in-Within.is in
     λ e. rw (← c.self.view_is, c.in-Within.is)
     (reads-refused c.self.inside.reader c.read_byte_record.new.self c.in-Err.e.kind is (c.in-Err.ensures.why (inl is.first)) (sym c.from-e.ensures ∙ e))
+
+pub returns-in-Ok-true-clause-size : goal.returns-in-Ok-true-clause-size
+returns-in-Ok-true-clause-size c =
+    let is = c.self.invariant c.in-Within.is in
+    let read = rw c.in-Ok-true.field-0-test at (c.in-Ok-true.ensures.reads is.trim (inl is.first)) in
+    let goes = reads-row c.self.inside.reader c.read_byte_record.new.self (fields_of c.read_byte_record.new.row) is read (c.in-Ok-true.ensures.ready is.trim) c.in-Ok-true.ensures.flexible in
+    rw (← c.self.view_is, c.in-Within.is) (no-more _ _ goes.shorter)

@@ -1,9 +1,9 @@
-use Rattle.std.proofs.Common.{◌≡◌, false, inr, refl, ◌∙◌}
+use Rattle.std.proofs.Common.{◌≡◌, ◌^◌, false, inr, refl, ◌∙◌}
 use Rattle.std.specs.Prelude.{◌&&◌}
 use Rattle.csv.specs.Records.{fields_of}
 use Rattle.csv_table.specs.Rows.{is_row}
 use Rattle.csv_table.specs.Text.{bytes_of}
-use Rattle.csv_table.proofs.Steps.{header-reading, reads-header, reads-no-header}
+use Rattle.csv_table.proofs.Steps.{header-reading, header-size, reads-header, reads-no-header}
 use Rattle.csv_table.proofs.reader.RowReader.under.Goals as goal
 use Rattle.csv_table.proofs.reader.RowReader.under.Goals.{else-branch-via-then-branch+else-has_fields, else-branch-via-else-branch}
 
@@ -41,3 +41,13 @@ returns-clause-table c =
     ] in
     λ _. reads-no-header c.from_reader-reader.result c.read_byte_record.new.self c.args.text.now (bytes_of c.args.header.now) (fields_of c.read_byte_record.new.row) c.in_ok-read_byte_record.field-0
     (rw e at fr.config ∙ c.new.ensures.config) fr.state fr.source read other
+
+pub returns-then-has_fields-clause-size : goal.returns-then-has_fields-clause-size
+returns-then-has_fields-clause-size c =
+    let fr = c.from_reader-reader.ensures in
+    let e = c.has_headers.ensures in
+    let trims = rw e at fr.trim ∙ c.new.ensures.trim in
+    let ready = inr (inr (rw e at fr.has_headers, fr.headers)) in
+    let read = rw c.if-branch.true at (c.in_ok-read_byte_record.ensures.reads trims ready) in
+    header-size c.from_reader-reader.result c.read_byte_record.new.self c.args.text.now (fields_of c.read_byte_record.new.row) (2 ^ 64)
+    (rw e at fr.config ∙ c.new.ensures.config) fr.state fr.source read c.size_fits.ensures

@@ -13,6 +13,8 @@ use Rattle.std.proofs.lemmas.Cmp.{eq_by_cmp_equiv}
 use Rattle.std.proofs.lemmas.Map.Keys.{IsDistinct-push}
 use Rattle.circ_records.specs.Keys.{key_cmp, key_cmp_total}
 use Rattle.circ_records.specs.declared.key.Key.{Key}
+use Rattle.board_lines.specs.Devices.Held.{index_in, notes_in}
+use Rattle.board_lines.specs.declared.notes.Held.{Held}
 use Rattle.board_lines.specs.declared.notes.PlaceNote.{PlaceNote}
 use Rattle.board_lines.specs.Notes.{Noted, noted, few, is_indexed, is_key_in, is_noted, AreNoted, AreOnce, ArePlaced, IsPlaced}
 
@@ -151,6 +153,17 @@ none_kept = record {
 
 pub nothing_noted : {J : Type 0} (ns : List (PlaceNote J)) → ns ≡ [] → AreNoted ns None
 nothing_noted ns no_notes = subst (λ ms. AreNoted ms None) (sym no_notes) none_kept
+
+-- no box, and so no notes
+pub none_held : {J : Type 0} (o : Option (Box (Held J))) → o ≡ None → AreNoted (notes_in o) (index_in o)
+none_held o none = subst (λ (x : Option (Box (Held _))). AreNoted (notes_in x) (index_in x)) (sym none) none_kept
+
+-- nothing is noted yet in what is spare
+pub nothing_held : {J : Type 0} (ns : List (PlaceNote J)) (index : Index) → ns ≡ [] → index ≡ None → AreNoted ns index
+nothing_held ns index no_notes none = subst (λ i. AreNoted ns i) (sym none) (nothing_noted ns no_notes)
+
+pub first_fresh : {J : Type 0} (ns : List (PlaceNote J)) (k : Key) → ns ≡ [] → is_noted (map noted ns) k ≡ false
+first_fresh ns k no_notes = ap (λ ms. is_noted (map noted ms) k) no_notes
 
 -- the first note
 pub noted_first : {J : Type 0} (ns : List (PlaceNote J)) (n : PlaceNote J) → ns ≡ n ∷ [] → IsPlaced (noted n) → AreNoted ns None

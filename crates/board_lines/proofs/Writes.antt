@@ -1,12 +1,12 @@
 -- Writes in the order of their keys: by their places, and by their keys.
-use Rattle.std.proofs.Common.{◌≡◌, ◌≢◌, ℕ, zero, suc, ◌+◌, ◌<◌, cond, [], ◌∷◌, map, slice_get, Option, Some, None, Less, refl, sym, ap, subst, ◌∙◌, inl, inr, arith}
+use Rattle.std.proofs.Common.{◌≡◌, ◌≢◌, ℕ, zero, suc, ◌+◌, ◌<◌, ◌≤◌, cond, List, [], ◌∷◌, length, map, slice_get, Option, Some, None, Less, refl, sym, ap, subst, ◌∙◌, inl, inr, arith}
 use Rattle.std.specs.Prelude.{option_map}
-use Rattle.std.specs.FinMap.{get, insert, remove}
+use Rattle.std.specs.FinMap.{get, get-entries, insert, remove, entries, entries_sorted}
 use Rattle.std.specs.List.{AllByRecursion}
 use Rattle.std.specs.List.Sorted.{IsStrictlySortedBy}
 use Rattle.std.specs.Map.{keys_of}
 use Rattle.std.specs.BTreeMap.{is_at}
-use Rattle.std.proofs.lemmas.Option.{none-some, same_Some}
+use Rattle.std.proofs.lemmas.Option.{none-some, same_Some, slice_get_within}
 use Rattle.std.proofs.lemmas.Bool.{cases_Bool, cases_eq}
 use Rattle.std.proofs.lemmas.Map.Keys.{sorted_head, sorted_tail}
 use Rattle.circ_records.specs.Keys.{key_cmp}
@@ -15,7 +15,7 @@ use Rattle.circ_records.specs.declared.key.Key.{Key}
 use Rattle.circ_records.specs.declared.record.Record.{Record}
 use Rattle.read_set.specs.Settling.{Contents}
 use Rattle.version_store.specs.Entries.{Shown, Line, AllOf, IsLeastLeft, shown_by}
-use Rattle.version_store.proofs.Walks.{Rising, not_below, not_both, head_or_tail, at_head, same_key}
+use Rattle.version_store.proofs.Walks.{Rising, rising, look, not_below, not_both, head_or_tail, at_head, same_key}
 use Rattle.board_steps.specs.Board.{Row}
 use Rattle.board_steps.specs.Steps.{IsNextWrite, AllPlaced, IsNextLeft, NoneLeft}
 use Rattle.board_steps.proofs.Entries.{cases_key, get_insert_same, get_insert_other, get_remove_other}
@@ -60,6 +60,47 @@ above_all x (w ∷ ws) all q u h = elim (head_or_tail q w.0 w.1 u ws h) [
 pub writes_rise : (ws : Entries) → IsStrictlySortedBy key_cmp (map (λ (e : Key × Record). e.0) ws) → Rising ws
 writes_rise [] h = tt
 writes_rise (w ∷ ws) h = (above_all w.0 ws (sorted_head key_cmp w.0 (keys_of ws) h), writes_rise ws (sorted_tail key_cmp w.0 (keys_of ws) h))
+
+-- ---- a line that has entries at its first writes alone
+pub there : (ws : Entries) (i : ℕ) → i < length ws → (x : Key × Record) × (slice_get ws i ≡ Some x)
+there [] i within = absurd (omega (arith, within))
+there (w ∷ ws) zero within = (w, refl)
+there (w ∷ ws) (suc i) within = there ws i (omega (arith, within))
+
+-- writes that have an entry each are no more than the entries
+no_more : (n : ℕ) (ws : Entries) (es : List (Key × Shown)) → Rising ws → Rising es → n ≤ length ws
+    → ((j : ℕ) (x : Key × Record) → j < n → slice_get ws j ≡ Some x → (u : Shown) × (look x.0 es ≡ Some u)) → n ≤ length es
+no_more zero ws es up rise within have = omega arith
+no_more (suc n) [] es up rise within have = absurd (omega (arith, within))
+no_more (suc n) (w ∷ ws) [] up rise within have = (let one = have 0 w (omega arith) refl in absurd (none-some one.0 one.1))
+no_more (suc n) (w ∷ ws) (e ∷ es) up rise within have =
+    let more : n ≤ length es = no_more n ws es up.1 rise.1 (omega (arith, within)) (λ j x lt h. (
+    let one = have (suc j) x (omega (arith, lt)) h in
+    let above : key_cmp w.0 x.0 ≡ Less = up.0 x.0 x.1 (is_at_key ws up.1 j x h) in
+    elim (head_or_tail x.0 e.0 e.1 one.0 es one.1) [
+      | inl i ↦ (let own = have 0 w (omega arith) refl in
+          absurd (elim (head_or_tail w.0 e.0 e.1 own.0 es own.1) [
+            | inl k ↦ not_below w.0 x.0 above (k.0 ∙ sym i.0)
+            | inr t ↦ not_both w.0 x.0 above (subst (λ q. key_cmp q w.0 ≡ Less) (sym i.0) (rise.0 w.0 own.0 t))
+          ]))
+      | inr t ↦ (one.0, t)
+    ])) in
+    omega (arith, more)
+
+-- where there are no more entries than first writes that are placed, the next write has none
+pub next_apart : (l : Line) (a : ℕ) (ws : Entries) (placed : ℕ) (x : Key × Record) → Rising ws → FirstPlaced l a ws placed → length (entries l) ≤ placed
+    → slice_get ws placed ≡ Some x → IsPlacedAt l a x.0 → ⊥
+next_apart l a ws placed x up first few here own =
+    let within : placed < length ws = slice_get_within ws placed x here in
+    let all : suc placed ≤ length (entries l) = no_more (suc placed) ws (entries l) up (rising (entries l) (entries_sorted l)) (omega (arith, within)) (λ j y lt h. elim (cases_eq j placed) [
+      | inl e ↦ (
+        own.0,
+        sym (get-entries l y.0)
+            ∙ subst (λ (p : Key × Record). get l p.0 ≡ Some own.0) (same_Some x y (sym here ∙ subst (λ m. slice_get ws m ≡ Some y) e h)) own.1,
+      )
+      | inr ne ↦ (let p = first j y (omega (arith, lt, ne)) h in (p.0, sym (get-entries l y.0) ∙ p.1))
+    ]) in
+    omega (arith, all, few)
 
 -- ---- an entry of the attempt, as the store tells its attempt
 pub placed_if : (o : Option Shown) (own a : ℕ) → Some own ≡ option_map (λ (e : Shown). e.attempt) o → own ≡ a → (e : Shown) × (o ≡ Some e) × (e.attempt ≡ a)

@@ -23,7 +23,7 @@ ghost use Rattle.board_lines.specs.Acts.{IsAct, IsPlacing, IsToPublish, notes_at
 ghost use Rattle.board_lines.specs.Courses.{ComesTo, FirstPlaced, FirstPlacedBut, PublishesMore, UnderWay};
 
 use crate::hand::Hand;
-use crate::notes::{PlaceNotes, PlacedName};
+use crate::notes::{PlaceNotes, PlacedName, Spare};
 use crate::publishing::{Act, act_of, is_of, is_placing, is_publishing, settled};
 use crate::reply::Reply;
 use crate::row::{Course, Row};
@@ -41,6 +41,8 @@ pub struct Lines<'p, 't, J: PlanName> {
     pub(crate) attempts: AttemptTable,
     pub(crate) entries: EntryStore<'t, J>,
     pub(crate) rows: Vec<Row<'t, J>>,
+    /// Memory for the notes of a line that is run.
+    spare: Spare<'t, J>,
     /// The line that each worker has in hand.
     hands: Vec<Option<u64>>,
     clock: u64,
@@ -55,6 +57,7 @@ impl<J: PlanName> Drop for Lines<'_, '_, J> {
             attempts: _,
             entries: _,
             rows: _,
+            spare: _,
             hands: _,
             clock: _,
             latest: _,
@@ -106,7 +109,7 @@ impl<'p, 't, J: PlanName> Lines<'p, 't, J> {
             return Reply::Attempts { line };
         };
         let row = &mut self.rows[(line - self.plan.first()) as usize];
-        row.notes.clear();
+        row.notes.clear(&mut self.spare);
         self.hands[hand] = Some(line);
         Reply::Taken { attempt }
     }
@@ -136,7 +139,7 @@ impl<'p, 't, J: PlanName> Lines<'p, 't, J> {
         }
         // nobody reads the notes of a line that is committed
         let row = &mut self.rows[position as usize];
-        row.notes.clear();
+        row.notes.clear(&mut self.spare);
         let changed = row.changed;
         self.attempts.commit(line);
         self.latest = later(self.latest, changed);
@@ -159,7 +162,7 @@ impl<'p, 't, J: PlanName> Lines<'p, 't, J> {
         };
         let alloc = *self.rows.allocator();
         let row = &mut self.rows[(line - self.plan.first()) as usize];
-        match row.notes.add(alloc, key, seen) {
+        match row.notes.add(alloc, &mut self.spare, key, seen) {
             Ok(()) => Reply::Seen {
                 name: seen.name,
                 place: seen.place,
@@ -392,6 +395,7 @@ impl<'p, 't, J: PlanName> Lines<'p, 't, J> {
             attempts: AttemptTable::new(alloc, plan.first(), lines as u32, attempt)?,
             entries: EntryStore::new(alloc, plan.first(), lines)?,
             rows: rows_of(alloc, lines)?,
+            spare: Spare::new(),
             hands: hands_of(alloc, workers)?,
             clock,
             latest: 0,

@@ -1,6 +1,6 @@
 //! What a line has noted while it runs.
 
-ghost use Rattle.std.specs.Prelude.{◌≡◌, ◌++◌, ◌∷◌, [], cond, IfOk, OnOk, OnErr, length, slice_get, map, true, false, option_copied, option_map};
+ghost use Rattle.std.specs.Prelude.{◌≡◌, ◌++◌, ◌∷◌, [], None, cond, IfOk, OnOk, OnErr, length, slice_get, map, true, false, option_copied, option_map};
 ghost use Rattle.std.specs.Ordering.{eq_by_cmp};
 ghost use Rattle.circ_records.specs.Keys.{key_cmp};
 ghost use Rattle.circ_records.specs.declared.key.Key.{Key};
@@ -66,6 +66,48 @@ impl<J: PlanName> Drop for Held<'_, J> {
     }
 }
 
+/// Memory that the notes of a line took, for those of another: mostly one is committed just before the next is run, and to take and
+/// give back memory costs more than the notes do.
+pub(crate) struct Spare<'t, J: PlanName> {
+    held: Option<Box<Held<'t, J>>>,
+}
+
+impl<J: PlanName> Drop for Spare<'_, J> {
+    fn drop(self) {
+        let Spare { held: _ } = self;
+    }
+}
+
+impl<'t, J: PlanName> Spare<'t, J> {
+    /// None.
+    pub(crate) fn new() -> Spare<'t, J> {
+        Spare { held: None }
+    }
+
+    /// Keeps the memory of notes that are few.
+    fn keep(&mut self, held: Box<Held<'t, J>>) {
+        if held.notes.len() <= FEW {
+            self.held = Some(held);
+        }
+    }
+
+    /// Room for the notes of a line that has none: what is spare, or new, for as many as most lines have.
+    fn take(&mut self, alloc: Global) -> Result<Box<Held<'t, J>>, AllocError>
+        ensures notes { IfOk result (λ held. held.value.notes.items ≡ []) }
+        ensures index { IfOk result (λ held. held.value.index ≡ None) }
+    {
+        if let Some(mut held) = self.held.take() {
+            held.empty();
+            return Ok(held);
+        }
+        let notes = Vec::with_capacity(alloc, USUAL)?;
+        match Box::new(alloc, Held { notes, index: None }) {
+            Ok(held) => Ok(held),
+            Err(_) => Err(AllocError),
+        }
+    }
+}
+
 /// What a line has noted, in the order of looking: keys, names and places. It holds no record. The board has this of each
 /// line until the run ends, and a line has notes only while it is on its way: so they stand behind a box, made with the first
 /// of them, and without notes this takes two words.
@@ -111,11 +153,12 @@ impl<'t, J: PlanName> PlaceNotes<'t, J> {
         }
     }
 
-    /// One more note, of a key that isn't noted; it has no place just where its name is the base's. Without memory nothing
-    /// changes.
+    /// One more note, of a key that isn't noted; it has no place just where its name is the base's. The first takes memory that
+    /// is spare. Without memory nothing changes.
     pub(crate) fn add(
         &mut self,
         alloc: Global,
+        spare: &mut Spare<'t, J>,
         key: &Key,
         seen: PlacedName<'t, J>,
     ) -> Result<(), AllocError>
@@ -127,15 +170,17 @@ impl<'t, J: PlanName> PlaceNotes<'t, J> {
         if let Some(held) = &mut self.held {
             return held.add(alloc, key, seen);
         }
-        self.held = Some(first_held(alloc, key, seen)?);
+        self.held = Some(first_held(alloc, spare, key, seen)?);
         Ok(())
     }
 
-    /// No notes any more. Their memory is given back.
-    pub fn clear(&mut self)
+    /// No notes any more. Their memory is spare, where they are few, and else given back.
+    pub(crate) fn clear(&mut self, spare: &mut Spare<'t, J>)
         ensures { self.new ≡ [] }
     {
-        self.held = None;
+        if let Some(held) = self.held.take() {
+            spare.keep(held);
+        }
     }
 
     /// How many there are. No key is noted twice, and a note has no place just where its name is the base's.
@@ -182,6 +227,15 @@ impl<'t, J: PlanName> PlaceNotes<'t, J> {
 }
 
 impl<'t, J: PlanName> Held<'t, J> {
+    /// No notes any more. Their memory stays.
+    fn empty(&mut self)
+        ensures notes { self.new.notes.items ≡ [] }
+        ensures index { self.new.index ≡ None }
+    {
+        self.notes.clear();
+        self.index = None;
+    }
+
     /// One more note, of a key that isn't noted. Without memory the notes stay as they are.
     fn add(&mut self, alloc: Global, key: &Key, seen: PlacedName<'t, J>) -> Result<(), AllocError>
         requires noted { AreNoted self.old.notes.items self.old.index }
@@ -208,9 +262,10 @@ impl<'t, J: PlanName> Held<'t, J> {
     }
 }
 
-/// A line's first note, with room for as many as most lines have.
+/// A line's first note.
 fn first_held<'t, J: PlanName>(
     alloc: Global,
+    spare: &mut Spare<'t, J>,
     key: &Key,
     seen: PlacedName<'t, J>,
 ) -> Result<Box<Held<'t, J>>, AllocError>
@@ -218,13 +273,10 @@ fn first_held<'t, J: PlanName>(
     ensures noted { IfOk result (λ held. AreNoted held.value.notes.items held.value.index) }
     ensures note { IfOk result (λ held. map noted held.value.notes.items ≡ note_with key.now seen.entry ∷ []) }
 {
-    let mut notes = Vec::with_capacity(alloc, USUAL)?;
-    let Ok(()) = notes.push(PlaceNote { key: *key, seen }) else {
-        return Err(AllocError);
-    };
-    match Box::new(alloc, Held { notes, index: None }) {
-        Ok(held) => Ok(held),
-        Err(_) => Err(AllocError),
+    let mut held = spare.take(alloc)?;
+    match held.add(alloc, key, seen) {
+        Ok(()) => Ok(held),
+        Err(refused) => Err(refused),
     }
 }
 

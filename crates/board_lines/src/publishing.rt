@@ -1,7 +1,9 @@
 //! The next act of a publication.
 
-ghost use Rattle.std.specs.Prelude.{◌≡◌};
+ghost use Rattle.std.specs.Prelude.{◌≡◌, map};
 ghost use Rattle.std.specs.Bool.{Decides};
+ghost use Rattle.std.specs.List.Sorted.{IsStrictlySortedBy};
+ghost use Rattle.circ_records.specs.Keys.{key_cmp};
 ghost use Rattle.board_steps.specs.Board.{Row};
 ghost use Rattle.read_set.specs.Settling.{Contents};
 ghost use Rattle.version_store.specs.Entries.{line_at};
@@ -95,9 +97,14 @@ fn next_write<J: PlanName>(
     writes: &[(KeptKey, Record)],
     placed: usize,
 ) -> Option<usize>
-    requires { FirstPlaced (line_at entries.now line) attempt writes.now placed }
+    requires rising { IsStrictlySortedBy key_cmp (map (λ e. e.0) writes.now) }
+    requires placed { FirstPlaced (line_at entries.now line) attempt writes.now placed }
     ensures { IsFirstApart (line_at entries.now line) attempt writes.now result }
 {
+    // mostly each entry is that of a write that is placed: then no other write has one, and no key is looked for
+    if placed < writes.len() && entries.count_of(line) <= placed {
+        return Some(placed);
+    }
     for i in placed..writes.len() {
         if !is_placed(entries, line, attempt, &writes[i].0) {
             return Some(i);

@@ -1,6 +1,10 @@
-use Rattle.std.proofs.Common.{◌≡◌, ℕ, ◌+◌, Some, None, slice_get, get_or, refl, sym, ap, subst, ◌∙◌}
+use Rattle.std.proofs.Common.{◌≡◌, ℕ, ◌+◌, Some, None, map, slice_get, get_or, refl, sym, ap, subst, ◌∙◌}
 use Rattle.std.proofs.lemmas.Option.{slice_get-get_or, slice_get_within}
+use Rattle.std.specs.List.Sorted.{IsStrictlySortedBy}
+use Rattle.circ_records.specs.Keys.{key_cmp}
 use Rattle.circ_records.specs.Records.{Entries}
+use Rattle.circ_records.specs.declared.key.Key.{Key}
+use Rattle.circ_records.specs.declared.record.Record.{Record}
 use Rattle.version_store.specs.Entries.{AllOf, IsLeastLeft, line_at}
 use Rattle.version_store.proofs.Walks.{Rising}
 use Rattle.board_lines.specs.Acts.{IsFirstApart}
@@ -33,8 +37,12 @@ returns-in-Some-clause-comes g c =
     let here : slice_get ws i ≡ Some (get_or ws i c.index-writes-i.result) = slice_get-get_or ws i c.index-writes-i.result (slice_get_within ws i found.0.0 found.0.1) in
     comes_to l v.attempt v.writes i (i + 1) (get_or ws i c.index-writes-i.result) (ap (λ (x : Entries). slice_get x i) (sym c.writes-writes.ensures.writes) ∙ here) refl first
 
-pub next_write-requires : goal.next_write-requires
-next_write-requires g c =
+pub next_write-requires-clause-rising : goal.next_write-requires-clause-rising
+next_write-requires-clause-rising g c =
+    subst (λ (x : Entries). IsStrictlySortedBy key_cmp (map (λ (e : Key × Record). e.0) x)) (sym c.writes-writes.ensures.writes) c.writes-writes.ensures.rising
+
+pub next_write-requires-clause-placed : goal.next_write-requires-clause-placed
+next_write-requires-clause-placed g c =
     let v = c.args.version.now in
     let l = line_at c.args.entries.now c.args.line in
     subst (λ (a : ℕ). FirstPlaced l a c.writes-writes.result.now c.args.placed) (sym c.attempt-attempt.ensures)

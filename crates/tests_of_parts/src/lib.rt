@@ -6,6 +6,8 @@
 #[cfg(test)]
 mod attempt_table;
 #[cfg(test)]
+mod own_texts;
+#[cfg(test)]
 mod policies;
 #[cfg(test)]
 mod positions;

@@ -1,5 +1,5 @@
 -- A map in which one record was changed.
-use Rattle.std.proofs.Common.{◌≡◌, Bool, true, false, cond, Option, Some, None, refl, sym, ap, ◌∙◌}
+use Rattle.std.proofs.Common.{◌≡◌, Bool, true, false, cond, Option, Some, refl, ap, ◌∙◌}
 use Rattle.std.specs.Prelude.{IsSome, OnErr, Result, Ok, Err, option_map}
 use Rattle.std.specs.BTreeMap.{BTreeMap, get}
 use Rattle.std.specs.Ordering.{eq_by_cmp}
@@ -21,16 +21,6 @@ changed-there old new k c was is there value updates q = updates q ∙ by (eq_by
   where
     by : (b : Bool) → eq_by_cmp key_cmp k q ≡ b → cond b (Some is) (get key_cmp old q) ≡ cond b (option_map (changed c) (get key_cmp old q)) (get key_cmp old q)
     by true e = ap Some value ∙ ap (option_map (changed c)) (there ∙ ap (get key_cmp old) (same-key k q e))
-    by false e = refl
-
--- where there is none the map stays
-pub unchanged-there : (old : BTreeMap Key Record) (k : Key) (c : Change) → None ≡ get key_cmp old k → IsChanged k c old old
-unchanged-there old k c there q = by (eq_by_cmp key_cmp k q) refl
-  where
-    by : (b : Bool) → eq_by_cmp key_cmp k q ≡ b → get key_cmp old q ≡ cond b (option_map (changed c) (get key_cmp old q)) (get key_cmp old q)
-    by true e =
-        let none : None ≡ get key_cmp old q = there ∙ ap (get key_cmp old) (same-key k q e) in
-        sym none ∙ ap (option_map (changed c)) none
     by false e = refl
 
 -- the record that was there is put back as it was

@@ -10,7 +10,7 @@ pub mod Entries
 pub mod Faults
 pub mod FirstBroken
 pub mod Gathering
-pub mod ItemsTold
+pub mod Judged
 pub mod Kept
 pub mod Lookups
 pub mod Picked

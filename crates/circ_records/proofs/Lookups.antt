@@ -1,5 +1,5 @@
 -- Look-ups among rows.
-use Rattle.std.proofs.Common.{◌≡◌, ℕ, zero, suc, ◌<◌, List, [], ◌∷◌, ◌++◌, Bool, true, false, cond, Option, Some, None, length, get_or, map, arith, refl, sym, ap, ◌∙◌}
+use Rattle.std.proofs.Common.{◌≡◌, ℕ, List, [], ◌∷◌, ◌++◌, Bool, true, false, cond, Option, Some, None, map, refl, sym, ap, ◌∙◌}
 use Rattle.std.specs.Prelude.{is_some, option_map, ◌==◌, ◌||◌}
 use Rattle.std.specs.Option.{option_or}
 use Rattle.std.specs.List.{find}
@@ -26,15 +26,6 @@ is_some-either f g (Some x) b = refl
 pub none-of : {A : Type 0} (o : Option A) → is_some o ≡ false → o ≡ None
 none-of None e = refl
 none-of (Some x) e = cc
-
--- the first test of a chain that gives nothing isn't met
-pub not-first : {A : Type 0} (b : Bool) (x : A) (o : Option A) → cond b (Some x) o ≡ None → (b ≡ false) × (o ≡ None)
-not-first true x o e = cc
-not-first false x o e = (refl, e)
-
-pub map-cond : {A B : Type 0} (f : A → B) (b : Bool) (x : A) (o : Option A) → option_map f (cond b (Some x) o) ≡ cond b (Some (f x)) (option_map f o)
-map-cond f true x o = refl
-map-cond f false x o = refl
 
 pub tie : (r : Ordering) → is_eq r ≡ true → r ≡ Equal
 tie Less e = cc
@@ -95,15 +86,3 @@ listed-more {X} f column q (x ∷ xs) row = by (is_same q (field column x)) (is_
     by true true e = ap (λ (l : List X). f x ∷ l) e
     by true false e = ap (λ (l : List X). f x ∷ l) e
     by false b e = e
-
--- an item of a list as its view stands in the list of views
-pub item-at : {X : Type 0} (view : X → Row) (xs : List X) (i : ℕ) (x : X) → i < length xs → x ≡ get_or xs i x
-    → (i < length (map view xs)) × (view x ≡ get_or (map view xs) i [])
-item-at view [] i x h e = absurd (omega arith)
-item-at view (y ∷ ys) zero x h e = (omega arith, ap view e)
-item-at view (y ∷ ys) (suc i) x h e = let p = item-at view ys i x (omega arith) e in (let a = p.0 in omega arith, p.1)
-
--- the same where the list goes by another name
-pub item-among : {X : Type 0} (view : X → Row) (xs ys : List X) (i : ℕ) (x : X) → ys ≡ xs → i < length ys → x ≡ get_or ys i x
-    → (i < length (map view xs)) × (view x ≡ get_or (map view xs) i [])
-item-among view xs ys i x same h e = let n : length ys ≡ length xs = ap length same in item-at view xs i x (omega arith) (e ∙ ap (λ l. get_or l i x) same)

@@ -1,11 +1,16 @@
--- What a row changes of a record that an earlier table told.
-use Rattle.std.specs.Prelude.{◌≡◌, ◌++◌, ◌∷◌, [], Some, cond, option_map}
+-- What a row changes of a record that an earlier table told, and the rule that it breaks there.
+use Rattle.std.specs.Prelude.{◌≡◌, ℕ, List, ◌++◌, ◌∷◌, [], length, Option, Some, None, is_some, nat_le, cond, option_map, if◌then◌else◌}
 use Rattle.std.specs.BTreeMap.{BTreeMap, get}
 use Rattle.std.specs.Ordering.{eq_by_cmp}
+use Rattle.circ_records.specs.Coherent.{is_loan_of}
 use Rattle.circ_records.specs.Keys.{key_cmp}
 use Rattle.circ_records.specs.declared.changes.Change.{Change}
 use Rattle.circ_records.specs.declared.changes.Change.TheVariants as change
+use Rattle.circ_records.specs.declared.fault.BaseRule.{BaseRule}
+use Rattle.circ_records.specs.declared.fault.BaseRule.TheVariants as rule
+use Rattle.circ_records.specs.declared.holds.TheConstants.{QUEUE_MAX}
 use Rattle.circ_records.specs.declared.key.Key.{Key}
+use Rattle.circ_records.specs.declared.record.Item.{Item}
 use Rattle.circ_records.specs.declared.record.Record.{Record}
 use Rattle.circ_records.specs.declared.record.Record.TheVariants as record_of
 
@@ -20,3 +25,21 @@ changed c r = r
 -- a map in which the record at a key was changed, and no other
 abbrev pub IsChanged : Key → Change → BTreeMap Key Record → BTreeMap Key Record → Type 0
 IsChanged key c old new = (q : Key) → get key_cmp new q ≡ cond (eq_by_cmp key_cmp key q) (option_map (changed c) (get key_cmp old q)) (get key_cmp old q)
+
+-- the rule that a hold of a patron breaks on an item
+abbrev pub broken_hold : List ℕ → Item → Option BaseRule
+broken_hold patron item =
+    if is_loan_of patron item.loan then Some rule.Borrower
+    else if nat_le QUEUE_MAX (length item.holds) then Some rule.Queue
+    else None
+
+-- the rule that a change breaks by the record that it finds: there is none of its kind, or the item isn't free
+abbrev pub broken_by : Change → Option Record → Option BaseRule
+broken_by (change.Borrows item) (Some (record_of.Patron p)) = None
+broken_by (change.Borrows item) o = Some rule.Patron
+broken_by (change.Owes fee) (Some (record_of.Patron p)) = None
+broken_by (change.Owes fee) o = Some rule.Patron
+broken_by (change.Lent loan) (Some (record_of.Item i)) = if is_some i.loan then Some rule.Lent else None
+broken_by (change.Lent loan) o = Some rule.Item
+broken_by (change.Awaited hold) (Some (record_of.Item i)) = broken_hold hold.patron i
+broken_by (change.Awaited hold) o = Some rule.Item

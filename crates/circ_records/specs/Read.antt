@@ -1,5 +1,5 @@
 -- What the parts of the reading cite.
-use Rattle.std.specs.Prelude.{◌≡◌, ℕ, List, [], Option, Some, IsSome, Err, unwrap_or}
+use Rattle.std.specs.Prelude.{◌≡◌, ℕ, true, List, [], Option, Some, IsSome, Err, unwrap_or}
 use Rattle.std.specs.BTreeMap.{BTreeMap, get}
 use Rattle.std.specs.BTreeSet.{BTreeSet, contains}
 use Rattle.std.specs.Cmp.Lexicographic.{slice_cmp}
@@ -11,13 +11,17 @@ use Rattle.csv_table.specs.declared.TableError.TheVariants as refusal
 use Rattle.circ_records.specs.Base.{holds_rows_of, rows_of, table_rows}
 use Rattle.circ_records.specs.Keys.{key_cmp}
 use Rattle.circ_records.specs.Records.{Entries, record_at}
-use Rattle.circ_records.specs.Rules.{has_hold}
-use Rattle.circ_records.specs.Tables.{Row, Rows, closed_header, fees_header, items_header, loans_header, patrons_header, texts_of}
-use Rattle.circ_records.specs.Told.{told}
+use Rattle.circ_records.specs.Rules.{has_closed_values, has_fee_texts, has_fee_values, has_hold, has_hold_texts, has_loan_texts, has_loan_values}
+use Rattle.circ_records.specs.Tables.{Row, Rows, field, closed_header, fees_header, items_header, loans_header, patrons_header, texts_of}
+use Rattle.circ_records.specs.Told.{closed_told, fee_told, hold_in, loan_in, told}
 use Rattle.circ_records.specs.declared.fault.BaseError.{BaseError}
 use Rattle.circ_records.specs.declared.fault.BaseError.TheVariants as error
+use Rattle.circ_records.specs.declared.fees.FeeRow.{FeeRow}
+use Rattle.circ_records.specs.declared.holds.Hold.{Hold}
 use Rattle.circ_records.specs.declared.key.Key.{Key}
+use Rattle.circ_records.specs.declared.loans.LoanRow.{LoanRow}
 use Rattle.circ_records.specs.declared.record.Record.{Record}
+use Rattle.circ_records.specs.declared.record.Record.TheVariants as record_of
 use Rattle.circ_records.specs.declared.tables.TableName.{TableName}
 use Rattle.circ_records.specs.declared.tables.Tables.{Tables}
 
@@ -95,6 +99,19 @@ AreTold rows entries = (k : Key) → record_at entries k ≡ told rows k
 -- a map has them
 abbrev pub Tells : Rows → BTreeMap Key Record → Type 0
 Tells rows records = (k : Key) → get key_cmp records k ≡ told rows k
+
+-- a row breaks no rule by itself, and this is what it says
+abbrev pub SaysLoan : LoanRow → Row → Type 0
+SaysLoan said row = (has_loan_texts row ≡ true) × (has_loan_values row ≡ true) × (said.item ≡ field 1 row) × (said.loan ≡ loan_in row)
+
+abbrev pub SaysFee : FeeRow → Row → Type 0
+SaysFee said row = (has_fee_texts row ≡ true) × (has_fee_values row ≡ true) × (said.id ≡ field 0 row) × (record_of.Fee said.fee ≡ fee_told row)
+
+abbrev pub SaysClosed : FeeRow → Row → Type 0
+SaysClosed said row = (has_fee_texts row ≡ true) × (has_closed_values row ≡ true) × (said.id ≡ field 0 row) × (record_of.Fee said.fee ≡ closed_told row)
+
+abbrev pub SaysHold : List ℕ → Hold → Row → Type 0
+SaysHold item hold row = (has_hold_texts row ≡ true) × (item ≡ field 0 row) × (hold ≡ hold_in row)
 
 -- a table that csv refuses, or one with another header, is named
 abbrev pub table_refusal : TableName → TableError → BaseError

@@ -1,14 +1,16 @@
 //! Records changed in place: what a row changes of a record that an earlier table told, and a fee that is listed.
 
-ghost use Rattle.std.specs.Prelude.{◌≡◌, ◌++◌, ◌∷◌, [], OnOk, OnErr, Some};
+ghost use Rattle.std.specs.Prelude.{◌≡◌, ◌++◌, ◌∷◌, [], OnOk, OnErr, IfOk, Some, None, is_some};
 ghost use Rattle.std.specs.BTreeMap.{IsOrdered, get};
-ghost use Rattle.circ_records.specs.Changes.{IsChanged, changed};
+ghost use Rattle.circ_records.specs.Changes.{IsChanged, broken_by, broken_hold, changed};
 ghost use Rattle.circ_records.specs.Keys.{key_cmp};
 ghost use Rattle.circ_records.specs.declared.changes.Change.TheVariants as change;
 ghost use Rattle.circ_records.specs.declared.key.Key.{Key};
 
-use crate::holds::Hold;
+use crate::fault::BaseRule;
+use crate::holds::{Hold, QUEUE_MAX};
 use crate::key::Key;
+use crate::known::is_loan_of;
 use crate::record::{Item, KeptLoan, Loan, Patron, Record};
 use crate::shared::Shared;
 use sip_reader::Id;
@@ -28,26 +30,43 @@ pub(crate) enum Change {
     Awaited(Hold),
 }
 
-/// Changes the record at a key, where there is one. Without memory nothing changes.
+/// Changes the record at a key, or tells the rule that the change breaks there. It is looked for once: a row is judged and told by
+/// one look. Without memory nothing changes.
 pub(crate) fn change_at(
     alloc: Global,
     records: &mut BTreeMap<Key, Record>,
     key: Key,
     what: Change,
-) -> Result<(), AllocError>
-    ensures ok { OnOk result (IsChanged key what records.old records.new) }
+) -> Result<Option<BaseRule>, AllocError>
+    ensures rule { IfOk result (λ broken. broken ≡ broken_by what (get key_cmp records.old key)) }
+    ensures ok { IfOk result (λ broken. broken ≡ None → IsChanged key what records.old records.new) }
     ensures err { OnErr result ((q : Key) → get key_cmp records.new q ≡ get key_cmp records.old q) }
     ensures rising { IsOrdered key_cmp records.new }
 {
     match records.get_mut(&key) {
-        Some(target) => apply(alloc, target, what)?,
-        None => {}
+        Some(target) => {
+            let broken = apply(alloc, target, what)?;
+            Ok(broken)
+        }
+        None => Ok(Some(what.lacks())),
     }
-    Ok(())
 }
 
-fn apply(alloc: Global, target: &mut Record, what: Change) -> Result<(), AllocError>
-    ensures ok { OnOk result (target.new ≡ changed what target.old) }
+impl Change {
+    /// The rule that it breaks where there is no such record.
+    fn lacks(&self) -> BaseRule
+        ensures { Some result ≡ broken_by self.now None }
+    {
+        match self {
+            Change::Borrows(_) | Change::Owes(_) => BaseRule::Patron,
+            Change::Lent(_) | Change::Awaited(_) => BaseRule::Item,
+        }
+    }
+}
+
+fn apply(alloc: Global, target: &mut Record, what: Change) -> Result<Option<BaseRule>, AllocError>
+    ensures rule { IfOk result (λ broken. broken ≡ broken_by what (Some target.old)) }
+    ensures ok { IfOk result (λ broken. broken ≡ None → target.new ≡ changed what target.old) }
     ensures err { OnErr result (target.new ≡ target.old) }
 {
     match what {
@@ -58,43 +77,86 @@ fn apply(alloc: Global, target: &mut Record, what: Change) -> Result<(), AllocEr
     }
 }
 
-fn borrow(alloc: Global, target: &mut Record, item: Id) -> Result<(), AllocError>
-    ensures ok { OnOk result (target.new ≡ changed (change.Borrows item) target.old) }
+fn borrow(alloc: Global, target: &mut Record, item: Id) -> Result<Option<BaseRule>, AllocError>
+    ensures rule { IfOk result (λ broken. broken ≡ broken_by (change.Borrows item) (Some target.old)) }
+    ensures ok { IfOk result (λ broken. broken ≡ None → target.new ≡ changed (change.Borrows item) target.old) }
     ensures err { OnErr result (target.new ≡ target.old) }
 {
     match target {
-        Record::Patron(patron) => put_loan(alloc, patron, item),
-        _ => Ok(()),
+        Record::Patron(patron) => {
+            put_loan(alloc, patron, item)?;
+            Ok(None)
+        }
+        _ => Ok(Some(BaseRule::Patron)),
     }
 }
 
-fn owe(alloc: Global, target: &mut Record, fee: Id) -> Result<(), AllocError>
-    ensures ok { OnOk result (target.new ≡ changed (change.Owes fee) target.old) }
+fn owe(alloc: Global, target: &mut Record, fee: Id) -> Result<Option<BaseRule>, AllocError>
+    ensures rule { IfOk result (λ broken. broken ≡ broken_by (change.Owes fee) (Some target.old)) }
+    ensures ok { IfOk result (λ broken. broken ≡ None → target.new ≡ changed (change.Owes fee) target.old) }
     ensures err { OnErr result (target.new ≡ target.old) }
 {
     match target {
-        Record::Patron(patron) => put_fee(alloc, patron, fee),
-        _ => Ok(()),
+        Record::Patron(patron) => {
+            put_fee(alloc, patron, fee)?;
+            Ok(None)
+        }
+        _ => Ok(Some(BaseRule::Patron)),
     }
 }
 
-fn lend(alloc: Global, target: &mut Record, loan: Loan) -> Result<(), AllocError>
-    ensures ok { OnOk result (target.new ≡ changed (change.Lent loan) target.old) }
+fn lend(alloc: Global, target: &mut Record, loan: Loan) -> Result<Option<BaseRule>, AllocError>
+    ensures rule { IfOk result (λ broken. broken ≡ broken_by (change.Lent loan) (Some target.old)) }
+    ensures ok { IfOk result (λ broken. broken ≡ None → target.new ≡ changed (change.Lent loan) target.old) }
     ensures err { OnErr result (target.new ≡ target.old) }
 {
     match target {
-        Record::Item(item) => set_loan(alloc, item, loan),
-        _ => Ok(()),
+        Record::Item(item) => {
+            if is_lent(item) {
+                return Ok(Some(BaseRule::Lent));
+            }
+            set_loan(alloc, item, loan)?;
+            Ok(None)
+        }
+        _ => Ok(Some(BaseRule::Item)),
     }
 }
 
-fn wait(alloc: Global, target: &mut Record, hold: Hold) -> Result<(), AllocError>
-    ensures ok { OnOk result (target.new ≡ changed (change.Awaited hold) target.old) }
+fn wait(alloc: Global, target: &mut Record, hold: Hold) -> Result<Option<BaseRule>, AllocError>
+    ensures rule { IfOk result (λ broken. broken ≡ broken_by (change.Awaited hold) (Some target.old)) }
+    ensures ok { IfOk result (λ broken. broken ≡ None → target.new ≡ changed (change.Awaited hold) target.old) }
     ensures err { OnErr result (target.new ≡ target.old) }
 {
     match target {
-        Record::Item(item) => put_hold(alloc, item, hold),
-        _ => Ok(()),
+        Record::Item(item) => {
+            if let Some(rule) = rule_of_hold(item, hold.patron) {
+                return Ok(Some(rule));
+            }
+            put_hold(alloc, item, hold)?;
+            Ok(None)
+        }
+        _ => Ok(Some(BaseRule::Item)),
+    }
+}
+
+/// Whether an item is on loan.
+fn is_lent(item: &Shared<Item>) -> bool
+    ensures { result ≡ is_some item.now.loan }
+{
+    item.get().loan.is_some()
+}
+
+/// The rule that a hold of a patron on an item breaks.
+fn rule_of_hold(item: &Shared<Item>, patron: Id) -> Option<BaseRule>
+    ensures { result ≡ broken_hold patron item.now }
+{
+    let item = item.get();
+    if is_loan_of(patron, item.loan()) {
+        Some(BaseRule::Borrower)
+    } else if item.holds.len() >= QUEUE_MAX {
+        Some(BaseRule::Queue)
+    } else {
+        None
     }
 }
 

@@ -1,30 +1,25 @@
 //! The table of closed fees, which are paid in full.
 
-ghost use Rattle.std.specs.Prelude.{◌≡◌, ◌++◌, ◌∷◌, [], List, ◌||◌, true, false, None, IsSome, IfErr, OnOk};
+ghost use Rattle.std.specs.Prelude.{◌≡◌, ◌++◌, ◌∷◌, [], List, ◌||◌, false, None, IsSome, IfOk, IfErr, OnOk};
 ghost use Rattle.std.specs.BTreeMap.{IsOrdered};
 ghost use Rattle.csv.specs.Records.{fields_of};
 ghost use Rattle.csv_table.specs.Rows.{rows_under};
 ghost use Rattle.circ_records.specs.Base.{broken_closed};
 ghost use Rattle.circ_records.specs.Keys.{key_cmp};
-ghost use Rattle.circ_records.specs.Read.{Stops, Tells, rows_in, to_closed, to_fees};
+ghost use Rattle.circ_records.specs.Read.{SaysClosed, Stops, Tells, rows_in, to_closed, to_fees};
 ghost use Rattle.circ_records.specs.Rules as Rules;
 ghost use Rattle.circ_records.specs.Tables.{Row, Rows, field, closed_header};
-ghost use Rattle.circ_records.specs.Told.{closed_told};
-ghost use Rattle.circ_records.specs.declared.record.Record.TheVariants as record_of;
 ghost use Rattle.circ_records.specs.declared.tables.TableName.TheVariants as table;
 
 use crate::fault::{BaseError, BaseRule};
-use crate::fees::{has_closed_values, has_texts};
+use crate::fees::{FeeRow, insert_fee, read_closed};
 use crate::key::Key;
-use crate::known::{has_fee, has_patron};
+use crate::known::has_patron;
 use crate::made_fees::is_taken;
-use crate::record::{Fee, FeeType, Record};
+use crate::record::Record;
 use crate::rows::{CLOSED, TableRows};
 use crate::tables::{TableName, Tables};
-use crate::texts::id_at;
 use csv::ByteRecord;
-use csv_table::column;
-use sip_reader::Amount;
 use std::alloc::{AllocError, Global};
 use std::collections::BTreeMap;
 
@@ -47,70 +42,51 @@ pub(crate) fn add_closed(
     let mut rows = TableRows::under(alloc, TableName::Closed, &CLOSED, &tables.closed)?;
     let mut row = ByteRecord::new(alloc);
     while rows.next(&mut row)? {
-        match broken_rule(first, records, &row) {
-            Some(rule) => return Err(rows.broken(rule)),
-            None => add_fee(alloc, &row, records)?,
+        let broken = add_fee(alloc, first, &row, records)?;
+        if let Some(rule) = broken {
+            return Err(rows.broken(rule));
         }
     }
     Ok(())
 }
 
-/// The first rule that a row breaks, behind those whose records these are.
+/// Puts the closed fee of a row among the records, or tells the first rule that the row breaks behind those whose records these
+/// are. A row that breaks one may leave its fee there.
 #[tactic(auto, unfolding(crate::specs::Rules::closed_rule))]
-fn broken_rule(
+fn add_fee(
+    alloc: Global,
     first: Option<u64>,
-    records: &BTreeMap<Key, Record>,
     row: &ByteRecord,
-) -> Option<BaseRule>
-    ensures rule { (r : Rows) → Tells r records.now → result ≡ Rules.closed_rule first r.patrons r.fees r.closed (fields_of row.now) }
-    ensures texts { result ≡ None → Rules.has_fee_texts (fields_of row.now) ≡ true }
-    ensures values { result ≡ None → Rules.has_closed_values (fields_of row.now) ≡ true }
+    records: &mut BTreeMap<Key, Record>,
+) -> Result<Option<BaseRule>, AllocError>
+    ensures rule { IfOk result (λ broken. (r : Rows) → Tells r records.old → broken ≡ Rules.closed_rule first r.patrons r.fees r.closed (fields_of row.now)) }
+    ensures told { IfOk result (λ broken. broken ≡ None → (r : Rows) (before : List Row) → Tells (to_closed r before) records.old → (Rules.has_row 0 (field 0 (fields_of row.now)) r.fees || Rules.has_row 0 (field 0 (fields_of row.now)) before) ≡ false → Tells (to_closed r (before ++ fields_of row.now ∷ [])) records.new) }
+    ensures rising { OnOk result (IsOrdered key_cmp records.old → IsOrdered key_cmp records.new) }
 {
-    if !has_texts(row) {
-        Some(BaseRule::Text)
-    } else if !has_closed_values(row) {
-        Some(BaseRule::Value)
-    } else if has_fee(records, id_at(row, 0)) {
-        Some(BaseRule::Double)
-    } else if !has_patron(records, id_at(row, 1)) {
-        Some(BaseRule::Patron)
-    } else if is_taken(first, column(row, 0)) {
-        Some(BaseRule::Number)
-    } else {
-        None
+    match read_closed(row) {
+        Ok(said) => put_closed(alloc, first, &said, records),
+        Err(rule) => Ok(Some(rule)),
     }
 }
 
-/// Puts the closed fee of a row among the records.
-#[tactic(auto, unfolding(crate::specs::Rules::has_fee_texts))]
-fn add_fee(
+/// Puts a closed fee among the records, or tells the first rule that it breaks there.
+fn put_closed(
     alloc: Global,
-    row: &ByteRecord,
+    first: Option<u64>,
+    said: &FeeRow,
     records: &mut BTreeMap<Key, Record>,
-) -> Result<(), AllocError>
-    requires texts { Rules.has_fee_texts (fields_of row.now) ≡ true }
-    requires values { Rules.has_closed_values (fields_of row.now) ≡ true }
-    ensures told { OnOk result ((r : Rows) (before : List Row) → Tells (to_closed r before) records.old → (Rules.has_row 0 (field 0 (fields_of row.now)) r.fees || Rules.has_row 0 (field 0 (fields_of row.now)) before) ≡ false → Tells (to_closed r (before ++ fields_of row.now ∷ [])) records.new) }
+) -> Result<Option<BaseRule>, AllocError>
+    ensures rule { IfOk result (λ broken. (r : Rows) (row : Row) → SaysClosed said.now row → Tells r records.old → broken ≡ Rules.closed_rule first r.patrons r.fees r.closed row) }
+    ensures told { IfOk result (λ broken. broken ≡ None → (r : Rows) (before : List Row) (row : Row) → SaysClosed said.now row → Tells (to_closed r before) records.old → (Rules.has_row 0 (field 0 row) r.fees || Rules.has_row 0 (field 0 row) before) ≡ false → Tells (to_closed r (before ++ row ∷ [])) records.new) }
     ensures rising { OnOk result (IsOrdered key_cmp records.new) }
 {
-    let fee = id_at(row, 0);
-    let told = Record::fee(alloc, fee_of(row))?;
-    records.insert(Key::Fee(fee), told)?;
-    Ok(())
-}
-
-/// The closed fee of a row: all of it is paid.
-#[tactic(auto, unfolding(crate::specs::Rules::has_fee_texts, crate::specs::Rules::has_closed_values))]
-fn fee_of(row: &ByteRecord) -> Fee
-    requires texts { Rules.has_fee_texts (fields_of row.now) ≡ true }
-    requires values { Rules.has_closed_values (fields_of row.now) ≡ true }
-    ensures { record_of.Fee result ≡ closed_told (fields_of row.now) }
-{
-    let amount = Amount::read(column(row, 3)).unwrap();
-    Fee {
-        patron: id_at(row, 1),
-        kind: FeeType::of_code(column(row, 2)).unwrap(),
-        amount,
-        paid: amount,
+    if insert_fee(alloc, said, records)? {
+        Ok(Some(BaseRule::Double))
+    } else if !has_patron(records, said.fee.patron) {
+        Ok(Some(BaseRule::Patron))
+    } else if is_taken(first, said.id.as_bytes()) {
+        Ok(Some(BaseRule::Number))
+    } else {
+        Ok(None)
     }
 }

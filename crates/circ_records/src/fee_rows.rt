@@ -74,7 +74,7 @@ fn open_alone(fee: &Fee) -> Option<Fee>
 }
 
 /// Whether something is still to be paid.
-fn is_open(fee: &Fee) -> bool
+pub(crate) fn is_open(fee: &Fee) -> bool
     ensures { result ≡ Written.is_open fee.now }
 {
     fee.paid.hundredths() < fee.amount.hundredths()

@@ -1,29 +1,31 @@
 //! The table of open fees, and what it shares with that of closed ones.
 
-ghost use Rattle.std.specs.Prelude.{◌≡◌, ◌++◌, ◌∷◌, [], List, true, false, None, IsSome, IfErr, OnOk, IsTrue};
-ghost use Rattle.std.specs.BTreeMap.{IsOrdered};
+ghost use Rattle.std.specs.Prelude.{◌≡◌, ◌++◌, ◌∷◌, [], List, Option, true, false, Some, None, IsSome, is_some, not, cond, nat_lt, if◌then◌else◌, IfOk, IfErr, OnOk};
+ghost use Rattle.std.specs.BTreeMap.{IsOrdered, get};
+ghost use Rattle.std.specs.Ordering.{eq_by_cmp};
 ghost use Rattle.csv.specs.Records.{fields_of};
 ghost use Rattle.csv_table.specs.Rows.{rows_under};
-ghost use Rattle.sip_reader.specs.Texts.{is_id};
 ghost use Rattle.circ_records.specs.Base.{broken_fees};
 ghost use Rattle.circ_records.specs.Keys.{key_cmp};
-ghost use Rattle.circ_records.specs.Read.{Stops, Tells, rows_in, to_fees, to_loans};
+ghost use Rattle.circ_records.specs.MadeFees as MadeFees;
+ghost use Rattle.circ_records.specs.Read.{SaysClosed, SaysFee, Stops, Tells, rows_in, to_fees, to_loans};
 ghost use Rattle.circ_records.specs.Rules as Rules;
 ghost use Rattle.circ_records.specs.Tables.{Row, Rows, field, fees_header};
-ghost use Rattle.circ_records.specs.Told.{fee_told};
-ghost use Rattle.circ_records.specs.Values as Values;
+ghost use Rattle.circ_records.specs.declared.fault.BaseRule.{BaseRule};
+ghost use Rattle.circ_records.specs.declared.fault.BaseRule.TheVariants as rule;
+ghost use Rattle.circ_records.specs.declared.key.Key.{Key};
+ghost use Rattle.circ_records.specs.declared.key.Key.TheVariants as key;
 ghost use Rattle.circ_records.specs.declared.record.Record.TheVariants as record_of;
 ghost use Rattle.circ_records.specs.declared.tables.TableName.TheVariants as table;
 
 use crate::changes::{Change, change_at};
 use crate::fault::{BaseError, BaseRule};
+use crate::fee_rows::is_open;
 use crate::key::Key;
-use crate::known::{has_fee, has_patron};
 use crate::made_fees::is_taken;
 use crate::record::{Fee, FeeType, Record};
 use crate::rows::{FEES, TableRows};
 use crate::tables::{TableName, Tables};
-use crate::texts::id_at;
 use csv::ByteRecord;
 use csv_table::column;
 use sip_reader::{Amount, Id};
@@ -49,115 +51,139 @@ pub(crate) fn add_fees(
     let mut rows = TableRows::under(alloc, TableName::Fees, &FEES, &tables.fees)?;
     let mut row = ByteRecord::new(alloc);
     while rows.next(&mut row)? {
-        match broken_rule(first, records, &row) {
-            Some(rule) => return Err(rows.broken(rule)),
-            None => add_fee(alloc, &row, records)?,
+        let broken = add_fee(alloc, first, &row, records)?;
+        if let Some(rule) = broken {
+            return Err(rows.broken(rule));
         }
     }
     Ok(())
 }
 
-/// The first rule that a row breaks, behind those whose records these are.
+/// Puts the open fee of a row among the records and into its patron's list, or tells the first rule that the row breaks behind
+/// those whose records these are. A row that breaks one may leave its fee there.
 #[tactic(auto, unfolding(crate::specs::Rules::fee_rule))]
-fn broken_rule(
+fn add_fee(
+    alloc: Global,
     first: Option<u64>,
-    records: &BTreeMap<Key, Record>,
     row: &ByteRecord,
-) -> Option<BaseRule>
-    ensures rule { (r : Rows) → Tells r records.now → r.closed ≡ [] → result ≡ Rules.fee_rule first r.patrons r.fees (fields_of row.now) }
-    ensures texts { result ≡ None → Rules.has_fee_texts (fields_of row.now) ≡ true }
-    ensures values { result ≡ None → Rules.has_fee_values (fields_of row.now) ≡ true }
+    records: &mut BTreeMap<Key, Record>,
+) -> Result<Option<BaseRule>, AllocError>
+    ensures rule { IfOk result (λ broken. (r : Rows) → Tells r records.old → r.closed ≡ [] → broken ≡ Rules.fee_rule first r.patrons r.fees (fields_of row.now)) }
+    ensures told { IfOk result (λ broken. broken ≡ None → (r : Rows) (before : List Row) → Tells (to_fees r before) records.old → Rules.has_row 0 (field 0 (fields_of row.now)) before ≡ false → Tells (to_fees r (before ++ fields_of row.now ∷ [])) records.new) }
+    ensures rising { OnOk result (IsOrdered key_cmp records.old → IsOrdered key_cmp records.new) }
 {
-    if !has_texts(row) {
-        Some(BaseRule::Text)
-    } else if !has_values(row) {
-        Some(BaseRule::Value)
-    } else if has_fee(records, id_at(row, 0)) {
-        Some(BaseRule::Double)
-    } else if !has_patron(records, id_at(row, 1)) {
-        Some(BaseRule::Patron)
-    } else if !is_owing(row) {
+    match read_fee(row) {
+        Ok(said) => put_open(alloc, first, &said, records),
+        Err(rule) => Ok(Some(rule)),
+    }
+}
+
+/// Puts an open fee among the records and into its patron's list, or tells the first rule that it breaks there.
+fn put_open(
+    alloc: Global,
+    first: Option<u64>,
+    said: &FeeRow,
+    records: &mut BTreeMap<Key, Record>,
+) -> Result<Option<BaseRule>, AllocError>
+    ensures rule { IfOk result (λ broken. (r : Rows) (row : Row) → SaysFee said.now row → Tells r records.old → r.closed ≡ [] → broken ≡ Rules.fee_rule first r.patrons r.fees row) }
+    ensures told { IfOk result (λ broken. broken ≡ None → (r : Rows) (before : List Row) (row : Row) → SaysFee said.now row → Tells (to_fees r before) records.old → Rules.has_row 0 (field 0 row) before ≡ false → Tells (to_fees r (before ++ row ∷ [])) records.new) }
+    ensures rising { OnOk result (IsOrdered key_cmp records.new) }
+{
+    if insert_fee(alloc, said, records)? {
+        return Ok(Some(BaseRule::Double));
+    }
+    let key = Key::Patron(said.fee.patron);
+    let broken = change_at(alloc, records, key, Change::Owes(said.id))?;
+    if broken.is_some() {
+        return Ok(broken);
+    }
+    Ok(rule_of_fee(first, said))
+}
+
+/// Puts a fee among the records, and says whether there was one with its id.
+pub(crate) fn insert_fee(
+    alloc: Global,
+    said: &FeeRow,
+    records: &mut BTreeMap<Key, Record>,
+) -> Result<bool, AllocError>
+    ensures double { IfOk result (λ double. double ≡ is_some (get key_cmp records.old (key.Fee said.now.id))) }
+    ensures put { OnOk result ((q : Key) → get key_cmp records.new q ≡ cond (eq_by_cmp key_cmp (key.Fee said.now.id) q) (Some (record_of.Fee said.now.fee)) (get key_cmp records.old q)) }
+    ensures rising { OnOk result (IsOrdered key_cmp records.new) }
+{
+    let told = Record::fee(alloc, said.fee)?;
+    let before = records.insert(Key::Fee(said.id), told)?;
+    Ok(before.is_some())
+}
+
+/// The rule that an open fee breaks by itself: something of it is still to be paid, and no line makes one of its id.
+fn rule_of_fee(first: Option<u64>, said: &FeeRow) -> Option<BaseRule>
+    ensures { result ≡ (if not (nat_lt said.now.fee.paid said.now.fee.amount) then Some rule.Paid else if MadeFees.is_taken first said.now.id then Some rule.Number else None) }
+{
+    if !is_open(&said.fee) {
         Some(BaseRule::Paid)
-    } else if is_taken(first, column(row, 0)) {
+    } else if is_taken(first, said.id.as_bytes()) {
         Some(BaseRule::Number)
     } else {
         None
     }
 }
 
-#[tactic(auto, unfolding(crate::specs::Rules::has_fee_texts))]
-pub(crate) fn has_texts(row: &ByteRecord) -> bool
-    ensures value { result ≡ Rules.has_fee_texts (fields_of row.now) }
-    ensures id { IsTrue result → is_id (field 0 (fields_of row.now)) ≡ true }
-    ensures patron { IsTrue result → is_id (field 1 (fields_of row.now)) ≡ true }
-{
-    Id::new(column(row, 0)).is_some() && Id::new(column(row, 1)).is_some()
+/// What a row says: a fee and its id.
+#[derive(Clone, Copy)]
+pub(crate) struct FeeRow {
+    pub(crate) id: Id,
+    pub(crate) fee: Fee,
 }
 
-/// Whether a row has a fee type and an amount.
-#[tactic(auto, unfolding(crate::specs::Rules::has_closed_values))]
-pub(crate) fn has_closed_values(row: &ByteRecord) -> bool
-    ensures { result ≡ Rules.has_closed_values (fields_of row.now) }
-{
-    FeeType::of_code(column(row, 2)).is_some() && Amount::read(column(row, 3)).is_some()
-}
-
+/// What a row of open fees says, or the rule that it breaks by itself.
 #[tactic(auto, unfolding(crate::specs::Rules::has_fee_values))]
-fn has_values(row: &ByteRecord) -> bool
-    ensures { result ≡ Rules.has_fee_values (fields_of row.now) }
+fn read_fee(row: &ByteRecord) -> Result<FeeRow, BaseRule>
+    ensures ok { IfOk result (λ said. SaysFee said (fields_of row.now)) }
+    ensures err { IfErr result (λ e. (rest : Option BaseRule) → (if not (Rules.has_fee_texts (fields_of row.now)) then Some rule.Text else if not (Rules.has_fee_values (fields_of row.now)) then Some rule.Value else rest) ≡ Some e) }
 {
-    has_closed_values(row) && Amount::read(column(row, 4)).is_some()
+    let closed = match read_closed(row) {
+        Ok(closed) => closed,
+        Err(rule) => return Err(rule),
+    };
+    let Some(paid) = Amount::read(column(row, 4)) else {
+        return Err(BaseRule::Value);
+    };
+    Ok(FeeRow {
+        id: closed.id,
+        fee: Fee {
+            patron: closed.fee.patron,
+            kind: closed.fee.kind,
+            amount: closed.fee.amount,
+            paid,
+        },
+    })
 }
 
-/// Whether what is paid is below the amount.
-#[tactic(auto, unfolding(crate::specs::Rules::is_owing))]
-fn is_owing(row: &ByteRecord) -> bool
-    ensures { result ≡ Rules.is_owing (fields_of row.now) }
+/// What a row of closed fees says, or the rule that it breaks by itself. All of such a fee is paid.
+#[tactic(auto, unfolding(crate::specs::Rules::has_fee_texts, crate::specs::Rules::has_closed_values))]
+pub(crate) fn read_closed(row: &ByteRecord) -> Result<FeeRow, BaseRule>
+    ensures ok { IfOk result (λ said. SaysClosed said (fields_of row.now)) }
+    ensures err { IfErr result (λ e. (rest : Option BaseRule) → (if not (Rules.has_fee_texts (fields_of row.now)) then Some rule.Text else if not (Rules.has_closed_values (fields_of row.now)) then Some rule.Value else rest) ≡ Some e) }
 {
-    hundredths(column(row, 4)) < hundredths(column(row, 3))
-}
-
-/// The hundredths of a text that is an amount.
-fn hundredths(text: &[u8]) -> u64
-    ensures { result ≡ Values.hundredths text.now }
-{
-    match Amount::read(text) {
-        Some(amount) => amount.hundredths(),
-        None => 0,
-    }
-}
-
-/// Puts the open fee of a row among the records and into its patron's list.
-#[tactic(auto, unfolding(crate::specs::Rules::has_fee_texts))]
-fn add_fee(
-    alloc: Global,
-    row: &ByteRecord,
-    records: &mut BTreeMap<Key, Record>,
-) -> Result<(), AllocError>
-    requires texts { Rules.has_fee_texts (fields_of row.now) ≡ true }
-    requires values { Rules.has_fee_values (fields_of row.now) ≡ true }
-    ensures told { OnOk result ((r : Rows) (before : List Row) → Tells (to_fees r before) records.old → Rules.has_row 0 (field 0 (fields_of row.now)) before ≡ false → Tells (to_fees r (before ++ fields_of row.now ∷ [])) records.new) }
-    ensures rising { OnOk result (IsOrdered key_cmp records.new) }
-{
-    let fee = id_at(row, 0);
-    let patron = id_at(row, 1);
-    let told = Record::fee(alloc, fee_of(row))?;
-    records.insert(Key::Fee(fee), told)?;
-    change_at(alloc, records, Key::Patron(patron), Change::Owes(fee))?;
-    Ok(())
-}
-
-/// The open fee of a row.
-#[tactic(auto, unfolding(crate::specs::Rules::has_fee_texts, crate::specs::Rules::has_fee_values, crate::specs::Rules::has_closed_values))]
-fn fee_of(row: &ByteRecord) -> Fee
-    requires texts { Rules.has_fee_texts (fields_of row.now) ≡ true }
-    requires values { Rules.has_fee_values (fields_of row.now) ≡ true }
-    ensures { record_of.Fee result ≡ fee_told (fields_of row.now) }
-{
-    Fee {
-        patron: id_at(row, 1),
-        kind: FeeType::of_code(column(row, 2)).unwrap(),
-        amount: Amount::read(column(row, 3)).unwrap(),
-        paid: Amount::read(column(row, 4)).unwrap(),
-    }
+    let Some(id) = Id::new(column(row, 0)) else {
+        return Err(BaseRule::Text);
+    };
+    let Some(patron) = Id::new(column(row, 1)) else {
+        return Err(BaseRule::Text);
+    };
+    let Some(kind) = FeeType::of_code(column(row, 2)) else {
+        return Err(BaseRule::Value);
+    };
+    let Some(amount) = Amount::read(column(row, 3)) else {
+        return Err(BaseRule::Value);
+    };
+    Ok(FeeRow {
+        id,
+        fee: Fee {
+            patron,
+            kind,
+            amount,
+            paid: amount,
+        },
+    })
 }

@@ -1,6 +1,6 @@
 //! The table of items.
 
-ghost use Rattle.std.specs.Prelude.{◌≡◌, ◌++◌, ◌∷◌, [], List, true, false, None, is_some, IsSome, IfSome, IfOk, IfErr, OnOk};
+ghost use Rattle.std.specs.Prelude.{◌≡◌, ◌++◌, ◌∷◌, [], List, true, false, Some, None, is_some, IsSome, IfSome, IfOk, IfErr, OnOk};
 ghost use Rattle.csv.specs.Records.{fields_of};
 ghost use Rattle.csv_table.specs.Rows.{rows_under};
 ghost use Rattle.circ_policy.specs.Medias.{media_of_code};
@@ -65,13 +65,14 @@ fn put_item(
     let Some(id) = id_of(row) else {
         return Ok(Some(BaseRule::Text));
     };
-    if !is_lent_by(policy, row) {
-        if is_double(records, id) {
-            Ok(Some(BaseRule::Double))
+    let Some(media) = media_of(policy, row) else {
+        return Ok(Some(if is_double(records, id) {
+            BaseRule::Double
         } else {
-            Ok(Some(BaseRule::Media))
-        }
-    } else if add_item(alloc, id, row, records)? {
+            BaseRule::Media
+        }));
+    };
+    if add_item(alloc, id, media, row, records)? {
         Ok(Some(BaseRule::Double))
     } else {
         Ok(None)
@@ -98,15 +99,19 @@ fn id_of(row: &ByteRecord) -> Option<Id>
     }
 }
 
-/// Whether the policy has the media type of a row.
+/// The media type of a row, where the policy has it.
 #[tactic(auto, unfolding(crate::specs::Rules::has_media))]
-fn is_lent_by(policy: &Policy, row: &ByteRecord) -> bool
-    ensures value { result ≡ Rules.has_media policy.now (field 2 (fields_of row.now)) }
-    ensures known { result ≡ true → IsSome (media_of_code (field 2 (fields_of row.now))) }
+fn media_of(policy: &Policy, row: &ByteRecord) -> Option<MediaType>
+    ensures value { is_some result ≡ Rules.has_media policy.now (field 2 (fields_of row.now)) }
+    ensures media { IfSome result (λ media. Some media ≡ media_of_code (field 2 (fields_of row.now))) }
 {
-    match MediaType::of_code(column(row, 2)) {
-        Some(media) => policy.media(media).is_some(),
-        None => false,
+    let Some(media) = MediaType::of_code(column(row, 2)) else {
+        return None;
+    };
+    if policy.media(media).is_some() {
+        Some(media)
+    } else {
+        None
     }
 }
 
@@ -121,30 +126,31 @@ fn is_double(records: &Gathered, id: Id) -> bool
 fn add_item(
     alloc: Global,
     id: Id,
+    media: MediaType,
     row: &ByteRecord,
     records: &mut Gathered,
 ) -> Result<bool, AllocError>
     requires id { id ≡ field 0 (fields_of row.now) }
     requires texts { Rules.has_item_texts (fields_of row.now) ≡ true }
-    requires media { IsSome (media_of_code (field 2 (fields_of row.now))) }
+    requires media { Some media ≡ media_of_code (field 2 (fields_of row.now)) }
     ensures double { IfOk result (λ double. (r : Rows) → AreTold r records.old → double ≡ Rules.has_row 0 (field 0 (fields_of row.now)) r.items) }
     ensures told { OnOk result ((r : Rows) (before : List Row) → AreTold (to_items r before) records.old → Rules.has_row 0 (field 0 (fields_of row.now)) before ≡ false → AreTold (to_items r (before ++ fields_of row.now ∷ [])) records.new) }
 {
-    let item = item_of(alloc, row)?;
+    let item = item_of(alloc, media, row)?;
     let told = Record::item(alloc, item)?;
     records.put(alloc, Key::Item(id), told)
 }
 
 /// The item of a row, which nobody has and nobody waits for.
 #[tactic(auto, unfolding(crate::specs::Rules::has_item_texts))]
-fn item_of(alloc: Global, row: &ByteRecord) -> Result<Item, AllocError>
+fn item_of(alloc: Global, media: MediaType, row: &ByteRecord) -> Result<Item, AllocError>
     requires texts { Rules.has_item_texts (fields_of row.now) ≡ true }
-    requires media { IsSome (media_of_code (field 2 (fields_of row.now))) }
+    requires media { Some media ≡ media_of_code (field 2 (fields_of row.now)) }
     ensures { IfOk result (λ item. record_of.Item item ≡ item_told no_rows (field 0 (fields_of row.now)) (fields_of row.now)) }
 {
     Ok(Item {
         title: Text::new(alloc, column(row, 1))?,
-        media: MediaType::of_code(column(row, 2)).unwrap(),
+        media,
         location: Text::new(alloc, column(row, 3))?,
         properties: Text::new(alloc, column(row, 4))?,
         loan: None,

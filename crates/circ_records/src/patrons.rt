@@ -1,9 +1,8 @@
 //! The table of patrons.
 
-ghost use Rattle.std.specs.Prelude.{◌≡◌, ◌++◌, ◌∷◌, [], List, true, false, None, is_some, IfSome, IfOk, IsSome, IfErr, OnOk, IsTrue};
+ghost use Rattle.std.specs.Prelude.{◌≡◌, ◌++◌, ◌∷◌, [], List, true, false, Some, None, is_some, IfSome, IfOk, IsSome, IfErr, OnOk};
 ghost use Rattle.csv.specs.Records.{fields_of};
 ghost use Rattle.csv_table.specs.Rows.{rows_under};
-ghost use Rattle.sip_reader.specs.Texts.{is_id};
 ghost use Rattle.circ_records.specs.Base.{broken_patrons};
 ghost use Rattle.circ_records.specs.Read.{AreTold, Stops, no_rows, rows_in, to_patrons};
 ghost use Rattle.circ_records.specs.Rules as Rules;
@@ -20,7 +19,7 @@ use crate::key::Key;
 use crate::record::{Patron, Record};
 use crate::rows::{PATRONS, TableRows};
 use crate::tables::{TableName, Tables};
-use crate::texts::{id_at, is_text};
+use crate::texts::is_text;
 use crate::values::flag_of;
 use circ_policy::Policy;
 use csv::ByteRecord;
@@ -67,15 +66,17 @@ fn put_patron(
     let Some(id) = id_of(row) else {
         return Ok(Some(BaseRule::Text));
     };
-    if flag_of(column(row, 3)).is_none() {
-        Ok(Some(BaseRule::Value))
-    } else if !has_class(policy, column(row, 2)) {
-        if is_double(records, id) {
-            Ok(Some(BaseRule::Double))
+    let Some(blocked) = flag_of(column(row, 3)) else {
+        return Ok(Some(BaseRule::Value));
+    };
+    let Some(class) = class_of(policy, column(row, 2)) else {
+        return Ok(Some(if is_double(records, id) {
+            BaseRule::Double
         } else {
-            Ok(Some(BaseRule::Class))
-        }
-    } else if add_patron(alloc, id, row, records)? {
+            BaseRule::Class
+        }));
+    };
+    if add_patron(alloc, id, &class, blocked, row, records)? {
         Ok(Some(BaseRule::Double))
     } else {
         Ok(None)
@@ -98,15 +99,19 @@ fn id_of(row: &ByteRecord) -> Option<Id>
     }
 }
 
-/// Whether the policy has a class of this name.
+/// The class of this name, where the policy has one.
 #[tactic(auto, unfolding(crate::specs::Rules::has_class))]
-fn has_class(policy: &Policy, name: &[u8]) -> bool
-    ensures value { result ≡ Rules.has_class policy.now name.now }
-    ensures id { IsTrue result → is_id name.now ≡ true }
+fn class_of(policy: &Policy, name: &[u8]) -> Option<Id>
+    ensures value { is_some result ≡ Rules.has_class policy.now name.now }
+    ensures name { IfSome result (λ class. class ≡ name.now) }
 {
-    match Id::new(name) {
-        Some(name) => policy.class(&name).is_some(),
-        None => false,
+    let Some(class) = Id::new(name) else {
+        return None;
+    };
+    if policy.class(&class).is_some() {
+        Some(class)
+    } else {
+        None
     }
 }
 
@@ -121,33 +126,40 @@ fn is_double(records: &Gathered, id: Id) -> bool
 fn add_patron(
     alloc: Global,
     id: Id,
+    class: &Id,
+    blocked: bool,
     row: &ByteRecord,
     records: &mut Gathered,
 ) -> Result<bool, AllocError>
     requires id { id ≡ field 0 (fields_of row.now) }
     requires texts { Rules.has_patron_texts (fields_of row.now) ≡ true }
-    requires value { is_some (flag_of (field 3 (fields_of row.now))) ≡ true }
-    requires class { is_id (field 2 (fields_of row.now)) ≡ true }
+    requires class { class.now ≡ field 2 (fields_of row.now) }
+    requires blocked { Some blocked ≡ flag_of (field 3 (fields_of row.now)) }
     ensures double { IfOk result (λ double. (r : Rows) → AreTold r records.old → double ≡ Rules.has_row 0 (field 0 (fields_of row.now)) r.patrons) }
     ensures told { OnOk result ((r : Rows) (before : List Row) → AreTold (to_patrons r before) records.old → Rules.has_row 0 (field 0 (fields_of row.now)) before ≡ false → AreTold (to_patrons r (before ++ fields_of row.now ∷ [])) records.new) }
 {
-    let patron = patron_of(alloc, row)?;
+    let patron = patron_of(alloc, class, blocked, row)?;
     let told = Record::patron(alloc, patron)?;
     records.put(alloc, Key::Patron(id), told)
 }
 
 /// The patron of a row, who has nothing and owes nothing.
 #[tactic(auto, unfolding(crate::specs::Rules::has_patron_texts))]
-fn patron_of(alloc: Global, row: &ByteRecord) -> Result<Patron, AllocError>
+fn patron_of(
+    alloc: Global,
+    class: &Id,
+    blocked: bool,
+    row: &ByteRecord,
+) -> Result<Patron, AllocError>
     requires texts { Rules.has_patron_texts (fields_of row.now) ≡ true }
-    requires value { is_some (flag_of (field 3 (fields_of row.now))) ≡ true }
-    requires class { is_id (field 2 (fields_of row.now)) ≡ true }
+    requires class { class.now ≡ field 2 (fields_of row.now) }
+    requires blocked { Some blocked ≡ flag_of (field 3 (fields_of row.now)) }
     ensures { IfOk result (λ p. record_of.Patron p ≡ patron_told no_rows (field 0 (fields_of row.now)) (fields_of row.now)) }
 {
     Ok(Patron {
         name: Text::new(alloc, column(row, 1))?,
-        class: KeptId::new(alloc, &id_at(row, 2))?,
-        blocked: flag_of(column(row, 3)).unwrap(),
+        class: KeptId::new(alloc, class)?,
+        blocked,
         loans: Ids::new(),
         fees: Ids::new(),
     })

@@ -1,15 +1,10 @@
-//! The texts and ids of rows.
+//! The texts of rows.
 
-ghost use Rattle.std.specs.Prelude.{◌≡◌, true};
+ghost use Rattle.std.specs.Prelude.{◌≡◌};
 ghost use Rattle.std.specs.List.{list_any};
-ghost use Rattle.csv.specs.Records.{fields_of};
-ghost use Rattle.sip_reader.specs.Texts.{is_id};
 ghost use Rattle.sip_reader.specs.Texts as Texts;
-ghost use Rattle.circ_records.specs.Tables.{field};
 
-use csv::ByteRecord;
-use csv_table::column;
-use sip_reader::{Id, TEXT_MAX};
+use sip_reader::TEXT_MAX;
 
 /// Whether bytes are a text: at most 1,024, without a bar, CR or LF.
 #[tactic(auto, unfolding(sip_reader::specs::Texts::is_text))]
@@ -26,17 +21,13 @@ fn has_barred(bytes: &[u8]) -> bool
     bytes.iter().any(|b| is_barred(*b))
 }
 
-/// Whether a byte is a bar, CR or LF.
+/// Whether a byte is a bar, CR or LF. Most are behind both ends of a line, and then one look more decides.
 fn is_barred(b: u8) -> bool
     ensures { result ≡ Texts.is_barred b }
 {
-    b == b'|' || b == b'\r' || b == b'\n'
-}
-
-/// The id in a column.
-pub(crate) fn id_at(row: &ByteRecord, i: usize) -> Id
-    requires { is_id (field i (fields_of row.now)) ≡ true }
-    ensures { result ≡ field i (fields_of row.now) }
-{
-    Id::new(column(row, i)).unwrap()
+    if b > b'\r' {
+        b == b'|'
+    } else {
+        b == b'\r' || b == b'\n'
+    }
 }

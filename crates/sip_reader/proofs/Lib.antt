@@ -1,7 +1,9 @@
 pub mod AmountTexts
 pub mod Barless
+pub mod Bits
 pub mod Blocks
 pub mod Clean
+pub mod Covers
 pub mod Digits
 pub mod FeeIds
 pub mod Numbers

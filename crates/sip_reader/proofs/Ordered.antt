@@ -136,6 +136,25 @@ pub padded_order : (max m n : ℕ) (xs ys : List ℕ) → IsPadded max m xs → 
 padded_order max m n xs ys g h =
     fronts m n (max - m) (max - n) xs ys (omega (arith, g.within, g.whole)) (omega (arith, h.within, h.whole)) (g.whole ∙ sym h.whole) g.rest h.rest
 
+-- numbers that differ decide before anything else
+pub apart : (x y : ℕ) (r : Ordering) → (x ≡ y → ⊥) → ordering_then (nat_cmp x y) r ≡ nat_cmp x y
+apart x y r n = by (nat_cmp x y) (ranks x y)
+  where
+    by : (o : Ordering) → MatchOrdering o (x < y) (x ≡ y) (y < x) → ordering_then o r ≡ o
+    by Less l = refl
+    by Equal l = absurd (n l)
+    by Greater l = refl
+
+-- fronts go as their lists do, where these differ
+pub fronts_apart : (m n : ℕ) (xs ys : List ℕ) (r : Ordering) → IsPadded 64 m xs → IsPadded 64 n ys → (r ≡ Equal → ⊥) → r ≡ slice_cmp nat_cmp xs ys
+    → r ≡ slice_cmp nat_cmp (take m xs) (take n ys)
+fronts_apart m n xs ys r g h differ e = first r differ ∙ ap (λ o. ordering_then o (nat_cmp m n)) e ∙ sym (padded_order 64 m n xs ys g h)
+  where
+    first : (o : Ordering) → (o ≡ Equal → ⊥) → o ≡ ordering_then o (nat_cmp m n)
+    first Less d = refl
+    first Equal d = absurd (d refl)
+    first Greater d = refl
+
 -- ---- eight bytes from a place on
 -- n bytes from i + k on, as they are read
 abbrev reads : List ℕ → ℕ → ℕ → ℕ → List ℕ
@@ -199,20 +218,12 @@ module _ (i : ℕ) (xs ys : List ℕ) (e : length xs ≡ length ys) (g : Small x
   whole : (zs : List ℕ) → take i zs ++ (word i zs ++ drop 8 (drop i zs)) ≡ zs
   whole zs = ap (λ r. take i zs ++ r) (take-append-drop 8 (drop i zs)) ∙ take-append-drop i zs
 
-  apart : (x y : ℕ) (r : Ordering) → MatchOrdering (nat_cmp x y) (x < y) (x ≡ y) (y < x) → (x ≡ y → ⊥) → ordering_then (nat_cmp x y) r ≡ nat_cmp x y
-  apart x y r m n = by (nat_cmp x y) m
-    where
-      by : (o : Ordering) → MatchOrdering o (x < y) (x ≡ y) (y < x) → ordering_then o r ≡ o
-      by Less l = refl
-      by Equal l = absurd (n l)
-      by Greater l = refl
-
   -- the words differ
   pub decided : (x y : ℕ) → x ≡ big_endian 0 (word i xs) → y ≡ big_endian 0 (word i ys) → (x ≡ y → ⊥)
       → slice_cmp nat_cmp (take i xs) (take i ys) ≡ Equal → nat_cmp x y ≡ slice_cmp nat_cmp xs ys
   decided x y a b n q =
       let behind = slice_cmp nat_cmp (drop 8 (drop i xs)) (drop 8 (drop i ys)) in
-      sym (apart x y behind (ranks x y) n)
+      sym (apart x y behind n)
       ∙ ap (λ z. ordering_then (nat_cmp z y) behind) a
       ∙ ap (λ z. ordering_then (nat_cmp (big_endian 0 (word i xs)) z) behind) b
       ∙ sym (front (drop 8 (drop i xs)) (drop 8 (drop i ys)) q)

@@ -1,4 +1,6 @@
 -- Devices of proofs: how things are kept or counted. No promise is read here.
+pub mod Bars
+pub mod Digits
 pub mod Held
 pub mod Padding
 pub mod Plain

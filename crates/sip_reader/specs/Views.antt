@@ -1,5 +1,5 @@
 -- The texts to which the fields of a message refer, as they stand there.
-use Rattle.std.specs.Prelude.{List, ℕ, ◌||◌, ◌==◌, length}
+use Rattle.std.specs.Prelude.{List, [], ◌∷◌, ℕ, ◌||◌, ◌==◌, length}
 use Rattle.std.specs.Option.{option_copied}
 use Rattle.sip_reader.specs.Bytes as byte
 use Rattle.sip_reader.specs.Fields.{Texts, or_else, text_after}
@@ -34,3 +34,8 @@ with_piece t p = record {
   properties = or_else t.properties (text_after byte.C byte.H p);
   short = t.short || (length p == 1);
 }
+
+-- the same with these pieces at the end, one after the other
+abbrev pub with_pieces : Texts → List (List ℕ) → Texts
+with_pieces t [] = t
+with_pieces t (p ∷ ps) = with_pieces (with_piece t p) ps

@@ -3,7 +3,6 @@
 ghost use Rattle.std.specs.Prelude.{◌≡◌, ◌≤◌, [], IfOk, true, false, length, unwrap_or, slice_range};
 ghost use Rattle.std.specs.Option.{is_none, option_and_then, option_copied};
 ghost use Rattle.sip_reader.specs.Amounts.{amount_of};
-ghost use Rattle.sip_reader.specs.Dates.{given_day};
 ghost use Rattle.sip_reader.specs.Fits.{Fits};
 ghost use Rattle.sip_reader.specs.Kinds.{layout_of};
 ghost use Rattle.sip_reader.specs.Reading.{act_of, fixed_len, given_id, mode_of, says_yes};
@@ -13,6 +12,7 @@ ghost use Rattle.sip_reader.specs.declared.request.Kind.TheVariants as kinds;
 
 use crate::checks::amount_in;
 use crate::fields::Fields;
+use crate::stamp::day_in;
 use crate::{
     Act, Amount, BlockPatron, Checkin, Checkout, Day, FeePaid, HoldMode, HoldRequest, ItemStatus,
     KeptId, Kind, PatronEnable, Renew, RenewAll, Stamp, Text,
@@ -184,16 +184,6 @@ fn given_fee(alloc: Global, text: Option<&[u8]>) -> Result<Option<KeptId>, Alloc
     match text {
         Some(text) => KeptId::read(alloc, text),
         None => Ok(None),
-    }
-}
-
-/// The day of a further date, where it is one.
-fn day_in(bytes: &[u8]) -> Option<Day>
-    ensures { result ≡ given_day bytes.now }
-{
-    match Stamp::new(bytes) {
-        Some(stamp) => Some(stamp.day()),
-        None => None,
     }
 }
 

@@ -15,7 +15,7 @@ use crate::{Amount, ID_MAX, TEXT_MAX};
 use std::simd::prelude::*;
 
 /// How many bytes a processor looks at at once.
-const BLOCK: usize = 16;
+pub(crate) const BLOCK: usize = 16;
 
 /// Whether a flag isn't one.
 #[tactic(auto, unfolding(crate::specs::Reading::has_bad_flag))]

@@ -1,6 +1,6 @@
 //! Up to 14 bytes that take no memory of their own.
 
-ghost use Rattle.std.specs.Prelude.{◌≡◌, ◌≤◌, ◌++◌, ◌-◌, if◌then◌else◌, nat_le, Some, None, length, replicate};
+ghost use Rattle.std.specs.Prelude.{◌≡◌, ◌≤◌, ◌+◌, ◌++◌, ◌-◌, if◌then◌else◌, nat_le, Some, None, length, replicate};
 ghost use Rattle.std.specs.Cmp.Lexicographic.{slice_cmp};
 ghost use Rattle.std.specs.Ordering.{eq_by_cmp, nat_cmp};
 
@@ -126,7 +126,30 @@ fn padded(bytes: &[u8]) -> [u8; FEW_MAX]
     requires { length bytes.now ≤ FEW_MAX }
     ensures { result ≡ bytes.now ++ replicate (FEW_MAX - length bytes.now) 0 }
 {
+    let len = bytes.len();
+    if len >= 8 {
+        padded_by_ends(bytes, 8)
+    } else if len >= 4 {
+        padded_by_ends(bytes, 4)
+    } else if len >= 2 {
+        padded_by_ends(bytes, 2)
+    } else {
+        padded_by_ends(bytes, len)
+    }
+}
+
+/// The same, where so many bytes at the front and as many at the end are all of them. Where that number is known, the copies
+/// take no call.
+#[inline(always)]
+fn padded_by_ends(bytes: &[u8], end: usize) -> [u8; FEW_MAX]
+    requires few { length bytes.now ≤ FEW_MAX }
+    requires within { end ≤ length bytes.now }
+    requires all { length bytes.now ≤ end + end }
+    ensures { result ≡ bytes.now ++ replicate (FEW_MAX - length bytes.now) 0 }
+{
+    let len = bytes.len();
     let mut whole = [0; FEW_MAX];
-    whole[..bytes.len()].copy_from_slice(bytes);
+    whole[..end].copy_from_slice(&bytes[..end]);
+    whole[len - end..len].copy_from_slice(&bytes[len - end..]);
     whole
 }

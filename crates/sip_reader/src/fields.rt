@@ -1,9 +1,12 @@
 //! The variable fields of a request.
 
-ghost use Rattle.std.specs.Prelude.{◌≡◌, ◌||◌, ◌==◌, get_or, length};
+ghost use Rattle.std.specs.Prelude.{◌≡◌, ◌≤◌, ◌||◌, ◌==◌, drop, get_or, length};
 ghost use Rattle.std.specs.Option.{option_copied};
 ghost use Rattle.sip_reader.specs.Fields.{text_after, or_else, pieces, texts};
 ghost use Rattle.sip_reader.specs.Views.{texts_behind, with_piece};
+
+use crate::bars::bar_from;
+use crate::checks::BLOCK;
 
 /// The texts of the variable fields that the rules use, each of the first piece with its identifier.
 #[derive(Clone, Copy)]
@@ -31,9 +34,11 @@ pub struct Fields<'a> {
 }
 
 impl<'a> Fields<'a> {
-    /// The fields of what stands after the fixed part.
-    pub fn read(rest: &'a [u8]) -> Fields<'a>
-        ensures { texts_behind result ≡ texts (pieces rest.now) }
+    /// The fields of what stands after the fixed part, which ends here.
+    pub fn read(message: &'a [u8], fixed: usize) -> Fields<'a>
+        requires long { BLOCK ≤ length message.now }
+        requires within { fixed ≤ length message.now }
+        ensures { texts_behind result ≡ texts (pieces (drop fixed message.now)) }
     {
         let mut fields = Fields {
             patron: None,
@@ -47,30 +52,47 @@ impl<'a> Fields<'a> {
             properties: None,
             short: false,
         };
-        for piece in rest.split(|b| *b == b'|') {
-            fields.note(piece);
+        let mut at = fixed;
+        let mut end = bar_from(message, at);
+        while end < message.len() {
+            fields.note(&message[at..end]);
+            at = end + 1;
+            end = bar_from(message, at);
         }
+        fields.note(&message[at..]);
         fields
     }
 
-    /// One piece more. Its first letter tells which few of the fields it may be.
+    /// One piece more. Its first two bytes tell which of the fields it may be.
     fn note(&mut self, piece: &'a [u8])
         ensures { texts_behind self.new ≡ with_piece (texts_behind self.old) piece.now }
     {
-        let letter = first_byte(piece);
+        let (letter, second) = (first_byte(piece), second_byte(piece));
         self.short = is_short_so_far(self.short, piece);
         if letter == b'A' {
-            self.patron = first(self.patron, b'A', b'A', piece);
-            self.item = first(self.item, b'A', b'B', piece);
-            self.title = first(self.title, b'A', b'J', piece);
+            if second == b'A' {
+                self.patron = first(self.patron, b'A', b'A', piece);
+            } else if second == b'B' {
+                self.item = first(self.item, b'A', b'B', piece);
+            } else if second == b'J' {
+                self.title = first(self.title, b'A', b'J', piece);
+            }
         } else if letter == b'B' {
-            self.cancel = first(self.cancel, b'B', b'I', piece);
-            self.agreed = first(self.agreed, b'B', b'O', piece);
-            self.pickup = first(self.pickup, b'B', b'S', piece);
-            self.amount = first(self.amount, b'B', b'V', piece);
+            if second == b'I' {
+                self.cancel = first(self.cancel, b'B', b'I', piece);
+            } else if second == b'O' {
+                self.agreed = first(self.agreed, b'B', b'O', piece);
+            } else if second == b'S' {
+                self.pickup = first(self.pickup, b'B', b'S', piece);
+            } else if second == b'V' {
+                self.amount = first(self.amount, b'B', b'V', piece);
+            }
         } else if letter == b'C' {
-            self.fee = first(self.fee, b'C', b'G', piece);
-            self.properties = first(self.properties, b'C', b'H', piece);
+            if second == b'G' {
+                self.fee = first(self.fee, b'C', b'G', piece);
+            } else if second == b'H' {
+                self.properties = first(self.properties, b'C', b'H', piece);
+            }
         }
     }
 }
@@ -87,6 +109,13 @@ fn first_byte(piece: &[u8]) -> u8
     ensures { result ≡ get_or piece.now 0 0 }
 {
     if piece.is_empty() { 0 } else { piece[0] }
+}
+
+/// The second byte of a piece, 0 where it has none.
+fn second_byte(piece: &[u8]) -> u8
+    ensures { result ≡ get_or piece.now 1 0 }
+{
+    if piece.len() < 2 { 0 } else { piece[1] }
 }
 
 /// The text that was found before, or else that of this piece where it has the identifier.

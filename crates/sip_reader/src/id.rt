@@ -4,11 +4,11 @@ ghost use Rattle.std.specs.Prelude.{◌≡◌, ◌≤◌, if◌then◌else◌, S
 ghost use Rattle.std.specs.Cmp.{partial_order_from_own_ties};
 ghost use Rattle.std.specs.Cmp.Lexicographic.{slice_cmp};
 ghost use Rattle.std.specs.Cmp.Rules.{comparing};
-ghost use Rattle.std.specs.List.{list_any};
 ghost use Rattle.std.specs.Ordering.{nat_cmp, as_partial_cmp, eq_by_cmp};
 ghost use Rattle.std.proofs.Common.{rules};
-ghost use Rattle.sip_reader.specs.Texts.{fee_id, is_barred, is_id};
+ghost use Rattle.sip_reader.specs.Texts.{fee_id, is_id};
 
+use crate::barred::has_barred;
 use crate::short::Short;
 use crate::text::Text;
 use itoa::Buffer;
@@ -112,7 +112,7 @@ impl Id {
         ensures valid { is_id self.now ≡ true }
     {
         let Id { bytes } = self;
-        Text::new(alloc, bytes.as_bytes())
+        Text::of_short(alloc, bytes)
     }
 }
 
@@ -122,15 +122,6 @@ pub(crate) fn is_valid(bytes: &[u8]) -> bool
     ensures short { IsTrue result → length bytes.now ≤ ID_MAX }
 {
     !bytes.is_empty() && bytes.len() <= ID_MAX && !has_barred(bytes)
-}
-
-/// Whether a bar, CR or LF stands among the bytes.
-pub(crate) fn has_barred(bytes: &[u8]) -> bool
-    ensures { result ≡ list_any is_barred bytes.now }
-{
-    bytes
-        .iter()
-        .any(|b| *b == b'|' || *b == b'\r' || *b == b'\n')
 }
 
 impl PartialEq for Id {

@@ -7,6 +7,8 @@
 
 mod act;
 mod amount;
+mod barred;
+mod bars;
 mod checks;
 mod day;
 mod few;

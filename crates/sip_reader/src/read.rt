@@ -84,7 +84,7 @@ fn read_kind(
         return Ok(Reading::Unread(Why::BadFlag));
     }
     let rest = &message[fixed..];
-    let fields = Fields::read(rest);
+    let fields = Fields::read(message, fixed);
     if is_bad_field(&layout, rest, &fields) {
         return Ok(Reading::Unread(Why::BadField));
     }

@@ -1,12 +1,13 @@
 //! Up to 64 bytes that are copied without memory.
 
-ghost use Rattle.std.specs.Prelude.{◌≡◌, ◌≤◌, ◌+◌, ◌*◌, ◌++◌, ◌-◌, length, take, drop, replicate};
+ghost use Rattle.std.specs.Prelude.{◌≡◌, ◌≢◌, ◌≤◌, ◌+◌, ◌*◌, ◌++◌, ◌-◌, Some, IfSome, length, take, drop, replicate};
 ghost use Rattle.std.specs.Cmp.Lexicographic.{slice_cmp};
 ghost use Rattle.std.specs.Ordering.{nat_cmp};
 ghost use Rattle.std.specs.Slice.Scan.{big_endian};
+ghost use Rattle.std.specs.declared.cmp.Ordering.TheVariants.{Equal};
 ghost use Rattle.sip_reader.specs.Devices.Padding.{IsPadded};
 
-use crate::few::FEW_MAX;
+use crate::few::{FEW_MAX, Few};
 use std::cmp::Ordering;
 use std::marker::Model;
 
@@ -38,11 +39,14 @@ impl Model for Short {
 }
 
 impl Short {
-    /// These bytes.
+    /// These bytes. Few of them are copied without a call.
     pub fn of(bytes: &[u8]) -> Short
         requires { length bytes.now ≤ SHORT_MAX }
         ensures { result ≡ bytes.now }
     {
+        if bytes.len() <= FEW_MAX {
+            return Few::of(bytes).short();
+        }
         Short {
             bytes: padded(bytes),
             len: bytes.len() as u8,
@@ -94,11 +98,27 @@ impl Short {
     pub fn order(&self, other: &Short) -> Ordering
         ensures { result ≡ slice_cmp nat_cmp self.now other.now }
     {
+        if let Some(order) = order_by_first(&self.bytes, &other.bytes) {
+            return order;
+        }
         match order_of(&self.bytes, &other.bytes, words_of(self.len, other.len)) {
             Ordering::Less => Ordering::Less,
             Ordering::Equal => self.len.cmp(&other.len),
             Ordering::Greater => Ordering::Greater,
         }
+    }
+}
+
+/// How 64 bytes go in the order of bytes, where the first eight tell. Mostly they do, and no length is looked at.
+fn order_by_first(a: &[u8; SHORT_MAX], b: &[u8; SHORT_MAX]) -> Option<Ordering>
+    ensures order { IfSome result (λ order. order ≡ slice_cmp nat_cmp a.now b.now) }
+    ensures apart { result ≢ Some Equal }
+{
+    let (first, other) = (word_at(a, 0), word_at(b, 0));
+    if first == other {
+        None
+    } else {
+        Some(first.cmp(&other))
     }
 }
 
@@ -119,11 +139,6 @@ fn order_of(a: &[u8; SHORT_MAX], b: &[u8; SHORT_MAX], words: usize) -> Ordering
     requires rest { drop (8 * words) a.now ≡ drop (8 * words) b.now }
     ensures { result ≡ slice_cmp nat_cmp a.now b.now }
 {
-    // mostly the first words differ already
-    let (first, other) = (word_at(a, 0), word_at(b, 0));
-    if first != other {
-        return first.cmp(&other);
-    }
     for i in 0..words {
         let x = word_at(a, 8 * i);
         let y = word_at(b, 8 * i);

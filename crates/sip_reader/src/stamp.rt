@@ -1,12 +1,14 @@
 //! Dates and times of messages.
 
-ghost use Rattle.std.specs.Prelude.{◌≡◌, ◌<◌, ◌≤◌, ◌+◌, if◌then◌else◌, Some, None, true, length, IsTrue};
+ghost use Rattle.std.specs.Prelude.{◌≡◌, ◌<◌, ◌≤◌, ◌+◌, ◌-◌, if◌then◌else◌, Some, None, true, length, IsTrue};
 ghost use Rattle.sip_reader.specs.Days.{LAST_STAMP_DAY};
-ghost use Rattle.sip_reader.specs.Dates.{day_of, has_day, has_digits, has_time, is_stamp, two_at, year_at};
+ghost use Rattle.sip_reader.specs.Devices.Bars.{other_bits};
+ghost use Rattle.sip_reader.specs.Devices.Digits.{ArePair};
+ghost use Rattle.sip_reader.specs.Dates.{day_of, given_day, has_day, has_digits, has_time, is_stamp, two_at, year_at};
 
 use crate::Day;
-use crate::numerals::all_digits;
 use std::marker::Model;
+use std::simd::prelude::*;
 
 /// The length of a date and time in a message, in bytes.
 pub const STAMP_LEN: usize = 18;
@@ -72,25 +74,49 @@ fn are_digits(s: &[u8]) -> bool
     requires { length s.now ≡ STAMP_LEN }
     ensures { result ≡ has_digits s.now }
 {
-    all_digits(&s[..8]) && all_digits(&s[12..])
+    others_of_eight(s, 0, 0) == 0 && others_of_eight(s, 10, 2) == 0
+}
+
+/// A bit for each of eight bytes behind the first few of them, set where the byte is no digit.
+fn others_of_eight(s: &[u8], at: usize, few: usize) -> u64
+    requires whole { at + 8 ≤ length s.now }
+    requires few { few ≤ 8 }
+    ensures { result ≡ other_bits s.now (at + few) (8 - few) }
+{
+    let values = u8x8::from_slice(&s[at..]) - u8x8::splat(b'0');
+    values.simd_ge(u8x8::splat(10)).to_bitmask() >> few
 }
 
 fn is_written_day(s: &[u8]) -> bool
-    requires { length s.now ≡ STAMP_LEN }
+    requires long { length s.now ≡ STAMP_LEN }
+    requires digits { has_digits s.now ≡ true }
     ensures { result ≡ has_day s.now }
 {
     year(s) <= 9900 && Day::spelt(year(s), two(s, 4), two(s, 6)).is_some()
 }
 
 fn is_time(s: &[u8]) -> bool
-    requires { length s.now ≡ STAMP_LEN }
+    requires long { length s.now ≡ STAMP_LEN }
+    requires digits { has_digits s.now ≡ true }
     ensures { result ≡ has_time s.now }
 {
     two(s, 12) < 24 && two(s, 14) < 60 && two(s, 16) < 60
 }
 
+/// The day of bytes, where they are a date.
+#[tactic(auto, unfolding(crate::specs::Dates::is_stamp, crate::specs::Dates::day_of))]
+pub(crate) fn day_in(bytes: &[u8]) -> Option<Day>
+    ensures { result ≡ given_day bytes.now }
+{
+    if bytes.len() == STAMP_LEN && are_digits(bytes) && is_time(bytes) && year(bytes) <= 9900 {
+        Day::spelt(year(bytes), two(bytes, 4), two(bytes, 6))
+    } else {
+        None
+    }
+}
+
 /// The day of a date.
-#[tactic(auto, using(crate::proofs::Stamps::stamp_len, crate::proofs::Stamps::stamp_year, crate::proofs::Stamps::stamp_real), unfolding(crate::specs::Dates::day_of))]
+#[tactic(auto, using(crate::proofs::Stamps::stamp_len, crate::proofs::Stamps::stamp_digits, crate::proofs::Stamps::stamp_year, crate::proofs::Stamps::stamp_real), unfolding(crate::specs::Dates::day_of))]
 fn written_day(s: &[u8]) -> Day
     requires { is_stamp s.now ≡ true }
     ensures value { result ≡ day_of s.now }
@@ -104,7 +130,8 @@ fn written_day(s: &[u8]) -> Day
 
 /// The year that the first four digits spell.
 fn year(s: &[u8]) -> u32
-    requires { 3 < length s.now }
+    requires long { length s.now ≡ STAMP_LEN }
+    requires digits { has_digits s.now ≡ true }
     ensures { result ≡ year_at s.now }
 {
     two(s, 0) * 100 + two(s, 2)
@@ -112,9 +139,10 @@ fn year(s: &[u8]) -> u32
 
 /// The number that two digits spell.
 fn two(s: &[u8], i: usize) -> u32
-    requires { i + 1 < length s.now }
+    requires within { i + 1 < length s.now }
+    requires digits { ArePair s.now i }
     ensures value { result ≡ two_at i s.now }
     ensures small { result < 3000 }
 {
-    u32::from(s[i].saturating_sub(b'0')) * 10 + u32::from(s[i + 1].saturating_sub(b'0'))
+    u32::from(s[i] - b'0') * 10 + u32::from(s[i + 1] - b'0')
 }

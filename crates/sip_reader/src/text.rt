@@ -4,8 +4,9 @@ ghost use Rattle.std.specs.Prelude.{◌≡◌, true, IfOk, IfSome, if◌then◌e
 ghost use Rattle.sip_reader.specs.Devices.Held.{bytes_held};
 ghost use Rattle.sip_reader.specs.Texts.{is_text};
 
+use crate::barred::has_barred;
 use crate::few::{FEW_MAX, Few};
-use crate::id::has_barred;
+use crate::short::Short;
 use std::alloc::{AllocError, Global};
 use std::marker::Model;
 use std::sync::ArcSlice;
@@ -61,6 +62,19 @@ impl Text {
     {
         let held = Held::of(alloc, bytes)?;
         Ok(Text { held })
+    }
+
+    /// The text of these bytes: few of them are copied without a call.
+    pub(crate) fn of_short(alloc: Global, bytes: &Short) -> Result<Text, AllocError>
+        requires { is_text bytes.now ≡ true }
+        ensures { IfOk result (λ t. t ≡ bytes.now) }
+    {
+        match Few::new(bytes) {
+            Some(few) => Ok(Text {
+                held: Held::Few(few),
+            }),
+            None => Text::new(alloc, bytes.as_bytes()),
+        }
     }
 
     /// The text that these bytes are.

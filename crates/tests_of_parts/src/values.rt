@@ -102,7 +102,16 @@ fn sums_that_are_owed(rt: HostRuntime) -> Result<(), Fail> {
 #[test]
 fn ids_and_texts(rt: HostRuntime) -> Result<(), Fail> {
     let alloc = rt.alloc();
-    for bytes in ["", "a|b", "a\rb", "a\nb"] {
+    for bytes in [
+        "",
+        "a|b",
+        "a\rb",
+        "a\nb",
+        "abcde|",
+        "abcdefgh\rj",
+        "|bcdefghijklmnopqrst",
+        "abcdefghijklmnopqrs\n",
+    ] {
         assert!(rt; Id::new(bytes.as_bytes()).is_none(), "{bytes}");
     }
     assert!(rt; Id::new(b"A") < Id::new(b"A\0"));
@@ -123,7 +132,7 @@ fn ids_and_texts(rt: HostRuntime) -> Result<(), Fail> {
 #[test]
 fn kept_ids(rt: HostRuntime) -> Result<(), Fail> {
     let longest = [b'7'; 64];
-    for length in [1, 9, 14, 15, 64] {
+    for length in [1, 3, 6, 9, 14, 15, 64] {
         let bytes = &longest[..length];
         let id = Id::new(bytes).expect(&rt, "an id");
         let kept = KeptId::new(rt.alloc(), &id)?;

@@ -1,8 +1,10 @@
 -- Entries with the keys that they borrow.
 use denote.Ref.{Bor}
-use Rattle.std.proofs.Common.{◌≡◌, ℕ, zero, suc, ◌+◌, ◌<◌, Option, List, [], ◌∷◌, ◌++◌, length, get_or, set, take, drop, refl, sym, ap, ap₂, ◌∙◌, arith}
+use Rattle.std.proofs.Common.{◌≡◌, ℕ, zero, suc, ◌+◌, ◌<◌, true, false, cond, Option, Some, List, [], ◌∷◌, ◌++◌, length, get_or, set, take, drop, refl, sym, ap, ap₂, ◌∙◌, arith}
 use Rattle.std.specs.Prelude.{option_map, slice_get}
 use Rattle.std.specs.List.{insert, remove}
+use Rattle.std.specs.Ordering.{eq_by_cmp}
+use Rattle.std.specs.FinMap.Entries.{find}
 use Rattle.std.specs.declared.cmp.Ordering.{Ordering}
 use Rattle.std.proofs.lemmas.List.{length-map, map-append, map-set, take-map, drop-map, drop_more}
 use Rattle.std.proofs.lemmas.Option.{slice_get-map}
@@ -58,6 +60,13 @@ module _ {X : Type 0} where
   keyed_more es i e within is =
       drop_more (keyed es) i (keyed_one e) (omega (arith, within, keyed_length es))
       ∙ ap (λ (x : Key × X). x ∷ drop (i + 1) (keyed es)) (keyed_at es i e ∙ ap keyed_one (sym is))
+
+-- ---- the first of some entries is that of the key, or isn't
+pub found_next : {X : Type 0} (es rest : List (Key × X)) (k : Key) (e : Key × X) → es ≡ e ∷ rest → eq_by_cmp key_cmp k e.0 ≡ true → find key_cmp k es ≡ Some e.1
+found_next es rest k e more is = ap (find key_cmp k) more ∙ ap (λ b. cond b (Some e.1) (find key_cmp k rest)) is
+
+pub missed_next : {X : Type 0} (es rest : List (Key × X)) (k : Key) (e : Key × X) → es ≡ e ∷ rest → eq_by_cmp key_cmp k e.0 ≡ false → find key_cmp k es ≡ find key_cmp k rest
+missed_next es rest k e more is = ap (find key_cmp k) more ∙ ap (λ b. cond b (Some e.1) (find key_cmp k rest)) is
 
 -- ---- all entries are marked
 pub keyed_marked : {J : Type 0} (es : List (Bor Key × Entry J)) → keyed (all_marked es) ≡ all_marked (keyed es)

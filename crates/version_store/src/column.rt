@@ -12,6 +12,9 @@ use std::marker::Model;
 /// Up to so many lines take no more room than they need.
 const FEW: usize = 8;
 
+/// Room for so many lines is made first: the least block of memory has it.
+const USUAL: usize = 3;
+
 /// The lines that have an entry at one key, as a vector that rises. Most keys have few, and there a tree's least node takes more
 /// than all of them. Mostly lines come rising, and a late one is taken out: so few others are moved.
 pub struct Column {
@@ -109,7 +112,9 @@ fn insert_at(lines: &mut Vec<u64>, position: usize, line: u64) -> Result<(), All
     ensures items { OnOk result (lines.new.items ≡ insert lines.old.items position line) }
     ensures same { OnErr result (lines.new.items ≡ lines.old.items) }
 {
-    if lines.len() < FEW {
+    if lines.is_empty() {
+        lines.reserve_exact(USUAL)?;
+    } else if lines.len() < FEW {
         lines.reserve_exact(1)?;
     }
     match lines.insert(position, line) {

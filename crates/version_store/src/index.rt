@@ -14,19 +14,19 @@ const LINES_A_PART: usize = 8;
 
 /// For each key the lines that have an entry there. A key stands in the part that its bytes choose, so a look-up goes
 /// through few keys; where all keys choose one part, it is as if there were no other.
-pub struct KeyIndex<'t> {
-    parts: Vec<IndexPart<'t>>,
+pub struct KeyIndex {
+    parts: Vec<IndexPart>,
 }
 
-impl Drop for KeyIndex<'_> {
+impl Drop for KeyIndex {
     fn drop(self) {
         let KeyIndex { parts: _ } = self;
     }
 }
 
-impl<'t> KeyIndex<'t> {
+impl KeyIndex {
     /// None of so many lines has an entry.
-    pub fn new(alloc: Global, lines: usize) -> Result<KeyIndex<'t>, AllocError>
+    pub fn new(alloc: Global, lines: usize) -> Result<KeyIndex, AllocError>
         ensures { IfOk result (λ index. (q : Key) (m : ℕ) → at index q m ≡ false) }
     {
         let count = lines / LINES_A_PART + 1;
@@ -37,12 +37,12 @@ impl<'t> KeyIndex<'t> {
         Ok(KeyIndex { parts })
     }
 
-    /// The line has an entry at the key. One that is new is borrowed.
+    /// The line has an entry at the key.
     pub fn set(
         &mut self,
         alloc: Global,
         key: &Sought<'_>,
-        kept: &'t KeptKey,
+        kept: &KeptKey,
         line: u64,
     ) -> Result<(), AllocError>
         requires { kept.now ≡ key.now }

@@ -18,6 +18,9 @@ use std::marker::Model;
 /// own it would take 88.
 type Placed<'t, J> = (&'t KeptKey, Entry<'t, J>);
 
+/// Among so many entries a key is looked for one by one: to tell whether a key is the same costs less than how it stands to another.
+const FEW: usize = 4;
+
 /// The entries of one line as a list that rises by key. Most lines that write have two: those stand in place.
 pub struct LineEntries<'t, J: PlanName> {
     entries: ShortList<Placed<'t, J>>,
@@ -61,6 +64,9 @@ impl<'t, J: PlanName> LineEntries<'t, J> {
     pub fn get(&self, key: &Key) -> Option<Entry<'t, J>>
         ensures { option_map shown result ≡ fin.get self.now key.now }
     {
+        if self.entries.len() <= FEW {
+            return entry_among(&self.entries, key);
+        }
         match position_of(&self.entries, key) {
             Ok(position) => Some(self.entries[position].1),
             Err(_) => None,
@@ -123,6 +129,22 @@ impl<'t, J: PlanName> LineEntries<'t, J> {
     {
         left_key(&self.entries, attempt)
     }
+}
+
+/// The entry at a key among a few.
+fn entry_among<'t, J: PlanName>(
+    entries: &ShortList<Placed<'t, J>>,
+    key: &Key,
+) -> Option<Entry<'t, J>>
+    ensures { result ≡ fin.find key_cmp key.now (keyed entries.now) }
+{
+    for i in 0..entries.len() {
+        let (own, made) = &entries[i];
+        if own.is(key) {
+            return Some(*made);
+        }
+    }
+    None
 }
 
 /// The position of a key, or else the position to which it goes.

@@ -10,7 +10,7 @@ ghost use Rattle.version_store.specs.Index.{IsLatest, in_column, in_part, with_a
 
 use crate::column::Column;
 use crate::map::ColumnMap;
-use crate::numbered::{IndexKey, Sought};
+use crate::numbered::Sought;
 use circ_records::KeptKey;
 use std::alloc::{AllocError, Global};
 
@@ -18,26 +18,29 @@ use std::alloc::{AllocError, Global};
 /// they do.
 const FEW: usize = 16;
 
-/// The lines that have an entry at a key, which is borrowed from the writes of a version that was placed there: so both take 40
-/// bytes, and with a key of its own they would take 96.
-type KeyColumn<'t> = (IndexKey<'t>, Column);
+/// Room for so many keys is made at a time: more would mostly stay empty, and to make room for one costs as much.
+const MORE: usize = 2;
+
+/// The lines that have an entry at a key. The key stands here: one that is borrowed from the writes of a version would stand
+/// anywhere in memory.
+type KeyColumn = (KeptKey, Column);
 
 /// For each key of a part the lines that have an entry there.
-pub struct IndexPart<'t> {
-    few: Vec<KeyColumn<'t>>,
+pub struct IndexPart {
+    few: Vec<KeyColumn>,
     /// The keys that came when there were a few: whoever chooses ids can put all keys into one part.
     others: Option<Box<ColumnMap>>,
 }
 
-impl Drop for IndexPart<'_> {
+impl Drop for IndexPart {
     fn drop(self) {
         let IndexPart { few: _, others: _ } = self;
     }
 }
 
-impl<'t> IndexPart<'t> {
+impl IndexPart {
     /// No line has an entry.
-    pub fn new(alloc: Global) -> IndexPart<'t>
+    pub fn new(alloc: Global) -> IndexPart
         ensures { (q : Key) (m : ℕ) → in_part result q m ≡ false }
     {
         IndexPart {
@@ -46,12 +49,12 @@ impl<'t> IndexPart<'t> {
         }
     }
 
-    /// The line has an entry at the key. One that is new is borrowed.
+    /// The line has an entry at the key.
     pub fn set(
         &mut self,
         alloc: Global,
         key: &Sought<'_>,
-        kept: &'t KeptKey,
+        kept: &KeptKey,
         line: u64,
     ) -> Result<(), AllocError>
         requires { kept.now ≡ key.now }
@@ -73,7 +76,7 @@ impl<'t> IndexPart<'t> {
         &mut self,
         alloc: Global,
         key: &Sought<'_>,
-        kept: &'t KeptKey,
+        kept: &KeptKey,
         line: u64,
     ) -> Result<(), AllocError>
         requires kept { kept.now ≡ key.now }
@@ -95,7 +98,7 @@ impl<'t> IndexPart<'t> {
         &mut self,
         alloc: Global,
         key: &Sought<'_>,
-        kept: &'t KeptKey,
+        kept: &KeptKey,
         line: u64,
     ) -> Result<(), AllocError>
         requires kept { kept.now ≡ key.now }
@@ -105,7 +108,7 @@ impl<'t> IndexPart<'t> {
         ensures same { OnErr result ((q : Key) (m : ℕ) → in_part self.new q m ≡ in_part self.old q m) }
     {
         if self.few.len() < FEW {
-            return open_among(&mut self.few, alloc, key, kept, line);
+            return open_among(&mut self.few, alloc, kept, line);
         }
         let mut others = ColumnMap::new(alloc);
         others.set(alloc, key.key(), line)?;
@@ -142,28 +145,37 @@ impl<'t> IndexPart<'t> {
 }
 
 /// The position of a key among a few.
-fn position_among(few: &[KeyColumn<'_>], key: &Sought<'_>) -> Option<usize>
+fn position_among(few: &[KeyColumn], key: &Sought<'_>) -> Option<usize>
     ensures { result ≡ position (λ c. eq_by_cmp key_cmp key.now c.0) few.now }
 {
-    few.iter().position(|column| column.0.is(key))
+    few.iter().position(|column| column.0.is(key.key()))
 }
 
-/// One more key, at which one line has an entry, in no more room than is needed: a part stays until the run ends.
-fn open_among<'t>(
-    few: &mut Vec<KeyColumn<'t>>,
+/// One more key, at which one line has an entry, in little more room than is needed: a part stays until the run ends.
+fn open_among(
+    few: &mut Vec<KeyColumn>,
     alloc: Global,
-    key: &Sought<'_>,
-    kept: &'t KeptKey,
+    kept: &KeptKey,
     line: u64,
 ) -> Result<(), AllocError>
-    requires kept { kept.now ≡ key.now }
-    requires absent { among few.old.items kept.now ≡ None }
+    requires { among few.old.items kept.now ≡ None }
     ensures put { OnOk result ((q : Key) (m : ℕ) → in_column (among few.new.items q) m ≡ with_at kept.now line true (λ k n. in_column (among few.old.items k) n) q m) }
     ensures same { OnErr result (few.new.items ≡ few.old.items) }
 {
     let mut column = Column::new(alloc);
     column.insert(line)?;
-    few.reserve_exact(1)?;
-    few.push((IndexKey::new(key, kept), column))?;
+    let key = kept.clone()?;
+    make_room(few)?;
+    few.push((key, column))?;
+    Ok(())
+}
+
+/// Room for one key more, and for little more than it.
+fn make_room(few: &mut Vec<KeyColumn>) -> Result<(), AllocError>
+    ensures { few.new.items ≡ few.old.items }
+{
+    if few.len() == few.capacity() {
+        few.reserve_exact(MORE)?;
+    }
     Ok(())
 }

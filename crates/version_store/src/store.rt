@@ -18,7 +18,7 @@ use std::marker::Model;
 pub struct EntryStore<'t, J: PlanName> {
     first: u64,
     lines: Vec<LineEntries<'t, J>>,
-    index: KeyIndex<'t>,
+    index: KeyIndex,
 }
 
 impl<J: PlanName> Drop for EntryStore<'_, J> {

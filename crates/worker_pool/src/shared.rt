@@ -8,7 +8,9 @@ use circ_records::Key;
 use read_set::{Plan, PlanName};
 use speculate::{Board, BoardFault, Finished};
 use std::hint::spin_loop;
+use std::sync::atomic::{AtomicU64, Ordering};
 use std::sync::{Mutex, MutexGuard, Wait};
+use std::time::Duration;
 use version_store::{Place, VersionTable};
 
 /// How often a worker tries the lock before it sleeps. A hold is a microsecond or two; to sleep and be woken costs far more, and
@@ -26,6 +28,10 @@ pub struct SharedBoard<'p, 't, J: PlanName> {
     plan: &'p Plan,
     table: &'t VersionTable<J>,
     workers: usize,
+    /// How many tries at the lock have found it taken.
+    vain_tries: AtomicU64,
+    /// 1 once a worker has ended. Who stands back sleeps on it.
+    ended: AtomicU64,
     held: Mutex<Held<'p, 't, J>>,
     ghost named: { plan.now ≡ J.plan },
 }
@@ -48,6 +54,8 @@ impl<'p, 't, J: PlanName + 'static> SharedBoard<'p, 't, J> {
             plan,
             table,
             workers,
+            vain_tries: AtomicU64::new(0),
+            ended: AtomicU64::new(0),
             held: Mutex::new(Held { board, left: None }),
         }
     }
@@ -69,15 +77,31 @@ impl<'p, 't, J: PlanName + 'static> SharedBoard<'p, 't, J> {
         self.workers
     }
 
+    /// How many tries at the lock have found it taken so far, whoever tried.
+    pub fn vain_tries(&self) -> u64 {
+        self.vain_tries.load(Ordering::Relaxed)
+    }
+
     /// Takes the lock where it is free at one of so many tries.
     fn try_hold(&self, tries: u32) -> Option<MutexGuard<'_, Held<'p, 't, J>>> {
-        for _ in 0..tries {
+        for tried in 0..tries {
             if let Some(held) = self.held.try_lock() {
+                self.count(tried);
                 return Some(held);
             }
             spin_loop();
         }
+        self.count(tries);
         None
+    }
+
+    /// Counts tries at the lock that found it taken. Mostly there are none, and nothing is written.
+    fn count(&self, vain_tries: u32) {
+        if vain_tries > 0 {
+            let _ = self
+                .vain_tries
+                .fetch_add(u64::from(vain_tries), Ordering::Relaxed);
+        }
     }
 
     /// Takes the lock, where it can without sleeping, also while others sleep: `lock` alone sleeps at once behind a sleeper.
@@ -139,12 +163,25 @@ impl<'p, 't, J: PlanName + 'static> SharedBoard<'p, 't, J> {
         self.hold(rt).left
     }
 
+    /// Sleeps for so long, or until a worker ends.
+    pub fn rest<R: Wait>(&self, rt: &R, time: Duration) {
+        self.ended.park_timeout(rt, 0, time);
+    }
+
+    /// A worker ends. So will all others: none is to sleep on.
+    pub fn end_rests(&self) {
+        self.ended.store(1, Ordering::SeqCst);
+        self.ended.wake_all();
+    }
+
     /// What the workers have come to.
     pub fn close(self) -> Closed<'p, 't, J> {
         let SharedBoard {
             plan: _,
             table: _,
             workers: _,
+            vain_tries: _,
+            ended: _,
             held,
         } = self;
         let Held { board, left: _ } = held.into_inner();

@@ -16,7 +16,7 @@ use std::alloc::Global;
 use std::hint::spin_loop;
 use std::sync::Wait;
 use std::thread;
-use std::thread::{Parker, Threads};
+use std::thread::Threads;
 use std::time::Duration;
 use version_store::Place;
 
@@ -24,6 +24,13 @@ use version_store::Place;
 /// of lines take. One that comes back at once takes the same line over and over, or one whose records others are still about to
 /// write (`bench/threads`).
 const STAND_BACK: u64 = 800;
+
+/// So many tries at the lock that found it taken, in one turn of a worker, show that it is busy. One more line in hand then speeds
+/// nothing up, and slows the others down: the board goes from one core's cache to another's at each step.
+const BUSY: u64 = 10;
+
+/// How often a worker doubles the time for which it stands back while the lock is busy turn after turn: up to 13 milliseconds.
+const DOUBLINGS: u32 = 4;
 
 /// How many pauses of the processor, of 5 to 50 nanoseconds each, the first worker stands back. It never sleeps, so that a line that
 /// everybody waits for is soon in hand.
@@ -92,7 +99,7 @@ fn start_workers<J: PlanName + Send + Sync + 'static, G: Gate + Sync, R: Threads
     );
 }
 
-/// Works until all lines are committed or a fault was left.
+/// Works until all lines are committed or a fault was left. Whoever rests is woken then.
 fn work<J: PlanName + 'static, G: Gate, R: Wait>(
     rt: &R,
     alloc: Global,
@@ -100,23 +107,49 @@ fn work<J: PlanName + 'static, G: Gate, R: Wait>(
     gate: &G,
     worker: u32,
 ) {
+    if let Err(Left(fault)) = take_turns(rt, alloc, shared, gate, worker) {
+        shared.leave(rt, fault);
+    }
+    shared.end_rests();
+}
+
+/// Takes turn after turn, until all lines are committed.
+fn take_turns<J: PlanName + 'static, G: Gate, R: Wait>(
+    rt: &R,
+    alloc: Global,
+    shared: &SharedBoard<'_, '_, J>,
+    gate: &G,
+    worker: u32,
+) -> Result<(), Left> {
+    let mut busy_turns: u32 = 0;
     for _ in rt.forever() {
-        match take_turn(rt, alloc, shared, gate, worker) {
-            Ok(Turn::Next) => {}
-            Ok(Turn::Yield) => stand_back(rt, worker),
-            Ok(Turn::Last) => return,
-            Err(Left(fault)) => {
-                shared.leave(rt, fault);
-                return;
-            }
+        let vain_tries = shared.vain_tries();
+        let turn = take_turn(rt, alloc, shared, gate, worker)?;
+        let is_busy = shared.vain_tries().saturating_sub(vain_tries) >= BUSY;
+        busy_turns = if is_busy {
+            busy_turns.saturating_add(1)
+        } else {
+            0
+        };
+        match turn {
+            Turn::Next if worker == 0 || !is_busy => {}
+            Turn::Next | Turn::Yield => stand_back(rt, shared, worker, busy_turns),
+            Turn::Last => return Ok(()),
         }
     }
+    unreachable!()
 }
 
 /// Lets other workers go first. To yield alone does nothing where no one else wants the core.
-fn stand_back<R: Wait>(rt: &R, worker: u32) {
+fn stand_back<J: PlanName + 'static, R: Wait>(
+    rt: &R,
+    shared: &SharedBoard<'_, '_, J>,
+    worker: u32,
+    busy_turns: u32,
+) {
     if worker > 0 {
-        Parker::new().park_timeout(rt, Duration::from_micros(STAND_BACK));
+        let micros = STAND_BACK << busy_turns.min(DOUBLINGS);
+        shared.rest(rt, Duration::from_micros(micros));
         return;
     }
     for _ in 0..PAUSES {

@@ -1,4 +1,4 @@
-use Rattle.std.proofs.Common.{◌≡◌, ◌++◌, ◌∷◌, [], ◌+◌, List, None, take, sym, refl, subst, add-one, ◌∙◌}
+use Rattle.std.proofs.Common.{◌≡◌, ◌++◌, ◌∷◌, [], ◌+◌, List, Some, None, rules, take, sym, refl, subst, add-one, ◌∙◌}
 use Rattle.std.specs.Prelude.{IsSome}
 use Rattle.std.proofs.Math.Seq.{take-suc}
 use Rattle.std.proofs.lemmas.List.{take_all}
@@ -16,6 +16,7 @@ use Rattle.circ_records.proofs.fees.add_fees.Goals as goal
 
 pub returns-in-Some-clause-err : goal.returns-in-Some-clause-err
 returns-in-Some-clause-err c =
+    let broken : c.in_ok-broken.broken ≡ Some c.in-Some.rule = search rules in
     let inv = c.loop-row.invariant in
     let all = rows_under fees_header c.args.tables.now.fees.items in
     let rows = (rows_in c.args.tables.now).fees in
@@ -24,10 +25,11 @@ returns-in-Some-clause-err c =
     let was = c.in_ok-next.ensures.row c.if-branch.true in
     rw (c.broken.ensures, c.in_ok-next.ensures.table ∙ inv.named, c.in_ok-next.ensures.count c.if-branch.true) (λ (is : IsSome all).
     let (below, at) = row-at all _ _ row n inv.at was is in
-    breaks-here table.Fees (fee_rule c.args.first (rows_in c.args.tables.now).patrons) rows n row c.in-Some.rule below at (sym (c.in-Some.ensures.rule (to_fees (rows_in c.args.tables.now) (take n rows)) (inv.tells is) refl)) (inv.keeps is))
+    breaks-here table.Fees (fee_rule c.args.first (rows_in c.args.tables.now).patrons) rows n row c.in-Some.rule below at (sym (c.in_ok-broken.ensures.rule (to_fees (rows_in c.args.tables.now) (take n rows)) (inv.tells is) refl) ∙ broken) (inv.keeps is))
 
 pub loop-row-preserved : goal.loop-row-preserved
 loop-row-preserved c =
+    let whole : c.in_ok-broken.broken ≡ None = search rules in
     let inv = c.loop-row.invariant in
     let all = rows_under fees_header c.args.tables.now.fees.items in
     let rows = (rows_in c.args.tables.now).fees in
@@ -36,14 +38,14 @@ loop-row-preserved c =
     let was = c.in_ok-next.ensures.row c.if-branch.true in
     let before = take n rows in
     let count = c.in_ok-next.ensures.count c.if-branch.true in
-    let none : (is : IsSome all) → fee_rule c.args.first (rows_in c.args.tables.now).patrons before row ≡ None = λ is. sym (c.in-None.ensures.rule (to_fees (rows_in c.args.tables.now) before) (inv.tells is) refl) in
+    let none : (is : IsSome all) → fee_rule c.args.first (rows_in c.args.tables.now).patrons before row ≡ None = λ is. sym (c.in_ok-broken.ensures.rule (to_fees (rows_in c.args.tables.now) before) (inv.tells is) refl) ∙ whole in
     let more : (is : IsSome all) → take (n + 1) rows ≡ before ++ row ∷ [] = λ is. let (below, at) = row-at all _ _ row n inv.at was is in rw (add-one, take-suc rows n [] below, at) refl in
     record {
       named = c.in_ok-next.ensures.table ∙ inv.named;
       at = step-at all _ _ row n _ inv.at was count;
       keeps = λ is. let (below, at) = row-at all _ _ row n inv.at was is in rw count (keeps-more table.Fees (fee_rule c.args.first (rows_in c.args.tables.now).patrons) rows n row below at (none is) (inv.keeps is));
-      rising = c.in_ok-add_fee-in-None.ensures.rising;
-      tells = λ is. rw count (subst (λ (xs : List Row). Tells (to_fees (rows_in c.args.tables.now) xs) c.add_fee.new.records) (sym (more is)) (c.in_ok-add_fee-in-None.ensures.told (rows_in c.args.tables.now) before (inv.tells is) (kept-fee c.args.first (rows_in c.args.tables.now).patrons before row (none is)).fresh));
+      rising = c.in_ok-broken.ensures.rising inv.rising;
+      tells = λ is. rw count (subst (λ (xs : List Row). Tells (to_fees (rows_in c.args.tables.now) xs) c.add_fee.new.records) (sym (more is)) (c.in_ok-broken.ensures.told whole (rows_in c.args.tables.now) before (inv.tells is) (kept-fee c.args.first (rows_in c.args.tables.now).patrons before row (none is)).fresh));
     }
 
 pub returns-in_err-next-clause-err : goal.returns-in_err-next-clause-err

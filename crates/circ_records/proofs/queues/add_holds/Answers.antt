@@ -1,4 +1,4 @@
-use Rattle.std.proofs.Common.{rules, ◌≡◌, ◌++◌, ◌∷◌, [], ◌+◌, List, None, take, sym, refl, subst, add-one, ◌∙◌}
+use Rattle.std.proofs.Common.{rules, ◌≡◌, ◌++◌, ◌∷◌, [], ◌+◌, List, Some, None, take, sym, refl, subst, add-one, ◌∙◌}
 use Rattle.std.specs.Prelude.{IsSome}
 use Rattle.std.proofs.Math.Seq.{take-suc}
 use Rattle.std.proofs.lemmas.List.{take_all}
@@ -14,6 +14,7 @@ use Rattle.circ_records.proofs.queues.add_holds.Goals as goal
 
 pub returns-in-Some-clause-err : goal.returns-in-Some-clause-err
 returns-in-Some-clause-err c =
+    let broken : c.in_ok-broken.broken ≡ Some c.in-Some.rule = search rules in
     let inv = c.loop-waiting.invariant in
     let all = holds_rows_of c.args.tables.now.holds.items in
     let rows = (rows_in c.args.tables.now).holds in
@@ -22,10 +23,11 @@ returns-in-Some-clause-err c =
     let was = c.in_ok-next.ensures.row c.if-branch.true in
     rw (c.broken.ensures, c.in_ok-next.ensures.table ∙ inv.named, c.in_ok-next.ensures.count c.if-branch.true) (λ (is : IsSome all).
     let (below, at) = row-at all _ _ row n inv.at was is in
-    breaks-here table.Holds (hold_rule (rows_in c.args.tables.now).patrons (rows_in c.args.tables.now).items (rows_in c.args.tables.now).loans) rows n row c.in-Some.rule below at (sym (c.in-Some.ensures.rule (to_holds (rows_in c.args.tables.now) (take n rows)) (inv.tells is) (inv.waiting is))) (inv.keeps is))
+    breaks-here table.Holds (hold_rule (rows_in c.args.tables.now).patrons (rows_in c.args.tables.now).items (rows_in c.args.tables.now).loans) rows n row c.in-Some.rule below at (sym (c.in_ok-broken.ensures.rule (to_holds (rows_in c.args.tables.now) (take n rows)) (inv.tells is) (inv.waiting is)) ∙ broken) (inv.keeps is))
 
 pub loop-waiting-preserved : goal.loop-waiting-preserved
 loop-waiting-preserved c =
+    let whole : c.in_ok-broken.broken ≡ None = search rules in
     let inv = c.loop-waiting.invariant in
     let all = holds_rows_of c.args.tables.now.holds.items in
     let rows = (rows_in c.args.tables.now).holds in
@@ -34,15 +36,15 @@ loop-waiting-preserved c =
     let was = c.in_ok-next.ensures.row c.if-branch.true in
     let before = take n rows in
     let count = c.in_ok-next.ensures.count c.if-branch.true in
-    let none : (is : IsSome all) → hold_rule (rows_in c.args.tables.now).patrons (rows_in c.args.tables.now).items (rows_in c.args.tables.now).loans before row ≡ None = λ is. sym (c.in-None.ensures.rule (to_holds (rows_in c.args.tables.now) before) (inv.tells is) (inv.waiting is)) in
+    let none : (is : IsSome all) → hold_rule (rows_in c.args.tables.now).patrons (rows_in c.args.tables.now).items (rows_in c.args.tables.now).loans before row ≡ None = λ is. sym (c.in_ok-broken.ensures.rule (to_holds (rows_in c.args.tables.now) before) (inv.tells is) (inv.waiting is)) ∙ whole in
     let more : (is : IsSome all) → take (n + 1) rows ≡ before ++ row ∷ [] = λ is. let (below, at) = row-at all _ _ row n inv.at was is in rw (add-one, take-suc rows n [] below, at) refl in
     record {
       named = c.in_ok-next.ensures.table ∙ inv.named;
       at = step-at all _ _ row n _ inv.at was count;
       keeps = λ is. let (below, at) = row-at all _ _ row n inv.at was is in rw count (keeps-more table.Holds (hold_rule (rows_in c.args.tables.now).patrons (rows_in c.args.tables.now).items (rows_in c.args.tables.now).loans) rows n row below at (none is) (inv.keeps is));
-      rising = c.in_ok-add_hold-in-None.ensures.rising;
-      tells = λ is. rw count (subst (λ (xs : List Row). Tells (to_holds (rows_in c.args.tables.now) xs) c.add_hold.new.records) (sym (more is)) (c.in_ok-add_hold-in-None.ensures.told (rows_in c.args.tables.now) before (inv.tells is)));
-      waiting = λ is. rw count (subst (λ (xs : List Row). AreWaiting xs c.add_waiting.new.waiting) (sym (more is)) (c.in_ok-add_waiting-in-None.ensures before (inv.waiting is)));
+      rising = c.in_ok-broken.ensures.rising inv.rising;
+      tells = λ is. rw count (subst (λ (xs : List Row). Tells (to_holds (rows_in c.args.tables.now) xs) c.add_hold.new.records) (sym (more is)) (c.in_ok-broken.ensures.told whole (rows_in c.args.tables.now) before (inv.tells is)));
+      waiting = λ is. rw count (subst (λ (xs : List Row). AreWaiting xs c.add_hold.new.waiting) (sym (more is)) (c.in_ok-broken.ensures.waiting whole before (inv.waiting is)));
     }
 
 pub returns-in_err-next-clause-err : goal.returns-in_err-next-clause-err

@@ -1,16 +1,10 @@
-use Rattle.std.proofs.Common.{◌≡◌, ◌*◌, ◌∙◌, sym, refl, arith}
+use Rattle.std.proofs.Common.{◌≡◌, ◌*◌, ◌∙◌, sym, arith}
 use Rattle.sip_reader.proofs.Ordered.{alike, decided, eight_more, same_behind}
 use Rattle.sip_reader.proofs.short.order_of.Goals as goal
 
-pub returns-then-first-other : goal.returns-then-first-other
-returns-then-first-other c =
-    c.cmp.ensures
-    ∙ decided 0 c.args.a.now c.args.b.now (omega arith) (λ k. let f = c.fits-a k in omega arith) (λ k. let f = c.fits-b k in omega arith) (omega arith)
-    c.word_at-first.result c.word_at-other.result c.word_at-first.ensures c.word_at-other.ensures c.if-first-other.true refl
-
 pub returns-then-x-y : goal.returns-then-x-y
 returns-then-x-y c =
-    c.cmp-then-x-y.ensures
+    c.cmp.ensures
     ∙ decided (8 * c.loop-i.i) c.args.a.now c.args.b.now (omega arith) (λ k. let f = c.fits-a k in omega arith) (λ k. let f = c.fits-b k in omega arith) (omega arith)
     c.word_at-x.result c.word_at-y.result c.word_at-x.ensures c.word_at-y.ensures c.if-x-y.true c.loop-i.invariant
 

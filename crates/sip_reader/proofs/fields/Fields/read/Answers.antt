@@ -1,18 +1,28 @@
-use Rattle.std.proofs.Common.{rules, ◌∙◌, eqb, sym, ap, refl, map}
-use Rattle.std.proofs.lemmas.List.{map_push}
-use Rattle.std.proofs.lemmas.Iterator.Consumers.{YieldsList-end}
-use Rattle.std.proofs.lemmas.Iterator.Splits.{YieldsList-from_slice_split}
-use Rattle.sip_reader.specs.Fields.{texts}
-use Rattle.sip_reader.specs.Views.{with_piece}
-use Rattle.sip_reader.proofs.Pieces.{texts_push}
+use Rattle.std.proofs.Common.{◌∙◌, ◌+◌, ap, arith, drop, refl, sym}
+use Rattle.std.proofs.lemmas.List.{take_rest}
+use Rattle.sip_reader.specs.Fields.{pieces}
+use Rattle.sip_reader.specs.Views.{texts_behind, with_piece, with_pieces}
+use Rattle.sip_reader.proofs.Pieces.{last_piece, next_piece, none_before}
 use Rattle.sip_reader.proofs.fields.Fields.read.Goals as goal
 
-pub loop-piece-preserved : goal.loop-piece-preserved
-loop-piece-preserved c =
-    c.note.ensures ∙ ap (λ t. with_piece t c.in-Some.piece.now) c.loop-piece.invariant
-    ∙ sym (texts_push (map (λ p. p.now) c.loop-piece.yielded) c.in-Some.piece.now) ∙ ap texts (sym (map_push (λ p. p.now) c.loop-piece.yielded c.in-Some.piece))
+pub loop-end-init : goal.loop-end-init
+loop-end-init c = record { within = c.requires.within; bar = c.bar_from-end.ensures; more = none_before _ (pieces (drop c.args.fixed c.args.message.now)) refl }
+
+pub loop-end-preserved : goal.loop-end-preserved
+loop-end-preserved c =
+    let s = c.args.message.now in
+    let i = c.loop-end.invariant in
+    record {
+      within = omega arith;
+      bar = c.bar_from-end-in-loop-end.ensures;
+      more =
+          ap (λ t. with_pieces t (pieces (drop (c.loop-end.end + 1) s))) c.note.ensures
+          ∙ sym (ap (with_pieces (texts_behind c.loop-end.fields)) (next_piece s c.loop-end.at c.loop-end.end i.within i.bar c.loop-end-test.true)) ∙ i.more;
+    }
 
 pub returns : goal.returns
 returns c =
-    let whole = YieldsList-end (YieldsList-from_slice_split _ (λ b. eqb b 124) c.args.rest.now (search rules) (search rules) refl (λ x b q k. search rules)) c.loop-piece.yielded _ c.loop-piece.yielded_by _ _ c.in-None.is c.next.ensures.steps in
-    c.loop-piece.invariant ∙ ap texts whole.0
+    let s = c.args.message.now in
+    let i = c.loop-end.invariant in
+    c.note-2.ensures ∙ ap (with_piece (texts_behind c.loop-end.fields)) (take_rest s c.loop-end.at)
+    ∙ sym (ap (with_pieces (texts_behind c.loop-end.fields)) (last_piece s c.loop-end.at c.loop-end.end i.within i.bar c.loop-end-test.false)) ∙ i.more

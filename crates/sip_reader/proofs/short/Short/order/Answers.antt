@@ -1,8 +1,17 @@
-use Rattle.std.proofs.Common.{◌≡◌, ◌∙◌, sym, ap, rules}
+use Rattle.std.proofs.Common.{◌≡◌, ◌∙◌, Some, sym, ap, rules}
 use Rattle.std.specs.Ordering.{nat_cmp, ordering_then}
 use Rattle.std.specs.declared.cmp.Ordering.TheVariants.{Less, Equal, Greater}
-use Rattle.sip_reader.proofs.Ordered.{both_zero, padded_order}
+use Rattle.sip_reader.proofs.Ordered.{both_zero, fronts_apart, padded_order}
 use Rattle.sip_reader.proofs.short.Short.order.Goals as goal
+
+pub returns-in-Some : goal.returns-in-Some
+returns-in-Some c =
+    let xs = c.self.inside in
+    let ys = c.other.inside in
+    rw (← c.self.view_is, ← c.other.view_is)
+    (fronts_apart xs.len ys.len xs.bytes ys.bytes c.in-Some.order c.self.invariant c.other.invariant
+    (λ q. c.order_by_first.ensures.apart (c.in-Some.is ∙ ap Some q))
+    c.in-Some.ensures.order)
 
 pub returns-in-Less : goal.returns-in-Less
 returns-in-Less c =

@@ -1,8 +1,0 @@
-use Rattle.std.proofs.Common.{◌∙◌, ap}
-use Rattle.std.specs.Prelude.{is_some}
-use Rattle.circ_records.specs.declared.key.Key.TheVariants as key
-use Rattle.circ_records.proofs.Lookups.{is_some-map}
-use Rattle.circ_records.proofs.known.has_item.Goals as goal
-
-pub returns : goal.returns
-returns c = λ r t. c.contains_key.ensures ∙ ap is_some (t (key.Item c.args.id)) ∙ is_some-map _ _

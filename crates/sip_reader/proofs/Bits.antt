@@ -1,0 +1,125 @@
+-- The next bar, seen a block at a time.
+use Rattle.std.proofs.Common.{◌≡◌, ℕ, zero, suc, ◌+◌, ◌-◌, ◌*◌, ◌/◌, ◌%◌, ◌^◌, ◌<◌, ◌≤◌, Bool, true, false, not, ◌&&◌, cond, eqb, List, [], ◌∷◌, map, length, take, drop, Fits, w8, refl, sym, ap, ap₂, ◌∙◌, arith, inl, inr}
+use Rattle.std.proofs.lemmas.Simd.{chunk-drop, length-chunk, leading_from_mask_l, mask_l-mod, trailing_mask_l}
+use Rattle.std.proofs.lemmas.List.{drop-drop, length-drop, length-map, take_all}
+use Rattle.std.proofs.lemmas.List.Folds.{prefix_len-append}
+use Rattle.std.proofs.lemmas.List.Sums.{prefix_len-drop_all, prefix_len-le-length}
+use Rattle.std.proofs.lemmas.Bool.{agree_below, agree_below_at, cases_eq, eq-eqb, ne_eqb}
+use Rattle.std.proofs.lemmas.Nat.{div-mul-add, shr_le, shr-shr}
+use Rattle.std.specs.List.{list_all, position_or_len}
+use Rattle.sip_reader.specs.Devices.Bars.{bar_bits, is_bar}
+use lib.Lanes.{Each1, chunk, mask_l, top}
+use lib.Count.{count_trailing_zeros}
+
+-- ---- the bits behind the first few
+twice : (m : ℕ) → eqb (0 + 2 * m) 0 ≡ eqb m 0
+twice m = elim (cases_eq m 0) [
+  | inl none ↦ eq-eqb (0 + 2 * m) 0 (omega arith) ∙ sym (eq-eqb m 0 none)
+  | inr some ↦ ne_eqb (0 + 2 * m) 0 (λ e. omega arith) ∙ sym (ne_eqb m 0 some)
+]
+
+one_less : (b : Bool) (m : ℕ) → (cond b 1 0 + 2 * m) / 2 ^ 1 ≡ m
+one_less true m = let e : 1 + 2 * m ≡ m * 2 + 1 = omega arith in ap (λ n. n / 2) e ∙ div-mul-add m 2 1 (omega arith)
+one_less false m = let e : 0 + 2 * m ≡ m * 2 + 0 = omega arith in ap (λ n. n / 2) e ∙ div-mul-add m 2 0 (omega arith)
+
+zero_div : (few : ℕ) → 0 / 2 ^ suc few ≡ 0
+zero_div few = let h = shr_le 0 (suc few) in omega arith
+
+bits_behind : (bs : List Bool) (few : ℕ) → mask_l bs / 2 ^ few ≡ mask_l (drop few bs)
+bits_behind bs zero = let e : mask_l bs ≡ mask_l bs * 1 + 0 = omega arith in ap (λ n. n / 1) e ∙ div-mul-add (mask_l bs) 1 0 (omega arith)
+bits_behind [] (suc few) = zero_div few
+bits_behind (b ∷ bs) (suc few) =
+    let more : suc few ≡ 1 + few = omega arith in
+    ap (λ k. (cond b 1 0 + 2 * mask_l bs) / 2 ^ k) more ∙ sym (shr-shr (cond b 1 0 + 2 * mask_l bs) 1 few) ∙ ap (λ n. n / 2 ^ few) (one_less b (mask_l bs)) ∙ bits_behind bs few
+
+map_behind : (p : ℕ → Bool) (xs : List ℕ) (few : ℕ) → drop few (map p xs) ≡ map p (drop few xs)
+map_behind p xs zero = refl
+map_behind p [] (suc few) = refl
+map_behind p (x ∷ xs) (suc few) = map_behind p xs few
+
+pub chunk_behind : (xs : List ℕ) (few n : ℕ) → drop few (take n xs) ≡ take (n - few) (drop few xs)
+chunk_behind xs zero n = let e : n ≡ n - 0 = omega arith in ap (λ k. take k xs) e
+chunk_behind [] (suc few) zero = sym (take_all (0 - suc few) [] (omega arith))
+chunk_behind [] (suc few) (suc n) = sym (take_all (suc n - suc few) [] (omega arith))
+chunk_behind (x ∷ xs) (suc few) zero = ap (λ k. take k (drop few xs)) none
+  where
+    none : 0 ≡ 0 - suc few
+    none = omega arith
+chunk_behind (x ∷ xs) (suc few) (suc n) =
+    let less : suc n - suc few ≡ n - few = omega arith in
+    chunk_behind xs few n ∙ ap (λ k. take k (drop few xs)) (sym less)
+
+pub behind : (p : ℕ → Bool) (s : List ℕ) (at few n : ℕ) → mask_l (map p (chunk at n s)) / 2 ^ few ≡ mask_l (map p (chunk (at + few) (n - few) s))
+behind p s at few n =
+    let here = chunk at n s in
+    let rest = map_behind p here few ∙ ap (map p) (chunk_behind (drop at s) few n ∙ ap (take (n - few)) (drop-drop few at s)) in
+    bits_behind (map p here) few ∙ ap mask_l rest
+
+-- no bit is set where no byte is of the kind
+pub no_bit : (p : ℕ → Bool) (xs : List ℕ) → eqb (mask_l (map p xs)) 0 ≡ list_all (λ x. not (p x)) xs
+no_bit p [] = refl
+no_bit p (x ∷ xs) = by (p x) (no_bit p xs)
+  where
+    by : (b : Bool) → eqb (mask_l (map p xs)) 0 ≡ list_all (λ y. not (p y)) xs → eqb (cond b 1 0 + 2 * mask_l (map p xs)) 0 ≡ (not b && list_all (λ y. not (p y)) xs)
+    by true h = ne_eqb (1 + 2 * mask_l (map p xs)) 0 (λ e. omega arith)
+    by false h = twice (mask_l (map p xs)) ∙ h
+
+-- lanes that are computed byte by byte, held to a test at each of the 256 bytes
+each_byte : (f : ℕ → ℕ) (p : ℕ → Bool) → agree_below (λ x. top 7 (f x)) p 256 ≡ true → (xs : List ℕ) → Each1 (Fits w8) xs → map (top 7) (map f xs) ≡ map p xs
+each_byte f p all [] fits = refl
+each_byte f p all (x ∷ xs) fits = ap₂ (λ b bs. b ∷ bs) (agree_below_at (λ y. top 7 (f y)) p 256 x all fits.0.fits) (each_byte f p all xs fits.1)
+
+pub masked : (f : ℕ → ℕ) (p : ℕ → Bool) (xs z : List ℕ) → length xs ≤ 64 → Each1 (Fits w8) xs → z ≡ map f xs → agree_below (λ x. top 7 (f x)) p 256 ≡ true
+    → mask_l (map (top 7) z) % 2 ^ 64 ≡ mask_l (map p xs)
+masked f p xs z few fits lanes all =
+    ap (λ l. mask_l l % 2 ^ 64) (ap (map (top 7)) lanes ∙ each_byte f p all xs fits) ∙ mask_l-mod (map p xs) 64 (omega (arith, length-map xs p))
+
+-- ---- from a block to the first bar
+pub within : (p : ℕ → Bool) (s : List ℕ) (at : ℕ) → at ≤ length s → at + position_or_len p (drop at s) ≤ length s
+within p s at h = omega (arith, prefix_len-le-length (λ x. not (p x)) (drop at s), length-drop at s)
+
+none_stands : (b : Bool) (n l m : ℕ) → n ≤ l → cond (not b) (1 + n) 0 ≡ 1 + l → (n ≡ l → m ≡ 0) → cond b 1 0 + 2 * m ≡ 0
+none_stands true n l m le e ih = absurd (omega arith)
+none_stands false n l m le e ih = let z = ih (omega arith) in omega arith
+
+no_bits : (p : ℕ → Bool) (xs : List ℕ) → position_or_len p xs ≡ length xs → mask_l (map p xs) ≡ 0
+no_bits p [] e = refl
+no_bits p (x ∷ xs) e = none_stands (p x) _ (length xs) _ (prefix_len-le-length (λ y. not (p y)) xs) (omega arith) (no_bits p xs)
+
+cut : (p : ℕ → Bool) (s : List ℕ) (at n : ℕ) → position_or_len p (drop at s) ≡ cond (eqb (position_or_len p (chunk at n s)) (length (chunk at n s))) (length (chunk at n s) + position_or_len p (drop (at + n) s)) (position_or_len p (chunk at n s))
+cut p s at n = ap (position_or_len p) (chunk-drop at n s) ∙ prefix_len-append (λ x. not (p x)) (chunk at n s) (drop (at + n) s)
+
+-- no bit is set: the first bar stands behind the block
+pub passed : (p : ℕ → Bool) (s : List ℕ) (at n : ℕ) → at + n ≤ length s → mask_l (map p (chunk at n s)) ≡ 0 → position_or_len p (drop at s) ≡ n + position_or_len p (drop (at + n) s)
+passed p s at n room none =
+    let here = chunk at n s in
+    cut p s at n ∙ ap (λ b. cond b (length here + position_or_len p (drop (at + n) s)) (position_or_len p here)) (eq-eqb _ _ (leading_from_mask_l p here none))
+    ∙ ap (λ k. k + position_or_len p (drop (at + n) s)) (length-chunk at n s room)
+
+-- the lowest bit that is set is the first bar
+pub found : (p : ℕ → Bool) (s : List ℕ) (at n : ℕ) → at + n ≤ length s → n ≤ 64 → 0 < mask_l (map p (chunk at n s)) → position_or_len p (drop at s) ≡ count_trailing_zeros 64 (mask_l (map p (chunk at n s)))
+found p s at n room short some =
+    let here = chunk at n s in
+    cut p s at n ∙ ap (λ b. cond b (length here + position_or_len p (drop (at + n) s)) (position_or_len p here)) (ne_eqb _ _ (λ (e : position_or_len p here ≡ length here). omega (arith, no_bits p here e)))
+    ∙ sym (trailing_mask_l p 64 here (omega (arith, length-chunk at n s room)) some)
+
+-- ---- the same of the bits of a block, by their number
+bits_are : (s : List ℕ) (at from n bits : ℕ) → at ≡ from → bits ≡ bar_bits s at n → mask_l (map is_bar (chunk from n s)) ≡ bits
+bits_are s at from n bits e is = ap (λ k. bar_bits s k n) (sym e) ∙ sym is
+
+pub passed_at : (s : List ℕ) (at from n bits : ℕ) → at ≡ from → from + n ≤ length s → bits ≡ bar_bits s at n → bits ≡ 0
+    → position_or_len is_bar (drop from s) ≡ n + position_or_len is_bar (drop (from + n) s)
+passed_at s at from n bits e room is none = passed is_bar s from n room (bits_are s at from n bits e is ∙ none)
+
+pub found_at : (s : List ℕ) (at from n bits : ℕ) → at ≡ from → from + n ≤ length s → n ≤ 64 → bits ≡ bar_bits s at n → 0 < bits
+    → position_or_len is_bar (drop from s) ≡ count_trailing_zeros 64 bits
+found_at s at from n bits e room few is some =
+    let same = bits_are s at from n bits e is in
+    found is_bar s from n room few (omega (arith, same)) ∙ ap (count_trailing_zeros 64) same
+
+pub last_passed : (s : List ℕ) (at from n bits : ℕ) → at ≡ from → from + n ≡ length s → bits ≡ bar_bits s at n → bits ≡ 0
+    → length s ≡ from + position_or_len is_bar (drop from s)
+last_passed s at from n bits e all is none =
+    let rest = passed_at s at from n bits e (omega arith) is none in
+    let nothing = prefix_len-drop_all (λ x. not (is_bar x)) s (from + n) (omega arith) in
+    omega (arith, rest, nothing)

@@ -1,0 +1,6 @@
+-- A device of proofs: two bytes that stand no lower than digits, so that what they count can be taken from them.
+use Rattle.std.specs.Prelude.{ℕ, List, ◌+◌, ◌≤◌, slice_index}
+use Rattle.sip_reader.specs.Bytes as byte
+
+abbrev pub ArePair : List ℕ → ℕ → Type 0
+ArePair bytes i = (byte.zero ≤ slice_index bytes i) × (byte.zero ≤ slice_index bytes (i + 1))

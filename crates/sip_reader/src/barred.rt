@@ -1,0 +1,81 @@
+//! The bytes that no id and no text has: bars, CRs and LFs.
+
+ghost use Rattle.std.specs.Prelude.{◌≡◌, ◌≤◌, ◌+◌, length};
+ghost use Rattle.std.specs.List.{list_all, list_any};
+ghost use Rattle.std.specs.Simd.Lanes.{chunk};
+ghost use Rattle.sip_reader.specs.Devices.Bars.{is_clean};
+ghost use Rattle.sip_reader.specs.Texts.{is_barred};
+
+use crate::checks::BLOCK;
+use std::simd::prelude::*;
+
+/// Whether a bar, CR or LF stands among the bytes.
+pub(crate) fn has_barred(bytes: &[u8]) -> bool
+    ensures { result ≡ list_any is_barred bytes.now }
+{
+    !are_clean(bytes)
+}
+
+/// Whether none does. Most ids have from four to fifteen bytes, which two blocks cover, one of them at the front and one at
+/// the end.
+fn are_clean(bytes: &[u8]) -> bool
+    ensures { result ≡ list_all is_clean bytes.now }
+{
+    let len = bytes.len();
+    if len >= BLOCK {
+        are_clean_by_blocks(bytes)
+    } else if len >= 8 {
+        is_clean_eight(bytes, 0) && is_clean_eight(bytes, len - 8)
+    } else if len >= 4 {
+        is_clean_four(bytes, 0) && is_clean_four(bytes, len - 4)
+    } else {
+        bytes
+            .iter()
+            .all(|b| !(*b == b'|' || *b == b'\r' || *b == b'\n'))
+    }
+}
+
+/// The same, seen in blocks. The last block may reach over a part of the one before.
+fn are_clean_by_blocks(bytes: &[u8]) -> bool
+    requires { BLOCK ≤ length bytes.now }
+    ensures { result ≡ list_all is_clean bytes.now }
+{
+    let mut at = 0;
+    while bytes.len() - at > BLOCK {
+        if !is_clean_block(bytes, at) {
+            return false;
+        }
+        at += BLOCK;
+    }
+    is_clean_block(bytes, bytes.len() - BLOCK)
+}
+
+/// Whether none stands in a block.
+fn is_clean_block(bytes: &[u8], at: usize) -> bool
+    requires { at + BLOCK ≤ length bytes.now }
+    ensures { result ≡ list_all is_clean (chunk at BLOCK bytes.now) }
+{
+    let block = u8x16::from_slice(&bytes[at..]);
+    let ends = block.simd_eq(u8x16::splat(b'\r')) | block.simd_eq(u8x16::splat(b'\n'));
+    (block.simd_eq(u8x16::splat(b'|')) | ends).to_bitmask() == 0
+}
+
+/// Whether none stands among eight bytes.
+fn is_clean_eight(bytes: &[u8], at: usize) -> bool
+    requires { at + 8 ≤ length bytes.now }
+    ensures { result ≡ list_all is_clean (chunk at 8 bytes.now) }
+{
+    let block = u8x8::from_slice(&bytes[at..]);
+    let ends = block.simd_eq(u8x8::splat(b'\r')) | block.simd_eq(u8x8::splat(b'\n'));
+    (block.simd_eq(u8x8::splat(b'|')) | ends).to_bitmask() == 0
+}
+
+/// Whether none stands among four bytes.
+fn is_clean_four(bytes: &[u8], at: usize) -> bool
+    requires { at + 4 ≤ length bytes.now }
+    ensures { result ≡ list_all is_clean (chunk at 4 bytes.now) }
+{
+    let block = u8x4::from_slice(&bytes[at..]);
+    let ends = block.simd_eq(u8x4::splat(b'\r')) | block.simd_eq(u8x4::splat(b'\n'));
+    (block.simd_eq(u8x4::splat(b'|')) | ends).to_bitmask() == 0
+}

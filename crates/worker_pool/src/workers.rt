@@ -29,8 +29,9 @@ const STAND_BACK: u64 = 800;
 /// nothing up, and slows the others down: the board goes from one core's cache to another's at each step.
 const BUSY: u64 = 10;
 
-/// How often a worker doubles the time for which it stands back while the lock is busy turn after turn: up to 13 milliseconds.
-const DOUBLINGS: u32 = 4;
+/// How often a worker doubles the time for which it stands back while the lock is busy turn after turn: up to a tenth of a second. What
+/// the others do meanwhile is little, and each of their lines takes the board from the first worker's cache.
+const DOUBLINGS: u32 = 7;
 
 /// How many pauses of the processor, of 5 to 50 nanoseconds each, the first worker stands back. It never sleeps, so that a line that
 /// everybody waits for is soon in hand.

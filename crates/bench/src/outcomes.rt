@@ -6,14 +6,13 @@ ghost use Rattle.read_set.specs.Plans.{readings_of};
 ghost use Rattle.sip_reader.specs.declared.request.Reading.{Reading};
 ghost use Rattle.result_report.specs.Report.{AreAnswers, is_answered, answers_behind};
 
-use circ_records::Records;
+use circ_records::{RecordMap, Records};
 use journal_table::Journal;
 use read_set::Plan;
 use result_report::Outcome;
 use sip_answer::Answer;
 use sip_reader::Reading;
 use std::alloc::{AllocError, Global};
-use std::collections::BTreeMap;
 
 /// The answer, where a line of this reading has one.
 fn answer_to<'e>(reading: &Reading, answer: &'e Answer) -> Option<&'e Answer>
@@ -51,7 +50,7 @@ pub(crate) fn outcome_of<'e>(
         answers.push(answer_at(plan, place, answer))?;
     }
     Ok(Outcome {
-        records: Records::from_map(BTreeMap::new(alloc)),
+        records: Records::from_map(alloc, RecordMap::new(alloc))?,
         answers,
         attempts: Vec::new(alloc),
     })

@@ -10,15 +10,21 @@ ghost use Rattle.board_lines.specs.Notes.{found_by, notes_by, contents_at};
 
 use crate::notes::{PlaceNotes, PlacedName};
 use circ_records::{KeptKey, Key, Record};
-use read_set::{Note, NotedRecord, Notes, Plan, PlanName};
+use read_set::{Note, NotedRecord, Notes, Plan, PlanName, found_in};
 use std::alloc::{AllocError, Global};
 use version_store::Place;
+
+/// Among so many writes a key is looked for one by one: to tell whether a key is the same costs less than how it stands to another.
+const FEW: usize = 4;
 
 /// The record that is written at a key.
 pub fn written<'w>(writes: &'w [(KeptKey, Record)], key: &Key) -> Option<&'w Record>
     requires { IsStrictlySortedBy key_cmp (map (λ e. e.0) writes.now) }
     ensures { option_copied result ≡ record_at writes.now key.now }
 {
+    if writes.len() <= FEW {
+        return found_in(writes, key);
+    }
     let Ok(place) = writes.binary_search_by(|write| write.0.order(key)) else {
         return None;
     };

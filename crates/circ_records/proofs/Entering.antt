@@ -2,7 +2,6 @@
 use Rattle.std.proofs.Common.{◌≡◌, ℕ, List, [], ◌∷◌, ◌++◌, Bool, true, false, cond, Option, Some, None, map, refl, sym, ap, ◌∙◌}
 use Rattle.std.specs.Prelude.{option_map, ◌&&◌}
 use lib.Dec.{T}
-use Rattle.std.specs.BTreeMap.{BTreeMap, IsOrdered}
 use Rattle.std.specs.FinMap.{from_entries, entries, entries_sorted, get-entries, get-from_entries}
 use Rattle.std.specs.FinMap.Entries.{find, is_sorted, below_all, same_entries}
 use Rattle.std.specs.List.{AllByRecursion}
@@ -15,7 +14,6 @@ use Rattle.std.specs.declared.cmp.Ordering.TheVariants.{Less}
 use Rattle.std.proofs.lemmas.Map.Keys.{sorted_head, sorted_tail}
 use Rattle.std.proofs.lemmas.Map.Text.{is_eq-slice_cmp}
 use Rattle.circ_records.specs.Keys.{key_cmp, key_cmp_total, key_cmp-IsAntisymmetric}
-use Rattle.circ_records.specs.Read.{Tells}
 use Rattle.circ_records.specs.Records.{Entries, record_at}
 use Rattle.circ_records.specs.Tables.{Row, Rows, field}
 use Rattle.circ_records.specs.Told.{closed_entry, closed_told, entries_told, fee_entry, fee_told, item_entry, item_told, listed, patron_entry, patron_told, row_with, told}
@@ -105,7 +103,3 @@ same-entries rows es rising tells =
     let m = from_entries {R = key_cmp} (listed rows) in
     same_entries key_cmp key_cmp_total key_cmp-IsAntisymmetric es (entries m) (is_sorted-of es rising) (entries_sorted m)
     (λ q. tells q ∙ sym (sym (get-entries m q) ∙ get-from_entries key_cmp_total (listed rows) q ∙ listed-told rows q))
-
--- a map that has them has their entries
-pub entries-told : (rows : Rows) (records : BTreeMap Key Record) → IsOrdered key_cmp records → Tells rows records → records.entries ≡ entries_told rows
-entries-told rows records ordered tells = same-entries rows records.entries ordered tells

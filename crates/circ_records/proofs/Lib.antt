@@ -1,4 +1,5 @@
 pub mod Alike
+pub mod Behind
 pub mod Bounds
 pub mod Broken
 pub mod Calendar
@@ -9,11 +10,11 @@ pub mod Entering
 pub mod Entries
 pub mod Faults
 pub mod FirstBroken
-pub mod Gathering
 pub mod Judged
 pub mod Kept
 pub mod Lookups
 pub mod Picked
+pub mod Positions
 pub mod ReadAgain
 pub mod ReadBack
 pub mod Reading

@@ -1,9 +1,9 @@
 -- What a row changes of a record that an earlier table told, and the rule that it breaks there.
 use Rattle.std.specs.Prelude.{◌≡◌, ℕ, List, ◌++◌, ◌∷◌, [], length, Option, Some, None, is_some, nat_le, cond, option_map, if◌then◌else◌}
-use Rattle.std.specs.BTreeMap.{BTreeMap, get}
 use Rattle.std.specs.Ordering.{eq_by_cmp}
 use Rattle.circ_records.specs.Coherent.{is_loan_of}
 use Rattle.circ_records.specs.Keys.{key_cmp}
+use Rattle.circ_records.specs.Records.{Entries, record_at}
 use Rattle.circ_records.specs.declared.changes.Change.{Change}
 use Rattle.circ_records.specs.declared.changes.Change.TheVariants as change
 use Rattle.circ_records.specs.declared.fault.BaseRule.{BaseRule}
@@ -23,8 +23,8 @@ changed (change.Awaited hold) (record_of.Item i) = record_of.Item (record i { ho
 changed c r = r
 
 -- a map in which the record at a key was changed, and no other
-abbrev pub IsChanged : Key → Change → BTreeMap Key Record → BTreeMap Key Record → Type 0
-IsChanged key c old new = (q : Key) → get key_cmp new q ≡ cond (eq_by_cmp key_cmp key q) (option_map (changed c) (get key_cmp old q)) (get key_cmp old q)
+abbrev pub IsChanged : Key → Change → Entries → Entries → Type 0
+IsChanged key c old new = (q : Key) → record_at new q ≡ cond (eq_by_cmp key_cmp key q) (option_map (changed c) (record_at old q)) (record_at old q)
 
 -- the rule that a hold of a patron breaks on an item
 abbrev pub broken_hold : List ℕ → Item → Option BaseRule

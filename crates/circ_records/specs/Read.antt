@@ -1,6 +1,5 @@
 -- What the parts of the reading cite.
 use Rattle.std.specs.Prelude.{◌≡◌, ℕ, true, List, [], Option, Some, IsSome, Err, unwrap_or}
-use Rattle.std.specs.BTreeMap.{BTreeMap, get}
 use Rattle.std.specs.BTreeSet.{BTreeSet, contains}
 use Rattle.std.specs.Cmp.Lexicographic.{slice_cmp}
 use Rattle.std.specs.Ordering.{nat_cmp, ordering_then}
@@ -9,7 +8,6 @@ use Rattle.csv_table.specs.Rows.{rows_under}
 use Rattle.csv_table.specs.declared.TableError.{TableError}
 use Rattle.csv_table.specs.declared.TableError.TheVariants as refusal
 use Rattle.circ_records.specs.Base.{holds_rows_of, rows_of, table_rows}
-use Rattle.circ_records.specs.Keys.{key_cmp}
 use Rattle.circ_records.specs.Records.{Entries, record_at}
 use Rattle.circ_records.specs.Rules.{has_closed_values, has_fee_texts, has_fee_values, has_hold, has_hold_texts, has_loan_texts, has_loan_values}
 use Rattle.circ_records.specs.Tables.{Row, Rows, field, closed_header, fees_header, items_header, loans_header, patrons_header, texts_of}
@@ -20,7 +18,6 @@ use Rattle.circ_records.specs.declared.fees.FeeRow.{FeeRow}
 use Rattle.circ_records.specs.declared.holds.Hold.{Hold}
 use Rattle.circ_records.specs.declared.key.Key.{Key}
 use Rattle.circ_records.specs.declared.loans.LoanRow.{LoanRow}
-use Rattle.circ_records.specs.declared.record.Record.{Record}
 use Rattle.circ_records.specs.declared.record.Record.TheVariants as record_of
 use Rattle.circ_records.specs.declared.tables.TableName.{TableName}
 use Rattle.circ_records.specs.declared.tables.Tables.{Tables}
@@ -95,10 +92,6 @@ to_holds rows holds = record { patrons = rows.patrons; items = rows.items; loans
 -- entries have the records that rows tell
 abbrev pub AreTold : Rows → Entries → Type 0
 AreTold rows entries = (k : Key) → record_at entries k ≡ told rows k
-
--- a map has them
-abbrev pub Tells : Rows → BTreeMap Key Record → Type 0
-Tells rows records = (k : Key) → get key_cmp records k ≡ told rows k
 
 -- a row breaks no rule by itself, and this is what it says
 abbrev pub SaysLoan : LoanRow → Row → Type 0

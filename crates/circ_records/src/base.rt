@@ -1,10 +1,9 @@
 //! The records that a run begins with.
 
-ghost use Rattle.std.specs.Prelude.{◌≡◌, [], None, map, option_copied, IfOk, IfErr};
-ghost use Rattle.std.specs.List.Sorted.{IsStrictlySortedBy};
+ghost use Rattle.std.specs.Prelude.{◌≡◌, ◌<◌, ◌^◌, [], None, length, option_copied, IfOk, IfErr};
 ghost use Rattle.circ_records.specs.Base.{Gives, base_of, first_broken};
 ghost use Rattle.circ_records.specs.Coherent.{Coherent, number_before};
-ghost use Rattle.circ_records.specs.Keys.{key_cmp};
+ghost use Rattle.circ_records.specs.Laws.{AreRising};
 ghost use Rattle.circ_records.specs.Read.{AreTables, StopsAll, rows_in};
 ghost use Rattle.circ_records.specs.Records.{record_at};
 ghost use Rattle.circ_records.specs.Tables.{texts_of};
@@ -13,41 +12,51 @@ ghost use Rattle.circ_records.specs.Told.{entries_told};
 use crate::closed::add_closed;
 use crate::fault::BaseError;
 use crate::fees::add_fees;
-use crate::gathered::Gathered;
 use crate::items::add_items;
+use crate::kept_key::KeptKey;
 use crate::key::Key;
+use crate::listed::found_likely;
 use crate::loans::add_loans;
 use crate::patrons::add_patrons;
+use crate::places::Places;
 use crate::queues::add_holds;
 use crate::record::Record;
+use crate::record_map::RecordMap;
 use crate::rows::check_tables;
 use crate::tables::Tables;
 use circ_policy::Policy;
-use std::alloc::Global;
-use std::collections::BTreeMap;
-use std::collections::btree_map::Keys;
+use std::alloc::{AllocError, Global};
 use std::marker::Model;
 use std::mem::replace;
 
 /// The records that a run begins with, by their keys.
 pub struct Base {
-    records: BTreeMap<Key, Record>,
+    /// By rising keys.
+    records: Vec<(KeptKey, Record)>,
+    /// Where each likely stands.
+    places: Places,
 }
 
 impl Drop for Base {
     fn drop(self) {
-        let Base { records: _ } = self;
+        let Base {
+            records: _,
+            places: _,
+        } = self;
     }
 }
 
 impl Model for Base {
     ghost use Rattle.std.specs.Prelude.{List};
+    ghost use Rattle.circ_records.specs.Laws.{AreRising};
     ghost use Rattle.circ_records.specs.declared.key.Key.{Key};
     ghost use Rattle.circ_records.specs.declared.record.Record.{Record};
 
     ghost Value = { List (Key × Record) };
 
-    ghost view = { λ b. b.records.entries };
+    ghost view = { λ b. b.records.items };
+
+    ghost invariant = { λ b. AreRising b.records.items };
 }
 
 impl Base {
@@ -63,7 +72,10 @@ impl Base {
         ensures coherent { IfOk result (λ b. Coherent policy.now (number_before first) b) }
     {
         match records_of(alloc, policy, tables, first) {
-            Ok(records) => Ok(Base { records }),
+            Ok(records) => {
+                let places = Places::of(alloc, records.as_slice())?;
+                Ok(Base { records, places })
+            }
             Err(BaseError::Rule { table, row, rule }) => {
                 check_tables(alloc, tables)?;
                 Err(BaseError::Rule { table, row, rule })
@@ -77,23 +89,34 @@ impl Base {
     pub fn get(&self, key: &Key) -> Option<&Record>
         ensures { option_copied result ≡ record_at self.now key.now }
     {
-        self.records.get(key)
+        found_likely(self.records.as_slice(), &self.places, key)
     }
 
-    /// The keys, rising.
-    pub fn keys(&self) -> Keys<'_, Key, Record>
-        ensures keys { result ≡ map (λ e. e.0) self.now }
-        ensures rising { IsStrictlySortedBy key_cmp (map (λ e. e.0) self.now) }
+    /// The records with their keys, rising.
+    pub fn as_slice(&self) -> &[(KeptKey, Record)]
+        ensures records { result.now ≡ self.now }
+        ensures rising { AreRising self.now }
+        ensures few { length self.now < 2 ^ 64 }
     {
-        self.records.keys()
+        self.records.as_slice()
     }
 
     /// The records by their keys, taken out: the base has none left.
-    pub fn take(&mut self, alloc: Global) -> BTreeMap<Key, Record>
-        ensures taken { result.entries ≡ self.old }
+    pub fn take(&mut self, alloc: Global) -> RecordMap
+        ensures taken { result ≡ self.old }
         ensures left { self.new ≡ [] }
     {
-        replace(&mut self.records, BTreeMap::new(alloc))
+        let places = replace(&mut self.places, Places::none(alloc));
+        let records = replace(&mut self.records, Vec::new(alloc));
+        RecordMap::from_list(alloc, records, places)
+    }
+
+    /// No records. In this map those of the base's keys are found as fast as here, once all of them were put there in their order.
+    pub fn empty_map(&self, alloc: Global) -> Result<RecordMap, AllocError>
+        ensures { IfOk result (λ m. m ≡ []) }
+    {
+        let places = self.places.copy()?;
+        Ok(RecordMap::from_list(alloc, Vec::new(alloc), places))
     }
 }
 
@@ -104,20 +127,21 @@ fn records_of(
     policy: &Policy,
     tables: &Tables,
     first: Option<u64>,
-) -> Result<BTreeMap<Key, Record>, BaseError>
+) -> Result<Vec<(KeptKey, Record)>, BaseError>
     ensures read { IfOk result (λ m. AreTables tables.now) }
     ensures ok { IfOk result (λ m. first_broken policy.now first (rows_in tables.now) ≡ None) }
-    ensures told { IfOk result (λ m. m.entries ≡ entries_told (rows_in tables.now)) }
-    ensures coherent { IfOk result (λ m. Coherent policy.now (number_before first) m.entries) }
+    ensures told { IfOk result (λ m. m.items ≡ entries_told (rows_in tables.now)) }
+    ensures rising { IfOk result (λ m. AreRising m.items) }
+    ensures coherent { IfOk result (λ m. Coherent policy.now (number_before first) m.items) }
     ensures err { IfErr result (λ e. StopsAll e tables.now (first_broken policy.now first (rows_in tables.now))) }
 {
-    let mut gathered = Gathered::new(alloc);
-    add_patrons(alloc, policy, tables, &mut gathered)?;
-    add_items(alloc, policy, tables, &mut gathered)?;
-    let mut records = gathered.into_map(alloc)?;
+    let mut records = RecordMap::new(alloc);
+    add_patrons(alloc, policy, tables, &mut records)?;
+    add_items(alloc, policy, tables, &mut records)?;
     add_loans(alloc, tables, &mut records)?;
     add_fees(alloc, first, tables, &mut records)?;
     add_closed(alloc, first, tables, &mut records)?;
     add_holds(alloc, tables, &mut records)?;
-    Ok(records)
+    let listed = records.into_list(alloc)?;
+    Ok(listed)
 }

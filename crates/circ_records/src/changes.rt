@@ -1,21 +1,16 @@
 //! Records changed in place: what a row changes of a record that an earlier table told, and a fee that is listed.
 
 ghost use Rattle.std.specs.Prelude.{◌≡◌, ◌++◌, ◌∷◌, [], OnOk, OnErr, IfOk, Some, None, is_some};
-ghost use Rattle.std.specs.BTreeMap.{IsOrdered, get};
-ghost use Rattle.circ_records.specs.Changes.{IsChanged, broken_by, broken_hold, changed};
-ghost use Rattle.circ_records.specs.Keys.{key_cmp};
+ghost use Rattle.circ_records.specs.Changes.{broken_by, broken_hold, changed};
 ghost use Rattle.circ_records.specs.declared.changes.Change.TheVariants as change;
-ghost use Rattle.circ_records.specs.declared.key.Key.{Key};
 
 use crate::fault::BaseRule;
 use crate::holds::{Hold, QUEUE_MAX};
-use crate::key::Key;
 use crate::known::is_loan_of;
 use crate::record::{Item, KeptLoan, Loan, Patron, Record};
 use crate::shared::Shared;
 use sip_reader::Id;
 use std::alloc::{AllocError, Global};
-use std::collections::BTreeMap;
 
 /// What a row of loans, fees or holds changes of a patron or an item.
 #[derive(Drop)]
@@ -30,31 +25,9 @@ pub(crate) enum Change {
     Awaited(Hold),
 }
 
-/// Changes the record at a key, or tells the rule that the change breaks there. It is looked for once: a row is judged and told by
-/// one look. Without memory nothing changes.
-pub(crate) fn change_at(
-    alloc: Global,
-    records: &mut BTreeMap<Key, Record>,
-    key: Key,
-    what: Change,
-) -> Result<Option<BaseRule>, AllocError>
-    ensures rule { IfOk result (λ broken. broken ≡ broken_by what (get key_cmp records.old key)) }
-    ensures ok { IfOk result (λ broken. broken ≡ None → IsChanged key what records.old records.new) }
-    ensures err { OnErr result ((q : Key) → get key_cmp records.new q ≡ get key_cmp records.old q) }
-    ensures rising { IsOrdered key_cmp records.new }
-{
-    match records.get_mut(&key) {
-        Some(target) => {
-            let broken = apply(alloc, target, what)?;
-            Ok(broken)
-        }
-        None => Ok(Some(what.lacks())),
-    }
-}
-
 impl Change {
     /// The rule that it breaks where there is no such record.
-    fn lacks(&self) -> BaseRule
+    pub(crate) fn lacks(&self) -> BaseRule
         ensures { Some result ≡ broken_by self.now None }
     {
         match self {
@@ -64,7 +37,12 @@ impl Change {
     }
 }
 
-fn apply(alloc: Global, target: &mut Record, what: Change) -> Result<Option<BaseRule>, AllocError>
+/// Changes a record, or tells the rule that the change breaks there. Without memory nothing changes.
+pub(crate) fn apply(
+    alloc: Global,
+    target: &mut Record,
+    what: Change,
+) -> Result<Option<BaseRule>, AllocError>
     ensures rule { IfOk result (λ broken. broken ≡ broken_by what (Some target.old)) }
     ensures ok { IfOk result (λ broken. broken ≡ None → target.new ≡ changed what target.old) }
     ensures err { OnErr result (target.new ≡ target.old) }

@@ -1,27 +1,23 @@
 //! The table of closed fees, which are paid in full.
 
 ghost use Rattle.std.specs.Prelude.{◌≡◌, ◌++◌, ◌∷◌, [], List, ◌||◌, false, None, IsSome, IfOk, IfErr, OnOk};
-ghost use Rattle.std.specs.BTreeMap.{IsOrdered};
 ghost use Rattle.csv.specs.Records.{fields_of};
 ghost use Rattle.csv_table.specs.Rows.{rows_under};
 ghost use Rattle.circ_records.specs.Base.{broken_closed};
-ghost use Rattle.circ_records.specs.Keys.{key_cmp};
-ghost use Rattle.circ_records.specs.Read.{SaysClosed, Stops, Tells, rows_in, to_closed, to_fees};
+ghost use Rattle.circ_records.specs.Read.{AreTold, SaysClosed, Stops, rows_in, to_closed, to_fees};
 ghost use Rattle.circ_records.specs.Rules as Rules;
 ghost use Rattle.circ_records.specs.Tables.{Row, Rows, field, closed_header};
 ghost use Rattle.circ_records.specs.declared.tables.TableName.TheVariants as table;
 
 use crate::fault::{BaseError, BaseRule};
 use crate::fees::{FeeRow, insert_fee, read_closed};
-use crate::key::Key;
 use crate::known::has_patron;
 use crate::made_fees::is_taken;
-use crate::record::Record;
+use crate::record_map::RecordMap;
 use crate::rows::{CLOSED, TableRows};
 use crate::tables::{TableName, Tables};
 use csv::ByteRecord;
 use std::alloc::{AllocError, Global};
-use std::collections::BTreeMap;
 
 /// Puts the closed fees of the table among the records, or tells the first rule that a row breaks. `first` is the number
 /// of the journal's first line.
@@ -29,14 +25,12 @@ pub(crate) fn add_closed(
     alloc: Global,
     first: Option<u64>,
     tables: &Tables,
-    records: &mut BTreeMap<Key, Record>,
+    records: &mut RecordMap,
 ) -> Result<(), BaseError>
-    requires told { Tells (to_fees (rows_in tables.now) (rows_in tables.now).fees) records.old }
-    requires rising { IsOrdered key_cmp records.old }
+    requires told { AreTold (to_fees (rows_in tables.now) (rows_in tables.now).fees) records.old }
     ensures read { OnOk result (IsSome (rows_under closed_header tables.now.closed.items)) }
     ensures ok { OnOk result (broken_closed first (rows_in tables.now) ≡ None) }
-    ensures told { OnOk result (Tells (to_closed (rows_in tables.now) (rows_in tables.now).closed) records.new) }
-    ensures rising { OnOk result (IsOrdered key_cmp records.new) }
+    ensures told { OnOk result (AreTold (to_closed (rows_in tables.now) (rows_in tables.now).closed) records.new) }
     ensures err { IfErr result (λ e. Stops e table.Closed (rows_under closed_header tables.now.closed.items) (broken_closed first (rows_in tables.now))) }
 {
     let mut rows = TableRows::under(alloc, TableName::Closed, &CLOSED, &tables.closed)?;
@@ -57,11 +51,10 @@ fn add_fee(
     alloc: Global,
     first: Option<u64>,
     row: &ByteRecord,
-    records: &mut BTreeMap<Key, Record>,
+    records: &mut RecordMap,
 ) -> Result<Option<BaseRule>, AllocError>
-    ensures rule { IfOk result (λ broken. (r : Rows) → Tells r records.old → broken ≡ Rules.closed_rule first r.patrons r.fees r.closed (fields_of row.now)) }
-    ensures told { IfOk result (λ broken. broken ≡ None → (r : Rows) (before : List Row) → Tells (to_closed r before) records.old → (Rules.has_row 0 (field 0 (fields_of row.now)) r.fees || Rules.has_row 0 (field 0 (fields_of row.now)) before) ≡ false → Tells (to_closed r (before ++ fields_of row.now ∷ [])) records.new) }
-    ensures rising { OnOk result (IsOrdered key_cmp records.old → IsOrdered key_cmp records.new) }
+    ensures rule { IfOk result (λ broken. (r : Rows) → AreTold r records.old → broken ≡ Rules.closed_rule first r.patrons r.fees r.closed (fields_of row.now)) }
+    ensures told { IfOk result (λ broken. broken ≡ None → (r : Rows) (before : List Row) → AreTold (to_closed r before) records.old → (Rules.has_row 0 (field 0 (fields_of row.now)) r.fees || Rules.has_row 0 (field 0 (fields_of row.now)) before) ≡ false → AreTold (to_closed r (before ++ fields_of row.now ∷ [])) records.new) }
 {
     match read_closed(row) {
         Ok(said) => put_closed(alloc, first, &said, records),
@@ -74,11 +67,10 @@ fn put_closed(
     alloc: Global,
     first: Option<u64>,
     said: &FeeRow,
-    records: &mut BTreeMap<Key, Record>,
+    records: &mut RecordMap,
 ) -> Result<Option<BaseRule>, AllocError>
-    ensures rule { IfOk result (λ broken. (r : Rows) (row : Row) → SaysClosed said.now row → Tells r records.old → broken ≡ Rules.closed_rule first r.patrons r.fees r.closed row) }
-    ensures told { IfOk result (λ broken. broken ≡ None → (r : Rows) (before : List Row) (row : Row) → SaysClosed said.now row → Tells (to_closed r before) records.old → (Rules.has_row 0 (field 0 row) r.fees || Rules.has_row 0 (field 0 row) before) ≡ false → Tells (to_closed r (before ++ row ∷ [])) records.new) }
-    ensures rising { OnOk result (IsOrdered key_cmp records.new) }
+    ensures rule { IfOk result (λ broken. (r : Rows) (row : Row) → SaysClosed said.now row → AreTold r records.old → broken ≡ Rules.closed_rule first r.patrons r.fees r.closed row) }
+    ensures told { IfOk result (λ broken. broken ≡ None → (r : Rows) (before : List Row) (row : Row) → SaysClosed said.now row → AreTold (to_closed r before) records.old → (Rules.has_row 0 (field 0 row) r.fees || Rules.has_row 0 (field 0 row) before) ≡ false → AreTold (to_closed r (before ++ row ∷ [])) records.new) }
 {
     if insert_fee(alloc, said, records)? {
         Ok(Some(BaseRule::Double))

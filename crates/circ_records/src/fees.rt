@@ -1,14 +1,14 @@
 //! The table of open fees, and what it shares with that of closed ones.
 
 ghost use Rattle.std.specs.Prelude.{◌≡◌, ◌++◌, ◌∷◌, [], List, Option, true, false, Some, None, IsSome, is_some, not, cond, nat_lt, if◌then◌else◌, IfOk, IfErr, OnOk};
-ghost use Rattle.std.specs.BTreeMap.{IsOrdered, get};
 ghost use Rattle.std.specs.Ordering.{eq_by_cmp};
 ghost use Rattle.csv.specs.Records.{fields_of};
 ghost use Rattle.csv_table.specs.Rows.{rows_under};
 ghost use Rattle.circ_records.specs.Base.{broken_fees};
 ghost use Rattle.circ_records.specs.Keys.{key_cmp};
 ghost use Rattle.circ_records.specs.MadeFees as MadeFees;
-ghost use Rattle.circ_records.specs.Read.{SaysClosed, SaysFee, Stops, Tells, rows_in, to_fees, to_loans};
+ghost use Rattle.circ_records.specs.Read.{AreTold, SaysClosed, SaysFee, Stops, rows_in, to_fees, to_loans};
+ghost use Rattle.circ_records.specs.Records.{record_at};
 ghost use Rattle.circ_records.specs.Rules as Rules;
 ghost use Rattle.circ_records.specs.Tables.{Row, Rows, field, fees_header};
 ghost use Rattle.circ_records.specs.declared.fault.BaseRule.{BaseRule};
@@ -18,19 +18,19 @@ ghost use Rattle.circ_records.specs.declared.key.Key.TheVariants as key;
 ghost use Rattle.circ_records.specs.declared.record.Record.TheVariants as record_of;
 ghost use Rattle.circ_records.specs.declared.tables.TableName.TheVariants as table;
 
-use crate::changes::{Change, change_at};
+use crate::changes::Change;
 use crate::fault::{BaseError, BaseRule};
 use crate::fee_rows::is_open;
 use crate::key::Key;
 use crate::made_fees::is_taken;
 use crate::record::{Fee, FeeType, Record};
+use crate::record_map::RecordMap;
 use crate::rows::{FEES, TableRows};
 use crate::tables::{TableName, Tables};
 use csv::ByteRecord;
 use csv_table::column;
 use sip_reader::{Amount, Id};
 use std::alloc::{AllocError, Global};
-use std::collections::BTreeMap;
 
 /// Puts the open fees of the table among the records, or tells the first rule that a row breaks. `first` is the number of
 /// the journal's first line.
@@ -38,14 +38,12 @@ pub(crate) fn add_fees(
     alloc: Global,
     first: Option<u64>,
     tables: &Tables,
-    records: &mut BTreeMap<Key, Record>,
+    records: &mut RecordMap,
 ) -> Result<(), BaseError>
-    requires told { Tells (to_loans (rows_in tables.now) (rows_in tables.now).loans) records.old }
-    requires rising { IsOrdered key_cmp records.old }
+    requires told { AreTold (to_loans (rows_in tables.now) (rows_in tables.now).loans) records.old }
     ensures read { OnOk result (IsSome (rows_under fees_header tables.now.fees.items)) }
     ensures ok { OnOk result (broken_fees first (rows_in tables.now) ≡ None) }
-    ensures told { OnOk result (Tells (to_fees (rows_in tables.now) (rows_in tables.now).fees) records.new) }
-    ensures rising { OnOk result (IsOrdered key_cmp records.new) }
+    ensures told { OnOk result (AreTold (to_fees (rows_in tables.now) (rows_in tables.now).fees) records.new) }
     ensures err { IfErr result (λ e. Stops e table.Fees (rows_under fees_header tables.now.fees.items) (broken_fees first (rows_in tables.now))) }
 {
     let mut rows = TableRows::under(alloc, TableName::Fees, &FEES, &tables.fees)?;
@@ -66,11 +64,10 @@ fn add_fee(
     alloc: Global,
     first: Option<u64>,
     row: &ByteRecord,
-    records: &mut BTreeMap<Key, Record>,
+    records: &mut RecordMap,
 ) -> Result<Option<BaseRule>, AllocError>
-    ensures rule { IfOk result (λ broken. (r : Rows) → Tells r records.old → r.closed ≡ [] → broken ≡ Rules.fee_rule first r.patrons r.fees (fields_of row.now)) }
-    ensures told { IfOk result (λ broken. broken ≡ None → (r : Rows) (before : List Row) → Tells (to_fees r before) records.old → Rules.has_row 0 (field 0 (fields_of row.now)) before ≡ false → Tells (to_fees r (before ++ fields_of row.now ∷ [])) records.new) }
-    ensures rising { OnOk result (IsOrdered key_cmp records.old → IsOrdered key_cmp records.new) }
+    ensures rule { IfOk result (λ broken. (r : Rows) → AreTold r records.old → r.closed ≡ [] → broken ≡ Rules.fee_rule first r.patrons r.fees (fields_of row.now)) }
+    ensures told { IfOk result (λ broken. broken ≡ None → (r : Rows) (before : List Row) → AreTold (to_fees r before) records.old → Rules.has_row 0 (field 0 (fields_of row.now)) before ≡ false → AreTold (to_fees r (before ++ fields_of row.now ∷ [])) records.new) }
 {
     match read_fee(row) {
         Ok(said) => put_open(alloc, first, &said, records),
@@ -83,17 +80,16 @@ fn put_open(
     alloc: Global,
     first: Option<u64>,
     said: &FeeRow,
-    records: &mut BTreeMap<Key, Record>,
+    records: &mut RecordMap,
 ) -> Result<Option<BaseRule>, AllocError>
-    ensures rule { IfOk result (λ broken. (r : Rows) (row : Row) → SaysFee said.now row → Tells r records.old → r.closed ≡ [] → broken ≡ Rules.fee_rule first r.patrons r.fees row) }
-    ensures told { IfOk result (λ broken. broken ≡ None → (r : Rows) (before : List Row) (row : Row) → SaysFee said.now row → Tells (to_fees r before) records.old → Rules.has_row 0 (field 0 row) before ≡ false → Tells (to_fees r (before ++ row ∷ [])) records.new) }
-    ensures rising { OnOk result (IsOrdered key_cmp records.new) }
+    ensures rule { IfOk result (λ broken. (r : Rows) (row : Row) → SaysFee said.now row → AreTold r records.old → r.closed ≡ [] → broken ≡ Rules.fee_rule first r.patrons r.fees row) }
+    ensures told { IfOk result (λ broken. broken ≡ None → (r : Rows) (before : List Row) (row : Row) → SaysFee said.now row → AreTold (to_fees r before) records.old → Rules.has_row 0 (field 0 row) before ≡ false → AreTold (to_fees r (before ++ row ∷ [])) records.new) }
 {
     if insert_fee(alloc, said, records)? {
         return Ok(Some(BaseRule::Double));
     }
     let key = Key::Patron(said.fee.patron);
-    let broken = change_at(alloc, records, key, Change::Owes(said.id))?;
+    let broken = records.change(alloc, key, Change::Owes(said.id))?;
     if broken.is_some() {
         return Ok(broken);
     }
@@ -104,15 +100,13 @@ fn put_open(
 pub(crate) fn insert_fee(
     alloc: Global,
     said: &FeeRow,
-    records: &mut BTreeMap<Key, Record>,
+    records: &mut RecordMap,
 ) -> Result<bool, AllocError>
-    ensures double { IfOk result (λ double. double ≡ is_some (get key_cmp records.old (key.Fee said.now.id))) }
-    ensures put { OnOk result ((q : Key) → get key_cmp records.new q ≡ cond (eq_by_cmp key_cmp (key.Fee said.now.id) q) (Some (record_of.Fee said.now.fee)) (get key_cmp records.old q)) }
-    ensures rising { OnOk result (IsOrdered key_cmp records.new) }
+    ensures double { IfOk result (λ double. double ≡ is_some (record_at records.old (key.Fee said.now.id))) }
+    ensures put { OnOk result ((q : Key) → record_at records.new q ≡ cond (eq_by_cmp key_cmp (key.Fee said.now.id) q) (Some (record_of.Fee said.now.fee)) (record_at records.old q)) }
 {
     let told = Record::fee(alloc, said.fee)?;
-    let before = records.insert(Key::Fee(said.id), told)?;
-    Ok(before.is_some())
+    records.put(alloc, Key::Fee(said.id), told)
 }
 
 /// The rule that an open fee breaks by itself: something of it is still to be paid, and no line makes one of its id.

@@ -13,10 +13,10 @@ ghost use Rattle.circ_records.specs.declared.record.Record.TheVariants as record
 ghost use Rattle.circ_records.specs.declared.tables.TableName.TheVariants as table;
 
 use crate::fault::{BaseError, BaseRule};
-use crate::gathered::Gathered;
 use crate::holds::Holds;
 use crate::key::Key;
 use crate::record::{Item, Record};
+use crate::record_map::RecordMap;
 use crate::rows::{ITEMS, TableRows};
 use crate::tables::{TableName, Tables};
 use crate::texts::is_text;
@@ -31,7 +31,7 @@ pub(crate) fn add_items(
     alloc: Global,
     policy: &Policy,
     tables: &Tables,
-    records: &mut Gathered,
+    records: &mut RecordMap,
 ) -> Result<(), BaseError>
     requires told { AreTold (to_patrons (rows_in tables.now) (rows_in tables.now).patrons) records.old }
     ensures read { OnOk result (IsSome (rows_under items_header tables.now.items.items)) }
@@ -57,7 +57,7 @@ fn put_item(
     alloc: Global,
     policy: &Policy,
     row: &ByteRecord,
-    records: &mut Gathered,
+    records: &mut RecordMap,
 ) -> Result<Option<BaseRule>, AllocError>
     ensures rule { IfOk result (λ broken. (r : Rows) → AreTold r records.old → broken ≡ Rules.item_rule policy.now r.items (fields_of row.now)) }
     ensures told { IfOk result (λ broken. broken ≡ None → (r : Rows) (before : List Row) → AreTold (to_items r before) records.old → Rules.has_row 0 (field 0 (fields_of row.now)) before ≡ false → AreTold (to_items r (before ++ fields_of row.now ∷ [])) records.new) }
@@ -116,10 +116,10 @@ fn media_of(policy: &Policy, row: &ByteRecord) -> Option<MediaType>
 }
 
 /// Whether there is an item with this id.
-fn is_double(records: &Gathered, id: Id) -> bool
+fn is_double(records: &RecordMap, id: Id) -> bool
     ensures { (r : Rows) → AreTold r records.now → result ≡ Rules.has_row 0 id r.items }
 {
-    records.has(&Key::Item(id))
+    records.get(&Key::Item(id)).is_some()
 }
 
 /// Puts the item of a row among the records under its id, and says whether there was one.
@@ -128,7 +128,7 @@ fn add_item(
     id: Id,
     media: MediaType,
     row: &ByteRecord,
-    records: &mut Gathered,
+    records: &mut RecordMap,
 ) -> Result<bool, AllocError>
     requires id { id ≡ field 0 (fields_of row.now) }
     requires texts { Rules.has_item_texts (fields_of row.now) ≡ true }

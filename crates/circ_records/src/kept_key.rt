@@ -3,6 +3,7 @@
 ghost use Rattle.std.specs.Prelude.{◌≡◌, IfOk};
 ghost use Rattle.std.specs.Cmp.Lexicographic.{slice_cmp};
 ghost use Rattle.std.specs.Ordering.{eq_by_cmp, nat_cmp};
+ghost use Rattle.sip_reader.specs.Devices.Numbers.{id_number};
 ghost use Rattle.circ_records.specs.Devices.KeptKeys.{key_kept};
 ghost use Rattle.circ_records.specs.Keys.{key_cmp, kind, id_of};
 
@@ -89,6 +90,13 @@ impl KeptKey {
         } else {
             kind.cmp(&other_kind)
         }
+    }
+
+    /// The number of its id.
+    pub(crate) fn number(&self) -> u64
+        ensures { result ≡ id_number (id_of self.now) }
+    {
+        self.kept.id().number()
     }
 
     /// Whether it is this key.

@@ -3,6 +3,7 @@ ghost use Rattle.std.proofs.Common.{rules};
 ghost use Rattle.std.specs.Cmp.{partial_order_from_own_ties};
 ghost use Rattle.std.specs.Cmp.Rules.{comparing};
 ghost use Rattle.std.specs.Ordering.{as_partial_cmp, eq_by_cmp};
+ghost use Rattle.sip_reader.specs.Devices.Numbers.{id_number};
 ghost use Rattle.circ_records.specs.Keys.{key_cmp, key_cmp_total, kind, id_of};
 
 use sip_reader::Id;
@@ -25,6 +26,13 @@ impl Key {
             Key::Item(_) => 1,
             Key::Fee(_) => 2,
         }
+    }
+
+    /// The number of its id.
+    pub fn number(&self) -> u64
+        ensures { result ≡ id_number (id_of self.now) }
+    {
+        self.id().number()
     }
 
     /// The id of the record.

@@ -1,20 +1,19 @@
 //! The table of loans.
 
 ghost use Rattle.std.specs.Prelude.{◌≡◌, ◌++◌, ◌∷◌, [], List, true, false, Some, None, IsSome, IfOk, IfErr, OnOk};
-ghost use Rattle.std.specs.BTreeMap.{IsOrdered};
 ghost use Rattle.csv.specs.Records.{fields_of};
 ghost use Rattle.csv_table.specs.Rows.{rows_under};
 ghost use Rattle.circ_records.specs.Base.{broken_loans};
-ghost use Rattle.circ_records.specs.Keys.{key_cmp};
-ghost use Rattle.circ_records.specs.Read.{SaysLoan, Stops, Tells, rows_in, to_items, to_loans};
+ghost use Rattle.circ_records.specs.Read.{AreTold, SaysLoan, Stops, rows_in, to_items, to_loans};
 ghost use Rattle.circ_records.specs.Rules as Rules;
 ghost use Rattle.circ_records.specs.Tables.{Row, Rows, field, loans_header};
 ghost use Rattle.circ_records.specs.declared.tables.TableName.TheVariants as table;
 
-use crate::changes::{Change, change_at};
+use crate::changes::Change;
 use crate::fault::{BaseError, BaseRule};
 use crate::key::Key;
-use crate::record::{Loan, Record};
+use crate::record::Loan;
+use crate::record_map::RecordMap;
 use crate::rows::{LOANS, TableRows};
 use crate::tables::{TableName, Tables};
 use crate::values::{due_of, renewals_of};
@@ -22,20 +21,17 @@ use csv::ByteRecord;
 use csv_table::column;
 use sip_reader::Id;
 use std::alloc::{AllocError, Global};
-use std::collections::BTreeMap;
 
 /// Puts the loans of the table among the records, or tells the first rule that a row breaks.
 pub(crate) fn add_loans(
     alloc: Global,
     tables: &Tables,
-    records: &mut BTreeMap<Key, Record>,
+    records: &mut RecordMap,
 ) -> Result<(), BaseError>
-    requires told { Tells (to_items (rows_in tables.now) (rows_in tables.now).items) records.old }
-    requires rising { IsOrdered key_cmp records.old }
+    requires told { AreTold (to_items (rows_in tables.now) (rows_in tables.now).items) records.old }
     ensures read { OnOk result (IsSome (rows_under loans_header tables.now.loans.items)) }
     ensures ok { OnOk result (broken_loans (rows_in tables.now) ≡ None) }
-    ensures told { OnOk result (Tells (to_loans (rows_in tables.now) (rows_in tables.now).loans) records.new) }
-    ensures rising { OnOk result (IsOrdered key_cmp records.new) }
+    ensures told { OnOk result (AreTold (to_loans (rows_in tables.now) (rows_in tables.now).loans) records.new) }
     ensures err { IfErr result (λ e. Stops e table.Loans (rows_under loans_header tables.now.loans.items) (broken_loans (rows_in tables.now))) }
 {
     let mut rows = TableRows::under(alloc, TableName::Loans, &LOANS, &tables.loans)?;
@@ -54,11 +50,10 @@ pub(crate) fn add_loans(
 fn add_loan(
     alloc: Global,
     row: &ByteRecord,
-    records: &mut BTreeMap<Key, Record>,
+    records: &mut RecordMap,
 ) -> Result<Option<BaseRule>, AllocError>
-    ensures rule { IfOk result (λ broken. (r : Rows) → Tells r records.old → broken ≡ Rules.loan_rule r.patrons r.items r.loans (fields_of row.now)) }
-    ensures told { IfOk result (λ broken. broken ≡ None → (r : Rows) (before : List Row) → Tells (to_loans r before) records.old → Rules.has_row 1 (field 1 (fields_of row.now)) before ≡ false → Tells (to_loans r (before ++ fields_of row.now ∷ [])) records.new) }
-    ensures rising { OnOk result (IsOrdered key_cmp records.old → IsOrdered key_cmp records.new) }
+    ensures rule { IfOk result (λ broken. (r : Rows) → AreTold r records.old → broken ≡ Rules.loan_rule r.patrons r.items r.loans (fields_of row.now)) }
+    ensures told { IfOk result (λ broken. broken ≡ None → (r : Rows) (before : List Row) → AreTold (to_loans r before) records.old → Rules.has_row 1 (field 1 (fields_of row.now)) before ≡ false → AreTold (to_loans r (before ++ fields_of row.now ∷ [])) records.new) }
 {
     match read_loan(row) {
         Ok(said) => put_loan(alloc, &said, records),
@@ -70,19 +65,18 @@ fn add_loan(
 fn put_loan(
     alloc: Global,
     said: &LoanRow,
-    records: &mut BTreeMap<Key, Record>,
+    records: &mut RecordMap,
 ) -> Result<Option<BaseRule>, AllocError>
-    ensures rule { IfOk result (λ broken. (r : Rows) (row : Row) → SaysLoan said.now row → Tells r records.old → broken ≡ Rules.loan_rule r.patrons r.items r.loans row) }
-    ensures told { IfOk result (λ broken. broken ≡ None → (r : Rows) (before : List Row) (row : Row) → SaysLoan said.now row → Tells (to_loans r before) records.old → Rules.has_row 1 (field 1 row) before ≡ false → Tells (to_loans r (before ++ row ∷ [])) records.new) }
-    ensures rising { OnOk result (IsOrdered key_cmp records.new) }
+    ensures rule { IfOk result (λ broken. (r : Rows) (row : Row) → SaysLoan said.now row → AreTold r records.old → broken ≡ Rules.loan_rule r.patrons r.items r.loans row) }
+    ensures told { IfOk result (λ broken. broken ≡ None → (r : Rows) (before : List Row) (row : Row) → SaysLoan said.now row → AreTold (to_loans r before) records.old → Rules.has_row 1 (field 1 row) before ≡ false → AreTold (to_loans r (before ++ row ∷ [])) records.new) }
 {
     let key = Key::Patron(said.loan.patron);
-    let broken = change_at(alloc, records, key, Change::Borrows(said.item))?;
+    let broken = records.change(alloc, key, Change::Borrows(said.item))?;
     if broken.is_some() {
         return Ok(broken);
     }
     let key = Key::Item(said.item);
-    let broken = change_at(alloc, records, key, Change::Lent(said.loan))?;
+    let broken = records.change(alloc, key, Change::Lent(said.loan))?;
     Ok(broken)
 }
 

@@ -13,10 +13,10 @@ ghost use Rattle.circ_records.specs.declared.record.Record.TheVariants as record
 ghost use Rattle.circ_records.specs.declared.tables.TableName.TheVariants as table;
 
 use crate::fault::{BaseError, BaseRule};
-use crate::gathered::Gathered;
 use crate::ids::Ids;
 use crate::key::Key;
 use crate::record::{Patron, Record};
+use crate::record_map::RecordMap;
 use crate::rows::{PATRONS, TableRows};
 use crate::tables::{TableName, Tables};
 use crate::texts::is_text;
@@ -32,7 +32,7 @@ pub(crate) fn add_patrons(
     alloc: Global,
     policy: &Policy,
     tables: &Tables,
-    records: &mut Gathered,
+    records: &mut RecordMap,
 ) -> Result<(), BaseError>
     requires told { AreTold no_rows records.old }
     ensures read { OnOk result (IsSome (rows_under patrons_header tables.now.patrons.items)) }
@@ -58,7 +58,7 @@ fn put_patron(
     alloc: Global,
     policy: &Policy,
     row: &ByteRecord,
-    records: &mut Gathered,
+    records: &mut RecordMap,
 ) -> Result<Option<BaseRule>, AllocError>
     ensures rule { IfOk result (λ broken. (r : Rows) → AreTold r records.old → broken ≡ Rules.patron_rule policy.now r.patrons (fields_of row.now)) }
     ensures told { IfOk result (λ broken. broken ≡ None → (r : Rows) (before : List Row) → AreTold (to_patrons r before) records.old → Rules.has_row 0 (field 0 (fields_of row.now)) before ≡ false → AreTold (to_patrons r (before ++ fields_of row.now ∷ [])) records.new) }
@@ -116,10 +116,10 @@ fn class_of(policy: &Policy, name: &[u8]) -> Option<Id>
 }
 
 /// Whether there is a patron with this id.
-fn is_double(records: &Gathered, id: Id) -> bool
+fn is_double(records: &RecordMap, id: Id) -> bool
     ensures { (r : Rows) → AreTold r records.now → result ≡ Rules.has_row 0 id r.patrons }
 {
-    records.has(&Key::Patron(id))
+    records.get(&Key::Patron(id)).is_some()
 }
 
 /// Puts the patron of a row among the records under its id, and says whether there was one.
@@ -129,7 +129,7 @@ fn add_patron(
     class: &Id,
     blocked: bool,
     row: &ByteRecord,
-    records: &mut Gathered,
+    records: &mut RecordMap,
 ) -> Result<bool, AllocError>
     requires id { id ≡ field 0 (fields_of row.now) }
     requires texts { Rules.has_patron_texts (fields_of row.now) ≡ true }

@@ -1,41 +1,37 @@
 //! The table of holds: who waits for which item.
 
 ghost use Rattle.std.specs.Prelude.{◌≡◌, ◌++◌, ◌∷◌, [], ℕ, List, false, None, IsSome, is_some, IfSome, IfErr, IfOk, OnOk};
-ghost use Rattle.std.specs.BTreeMap.{IsOrdered};
 ghost use Rattle.csv.specs.Records.{fields_of};
 ghost use Rattle.circ_records.specs.Base.{broken_holds, holds_rows_of};
-ghost use Rattle.circ_records.specs.Keys.{key_cmp};
-ghost use Rattle.circ_records.specs.Read.{AreWaiting, SaysHold, Stops, Tells, rows_in, to_closed, to_holds};
+ghost use Rattle.circ_records.specs.Read.{AreTold, AreWaiting, SaysHold, Stops, rows_in, to_closed, to_holds};
 ghost use Rattle.circ_records.specs.Rules as Rules;
 ghost use Rattle.circ_records.specs.Tables.{Row, Rows, field};
 ghost use Rattle.circ_records.specs.declared.tables.TableName.TheVariants as table;
 
-use crate::changes::{Change, change_at};
+use crate::changes::Change;
 use crate::fault::{BaseError, BaseRule};
 use crate::holds::Hold;
 use crate::key::Key;
 use crate::known::has_patron;
-use crate::record::Record;
+use crate::record_map::RecordMap;
 use crate::rows::{HOLDS, TableRows};
 use crate::tables::{TableName, Tables};
 use csv::ByteRecord;
 use csv_table::column;
 use sip_reader::{Id, Text};
 use std::alloc::{AllocError, Global};
-use std::collections::{BTreeMap, BTreeSet};
+use std::collections::BTreeSet;
 
 /// Puts the holds of the table into the queues of their items, or tells the first rule that a row breaks.
 pub(crate) fn add_holds(
     alloc: Global,
     tables: &Tables,
-    records: &mut BTreeMap<Key, Record>,
+    records: &mut RecordMap,
 ) -> Result<(), BaseError>
-    requires told { Tells (to_closed (rows_in tables.now) (rows_in tables.now).closed) records.old }
-    requires rising { IsOrdered key_cmp records.old }
+    requires told { AreTold (to_closed (rows_in tables.now) (rows_in tables.now).closed) records.old }
     ensures read { OnOk result (IsSome (holds_rows_of tables.now.holds.items)) }
     ensures ok { OnOk result (broken_holds (rows_in tables.now) ≡ None) }
-    ensures told { OnOk result (Tells (to_holds (rows_in tables.now) (rows_in tables.now).holds) records.new) }
-    ensures rising { OnOk result (IsOrdered key_cmp records.new) }
+    ensures told { OnOk result (AreTold (to_holds (rows_in tables.now) (rows_in tables.now).holds) records.new) }
     ensures err { IfErr result (λ e. Stops e table.Holds (holds_rows_of tables.now.holds.items) (broken_holds (rows_in tables.now))) }
 {
     if tables.holds.is_empty() {
@@ -60,13 +56,12 @@ pub(crate) fn add_holds(
 fn add_hold(
     alloc: Global,
     row: &ByteRecord,
-    records: &mut BTreeMap<Key, Record>,
+    records: &mut RecordMap,
     waiting: &mut BTreeSet<(Id, Id)>,
 ) -> Result<Option<BaseRule>, AllocError>
-    ensures rule { IfOk result (λ broken. (r : Rows) → Tells r records.old → AreWaiting r.holds waiting.old → broken ≡ Rules.hold_rule r.patrons r.items r.loans r.holds (fields_of row.now)) }
-    ensures told { IfOk result (λ broken. broken ≡ None → (r : Rows) (before : List Row) → Tells (to_holds r before) records.old → Tells (to_holds r (before ++ fields_of row.now ∷ [])) records.new) }
+    ensures rule { IfOk result (λ broken. (r : Rows) → AreTold r records.old → AreWaiting r.holds waiting.old → broken ≡ Rules.hold_rule r.patrons r.items r.loans r.holds (fields_of row.now)) }
+    ensures told { IfOk result (λ broken. broken ≡ None → (r : Rows) (before : List Row) → AreTold (to_holds r before) records.old → AreTold (to_holds r (before ++ fields_of row.now ∷ [])) records.new) }
     ensures waiting { IfOk result (λ broken. broken ≡ None → (holds : List Row) → AreWaiting holds waiting.old → AreWaiting (holds ++ fields_of row.now ∷ []) waiting.new) }
-    ensures rising { OnOk result (IsOrdered key_cmp records.old → IsOrdered key_cmp records.new) }
 {
     match read_hold(alloc, row)? {
         Some((item, hold)) => queue_hold(alloc, item, hold, records, waiting),
@@ -79,13 +74,12 @@ fn queue_hold(
     alloc: Global,
     item: Id,
     hold: Hold,
-    records: &mut BTreeMap<Key, Record>,
+    records: &mut RecordMap,
     waiting: &mut BTreeSet<(Id, Id)>,
 ) -> Result<Option<BaseRule>, AllocError>
-    ensures rule { IfOk result (λ broken. (r : Rows) (row : Row) → SaysHold item hold row → Tells r records.old → AreWaiting r.holds waiting.old → broken ≡ Rules.hold_rule r.patrons r.items r.loans r.holds row) }
-    ensures told { IfOk result (λ broken. broken ≡ None → (r : Rows) (before : List Row) (row : Row) → SaysHold item hold row → Tells (to_holds r before) records.old → Tells (to_holds r (before ++ row ∷ [])) records.new) }
+    ensures rule { IfOk result (λ broken. (r : Rows) (row : Row) → SaysHold item hold row → AreTold r records.old → AreWaiting r.holds waiting.old → broken ≡ Rules.hold_rule r.patrons r.items r.loans r.holds row) }
+    ensures told { IfOk result (λ broken. broken ≡ None → (r : Rows) (before : List Row) (row : Row) → SaysHold item hold row → AreTold (to_holds r before) records.old → AreTold (to_holds r (before ++ row ∷ [])) records.new) }
     ensures waiting { IfOk result (λ broken. broken ≡ None → (holds : List Row) (row : Row) → SaysHold item hold row → AreWaiting holds waiting.old → AreWaiting (holds ++ row ∷ []) waiting.new) }
-    ensures rising { OnOk result (IsOrdered key_cmp records.old → IsOrdered key_cmp records.new) }
 {
     if !waiting.insert((item, hold.patron))? {
         return Ok(Some(BaseRule::Double));
@@ -93,7 +87,7 @@ fn queue_hold(
     if !has_patron(records, hold.patron) {
         return Ok(Some(BaseRule::Patron));
     }
-    let broken = change_at(alloc, records, Key::Item(item), Change::Awaited(hold))?;
+    let broken = records.change(alloc, Key::Item(item), Change::Awaited(hold))?;
     Ok(broken)
 }
 

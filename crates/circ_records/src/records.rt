@@ -1,16 +1,21 @@
 //! The records that a run ends with.
 
-ghost use Rattle.std.specs.Prelude.{◌≡◌, option_copied};
+ghost use Rattle.std.specs.Prelude.{◌≡◌, IfOk, option_copied};
+ghost use Rattle.circ_records.specs.Laws.{AreRising};
 ghost use Rattle.circ_records.specs.Records.{record_at};
 
+use crate::kept_key::KeptKey;
 use crate::key::Key;
+use crate::listed::found_in;
 use crate::record::Record;
-use std::collections::BTreeMap;
+use crate::record_map::RecordMap;
+use std::alloc::{AllocError, Global};
 use std::marker::Model;
 
 /// Records by their keys, as a run leaves them.
 pub struct Records {
-    records: BTreeMap<Key, Record>,
+    /// By rising keys.
+    records: Vec<(KeptKey, Record)>,
 }
 
 impl Drop for Records {
@@ -21,33 +26,39 @@ impl Drop for Records {
 
 impl Model for Records {
     ghost use Rattle.std.specs.Prelude.{List};
+    ghost use Rattle.circ_records.specs.Laws.{AreRising};
     ghost use Rattle.circ_records.specs.declared.key.Key.{Key};
     ghost use Rattle.circ_records.specs.declared.record.Record.{Record};
 
     ghost Value = { List (Key × Record) };
 
-    ghost view = { λ r. r.records.entries };
+    ghost view = { λ r. r.records.items };
+
+    ghost invariant = { λ r. AreRising r.records.items };
 }
 
 impl Records {
     /// The records of a map.
-    pub fn from_map(records: BTreeMap<Key, Record>) -> Records
-        ensures { result ≡ records.entries }
+    pub fn from_map(alloc: Global, records: RecordMap) -> Result<Records, AllocError>
+        ensures same { IfOk result (λ r. r ≡ records) }
+        ensures rising { IfOk result (λ r. AreRising r) }
     {
-        Records { records }
+        let records = records.into_list(alloc)?;
+        Ok(Records { records })
     }
 
     /// The record at a key.
     pub fn get(&self, key: &Key) -> Option<&Record>
         ensures { option_copied result ≡ record_at self.now key.now }
     {
-        self.records.get(key)
+        found_in(self.records.as_slice(), key)
     }
 
-    /// The records by their keys.
-    pub(crate) fn as_map(&self) -> &BTreeMap<Key, Record>
-        ensures { result.now.entries ≡ self.now }
+    /// The records with their keys, rising.
+    pub fn as_slice(&self) -> &[(KeptKey, Record)]
+        ensures records { result.now ≡ self.now }
+        ensures rising { AreRising self.now }
     {
-        &self.records
+        self.records.as_slice()
     }
 }

@@ -25,8 +25,9 @@ fn told(alloc: Global, records: &Records) -> Result<TableTexts, AllocError>
     ensures { IfOk result (Holds records.now records.now) }
 {
     let mut texts = TableTexts::new(alloc)?;
-    for (key, record) in records.as_map() {
-        texts.entry(alloc, records, key, record)?;
+    let entries = records.as_slice();
+    for entry in entries {
+        texts.entry(alloc, records, &entry.0.key(), &entry.1)?;
     }
     Ok(texts)
 }

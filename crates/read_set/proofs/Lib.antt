@@ -1,4 +1,3 @@
-pub mod Drafting
 pub mod DueDays
 pub mod FeeNumbers
 pub mod Following

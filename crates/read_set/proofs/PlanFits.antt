@@ -1,7 +1,6 @@
 -- The plan of what was read fits: of a policy, a journal and a base as they are read.
-use Rattle.std.proofs.Common.{◌≡◌, ◌<◌, ◌≤◌, ◌+◌, ◌^◌, ℕ, suc, List, [], ◌∷◌, Option, Some, None, Ok, length, map, refl, subst, sym, ap, ◌∙◌, arith}
+use Rattle.std.proofs.Common.{◌≡◌, ◌<◌, ◌≤◌, ◌+◌, ◌^◌, ℕ, suc, List, [], ◌∷◌, Option, Some, None, Ok, length, map, refl, subst, sym, ap, arith}
 use Rattle.std.specs.Prelude.{unwrap_or}
-use Rattle.std.proofs.lemmas.List.{length-map}
 use Rattle.std.specs.List.{AllByRecursion}
 use Rattle.circ_policy.proofs.Ranges.{policy-fits}
 use Rattle.circ_policy.specs.Ranges.{FitsPolicy}
@@ -13,8 +12,6 @@ use Rattle.circ_records.proofs.ReadAgain.{read-again}
 use Rattle.std.proofs.Math.Path.{fun_ext}
 use Rattle.circ_records.specs.Coherent.{Coherent, number_before, IsCoherentMap}
 use Rattle.circ_records.specs.Records.{Entries, record_at}
-use Rattle.circ_records.specs.declared.key.Key.{Key}
-use Rattle.circ_records.specs.declared.record.Record.{Record}
 use Rattle.journal_table.proofs.Ends.{ends-lines}
 use Rattle.journal_table.specs.Entry.{Entry, first_number}
 use Rattle.journal_table.specs.Journal.{journal_of, header}
@@ -42,9 +39,9 @@ as-many (line ∷ rest) = ap suc (as-many rest)
 
 -- THE PLAN
 
--- as many records as keys, and a count holds the number of the keys
-pub counted : (base : Entries) (keys : List Key) (count : ℕ) → keys ≡ map (λ (e : Key × Record). e.0) base → count ≡ length keys → count < 18446744073709551616 → length base ≤ 2 ^ 64
-counted base keys count is many held = let same : length keys ≡ length base = ap length is ∙ length-map base (λ (e : Key × Record). e.0) in omega arith
+-- a count holds the number of the records
+pub counted : (base : Entries) → length base < 2 ^ 64 → length base ≤ 2 ^ 64
+counted base few = omega (arith, few)
 
 begins : (first : Option ℕ) → number_before first ≡ unwrap_or first 10000000000
 begins None = refl

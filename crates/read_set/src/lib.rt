@@ -28,6 +28,7 @@ pub use notes::{Name, Note, Notes};
 pub use noting::{Looks, NotesName, NotesSource, Noting};
 pub use plan::{Plan, PlanName};
 pub use progress::{Payments, Renewals};
+pub use sorted::found_in;
 pub use source::{Source, Stop};
 pub use verdict::{LoanRequest, Verdict};
 pub use version::{Need, Version};

@@ -13,12 +13,10 @@ ghost use Rattle.read_set.specs.Coherence.{StaysCoherent};
 ghost use Rattle.read_set.specs.Plans.{plan_over, plan_of, plan_read, reading_at};
 
 use circ_policy::Policy;
-use circ_records::{Base, Key, Record};
+use circ_records::{Base, KeptKey, Key, Record, RecordMap};
 use journal_table::{Journal, Readings, read_in_turn};
 use sip_reader::{LINE_NUMBER_END, Reading};
 use std::alloc::{AllocError, Global};
-use std::collections::BTreeMap;
-use std::collections::btree_map::Keys;
 use std::marker::{Brand, Model};
 use std::ops::Range;
 
@@ -82,7 +80,7 @@ impl Plan {
         // their ranges, and that a count holds the number of the records.
         let _lines = readings.len();
         let _currency = policy.currency();
-        let _records = base.keys().len();
+        let _records = base.as_slice();
         Plan {
             policy,
             base,
@@ -136,13 +134,13 @@ impl Plan {
         self.readings.get((line - self.first) as usize)
     }
 
-    /// The keys of the records before the first line, rising. These records are coherent before it.
-    pub fn keys(&self) -> Keys<'_, Key, Record>
-        ensures keys { result ≡ map (λ e. e.0) self.now.base }
+    /// The keys of the records before the first line, rising, each with its record. These records are coherent before it.
+    pub fn keys(&self) -> &[(KeptKey, Record)]
+        ensures keys { result.now ≡ self.now.base }
         ensures rising { IsStrictlySortedBy key_cmp (map (λ e. e.0) self.now.base) }
         ensures coherent { Coherent self.now.policy self.now.first self.now.base }
     {
-        self.base.keys()
+        self.base.as_slice()
     }
 
     /// The record at a key before the first line.
@@ -152,9 +150,16 @@ impl Plan {
         self.base.get(key)
     }
 
+    /// No records, in a map in which those of the base's keys are found fast, once all of them were put there in their order.
+    pub fn empty_map(&self, alloc: Global) -> Result<RecordMap, AllocError>
+        ensures { IfOk result (λ m. m ≡ []) }
+    {
+        self.base.empty_map(alloc)
+    }
+
     /// The records before the first line, taken out: the plan is then that of the same lines over no records.
-    pub fn take_base(&mut self, alloc: Global) -> BTreeMap<Key, Record>
-        ensures records { result.entries ≡ self.old.base }
+    pub fn take_base(&mut self, alloc: Global) -> RecordMap
+        ensures records { result ≡ self.old.base }
         ensures left { self.new ≡ plan_over self.old [] }
     {
         self.base.take(alloc)

@@ -2,16 +2,17 @@
 
 ghost use Rattle.std.specs.Prelude.{◌≡◌, IfOk, OnOk, OnErr, option_copied};
 ghost use Rattle.std.specs.BTreeMap.{insert_entry};
+ghost use Rattle.circ_records.specs.Devices.Positions.{position_from};
 ghost use Rattle.circ_records.specs.Keys.{key_cmp};
 ghost use Rattle.circ_records.specs.Records.{record_at};
-ghost use Rattle.read_set.specs.Devices.Drafts.{Rise, position_from};
+ghost use Rattle.read_set.specs.Devices.Drafts.{Rise};
 
 use circ_records::{KeptKey, Key, Record};
 use std::alloc::{AllocError, Global};
 use std::cmp::Ordering;
 use std::collections::BTreeMap;
 
-/// The record under a key.
+/// The record under a key, looked for one by one.
 pub fn found_in<'e>(entries: &'e [(KeptKey, Record)], key: &Key) -> Option<&'e Record>
     ensures { option_copied result ≡ record_at entries.now key.now }
 {

@@ -6,4 +6,4 @@ use Rattle.replay_run.specs.declared.live.Live.{Live}
 
 -- the records before the first line, and over them what was written so far
 abbrev pub standing : Live → Map
-standing live = record_at live.records.entries
+standing live = record_at live.records

@@ -18,13 +18,12 @@ use crate::inputs::{Inputs, Output};
 use crate::prepared::Prepared;
 use crate::run::judge_parallel;
 use board_steps::WORKERS_MAX;
-use circ_records::{Records, write_records};
+use circ_records::{RecordMap, Records, write_records};
 use journal_table::Journal;
 use read_set::{Plan, PlanName};
 use result_report::{Outcome, collect, report_parallel};
 use speculate::{Board, Finished};
 use std::alloc::{AllocError, Global};
-use std::collections::BTreeMap;
 use std::marker::Brand;
 use std::mem::forget;
 use std::sync::Wait;
@@ -160,7 +159,7 @@ fn write_parallel<R: Threads + Sync>(
     // their memory is wanted for the texts
     drop(records);
     let rest = Outcome {
-        records: Records::from_map(BTreeMap::new(alloc)),
+        records: Records::from_map(alloc, RecordMap::new(alloc))?,
         answers,
         attempts,
     };

@@ -2,15 +2,14 @@
 
 ghost use Rattle.std.specs.Prelude.{◌≡◌};
 
-use circ_records::{Key, Record, Records};
+use circ_records::{Key, Record, RecordMap, Records};
 use read_set::{Source, Stop, Writes};
 use std::alloc::{AllocError, Global};
-use std::collections::BTreeMap;
 
 /// The records as they stand: those before the first line, and over them what the lines so far wrote. They are one map,
 /// so that each is found by one look-up.
 pub struct Live {
-    pub records: BTreeMap<Key, Record>,
+    pub records: RecordMap,
 }
 
 impl Drop for Live {
@@ -20,7 +19,7 @@ impl Drop for Live {
 }
 
 impl Live {
-    ghost use Rattle.std.specs.Prelude.{◌∷◌, [], OnOk, option_copied};
+    ghost use Rattle.std.specs.Prelude.{IfOk, OnOk, option_copied};
     ghost use Rattle.circ_records.specs.Records.{record_at};
     ghost use Rattle.circ_records.specs.declared.key.Key.{Key};
     ghost use Rattle.read_set.specs.Maps.{put};
@@ -28,8 +27,8 @@ impl Live {
     ghost use Rattle.replay_run.specs.Live.{standing};
 
     /// These records.
-    pub fn new(records: BTreeMap<Key, Record>) -> Live
-        ensures { (k : Key) → standing result k ≡ record_at records.entries k }
+    pub fn new(records: RecordMap) -> Live
+        ensures { (k : Key) → standing result k ≡ record_at records k }
     {
         Live { records }
     }
@@ -46,43 +45,20 @@ impl Live {
         ensures { OnOk result ((k : Key) → standing self.new k ≡ put writes (standing self.old) k) }
     {
         let mut left = writes.into_vec();
+        let alloc = *left.allocator();
         while let Some((kept, written)) = left.pop() {
-            self.write(kept.key(), written)?;
+            self.records.put(alloc, kept.key(), written)?;
         }
         Ok(())
     }
 
     /// The records as they stand, on their own.
-    pub fn into_records(self) -> Records
-        ensures { AreEntries (standing self) result }
+    pub fn into_records(self, alloc: Global) -> Result<Records, AllocError>
+        ensures { IfOk result (AreEntries (standing self)) }
     {
         let Live { records } = self;
-        let _count = records.len();
-        Records::from_map(records)
+        Records::from_map(alloc, records)
     }
-
-    /// Puts one record over the records: most stand already, and are changed in place.
-    fn write(&mut self, key: Key, written: Record) -> Result<(), AllocError>
-        ensures { OnOk result ((k : Key) → standing self.new k ≡ put ((key, written) ∷ []) (standing self.old) k) }
-    {
-        match self.records.get_mut(&key) {
-            Some(there) => {
-                set(there, written);
-                Ok(())
-            }
-            None => {
-                self.records.insert(key, written)?;
-                Ok(())
-            }
-        }
-    }
-}
-
-/// Puts a record in the place of another.
-fn set(there: &mut Record, written: Record)
-    ensures { there.new ≡ written }
-{
-    *there = written;
 }
 
 impl Source for Live {

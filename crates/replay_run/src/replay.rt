@@ -10,12 +10,11 @@ ghost use Rattle.replay_run.specs.Entries.{AreEntries};
 ghost use Rattle.replay_run.specs.Live.{standing};
 
 use crate::live::Live;
-use circ_records::{Key, Record, Records};
+use circ_records::{RecordMap, Records};
 use message_meaning::perform;
 use read_set::{Effect, Plan, Stop};
 use sip_answer::Answer;
 use std::alloc::{AllocError, Global};
-use std::collections::BTreeMap;
 
 /// What a replay comes to: the records after the last line, and of each line its answer, where it has one, and the
 /// number of the attempt whose answer that is.
@@ -39,13 +38,9 @@ pub fn replay(alloc: Global, plan: &mut Plan) -> Result<ReplayEnd, AllocError>
 }
 
 /// What the lines of a plan come to over these records.
-fn replay_over(
-    alloc: Global,
-    plan: &Plan,
-    base: BTreeMap<Key, Record>,
-) -> Result<ReplayEnd, AllocError>
-    ensures answers { IfOk result (λ o. o.answers.items ≡ answers_of (plan_over plan.now base.entries)) }
-    ensures records { IfOk result (λ o. AreEntries (last (plan_over plan.now base.entries)) o.records) }
+fn replay_over(alloc: Global, plan: &Plan, base: RecordMap) -> Result<ReplayEnd, AllocError>
+    ensures answers { IfOk result (λ o. o.answers.items ≡ answers_of (plan_over plan.now base)) }
+    ensures records { IfOk result (λ o. AreEntries (last (plan_over plan.now base)) o.records) }
     ensures attempts { IfOk result (λ o. o.attempts.items ≡ replicate (length plan.now.readings) 0) }
 {
     let count = plan.readings().len();
@@ -56,7 +51,7 @@ fn replay_over(
         answers.push(take_line(alloc, plan, first + i as u64, &mut live)?)?;
     }
     Ok(ReplayEnd {
-        records: live.into_records(),
+        records: live.into_records(alloc)?,
         answers,
         attempts: vec![in alloc; 0; count]?,
     })

@@ -3,19 +3,17 @@ use Rattle.std.proofs.Common.{◌≡◌, ◌∙◌, ◌+◌, ◌<◌, ◌⊎◌,
 use Rattle.std.specs.Prelude.{slice_get}
 use Rattle.std.specs.BTreeMap.{is_at}
 use Rattle.std.specs.List.{list_any, range_with_len}
-use Rattle.std.specs.Ordering.{eq_by_cmp, is_eq, ordering_reverse}
+use Rattle.std.specs.Ordering.{is_eq, ordering_reverse}
 use Rattle.std.specs.declared.cmp.Ordering.{Ordering}
 use Rattle.std.specs.declared.cmp.Ordering.TheVariants.{Less, Equal, Greater}
 use Rattle.std.proofs.lemmas.Grind.{flat_map-append}
 use Rattle.std.proofs.lemmas.List.{append-nil}
 use Rattle.std.proofs.lemmas.List.Folds.{list_any-append}
-use Rattle.std.proofs.lemmas.Map.{update_all_push}
 use Rattle.circ_records.specs.Keys.{key_cmp, key_cmp-IsAntisymmetric, key_cmp_total}
 use Rattle.circ_records.specs.Records.{Entries, record_at}
 use Rattle.circ_records.specs.declared.key.Key.{Key}
 use Rattle.circ_records.specs.declared.record.Record.{Record}
 use Rattle.read_set.specs.Maps.{Map}
-use Rattle.result_report.specs.Devices.Listed.{Lists, listed}
 use Rattle.result_report.specs.Ends.{HasAt, keys_named, lines_keys, only_at}
 
 equal-of : (o : Ordering) → is_eq o ≡ true → o ≡ Equal
@@ -67,9 +65,6 @@ already keys M old key some has = unchanged keys M (record_at old) key (inl (som
 pub nothing : (keys : List Key) (M : Map) (old : Entries) (key : Key) → None ≡ M key → HasAt keys M old → HasAt (keys ++ key ∷ []) M old
 nothing keys M old key none has = unchanged keys M (record_at old) key (inr (sym none)) has
 
-pub nothing-listed : (keys : List Key) (M : Map) (found : Entries) (key : Key) → None ≡ M key → Lists keys M found → Lists (keys ++ key ∷ []) M found
-nothing-listed keys M found key none has = unchanged keys M (listed found) key (inr (sym none)) has
-
 taken-choice : (b t : Bool) (r : Record) (x : Option Record) → (t ≡ true → Some r ≡ x) → cond t (Some r) (cond b x None) ≡ cond (b || (t || false)) x None
 taken-choice true true r x h = h refl
 taken-choice false true r x h = h refl
@@ -89,11 +84,6 @@ one-more keys M old new key r there updates has k =
 pub taken : (keys : List Key) (M : Map) (old new : Entries) (key : Key) (r : Record) → Some r ≡ M key
     → ((k : Key) → record_at new k ≡ cond (is_at (key_cmp key) k) (Some r) (record_at old k)) → HasAt keys M old → HasAt (keys ++ key ∷ []) M new
 taken keys M old new key r there updates has = one-more keys M (record_at old) (record_at new) key r there updates has
-
-pub taken-listed : (keys : List Key) (M : Map) (found : Entries) (key : Key) (r : Record) → Some r ≡ M key → Lists keys M found → Lists (keys ++ key ∷ []) M (found ++ (key, r) ∷ [])
-taken-listed keys M found key r there has =
-    one-more keys M (listed found) (listed (found ++ (key, r) ∷ [])) key r there
-    (λ k. sym (update_all_push (eq_by_cmp key_cmp) (λ _. None) (listed found) found (key, r) k refl)) has
 
 -- the numbers up to the next one
 range-next : (a n j : ℕ) → a + n ≡ j → range_with_len a (suc n) ≡ range_with_len a n ++ j ∷ []

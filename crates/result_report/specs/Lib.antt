@@ -4,4 +4,3 @@ pub mod Tellings
 pub mod Tables
 pub mod Stretches
 pub mod Ends
-pub mod Devices

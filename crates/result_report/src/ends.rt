@@ -1,23 +1,19 @@
 //! The end of a run, and what is collected from it.
 
 ghost use Rattle.std.specs.Prelude.{◌≡◌, ◌≤◌, ◌<◌, ◌+◌, ◌++◌, ◌∷◌, ◌^◌, [], ℕ, List, Option, IfOk, OnOk, length, map, option_copied, option_map, slice_get};
-ghost use Rattle.std.specs.BTreeMap.{IsOrdered};
 ghost use Rattle.std.specs.List.{range_with_len};
-ghost use Rattle.circ_records.specs.Keys.{key_cmp};
 ghost use Rattle.circ_records.specs.declared.key.Key.{Key};
 ghost use Rattle.circ_records.specs.declared.record.Record.{Record};
 ghost use Rattle.read_set.specs.Plans.{Planned};
 ghost use Rattle.sip_answer.specs.declared.answer.Answer.{Answer};
-ghost use Rattle.result_report.specs.Devices.Listed.{Lists};
 ghost use Rattle.result_report.specs.Ends.{AreRecordsAt, HasAt, keys_named, lines_keys, named_keys, numbers_of};
 ghost use Rattle.result_report.specs.Report.{answers_behind};
 
 use crate::outcome::Outcome;
-use circ_records::{KeptKey, Key, Record, Records};
+use circ_records::{KeptKey, Key, Record, RecordMap, Records};
 use read_set::Plan;
 use sip_answer::Answer;
 use std::alloc::{AllocError, Global};
-use std::collections::BTreeMap;
 
 /// The end of a run over a plan: what it gives of each line, by the line's number, and of the records after the last. The
 /// answers may outlive it.
@@ -69,9 +65,9 @@ pub fn collect<'e, E: End<'e>>(alloc: Global, end: &E) -> Result<Outcome<'e>, Al
     let first = end.plan().first();
     let count = end.plan().readings().len();
     let mut records = base_records(alloc, end)?;
-    take_lines(end, first, count, &mut records)?;
+    take_lines(alloc, end, first, count, &mut records)?;
     Ok(Outcome {
-        records: Records::from_map(records),
+        records: Records::from_map(alloc, records)?,
         answers: collect_answers(alloc, end, first, count)?,
         attempts: collect_attempts(alloc, end, first, count)?,
     })
@@ -109,63 +105,49 @@ fn collect_attempts<'e, E: End<'e>>(
     Ok(attempts)
 }
 
-/// The records at the keys of the plan. These rise, so the map is made of them at once, and none is looked for in it.
-fn base_records<'e, E: End<'e>>(alloc: Global, end: &E) -> Result<BTreeMap<Key, Record>, AllocError>
-    ensures rising { IfOk result (λ m. IsOrdered key_cmp m) }
-    ensures records { IfOk result (λ m. HasAt (map (λ e. e.0) (E.planned end.now).base) (E.left end.now) m.entries) }
+/// The records at the keys of the plan. These rise, so each goes behind the others.
+fn base_records<'e, E: End<'e>>(alloc: Global, end: &E) -> Result<RecordMap, AllocError>
+    ensures { IfOk result (HasAt (map (λ e. e.0) (E.planned end.now).base) (E.left end.now)) }
 {
+    let mut records = end.plan().empty_map(alloc)?;
     let keys = end.plan().keys();
-    let mut found = Vec::with_capacity(alloc, keys.len())?;
-    for key in keys {
-        list_record(end, key, &mut found)?;
+    for entry in keys {
+        put_record(alloc, end, &entry.0.key(), &mut records)?;
     }
-    found.into_iter().collect(alloc)
-}
-
-/// Puts the record at a key behind others.
-fn list_record<'e, E: End<'e>>(
-    end: &E,
-    key: &Key,
-    found: &mut Vec<(Key, Record)>,
-) -> Result<(), AllocError>
-    ensures { OnOk result ((keys : List Key) → Lists keys (E.left end.now) found.old.items
-        → Lists (keys ++ key.now ∷ []) (E.left end.now) found.new.items) }
-{
-    if let Some(record) = end.final_of(key) {
-        found.push((*key, record.copy()?))?;
-    }
-    Ok(())
+    Ok(records)
 }
 
 /// Takes the records at the keys of what the lines wrote. Where memory runs out `collect` drops the records, here and below.
 fn take_lines<'e, E: End<'e>>(
+    alloc: Global,
     end: &E,
     first: u64,
     count: usize,
-    records: &mut BTreeMap<Key, Record>,
+    records: &mut RecordMap,
 ) -> Result<(), AllocError>
     requires { first + count ≤ 2 ^ 64 }
-    ensures { OnOk result ((keys : List Key) → HasAt keys (E.left end.now) records.old.entries
-        → HasAt (keys ++ lines_keys (E.entered end.now) (range_with_len first count)) (E.left end.now) records.new.entries) }
+    ensures { OnOk result ((keys : List Key) → HasAt keys (E.left end.now) records.old
+        → HasAt (keys ++ lines_keys (E.entered end.now) (range_with_len first count)) (E.left end.now) records.new) }
 {
     for i in 0..count {
-        take_entries(end, first + i as u64, records)?;
+        take_entries(alloc, end, first + i as u64, records)?;
     }
     Ok(())
 }
 
 /// Takes the records at the keys of what one line wrote.
 fn take_entries<'e, E: End<'e>>(
+    alloc: Global,
     end: &E,
     line: u64,
-    records: &mut BTreeMap<Key, Record>,
+    records: &mut RecordMap,
 ) -> Result<(), AllocError>
-    ensures { OnOk result ((keys : List Key) → HasAt keys (E.left end.now) records.old.entries
-        → HasAt (keys ++ keys_named (E.entered end.now line)) (E.left end.now) records.new.entries) }
+    ensures { OnOk result ((keys : List Key) → HasAt keys (E.left end.now) records.old
+        → HasAt (keys ++ keys_named (E.entered end.now line)) (E.left end.now) records.new) }
 {
     let mut i = 0;
     while let Some(entry) = end.keys_of(line, i) {
-        take_record(end, &entry.0.key(), records)?;
+        take_record(alloc, end, &entry.0.key(), records)?;
         i += 1;
     }
     Ok(())
@@ -173,32 +155,34 @@ fn take_entries<'e, E: End<'e>>(
 
 /// Takes the record at a key, which is copied once, however often the key is named.
 fn take_record<'e, E: End<'e>>(
+    alloc: Global,
     end: &E,
     key: &Key,
-    records: &mut BTreeMap<Key, Record>,
+    records: &mut RecordMap,
 ) -> Result<(), AllocError>
-    ensures { OnOk result ((keys : List Key) → HasAt keys (E.left end.now) records.old.entries
-        → HasAt (keys ++ key.now ∷ []) (E.left end.now) records.new.entries) }
+    ensures { OnOk result ((keys : List Key) → HasAt keys (E.left end.now) records.old
+        → HasAt (keys ++ key.now ∷ []) (E.left end.now) records.new) }
 {
-    if records.contains_key(key) {
+    if records.get(key).is_some() {
         return Ok(());
     }
-    put_record(end, key, records)
+    put_record(alloc, end, key, records)
 }
 
 /// Puts the record at a key among the others.
 fn put_record<'e, E: End<'e>>(
+    alloc: Global,
     end: &E,
     key: &Key,
-    records: &mut BTreeMap<Key, Record>,
+    records: &mut RecordMap,
 ) -> Result<(), AllocError>
-    ensures { OnOk result ((keys : List Key) → HasAt keys (E.left end.now) records.old.entries
-        → HasAt (keys ++ key.now ∷ []) (E.left end.now) records.new.entries) }
+    ensures { OnOk result ((keys : List Key) → HasAt keys (E.left end.now) records.old
+        → HasAt (keys ++ key.now ∷ []) (E.left end.now) records.new) }
 {
     match end.final_of(key) {
         Some(found) => {
             let found = found.copy()?;
-            records.insert(*key, found)?;
+            records.put(alloc, *key, found)?;
             Ok(())
         }
         None => Ok(()),

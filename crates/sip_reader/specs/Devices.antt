@@ -2,5 +2,6 @@
 pub mod Bars
 pub mod Digits
 pub mod Held
+pub mod Numbers
 pub mod Padding
 pub mod Plain

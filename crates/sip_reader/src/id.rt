@@ -6,6 +6,7 @@ ghost use Rattle.std.specs.Cmp.Lexicographic.{slice_cmp};
 ghost use Rattle.std.specs.Cmp.Rules.{comparing};
 ghost use Rattle.std.specs.Ordering.{nat_cmp, as_partial_cmp, eq_by_cmp};
 ghost use Rattle.std.proofs.Common.{rules};
+ghost use Rattle.sip_reader.specs.Devices.Numbers.{id_number};
 ghost use Rattle.sip_reader.specs.Texts.{fee_id, is_id};
 
 use crate::barred::has_barred;
@@ -88,6 +89,13 @@ impl Id {
         Id {
             bytes: front.with(b"-").with(second.format(k).as_bytes()),
         }
+    }
+
+    /// Its number, which most other ids haven't: it is told by the first fourteen bytes.
+    pub fn number(&self) -> u64
+        ensures { result ≡ id_number self.now }
+    {
+        self.bytes.number()
     }
 
     /// Its bytes.

@@ -5,6 +5,7 @@ ghost use Rattle.std.specs.Cmp.Lexicographic.{slice_cmp};
 ghost use Rattle.std.specs.Ordering.{nat_cmp};
 ghost use Rattle.std.specs.Slice.Scan.{big_endian};
 ghost use Rattle.std.specs.declared.cmp.Ordering.TheVariants.{Equal};
+ghost use Rattle.sip_reader.specs.Devices.Numbers.{ends_number, id_number};
 ghost use Rattle.sip_reader.specs.Devices.Padding.{IsPadded};
 
 use crate::few::{FEW_MAX, Few};
@@ -13,6 +14,9 @@ use std::marker::Model;
 
 /// The greatest number of bytes.
 pub const SHORT_MAX: usize = 64;
+
+/// An odd number that spreads numbers which follow on each other: 2^64 over the golden ratio.
+const SPREAD: u64 = 0x9E37_79B9_7F4A_7C15;
 
 /// Up to 64 bytes.
 #[derive(Clone, Copy)]
@@ -94,6 +98,13 @@ impl Short {
         &self.bytes
     }
 
+    /// Their number, which most that differ among the first fourteen haven't.
+    pub fn number(&self) -> u64
+        ensures { result ≡ id_number self.now }
+    {
+        number_of(&self.bytes)
+    }
+
     /// How the bytes go in the order of bytes.
     pub fn order(&self, other: &Short) -> Ordering
         ensures { result ≡ slice_cmp nat_cmp self.now other.now }
@@ -147,6 +158,16 @@ fn order_of(a: &[u8; SHORT_MAX], b: &[u8; SHORT_MAX], words: usize) -> Ordering
         }
     }
     Ordering::Equal
+}
+
+/// The number of bytes, by the first eight of them and the eight behind six.
+fn number_of(bytes: &[u8]) -> u64
+    requires { 14 ≤ length bytes.now }
+    ensures { result ≡ ends_number bytes.now }
+{
+    let first = word_at(bytes, 0).wrapping_mul(SPREAD);
+    let both = first.wrapping_add(word_at(bytes, 6));
+    both.wrapping_mul(SPREAD) / 4_294_967_296
 }
 
 /// The number that eight bytes spell, the first the greatest.

@@ -7,12 +7,17 @@ ghost use Rattle.sip_reader.specs.Texts.{is_text};
 use crate::barred::has_barred;
 use crate::few::{FEW_MAX, Few};
 use crate::short::Short;
+use arrayvec::ArrayVec;
 use std::alloc::{AllocError, Global};
 use std::marker::Model;
-use std::sync::ArcSlice;
+use std::ops::Deref;
+use std::sync::{Arc, ArcSlice};
 
 /// The longest text, in bytes.
 pub const TEXT_MAX: usize = 1024;
+
+/// So many bytes stand in one block of memory: a greater block would waste more on most titles.
+const BLOCK_MAX: usize = 32;
 
 /// A text of a record or a message: at most 1,024 bytes without a bar, CR or LF.
 pub struct Text {
@@ -29,7 +34,9 @@ impl Drop for Text {
 enum Held {
     /// In place, as most ids do, of which a line keeps many.
     Few(Few),
-    /// In memory that it has together with its copies.
+    /// In a block of memory that it has together with its copies, as most titles do.
+    Block(Arc<ArrayVec<u8, BLOCK_MAX>>),
+    /// The same, where a block doesn't hold it: then its bytes stand in another.
     Many(ArcSlice<u8>),
 }
 
@@ -37,6 +44,7 @@ impl Drop for Held {
     fn drop(self) {
         match self {
             Held::Few(_) => {}
+            Held::Block(_) => {}
             Held::Many(_) => {}
         }
     }
@@ -102,7 +110,7 @@ impl Text {
     {
         match &self.held {
             Held::Few(few) => Some(few),
-            Held::Many(_) => None,
+            Held::Block(_) | Held::Many(_) => None,
         }
     }
 }
@@ -126,8 +134,21 @@ impl Held {
         if bytes.len() <= FEW_MAX {
             return Ok(Held::Few(Few::of(bytes)));
         }
+        if let Ok(block) = ArrayVec::try_from(bytes) {
+            return Held::block(alloc, block);
+        }
         let bytes = ArcSlice::from_slice(alloc, bytes)?;
         Ok(Held::Many(bytes))
+    }
+
+    /// Bytes that one block of memory holds.
+    fn block(alloc: Global, bytes: ArrayVec<u8, BLOCK_MAX>) -> Result<Held, AllocError>
+        ensures { IfOk result (λ held. bytes_held held ≡ bytes.items) }
+    {
+        match Arc::new(alloc, bytes) {
+            Ok(block) => Ok(Held::Block(block)),
+            Err(_) => Err(AllocError),
+        }
     }
 
     fn as_slice(&self) -> &[u8]
@@ -135,6 +156,7 @@ impl Held {
     {
         match self {
             Held::Few(few) => few.as_bytes(),
+            Held::Block(block) => Deref::deref(block).as_slice(),
             Held::Many(bytes) => bytes.as_slice(),
         }
     }
@@ -144,6 +166,7 @@ impl Held {
     {
         match self {
             Held::Few(few) => Ok(Held::Few(*few)),
+            Held::Block(block) => Ok(Held::Block(Arc::try_clone(block)?)),
             Held::Many(bytes) => Ok(Held::Many(bytes.clone()?)),
         }
     }

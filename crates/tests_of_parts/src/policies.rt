@@ -30,7 +30,7 @@ late = 0
 cap = 0
 ";
 
-fn policy<R: AllocGlobal + Abort>(rt: &R) -> Policy {
+pub fn policy<R: AllocGlobal + Abort>(rt: &R) -> Policy {
     Policy::read(rt.alloc(), SMALL.as_bytes())
         .ok()
         .expect(rt, "a policy")

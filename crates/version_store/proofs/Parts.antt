@@ -1,29 +1,24 @@
 -- An index in parts.
-use Rattle.std.proofs.Common.{◌≡◌, ℕ, zero, suc, ◌+◌, ◌*◌, ◌^◌, ◌%◌, Bool, true, false, cond, List, [], ◌∷◌, ◌++◌, length, Some, refl, sym, ap, ◌∙◌, inl, inr, length-set}
+use Rattle.std.proofs.Common.{◌≡◌, ℕ, zero, suc, Bool, true, false, cond, List, [], ◌∷◌, ◌++◌, length, Some, refl, sym, ap, ◌∙◌, inl, inr, length-set}
 use Rattle.std.specs.Prelude.{nat_eq, slice_get, slice_set}
 use Rattle.std.specs.Ordering.{nat_cmp, eq_by_cmp}
 use Rattle.std.proofs.lemmas.Bool.{cases_eq, eqb-true}
-use Rattle.circ_records.specs.Keys.{id_of, key_cmp}
+use Rattle.circ_records.specs.Keys.{key_cmp}
 use Rattle.circ_records.specs.declared.key.Key.{Key}
 use Rattle.version_store.specs.Index.{in_part, in_parts, with_at}
-use Rattle.version_store.specs.Devices.Parts.{hashed, part_of}
+use Rattle.version_store.specs.Devices.Parts.{number_of, part_of}
 use Rattle.version_store.specs.declared.part.IndexPart.{IndexPart}
 use Rattle.version_store.proofs.Columns.{same_key}
-
--- one byte more
-pub hashed_more : (xs : List ℕ) (h b : ℕ) → hashed h (xs ++ b ∷ []) ≡ ((hashed h xs * 31) % 2 ^ 64 + b) % 2 ^ 64
-hashed_more [] h b = refl
-hashed_more (x ∷ xs) h b = hashed_more xs _ b
 
 not_true : (b : Bool) → (b ≡ true → ⊥) → b ≡ false
 not_true false h = refl
 not_true true h = absurd (h refl)
 
 -- keys with other numbers are others
-pub apart_by_number : (k q : Key) (m n : ℕ) → m ≡ hashed 0 (id_of k) → n ≡ hashed 0 (id_of q) → (n ≡ m → ⊥) → nat_eq n m ≡ eq_by_cmp key_cmp k q
+pub apart_by_number : (k q : Key) (m n : ℕ) → m ≡ number_of k → n ≡ number_of q → (n ≡ m → ⊥) → nat_eq n m ≡ eq_by_cmp key_cmp k q
 apart_by_number k q m n hm hn apart =
     not_true (nat_eq n m) (λ t. apart (eqb-true n m t))
-    ∙ sym (not_true (eq_by_cmp key_cmp k q) (λ t. apart (hn ∙ ap (λ x. hashed 0 (id_of x)) (sym (same_key k q t)) ∙ sym hm)))
+    ∙ sym (not_true (eq_by_cmp key_cmp k q) (λ t. apart (hn ∙ ap (λ x. number_of x) (sym (same_key k q t)) ∙ sym hm)))
 
 -- parts in which no line has an entry
 abbrev pub AreBare : List IndexPart → Type 0

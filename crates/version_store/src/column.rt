@@ -15,28 +15,34 @@ const FEW: usize = 8;
 /// Room for so many lines is made first: the least block of memory has it.
 const USUAL: usize = 3;
 
-/// The lines that have an entry at one key, as a vector that rises. Most keys have few, and there a tree's least node takes more
-/// than all of them. Mostly lines come rising, and a late one is taken out: so few others are moved.
+/// The lines that have an entry at one key. The greatest stands in place, since mostly it is the one that is looked for: the others
+/// stand in memory of their own, as a vector that rises. Most keys have few lines, and there a tree's least node takes more than all
+/// of them. Mostly lines come rising, and a late one is taken out: so few others are moved.
 pub struct Column {
-    lines: Vec<u64>,
+    /// The greatest; none only where there are no lines.
+    newest: Option<u64>,
+    older: Vec<u64>,
 }
 
 impl Drop for Column {
     fn drop(self) {
-        let Column { lines: _ } = self;
+        let Column {
+            newest: _,
+            older: _,
+        } = self;
     }
 }
 
 impl Model for Column {
-    ghost use Rattle.std.specs.Prelude.{List, ℕ};
+    ghost use Rattle.std.specs.Prelude.{◌≡◌, List, [], None, ℕ};
 
     ghost Value = { List ℕ };
 
-    ghost view = { λ c. c.lines.items };
+    ghost use Rattle.version_store.specs.Devices.Columns.{Rising, all_of};
 
-    ghost use Rattle.version_store.specs.Devices.Columns.{Rising};
+    ghost view = { λ c. all_of c.older.items c.newest };
 
-    ghost invariant = { λ c. Rising c.lines.items };
+    ghost invariant = { λ c. Rising (all_of c.older.items c.newest) × (c.newest ≡ None → c.older.items ≡ []) };
 }
 
 impl Column {
@@ -45,7 +51,8 @@ impl Column {
         ensures { result ≡ [] }
     {
         Column {
-            lines: Vec::new(alloc),
+            newest: None,
+            older: Vec::new(alloc),
         }
     }
 
@@ -54,18 +61,38 @@ impl Column {
         ensures put { OnOk result ((m : ℕ) → has self.new m ≡ cond (eq_by_cmp nat_cmp line m) true (has self.old m)) }
         ensures same { OnErr result (self.new ≡ self.old) }
     {
-        let Err(position) = position_of(&self.lines, line) else {
+        let Some(newest) = self.newest else {
+            self.newest = Some(line);
             return Ok(());
         };
-        insert_at(&mut self.lines, position, line)
+        if newest < line {
+            let end = self.older.len();
+            insert_at(&mut self.older, end, newest)?;
+            self.newest = Some(line);
+            return Ok(());
+        }
+        if newest == line {
+            return Ok(());
+        }
+        let Err(position) = position_of(&self.older, line) else {
+            return Ok(());
+        };
+        insert_at(&mut self.older, position, line)
     }
 
     /// The line isn't in it.
     pub fn remove(&mut self, line: u64)
         ensures { (m : ℕ) → has self.new m ≡ cond (eq_by_cmp nat_cmp line m) false (has self.old m) }
     {
-        if let Ok(position) = position_of(&self.lines, line) {
-            let _ = self.lines.remove(position);
+        let Some(newest) = self.newest else {
+            return;
+        };
+        if newest == line {
+            self.newest = self.older.pop();
+            return;
+        }
+        if let Ok(position) = position_of(&self.older, line) {
+            let _ = self.older.remove(position);
         }
     }
 
@@ -73,11 +100,17 @@ impl Column {
     pub fn latest_below(&self, below: u64) -> Option<u64>
         ensures { IsLatest (has self.now) below result }
     {
-        let count = count_below(&self.lines, below);
+        let Some(newest) = self.newest else {
+            return None;
+        };
+        if newest < below {
+            return Some(newest);
+        }
+        let count = count_below(&self.older, below);
         if count == 0 {
             return None;
         }
-        Some(self.lines[count - 1])
+        Some(self.older[count - 1])
     }
 }
 

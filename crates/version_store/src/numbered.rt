@@ -1,7 +1,6 @@
 //! A key with the number that its bytes spell.
 
 ghost use Rattle.std.specs.Prelude.{◌≡◌};
-ghost use Rattle.version_store.specs.Devices.Parts.{hashed};
 ghost use Rattle.version_store.specs.Devices.Parts as Parts;
 
 use circ_records::Key;
@@ -27,20 +26,20 @@ impl<'k> Model for Sought<'k> {
     ghost view = { λ s. s.key.now };
 
     ghost use Rattle.std.specs.Prelude.{◌≡◌};
-    ghost use Rattle.circ_records.specs.Keys.{id_of};
-    ghost use Rattle.version_store.specs.Devices.Parts.{hashed};
+    ghost use Rattle.version_store.specs.Devices.Parts.{number_of};
 
-    ghost invariant = { λ s. s.number ≡ hashed 0 (id_of s.key.now) };
+    ghost invariant = { λ s. s.number ≡ number_of s.key.now };
 }
 
 impl<'k> Sought<'k> {
     /// The key, to be looked for.
+    #[tactic(auto, unfolding(crate::specs::Devices::Parts::number_of))]
     pub fn new(key: &'k Key) -> Sought<'k>
         ensures { result ≡ key.now }
     {
         Sought {
             key,
-            number: number_of(key.id().as_bytes()),
+            number: key.number(),
         }
     }
 
@@ -60,15 +59,4 @@ impl<'k> Sought<'k> {
         }
         (self.number % parts as u64) as usize
     }
-}
-
-/// The number that bytes spell, each worth 31 of the next, as far as 64 bits reach.
-fn number_of(bytes: &[u8]) -> u64
-    ensures { result ≡ hashed 0 bytes.now }
-{
-    let mut number: u64 = 0;
-    for b in bytes {
-        number = number.wrapping_mul(31).wrapping_add(u64::from(*b));
-    }
-    number
 }

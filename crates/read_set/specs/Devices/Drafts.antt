@@ -1,10 +1,8 @@
 -- A device of proofs: how the records that a line writes are kept while it writes them.
-use Rattle.std.specs.Prelude.{ℕ, ◌+◌, List, [], ◌∷◌, map, Result, Ok, Err}
+use Rattle.std.specs.Prelude.{map}
 use Rattle.std.specs.List.Sorted.{IsStrictlySortedBy}
-use Rattle.std.specs.Ordering.{match_ordering}
 use Rattle.circ_records.specs.Keys.{key_cmp}
 use Rattle.circ_records.specs.Records.{Entries}
-use Rattle.circ_records.specs.declared.key.Key.{Key}
 use Rattle.read_set.specs.declared.effect.Kept.{Kept}
 use Rattle.read_set.specs.declared.effect.Kept.TheVariants.{Few, Many}
 
@@ -16,8 +14,3 @@ Rise entries = IsStrictlySortedBy key_cmp (map (λ e. e.0) entries)
 abbrev pub entries_in : Kept → Entries
 entries_in (Few list) = list.items
 entries_in (Many records) = records.entries
-
--- the position of a key among rising ones, or else the position to which it goes; the first has this number
-abbrev pub position_from : ℕ → Key → Entries → Result ℕ ℕ
-position_from i k [] = Err i
-position_from i k (e ∷ es) = match_ordering (key_cmp k e.0) (Err i) (Ok i) (position_from (i + 1) k es)

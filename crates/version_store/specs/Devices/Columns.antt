@@ -1,6 +1,10 @@
 -- A device of proofs: how the lines of a column are kept, and where a line stands among them.
-use Rattle.std.specs.Prelude.{◌≡◌, ℕ, ◌<◌, ◌≤◌, List, length, slice_index_or}
+use Rattle.std.specs.Prelude.{◌≡◌, ◌++◌, ℕ, ◌<◌, ◌≤◌, List, Option, length, option_to_list, slice_index_or}
 use Rattle.std.specs.List.{AllPairs}
+
+-- older lines, and the newest behind them
+abbrev pub all_of : List ℕ → Option ℕ → List ℕ
+all_of older newest = older ++ option_to_list newest
 
 -- each line is below those behind it
 abbrev pub Rising : List ℕ → Type 0

@@ -1,20 +1,20 @@
 -- A device of proofs: the part of the index in which a key stands, and the key's column in it.
-use Rattle.std.specs.Prelude.{ℕ, ◌+◌, ◌*◌, ◌^◌, ◌%◌, List, [], ◌∷◌, Option, nat_eq, option_and_then, if◌then◌else◌}
+use Rattle.std.specs.Prelude.{ℕ, ◌%◌, List, Option, nat_eq, option_and_then, if◌then◌else◌}
 use Rattle.std.specs.BTreeMap.{get, is_at}
 use Rattle.std.specs.Map.{lookup}
 use Rattle.std.specs.Option.{option_or}
+use Rattle.sip_reader.specs.Devices.Numbers.{id_number}
 use Rattle.circ_records.specs.Keys.{id_of, key_cmp}
 use Rattle.circ_records.specs.declared.key.Key.{Key}
 use Rattle.version_store.specs.declared.part.IndexPart.{IndexPart}
 
--- the number that bytes spell behind a number, each worth 31 of the next, as far as 64 bits reach
-abbrev pub hashed : ℕ → List ℕ → ℕ
-hashed h [] = h
-hashed h (b ∷ bs) = hashed (((h * 31) % 2 ^ 64 + b) % 2 ^ 64) bs
+-- the number of a key, by which its part is chosen
+unfoldable pub number_of : Key → ℕ
+number_of k = id_number (id_of k)
 
 -- of so many parts
 abbrev pub part_of : Key → ℕ → ℕ
-part_of k n = if nat_eq n 0 then 0 else hashed 0 (id_of k) % n
+part_of k n = if nat_eq n 0 then 0 else number_of k % n
 
 -- the column of a key among a few
 abbrev pub among : List (Key × List ℕ) → Key → Option (List ℕ)

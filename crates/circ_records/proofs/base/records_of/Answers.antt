@@ -1,14 +1,11 @@
-use Rattle.std.proofs.Common.{◌∙◌}
+use Rattle.std.proofs.Common.{◌∙◌, ap}
 use Rattle.circ_records.specs.Read.{rows_in}
-use Rattle.circ_records.specs.Records.{record_at}
-use Rattle.circ_records.proofs.Entering.{entries-told}
+use Rattle.circ_records.specs.Records.{Entries, record_at}
+use Rattle.circ_records.proofs.Entering.{same-entries}
 use Rattle.circ_records.proofs.CoherentBase.{coherent-rows}
 use Rattle.circ_records.proofs.FirstBroken.{none-broken}
 use Rattle.circ_records.proofs.Stopped.{in-closed, in-fees, in-holds, in-items, in-loans, in-patrons, still-stops}
 use Rattle.circ_records.proofs.base.records_of.Goals as goal
-
-pub add_loans-requires-clause-told : goal.add_loans-requires-clause-told
-add_loans-requires-clause-told c = λ k. c.in_ok-records.ensures.same k ∙ c.in_ok-add_items.ensures.told k
 
 pub returns-in_err-add_patrons-clause-err : goal.returns-in_err-add_patrons-clause-err
 returns-in_err-add_patrons-clause-err c =
@@ -39,10 +36,10 @@ returns-clause-ok c =
     none-broken c.args.policy.now c.args.first (rows_in c.args.tables.now) c.in_ok-add_patrons.ensures.ok c.in_ok-add_items.ensures.ok c.in_ok-add_loans.ensures.ok c.in_ok-add_fees.ensures.ok c.in_ok-add_closed.ensures.ok c.in_ok-add_holds.ensures.ok
 
 pub returns-clause-told : goal.returns-clause-told
-returns-clause-told c = entries-told (rows_in c.args.tables.now) c.add_holds.new.records c.in_ok-add_holds.ensures.rising c.in_ok-add_holds.ensures.told
+returns-clause-told c = same-entries (rows_in c.args.tables.now) c.in_ok-listed.listed.items c.in_ok-listed.ensures.rising (λ k. ap (λ (es : Entries). record_at es k) c.in_ok-listed.ensures.same ∙ c.in_ok-add_holds.ensures.told k)
 
 pub returns-clause-coherent : goal.returns-clause-coherent
 returns-clause-coherent c =
-    coherent-rows c.args.policy.now c.args.first (rows_in c.args.tables.now) (record_at c.add_holds.new.records.entries)
+    coherent-rows c.args.policy.now c.args.first (rows_in c.args.tables.now) (record_at c.in_ok-listed.listed.items)
     c.in_ok-add_patrons.ensures.ok c.in_ok-add_items.ensures.ok c.in_ok-add_loans.ensures.ok c.in_ok-add_fees.ensures.ok c.in_ok-add_closed.ensures.ok c.in_ok-add_holds.ensures.ok
-    c.in_ok-add_holds.ensures.told
+    (λ k. ap (λ (es : Entries). record_at es k) c.in_ok-listed.ensures.same ∙ c.in_ok-add_holds.ensures.told k)

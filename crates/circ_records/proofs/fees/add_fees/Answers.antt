@@ -5,7 +5,7 @@ use Rattle.std.proofs.lemmas.List.{take_all}
 use Rattle.csv.specs.Records.{fields_of}
 use Rattle.csv_table.specs.Rows.{rows_under}
 use Rattle.circ_records.specs.Base.{broken_fees}
-use Rattle.circ_records.specs.Read.{Tells, rows_in, to_fees}
+use Rattle.circ_records.specs.Read.{AreTold, rows_in, to_fees}
 use Rattle.circ_records.specs.Rules.{fee_rule}
 use Rattle.circ_records.specs.Tables.{Row, fees_header}
 use Rattle.circ_records.specs.declared.tables.TableName.TheVariants as table
@@ -44,8 +44,7 @@ loop-row-preserved c =
       named = c.in_ok-next.ensures.table ∙ inv.named;
       at = step-at all _ _ row n _ inv.at was count;
       keeps = λ is. let (below, at) = row-at all _ _ row n inv.at was is in rw count (keeps-more table.Fees (fee_rule c.args.first (rows_in c.args.tables.now).patrons) rows n row below at (none is) (inv.keeps is));
-      rising = c.in_ok-broken.ensures.rising inv.rising;
-      tells = λ is. rw count (subst (λ (xs : List Row). Tells (to_fees (rows_in c.args.tables.now) xs) c.add_fee.new.records) (sym (more is)) (c.in_ok-broken.ensures.told whole (rows_in c.args.tables.now) before (inv.tells is) (kept-fee c.args.first (rows_in c.args.tables.now).patrons before row (none is)).fresh));
+      tells = λ is. rw count (subst (λ (xs : List Row). AreTold (to_fees (rows_in c.args.tables.now) xs) c.add_fee.new.records) (sym (more is)) (c.in_ok-broken.ensures.told whole (rows_in c.args.tables.now) before (inv.tells is) (kept-fee c.args.first (rows_in c.args.tables.now).patrons before row (none is)).fresh));
     }
 
 pub returns-in_err-next-clause-err : goal.returns-in_err-next-clause-err
@@ -59,7 +58,6 @@ loop-row-init c = record {
   named = c.in_ok-rows.ensures.table;
   at = start-at _ _ _ (rw c.deref.ensures.value at c.in_ok-rows.ensures.rows) c.in_ok-rows.ensures.count;
   keeps = λ is. rw c.in_ok-rows.ensures.count refl;
-  rising = c.requires.rising;
   tells = λ is. rw c.in_ok-rows.ensures.count c.requires.told;
 }
 
@@ -78,4 +76,4 @@ returns-clause-told c =
     let inv = c.loop-row.invariant in
     let all = rows_under fees_header c.args.tables.now.fees.items in
     let left = c.in_ok-next.ensures.end c.if-branch.false in
-    subst (λ (xs : List Row). Tells (to_fees (rows_in c.args.tables.now) xs) c.loop-row.records) (take_all c.loop-row.rows.count (rows_in c.args.tables.now).fees (end-all all _ _ inv.at left)) (inv.tells (end-some all _ _ inv.at left))
+    subst (λ (xs : List Row). AreTold (to_fees (rows_in c.args.tables.now) xs) c.loop-row.records) (take_all c.loop-row.rows.count (rows_in c.args.tables.now).fees (end-all all _ _ inv.at left)) (inv.tells (end-some all _ _ inv.at left))

@@ -1,9 +1,7 @@
 use Rattle.std.proofs.Common.{◌≡◌, take}
 use Rattle.std.specs.Prelude.{IsSome}
-use Rattle.std.specs.BTreeMap.{IsOrdered}
 use Rattle.csv_table.specs.Rows.{rows_under}
-use Rattle.circ_records.specs.Keys.{key_cmp}
-use Rattle.circ_records.specs.Read.{Tells, rows_in, to_fees}
+use Rattle.circ_records.specs.Read.{AreTold, rows_in, to_fees}
 use Rattle.circ_records.specs.Rules.{fee_rule}
 use Rattle.circ_records.specs.Tables.{fees_header}
 use Rattle.circ_records.specs.declared.tables.TableName.TheVariants as table
@@ -17,8 +15,7 @@ invariant-loop-row l = record {
   named : l.rows.table ≡ table.Fees;
   at : IsAt (rows_under fees_header l.tables.fees.items) l.rows.rows l.rows.count;
   keeps : IsSome (rows_under fees_header l.tables.fees.items) → KeepsUpTo table.Fees (fee_rule l.first (rows_in l.tables).patrons) (rows_in l.tables).fees l.rows.count;
-  rising : IsOrdered key_cmp l.records;
-  tells : IsSome (rows_under fees_header l.tables.fees.items) → Tells (to_fees (rows_in l.tables) (take l.rows.count (rows_in l.tables).fees)) l.records;
+  tells : IsSome (rows_under fees_header l.tables.fees.items) → AreTold (to_fees (rows_in l.tables) (take l.rows.count (rows_in l.tables).fees)) l.records;
 }
 
 abbrev pub decreases-loop-row : goal.decreases-loop-row

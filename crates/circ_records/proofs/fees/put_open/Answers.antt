@@ -21,6 +21,6 @@ returns-clause-rule c = λ r row says tells none.
 
 pub returns-clause-told : goal.returns-clause-told
 returns-clause-told c = λ last r before row says tells fresh.
-    tells-fee-of r before row c.args.records.now c.insert_fee.new.records c.change_at.new.records c.args.said.now.id c.args.said.now.fee.patron (record_of.Fee c.args.said.now.fee)
+    tells-fee-of r before row c.args.records.now c.insert_fee.new.records c.change.new.self c.args.said.now.id c.args.said.now.fee.patron (record_of.Fee c.args.said.now.fee)
     says.2 (fee-patron c.args.said.now.fee row says.3) says.3 tells fresh c.in_ok-insert_fee.ensures.put
     (c.in_ok-broken.ensures.ok (nothing-there c.in_ok-broken.broken (sym c.is_some.ensures ∙ c.if-is_some.false)))

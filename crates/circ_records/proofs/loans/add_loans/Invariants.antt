@@ -1,9 +1,7 @@
 use Rattle.std.proofs.Common.{◌≡◌, take}
 use Rattle.std.specs.Prelude.{IsSome}
-use Rattle.std.specs.BTreeMap.{IsOrdered}
 use Rattle.csv_table.specs.Rows.{rows_under}
-use Rattle.circ_records.specs.Keys.{key_cmp}
-use Rattle.circ_records.specs.Read.{Tells, rows_in, to_loans}
+use Rattle.circ_records.specs.Read.{AreTold, rows_in, to_loans}
 use Rattle.circ_records.specs.Rules.{loan_rule}
 use Rattle.circ_records.specs.Tables.{loans_header}
 use Rattle.circ_records.specs.declared.tables.TableName.TheVariants as table
@@ -17,8 +15,7 @@ invariant-loop-row l = record {
   named : l.rows.table ≡ table.Loans;
   at : IsAt (rows_under loans_header l.tables.loans.items) l.rows.rows l.rows.count;
   keeps : IsSome (rows_under loans_header l.tables.loans.items) → KeepsUpTo table.Loans (loan_rule (rows_in l.tables).patrons (rows_in l.tables).items) (rows_in l.tables).loans l.rows.count;
-  rising : IsOrdered key_cmp l.records;
-  tells : IsSome (rows_under loans_header l.tables.loans.items) → Tells (to_loans (rows_in l.tables) (take l.rows.count (rows_in l.tables).loans)) l.records;
+  tells : IsSome (rows_under loans_header l.tables.loans.items) → AreTold (to_loans (rows_in l.tables) (take l.rows.count (rows_in l.tables).loans)) l.records;
 }
 
 abbrev pub decreases-loop-row : goal.decreases-loop-row

@@ -11,11 +11,11 @@ returns-then-is_some-clause-rule c = λ r row says tells.
 pub returns-clause-rule : goal.returns-clause-rule
 returns-clause-rule c = λ r row says tells.
     let none = nothing-there c.in_ok-broken.broken (sym c.is_some.ensures ∙ c.if-is_some.false) in
-    loan-at-item r row c.args.said.now c.args.records.now c.change_at.new.records c.in_ok-broken.broken c.in_ok-broken-2.broken says tells c.in_ok-broken.ensures.rule none
+    loan-at-item r row c.args.said.now c.args.records.now c.change.new.self c.in_ok-broken.broken c.in_ok-broken-2.broken says tells c.in_ok-broken.ensures.rule none
     (c.in_ok-broken.ensures.ok none) c.in_ok-broken-2.ensures.rule
 
 pub returns-clause-told : goal.returns-clause-told
 returns-clause-told c = λ last r before row says tells fresh.
     let none = nothing-there c.in_ok-broken.broken (sym c.is_some.ensures ∙ c.if-is_some.false) in
-    tells-loan-of r before row c.args.records.now c.change_at.new.records c.change_at-2.new.records c.args.said.now.loan.patron c.args.said.now.item c.args.said.now.loan
+    tells-loan-of r before row c.args.records.now c.change.new.self c.change-2.new.self c.args.said.now.loan.patron c.args.said.now.item c.args.said.now.loan
     (ap (λ (l : Loan). l.patron) says.3) says.2 says.3 tells fresh (c.in_ok-broken.ensures.ok none) (c.in_ok-broken-2.ensures.ok last)

@@ -4,7 +4,7 @@ use Rattle.std.proofs.Math.Seq.{take-suc}
 use Rattle.std.proofs.lemmas.List.{take_all}
 use Rattle.csv.specs.Records.{fields_of}
 use Rattle.circ_records.specs.Base.{broken_holds, holds_rows_of}
-use Rattle.circ_records.specs.Read.{AreWaiting, Tells, rows_in, to_holds}
+use Rattle.circ_records.specs.Read.{AreWaiting, AreTold, rows_in, to_holds}
 use Rattle.circ_records.specs.Rules.{hold_rule}
 use Rattle.circ_records.specs.Tables.{Row}
 use Rattle.circ_records.specs.declared.tables.TableName.TheVariants as table
@@ -42,8 +42,7 @@ loop-waiting-preserved c =
       named = c.in_ok-next.ensures.table ∙ inv.named;
       at = step-at all _ _ row n _ inv.at was count;
       keeps = λ is. let (below, at) = row-at all _ _ row n inv.at was is in rw count (keeps-more table.Holds (hold_rule (rows_in c.args.tables.now).patrons (rows_in c.args.tables.now).items (rows_in c.args.tables.now).loans) rows n row below at (none is) (inv.keeps is));
-      rising = c.in_ok-broken.ensures.rising inv.rising;
-      tells = λ is. rw count (subst (λ (xs : List Row). Tells (to_holds (rows_in c.args.tables.now) xs) c.add_hold.new.records) (sym (more is)) (c.in_ok-broken.ensures.told whole (rows_in c.args.tables.now) before (inv.tells is)));
+      tells = λ is. rw count (subst (λ (xs : List Row). AreTold (to_holds (rows_in c.args.tables.now) xs) c.add_hold.new.records) (sym (more is)) (c.in_ok-broken.ensures.told whole (rows_in c.args.tables.now) before (inv.tells is)));
       waiting = λ is. rw count (subst (λ (xs : List Row). AreWaiting xs c.add_hold.new.waiting) (sym (more is)) (c.in_ok-broken.ensures.waiting whole before (inv.waiting is)));
     }
 
@@ -58,7 +57,6 @@ loop-waiting-init c = record {
   named = c.in_ok-rows.ensures.table;
   at = start-at _ _ _ (holds-read c.args.tables.now.holds.items c.in_ok-rows.rows.rows _ (rw c.deref.ensures.value at c.in_ok-rows.ensures.rows) (cc (c.deref.ensures.len, c.deref.ensures.value)) (sym c.if-is_empty.ensures)) c.in_ok-rows.ensures.count;
   keeps = λ is. rw c.in_ok-rows.ensures.count refl;
-  rising = c.requires.rising;
   tells = λ is. rw c.in_ok-rows.ensures.count c.requires.told;
   waiting = λ is. rw c.in_ok-rows.ensures.count (λ item patron. search rules);
 }
@@ -78,4 +76,4 @@ returns-clause-told c =
     let inv = c.loop-waiting.invariant in
     let all = holds_rows_of c.args.tables.now.holds.items in
     let left = c.in_ok-next.ensures.end c.if-branch.false in
-    subst (λ (xs : List Row). Tells (to_holds (rows_in c.args.tables.now) xs) c.loop-waiting.records) (take_all c.loop-waiting.rows.count (rows_in c.args.tables.now).holds (end-all all _ _ inv.at left)) (inv.tells (end-some all _ _ inv.at left))
+    subst (λ (xs : List Row). AreTold (to_holds (rows_in c.args.tables.now) xs) c.loop-waiting.records) (take_all c.loop-waiting.rows.count (rows_in c.args.tables.now).holds (end-all all _ _ inv.at left)) (inv.tells (end-some all _ _ inv.at left))

@@ -1,9 +1,7 @@
 use Rattle.std.proofs.Common.{◌≡◌, take}
 use Rattle.std.specs.Prelude.{IsSome}
-use Rattle.std.specs.BTreeMap.{IsOrdered}
 use Rattle.circ_records.specs.Base.{holds_rows_of}
-use Rattle.circ_records.specs.Keys.{key_cmp}
-use Rattle.circ_records.specs.Read.{AreWaiting, Tells, rows_in, to_holds}
+use Rattle.circ_records.specs.Read.{AreWaiting, AreTold, rows_in, to_holds}
 use Rattle.circ_records.specs.Rules.{hold_rule}
 use Rattle.circ_records.specs.declared.tables.TableName.TheVariants as table
 use Rattle.circ_records.proofs.Broken.{KeepsUpTo}
@@ -16,8 +14,7 @@ invariant-loop-waiting l = record {
   named : l.rows.table ≡ table.Holds;
   at : IsAt (holds_rows_of l.tables.holds.items) l.rows.rows l.rows.count;
   keeps : IsSome (holds_rows_of l.tables.holds.items) → KeepsUpTo table.Holds (hold_rule (rows_in l.tables).patrons (rows_in l.tables).items (rows_in l.tables).loans) (rows_in l.tables).holds l.rows.count;
-  rising : IsOrdered key_cmp l.records;
-  tells : IsSome (holds_rows_of l.tables.holds.items) → Tells (to_holds (rows_in l.tables) (take l.rows.count (rows_in l.tables).holds)) l.records;
+  tells : IsSome (holds_rows_of l.tables.holds.items) → AreTold (to_holds (rows_in l.tables) (take l.rows.count (rows_in l.tables).holds)) l.records;
   waiting : IsSome (holds_rows_of l.tables.holds.items) → AreWaiting (take l.rows.count (rows_in l.tables).holds) l.waiting;
 }
 

@@ -21,7 +21,7 @@ returns-clause-rule c = λ r row says tells are.
 
 pub returns-clause-told : goal.returns-clause-told
 returns-clause-told c = λ last r before row says tells.
-    tells-hold-of r before row c.args.records.now c.change_at.new.records c.args.item c.args.hold says.1 says.2 tells (c.in_ok-broken.ensures.ok last)
+    tells-hold-of r before row c.args.records.now c.change.new.self c.args.item c.args.hold says.1 says.2 tells (c.in_ok-broken.ensures.ok last)
 
 pub returns-clause-waiting : goal.returns-clause-waiting
 returns-clause-waiting c = λ last holds row says are.

@@ -1,33 +1,27 @@
-use Rattle.std.proofs.Common.{◌++◌, ◌∷◌, [], ◌∙◌, ap, append_assoc, sym, subst}
-use Rattle.std.specs.Map.Iter.{deref_pair}
-use Rattle.std.proofs.lemmas.List.{append-nil}
-use Rattle.std.proofs.lemmas.Map.Iter.{rest_more}
+use Rattle.std.proofs.Common.{◌≡◌, ◌+◌, ◌++◌, ◌∷◌, [], ◌∙◌, ap, arith, subst, suc, sym, take, take-suc, take_all}
 use Rattle.circ_records.specs.Records.{Entries}
 use Rattle.circ_records.specs.Writing.{Holds}
-use Rattle.circ_records.specs.declared.key.Key.{Key}
-use Rattle.circ_records.specs.declared.record.Record.{Record}
 use Rattle.circ_records.proofs.Writing.{has-widths, holds-more}
 use Rattle.circ_records.proofs.written.told.Goals as goal
 
-pub loop-key-init : goal.loop-key-init
-loop-key-init c = ([], c.in_ok-texts.ensures c.args.records.now, c.into_iter-key-iterator.ensures.into_iter_gives.0 ∙ c.as_map-key-items.ensures)
+pub loop-entry-init : goal.loop-entry-init
+loop-entry-init c = c.in_ok-texts.ensures c.args.records.now
 
 pub entry-requires : goal.entry-requires
-entry-requires c = let inv = c.loop-key.invariant in has-widths c.args.records.now inv.0 c.loop-key.texts inv.1
+entry-requires c = has-widths c.args.records.now (take c.loop-entry.entry-index c.as_slice-entries.result.now) c.loop-entry.texts c.loop-entry.invariant
 
-pub loop-key-preserved : goal.loop-key-preserved
-loop-key-preserved c =
-    let (before, holds, left) = c.loop-key.invariant in
-    let entry : Key × Record = (c.in-Some.key.now, c.in-Some.record.now) in
-    let rest = rest_more deref_pair c.loop-key.key-iterator c.next.new.self c.next.result (c.in-Some.key, c.in-Some.record) c.in-Some.is c.next.ensures.steps in (
-      before ++ entry ∷ [],
-      holds-more c.args.records.now before entry c.loop-key.texts c.entry.new.self holds c.in_ok-entry.ensures,
-      simp append_assoc (ap (λ (es : Entries). before ++ es) (sym rest) ∙ left),
-    )
+pub loop-entry-preserved : goal.loop-entry-preserved
+loop-entry-preserved c =
+    let n = c.loop-entry.entry-index in
+    let all = c.as_slice-entries.result.now in
+    let next : suc n ≡ n + 1 = omega arith in
+    let more : take n all ++ c.entry-item.result ∷ [] ≡ take (n + 1) all =
+    ap (λ e. take n all ++ e ∷ []) c.entry-item.is ∙ sym (take-suc all n c.entry-item.result c.loop-entry-test.true) ∙ ap (λ m. take m all) next in
+    let told = rw c.key.ensures at c.in_ok-entry.ensures in
+    subst (λ (es : Entries). Holds c.args.records.now es c.entry.new.self) more
+    (holds-more c.args.records.now (take n all) c.entry-item.result c.loop-entry.texts c.entry.new.self c.loop-entry.invariant told)
 
 pub returns : goal.returns
 returns c =
-    let (before, holds, left) = c.loop-key.invariant in
-    subst (λ (es : Entries). Holds c.args.records.now es c.loop-key.texts)
-    (sym (append-nil before) ∙ ap (λ (es : Entries). before ++ es) (sym c.in-None.ensures.steps.0) ∙ left)
-    holds
+    subst (λ (es : Entries). Holds c.args.records.now es c.loop-entry.texts)
+    (take_all c.loop-entry.entry-index c.as_slice-entries.result.now c.loop-entry-test.false ∙ c.as_slice-entries.ensures.records) c.loop-entry.invariant

@@ -2,4 +2,4 @@ use Rattle.read_set.proofs.PlanFits.{counted, final-tables}
 use Rattle.read_set.proofs.laws.final_tables_read_back.Goals as goal
 
 pub returns : goal.returns
-returns c = final-tables c.args.base.now (counted c.args.base.now c.keys.result c.len-count.result c.keys.ensures.keys c.len-count.ensures.value c.len-count.type_inv)
+returns c = final-tables c.args.base.now (counted c.args.base.now c.as_slice-records.ensures.few)

@@ -4,7 +4,7 @@ use Rattle.circ_records.specs.Keys.{key_cmp}
 use Rattle.circ_records.specs.Records.{Entries}
 use Rattle.circ_records.specs.declared.key.Key.{Key}
 use Rattle.read_set.specs.Devices.Drafts.{Rise}
-use Rattle.read_set.proofs.Drafting.{goes-first}
+use Rattle.circ_records.proofs.Positions.{goes-first}
 use Rattle.read_set.proofs.sorted.map_of.Goals as goal
 
 pub loop-kept-preserved : goal.loop-kept-preserved

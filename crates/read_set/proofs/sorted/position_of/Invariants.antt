@@ -1,5 +1,5 @@
 use Rattle.std.proofs.Common.{◌≡◌, drop}
-use Rattle.read_set.specs.Devices.Drafts.{position_from}
+use Rattle.circ_records.specs.Devices.Positions.{position_from}
 use Rattle.read_set.proofs.sorted.position_of.Given as goal
 
 abbrev pub invariant-loop-i : goal.invariant-loop-i

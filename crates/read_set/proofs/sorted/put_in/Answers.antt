@@ -1,6 +1,6 @@
 use Rattle.std.proofs.Common.{ap, arith, length, rules, subst, sym}
 use Rattle.read_set.specs.Devices.Drafts.{Rise}
-use Rattle.read_set.proofs.Drafting.{inserted, replaced, rises-more}
+use Rattle.circ_records.proofs.Positions.{inserted, replaced, rises-more}
 use Rattle.read_set.proofs.sorted.put_in.Goals as goal
 
 pub index_mut-requires : goal.index_mut-requires

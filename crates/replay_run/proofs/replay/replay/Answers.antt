@@ -7,10 +7,10 @@ use Rattle.replay_run.proofs.replay.replay.Goals as goal
 
 pub returns-clause-answers : goal.returns-clause-answers
 returns-clause-answers c =
-    let same : plan_over c.take_base-base.new.self c.take_base-base.result.entries ≡ c.args.plan.now = rw (c.take_base-base.ensures.left, c.take_base-base.ensures.records) refl in
+    let same : plan_over c.take_base-base.new.self c.take_base-base.result ≡ c.args.plan.now = rw (c.take_base-base.ensures.left, c.take_base-base.ensures.records) refl in
     subst (λ (p : Planned). IfOk c.replay_over.result (λ o. o.answers.items ≡ answers_of p)) same c.replay_over.ensures.answers
 
 pub returns-clause-records : goal.returns-clause-records
 returns-clause-records c =
-    let same : plan_over c.take_base-base.new.self c.take_base-base.result.entries ≡ c.args.plan.now = rw (c.take_base-base.ensures.left, c.take_base-base.ensures.records) refl in
+    let same : plan_over c.take_base-base.new.self c.take_base-base.result ≡ c.args.plan.now = rw (c.take_base-base.ensures.left, c.take_base-base.ensures.records) refl in
     subst (λ (p : Planned). IfOk c.replay_over.result (λ o. AreEntries (last p) o.records)) same c.replay_over.ensures.records

@@ -4,4 +4,4 @@ use Rattle.replay_run.specs.Live.{standing}
 use Rattle.replay_run.proofs.replay.replay_over.Given as goal
 
 abbrev pub invariant-loop-i : goal.invariant-loop-i
-invariant-loop-i l = Replayed (plan_over l.plan l.fn.base.entries) l.i (standing l.live) l.answers.items
+invariant-loop-i l = Replayed (plan_over l.plan l.fn.base) l.i (standing l.live) l.answers.items

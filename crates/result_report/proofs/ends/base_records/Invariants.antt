@@ -1,9 +1,7 @@
-use Rattle.std.proofs.Common.{◌≡◌, List, ◌++◌, map}
-use Rattle.circ_records.specs.declared.key.Key.{Key}
-use Rattle.result_report.specs.Devices.Listed.{Lists}
+use Rattle.std.proofs.Common.{map, take}
+use Rattle.result_report.specs.Ends.{HasAt}
 use Rattle.result_report.proofs.ends.base_records.Given as goal
 
--- the keys so far, and those that are left
-abbrev pub invariant-loop-key : goal.invariant-loop-key
-invariant-loop-key g l = (done : List Key) × (done ++ l.key-iterator ≡ map (λ e. e.0) (g.E.End.planned l.end).base)
-    × Lists done (g.E.End.left l.end) l.found.items
+-- the records at the keys so far
+abbrev pub invariant-loop-entry : goal.invariant-loop-entry
+invariant-loop-entry g l = HasAt (map (λ e. e.0) (take l.entry-index l.keys)) (g.E.End.left l.end) l.records

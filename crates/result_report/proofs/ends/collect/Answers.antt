@@ -1,4 +1,4 @@
-use Rattle.std.proofs.Common.{◌≡◌, ◌∙◌, ℕ, List, ◌++◌, map, length, ap, ap₂, sym, subst, rules}
+use Rattle.std.proofs.Common.{◌≡◌, ◌∙◌, ℕ, List, ◌++◌, map, length, ap, ap₂, sym, subst}
 use Rattle.std.specs.List.{range_with_len}
 use Rattle.std.proofs.lemmas.List.{length-map}
 use Rattle.read_set.specs.Plans.{Planned}
@@ -32,7 +32,7 @@ returns-clause-records g c =
     let keys = map (λ e. e.0) plan.base in
     let same = numbers _ c.readings.result.now plan c.plan.result.now c.plan-2.result.now _ _ c.plan.ensures c.plan-2.ensures c.first-first.ensures c.len-count.ensures.len c.readings.ensures.readings in
     record {
-      rising = search rules;
-      same = subst (λ es. HasAt (keys ++ lines_keys entered (numbers_of plan)) M es) (sym c.from_map.ensures)
-          (subst (λ ns. HasAt (keys ++ lines_keys entered ns) M c.take_lines.new.records.entries) same (c.in_ok-take_lines.ensures keys c.in_ok-records.ensures.records));
+      rising = c.in_ok-from_map.ensures.rising;
+      same = subst (λ es. HasAt (keys ++ lines_keys entered (numbers_of plan)) M es) (sym c.in_ok-from_map.ensures.same)
+          (subst (λ ns. HasAt (keys ++ lines_keys entered ns) M c.take_lines.new.records) same (c.in_ok-take_lines.ensures keys c.in_ok-records.ensures));
     }

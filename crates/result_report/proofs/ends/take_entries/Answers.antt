@@ -9,12 +9,12 @@ loop-entry-preserved g c keys has =
     let M = g.E.End.left c.args.end.now in
     let entries = g.E.End.entered c.args.end.now c.args.line in
     let e : Key × ℕ = (c.in-Some.entry.0.now, c.in-Some.entry.1) in
-    entry-more M c.take_record.new.records.entries keys entries c.loop-entry.i e c.in-Some.ensures.value
-    (subst (λ (k : Key). HasAt ((keys ++ keys_named (take c.loop-entry.i entries)) ++ k ∷ []) M c.take_record.new.records.entries) c.key.ensures
+    entry-more M c.take_record.new.records keys entries c.loop-entry.i e c.in-Some.ensures.value
+    (subst (λ (k : Key). HasAt ((keys ++ keys_named (take c.loop-entry.i entries)) ++ k ∷ []) M c.take_record.new.records) c.key.ensures
     (c.in_ok-take_record.ensures (keys ++ keys_named (take c.loop-entry.i entries)) (c.loop-entry.invariant keys has)))
 
 pub returns : goal.returns
 returns g c keys has =
     let M = g.E.End.left c.args.end.now in
     let entries = g.E.End.entered c.args.end.now c.args.line in
-    subst (λ es. HasAt (keys ++ keys_named es) M c.loop-entry.records.entries) (keys-all entries c.loop-entry.i c.in_default.ensures.value) (c.loop-entry.invariant keys has)
+    subst (λ es. HasAt (keys ++ keys_named es) M c.loop-entry.records) (keys-all entries c.loop-entry.i c.in_default.ensures.value) (c.loop-entry.invariant keys has)

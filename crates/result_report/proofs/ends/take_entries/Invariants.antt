@@ -4,8 +4,8 @@ use Rattle.result_report.specs.Ends.{HasAt, keys_named}
 use Rattle.result_report.proofs.ends.take_entries.Given as goal
 
 abbrev pub invariant-loop-entry : goal.invariant-loop-entry
-invariant-loop-entry g l = (keys : List Key) → HasAt keys (g.E.End.left l.end) l.fn.records.entries
-    → HasAt (keys ++ keys_named (take l.i (g.E.End.entered l.end l.line))) (g.E.End.left l.end) l.records.entries
+invariant-loop-entry g l = (keys : List Key) → HasAt keys (g.E.End.left l.end) l.fn.records
+    → HasAt (keys ++ keys_named (take l.i (g.E.End.entered l.end l.line))) (g.E.End.left l.end) l.records
 
 abbrev pub decreases-loop-entry : goal.decreases-loop-entry
 decreases-loop-entry g l = length (g.E.End.entered l.end l.line) - l.i

@@ -1,5 +1,4 @@
-use Rattle.std.proofs.Common.{◌≡◌, ◌∙◌, rules, subst, sym}
-use Rattle.read_set.specs.Devices.Drafts.{Rise}
+use Rattle.std.proofs.Common.{rules}
 use Rattle.read_set.proofs.effect.Draft.put.Goals as goal
 use Rattle.read_set.proofs.effect.Draft.put.Goals.{in-Few, in-Many}
 

@@ -1,4 +1,4 @@
-use Rattle.std.proofs.Common.{◌≡◌, List, None, rules, ap, ◌∙◌, subst}
+use Rattle.std.proofs.Common.{◌≡◌, List, None, rules, ap, ◌∙◌}
 use Rattle.read_set.specs.Devices.Positions.{AreKept, HasRoom, notes_in, positions_in}
 use Rattle.read_set.specs.Notes.{note_of}
 use Rattle.read_set.specs.declared.notes.Note.{Note}

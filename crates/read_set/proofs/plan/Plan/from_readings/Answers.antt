@@ -5,7 +5,7 @@ use Rattle.read_set.proofs.plan.Plan.from_readings.Goals as goal
 pub invariant_of-result : goal.invariant_of-result
 invariant_of-result c =
     let base = c.args.base in
-    let few = counted base c.keys.result c.len-records.result c.keys.ensures.keys c.len-records.ensures.value c.len-records.type_inv in
+    let few = counted base c.as_slice-records.ensures.few in
     let fits = made-fits c.args.policy base c.args.readings c.currency-currency.ensures.ranges c.len-lines.ensures.read c.first.ensures.within few c.requires in
     rw (c.unwrap_or-first.ensures, c.first.ensures.value) (c.first.ensures.within, c.len-lines.ensures.few, fits)
 

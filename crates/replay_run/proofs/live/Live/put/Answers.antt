@@ -1,10 +1,12 @@
-use Rattle.std.proofs.Common.{rules, ◌≡◌, ◌∙◌, ◌∷◌, [], ◌++◌, sym, ap}
+use Rattle.std.proofs.Common.{rules, ◌≡◌, ◌∙◌, ◌∷◌, [], ◌++◌, Some, cond, sym, ap}
 use Rattle.std.specs.Option.{option_or}
+use Rattle.std.specs.Ordering.{eq_by_cmp}
+use Rattle.circ_records.specs.Keys.{key_cmp}
 use Rattle.circ_records.specs.Records.{record_at}
 use Rattle.circ_records.specs.declared.key.Key.{Key}
 use Rattle.circ_records.specs.declared.record.Record.{Record}
 use Rattle.read_set.specs.Maps.{put}
-use Rattle.replay_run.proofs.Puts.{put-last}
+use Rattle.replay_run.proofs.Puts.{put-alone, put-last}
 use Rattle.replay_run.specs.Live.{standing}
 use Rattle.replay_run.proofs.live.Live.put.Goals as goal
 
@@ -12,7 +14,10 @@ pub loop-kept-preserved : goal.loop-kept-preserved
 loop-kept-preserved c =
     let last : Key × Record = (c.in-Some.kept, c.in-Some.written) in
     let all : c.loop-kept.left.items ≡ c.pop.new.self.items ++ (c.in-Some.kept, c.in-Some.written) ∷ [] = search rules in
-    let wrote : (k : Key) → standing c.write.new.self k ≡ put (last ∷ []) (standing c.loop-kept.self) k = λ k. rw (← c.key.ensures) (c.in_ok-write.ensures k) in
+    let updates : (k : Key) → record_at c.put.new.self k ≡ cond (eq_by_cmp key_cmp c.in-Some.kept k) (Some c.in-Some.written) (record_at c.loop-kept.self.records k) =
+    λ k. rw (← c.key.ensures) (c.in_ok-put.ensures.put k) in
+    let wrote : (k : Key) → record_at c.put.new.self k ≡ put (last ∷ []) (standing c.loop-kept.self) k =
+    put-alone c.loop-kept.self.records c.put.new.self c.in-Some.kept c.in-Some.written updates in
     λ k. ap (λ found. option_or (record_at c.pop.new.self.items k) found) (wrote k)
     ∙ sym (put-last c.pop.new.self.items last (standing c.loop-kept.self) k)
     ∙ ap (λ writes. put writes (standing c.loop-kept.self) k) (sym all)

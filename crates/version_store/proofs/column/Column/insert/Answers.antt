@@ -1,27 +1,23 @@
-use Rattle.std.proofs.Common.{subst}
-use Rattle.std.proofs.lemmas.Result.{on_ok_weaker, on_err_weaker}
-use Rattle.version_store.specs.Devices.Columns.{GoesTo, StandsAt}
-use Rattle.version_store.proofs.Rising.{has_put, has_still, rising_then}
+use Rattle.std.proofs.Common.{◌<◌, arith, subst}
+use Rattle.std.proofs.lemmas.Result.{on_ok_weaker}
+use Rattle.version_store.specs.Devices.Columns.{GoesTo}
+use Rattle.version_store.proofs.Rising.{put_older, rises_older}
 use Rattle.version_store.proofs.column.Column.insert.Goals as goal
 
-pub returns-in_default : goal.returns-in_default
-returns-in_default c =
-    let ns = c.self.inside.lines.items in
-    record {
-      put = rw (← c.self.view_is) (has_still ns c.args.line c.in_default.field-0 (subst (λ l. StandsAt l c.args.line c.in_default.field-0) c.deref.ensures.value c.in_default.ensures));
-      same = tt;
-    }
+pub invariant_of-self-2 : goal.invariant_of-self-2
+invariant_of-self-2 c =
+    let older = c.self.inside.older.items in
+    let n = c.in-Some.newest in
+    let less : c.args.line < n = omega (arith, c.if-newest-line.false, c.if-newest-line-2.false) in
+    let gap = subst (λ l. GoesTo l c.args.line c.in-Err.position) c.deref.ensures.value c.in-Err.ensures in
+    let rise = rw c.in-Some.is at c.self.invariant.0 in
+    rw c.in-Some.is (rises_older c.insert_at-2.result older c.insert_at-2.new.lines.items n c.args.line c.in-Err.position rise less gap c.insert_at-2.ensures.items c.insert_at-2.ensures.same, λ e. cc e)
 
-pub invariant_of-self : goal.invariant_of-self
-invariant_of-self c =
-    let ns = c.self.inside.lines.items in
-    rising_then c.insert_at.result ns c.insert_at.new.lines.items c.args.line c.in-Err.position c.self.invariant
-    (subst (λ l. GoesTo l c.args.line c.in-Err.position) c.deref.ensures.value c.in-Err.ensures) c.insert_at.ensures.items c.insert_at.ensures.same
-
-pub returns : goal.returns
-returns c =
-    let ns = c.self.inside.lines.items in
-    record {
-      put = on_ok_weaker c.insert_at.result (λ is. rw (← c.self.view_is) (has_put ns c.insert_at.new.lines.items c.in-Err.position c.args.line is)) c.insert_at.ensures.items;
-      same = on_err_weaker c.insert_at.result (λ is. rw (← c.self.view_is) is) c.insert_at.ensures.same;
-    }
+pub returns-clause-put : goal.returns-clause-put
+returns-clause-put c =
+    let older = c.self.inside.older.items in
+    let n = c.in-Some.newest in
+    let less : c.args.line < n = omega (arith, c.if-newest-line.false, c.if-newest-line-2.false) in
+    let gap = subst (λ l. GoesTo l c.args.line c.in-Err.position) c.deref.ensures.value c.in-Err.ensures in
+    let rise = rw c.in-Some.is at c.self.invariant.0 in
+    on_ok_weaker c.insert_at-2.result (λ is. rw (← c.self.view_is, c.in-Some.is) (put_older older c.insert_at-2.new.lines.items n c.args.line c.in-Err.position rise less gap is).1) c.insert_at-2.ensures.items

@@ -1,0 +1,174 @@
+//! Records by their keys, as they grow.
+
+ghost use Rattle.std.specs.Prelude.{◌≡◌, ◌++◌, [], Some, None, cond, is_some, option_copied, IfOk, OnOk, OnErr};
+ghost use Rattle.std.specs.Ordering.{eq_by_cmp};
+ghost use Rattle.circ_records.specs.Changes.{IsChanged, broken_by};
+ghost use Rattle.circ_records.specs.Keys.{key_cmp};
+ghost use Rattle.circ_records.specs.Laws.{AreRising};
+ghost use Rattle.circ_records.specs.Records.{record_at};
+ghost use Rattle.circ_records.specs.declared.key.Key.{Key};
+
+use crate::changes::{Change, apply};
+use crate::fault::BaseRule;
+use crate::kept_key::KeptKey;
+use crate::key::Key;
+use crate::listed::{found_likely, position_in};
+use crate::places::Places;
+use crate::record::Record;
+use std::alloc::{AllocError, Global};
+use std::collections::BTreeMap;
+use std::marker::Model;
+use std::mem::replace;
+
+/// Records by their keys, put in one by one. Those that come behind all others are listed, since most tables have their rows in
+/// rising order: a list takes little room, and one of its records is found by halving it. What comes between goes into a map,
+/// and what is listed behind it with it: so no list is moved for one record, however many come between.
+pub struct RecordMap {
+    /// By rising keys.
+    listed: Vec<(KeptKey, Record)>,
+    /// Where each of these likely stands.
+    places: Places,
+    /// Behind all that are listed.
+    placed: BTreeMap<Key, Record>,
+}
+
+impl Drop for RecordMap {
+    fn drop(self) {
+        let RecordMap {
+            listed: _,
+            places: _,
+            placed: _,
+        } = self;
+    }
+}
+
+impl Model for RecordMap {
+    ghost use Rattle.std.specs.Prelude.{◌++◌};
+    ghost use Rattle.circ_records.specs.Laws.{AreRising};
+    ghost use Rattle.circ_records.specs.Records.{Entries};
+
+    ghost Value = { Entries };
+
+    ghost view = { λ m. m.listed.items ++ m.placed.entries };
+
+    ghost invariant = { λ m. AreRising (m.listed.items ++ m.placed.entries) };
+}
+
+impl RecordMap {
+    /// No records.
+    pub fn new(alloc: Global) -> RecordMap
+        ensures { result ≡ [] }
+    {
+        RecordMap {
+            listed: Vec::new(alloc),
+            places: Places::none(alloc),
+            placed: BTreeMap::new(alloc),
+        }
+    }
+
+    /// The records of a list that rises by key, which likely stand at these places.
+    pub(crate) fn from_list(
+        alloc: Global,
+        listed: Vec<(KeptKey, Record)>,
+        places: Places,
+    ) -> RecordMap
+        requires { AreRising listed.items }
+        ensures { result ≡ listed.items }
+    {
+        RecordMap {
+            listed,
+            places,
+            placed: BTreeMap::new(alloc),
+        }
+    }
+
+    /// The record at a key.
+    pub fn get(&self, key: &Key) -> Option<&Record>
+        ensures { option_copied result ≡ record_at self.now key.now }
+    {
+        match found_likely(self.listed.as_slice(), &self.places, key) {
+            Some(found) => Some(found),
+            None => self.placed.get(key),
+        }
+    }
+
+    /// Puts a record at a key, and says whether there was one.
+    pub fn put(&mut self, alloc: Global, key: Key, told: Record) -> Result<bool, AllocError>
+        ensures double { IfOk result (λ double. double ≡ is_some (record_at self.old key)) }
+        ensures put { OnOk result ((q : Key) → record_at self.new q ≡ cond (eq_by_cmp key_cmp key q) (Some told) (record_at self.old q)) }
+    {
+        let position = match position_in(self.listed.as_slice(), &self.places, &key) {
+            Ok(position) => {
+                self.listed[position].1 = told;
+                return Ok(true);
+            }
+            Err(position) => position,
+        };
+        if position == self.listed.len() && self.placed.is_empty() {
+            self.listed.push((KeptKey::new(alloc, &key)?, told))?;
+            return Ok(false);
+        }
+        let mut listed = replace(&mut self.listed, Vec::new(alloc));
+        let placed = replace(&mut self.placed, BTreeMap::new(alloc));
+        let mut placed = put_before(listed.split_off(position)?, placed)?;
+        let before = placed.insert(key, told)?;
+        self.listed = listed;
+        self.placed = placed;
+        Ok(before.is_some())
+    }
+
+    /// Changes the record at a key, or tells the rule that the change breaks there. It is looked for once: a row is judged and
+    /// told by one look. Without memory nothing changes.
+    pub(crate) fn change(
+        &mut self,
+        alloc: Global,
+        key: Key,
+        what: Change,
+    ) -> Result<Option<BaseRule>, AllocError>
+        ensures rule { IfOk result (λ broken. broken ≡ broken_by what (record_at self.old key)) }
+        ensures ok { IfOk result (λ broken. broken ≡ None → IsChanged key what self.old self.new) }
+        ensures err { OnErr result ((q : Key) → record_at self.new q ≡ record_at self.old q) }
+    {
+        if let Ok(position) = position_in(self.listed.as_slice(), &self.places, &key) {
+            let broken = apply(alloc, &mut self.listed[position].1, what)?;
+            return Ok(broken);
+        }
+        let Some(target) = self.placed.get_mut(&key) else {
+            return Ok(Some(what.lacks()));
+        };
+        let broken = apply(alloc, target, what)?;
+        Ok(broken)
+    }
+
+    /// All of them as a list that rises by key.
+    pub(crate) fn into_list(self, alloc: Global) -> Result<Vec<(KeptKey, Record)>, AllocError>
+        ensures same { IfOk result (λ list. list.items ≡ self) }
+        ensures rising { IfOk result (λ list. AreRising list.items) }
+    {
+        let RecordMap {
+            listed,
+            places: _,
+            placed,
+        } = self;
+        let mut list = listed;
+        for (key, record) in placed {
+            list.push((KeptKey::new(alloc, &key)?, record))?;
+        }
+        Ok(list)
+    }
+}
+
+/// A map with the records of a list that stands before it.
+fn put_before(
+    list: Vec<(KeptKey, Record)>,
+    placed: BTreeMap<Key, Record>,
+) -> Result<BTreeMap<Key, Record>, AllocError>
+    requires { AreRising (list.items ++ placed.entries) }
+    ensures { IfOk result (λ m. m.entries ≡ list.items ++ placed.entries) }
+{
+    let (mut left, mut all) = (list, placed);
+    while let Some((kept, record)) = left.pop() {
+        all.insert(kept.key(), record)?;
+    }
+    Ok(all)
+}

@@ -1,0 +1,12 @@
+-- A device of proofs: the number of an id, by which it is told apart from most others before they are compared.
+use Rattle.std.specs.Prelude.{ℕ, ◌+◌, ◌*◌, ◌-◌, ◌^◌, ◌%◌, ◌/◌, ◌++◌, List, length, take, drop, replicate}
+use Rattle.std.specs.Slice.Scan.{big_endian}
+use Rattle.sip_reader.specs.declared.short.TheConstants.{SPREAD}
+
+-- the number of bytes: that of their first eight and that of the eight behind six, as far as 64 bits reach, and of that the upper half
+abbrev pub ends_number : List ℕ → ℕ
+ends_number bytes = (((big_endian 0 (take 8 bytes) * SPREAD) % 2 ^ 64 + big_endian 0 (take 8 (drop 6 bytes))) % 2 ^ 64 * SPREAD) % 2 ^ 64 / 4294967296
+
+-- zeros stand behind the bytes of an id
+abbrev pub id_number : List ℕ → ℕ
+id_number id = ends_number (id ++ replicate (64 - length id) 0)

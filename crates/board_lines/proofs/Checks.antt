@@ -31,7 +31,7 @@ use Rattle.board_steps.proofs.Steps.{check_step}
 use Rattle.board_lines.specs.Hands.{HasNoLine, notes_of}
 use Rattle.board_lines.specs.Notes.{notes_by, key_and_name}
 use Rattle.board_lines.specs.Parts.{Kept, Parts, no_notes, row_with, row_by, state_of, answer_by, board_of, HandsHold, IsKept}
-use Rattle.board_lines.specs.Sights.{IsCheck, IsOther, IsSame}
+use Rattle.board_lines.specs.Sights.{IsCheck, IsOther, IsSame, names_now}
 use Rattle.board_lines.proofs.Boards.{Puts, place_of, row_there, board_is, row_new, row_old, kept_put}
 use Rattle.board_lines.proofs.Commits.{state_there}
 use Rattle.board_lines.proofs.Hands.{hand_put}
@@ -81,6 +81,24 @@ pub note_past : (notes : List Note) (i : ℕ) → None ≡ option_map key_and_na
 note_past [] i h = omega arith
 note_past (x ∷ notes) zero h = absurd (none-some (key_and_name x) h)
 note_past (x ∷ notes) (suc i) h = (let e = note_past notes i h in omega (arith, e))
+
+-- ---- the names that are compared
+pub names_there : (b : Board) (n : ℕ) (o : Option (Key × Name)) (noted : Name) (now : Found) → Some (noted, now) ≡ option_map (names_now b n) o
+    → (key : Key) × (Some (key, noted) ≡ o) × (now ≡ found (row_at b) n key)
+names_there b n None noted now h = absurd (none-some (noted, now) (sym h))
+names_there b n (Some p) noted now h = (let q : (noted, now) ≡ names_now b n p = same_Some (noted, now) (names_now b n p) h in
+    (p.0, ap (λ (x : Name × Found). Some (p.0, x.0)) q, ap (λ (x : Name × Found). x.1) q))
+
+pub names_past : (b : Board) (n : ℕ) (o : Option (Key × Name)) → None ≡ option_map (names_now b n) o → None ≡ o
+names_past b n None h = refl
+names_past b n (Some p) h = absurd (none-some (names_now b n p) h)
+
+-- they are those of the note that is there
+pub names_here : (b : Board) (n : ℕ) (o : Option (Key × Name)) (noted : Name) (now : Found) (key : Key) (name : Name)
+    → Some (noted, now) ≡ option_map (names_now b n) o → Some (key, name) ≡ o → (noted ≡ name) × (now ≡ found (row_at b) n key)
+names_here b n o noted now key name h e =
+    let q : (noted, now) ≡ names_now b n (key, name) = same_Some (noted, now) (names_now b n (key, name)) (h ∙ ap (option_map (names_now b n)) (sym e)) in
+    (ap (λ (x : Name × Found). x.0) q, ap (λ (x : Name × Found). x.1) q)
 
 -- the names are one
 pub is_same : (b : Board) (w n : ℕ) (notes : List Note) (answer : Option Answer) (t i : ℕ) (key : Key) (noted : Name) → Compares b w n notes answer t i

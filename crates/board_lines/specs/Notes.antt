@@ -1,4 +1,5 @@
 -- What a line has noted, by places: the base's record, or what the version at a place writes.
+use denote.Ref.{Bor}
 use Rattle.std.specs.Prelude.{◌≡◌, ◌↔◌, ◌||◌, ℕ, Bool, false, List, map, slice_get, take, Option, Some, None, option_map}
 use Rattle.std.specs.Global.{Box}
 use Rattle.std.specs.BTreeMap.{is_at}
@@ -54,6 +55,10 @@ key_and_name n = (n.key, n.name)
 
 abbrev pub key_and_name_of : Noted → Key × Name
 key_and_name_of n = (n.key, n.name)
+
+-- a key that is lent, and a name
+abbrev pub lent : Bor Key × Name → Key × Name
+lent p = (p.0.now, p.1)
 
 abbrev pub notes_by : Entries → List Noted → List Note
 notes_by base notes = map (note_by base) notes

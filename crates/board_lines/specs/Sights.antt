@@ -7,7 +7,7 @@ use Rattle.read_set.specs.declared.notes.Name.TheVariants as names
 use Rattle.read_set.specs.declared.notes.Note.{Note}
 use Rattle.version_store.specs.Entries.{Sight, SeesBase, Sees, SeesSuspect}
 use Rattle.version_store.specs.declared.entry.Found.{Found}
-use Rattle.board_steps.specs.Board.{Board, row_at}
+use Rattle.board_steps.specs.Board.{Board, found, row_at}
 use Rattle.board_steps.specs.Reached.{IsNow}
 use Rattle.board_steps.specs.Steps.{MayLook, Compares, Differs, stopped}
 use Rattle.board_lines.specs.Notes.{contents_at}
@@ -43,6 +43,10 @@ IsSame b w n t i =
 abbrev pub IsOther : Board → ℕ → ℕ → Key → Name → Found → Type 0
 IsOther b w n key noted now =
     (notes : List Note) × (answer : Option Answer) × (t i : ℕ) × Compares b w n notes answer t i × Differs b n notes i key noted now
+
+-- the name of a note, and the name that a line sees at its key now
+abbrev pub names_now : Board → ℕ → Key × Name → Name × Found
+names_now b n note = (note.1, found (row_at b) n note.0)
 
 -- the worker's line runs, and looks at some key
 abbrev pub MayStop : Board → ℕ → ℕ → Type 0

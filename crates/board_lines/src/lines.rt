@@ -13,7 +13,7 @@ ghost use Rattle.version_store.specs.declared.entry.Found.TheVariants.{Named};
 ghost use Rattle.board_lines.specs.Hands.{AreCounts, AreNotesOf, IsHand, IsInHand, notes_of};
 ghost use Rattle.board_lines.specs.Notes.{key_and_name, notes_by, contents_at};
 ghost use Rattle.board_lines.specs.Replies.{Answers};
-ghost use Rattle.board_lines.specs.Sights.{IsCheck, IsLooking, IsNameOf, IsOther, IsSame, IsStopped, IsWhole, MayStop};
+ghost use Rattle.board_lines.specs.Sights.{IsCheck, IsLooking, IsNameOf, IsOther, IsSame, IsStopped, IsWhole, MayStop, names_now};
 ghost use Rattle.circ_records.specs.declared.record.Record.{Record};
 ghost use Rattle.read_set.specs.Settling.{Contents};
 ghost use Rattle.read_set.specs.declared.notes.Note.{Note};
@@ -207,15 +207,17 @@ impl<'p, 't, J: PlanName> Lines<'p, 't, J> {
         let Some((stamp, compared)) = self.checking(worker, line) else {
             return Reply::Idle;
         };
-        let Some((key, noted)) = self.note_at(line, compared) else {
+        let Some((noted, found)) = self.names_at(line, compared) else {
             self.end_check(worker, line, stamp);
             return Reply::Whole;
         };
-        let found = self.entries.name(&key, line);
         if is_named(found, noted) {
             self.go_on(worker, line, stamp, compared);
             return Reply::Same;
         }
+        let Some((key, noted)) = self.note_at(line, compared) else {
+            unreachable!()
+        };
         self.send_back(worker, line, key, noted, found)
     }
 
@@ -250,16 +252,29 @@ impl<'p, 't, J: PlanName> Lines<'p, 't, J> {
         Some((self.clock, 0))
     }
 
-    /// The key and the name of the i-th note, from 0, of a line of which an attempt goes on; None past the last.
-    fn note_at(&self, line: u64, i: u64) -> Option<(Key, Name)>
+    /// The name of the i-th note, from 0, of a line of which an attempt goes on, and the name that the line sees at its key now; None past
+    /// the last. The key isn't copied.
+    fn names_at(&self, line: u64, i: u64) -> Option<(Name, Found)>
         requires { live_of (row_at self.now line).state ≡ 1 }
-        ensures note { result ≡ option_map key_and_name (slice_get (notes_of (row_at self.now line).state) i) }
-        ensures few { IfSome result (λ note. i + 1 < 2 ^ 64) }
+        ensures names { result ≡ option_map (names_now self.now line) (option_map key_and_name (slice_get (notes_of (row_at self.now line).state) i)) }
+        ensures few { IfSome result (λ names. i + 1 < 2 ^ 64) }
     {
         let row = &self.rows[(line - self.plan.first()) as usize];
         if i >= row.notes.len() as u64 {
             return None;
         }
+        let Some((key, noted)) = row.notes.lent(i as usize) else {
+            return None;
+        };
+        Some((noted, self.entries.name(key, line)))
+    }
+
+    /// The key and the name of the i-th note, from 0, of a line of which an attempt goes on; None past the last.
+    fn note_at(&self, line: u64, i: u64) -> Option<(Key, Name)>
+        requires { live_of (row_at self.now line).state ≡ 1 }
+        ensures { result ≡ option_map key_and_name (slice_get (notes_of (row_at self.now line).state) i) }
+    {
+        let row = &self.rows[(line - self.plan.first()) as usize];
         row.notes.named(i as usize)
     }
 

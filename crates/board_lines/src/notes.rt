@@ -5,7 +5,7 @@ ghost use Rattle.std.specs.Ordering.{eq_by_cmp};
 ghost use Rattle.circ_records.specs.Keys.{key_cmp};
 ghost use Rattle.circ_records.specs.declared.key.Key.{Key};
 ghost use Rattle.board_lines.specs.Devices.Held.{notes_in};
-ghost use Rattle.board_lines.specs.Notes.{by_place, few, is_indexed, is_key_in, is_noted, key_and_name_of, named_in, note_with, noted, AreNoted, AreOnce, ArePlaced, IsPlaced};
+ghost use Rattle.board_lines.specs.Notes.{by_place, few, is_indexed, is_key_in, is_noted, key_and_name_of, lent, named_in, note_with, noted, AreNoted, AreOnce, ArePlaced, IsPlaced};
 
 use circ_records::Key;
 use read_set::{Name, PlanName};
@@ -209,8 +209,18 @@ impl<'t, J: PlanName> PlaceNotes<'t, J> {
     pub fn named(&self, i: usize) -> Option<(Key, Name)>
         ensures { result ≡ option_map key_and_name_of (slice_get self.now i) }
     {
+        match self.lent(i) {
+            Some((key, name)) => Some((*key, name)),
+            None => None,
+        }
+    }
+
+    /// The same, with the key as it stands here: a check looks at each, and a key has room for the longest id.
+    pub(crate) fn lent(&self, i: usize) -> Option<(&Key, Name)>
+        ensures { option_map lent result ≡ option_map key_and_name_of (slice_get self.now i) }
+    {
         match nth(&self.held, i) {
-            Some(note) => Some((note.key, note.seen.name)),
+            Some(note) => Some((&note.key, note.seen.name)),
             None => None,
         }
     }

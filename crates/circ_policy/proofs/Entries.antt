@@ -1,12 +1,9 @@
 -- The entries of a table, one by one.
-use Rattle.std.proofs.Common.{◌≡◌, ◌∙◌, ◌++◌, ℕ, Bool, true, false, List, [], ◌∷◌, Option, Some, None, Result, Ok, Err, codes, if◌then◌else◌, String, Global, Less, Greater, map, nat_cmp, string_bytes, refl, ap, sym}
-use Rattle.std.proofs.lemmas.Cmp.{nat_list_cmp_total}
-use Rattle.std.specs.BTreeMap.{insert_entry}
+use Rattle.std.proofs.Common.{◌≡◌, ◌∙◌, ◌++◌, ℕ, Bool, true, false, List, [], ◌∷◌, Option, Some, None, Result, Ok, Err, codes, if◌then◌else◌, String, Global, Less, map, nat_cmp, string_bytes, refl, ap, sym}
 use Rattle.std.specs.Cmp.Lexicographic.{slice_cmp}
 use Rattle.std.specs.List.{AllByRecursion}
 use Rattle.std.specs.List.Sorted.{IsStrictlySortedBy}
 use Rattle.std.specs.Map.{keys_of}
-use Rattle.std.specs.Ordering.{ordering_reverse}
 use Rattle.std.specs.String.{string_cmp}
 use Rattle.toml.proofs.Views.{Entry}
 use Rattle.toml.specs.Data.{Data, Members, as_table, member}
@@ -61,19 +58,6 @@ pub rising_bytes : (es : List Entry) → IsStrictlySortedBy string_cmp (keys_of 
 unfolding IsStrictlySortedBy
 rising_bytes [] h = tt
 rising_bytes (e ∷ es) h = (same_all e.0 es h.0, rising_bytes es h.1)
-
-below_later : (a : List ℕ) (ks : List (List ℕ)) (k : List ℕ) (more : List (List ℕ)) → AllByRecursion (λ y. slice_cmp nat_cmp a y ≡ Less) (ks ++ k ∷ more) → slice_cmp nat_cmp a k ≡ Less
-below_later a [] k more h = h.0
-below_later a (x ∷ ks) k more h = below_later a ks k more h.1
-
--- a key above all others goes last
-pub insert_entry-last : {X : Type 0} (es : List (List ℕ × X)) (k : List ℕ) (v : X) (more : List (List ℕ)) → IsStrictlySortedBy (slice_cmp nat_cmp) (keys_of es ++ k ∷ more)
-    → insert_entry (slice_cmp nat_cmp) es k v ≡ es ++ (k, v) ∷ []
-unfolding IsStrictlySortedBy
-insert_entry-last [] k v more h = refl
-insert_entry-last (e ∷ es) k v more h =
-    let above : slice_cmp nat_cmp k e.0 ≡ Greater = nat_list_cmp_total.antisymm k e.0 ∙ ap ordering_reverse (below_later e.0 (keys_of es) k more h.0) in
-    rw above (ap (λ t. e ∷ t) (insert_entry-last es k v more h.1))
 
 pub keys_of-last : {X : Type 0} (es : List (List ℕ × X)) (k : List ℕ) (v : X) (more : List (List ℕ)) → keys_of (es ++ (k, v) ∷ []) ++ more ≡ keys_of es ++ k ∷ more
 keys_of-last [] k v more = refl

@@ -4,5 +4,6 @@ pub mod Opening
 pub mod Documents
 pub mod Least
 pub mod Listed
+pub mod Names
 pub mod Entries
 pub mod Ranges

@@ -2,6 +2,8 @@
 use Rattle.std.specs.Prelude.{ℕ, Bool, not, List, [], ◌∷◌, Option, Some, None, ◌==◌}
 use Rattle.std.specs.Cmp.Lexicographic.{pointwise, slice_cmp}
 use Rattle.std.specs.List.{filter, list_any}
+use Rattle.std.specs.List.Sorted.{IsStrictlySortedBy}
+use Rattle.std.specs.Map.{keys_of}
 use Rattle.std.specs.Ordering.{match_ordering, nat_cmp}
 use Rattle.toml.specs.Data.{Data, Members, member, no_members}
 
@@ -35,3 +37,7 @@ with_member k d (member l e ms) = match_ordering (slice_cmp nat_cmp k l) (member
 abbrev pub in_byte_order : Members → Members
 in_byte_order no_members = no_members
 in_byte_order (member k d ms) = with_member k d (in_byte_order ms)
+
+-- entries whose names rise in byte order
+abbrev pub HaveRisingNames : {X : Type 0} → List (List ℕ × X) → Type 0
+HaveRisingNames es = IsStrictlySortedBy (slice_cmp nat_cmp) (keys_of es)

@@ -9,17 +9,17 @@ use crate::class::Class;
 use crate::due_form::DueForm;
 use crate::media::Media;
 use crate::media_type::MediaType;
-use sip_reader::{Day, Id};
-use std::collections::BTreeMap;
+use sip_reader::{Day, Id, KeptId};
 use std::marker::Model;
 
 /// What a library grants its patrons, and what it asks for it.
 pub struct Policy {
-    pub(crate) institution: Id,
+    pub(crate) institution: KeptId,
     pub(crate) currency: [u8; 3],
     pub(crate) due_form: DueForm,
     pub(crate) calendar: Calendar,
-    pub(crate) classes: BTreeMap<Id, Class>,
+    /// They rise by their names.
+    pub(crate) classes: Vec<(Id, Class)>,
     pub(crate) media: Vec<(MediaType, Media)>,
 }
 
@@ -38,14 +38,15 @@ impl Drop for Policy {
 
 impl Model for Policy {
     ghost use Rattle.circ_policy.specs.Calendars.{closed_of};
+    ghost use Rattle.circ_policy.specs.Order.{HaveRisingNames};
     ghost use Rattle.circ_policy.specs.Ranges.{AllFit};
     ghost use Rattle.circ_policy.specs.Terms.{Terms};
 
     ghost Value = { Terms };
 
-    ghost view = { λ p. record { institution = p.institution; currency = p.currency; due_form = p.due_form; closed = closed_of p.calendar; classes = p.classes.entries; media = p.media.items } };
+    ghost view = { λ p. record { institution = p.institution; currency = p.currency; due_form = p.due_form; closed = closed_of p.calendar; classes = p.classes.items; media = p.media.items } };
 
-    ghost invariant = { λ p. AllFit p.media.items };
+    ghost invariant = { λ p. HaveRisingNames p.classes.items × AllFit p.media.items };
 }
 
 impl Policy {
@@ -57,7 +58,14 @@ impl Policy {
     pub fn institution(&self) -> Id
         ensures { result ≡ self.now.institution }
     {
-        self.institution
+        self.institution.id()
+    }
+
+    /// The same, as answers keep it.
+    pub fn kept_institution(&self) -> &KeptId
+        ensures { result.now ≡ self.now.institution }
+    {
+        &self.institution
     }
 
     /// The currency of all amounts, three letters. The terms of each type of media lie in their ranges.
@@ -80,7 +88,23 @@ impl Policy {
     pub fn class(&self, name: &Id) -> Option<Class>
         ensures { result ≡ class_of self.now name.now }
     {
-        self.classes.get(name).copied()
+        let classes = self.classes.as_slice();
+        match classes.binary_search_by(|class| class.0.cmp(name)) {
+            Ok(position) => Some(classes[position].1),
+            Err(_) => None,
+        }
+    }
+
+    /// The same, by a kept name: no id is made of it.
+    #[tactic(auto, unfolding(crate::specs::Policy::class_of))]
+    pub fn kept_class(&self, name: &KeptId) -> Option<Class>
+        ensures { result ≡ class_of self.now name.now }
+    {
+        let classes = self.classes.as_slice();
+        match classes.binary_search_by(|class| name.order(&class.0).reverse()) {
+            Ok(position) => Some(classes[position].1),
+            Err(_) => None,
+        }
     }
 
     /// The terms of this type of media.

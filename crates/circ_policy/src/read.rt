@@ -13,7 +13,7 @@ use crate::policy::Policy;
 use crate::sections::{read_classes, read_media_types};
 use crate::unknown::least_unknown;
 use crate::values::{currency_of, due_form_of};
-use sip_reader::Id;
+use sip_reader::KeptId;
 use std::alloc::Global;
 use toml::Table;
 
@@ -82,11 +82,11 @@ fn has_only(alloc: Global, table: &Table, known: &[&str]) -> Result<(), PolicyEr
 }
 
 #[tactic(auto, unfolding(crate::specs::Reading::institution_in))]
-fn read_institution(alloc: Global, table: &Table) -> Result<Id, PolicyError>
+fn read_institution(alloc: Global, table: &Table) -> Result<KeptId, PolicyError>
     ensures { Gives (λ i. i) result (institution_in (table_view table.now)) }
 {
     match text_at(table, "institution") {
-        Some(text) => match Id::new(text.as_bytes()) {
+        Some(text) => match KeptId::read(alloc, text.as_bytes())? {
             Some(institution) => Ok(institution),
             None => Err(broken(alloc, "institution")),
         },

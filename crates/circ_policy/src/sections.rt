@@ -1,8 +1,8 @@
 //! The classes and the types of media of a policy file.
 
-ghost use Rattle.std.specs.Prelude.{◌≡◌, codes};
+ghost use Rattle.std.specs.Prelude.{◌≡◌, codes, IfOk};
 ghost use Rattle.toml.specs.View.{table_view, view};
-ghost use Rattle.circ_policy.specs.Order.{in_byte_order};
+ghost use Rattle.circ_policy.specs.Order.{HaveRisingNames, in_byte_order};
 ghost use Rattle.circ_policy.specs.Reading.{Gives, class_in, entries, lending, limits, media_in, section, within};
 
 use crate::class::Class;
@@ -14,16 +14,13 @@ use crate::media::Media;
 use crate::media_type::MediaType;
 use sip_reader::Id;
 use std::alloc::Global;
-use std::collections::BTreeMap;
 use toml::{Table, Value};
 
-/// The classes of patrons, by their names.
+/// The classes of patrons, rising by their names.
 #[tactic(auto, unfolding(crate::specs::Reading::section))]
-pub(crate) fn read_classes(
-    alloc: Global,
-    policy: &Table,
-) -> Result<BTreeMap<Id, Class>, PolicyError>
-    ensures { Gives (λ m. m.entries) result (section (codes "class") class_in (table_view policy.now)) }
+pub(crate) fn read_classes(alloc: Global, policy: &Table) -> Result<Vec<(Id, Class)>, PolicyError>
+    ensures value { Gives (λ m. m.items) result (section (codes "class") class_in (table_view policy.now)) }
+    ensures rising { IfOk result (λ m. HaveRisingNames m.items) }
 {
     match table_at(policy, "class") {
         Some(table) => class_entries(alloc, table),
@@ -32,13 +29,14 @@ pub(crate) fn read_classes(
 }
 
 /// The classes of the table, in byte order of their names, as the table gives them.
-fn class_entries(alloc: Global, table: &Table) -> Result<BTreeMap<Id, Class>, PolicyError>
-    ensures { Gives (λ m. m.entries) result (entries class_in (in_byte_order (table_view table.now))) }
+fn class_entries(alloc: Global, table: &Table) -> Result<Vec<(Id, Class)>, PolicyError>
+    ensures value { Gives (λ m. m.items) result (entries class_in (in_byte_order (table_view table.now))) }
+    ensures rising { IfOk result (λ m. HaveRisingNames m.items) }
 {
-    let mut classes = BTreeMap::new(alloc);
+    let mut classes = Vec::new(alloc);
     for (name, value) in table {
         let (id, class) = read_class(alloc, name.as_str(), value)?;
-        classes.insert(id, class)?;
+        classes.push((id, class))?;
     }
     Ok(classes)
 }

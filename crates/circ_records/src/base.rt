@@ -72,10 +72,7 @@ impl Base {
         ensures coherent { IfOk result (λ b. Coherent policy.now (number_before first) b) }
     {
         match records_of(alloc, policy, tables, first) {
-            Ok(records) => {
-                let places = Places::of(alloc, records.as_slice())?;
-                Ok(Base { records, places })
-            }
+            Ok(base) => Ok(base),
             Err(BaseError::Rule { table, row, rule }) => {
                 check_tables(alloc, tables)?;
                 Err(BaseError::Rule { table, row, rule })
@@ -120,28 +117,29 @@ impl Base {
     }
 }
 
-/// The records that the rows of the tables tell, table by table, or the first rule that a row breaks. What the tables
+/// The base that the rows of the tables tell, table by table, or the first rule that a row breaks. What the tables
 /// before a fault have put there is dropped with it: so the `add_` of each table says nothing of the records behind one.
 fn records_of(
     alloc: Global,
     policy: &Policy,
     tables: &Tables,
     first: Option<u64>,
-) -> Result<Vec<(KeptKey, Record)>, BaseError>
-    ensures read { IfOk result (λ m. AreTables tables.now) }
-    ensures ok { IfOk result (λ m. first_broken policy.now first (rows_in tables.now) ≡ None) }
-    ensures told { IfOk result (λ m. m.items ≡ entries_told (rows_in tables.now)) }
-    ensures rising { IfOk result (λ m. AreRising m.items) }
-    ensures coherent { IfOk result (λ m. Coherent policy.now (number_before first) m.items) }
+) -> Result<Base, BaseError>
+    ensures read { IfOk result (λ b. AreTables tables.now) }
+    ensures ok { IfOk result (λ b. first_broken policy.now first (rows_in tables.now) ≡ None) }
+    ensures told { IfOk result (λ b. b ≡ entries_told (rows_in tables.now)) }
+    ensures coherent { IfOk result (λ b. Coherent policy.now (number_before first) b) }
     ensures err { IfErr result (λ e. StopsAll e tables.now (first_broken policy.now first (rows_in tables.now))) }
 {
     let mut records = RecordMap::new(alloc);
     add_patrons(alloc, policy, tables, &mut records)?;
     add_items(alloc, policy, tables, &mut records)?;
+    // what follows looks for each patron and item that it names
+    records.find_fast(alloc)?;
     add_loans(alloc, tables, &mut records)?;
     add_fees(alloc, first, tables, &mut records)?;
     add_closed(alloc, first, tables, &mut records)?;
     add_holds(alloc, tables, &mut records)?;
-    let listed = records.into_list(alloc)?;
-    Ok(listed)
+    let (records, places) = records.into_list(alloc)?;
+    Ok(Base { records, places })
 }

@@ -66,6 +66,14 @@ impl Ids {
         Ids { held: Held::None }
     }
 
+    /// The list of one id.
+    pub fn one(alloc: Global, id: KeptId) -> Result<Ids, AllocError>
+        ensures { IfOk result (λ l. l ≡ id ∷ []) }
+    {
+        let held = Held::One(Shared::new(alloc, [id])?);
+        Ok(Ids { held })
+    }
+
     /// The list of these ids.
     pub fn from_vec(alloc: Global, ids: Vec<KeptId>) -> Result<Ids, AllocError>
         ensures { IfOk result (λ l. l ≡ ids.items) }

@@ -19,11 +19,10 @@ use crate::record::{Item, Record};
 use crate::record_map::RecordMap;
 use crate::rows::{ITEMS, TableRows};
 use crate::tables::{TableName, Tables};
-use crate::texts::is_text;
 use circ_policy::{MediaType, Policy};
 use csv::ByteRecord;
 use csv_table::column;
-use sip_reader::{Id, Text};
+use sip_reader::{Id, Text, is_text};
 use std::alloc::{AllocError, Global};
 
 /// Puts the items of the table among the records, or tells the first rule that a row breaks.

@@ -35,7 +35,6 @@ mod same;
 mod shared;
 mod table_texts;
 mod tables;
-mod texts;
 mod values;
 mod written;
 

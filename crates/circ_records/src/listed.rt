@@ -1,6 +1,6 @@
 //! Records as a list, rising by key, in which one is found by halving it.
 
-ghost use Rattle.std.specs.Prelude.{◌≡◌, option_copied};
+ghost use Rattle.std.specs.Prelude.{◌≡◌, Err, IsTrue, length, option_copied};
 ghost use Rattle.circ_records.specs.Devices.Positions.{position_from};
 ghost use Rattle.circ_records.specs.Laws.{AreRising};
 ghost use Rattle.circ_records.specs.Records.{record_at};
@@ -10,18 +10,7 @@ use crate::key::Key;
 use crate::places::Places;
 use crate::record::Record;
 
-/// The record under a key.
-pub(crate) fn found_in<'e>(listed: &'e [(KeptKey, Record)], key: &Key) -> Option<&'e Record>
-    requires { AreRising listed.now }
-    ensures { option_copied result ≡ record_at listed.now key.now }
-{
-    match position_of(listed, key) {
-        Ok(position) => Some(&listed[position].1),
-        Err(_) => None,
-    }
-}
-
-/// The same, where its likely place is looked at first.
+/// The record under a key, whose likely place is looked at first.
 pub(crate) fn found_likely<'e>(
     listed: &'e [(KeptKey, Record)],
     places: &Places,
@@ -59,13 +48,25 @@ pub(crate) fn position_in(
     }
 }
 
-/// The same, for a key that is mostly behind all others: so the last is looked at first.
+/// The same, for a key that is mostly behind all others.
 fn place_of(listed: &[(KeptKey, Record)], key: &Key) -> Result<usize, usize>
     requires { AreRising listed.now }
     ensures { result ≡ position_from 0 key.now listed.now }
 {
+    if is_behind(listed, key) {
+        Err(listed.len())
+    } else {
+        position_of(listed, key)
+    }
+}
+
+/// Whether a key goes behind all others, by a look at the last.
+pub(crate) fn is_behind(listed: &[(KeptKey, Record)], key: &Key) -> bool
+    requires { AreRising listed.now }
+    ensures { IsTrue result → position_from 0 key.now listed.now ≡ Err (length listed.now) }
+{
     match listed.last() {
-        Some(last) if last.0.order(key).is_lt() => Err(listed.len()),
-        _ => position_of(listed, key),
+        Some(last) => last.0.order(key).is_lt(),
+        None => true,
     }
 }

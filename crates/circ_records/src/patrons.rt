@@ -19,12 +19,11 @@ use crate::record::{Patron, Record};
 use crate::record_map::RecordMap;
 use crate::rows::{PATRONS, TableRows};
 use crate::tables::{TableName, Tables};
-use crate::texts::is_text;
 use crate::values::flag_of;
 use circ_policy::Policy;
 use csv::ByteRecord;
 use csv_table::column;
-use sip_reader::{Id, KeptId, Text};
+use sip_reader::{Id, KeptId, Text, is_text};
 use std::alloc::{AllocError, Global};
 
 /// Puts the patrons of the table among the records, or tells the first rule that a row breaks.

@@ -52,6 +52,17 @@ impl Places {
         Ok(Places { slots })
     }
 
+    /// One more record, behind those of the list, where there are places for a list.
+    pub(crate) fn add(&mut self, key: &KeptKey, position: usize) {
+        if self.slots.is_empty() {
+            return;
+        }
+        // further records than 32 bits count have no slot
+        if let Ok(position) = u32::try_from(position) {
+            take_slot(&mut self.slots, key.number(), position);
+        }
+    }
+
     /// The same places, for a list that likely has the same keys.
     pub(crate) fn copy(&self) -> Result<Places, AllocError> {
         let slots = self.slots.clone()?;
@@ -85,14 +96,15 @@ fn first_slot(number: u64, slots: usize) -> usize {
     (number.wrapping_mul(slots.saturating_sub(TRIES) as u64) >> 32) as usize
 }
 
-/// A record takes the first free slot of its number, where there is one.
+/// A record takes the first free slot of its number, where there is one. One that has a slot already keeps it: records come again in a map
+/// that has the places of another.
 fn take_slot(slots: &mut Vec<u32>, number: u64, position: u32) {
     let first = first_slot(number, slots.len());
     for slot in first..first.saturating_add(TRIES) {
         if slot >= slots.len() {
             return;
         }
-        if slots[slot] == FREE {
+        if slots[slot] == FREE || slots[slot] == position {
             slots[slot] = position;
             return;
         }

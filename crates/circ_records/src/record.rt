@@ -123,6 +123,36 @@ impl KeptLoan {
             renewals: self.renewals,
         }
     }
+
+    /// Who has the item.
+    pub fn patron(&self) -> &KeptId
+        ensures { result.now ≡ self.now.patron }
+    {
+        &self.patron
+    }
+
+    /// How often it was renewed.
+    pub fn renewals(&self) -> u32
+        ensures { result ≡ self.now.renewals }
+    {
+        self.renewals
+    }
+
+    /// The same patron's loan until another day, renewed so often.
+    pub fn with_due(self, due: Day, renewals: u32) -> KeptLoan
+        ensures { result ≡ record self { due = due; renewals = renewals } }
+    {
+        let KeptLoan {
+            patron,
+            due: _,
+            renewals: _,
+        } = self;
+        KeptLoan {
+            patron,
+            due,
+            renewals,
+        }
+    }
 }
 
 /// A clone is the same loan.

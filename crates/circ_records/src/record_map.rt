@@ -12,7 +12,7 @@ use crate::changes::{Change, apply};
 use crate::fault::BaseRule;
 use crate::kept_key::KeptKey;
 use crate::key::Key;
-use crate::listed::{found_likely, position_in};
+use crate::listed::{found_likely, is_behind, position_in};
 use crate::places::Places;
 use crate::record::Record;
 use std::alloc::{AllocError, Global};
@@ -105,7 +105,9 @@ impl RecordMap {
             Err(position) => position,
         };
         if position == self.listed.len() && self.placed.is_empty() {
-            self.listed.push((KeptKey::new(alloc, &key)?, told))?;
+            let kept = KeptKey::new(alloc, &key)?;
+            self.places.add(&kept, position);
+            self.listed.push((kept, told))?;
             return Ok(false);
         }
         let mut listed = replace(&mut self.listed, Vec::new(alloc));
@@ -115,6 +117,24 @@ impl RecordMap {
         self.listed = listed;
         self.placed = placed;
         Ok(before.is_some())
+    }
+
+    /// Puts a record at a key that is mostly behind all others. Where it is so, it is looked for no further.
+    pub fn put_rising(
+        &mut self,
+        alloc: Global,
+        kept: KeptKey,
+        told: Record,
+    ) -> Result<(), AllocError>
+        ensures { OnOk result ((q : Key) → record_at self.new q ≡ cond (eq_by_cmp key_cmp kept q) (Some told) (record_at self.old q)) }
+    {
+        let key = kept.key();
+        if self.placed.is_empty() && is_behind(self.listed.as_slice(), &key) {
+            self.listed.push((kept, told))?;
+            return Ok(());
+        }
+        self.put(alloc, key, told)?;
+        Ok(())
     }
 
     /// Changes the record at a key, or tells the rule that the change breaks there. It is looked for once: a row is judged and
@@ -140,21 +160,32 @@ impl RecordMap {
         Ok(broken)
     }
 
-    /// All of them as a list that rises by key.
-    pub(crate) fn into_list(self, alloc: Global) -> Result<Vec<(KeptKey, Record)>, AllocError>
-        ensures same { IfOk result (λ list. list.items ≡ self) }
-        ensures rising { IfOk result (λ list. AreRising list.items) }
+    /// From now on the listed records are found fast, and those that are put behind them.
+    pub(crate) fn find_fast(&mut self, alloc: Global) -> Result<(), AllocError>
+        ensures { self.new ≡ self.old }
+    {
+        self.places = Places::of(alloc, self.listed.as_slice())?;
+        Ok(())
+    }
+
+    /// All of them as a list that rises by key, and where they likely stand there.
+    pub(crate) fn into_list(
+        self,
+        alloc: Global,
+    ) -> Result<(Vec<(KeptKey, Record)>, Places), AllocError>
+        ensures same { IfOk result (λ l. l.0.items ≡ self) }
+        ensures rising { IfOk result (λ l. AreRising l.0.items) }
     {
         let RecordMap {
             listed,
-            places: _,
+            places,
             placed,
         } = self;
         let mut list = listed;
         for (key, record) in placed {
             list.push((KeptKey::new(alloc, &key)?, record))?;
         }
-        Ok(list)
+        Ok((list, places))
     }
 }
 

@@ -6,7 +6,8 @@ ghost use Rattle.circ_records.specs.Records.{record_at};
 
 use crate::kept_key::KeptKey;
 use crate::key::Key;
-use crate::listed::found_in;
+use crate::listed::found_likely;
+use crate::places::Places;
 use crate::record::Record;
 use crate::record_map::RecordMap;
 use std::alloc::{AllocError, Global};
@@ -16,11 +17,16 @@ use std::marker::Model;
 pub struct Records {
     /// By rising keys.
     records: Vec<(KeptKey, Record)>,
+    /// Where each likely stands.
+    places: Places,
 }
 
 impl Drop for Records {
     fn drop(self) {
-        let Records { records: _ } = self;
+        let Records {
+            records: _,
+            places: _,
+        } = self;
     }
 }
 
@@ -43,15 +49,15 @@ impl Records {
         ensures same { IfOk result (λ r. r ≡ records) }
         ensures rising { IfOk result (λ r. AreRising r) }
     {
-        let records = records.into_list(alloc)?;
-        Ok(Records { records })
+        let (records, places) = records.into_list(alloc)?;
+        Ok(Records { records, places })
     }
 
     /// The record at a key.
     pub fn get(&self, key: &Key) -> Option<&Record>
         ensures { option_copied result ≡ record_at self.now key.now }
     {
-        found_in(self.records.as_slice(), key)
+        found_likely(self.records.as_slice(), &self.places, key)
     }
 
     /// The records with their keys, rising.

@@ -151,13 +151,13 @@ fn same_id_slices(a: &[KeptId], b: &[KeptId]) -> bool
 fn same_id(a: &Id, b: &Id) -> bool
     ensures { Decides result (a.now ≡ b.now) }
 {
-    a.as_bytes() == b.as_bytes()
+    a == b
 }
 
 fn same_kept_id(a: &KeptId, b: &KeptId) -> bool
     ensures { Decides result (a.now ≡ b.now) }
 {
-    a.as_bytes() == b.as_bytes()
+    a == b
 }
 
 fn same_text(a: &Text, b: &Text) -> bool

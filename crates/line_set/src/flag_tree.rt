@@ -41,8 +41,31 @@ impl FlagTree {
         requires { len ≤ POSITIONS_MAX }
         ensures { IfOk result (λ s. s ≡ replicate len all) }
     {
+        if all {
+            FlagTree::full(alloc, len)
+        } else {
+            FlagTree::empty(alloc, len)
+        }
+    }
+
+    /// No positions: there is none below any node, so none is looked at.
+    fn empty(alloc: Global, len: usize) -> Result<FlagTree, AllocError>
+        requires { len ≤ POSITIONS_MAX }
+        ensures { IfOk result (λ s. s ≡ replicate len false) }
+    {
         let width = row_width(len);
-        let flags = vec![in alloc; all; len]?;
+        let flags = vec![in alloc; false; len]?;
+        let nodes = vec![in alloc; false; width]?;
+        Ok(FlagTree { flags, nodes })
+    }
+
+    /// All positions below `len`.
+    fn full(alloc: Global, len: usize) -> Result<FlagTree, AllocError>
+        requires { len ≤ POSITIONS_MAX }
+        ensures { IfOk result (λ s. s ≡ replicate len true) }
+    {
+        let width = row_width(len);
+        let flags = vec![in alloc; true; len]?;
         let mut nodes = vec![in alloc; false; width]?;
         let mut node = width;
         while node > 1 {

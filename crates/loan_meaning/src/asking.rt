@@ -5,9 +5,9 @@ ghost use Rattle.read_set.specs.Loans.{by_checkout, by_renew, due_for, charge_fo
 
 use crate::asked::Asked;
 use crate::fees::nothing;
-use crate::lists::is_same;
+use crate::lists::is_kept;
 use circ_policy::Media;
-use circ_records::Loan;
+use circ_records::KeptLoan;
 use read_set::{Article, LoanRequest};
 use sip_reader::{Amount, Checkout, Day, Id, Renew};
 
@@ -64,27 +64,27 @@ pub fn charge_of(a: &LoanRequest, media: &Media) -> Amount
 }
 
 /// Whether there is a loan.
-pub fn has_loan(loan: Option<Loan>) -> bool
-    ensures { result ≡ is_lent loan }
+pub fn has_loan(loan: &Option<KeptLoan>) -> bool
+    ensures { result ≡ is_lent loan.now }
 {
     loan.is_some()
 }
 
 /// Whether there is a loan of this patron.
-pub fn has_lent_to(patron: &Id, loan: Option<Loan>) -> bool
-    ensures { result ≡ lent_to patron.now loan }
+pub fn has_lent_to(patron: &Id, loan: &Option<KeptLoan>) -> bool
+    ensures { result ≡ lent_to patron.now loan.now }
 {
     match loan {
-        Some(loan) => is_same(&loan.patron, patron),
+        Some(loan) => is_kept(loan.patron(), patron),
         None => false,
     }
 }
 
 /// The loan of an item.
-pub fn loan_in(article: &Article) -> Option<Loan>
-    ensures { result ≡ article.now.item.loan }
+pub fn loan_in(article: &Article) -> &Option<KeptLoan>
+    ensures { result.now ≡ article.now.item.loan }
 {
-    article.item.get().loan()
+    &article.item.get().loan
 }
 
 /// The rental of an item's media type, in hundredths.

@@ -2,6 +2,7 @@
 
 ghost use Rattle.std.specs.Prelude.{◌≡◌, IfOk, OnOk, Some, None};
 ghost use Rattle.loan_meaning.specs.Checkins.{checkin_rule};
+ghost use Rattle.loan_meaning.specs.Lookups.{borrower_at};
 ghost use Rattle.read_set.specs.Asks.{follow, Gains};
 ghost use Rattle.read_set.specs.Effects.{written};
 ghost use Rattle.read_set.specs.Maps.{Map, Agrees};
@@ -25,7 +26,7 @@ fn tell_unknown(line: &Line<'_>, request: &Checkin) -> Result<Answer, AllocError
 {
     Ok(Answer::Checkin(CheckinAnswer {
         date: line.date,
-        institution: KeptId::new(line.alloc, &line.policy.institution())?,
+        institution: line.policy.kept_institution().clone()?,
         item: request.item.clone()?,
         known: None,
         borrower: None,
@@ -54,7 +55,7 @@ fn tell(
 {
     Ok(Answer::Checkin(CheckinAnswer {
         date: line.date,
-        institution: KeptId::new(line.alloc, &line.policy.institution())?,
+        institution: line.policy.kept_institution().clone()?,
         item: request.item.clone()?,
         known: Some(show(article.item.get())?),
         borrower,
@@ -178,7 +179,7 @@ fn end_any(
         Some(loan) => end_loan(line, request, article, &loan, member),
         None => {
             let answer = tell(line, request, &article, None)?;
-            Ok(Effect::unwritten(line.alloc, Some(answer)))
+            Ok(Effect::unwritten(Some(answer)))
         }
     }
 }
@@ -194,18 +195,26 @@ fn end(
 {
     let Some(article) = article else {
         let answer = tell_unknown(line, request)?;
-        return Ok(Effect::unwritten(line.alloc, Some(answer)));
+        return Ok(Effect::unwritten(Some(answer)));
     };
-    let loan = loan_in(&article);
+    let loan = article.item.get().loan();
     end_any(line, request, article, loan, member)
 }
 
-fn any_loan(article: &Option<Article>) -> Option<Loan>
-    ensures { result ≡ loan_of article.now }
+/// Whoever has the item, where both are known.
+#[tactic(auto, unfolding(crate::specs::Lookups::borrower_at), using(read_set::proofs::Gaining::gains_none))]
+fn any_borrower_of<S: Source>(
+    alloc: Global,
+    policy: &Policy,
+    source: &mut S,
+    article: &Option<Article>,
+) -> Result<Option<Member>, Stop>
+    ensures gives { Follows result (follow (S.has source.new) (borrower_at policy.now (loan_of article.now))) }
+    ensures keeps { Gains (S.has source.old) (S.has source.new) (borrower_at policy.now (loan_of article.now)) }
 {
     match article {
-        Some(article) => article.item.get().loan(),
-        None => None,
+        Some(article) => borrower_of(alloc, policy, source, loan_in(article)),
+        None => Ok(None),
     }
 }
 
@@ -224,8 +233,7 @@ pub fn check_in<S: Source>(
     ensures keeps { Gains (S.has source.old) (S.has source.new) (checkin_rule policy.now n request.now date) }
 {
     let article = item_of(alloc, policy, source, &request.item)?;
-    let loan = any_loan(&article);
-    let member = borrower_of(alloc, policy, source, loan)?;
+    let member = any_borrower_of(alloc, policy, source, &article)?;
     let line = Line {
         alloc,
         policy,

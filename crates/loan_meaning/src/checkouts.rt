@@ -17,14 +17,14 @@ ghost use Rattle.read_set.specs.Stops.{Follows};
 use crate::asked::{Asked, Line};
 use crate::asking::{ask_checkout, charge_of, due_of, has_lent_to, has_loan, loan_in, rental_in};
 use crate::fees::{Charge, list_fee, make_fee, test_owing};
-use crate::lists::{is_first_another, is_same, without, without_hold};
-use crate::lookup::{item_of, member_of, patron_of};
+use crate::lists::{is_first_another, is_kept, without, without_hold};
+use crate::lookup::{item_of, patron_of};
 use crate::renewals::renew_one;
 use crate::telling::{refuse, refuse_for, tell_made};
 use circ_policy::Policy;
 use circ_records::{FeeType, Ids, Item, KeptLoan, Key, Loan, Patron, Record};
 use read_set::{Article, Draft, Effect, LoanRequest, Member, Source, Stop, Verdict};
-use sip_reader::{Amount, Checkout, Day, Id, Stamp};
+use sip_reader::{Amount, Checkout, Day, Id, KeptId, Stamp};
 use std::alloc::{AllocError, Global};
 
 #[tactic(auto, unfolding(crate::specs::Checkouts::lending_tests), using(read_set::proofs::Gaining::gains_none, read_set::proofs::Gaining::gains_first))]
@@ -41,10 +41,10 @@ fn test_lending<S: Source>(
     if a.forced {
         return Ok(Verdict::Made);
     }
-    if has_lent_to(&a.patron, article.item.get().loan()) {
+    if has_lent_to(&a.patron, loan_in(article)) {
         return Ok(Verdict::Refused);
     }
-    if has_loan(article.item.get().loan()) {
+    if has_loan(loan_in(article)) {
         return Ok(Verdict::Refused);
     }
     if is_first_another(article.item.get().holds.as_slice(), &a.patron) {
@@ -63,37 +63,37 @@ fn test_lending<S: Source>(
 #[tactic(auto, using(read_set::proofs::Gaining::gains_none, read_set::proofs::Gaining::gains_first))]
 fn other_of<S: Source>(
     asked: &Asked<'_>,
-    loan: Option<Loan>,
+    loan: &Option<KeptLoan>,
     source: &mut S,
 ) -> Result<Option<Member>, Stop>
-    ensures gives { Follows result (follow (S.has source.new) (other_at asked.now.policy.now asked.now.request.patron loan)) }
-    ensures keeps { Gains (S.has source.old) (S.has source.new) (other_at asked.now.policy.now asked.now.request.patron loan) }
+    ensures gives { Follows result (follow (S.has source.new) (other_at asked.now.policy.now asked.now.request.patron loan.now)) }
+    ensures keeps { Gains (S.has source.old) (S.has source.new) (other_at asked.now.policy.now asked.now.request.patron loan.now) }
 {
     let Some(loan) = loan else {
         return Ok(None);
     };
-    if is_same(&loan.patron, &asked.request.patron) {
+    if is_kept(loan.patron(), &asked.request.patron) {
         return Ok(None);
     }
-    member_of(asked.alloc, asked.policy, source, &loan.patron)
+    patron_of(asked.alloc, asked.policy, source, loan.patron())
 }
 
 /// The other borrower's record, without the item among the loans. Without memory nothing is written.
 fn end_other_loan(
     alloc: Global,
     item: &Id,
-    borrower: Id,
+    borrower: &KeptId,
     other: Option<Member>,
     writes: &mut Draft,
 ) -> Result<(), AllocError>
-    ensures ok { OnOk result (writes.new ≡ written writes.old (loan_ended item.now borrower other)) }
+    ensures ok { OnOk result (writes.new ≡ written writes.old (loan_ended item.now borrower.now other)) }
     ensures err { OnErr result (writes.new ≡ writes.old) }
 {
     let Some(other) = other else {
         return Ok(());
     };
     let patron = without_loan(alloc, item, other)?;
-    writes.put(Key::Patron(borrower), Record::patron(alloc, patron)?)?;
+    writes.put(Key::Patron(borrower.id()), Record::patron(alloc, patron)?)?;
     Ok(())
 }
 
@@ -108,15 +108,15 @@ fn without_loan(alloc: Global, item: &Id, other: Member) -> Result<Patron, Alloc
 fn end_other_loan_by(
     alloc: Global,
     item: &Id,
-    loan: Option<Loan>,
+    loan: &Option<KeptLoan>,
     other: Option<Member>,
     writes: &mut Draft,
 ) -> Result<(), AllocError>
-    ensures ok { OnOk result (writes.new ≡ written writes.old (loan_ended_by item.now loan other)) }
+    ensures ok { OnOk result (writes.new ≡ written writes.old (loan_ended_by item.now loan.now other)) }
     ensures err { OnErr result (writes.new ≡ writes.old) }
 {
     match loan {
-        Some(loan) => end_other_loan(alloc, item, loan.patron, other, writes),
+        Some(loan) => end_other_loan(alloc, item, loan.patron(), other, writes),
         None => Ok(()),
     }
 }
@@ -139,10 +139,10 @@ fn lent_item(alloc: Global, a: &LoanRequest, due: Day, article: Article) -> Resu
 fn list_loan(
     alloc: Global,
     a: &LoanRequest,
-    loan: Option<Loan>,
+    loan: &Option<KeptLoan>,
     loans: &mut Ids,
 ) -> Result<(), AllocError>
-    ensures ok { OnOk result (loans.new ≡ lent_list a.now loan loans.old) }
+    ensures ok { OnOk result (loans.new ≡ lent_list a.now loan.now loans.old) }
     ensures err { OnErr result (loans.new ≡ loans.old) }
 {
     if !has_lent_to(&a.patron, loan) {
@@ -248,7 +248,7 @@ fn lend<S: Source>(
 fn is_renewal(request: &Checkout, article: &Article) -> bool
     ensures { result ≡ (request.now.renewal && lent_to request.now.patron article.now.item.loan) }
 {
-    request.renewal && has_lent_to(&request.patron.id(), article.item.get().loan())
+    request.renewal && has_lent_to(&request.patron.id(), loan_in(article))
 }
 
 #[tactic(auto, using(read_set::proofs::Gaining::gains_none, read_set::proofs::Gaining::gains_first))]

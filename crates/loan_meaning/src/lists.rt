@@ -1,6 +1,6 @@
 //! Lists of ids and queues of holds.
 
-ghost use Rattle.std.specs.Prelude.{◌≡◌, ℕ, List, IfOk};
+ghost use Rattle.std.specs.Prelude.{◌≡◌, ◌∷◌, [], ℕ, List, false, IfOk};
 ghost use Rattle.std.specs.BTreeSet.{contains};
 ghost use Rattle.std.specs.Cmp.Lexicographic.{slice_cmp};
 ghost use Rattle.std.specs.Ordering.{nat_cmp};
@@ -20,7 +20,7 @@ pub fn is_same(a: &Id, b: &Id) -> bool
 }
 
 /// Whether a kept id is this id.
-fn is_kept(kept: &KeptId, id: &Id) -> bool
+pub fn is_kept(kept: &KeptId, id: &Id) -> bool
     ensures { result ≡ same kept.now id.now }
 {
     kept.order(id).is_eq()
@@ -30,8 +30,65 @@ fn is_kept(kept: &KeptId, id: &Id) -> bool
 pub fn without(alloc: Global, ids: &Ids, id: &Id) -> Result<Ids, AllocError>
     ensures { IfOk result (λ left. left ≡ without id.now ids.now) }
 {
-    let kept = kept(alloc, ids.as_slice(), id)?;
-    Ids::from_vec(alloc, kept)
+    match ids.as_slice() {
+        [only] => without_of_one(ids, only, id),
+        [first, second] => without_of_two(alloc, ids, first, second, id),
+        ids => {
+            let kept = kept(alloc, ids, id)?;
+            Ids::from_vec(alloc, kept)
+        }
+    }
+}
+
+/// What is left of a list of one id. Most lists have no more than one or two, so they are made without a vector.
+fn without_of_one(ids: &Ids, only: &KeptId, id: &Id) -> Result<Ids, AllocError>
+    requires { ids.now ≡ only.now ∷ [] }
+    ensures { IfOk result (λ left. left ≡ without id.now ids.now) }
+{
+    if is_kept(only, id) {
+        Ok(Ids::new())
+    } else {
+        ids.copy()
+    }
+}
+
+/// What is left of a list of two ids.
+fn without_of_two(
+    alloc: Global,
+    ids: &Ids,
+    first: &KeptId,
+    second: &KeptId,
+    id: &Id,
+) -> Result<Ids, AllocError>
+    requires { ids.now ≡ first.now ∷ second.now ∷ [] }
+    ensures { IfOk result (λ left. left ≡ without id.now ids.now) }
+{
+    if !is_kept(first, id) {
+        without_second(alloc, ids, first, second, id)
+    } else if is_kept(second, id) {
+        Ok(Ids::new())
+    } else {
+        Ids::one(alloc, second.clone()?)
+    }
+}
+
+/// The same, where the first is another.
+fn without_second(
+    alloc: Global,
+    ids: &Ids,
+    first: &KeptId,
+    second: &KeptId,
+    id: &Id,
+) -> Result<Ids, AllocError>
+    requires these { ids.now ≡ first.now ∷ second.now ∷ [] }
+    requires stays { same first.now id.now ≡ false }
+    ensures { IfOk result (λ left. left ≡ without id.now ids.now) }
+{
+    if is_kept(second, id) {
+        Ids::one(alloc, first.clone()?)
+    } else {
+        ids.copy()
+    }
 }
 
 fn kept(alloc: Global, ids: &[KeptId], id: &Id) -> Result<Vec<KeptId>, AllocError>

@@ -6,12 +6,13 @@ ghost use Rattle.read_set.specs.Asks.{follow, Gains};
 ghost use Rattle.read_set.specs.Stops.{Follows};
 
 use circ_policy::Policy;
-use circ_records::{Fee, Key, Loan, Record};
+use circ_records::{Fee, KeptLoan, Key, Record};
 use read_set::{Article, Draft, Member, Source, Stop, known_fee, known_item, known_patron};
 use sip_reader::{Id, KeptId};
 use std::alloc::Global;
 
-/// The patron that a request names, where it is known.
+/// The patron of an id, where it is known.
+#[tactic(auto, unfolding(crate::specs::Lookups::patron_at), using(read_set::proofs::Gaining::gains_ask))]
 pub fn patron_of<S: Source>(
     alloc: Global,
     policy: &Policy,
@@ -21,21 +22,7 @@ pub fn patron_of<S: Source>(
     ensures gives { Follows result (follow (S.has source.new) (patron_at policy.now id.now)) }
     ensures keeps { Gains (S.has source.old) (S.has source.new) (patron_at policy.now id.now) }
 {
-    member_of(alloc, policy, source, &id.id())
-}
-
-/// The patron of an id, where it is known.
-#[tactic(auto, unfolding(crate::specs::Lookups::patron_at), using(read_set::proofs::Gaining::gains_ask))]
-pub fn member_of<S: Source>(
-    alloc: Global,
-    policy: &Policy,
-    source: &mut S,
-    id: &Id,
-) -> Result<Option<Member>, Stop>
-    ensures gives { Follows result (follow (S.has source.new) (patron_at policy.now id.now)) }
-    ensures keeps { Gains (S.has source.old) (S.has source.new) (patron_at policy.now id.now) }
-{
-    let found = source.read(alloc, &Key::Patron(*id))?;
+    let found = source.read(alloc, &Key::Patron(id.id()))?;
     Ok(known_patron(policy, found))
 }
 
@@ -70,13 +57,13 @@ pub fn borrower_of<S: Source>(
     alloc: Global,
     policy: &Policy,
     source: &mut S,
-    loan: Option<Loan>,
+    loan: &Option<KeptLoan>,
 ) -> Result<Option<Member>, Stop>
-    ensures gives { Follows result (follow (S.has source.new) (borrower_at policy.now loan)) }
-    ensures keeps { Gains (S.has source.old) (S.has source.new) (borrower_at policy.now loan) }
+    ensures gives { Follows result (follow (S.has source.new) (borrower_at policy.now loan.now)) }
+    ensures keeps { Gains (S.has source.old) (S.has source.new) (borrower_at policy.now loan.now) }
 {
     match loan {
-        Some(loan) => member_of(alloc, policy, source, &loan.patron),
+        Some(loan) => patron_of(alloc, policy, source, loan.patron()),
         None => Ok(None),
     }
 }

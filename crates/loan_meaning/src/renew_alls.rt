@@ -235,7 +235,7 @@ fn tell(
 {
     Ok(Answer::RenewAll(RenewAllAnswer {
         date: line.date,
-        institution: KeptId::new(line.alloc, &line.policy.institution())?,
+        institution: line.policy.kept_institution().clone()?,
         ok,
         renewed,
         unrenewed,
@@ -293,7 +293,7 @@ fn renew_any<S: Source>(
         None => {
             let alloc = line.alloc;
             let none = tell(line, false, ItemIds::new(alloc), ItemIds::new(alloc))?;
-            Ok(Effect::unwritten(alloc, Some(none)))
+            Ok(Effect::unwritten(Some(none)))
         }
     }
 }

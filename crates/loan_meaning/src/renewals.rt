@@ -8,37 +8,37 @@ ghost use Rattle.loan_meaning.specs.Renewals.{renewal_tests, renewal_rule, renew
 ghost use Rattle.loan_meaning.specs.Devices.Sums.{IsKnown};
 ghost use Rattle.read_set.specs.Asks.{follow, Gains};
 ghost use Rattle.read_set.specs.Effects.{◌⊕◌};
-ghost use Rattle.read_set.specs.Renewals.{may_renew, renewals_of, renewed_loan, renewed, renewal_made, renewal_by, renew};
+ghost use Rattle.read_set.specs.Renewals.{may_renew, renewals_of, one_more, renewed_loan, renewed, renewal_made, renewal_by, renew};
 ghost use Rattle.read_set.specs.Fees.{fee_made};
 ghost use Rattle.read_set.specs.Maps.{Map, Agrees};
 ghost use Rattle.read_set.specs.Stops.{Follows};
 
 use crate::asked::Asked;
-use crate::asking::{ask_renew, charge_of, due_of, rental_in};
+use crate::asking::{ask_renew, charge_of, due_of, loan_in, rental_in};
 use crate::fees::{Charge, has_amount, list_fee, make_fee, test_owing};
-use crate::lists::{has_queue, is_same};
+use crate::lists::{has_queue, is_kept};
 use crate::lookup::{item_of, patron_of};
 use crate::telling::{refuse, refuse_for, tell_made};
 use circ_policy::Policy;
-use circ_records::{FeeType, Item, KeptLoan, Key, Loan, Patron, Record};
+use circ_records::{FeeType, Item, KeptLoan, Key, Patron, Record};
 use read_set::{Article, Draft, Effect, LoanRequest, Member, Source, Stop, Verdict};
 use sip_reader::{Amount, Day, Renew, Stamp};
 use std::alloc::{AllocError, Global};
 
-fn is_renewable(a: &LoanRequest, loan: Option<Loan>) -> bool
-    ensures { result ≡ may_renew a.now loan }
+fn is_renewable(a: &LoanRequest, loan: &Option<KeptLoan>) -> bool
+    ensures { result ≡ may_renew a.now loan.now }
 {
     match loan {
-        Some(loan) => is_same(&loan.patron, &a.patron) || a.third_party,
+        Some(loan) => is_kept(loan.patron(), &a.patron) || a.third_party,
         None => false,
     }
 }
 
-fn renewals(loan: Option<Loan>) -> u32
-    ensures { result ≡ renewals_of loan }
+fn renewals(loan: &Option<KeptLoan>) -> u32
+    ensures { result ≡ renewals_of loan.now }
 {
     match loan {
-        Some(loan) => loan.renewals,
+        Some(loan) => loan.renewals(),
         None => 0,
     }
 }
@@ -58,7 +58,7 @@ pub fn test_renewal<S: Source>(
     ensures keeps { Gains (S.has source.old) (S.has source.new) (renewal_tests writes.now asked.now.request member.now article.now) }
     ensures known { OnOk result (IsKnown (S.has source.new) writes.now member.now.patron.fees sum.new) }
 {
-    if !is_renewable(&asked.request, article.item.get().loan()) {
+    if !is_renewable(&asked.request, loan_in(article)) {
         return Ok(Verdict::Refused);
     }
     if asked.request.forced {
@@ -70,36 +70,31 @@ pub fn test_renewal<S: Source>(
     if has_queue(article.item.get().holds.as_slice()) {
         return Ok(Verdict::Refused);
     }
-    if member.class.max_renewals <= renewals(article.item.get().loan()) {
+    if member.class.max_renewals <= renewals(loan_in(article)) {
         return Ok(Verdict::Refused);
     }
     test_owing(asked, writes, member, article, sum, source)
 }
 
-fn renew_loan(due: Day, loan: Option<Loan>) -> Option<Loan>
-    ensures { result ≡ renewed_loan due loan }
+fn one_more(renewals: u32) -> u32
+    ensures { result ≡ one_more renewals }
 {
-    match loan {
-        Some(loan) => Some(Loan {
-            patron: loan.patron,
-            due,
-            renewals: if loan.renewals < u32::MAX {
-                loan.renewals + 1
-            } else {
-                loan.renewals
-            },
-        }),
-        None => None,
+    if renewals < u32::MAX {
+        renewals + 1
+    } else {
+        renewals
     }
 }
 
-/// The same loan, kept.
-fn keep_loan(alloc: Global, loan: Option<Loan>) -> Result<Option<KeptLoan>, AllocError>
-    ensures { IfOk result (λ kept. kept ≡ loan) }
+fn renew_loan(due: Day, loan: Option<KeptLoan>) -> Option<KeptLoan>
+    ensures { result ≡ renewed_loan due loan }
 {
     match loan {
-        Some(loan) => Ok(Some(KeptLoan::new(alloc, &loan)?)),
-        None => Ok(None),
+        Some(loan) => {
+            let renewals = one_more(loan.renewals());
+            Some(loan.with_due(due, renewals))
+        }
+        None => None,
     }
 }
 
@@ -108,7 +103,7 @@ pub fn renew_loan_of(alloc: Global, due: Day, article: Article) -> Result<Item, 
     ensures { IfOk result (λ i. i ≡ renewed due article.item) }
 {
     let mut item = Item::of(alloc, article.into_item())?;
-    item.loan = keep_loan(alloc, renew_loan(due, item.loan()))?;
+    item.loan = renew_loan(due, item.loan.take());
     Ok(item)
 }
 

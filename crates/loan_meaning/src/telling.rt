@@ -42,7 +42,7 @@ fn tell(
 {
     Ok(LoanAnswer {
         date: asked.date,
-        institution: KeptId::new(asked.alloc, &asked.policy.institution())?,
+        institution: asked.policy.kept_institution().clone()?,
         patron: KeptId::new(asked.alloc, &asked.request.patron)?,
         item: KeptId::new(asked.alloc, &asked.request.item)?,
         known,
@@ -94,7 +94,7 @@ pub fn refuse_for(
     };
     let parts = tell(asked, known, None, false, rental)?;
     let answer = answer(asked.request.checkout, parts);
-    Ok(Effect::unwritten(asked.alloc, Some(answer)))
+    Ok(Effect::unwritten(Some(answer)))
 }
 
 /// A refusal for something else than a rental.

@@ -68,7 +68,7 @@ fn answer(
 {
     let answer = PatronAnswer {
         date: asked.date,
-        institution: KeptId::new(asked.alloc, &asked.policy.institution())?,
+        institution: asked.policy.kept_institution().clone()?,
         patron: asked.id.clone()?,
         status,
         currency: asked.policy.currency(),
@@ -138,7 +138,7 @@ fn block_any<S: Source>(
         Some(member) => block_known(asked, member, source),
         None => {
             let answer = answer(asked, unknown_status(), None)?;
-            Ok(Effect::unwritten(asked.alloc, Some(answer)))
+            Ok(Effect::unwritten(Some(answer)))
         }
     }
 }

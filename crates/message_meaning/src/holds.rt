@@ -15,7 +15,7 @@ use loan_meaning::{
 };
 use read_set::{Article, Effect, Member, Source, Stop, Writes};
 use sip_answer::{Answer, HoldAnswer, QueuePosition};
-use sip_reader::{HoldMode, HoldRequest, Id, KeptId, Stamp, Text};
+use sip_reader::{HoldMode, HoldRequest, Id, Stamp, Text};
 use std::alloc::{AllocError, Global};
 
 /// What stays the same while a hold is followed.
@@ -48,7 +48,7 @@ fn is_refused_place(patron: &Id, blocked: bool, item: &Item) -> bool
     if waits(item.holds.as_slice(), patron) {
         return true;
     }
-    if has_lent_to(patron, item.loan()) {
+    if has_lent_to(patron, &item.loan) {
         return true;
     }
     QUEUE_MAX <= item.holds.len()
@@ -113,7 +113,7 @@ fn is_available_to(request: &HoldRequest, item: &Item, holds: &Holds) -> bool
         HoldMode::Delete => false,
         HoldMode::Add | HoldMode::Change => {
             let queue = holds.as_slice();
-            !has_loan(item.loan())
+            !has_loan(&item.loan)
                 && (has_queue(queue) && !is_first_another(queue, &request.patron.id()))
         }
     }
@@ -130,7 +130,7 @@ fn tell(
 {
     Ok(Answer::Hold(HoldAnswer {
         date: asked.date,
-        institution: KeptId::new(asked.alloc, &asked.policy.institution())?,
+        institution: asked.policy.kept_institution().clone()?,
         patron: asked.request.patron.clone()?,
         item: asked.request.item.clone()?,
         ok,
@@ -166,7 +166,7 @@ fn hold_item(asked: &HoldAsked<'_>, blocked: bool, item: Shared<Item>) -> Result
     if is_refused(request.mode, &request.patron.id(), blocked, item.get()) {
         let title = item.get().title.clone()?;
         let answer = tell(asked, Some(title), false, false, None)?;
-        return Ok(Effect::unwritten(asked.alloc, Some(answer)));
+        return Ok(Effect::unwritten(Some(answer)));
     }
     let holds = change_queue(asked.alloc, request, &item.get().holds)?;
     keep_queue(asked, item, holds)
@@ -192,11 +192,11 @@ fn hold_both(
     let Some(member) = member else {
         let title = title_of(article)?;
         let answer = tell(asked, title, false, false, None)?;
-        return Ok(Effect::unwritten(asked.alloc, Some(answer)));
+        return Ok(Effect::unwritten(Some(answer)));
     };
     let Some(article) = article else {
         let answer = tell(asked, None, false, false, None)?;
-        return Ok(Effect::unwritten(asked.alloc, Some(answer)));
+        return Ok(Effect::unwritten(Some(answer)));
     };
     let item = article.into_item();
     hold_item(asked, member.patron.get().blocked, item)

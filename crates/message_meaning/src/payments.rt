@@ -167,7 +167,6 @@ fn pay_all<S: Source>(
 }
 
 fn tell(
-    alloc: Global,
     policy: &Policy,
     request: &FeePaid,
     date: Stamp,
@@ -177,22 +176,17 @@ fn tell(
 {
     Ok(Answer::FeePaid(FeePaidAnswer {
         date,
-        institution: KeptId::new(alloc, &policy.institution())?,
+        institution: policy.kept_institution().clone()?,
         patron: request.patron.clone()?,
         accepted,
     }))
 }
 
-fn refuse(
-    alloc: Global,
-    policy: &Policy,
-    request: &FeePaid,
-    date: Stamp,
-) -> Result<Effect, AllocError>
+fn refuse(policy: &Policy, request: &FeePaid, date: Stamp) -> Result<Effect, AllocError>
     ensures { IfOk result (λ e. e ≡ unwritten (Some (payment_answer policy.now request.now date false))) }
 {
-    let answer = tell(alloc, policy, request, date, false)?;
-    Ok(Effect::unwritten(alloc, Some(answer)))
+    let answer = tell(policy, request, date, false)?;
+    Ok(Effect::unwritten(Some(answer)))
 }
 
 fn close(alloc: Global, closed: &Ids, member: Member) -> Result<Patron, AllocError>
@@ -234,7 +228,7 @@ fn finish(
     }
     Ok(Effect {
         writes: writes.finish(alloc)?,
-        answer: Some(tell(alloc, policy, request, date, true)?),
+        answer: Some(tell(policy, request, date, true)?),
     })
 }
 
@@ -274,13 +268,13 @@ fn pay_known<S: Source>(
     ensures keeps { Gains (S.has source.old) (S.has source.new) (fee_paid_rule_known policy.now request.now date member) }
 {
     let Some(member) = member else {
-        return Ok(refuse(alloc, policy, request, date)?);
+        return Ok(refuse(policy, request, date)?);
     };
     if is_other_currency(request.currency, policy.currency()) {
-        return Ok(refuse(alloc, policy, request, date)?);
+        return Ok(refuse(policy, request, date)?);
     }
     if request.amount.hundredths() == 0 {
-        return Ok(refuse(alloc, policy, request, date)?);
+        return Ok(refuse(policy, request, date)?);
     }
     pay_fees(alloc, policy, request, date, member, source)
 }

@@ -73,7 +73,7 @@ pub fn known_patron(policy: &Policy, found: Option<Record>) -> Option<Member>
     ensures { result ≡ as_member policy.now found }
 {
     match found {
-        Some(Record::Patron(patron)) => match policy.class(&patron.get().class.id()) {
+        Some(Record::Patron(patron)) => match policy.kept_class(&patron.get().class) {
             Some(class) => Some(Member { patron, class }),
             None => None,
         },

@@ -5,6 +5,7 @@
 #![tactic(auto)]
 
 mod effect;
+mod few_records;
 mod found;
 mod known;
 mod laws;

@@ -67,11 +67,12 @@ fn take_line(
     ensures answer { IfOk result (λ a. (M : Map) → ((k : Key) → standing live.old k ≡ M k) → a ≡ (one_at plan.now line M).1) }
     ensures records { OnOk result ((M : Map) → ((k : Key) → standing live.old k ≡ M k) → (k : Key) → standing live.new k ≡ (one_at plan.now line M).0 k) }
 {
-    let Effect { writes, answer } = match perform(alloc, plan, line, live) {
-        Ok(effect) => effect,
+    match perform(alloc, plan, line, live) {
+        Ok(Effect { writes, answer }) => {
+            live.put(alloc, writes)?;
+            Ok(answer)
+        }
         Err(Stop::Unnoted(_)) => unreachable!(),
-        Err(Stop::Memory) => return Err(AllocError),
-    };
-    live.put(writes)?;
-    Ok(answer)
+        Err(Stop::Memory) => Err(AllocError),
+    }
 }

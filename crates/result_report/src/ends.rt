@@ -112,9 +112,30 @@ fn base_records<'e, E: End<'e>>(alloc: Global, end: &E) -> Result<RecordMap, All
     let mut records = end.plan().empty_map(alloc)?;
     let keys = end.plan().keys();
     for entry in keys {
-        put_record(alloc, end, &entry.0.key(), &mut records)?;
+        put_rising(alloc, end, &entry.0, &mut records)?;
     }
     Ok(records)
+}
+
+/// Puts the record at a key of the plan behind the others.
+fn put_rising<'e, E: End<'e>>(
+    alloc: Global,
+    end: &E,
+    key: &KeptKey,
+    records: &mut RecordMap,
+) -> Result<(), AllocError>
+    ensures { OnOk result ((keys : List Key) → HasAt keys (E.left end.now) records.old
+        → HasAt (keys ++ key.now ∷ []) (E.left end.now) records.new) }
+{
+    match end.final_of(&key.key()) {
+        Some(found) => {
+            let found = found.copy()?;
+            let kept = key.clone()?;
+            records.put_rising(alloc, kept, found)?;
+            Ok(())
+        }
+        None => Ok(()),
+    }
 }
 
 /// Takes the records at the keys of what the lines wrote. Where memory runs out `collect` drops the records, here and below.

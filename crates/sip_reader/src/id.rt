@@ -91,7 +91,7 @@ impl Id {
         }
     }
 
-    /// Its number, which most other ids haven't: it is told by the first fourteen bytes.
+    /// Its number, which most other ids haven't: it is told by the first eight bytes and the last eight.
     pub fn number(&self) -> u64
         ensures { result ≡ id_number self.now }
     {

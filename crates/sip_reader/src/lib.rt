@@ -42,4 +42,4 @@ pub use request::{
 pub use short_id::{SHORT_ID_MAX, ShortId};
 pub use stamp::{STAMP_LEN, Stamp};
 pub use sum::{sum_of, unsummed};
-pub use text::{TEXT_MAX, Text};
+pub use text::{TEXT_MAX, Text, is_text};

@@ -98,11 +98,11 @@ impl Short {
         &self.bytes
     }
 
-    /// Their number, which most that differ among the first fourteen haven't.
+    /// Their number, which most that differ among the first eight or the last eight haven't.
     pub fn number(&self) -> u64
         ensures { result ≡ id_number self.now }
     {
-        number_of(&self.bytes)
+        number_of(&self.bytes, self.as_bytes().len().saturating_sub(8))
     }
 
     /// How the bytes go in the order of bytes.
@@ -160,13 +160,13 @@ fn order_of(a: &[u8; SHORT_MAX], b: &[u8; SHORT_MAX], words: usize) -> Ordering
     Ordering::Equal
 }
 
-/// The number of bytes, by the first eight of them and the eight behind six.
-fn number_of(bytes: &[u8]) -> u64
-    requires { 14 ≤ length bytes.now }
-    ensures { result ≡ ends_number bytes.now }
+/// The number of bytes, by the first eight of them and the eight from a place on.
+fn number_of(bytes: &[u8], last: usize) -> u64
+    requires { last + 8 ≤ length bytes.now }
+    ensures { result ≡ ends_number bytes.now last }
 {
     let first = word_at(bytes, 0).wrapping_mul(SPREAD);
-    let both = first.wrapping_add(word_at(bytes, 6));
+    let both = first.wrapping_add(word_at(bytes, last));
     both.wrapping_mul(SPREAD) / 4_294_967_296
 }
 

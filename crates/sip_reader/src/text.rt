@@ -90,7 +90,7 @@ impl Text {
     pub fn read(alloc: Global, bytes: &[u8]) -> Result<Option<Text>, AllocError>
         ensures { IfOk result (λ t. t ≡ (if is_text bytes.now then Some bytes.now else None)) }
     {
-        if is_short(bytes) {
+        if is_text(bytes) {
             Ok(Some(Text::new(alloc, bytes)?))
         } else {
             Ok(None)
@@ -172,8 +172,9 @@ impl Held {
     }
 }
 
+/// Whether bytes are a text: at most 1,024, without a bar, CR or LF.
 #[tactic(auto, unfolding(crate::specs::Texts::is_text))]
-fn is_short(bytes: &[u8]) -> bool
+pub fn is_text(bytes: &[u8]) -> bool
     ensures { result ≡ is_text bytes.now }
 {
     bytes.len() <= TEXT_MAX && !has_barred(bytes)

@@ -1,7 +1,7 @@
 -- Entries with the keys that they borrow.
 use denote.Ref.{Bor}
-use Rattle.std.proofs.Common.{◌≡◌, ℕ, zero, suc, ◌+◌, ◌<◌, true, false, cond, Option, Some, List, [], ◌∷◌, ◌++◌, length, get_or, set, take, drop, refl, sym, ap, ap₂, ◌∙◌, arith}
-use Rattle.std.specs.Prelude.{option_map, slice_get}
+use Rattle.std.proofs.Common.{◌≡◌, ℕ, zero, suc, ◌+◌, ◌<◌, Bool, true, false, cond, Option, Some, None, List, [], ◌∷◌, ◌++◌, length, get_or, set, take, drop, refl, sym, ap, ap₂, ◌∙◌, arith}
+use Rattle.std.specs.Prelude.{is_some, option_map, slice_get}
 use Rattle.std.specs.List.{insert, remove}
 use Rattle.std.specs.Ordering.{eq_by_cmp}
 use Rattle.std.specs.FinMap.Entries.{find}
@@ -72,3 +72,17 @@ missed_next es rest k e more is = ap (find key_cmp k) more ∙ ap (λ b. cond b 
 pub keyed_marked : {J : Type 0} (es : List (Bor Key × Entry J)) → keyed (all_marked es) ≡ all_marked (keyed es)
 keyed_marked [] = refl
 keyed_marked (e ∷ es) = ap (λ (l : List (Key × Entry _)). (e.0.now, marked e.1) ∷ l) (keyed_marked es)
+
+-- ---- the last of some entries of which one is that of the key
+pub one_has : {X : Type 0} (es : List (Key × X)) (k : Key) → is_some (find key_cmp k es) ≡ true → 0 < length es
+one_has [] k h = absurd (let z : false ≡ true = h in cc)
+one_has (e ∷ es) k h = omega arith
+
+last_if : {X : Type 0} (b : Bool) (x : X) → is_some (cond b (Some x) None) ≡ true → cond b (Some x) None ≡ Some x
+last_if true x h = refl
+last_if false x h = absurd (let z : false ≡ true = h in cc)
+
+pub last_has : {X : Type 0} (es : List (Key × X)) (k : Key) (e : Key × X) → es ≡ e ∷ [] → is_some (find key_cmp k es) ≡ true → find key_cmp k es ≡ Some e.1
+last_has es k e is h =
+    ap (find key_cmp k) is
+    ∙ last_if (eq_by_cmp key_cmp k e.0) e.1 (sym (ap (λ (l : List (Key × _)). is_some (find key_cmp k l)) is) ∙ h)

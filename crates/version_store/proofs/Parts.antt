@@ -1,8 +1,9 @@
 -- An index in parts.
-use Rattle.std.proofs.Common.{◌≡◌, ℕ, zero, suc, Bool, true, false, cond, List, [], ◌∷◌, ◌++◌, length, Some, refl, sym, ap, ◌∙◌, inl, inr, length-set}
+use Rattle.std.proofs.Common.{◌≡◌, ◌≤◌, ℕ, zero, suc, Bool, true, false, cond, List, [], ◌∷◌, ◌++◌, length, Some, refl, sym, ap, ◌∙◌, inl, inr, length-set}
 use Rattle.std.specs.Prelude.{nat_eq, slice_get, slice_set}
 use Rattle.std.specs.Ordering.{nat_cmp, eq_by_cmp}
 use Rattle.std.proofs.lemmas.Bool.{cases_eq, eqb-true}
+use Rattle.std.proofs.lemmas.Option.{slice_get_past}
 use Rattle.circ_records.specs.Keys.{key_cmp}
 use Rattle.circ_records.specs.declared.key.Key.{Key}
 use Rattle.version_store.specs.Index.{in_part, in_parts, with_at}
@@ -81,3 +82,15 @@ pub unentered : (ps : List IndexPart) (i : ℕ) (p new : IndexPart)
     → (q : Key) (m : ℕ)
     → in_parts (slice_get (slice_set ps i new) (part_of q (length (slice_set ps i new)))) q m ≡ in_parts (slice_get ps (part_of q (length ps))) q m
 unentered ps i p new there h = by_part ps i p new (λ q m x. x) there h (λ q m x apart. refl)
+
+none_off : (b c x : Bool) → (b ≡ true → x ≡ false) → x ≡ cond b (cond c false x) x
+none_off true true x h = h refl
+none_off true false x h = refl
+none_off false c x h = refl
+
+-- a key that stands in no part has no line that could be taken out
+pub cleared_past : (ps : List IndexPart) (k : Key) (n : ℕ) → length ps ≤ part_of k (length ps) → (q : Key) (m : ℕ)
+    → in_parts (slice_get ps (part_of q (length ps))) q m ≡ with_at k n false (λ x y. in_parts (slice_get ps (part_of x (length ps))) x y) q m
+cleared_past ps k n past q m =
+    none_off (eq_by_cmp key_cmp k q) (eq_by_cmp nat_cmp n m) (in_parts (slice_get ps (part_of q (length ps))) q m)
+    (λ t. ap (λ o. in_parts o q m) (ap (λ z. slice_get ps (part_of z (length ps))) (sym (same_key k q t)) ∙ slice_get_past ps (part_of k (length ps)) past))

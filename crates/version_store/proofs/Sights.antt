@@ -131,10 +131,6 @@ indexed_none index first n ls h is = record {
       (ap (λ (x : List Line). line_at (record { first = first; lines = x }) m) is ∙ none_placed_at first n m));
 }
 
-pub none_is_none : (o : Option Shown) → o ≡ None → is_some o ≡ true → ⊥
-none_is_none None e h = cc
-none_is_none (Some x) e h = cc
-
 -- ---- how many lines there are
 length_if : (b : Bool) (ls : List Line) (p : ℕ) (l : Line) → length (cond b ls (set ls p l)) ≡ length ls
 length_if true ls p l = refl

@@ -1,6 +1,6 @@
 //! The entries of one line.
 
-ghost use Rattle.std.specs.Prelude.{◌≡◌, ◌^◌, ◌<◌, OnOk, OnErr, None, MatchOption, MatchResult, length, slice_get, option_copied, option_map};
+ghost use Rattle.std.specs.Prelude.{◌≡◌, ◌^◌, ◌<◌, OnOk, OnErr, Some, None, MatchOption, MatchResult, is_some, length, slice_get, option_copied, option_map, true};
 ghost use Rattle.std.specs.FinMap as fin;
 ghost use Rattle.circ_records.specs.Keys.{key_cmp};
 ghost use Rattle.version_store.specs.Entries.{AllOf, IsLeastLeft, IsNamedAt, keyed, line_of, no_entries, shown, suspected};
@@ -71,6 +71,20 @@ impl<'t, J: PlanName> LineEntries<'t, J> {
             Ok(position) => Some(self.entries[position].1),
             Err(_) => None,
         }
+    }
+
+    /// The entry at a key that has one. Where a line has no other, no key is looked at.
+    pub fn known(&self, key: &Key) -> Entry<'t, J>
+        requires { is_some (fin.get self.now key.now) ≡ true }
+        ensures { Some (shown result) ≡ fin.get self.now key.now }
+    {
+        if self.entries.len() <= FEW {
+            return known_among(&self.entries, key);
+        }
+        let Some(made) = self.get(key) else {
+            unreachable!()
+        };
+        made
     }
 
     /// Puts an entry at a key, and borrows the key.
@@ -145,6 +159,21 @@ fn entry_among<'t, J: PlanName>(
         }
     }
     None
+}
+
+/// The entry at a key of which a few have one: what none of the others has, the last has.
+fn known_among<'t, J: PlanName>(entries: &ShortList<Placed<'t, J>>, key: &Key) -> Entry<'t, J>
+    requires { is_some (fin.find key_cmp key.now (keyed entries.now)) ≡ true }
+    ensures { Some result ≡ fin.find key_cmp key.now (keyed entries.now) }
+{
+    let last = entries.len() - 1;
+    for i in 0..last {
+        let (own, made) = &entries[i];
+        if own.is(key) {
+            return *made;
+        }
+    }
+    entries[last].1
 }
 
 /// The position of a key, or else the position to which it goes.

@@ -10,7 +10,7 @@ ghost use Rattle.version_store.specs.Index.{IsLatest, in_column, in_part, with_a
 
 use crate::column::Column;
 use crate::map::ColumnMap;
-use crate::numbered::Sought;
+use crate::numbered::{IndexKey, Sought};
 use circ_records::KeptKey;
 use std::alloc::{AllocError, Global};
 
@@ -23,7 +23,7 @@ const MORE: usize = 2;
 
 /// The lines that have an entry at a key. The key stands here: one that is borrowed from the writes of a version would stand
 /// anywhere in memory.
-type KeyColumn = (KeptKey, Column);
+type KeyColumn = (IndexKey, Column);
 
 /// For each key of a part the lines that have an entry there.
 pub struct IndexPart {
@@ -108,7 +108,7 @@ impl IndexPart {
         ensures same { OnErr result ((q : Key) (m : ℕ) → in_part self.new q m ≡ in_part self.old q m) }
     {
         if self.few.len() < FEW {
-            return open_among(&mut self.few, alloc, kept, line);
+            return open_among(&mut self.few, alloc, key, kept, line);
         }
         let mut others = ColumnMap::new(alloc);
         others.set(alloc, key.key(), line)?;
@@ -148,25 +148,27 @@ impl IndexPart {
 fn position_among(few: &[KeyColumn], key: &Sought<'_>) -> Option<usize>
     ensures { result ≡ position (λ c. eq_by_cmp key_cmp key.now c.0) few.now }
 {
-    few.iter().position(|column| column.0.is(key.key()))
+    few.iter().position(|column| column.0.is(key))
 }
 
 /// One more key, at which one line has an entry, in little more room than is needed: a part stays until the run ends.
 fn open_among(
     few: &mut Vec<KeyColumn>,
     alloc: Global,
+    key: &Sought<'_>,
     kept: &KeptKey,
     line: u64,
 ) -> Result<(), AllocError>
-    requires { among few.old.items kept.now ≡ None }
+    requires kept { kept.now ≡ key.now }
+    requires absent { among few.old.items kept.now ≡ None }
     ensures put { OnOk result ((q : Key) (m : ℕ) → in_column (among few.new.items q) m ≡ with_at kept.now line true (λ k n. in_column (among few.old.items k) n) q m) }
     ensures same { OnErr result (few.new.items ≡ few.old.items) }
 {
     let mut column = Column::new(alloc);
     column.insert(line)?;
-    let key = kept.clone()?;
+    let own = IndexKey::new(key, kept)?;
     make_room(few)?;
-    few.push((key, column))?;
+    few.push((own, column))?;
     Ok(())
 }
 

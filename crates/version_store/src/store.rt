@@ -225,10 +225,8 @@ impl<'t, J: PlanName> EntryStore<'t, J> {
         let Some(line) = self.index.latest_below(&sought, below) else {
             return None;
         };
-        match self.lines[(line - self.first) as usize].get(key) {
-            Some(made) => Some((line, made)),
-            None => None,
-        }
+        let row = &self.lines[(line - self.first) as usize];
+        Some((line, row.known(key)))
     }
 }
 

@@ -1,5 +1,5 @@
 -- A device of proofs: the part of the index in which a key stands, and the key's column in it.
-use Rattle.std.specs.Prelude.{ℕ, ◌%◌, List, Option, nat_eq, option_and_then, if◌then◌else◌}
+use Rattle.std.specs.Prelude.{ℕ, ◌*◌, ◌%◌, ◌/◌, ◌^◌, List, Option, option_and_then}
 use Rattle.std.specs.BTreeMap.{get, is_at}
 use Rattle.std.specs.Map.{lookup}
 use Rattle.std.specs.Option.{option_or}
@@ -14,7 +14,7 @@ number_of k = id_number (id_of k)
 
 -- of so many parts
 abbrev pub part_of : Key → ℕ → ℕ
-part_of k n = if nat_eq n 0 then 0 else number_of k % n
+part_of k n = number_of k * n % 2 ^ 64 / 2 ^ 32
 
 -- the column of a key among a few
 abbrev pub among : List (Key × List ℕ) → Key → Option (List ℕ)

@@ -36,10 +36,10 @@ returns-clause-ok c =
     none-broken c.args.policy.now c.args.first (rows_in c.args.tables.now) c.in_ok-add_patrons.ensures.ok c.in_ok-add_items.ensures.ok c.in_ok-add_loans.ensures.ok c.in_ok-add_fees.ensures.ok c.in_ok-add_closed.ensures.ok c.in_ok-add_holds.ensures.ok
 
 pub returns-clause-told : goal.returns-clause-told
-returns-clause-told c = same-entries (rows_in c.args.tables.now) c.in_ok-listed.listed.items c.in_ok-listed.ensures.rising (λ k. ap (λ (es : Entries). record_at es k) c.in_ok-listed.ensures.same ∙ c.in_ok-add_holds.ensures.told k)
+returns-clause-told c = same-entries (rows_in c.args.tables.now) c.in_ok-records.records.items c.in_ok-records.ensures.rising (λ k. ap (λ (es : Entries). record_at es k) c.in_ok-records.ensures.same ∙ c.in_ok-add_holds.ensures.told k)
 
 pub returns-clause-coherent : goal.returns-clause-coherent
 returns-clause-coherent c =
-    coherent-rows c.args.policy.now c.args.first (rows_in c.args.tables.now) (record_at c.in_ok-listed.listed.items)
+    coherent-rows c.args.policy.now c.args.first (rows_in c.args.tables.now) (record_at c.in_ok-records.records.items)
     c.in_ok-add_patrons.ensures.ok c.in_ok-add_items.ensures.ok c.in_ok-add_loans.ensures.ok c.in_ok-add_fees.ensures.ok c.in_ok-add_closed.ensures.ok c.in_ok-add_holds.ensures.ok
-    (λ k. ap (λ (es : Entries). record_at es k) c.in_ok-listed.ensures.same ∙ c.in_ok-add_holds.ensures.told k)
+    (λ k. ap (λ (es : Entries). record_at es k) c.in_ok-records.ensures.same ∙ c.in_ok-add_holds.ensures.told k)

@@ -13,33 +13,33 @@ pub returns-in_err-member-clause-gives : goal.returns-in_err-member-clause-gives
 unfolding checkin_rule
 returns-in_err-member-clause-gives g c =
     let p = err_from_is_err_and c.from_residual-in_err-member.result c.from_residual-in_err-member.ensures.1 in
-    let stops = rw c.any_loan-loan.ensures at c.in_err-member.ensures.gives in
+    let stops = c.in_err-member.ensures.gives in
     rw (p.1, p.2) (stop_next _ _ (item_at c.args.policy.now c.args.request.now.item) _ c.in_ok-article.article _ c.in_err-member.ensures.keeps.grows c.in_ok-article.ensures.gives
     (stop_then _ (borrower_at c.args.policy.now (loan_of c.in_ok-article.article)) (λ member. Give (checked_in c.args.policy.now c.args.n c.args.request.now c.args.date c.in_ok-article.article member)) _ stops))
 
 pub returns-clause-gives : goal.returns-clause-gives
 unfolding checkin_rule
 returns-clause-gives g c =
-    let second = rw c.any_loan-loan.ensures at c.in_ok-member.ensures.gives in
+    let second = c.in_ok-member.ensures.gives in
     follow_next _ _ (item_at c.args.policy.now c.args.request.now.item) _ c.in_ok-article.article _ c.in_ok-member.ensures.keeps.grows c.in_ok-article.ensures.gives
     (follow_then _ (borrower_at c.args.policy.now (loan_of c.in_ok-article.article)) (λ member. Give (checked_in c.args.policy.now c.args.n c.args.request.now c.args.date c.in_ok-article.article member)) c.in_ok-member.member _ second (ap Done (sym c.in_ok-end.ensures)))
 
 pub returns-clause-means : goal.returns-clause-means
 returns-clause-means g c =
-    meant (g.S.Source.has c.borrower_of.new.source) (checkin_rule c.args.policy.now c.args.n c.args.request.now c.args.date) (checkin c.args.policy.now c.args.n c.args.request.now c.args.date) (Ok c.in_ok-end.field-0)
+    meant (g.S.Source.has c.any_borrower_of.new.source) (checkin_rule c.args.policy.now c.args.n c.args.request.now c.args.date) (checkin c.args.policy.now c.args.n c.args.request.now c.args.date) (Ok c.in_ok-end.field-0)
     (λ M. checkin_whole M c.args.policy.now c.args.n c.args.request.now c.args.date) (returns-clause-gives g c)
 
 pub returns-in_err-member-clause-keeps : goal.returns-in_err-member-clause-keeps
 unfolding checkin_rule
 returns-in_err-member-clause-keeps g c =
-    let second = rw c.any_loan-loan.ensures at c.in_err-member.ensures.keeps in
+    let second = c.in_err-member.ensures.keeps in
     gains_then _ _ _ (item_at c.args.policy.now c.args.request.now.item) _ c.in_ok-article.article c.in_ok-article.ensures.gives c.in_ok-article.ensures.keeps
     (gains_first _ _ (borrower_at c.args.policy.now (loan_of c.in_ok-article.article)) (λ member. Give (checked_in c.args.policy.now c.args.n c.args.request.now c.args.date c.in_ok-article.article member)) second)
 
 pub returns-clause-keeps : goal.returns-clause-keeps
 unfolding checkin_rule
 returns-clause-keeps g c =
-    let second = rw c.any_loan-loan.ensures at c.in_ok-member.ensures.keeps in
+    let second = c.in_ok-member.ensures.keeps in
     gains_then _ _ _ (item_at c.args.policy.now c.args.request.now.item) _ c.in_ok-article.article c.in_ok-article.ensures.gives c.in_ok-article.ensures.keeps
     (gains_first _ _ (borrower_at c.args.policy.now (loan_of c.in_ok-article.article)) (λ member. Give (checked_in c.args.policy.now c.args.n c.args.request.now c.args.date c.in_ok-article.article member)) second)
 
@@ -51,6 +51,6 @@ returns-in_err-article-clause-keeps g c =
 pub returns-in_err-end-clause-keeps : goal.returns-in_err-end-clause-keeps
 unfolding checkin_rule
 returns-in_err-end-clause-keeps g c =
-    let second = rw c.any_loan-loan.ensures at c.in_ok-member.ensures.keeps in
+    let second = c.in_ok-member.ensures.keeps in
     gains_then _ _ _ (item_at c.args.policy.now c.args.request.now.item) _ c.in_ok-article.article c.in_ok-article.ensures.gives c.in_ok-article.ensures.keeps
     (gains_first _ _ (borrower_at c.args.policy.now (loan_of c.in_ok-article.article)) (λ member. Give (checked_in c.args.policy.now c.args.n c.args.request.now c.args.date c.in_ok-article.article member)) second)

@@ -1,4 +1,4 @@
-use Rattle.std.proofs.Common.{◌≡◌, ◌-◌, ◌<◌, ◌≤◌, map, get_or, slice_get, length, sym, ap, ◌∙◌, arith, rules}
+use Rattle.std.proofs.Common.{◌≡◌, ◌-◌, ◌<◌, map, get_or, slice_get, length, sym, ap, ◌∙◌, arith, rules}
 use Rattle.std.proofs.lemmas.List.{length-map, get_or-map}
 use Rattle.read_set.specs.Plans.{Planned}
 use Rattle.board_steps.specs.Board.{Board, IsLine, row_at, live_of}
@@ -8,7 +8,7 @@ use Rattle.board_lines.proofs.Rows.{live_there, notes_live}
 use Rattle.std.specs.Prelude.{option_map}
 use Rattle.board_lines.specs.Hands.{notes_of}
 use Rattle.board_lines.specs.Notes.{notes_by, key_and_name}
-use Rattle.board_lines.proofs.Sights.{notes_nth, notes_past}
+use Rattle.board_lines.proofs.Sights.{notes_nth}
 use Rattle.board_lines.proofs.lines.Lines.note_at.Goals as goal
 
 pub index-row-requires : goal.index-row-requires
@@ -27,32 +27,8 @@ index-row-requires g c =
     let h : c.args.line - c.first.result < length a.rows.items = omega (arith, l, m, f) in
     search (rules, h)
 
-pub returns-then-i-len-clause-note : goal.returns-then-i-len-clause-note
-returns-then-i-len-clause-note g c =
-    let a = c.self.inside in
-    let plan = g.J.PlanName.plan in
-    let parts : Parts = record { states = a.attempts; store = a.entries; rows = map row_shown a.rows.items; hands = a.hands.items; clock = a.clock; latest = a.latest } in
-    let kept : IsKept plan parts = c.self.invariant.1 in
-    let is : board_of plan.base parts ≡ c.args.self.now = ap (λ (x : Planned). board_of x.base parts) (sym c.self.invariant.0) ∙ c.self.view_is in
-    let live : live_of (row_at (board_of plan.base parts) c.args.line).state ≡ 1 =
-    ap (λ (b : Board). live_of (row_at b c.args.line).state) is ∙ c.requires in
-    let there : IsLine (board_of plan.base parts) c.args.line = live_there (board_of plan.base parts) c.args.line live in
-    let f : c.first.result ≡ parts.states.first = c.first.ensures ∙ ap (λ (x : Planned). x.first) c.self.invariant.0 ∙ sym kept.reached.first in
-    let l : c.args.line - parts.states.first < length (map row_shown a.rows.items) = place_of plan.base parts c.args.line there in
-    let m : length (map row_shown a.rows.items) ≡ length a.rows.items = length-map a.rows.items row_shown in
-    let spot = c.index-row.result.now in
-    let was : get_or (map row_shown a.rows.items) (c.args.line - parts.states.first) no_notes ≡ row_shown spot =
-    get_or-map row_shown a.rows.items (c.args.line - parts.states.first) spot no_notes (omega (arith, l, m))
-    ∙ ap row_shown (sym (c.index-row.ensures ∙ ap (λ x. get_or a.rows.items (c.args.line - x) spot) f)) in
-    let notes : notes_of (row_at c.args.self.now c.args.line).state ≡ notes_by plan.base spot.notes =
-    ap (λ (b : Board). notes_of (row_at b c.args.line).state) (sym is)
-    ∙ notes_live plan parts kept c.args.line there live
-    ∙ ap (λ (x : Kept). notes_by plan.base x.notes) was in
-    let past : length spot.notes ≤ c.args.i = search (rules, c.if-i-len.true, c.len.ensures) in
-    sym (ap (λ x. option_map key_and_name (slice_get x c.args.i)) notes ∙ notes_past plan.base spot.notes c.args.i past)
-
-pub returns-clause-note : goal.returns-clause-note
-returns-clause-note g c =
+pub returns : goal.returns
+returns g c =
     let a = c.self.inside in
     let plan = g.J.PlanName.plan in
     let parts : Parts = record { states = a.attempts; store = a.entries; rows = map row_shown a.rows.items; hands = a.hands.items; clock = a.clock; latest = a.latest } in

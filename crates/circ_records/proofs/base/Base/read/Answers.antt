@@ -7,9 +7,9 @@ use Rattle.circ_records.proofs.Faults.{fails-first, passed-on}
 use Rattle.circ_records.proofs.Stopped.{rule-due, stops-otherwise, tables-read}
 use Rattle.circ_records.proofs.base.Base.read.Goals as goal
 
-pub returns-in_ok-places-in-Ok-clause-told : goal.returns-in_ok-places-in-Ok-clause-told
+pub returns-in-Ok-clause-told : goal.returns-in-Ok-clause-told
 unfolding base_of
-returns-in_ok-places-in-Ok-clause-told c =
+returns-in-Ok-clause-told c =
     let rows = rows_in c.args.tables.now in
     ap (λ r. r >>= λ (rows : Rows). unless_broken (first_broken c.args.policy.now c.args.first rows) (entries_told rows)) (tables-read c.args.tables.now c.in-Ok.ensures.read)
     ∙ ap (λ o. unless_broken o (entries_told rows)) c.in-Ok.ensures.ok
@@ -17,7 +17,7 @@ returns-in_ok-places-in-Ok-clause-told c =
 
 pub returns-in_err-check_tables-in-Err-Rule-clause-told : goal.returns-in_err-check_tables-in-Err-Rule-clause-told
 unfolding base_of
-returns-in_err-check_tables-in-Err-Rule-clause-told c = passed-on _ _ _ c.from_residual-in_err-check_tables-in-Err-Rule.ensures.1
+returns-in_err-check_tables-in-Err-Rule-clause-told c = passed-on _ _ _ c.from_residual.ensures.1
     (fails-first _ (rows_of (texts_of c.args.tables.now)) (λ rows. unless_broken (first_broken c.args.policy.now c.args.first rows) (entries_told rows)) c.in_err-check_tables-in-Err-Rule.ensures.err)
 
 pub returns-in_ok-check_tables-in-Err-Rule-clause-told : goal.returns-in_ok-check_tables-in-Err-Rule-clause-told

@@ -49,7 +49,7 @@ invariant_of-self-then-is_empty c =
     let end : c.in-Err.position ≡ length es = search rules in
     let at : position_from 0 c.args.key es ≡ Err (length es) = ap (position_from 0 c.args.key) (sym c.as_slice.ensures.value) ∙ sym c.position_in.ensures ∙ c.in-Err.is ∙ ap Err end in
     let none : fs ≡ [] = empty-of fs (c.is_empty.ensures.0 c.if-is_empty.true) in
-    let more : c.push.new.self.items ≡ es ++ (c.args.key, c.args.told) ∷ [] = c.in_ok-push.ensures.items ∙ ap (λ (k : Key). es ++ (k, c.args.told) ∷ []) c.in_ok-new.ensures in
+    let more : c.push.new.self.items ≡ es ++ (c.args.key, c.args.told) ∷ [] = c.in_ok-push.ensures.items ∙ ap (λ (k : Key). es ++ (k, c.args.told) ∷ []) c.in_ok-kept.ensures in
     (put-last es fs c.push.new.self.items c.args.key c.args.told c.self.invariant at none more).rising
 
 pub returns-then-is_empty-clause-double : goal.returns-then-is_empty-clause-double
@@ -68,7 +68,7 @@ returns-then-is_empty-clause-put c =
     let end : c.in-Err.position ≡ length es = search rules in
     let at : position_from 0 c.args.key es ≡ Err (length es) = ap (position_from 0 c.args.key) (sym c.as_slice.ensures.value) ∙ sym c.position_in.ensures ∙ c.in-Err.is ∙ ap Err end in
     let none : fs ≡ [] = empty-of fs (c.is_empty.ensures.0 c.if-is_empty.true) in
-    let more : c.push.new.self.items ≡ es ++ (c.args.key, c.args.told) ∷ [] = c.in_ok-push.ensures.items ∙ ap (λ (k : Key). es ++ (k, c.args.told) ∷ []) c.in_ok-new.ensures in
+    let more : c.push.new.self.items ≡ es ++ (c.args.key, c.args.told) ∷ [] = c.in_ok-push.ensures.items ∙ ap (λ (k : Key). es ++ (k, c.args.told) ∷ []) c.in_ok-kept.ensures in
     rw (← c.self.view_is) (put-last es fs c.push.new.self.items c.args.key c.args.told c.self.invariant at none more).put
 
 -- ---- it goes into the map

@@ -1,7 +1,7 @@
 use Rattle.std.proofs.Common.{◌≡◌, ℕ, ◌-◌, ◌<◌, ◌≤◌, false, length, get_or, set, sym, subst, ◌∙◌, ap₂, arith, length-set}
 use Rattle.line_set.specs.Trees.{joined}
 use Rattle.line_set.proofs.Trees.{made_from}
-use Rattle.line_set.proofs.flag_tree.FlagTree.new.Goals as goal
+use Rattle.line_set.proofs.flag_tree.FlagTree.full.Goals as goal
 
 pub loop-node-preserved : goal.loop-node-preserved
 loop-node-preserved c =

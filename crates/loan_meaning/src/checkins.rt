@@ -179,7 +179,7 @@ fn end_any(
         Some(loan) => end_loan(line, request, article, &loan, member),
         None => {
             let answer = tell(line, request, &article, None)?;
-            Ok(Effect::unwritten(Some(answer)))
+            Ok(Effect::unwritten(line.alloc, Some(answer)))
         }
     }
 }
@@ -195,7 +195,7 @@ fn end(
 {
     let Some(article) = article else {
         let answer = tell_unknown(line, request)?;
-        return Ok(Effect::unwritten(Some(answer)));
+        return Ok(Effect::unwritten(line.alloc, Some(answer)));
     };
     let loan = article.item.get().loan();
     end_any(line, request, article, loan, member)

@@ -293,7 +293,7 @@ fn renew_any<S: Source>(
         None => {
             let alloc = line.alloc;
             let none = tell(line, false, ItemIds::new(alloc), ItemIds::new(alloc))?;
-            Ok(Effect::unwritten(Some(none)))
+            Ok(Effect::unwritten(alloc, Some(none)))
         }
     }
 }

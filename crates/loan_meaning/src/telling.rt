@@ -94,7 +94,7 @@ pub fn refuse_for(
     };
     let parts = tell(asked, known, None, false, rental)?;
     let answer = answer(asked.request.checkout, parts);
-    Ok(Effect::unwritten(Some(answer)))
+    Ok(Effect::unwritten(asked.alloc, Some(answer)))
 }
 
 /// A refusal for something else than a rental.

@@ -138,7 +138,7 @@ fn block_any<S: Source>(
         Some(member) => block_known(asked, member, source),
         None => {
             let answer = answer(asked, unknown_status(), None)?;
-            Ok(Effect::unwritten(Some(answer)))
+            Ok(Effect::unwritten(asked.alloc, Some(answer)))
         }
     }
 }

@@ -166,7 +166,7 @@ fn hold_item(asked: &HoldAsked<'_>, blocked: bool, item: Shared<Item>) -> Result
     if is_refused(request.mode, &request.patron.id(), blocked, item.get()) {
         let title = item.get().title.clone()?;
         let answer = tell(asked, Some(title), false, false, None)?;
-        return Ok(Effect::unwritten(Some(answer)));
+        return Ok(Effect::unwritten(asked.alloc, Some(answer)));
     }
     let holds = change_queue(asked.alloc, request, &item.get().holds)?;
     keep_queue(asked, item, holds)
@@ -192,11 +192,11 @@ fn hold_both(
     let Some(member) = member else {
         let title = title_of(article)?;
         let answer = tell(asked, title, false, false, None)?;
-        return Ok(Effect::unwritten(Some(answer)));
+        return Ok(Effect::unwritten(asked.alloc, Some(answer)));
     };
     let Some(article) = article else {
         let answer = tell(asked, None, false, false, None)?;
-        return Ok(Effect::unwritten(Some(answer)));
+        return Ok(Effect::unwritten(asked.alloc, Some(answer)));
     };
     let item = article.into_item();
     hold_item(asked, member.patron.get().blocked, item)

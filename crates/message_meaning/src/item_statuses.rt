@@ -42,12 +42,12 @@ fn update_found(
 {
     let Some(article) = found else {
         let answer = answer(request, date, None)?;
-        return Ok(Effect::unwritten(Some(answer)));
+        return Ok(Effect::unwritten(alloc, Some(answer)));
     };
     let Some(given) = &request.properties else {
         let known = show(article.item.get())?;
         let answer = answer(request, date, known)?;
-        return Ok(Effect::unwritten(Some(answer)));
+        return Ok(Effect::unwritten(alloc, Some(answer)));
     };
     let mut item = Item::of(alloc, article.into_item())?;
     item.properties = given.clone()?;

@@ -46,12 +46,12 @@ fn follow_line<S: Source>(
     ensures keeps { Gains (S.has source.old) (S.has source.new) (rule_at plan.now line) }
 {
     let Some(reading) = plan.reading(line) else {
-        return Ok(Effect::unwritten(None));
+        return Ok(Effect::unwritten(alloc, None));
     };
     match reading {
         Reading::Asked(request) => follow_request(alloc, plan.policy(), line, request, source),
-        Reading::BadSum => Ok(Effect::unwritten(Some(Answer::Resend))),
-        Reading::Passed(_) | Reading::Unread(_) => Ok(Effect::unwritten(None)),
+        Reading::BadSum => Ok(Effect::unwritten(alloc, Some(Answer::Resend))),
+        Reading::Passed(_) | Reading::Unread(_) => Ok(Effect::unwritten(alloc, None)),
     }
 }
 

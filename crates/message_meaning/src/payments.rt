@@ -182,11 +182,16 @@ fn tell(
     }))
 }
 
-fn refuse(policy: &Policy, request: &FeePaid, date: Stamp) -> Result<Effect, AllocError>
+fn refuse(
+    alloc: Global,
+    policy: &Policy,
+    request: &FeePaid,
+    date: Stamp,
+) -> Result<Effect, AllocError>
     ensures { IfOk result (λ e. e ≡ unwritten (Some (payment_answer policy.now request.now date false))) }
 {
     let answer = tell(policy, request, date, false)?;
-    Ok(Effect::unwritten(Some(answer)))
+    Ok(Effect::unwritten(alloc, Some(answer)))
 }
 
 fn close(alloc: Global, closed: &Ids, member: Member) -> Result<Patron, AllocError>
@@ -268,13 +273,13 @@ fn pay_known<S: Source>(
     ensures keeps { Gains (S.has source.old) (S.has source.new) (fee_paid_rule_known policy.now request.now date member) }
 {
     let Some(member) = member else {
-        return Ok(refuse(policy, request, date)?);
+        return Ok(refuse(alloc, policy, request, date)?);
     };
     if is_other_currency(request.currency, policy.currency()) {
-        return Ok(refuse(policy, request, date)?);
+        return Ok(refuse(alloc, policy, request, date)?);
     }
     if request.amount.hundredths() == 0 {
-        return Ok(refuse(policy, request, date)?);
+        return Ok(refuse(alloc, policy, request, date)?);
     }
     pay_fees(alloc, policy, request, date, member, source)
 }

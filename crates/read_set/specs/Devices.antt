@@ -1,5 +1,4 @@
 -- Devices of proofs: how things are kept or counted. No promise is read here.
 pub mod Drafts
-pub mod FewRecords
 pub mod Found
 pub mod Positions

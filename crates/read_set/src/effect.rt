@@ -1,6 +1,6 @@
 //! What a line does.
 
-ghost use Rattle.std.specs.Prelude.{◌≡◌, ◌++◌, ◌<◌, ◌↔◌, ◌∷◌, [], map, IfOk, IsSome, OnOk, OnErr, length, option_to_list};
+ghost use Rattle.std.specs.Prelude.{◌≡◌, ◌∷◌, [], map, IfOk, OnOk, OnErr};
 ghost use Rattle.std.specs.BTreeMap.{insert_entry};
 ghost use Rattle.std.specs.List.Sorted.{IsStrictlySortedBy};
 ghost use Rattle.std.specs.Option.{option_copied};
@@ -9,7 +9,6 @@ ghost use Rattle.circ_records.specs.Records.{record_at};
 ghost use Rattle.read_set.specs.Devices.Drafts.{Rise, entries_in};
 ghost use Rattle.read_set.specs.Effects.{unwritten};
 
-use crate::few_records::FewRecords;
 use crate::sorted::{copied, found_in, map_of, put_in, put_over};
 use circ_records::{KeptKey, Key, Record};
 use sip_answer::Answer;
@@ -20,22 +19,24 @@ use std::marker::Model;
 /// Up to so many records are kept as a list, which costs less than a map.
 const FEW: usize = 8;
 
+/// Room for so many records is made first: most lines that write any write two.
+const USUAL: usize = 2;
+
 /// The records that a line writes so far. Of several under one key the newest counts.
 pub struct Draft {
-    alloc: Global,
     kept: Kept,
 }
 
 impl Drop for Draft {
     fn drop(self) {
-        let Draft { alloc: _, kept: _ } = self;
+        let Draft { kept: _ } = self;
     }
 }
 
 /// A few records are a list, rising by key, with kept keys. More are a map, so that each costs little however many are there
 /// before it.
 enum Kept {
-    Few(FewRecords),
+    Few(Vec<(KeptKey, Record)>),
     Many(BTreeMap<Key, Record>),
 }
 
@@ -66,8 +67,7 @@ impl Draft {
         ensures { result ≡ [] }
     {
         Draft {
-            alloc,
-            kept: Kept::Few(FewRecords::none()),
+            kept: Kept::Few(Vec::new(alloc)),
         }
     }
 
@@ -88,23 +88,27 @@ impl Draft {
     {
         self.make_room()?;
         match &mut self.kept {
-            Kept::Few(list) => put_in(self.alloc, list, key, written),
+            Kept::Few(list) => put_in(list, key, written),
             Kept::Many(map) => put_over(map, key, written),
         }
     }
 
-    /// Makes a map of the records where they are no longer few. It is made of copies, so that the list stands where memory runs
-    /// out on the way.
+    /// Makes room for the first records, and a map of the records where they are no longer few. It is made of copies, so that
+    /// the list stands where memory runs out on the way.
     fn make_room(&mut self) -> Result<(), AllocError>
         ensures { self.new ≡ self.old }
     {
-        let Kept::Few(list) = &self.kept else {
+        let Kept::Few(list) = &mut self.kept else {
             return Ok(());
         };
-        if list.as_slice().len() < FEW {
+        if list.is_empty() {
+            list.reserve_exact(USUAL)?;
+        }
+        if list.len() < FEW {
             return Ok(());
         }
-        let map = map_of(self.alloc, copied(self.alloc, list.as_slice())?)?;
+        let alloc = *list.allocator();
+        let map = map_of(alloc, copied(alloc, list.as_slice())?)?;
         self.kept = Kept::Many(map);
         Ok(())
     }
@@ -113,7 +117,7 @@ impl Draft {
     pub fn finish(self, alloc: Global) -> Result<Writes, AllocError>
         ensures { IfOk result (λ w. w ≡ self) }
     {
-        let Draft { alloc: _, kept } = self;
+        let Draft { kept } = self;
         kept.into_writes(alloc)
     }
 }
@@ -139,15 +143,13 @@ fn listed(alloc: Global, map: BTreeMap<Key, Record>) -> Result<Writes, AllocErro
     for (key, record) in map {
         entries.push((KeptKey::new(alloc, &key)?, record))?;
     }
-    Ok(Writes {
-        entries: FewRecords::of(entries),
-    })
+    Ok(Writes { entries })
 }
 
 /// The records that a line writes, each under its key, in the order of keys. The keys are kept ones: versions stay until the
 /// run ends.
 pub struct Writes {
-    entries: FewRecords,
+    entries: Vec<(KeptKey, Record)>,
 }
 
 impl Drop for Writes {
@@ -165,18 +167,18 @@ impl Model for Writes {
     ghost use Rattle.std.specs.List.Sorted.{IsStrictlySortedBy};
     ghost use Rattle.circ_records.specs.Keys.{key_cmp};
 
-    ghost view = { λ w. w.entries };
+    ghost view = { λ w. w.entries.items };
 
-    ghost invariant = { λ w. IsStrictlySortedBy key_cmp (map (λ e. e.0) w.entries) };
+    ghost invariant = { λ w. IsStrictlySortedBy key_cmp (map (λ e. e.0) w.entries.items) };
 }
 
 impl Writes {
     /// No records.
-    pub fn none() -> Writes
+    pub fn none(alloc: Global) -> Writes
         ensures { result ≡ [] }
     {
         Writes {
-            entries: FewRecords::none(),
+            entries: Vec::new(alloc),
         }
     }
 
@@ -184,10 +186,10 @@ impl Writes {
     pub fn one(alloc: Global, key: Key, written: Record) -> Result<Writes, AllocError>
         ensures { IfOk result (λ w. w ≡ (key, written) ∷ []) }
     {
+        let mut entries = Vec::with_capacity(alloc, 1)?;
         let kept = KeptKey::new(alloc, &key)?;
-        Ok(Writes {
-            entries: FewRecords::one((kept, written)),
-        })
+        entries.push((kept, written))?;
+        Ok(Writes { entries })
     }
 
     /// The records with their keys, rising.
@@ -205,12 +207,12 @@ impl Writes {
         self.entries.shrink_to_fit();
     }
 
-    /// Takes the last record with its key from those that are left.
-    pub fn pop(&mut self) -> Option<(KeptKey, Record)>
-        ensures taken { self.old ≡ self.new ++ option_to_list result }
-        ensures any { IsSome result ↔ (0 < length self.old) }
+    /// The records with their keys, rising, given away.
+    pub fn into_vec(self) -> Vec<(KeptKey, Record)>
+        ensures { result.items ≡ self }
     {
-        self.entries.pop()
+        let Writes { entries } = self;
+        entries
     }
 }
 
@@ -223,11 +225,11 @@ pub struct Effect {
 
 impl Effect {
     /// Nothing is written.
-    pub fn unwritten(answer: Option<Answer>) -> Effect
+    pub fn unwritten(alloc: Global, answer: Option<Answer>) -> Effect
         ensures { result ≡ unwritten answer }
     {
         Effect {
-            writes: Writes::none(),
+            writes: Writes::none(alloc),
             answer,
         }
     }

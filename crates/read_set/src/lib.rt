@@ -5,7 +5,6 @@
 #![tactic(auto)]
 
 mod effect;
-mod few_records;
 mod found;
 mod known;
 mod laws;

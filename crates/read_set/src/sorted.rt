@@ -7,7 +7,6 @@ ghost use Rattle.circ_records.specs.Keys.{key_cmp};
 ghost use Rattle.circ_records.specs.Records.{record_at};
 ghost use Rattle.read_set.specs.Devices.Drafts.{Rise};
 
-use crate::few_records::FewRecords;
 use circ_records::{KeptKey, Key, Record};
 use std::alloc::{AllocError, Global};
 use std::cmp::Ordering;
@@ -47,21 +46,20 @@ fn position_of(entries: &[(KeptKey, Record)], key: &Key) -> Result<usize, usize>
 }
 
 /// Puts a record under its key. Without memory nothing changes.
-pub(crate) fn put_in(
-    alloc: Global,
-    entries: &mut FewRecords,
+pub fn put_in(
+    entries: &mut Vec<(KeptKey, Record)>,
     key: Key,
     written: Record,
 ) -> Result<(), AllocError>
-    requires { Rise entries.old }
-    ensures ok { OnOk result (entries.new ≡ insert_entry key_cmp entries.old key written) }
-    ensures err { OnErr result (entries.new ≡ entries.old) }
-    ensures rising { Rise entries.new }
+    requires { Rise entries.old.items }
+    ensures ok { OnOk result (entries.new.items ≡ insert_entry key_cmp entries.old.items key written) }
+    ensures err { OnErr result (entries.new.items ≡ entries.old.items) }
+    ensures rising { Rise entries.new.items }
 {
-    let kept = KeptKey::new(alloc, &key)?;
+    let kept = KeptKey::new(*entries.allocator(), &key)?;
     match position_of(entries.as_slice(), &key) {
-        Ok(position) => entries.set(position, (kept, written)),
-        Err(position) => entries.insert(alloc, position, (kept, written))?,
+        Ok(position) => entries[position] = (kept, written),
+        Err(position) => entries.insert(position, (kept, written))?,
     }
     Ok(())
 }

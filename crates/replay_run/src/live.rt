@@ -41,10 +41,11 @@ impl Live {
     }
 
     /// Puts what a line writes over the records. Where memory runs out part of it may stand there: `replay` drops them all then.
-    pub fn put(&mut self, alloc: Global, writes: Writes) -> Result<(), AllocError>
+    pub fn put(&mut self, writes: Writes) -> Result<(), AllocError>
         ensures { OnOk result ((k : Key) → standing self.new k ≡ put writes (standing self.old) k) }
     {
-        let mut left = writes;
+        let mut left = writes.into_vec();
+        let alloc = *left.allocator();
         while let Some((kept, written)) = left.pop() {
             self.records.put(alloc, kept.key(), written)?;
         }

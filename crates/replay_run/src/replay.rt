@@ -69,7 +69,7 @@ fn take_line(
 {
     match perform(alloc, plan, line, live) {
         Ok(Effect { writes, answer }) => {
-            live.put(alloc, writes)?;
+            live.put(writes)?;
             Ok(answer)
         }
         Err(Stop::Unnoted(_)) => unreachable!(),

@@ -42,7 +42,7 @@ fn put_version<'t, J: PlanName, R: Wait + AllocGlobal>(
     requires { J.plan ≡ no_plan }
 {
     let reads = Notes::new(rt.alloc());
-    let writes = Writes::none();
+    let writes = Writes::none(rt.alloc());
     match table.put(rt, Version::new(line, attempt, reads, writes, None)) {
         Ok(place) => Ok(place),
         Err(_) => Err(AllocError),

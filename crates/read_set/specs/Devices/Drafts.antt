@@ -12,5 +12,5 @@ Rise entries = IsStrictlySortedBy key_cmp (map (λ e. e.0) entries)
 
 -- the records of a list or of a map
 abbrev pub entries_in : Kept → Entries
-entries_in (Few list) = list
+entries_in (Few list) = list.items
 entries_in (Many records) = records.entries

@@ -1,11 +1,13 @@
 //! Keys that are kept.
 
-ghost use Rattle.std.specs.Prelude.{◌≡◌, IfOk};
+ghost use Rattle.std.specs.Prelude.{◌≡◌, if◌then◌else◌, Some, None, IfOk};
 ghost use Rattle.std.specs.Cmp.Lexicographic.{slice_cmp};
 ghost use Rattle.std.specs.Ordering.{eq_by_cmp, nat_cmp};
 ghost use Rattle.sip_reader.specs.Devices.Numbers.{id_number};
+ghost use Rattle.sip_reader.specs.Texts.{is_id};
 ghost use Rattle.circ_records.specs.Devices.KeptKeys.{key_kept};
 ghost use Rattle.circ_records.specs.Keys.{key_cmp, kind, id_of};
+ghost use Rattle.circ_records.specs.declared.key.Key.TheVariants as keys;
 
 use crate::key::Key;
 use sip_reader::{Id, LongId, ShortId};
@@ -68,6 +70,36 @@ impl KeptKey {
         Ok(KeptKey { kept })
     }
 
+    /// The key of the patron that these bytes name, where they are an id.
+    pub(crate) fn of_patron(alloc: Global, bytes: &[u8]) -> Result<Option<KeptKey>, AllocError>
+        ensures { IfOk result (λ kept. kept ≡ (if is_id bytes.now then Some (keys.Patron bytes.now) else None)) }
+    {
+        if let Some(id) = ShortId::read(bytes) {
+            return Ok(Some(KeptKey {
+                kept: Kept::ShortPatron(id),
+            }));
+        }
+        match Id::new(bytes) {
+            Some(id) => Ok(Some(KeptKey::new(alloc, &Key::Patron(id))?)),
+            None => Ok(None),
+        }
+    }
+
+    /// The key of the item that these bytes name, where they are an id.
+    pub(crate) fn of_item(alloc: Global, bytes: &[u8]) -> Result<Option<KeptKey>, AllocError>
+        ensures { IfOk result (λ kept. kept ≡ (if is_id bytes.now then Some (keys.Item bytes.now) else None)) }
+    {
+        if let Some(id) = ShortId::read(bytes) {
+            return Ok(Some(KeptKey {
+                kept: Kept::ShortItem(id),
+            }));
+        }
+        match Id::new(bytes) {
+            Some(id) => Ok(Some(KeptKey::new(alloc, &Key::Item(id))?)),
+            None => Ok(None),
+        }
+    }
+
     /// The key.
     pub fn key(&self) -> Key
         ensures { result ≡ self.now }
@@ -92,11 +124,23 @@ impl KeptKey {
         }
     }
 
+    /// How it goes against another kept key, in the order of keys. Two short ids are compared as they are kept.
+    pub(crate) fn order_kept(&self, other: &KeptKey) -> Ordering
+        ensures { result ≡ key_cmp self.now other.now }
+    {
+        match (&self.kept, &other.kept) {
+            (Kept::ShortPatron(id), Kept::ShortPatron(others)) => id.order_short(others),
+            (Kept::ShortItem(id), Kept::ShortItem(others)) => id.order_short(others),
+            (Kept::ShortFee(id), Kept::ShortFee(others)) => id.order_short(others),
+            _ => self.order(&other.key()),
+        }
+    }
+
     /// The number of its id.
     pub(crate) fn number(&self) -> u64
         ensures { result ≡ id_number (id_of self.now) }
     {
-        self.kept.id().number()
+        self.kept.number()
     }
 
     /// Whether it is this key.
@@ -104,6 +148,18 @@ impl KeptKey {
         ensures { result ≡ eq_by_cmp key_cmp key.now self.now }
     {
         self.kept.kind() == key.kind() && self.kept.is(key.id())
+    }
+
+    /// Whether another kept key is this key. Two short ids are compared as they are kept.
+    pub fn is_same(&self, other: &KeptKey) -> bool
+        ensures { result ≡ eq_by_cmp key_cmp self.now other.now }
+    {
+        match (&self.kept, &other.kept) {
+            (Kept::ShortPatron(id), Kept::ShortPatron(others)) => id.is_same(others),
+            (Kept::ShortItem(id), Kept::ShortItem(others)) => id.is_same(others),
+            (Kept::ShortFee(id), Kept::ShortFee(others)) => id.is_same(others),
+            _ => other.is(&self.key()),
+        }
     }
 }
 
@@ -172,6 +228,15 @@ impl Kept {
         match self {
             Kept::ShortPatron(id) | Kept::ShortItem(id) | Kept::ShortFee(id) => id.id(),
             Kept::LongPatron(id) | Kept::LongItem(id) | Kept::LongFee(id) => id.id(),
+        }
+    }
+
+    fn number(&self) -> u64
+        ensures { result ≡ id_number (id_of (key_kept self.now)) }
+    {
+        match self {
+            Kept::ShortPatron(id) | Kept::ShortItem(id) | Kept::ShortFee(id) => id.number(),
+            Kept::LongPatron(id) | Kept::LongItem(id) | Kept::LongFee(id) => id.id().number(),
         }
     }
 

@@ -33,6 +33,7 @@ mod row_texts;
 mod rows;
 mod same;
 mod shared;
+mod sought;
 mod table_texts;
 mod tables;
 mod values;

@@ -61,12 +61,23 @@ fn place_of(listed: &[(KeptKey, Record)], key: &Key) -> Result<usize, usize>
 }
 
 /// Whether a key goes behind all others, by a look at the last.
-pub(crate) fn is_behind(listed: &[(KeptKey, Record)], key: &Key) -> bool
+fn is_behind(listed: &[(KeptKey, Record)], key: &Key) -> bool
     requires { AreRising listed.now }
     ensures { IsTrue result → position_from 0 key.now listed.now ≡ Err (length listed.now) }
 {
     match listed.last() {
         Some(last) => last.0.order(key).is_lt(),
+        None => true,
+    }
+}
+
+/// The same for a kept key.
+pub(crate) fn goes_behind(listed: &[(KeptKey, Record)], kept: &KeptKey) -> bool
+    requires { AreRising listed.now }
+    ensures { IsTrue result → position_from 0 kept.now listed.now ≡ Err (length listed.now) }
+{
+    match listed.last() {
+        Some(last) => last.0.order_kept(kept).is_lt(),
         None => true,
     }
 }

@@ -5,8 +5,8 @@ ghost use Rattle.circ_records.specs.Devices.Positions.{position_from};
 ghost use Rattle.circ_records.specs.Laws.{AreRising};
 
 use crate::kept_key::KeptKey;
-use crate::key::Key;
 use crate::record::Record;
+use crate::sought::Sought;
 use std::alloc::{AllocError, Global};
 
 /// So many slots a record: with fewer, more records would find theirs taken.
@@ -70,14 +70,14 @@ impl Places {
     }
 
     /// The position of a key in a list, where its slot has it.
-    pub(crate) fn position(&self, listed: &[(KeptKey, Record)], key: &Key) -> Option<usize>
+    pub(crate) fn position<S: Sought>(&self, listed: &[(KeptKey, Record)], key: &S) -> Option<usize>
         requires { AreRising listed.now }
-        ensures { IfSome result (λ position. position_from 0 key.now listed.now ≡ Ok position) }
+        ensures { IfSome result (λ position. position_from 0 (S.key key.now) listed.now ≡ Ok position) }
     {
         if self.slots.is_empty() {
             return None;
         }
-        let first = first_slot(key.number(), self.slots.len());
+        let first = first_slot(key.id_number(), self.slots.len());
         for slot in first..first.saturating_add(TRIES) {
             let position = *self.slots.get(slot)?;
             if stands_at(listed, position as usize, key) {
@@ -112,12 +112,12 @@ fn take_slot(slots: &mut Vec<u32>, number: u64, position: u32) {
 }
 
 /// Whether a key stands at a position.
-fn stands_at(listed: &[(KeptKey, Record)], position: usize, key: &Key) -> bool
+fn stands_at<S: Sought>(listed: &[(KeptKey, Record)], position: usize, key: &S) -> bool
     requires { AreRising listed.now }
-    ensures { IsTrue result → position_from 0 key.now listed.now ≡ Ok position }
+    ensures { IsTrue result → position_from 0 (S.key key.now) listed.now ≡ Ok position }
 {
     match listed.get(position) {
-        Some(entry) => entry.0.is(key),
+        Some(entry) => key.stands_in(&entry.0),
         None => false,
     }
 }

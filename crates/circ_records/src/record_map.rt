@@ -12,7 +12,7 @@ use crate::changes::{Change, apply};
 use crate::fault::BaseRule;
 use crate::kept_key::KeptKey;
 use crate::key::Key;
-use crate::listed::{found_likely, is_behind, position_in};
+use crate::listed::{found_likely, goes_behind, position_in};
 use crate::places::Places;
 use crate::record::Record;
 use std::alloc::{AllocError, Global};
@@ -119,22 +119,34 @@ impl RecordMap {
         Ok(before.is_some())
     }
 
-    /// Puts a record at a key that is mostly behind all others. Where it is so, it is looked for no further.
+    /// Puts a record at a key that mostly has one: there it is looked for as it is kept.
+    pub fn put_over(&mut self, alloc: Global, kept: KeptKey, told: Record) -> Result<(), AllocError>
+        ensures { OnOk result ((q : Key) → record_at self.new q ≡ cond (eq_by_cmp key_cmp kept q) (Some told) (record_at self.old q)) }
+    {
+        if let Some(position) = self.places.position(self.listed.as_slice(), &kept) {
+            self.listed[position].1 = told;
+            return Ok(());
+        }
+        self.put(alloc, kept.key(), told)?;
+        Ok(())
+    }
+
+    /// Puts a record at a key that is mostly behind all others, and says whether there was one. Where it is so, it is looked for no
+    /// further.
     pub fn put_rising(
         &mut self,
         alloc: Global,
         kept: KeptKey,
         told: Record,
-    ) -> Result<(), AllocError>
-        ensures { OnOk result ((q : Key) → record_at self.new q ≡ cond (eq_by_cmp key_cmp kept q) (Some told) (record_at self.old q)) }
+    ) -> Result<bool, AllocError>
+        ensures double { IfOk result (λ double. double ≡ is_some (record_at self.old kept)) }
+        ensures put { OnOk result ((q : Key) → record_at self.new q ≡ cond (eq_by_cmp key_cmp kept q) (Some told) (record_at self.old q)) }
     {
-        let key = kept.key();
-        if self.placed.is_empty() && is_behind(self.listed.as_slice(), &key) {
+        if self.placed.is_empty() && goes_behind(self.listed.as_slice(), &kept) {
             self.listed.push((kept, told))?;
-            return Ok(());
+            return Ok(false);
         }
-        self.put(alloc, key, told)?;
-        Ok(())
+        self.put(alloc, kept.key(), told)
     }
 
     /// Changes the record at a key, or tells the rule that the change breaks there. It is looked for once: a row is judged and

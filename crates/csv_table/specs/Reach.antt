@@ -12,7 +12,7 @@ by_reach Ended left = record { size = 0; rows = Some [] }
 by_reach (Refused e) left = record { size = 0; rows = None }
 
 abbrev pub unread_of : Inside → Unread
-unread_of r = by_reach r.reach (unread_by r.reader)
+unread_of r = by_reach r.reach (unread_by r.reader.value)
 
 abbrev pub IsWellSet : Inside → Type 0
-IsWellSet r = r.reach ≡ Within → IsReading r.reader
+IsWellSet r = r.reach ≡ Within → IsReading r.reader.value

@@ -4,6 +4,7 @@ ghost use Rattle.std.specs.Prelude.{◌≡◌, ◌<◌, ◌≤◌, ◌^◌, ◌�
 ghost use Rattle.csv.specs.Records.{fields_of};
 ghost use Rattle.csv_table.specs.Rows.{rows_under};
 ghost use Rattle.csv_table.specs.Text.{bytes_of};
+ghost use Rattle.csv_table.specs.Unread.{IsReading, unread_by};
 ghost use Rattle.csv_table.specs.declared.TableError.TheVariants as table;
 
 use crate::{TableError, has_fields};
@@ -13,7 +14,8 @@ use std::marker::Model;
 
 /// The rows under the header of a text, read one at a time. After an error it answers that error.
 pub struct RowReader<'a> {
-    reader: Reader<&'a [u8]>,
+    /// In memory of its own: it has tables and room of 17 KB in place, which would move with whoever has it.
+    reader: Box<Reader<&'a [u8]>>,
     reach: Reach,
 }
 
@@ -64,12 +66,24 @@ impl<'a> RowReader<'a> {
             .from_reader(alloc, text);
         let mut first = ByteRecord::new(alloc);
         if reader.read_byte_record(&mut first)? && has_fields(&first, header) {
-            Ok(RowReader {
-                reader,
-                reach: Reach::Within,
-            })
+            RowReader::boxed(alloc, reader)
         } else {
             Err(TableError::Table)
+        }
+    }
+
+    /// The rows that are left in a reader behind the header.
+    fn boxed(alloc: Global, reader: Reader<&'a [u8]>) -> Result<RowReader<'a>, TableError>
+        requires { IsReading reader }
+        ensures ok { IfOk result (λ rows. rows ≡ unread_by reader.entry) }
+        ensures err { IfErr result (λ e. e ≡ table.Memory) }
+    {
+        match Box::new(alloc, reader) {
+            Ok(reader) => Ok(RowReader {
+                reader,
+                reach: Reach::Within,
+            }),
+            Err(_) => Err(TableError::Memory),
         }
     }
 

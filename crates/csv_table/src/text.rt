@@ -14,7 +14,8 @@ const FIRST_ROOM: usize = 1 << 20;
 
 /// The text of a table, written row by row under its header. After a failure there is no text.
 pub struct TableText {
-    writer: Writer<Vec<u8>>,
+    /// In memory of its own: it has room for 8 KB in place, which would move with whoever has it.
+    writer: Box<Writer<Vec<u8>>>,
     width: usize,
     failed: bool,
 }
@@ -36,9 +37,9 @@ impl Model for TableText {
 
     ghost Value = { Option Written };
 
-    ghost view = { λ t. if t.failed then None else Some (record { width = t.width; text = (Spec.writer_under t.writer).items ++ Spec.writer_pending t.writer }) };
+    ghost view = { λ t. if t.failed then None else Some (record { width = t.width; text = (Spec.writer_under t.writer.value).items ++ Spec.writer_pending t.writer.value }) };
 
-    ghost invariant = { λ t. t.failed ≡ false → (Spec.writer_setup t.writer ≡ Spec.default_writer) × (Spec.fields_written t.writer ≡ 0) × (Spec.has_written t.writer ≡ false) × IfSome (Spec.first_length t.writer) (λ n. n ≡ t.width) };
+    ghost invariant = { λ t. t.failed ≡ false → (Spec.writer_setup t.writer.value ≡ Spec.default_writer) × (Spec.fields_written t.writer.value ≡ 0) × (Spec.has_written t.writer.value ≡ false) × IfSome (Spec.first_length t.writer.value) (λ n. n ≡ t.width) };
 }
 
 impl TableText {
@@ -47,7 +48,10 @@ impl TableText {
         ensures { IfOk result (λ t. t ≡ Some (written (bytes_of header.now) [])) }
     {
         let names = names_of(alloc, header)?;
-        let mut writer = WriterBuilder::new().from_writer(Vec::with_capacity(alloc, FIRST_ROOM)?);
+        let writer = WriterBuilder::new().from_writer(Vec::with_capacity(alloc, FIRST_ROOM)?);
+        let Ok(mut writer) = Box::new(alloc, writer) else {
+            return Err(AllocError);
+        };
         match writer.write_fields(&names) {
             Ok(()) => Ok(TableText {
                 writer,
@@ -80,6 +84,7 @@ impl TableText {
         if failed {
             return Err(AllocError);
         }
+        let writer = Box::into_inner(writer);
         writer.into_inner().map_err(|_| AllocError)
     }
 }

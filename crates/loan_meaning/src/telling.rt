@@ -31,16 +31,17 @@ fn tell_rental(rental: Amount) -> Option<Amount>
     }
 }
 
+/// The answer to what is asked for, by its kind. It is made in one piece, since moving it costs as much as making it.
 fn tell(
     asked: &Asked<'_>,
     known: Option<KnownItem>,
     due: Option<Day>,
     renewed: bool,
     rental: Amount,
-) -> Result<LoanAnswer, AllocError>
-    ensures { IfOk result (λ answer. answer ≡ loan_answer_of asked.now.policy.now asked.now.request asked.now.date known due renewed rental) }
+) -> Result<Answer, AllocError>
+    ensures { IfOk result (λ answer. answer ≡ by_kind asked.now.request.checkout (loan_answer_of asked.now.policy.now asked.now.request asked.now.date known due renewed rental)) }
 {
-    Ok(LoanAnswer {
+    let answer = LoanAnswer {
         date: asked.date,
         institution: asked.policy.kept_institution().clone()?,
         patron: KeptId::new(asked.alloc, &asked.request.patron)?,
@@ -51,16 +52,11 @@ fn tell(
         renewed,
         rental: tell_rental(rental),
         currency: asked.policy.currency(),
-    })
-}
-
-fn answer(checkout: bool, parts: LoanAnswer) -> Answer
-    ensures { result ≡ by_kind checkout parts }
-{
-    if checkout {
-        Answer::Checkout(parts)
+    };
+    if asked.request.checkout {
+        Ok(Answer::Checkout(answer))
     } else {
-        Answer::Renew(parts)
+        Ok(Answer::Renew(answer))
     }
 }
 
@@ -75,8 +71,7 @@ pub fn tell_made(
     ensures { IfOk result (λ answer. answer ≡ loan_answer asked.now.policy.now asked.now.request asked.now.date (Some article.now.item) (Some due) renewed charge) }
 {
     let known = show(article.item.get())?;
-    let parts = tell(asked, Some(known), Some(due), renewed, charge)?;
-    Ok(answer(asked.request.checkout, parts))
+    tell(asked, Some(known), Some(due), renewed, charge)
 }
 
 /// A refusal, which tells a rental where it is for one.
@@ -92,8 +87,7 @@ pub fn refuse_for(
         Some(article) => Some(show(article.item.get())?),
         None => None,
     };
-    let parts = tell(asked, known, None, false, rental)?;
-    let answer = answer(asked.request.checkout, parts);
+    let answer = tell(asked, known, None, false, rental)?;
     Ok(Effect::unwritten(asked.alloc, Some(answer)))
 }
 

@@ -59,6 +59,8 @@ pub fn put_in(
     let kept = KeptKey::new(*entries.allocator(), &key)?;
     match position_of(entries.as_slice(), &key) {
         Ok(position) => entries[position] = (kept, written),
+        // most come behind the others
+        Err(position) if position == entries.len() => entries.push((kept, written))?,
         Err(position) => entries.insert(position, (kept, written))?,
     }
     Ok(())

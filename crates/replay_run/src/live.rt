@@ -47,7 +47,7 @@ impl Live {
         let mut left = writes.into_vec();
         let alloc = *left.allocator();
         while let Some((kept, written)) = left.pop() {
-            self.records.put(alloc, kept.key(), written)?;
+            self.records.put_over(alloc, kept, written)?;
         }
         Ok(())
     }

@@ -1,6 +1,6 @@
 //! The replay by one thread: the lines in the order of the journal, each on the records that the lines before it left.
 
-ghost use Rattle.std.specs.Prelude.{◌≡◌, IfOk, OnOk, length, replicate};
+ghost use Rattle.std.specs.Prelude.{◌≡◌, ◌++◌, ◌∷◌, [], IfOk, OnOk, length, replicate};
 ghost use Rattle.circ_records.specs.declared.key.Key.{Key};
 ghost use Rattle.read_set.specs.Maps.{Map};
 ghost use Rattle.read_set.specs.Plans.{plan_over};
@@ -48,7 +48,7 @@ fn replay_over(alloc: Global, plan: &Plan, base: RecordMap) -> Result<ReplayEnd,
     let mut live = Live::new(base);
     let mut answers = Vec::with_capacity(alloc, count)?;
     for i in 0..count {
-        answers.push(take_line(alloc, plan, first + i as u64, &mut live)?)?;
+        take_line(alloc, plan, first + i as u64, &mut live, &mut answers)?;
     }
     Ok(ReplayEnd {
         records: live.into_records(alloc)?,
@@ -57,20 +57,23 @@ fn replay_over(alloc: Global, plan: &Plan, base: RecordMap) -> Result<ReplayEnd,
     })
 }
 
-/// Takes the line of a number on the records as they stand, and gives its answer, where it has one.
+/// Takes the line of a number on the records as they stand, and puts its answer, where it has one, behind the others. Where memory
+/// runs out nothing is said of them: the replay drops them all then.
 fn take_line(
     alloc: Global,
     plan: &Plan,
     line: u64,
     live: &mut Live,
-) -> Result<Option<Answer>, AllocError>
-    ensures answer { IfOk result (λ a. (M : Map) → ((k : Key) → standing live.old k ≡ M k) → a ≡ (one_at plan.now line M).1) }
+    answers: &mut Vec<Option<Answer>>,
+) -> Result<(), AllocError>
+    ensures answer { OnOk result ((M : Map) → ((k : Key) → standing live.old k ≡ M k) → answers.new.items ≡ answers.old.items ++ (one_at plan.now line M).1 ∷ []) }
     ensures records { OnOk result ((M : Map) → ((k : Key) → standing live.old k ≡ M k) → (k : Key) → standing live.new k ≡ (one_at plan.now line M).0 k) }
 {
     match perform(alloc, plan, line, live) {
         Ok(Effect { writes, answer }) => {
             live.put(writes)?;
-            Ok(answer)
+            answers.push(answer)?;
+            Ok(())
         }
         Err(Stop::Unnoted(_)) => unreachable!(),
         Err(Stop::Memory) => Err(AllocError),

@@ -10,4 +10,5 @@ pub mod OwnPatrons
 pub mod OwnRenewals
 pub mod OwnText
 pub mod OwnTexts
+pub mod WholeTexts
 pub mod Written

@@ -6,6 +6,7 @@ pub mod Clean
 pub mod Covers
 pub mod Digits
 pub mod FeeIds
+pub mod FewNumbers
 pub mod Numbers
 pub mod Pieces
 pub mod Real

@@ -1,7 +1,8 @@
 -- Real days, as a test and as a fact.
-use Rattle.std.proofs.Common.{◌≡◌, ℕ, Bool, true, false, cond, ◌&&◌, leb, pos, Some, None, refl, arith}
+use Rattle.std.proofs.Common.{◌≡◌, ◌≤◌, ℕ, Bool, true, false, cond, ◌&&◌, leb, pos, Some, None, refl, arith}
 use Rattle.std.proofs.lemmas.Bool.{and_parts, and_from, leb-true, le-leb}
 use Rattle.jiff_core.specs.Calendar.{days_in_month}
+use Rattle.jiff_core.proofs.CalendarLemmas.{days_in_month_bounds}
 use Rattle.jiff_core.proofs.SignedLemmas.{signed_arith}
 use Rattle.sip_reader.specs.Days.{is_real, day_number, day_at, IsReal, IsNumberOf}
 use Rattle.sip_reader.proofs.Numbers.{number_low, first_of}
@@ -24,6 +25,11 @@ is_real-true y m d h =
     (and_from (leb 1 m && leb m 12) (leb 1 d && leb d (days_in_month (pos y) m))
     (and_from (leb 1 m) (leb m 12) (le-leb 1 m h.1.0) (le-leb m 12 h.1.1))
     (and_from (leb 1 d) (leb d (days_in_month (pos y) m)) (le-leb 1 d h.2.0) (le-leb d (days_in_month (pos y) m) h.2.1)))
+
+-- each month has 28 days
+pub early_real : (y m d : ℕ) → 1900 ≤ y → y ≤ 9999 → 1 ≤ m → m ≤ 12 → 1 ≤ d → d ≤ 28 → is_real y m d ≡ true
+early_real y m d from to first last begin end =
+    is_real-true y m d ((from, to), (first, last), (begin, omega (arith, days_in_month_bounds (pos y) m)))
 
 number_is : (n y m d : ℕ) → IsNumberOf n y m d → day_number y m d ≡ n
 unfolding day_number

@@ -1,12 +1,12 @@
 //! Days by their number.
 
-ghost use Rattle.std.specs.Prelude.{◌≡◌, ◌↔◌, ◌≤◌, ℕ, Some, IsSome, IfSome};
+ghost use Rattle.std.specs.Prelude.{◌≡◌, ◌↔◌, ◌≤◌, ℕ, Some, IsSome, IfSome, IsTrue, true};
 ghost use Rattle.std.specs.Cmp.{partial_order_from_own_ties};
 ghost use Rattle.std.specs.Cmp.Rules.{comparing};
 ghost use Rattle.std.specs.Int.{IsInRange};
 ghost use Rattle.std.specs.Ordering.{nat_cmp, as_partial_cmp, eq_by_cmp};
 ghost use Rattle.std.proofs.Common.{rules};
-ghost use Rattle.sip_reader.specs.Days.{date_of, day_at, FIRST_DAY, IsReal, IsNumberOf, LAST_DAY, LAST_STAMP_DAY};
+ghost use Rattle.sip_reader.specs.Days.{date_of, day_at, is_real, FIRST_DAY, IsReal, IsNumberOf, LAST_DAY, LAST_STAMP_DAY};
 
 use jiff::civil::Date;
 use std::cmp::Ordering;
@@ -59,6 +59,13 @@ impl Day {
         }
     }
 
+    /// Whether the calendar has the day with these parts, in the years 1900 to 9999. Most are seen at once: each month has 28 days.
+    pub(crate) fn is_real(year: u32, month: u32, day: u32) -> bool
+        ensures { result ≡ is_real year month day }
+    {
+        is_early(year, month, day) || Day::spelt(year, month, day).is_some()
+    }
+
     /// The day with this number, where it lies in the years 1900 to 9999.
     pub fn numbered(number: u32) -> Option<Day>
         ensures real { IsSome result ↔ IsInRange FIRST_DAY LAST_DAY number }
@@ -86,6 +93,17 @@ impl Day {
     {
         parts_of(self.number())
     }
+}
+
+/// Whether these are the parts of one of the first 28 days of a month.
+#[tactic(auto, using(crate::proofs::Real::early_real))]
+fn is_early(year: u32, month: u32, day: u32) -> bool
+    ensures { IsTrue result → is_real year month day ≡ true }
+{
+    if day < 1 || day > 28 || month < 1 || month > 12 || year < 1900 || year > 9999 {
+        return false;
+    }
+    true
 }
 
 /// The number of the day with these parts, where the calendar has it, in the years 1900 to 9999.

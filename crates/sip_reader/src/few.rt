@@ -1,10 +1,12 @@
 //! Up to 14 bytes that take no memory of their own.
 
-ghost use Rattle.std.specs.Prelude.{◌≡◌, ◌≤◌, ◌+◌, ◌++◌, ◌-◌, if◌then◌else◌, nat_le, Some, None, length, replicate};
+ghost use Rattle.std.specs.Prelude.{◌≡◌, ◌≤◌, ◌+◌, ◌++◌, ◌-◌, if◌then◌else◌, nat_le, OnOk, Some, None, length, replicate};
 ghost use Rattle.std.specs.Cmp.Lexicographic.{slice_cmp};
 ghost use Rattle.std.specs.Ordering.{eq_by_cmp, nat_cmp};
+ghost use Rattle.sip_reader.specs.Devices.Numbers.{id_number};
 
-use crate::short::{Short, word_at};
+use crate::short::{Short, number_of, word_at};
+use std::alloc::AllocError;
 use std::cmp::Ordering;
 use std::marker::Model;
 
@@ -76,6 +78,15 @@ impl Few {
         &self.bytes[..self.len as usize]
     }
 
+    /// Puts them behind other bytes. All 14 are copied and the zeros cut off again, which takes no call.
+    pub fn put_behind(&self, out: &mut Vec<u8>) -> Result<(), AllocError>
+        ensures { OnOk result (out.new.items ≡ out.old.items ++ self.now) }
+    {
+        out.extend_from_slice(&self.bytes)?;
+        out.truncate(out.len() - (FEW_MAX - self.len as usize));
+        Ok(())
+    }
+
     /// How they go against others in the order of bytes. Others that are more differ among the first 14, or are longer.
     pub fn order(&self, other: &Short) -> Ordering
         ensures { result ≡ slice_cmp nat_cmp self.now other.now }
@@ -96,6 +107,14 @@ impl Few {
             Ordering::Equal => self.len.cmp(&other.len),
             Ordering::Greater => Ordering::Greater,
         }
+    }
+
+    /// Their number, which is that of the same bytes with room for more: no more than these are looked at for it.
+    #[tactic(auto, using(crate::proofs::FewNumbers::few_number))]
+    pub fn number(&self) -> u64
+        ensures { result ≡ id_number self.now }
+    {
+        number_of(&self.bytes, (self.len as usize).saturating_sub(8))
     }
 
     /// Whether they are these.

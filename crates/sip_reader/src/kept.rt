@@ -1,6 +1,6 @@
 //! Ids that are kept.
 
-ghost use Rattle.std.specs.Prelude.{◌≡◌, true, IfOk, if◌then◌else◌, Some, None};
+ghost use Rattle.std.specs.Prelude.{◌≡◌, ◌++◌, true, IfOk, OnOk, if◌then◌else◌, Some, None};
 ghost use Rattle.std.specs.Cmp.Lexicographic.{slice_cmp};
 ghost use Rattle.std.specs.Cmp.Rules.{comparing};
 ghost use Rattle.std.specs.Ordering.{nat_cmp, eq_by_cmp};
@@ -80,6 +80,20 @@ impl KeptId {
         ensures { result.now ≡ self.now }
     {
         self.text.as_bytes()
+    }
+
+    /// Puts its bytes behind others.
+    pub fn put_behind(&self, out: &mut Vec<u8>) -> Result<(), AllocError>
+        ensures { OnOk result (out.new.items ≡ out.old.items ++ self.now) }
+    {
+        self.text.put_behind(out)
+    }
+
+    /// Its bytes are an id, as its type promises. There is nothing to do: it is for whoever has to know it of bytes that were not looked at.
+    pub fn keeps_its_form(&self)
+        ensures { is_id self.now ≡ true }
+    {
+        let KeptId { text: _text } = self;
     }
 
     /// How its bytes go against those of an id, in the order of bytes.

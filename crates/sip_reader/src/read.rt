@@ -8,7 +8,7 @@ use crate::act::asked_act;
 use crate::checks::{is_bad_amount, is_bad_field, is_bad_flag, is_by_title, is_lacking};
 use crate::fields::Fields;
 use crate::kind::Command;
-use crate::sum::{is_right, is_summed, unsummed};
+use crate::sum::{is_right, unsummed};
 use crate::{Act, Kind, Passed, Reading, Request, STAMP_LEN, Stamp, Why};
 use std::alloc::{AllocError, Global};
 
@@ -41,10 +41,10 @@ fn read_trimmed(alloc: Global, message: &[u8]) -> Result<Reading, AllocError>
     if message.len() > MESSAGE_MAX {
         return Ok(Reading::Unread(Why::TooLong));
     }
-    if is_summed(message) && !is_right(message) {
+    let (body, sequence) = unsummed(message);
+    if sequence.is_some() && !is_right(message) {
         return Ok(Reading::BadSum);
     }
-    let (body, sequence) = unsummed(message);
     read_body(alloc, sequence, body)
 }
 

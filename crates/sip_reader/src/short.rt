@@ -161,7 +161,7 @@ fn order_of(a: &[u8; SHORT_MAX], b: &[u8; SHORT_MAX], words: usize) -> Ordering
 }
 
 /// The number of bytes, by the first eight of them and the eight from a place on.
-fn number_of(bytes: &[u8], last: usize) -> u64
+pub(crate) fn number_of(bytes: &[u8], last: usize) -> u64
     requires { last + 8 ≤ length bytes.now }
     ensures { result ≡ ends_number bytes.now last }
 {

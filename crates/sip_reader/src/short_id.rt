@@ -1,12 +1,13 @@
 //! Short ids.
 
-ghost use Rattle.std.specs.Prelude.{◌≡◌, if◌then◌else◌, nat_le, Some, None, length};
+ghost use Rattle.std.specs.Prelude.{◌≡◌, ◌&&◌, if◌then◌else◌, nat_le, Some, None, length};
 ghost use Rattle.std.specs.Cmp.Lexicographic.{slice_cmp};
 ghost use Rattle.std.specs.Ordering.{eq_by_cmp, nat_cmp};
+ghost use Rattle.sip_reader.specs.Devices.Numbers.{id_number};
 ghost use Rattle.sip_reader.specs.Texts.{is_id};
 
 use crate::few::Few;
-use crate::id::Id;
+use crate::id::{Id, is_valid};
 use std::cmp::Ordering;
 use std::marker::Model;
 
@@ -44,11 +45,30 @@ impl ShortId {
         Some(ShortId { few })
     }
 
+    /// The short id of these bytes, where they are one.
+    pub fn read(bytes: &[u8]) -> Option<ShortId>
+        ensures { result ≡ (if nat_le (length bytes.now) SHORT_ID_MAX && is_id bytes.now then Some bytes.now else None) }
+    {
+        if bytes.len() <= SHORT_ID_MAX && is_valid(bytes) {
+            let few = Few::of(bytes);
+            Some(ShortId { few })
+        } else {
+            None
+        }
+    }
+
     /// The id.
     pub fn id(&self) -> Id
         ensures { result ≡ self.now }
     {
         Id::of_short(self.few.short())
+    }
+
+    /// Its number, as `Id::number` tells it.
+    pub fn number(&self) -> u64
+        ensures { result ≡ id_number self.now }
+    {
+        self.few.number()
     }
 
     /// Its bytes.
@@ -70,6 +90,20 @@ impl ShortId {
         ensures { result ≡ eq_by_cmp (slice_cmp nat_cmp) other.now self.now }
     {
         self.few.is(other.as_valid())
+    }
+
+    /// How its bytes go against those of another short id, in the order of bytes.
+    pub fn order_short(&self, other: &ShortId) -> Ordering
+        ensures { result ≡ slice_cmp nat_cmp self.now other.now }
+    {
+        self.few.order_few(&other.few)
+    }
+
+    /// Whether another short id is this one.
+    pub fn is_same(&self, other: &ShortId) -> bool
+        ensures { result ≡ eq_by_cmp (slice_cmp nat_cmp) self.now other.now }
+    {
+        self.order_short(other).is_eq()
     }
 
     /// The same id.

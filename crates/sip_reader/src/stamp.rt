@@ -92,7 +92,7 @@ fn is_written_day(s: &[u8]) -> bool
     requires digits { has_digits s.now ≡ true }
     ensures { result ≡ has_day s.now }
 {
-    year(s) <= 9900 && Day::spelt(year(s), two(s, 4), two(s, 6)).is_some()
+    year(s) <= 9900 && Day::is_real(year(s), two(s, 4), two(s, 6))
 }
 
 fn is_time(s: &[u8]) -> bool

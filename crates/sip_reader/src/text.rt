@@ -1,6 +1,6 @@
 //! Texts of records and messages.
 
-ghost use Rattle.std.specs.Prelude.{◌≡◌, true, IfOk, IfSome, if◌then◌else◌, Some, None};
+ghost use Rattle.std.specs.Prelude.{◌≡◌, ◌++◌, true, IfOk, IfSome, OnOk, if◌then◌else◌, Some, None};
 ghost use Rattle.sip_reader.specs.Devices.Held.{bytes_held};
 ghost use Rattle.sip_reader.specs.Texts.{is_text};
 
@@ -102,6 +102,23 @@ impl Text {
         ensures { result.now ≡ self.now }
     {
         self.held.as_slice()
+    }
+
+    /// Puts its bytes behind others.
+    pub fn put_behind(&self, out: &mut Vec<u8>) -> Result<(), AllocError>
+        ensures { OnOk result (out.new.items ≡ out.old.items ++ self.now) }
+    {
+        match self.few() {
+            Some(few) => few.put_behind(out),
+            None => out.extend_from_slice(self.as_bytes()),
+        }
+    }
+
+    /// Its bytes are a text, as its type promises. There is nothing to do: it is for whoever has to know it of bytes that were not looked at.
+    pub fn keeps_its_form(&self)
+        ensures { is_text self.now ≡ true }
+    {
+        let Text { held: _held } = self;
     }
 
     /// Its bytes, where they stand in place.

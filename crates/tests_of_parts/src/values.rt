@@ -208,6 +208,7 @@ fn kept_keys(rt: HostRuntime) -> Result<(), Fail> {
             assert!(rt; kept.key() == *key && kept.clone()?.key() == *key);
             for (j, other) in keys.iter().enumerate() {
                 assert!(rt; kept.is(other) == (i == j) && kept.order(other) == i.cmp(&j));
+                assert!(rt; kept.is_same(&KeptKey::new(rt.alloc(), other)?) == (i == j));
             }
         }
         let other = Key::Item(Id::new(b"I00002").expect(&rt, "an id"));
@@ -235,9 +236,26 @@ fn order_of_kept_keys(rt: HostRuntime) -> Result<(), Fail> {
         let kept = KeptKey::new(rt.alloc(), &key)?;
         for (j, other) in rising.iter().enumerate() {
             let other = Key::Item(Id::new(other).expect(&rt, "an id"));
+            let kept_other = KeptKey::new(rt.alloc(), &other)?;
             assert!(rt; kept.order(&other) == i.cmp(&j), "{i} {j}");
             assert!(rt; kept.is(&other) == (i == j), "{i} {j}");
+            assert!(rt; kept.is_same(&kept_other) == (i == j), "{i} {j}");
         }
+    }
+    Ok(())
+}
+
+/// Behind other bytes an id has its own bytes and no more, be it short or not.
+#[test]
+fn ids_behind_other_bytes(rt: HostRuntime) -> Result<(), Fail> {
+    for bytes in [b"7".as_slice(), b"70000000123456", b"700000001234567"] {
+        let id = KeptId::read(rt.alloc(), bytes)?.expect(&rt, "an id");
+        let (mut out, mut wanted) = (Vec::new(rt.alloc()), Vec::new(rt.alloc()));
+        out.push(b'|')?;
+        wanted.push(b'|')?;
+        id.put_behind(&mut out)?;
+        wanted.extend_from_slice(bytes)?;
+        assert!(rt; out.as_slice() == wanted.as_slice());
     }
     Ok(())
 }

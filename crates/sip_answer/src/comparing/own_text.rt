@@ -1,7 +1,6 @@
 //! A recorded response that is the very text of the answer: nothing has to be looked for in it.
 //!
-//! That a text has no bar is promised by its type, but told to nobody out of its crate: so the texts before and behind the fields that
-//! are compared are looked through here.
+//! No bar stands in the texts before and behind the fields that are compared: their types promise that, so none of them is looked through.
 
 ghost use Rattle.std.specs.Prelude.{◌≡◌, ◌≤◌, [], ◌∷◌, true, IfSome};
 ghost use Rattle.std.specs.Char.{is_ascii_digit};
@@ -16,7 +15,7 @@ ghost use Rattle.sip_answer.specs.Laws.{IsDate, LoanParts, loan_texts, patron_te
 ghost use Rattle.sip_answer.specs.Texts.{answer_text};
 
 use crate::answer::{Answer, KnownItem, KnownPatron, LoanAnswer, PatronAnswer};
-use sip_reader::{Amount, Day, STAMP_LEN, Stamp, without_line_end};
+use sip_reader::{Amount, Day, KeptId, STAMP_LEN, Stamp, Text, without_line_end};
 
 /// Whether a recorded response is seen at once to agree with an answer: it is the answer's own text, but for CR and LF behind it. One that
 /// isn't may agree, too. A renewal of all items is never seen so, since all its ids would have to be looked through.
@@ -93,38 +92,51 @@ fn rental_is_in_range(rental: Option<Amount>)
 fn has_whole_names(answer: &PatronAnswer) -> bool
     ensures { result ≡ list_all is_whole (patron_texts answer.now) }
 {
-    is_whole(answer.institution.as_bytes())
-        && is_whole(answer.patron.as_bytes())
-        && is_whole(&answer.currency)
-        && has_whole_name(&answer.known)
+    id_is_whole(&answer.institution);
+    id_is_whole(&answer.patron);
+    name_is_whole(&answer.known);
+    is_whole(&answer.currency)
 }
 
-fn has_whole_name(known: &Option<KnownPatron>) -> bool
-    ensures { result ≡ list_all is_whole (option_map_or (λ p. p.name ∷ []) known.now []) }
+fn name_is_whole(known: &Option<KnownPatron>)
+    ensures { list_all is_whole (option_map_or (λ p. p.name ∷ []) known.now []) ≡ true }
 {
-    match known {
-        Some(patron) => is_whole(patron.name.as_bytes()),
-        None => true,
+    if let Some(patron) = known {
+        text_is_whole(&patron.name);
     }
 }
 
 fn has_whole_loan(answer: &LoanAnswer) -> bool
     ensures { result ≡ list_all is_whole (loan_texts answer.now) }
 {
-    is_whole(answer.institution.as_bytes())
-        && is_whole(answer.patron.as_bytes())
-        && is_whole(answer.item.as_bytes())
-        && is_whole(&answer.currency)
-        && has_whole_item(&answer.known)
+    id_is_whole(&answer.institution);
+    id_is_whole(&answer.patron);
+    id_is_whole(&answer.item);
+    item_is_whole(&answer.known);
+    is_whole(&answer.currency)
 }
 
-fn has_whole_item(known: &Option<KnownItem>) -> bool
-    ensures { result ≡ list_all is_whole (option_map_or (λ i. i.title ∷ i.properties ∷ []) known.now []) }
+fn item_is_whole(known: &Option<KnownItem>)
+    ensures { list_all is_whole (option_map_or (λ i. i.title ∷ i.properties ∷ []) known.now []) ≡ true }
 {
-    match known {
-        Some(item) => is_whole(item.title.as_bytes()) && is_whole(item.properties.as_bytes()),
-        None => true,
+    if let Some(item) = known {
+        text_is_whole(&item.title);
+        text_is_whole(&item.properties);
     }
+}
+
+#[tactic(auto, using(crate::proofs::WholeTexts::id_whole))]
+fn id_is_whole(id: &KeptId)
+    ensures { is_whole id.now ≡ true }
+{
+    id.keeps_its_form();
+}
+
+#[tactic(auto, using(crate::proofs::WholeTexts::text_whole))]
+fn text_is_whole(text: &Text)
+    ensures { is_whole text.now ≡ true }
+{
+    text.keeps_its_form();
 }
 
 /// Whether no bar stands among the bytes.

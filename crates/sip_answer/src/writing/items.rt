@@ -6,7 +6,7 @@ ghost use Rattle.circ_policy.specs.Medias.{media_code};
 ghost use Rattle.sip_answer.specs.Parts.{digit, field, filled, flag, given};
 ghost use Rattle.sip_answer.specs.Texts.{checkin_text, hold_text, item_status_text, position_text};
 
-use super::parts::{put_digit, put_field, put_filled, put_flag, put_number};
+use super::parts::{put_digit, put_field, put_filled, put_flag, put_id, put_number};
 use crate::answer::{
     CheckinAnswer, HoldAnswer, ItemStatusAnswer, QueuePosition, ReturnedItem, TitledItem,
 };
@@ -20,7 +20,7 @@ pub fn put_item_status(out: &mut Vec<u8>, answer: &ItemStatusAnswer) -> Result<(
     out.extend_from_slice(b"20")?;
     put_digit(out, answer.known.is_some())?;
     out.extend_from_slice(answer.date.as_bytes())?;
-    put_field(out, b"AB", answer.item.as_bytes())?;
+    put_id(out, b"AB", &answer.item)?;
     put_titled(out, &answer.known)
 }
 
@@ -44,8 +44,8 @@ pub fn put_checkin(out: &mut Vec<u8>, answer: &CheckinAnswer) -> Result<(), Allo
     ensures { OnOk result (out.new.items ≡ out.old.items ++ checkin_text answer.now) }
 {
     put_checkin_head(out, answer)?;
-    put_field(out, b"AO", answer.institution.as_bytes())?;
-    put_field(out, b"AB", answer.item.as_bytes())?;
+    put_id(out, b"AO", &answer.institution)?;
+    put_id(out, b"AB", &answer.item)?;
     put_returned(out, &answer.known, &answer.borrower)?;
     Ok(())
 }
@@ -97,7 +97,7 @@ fn put_borrower(out: &mut Vec<u8>, borrower: &Option<KeptId>) -> Result<(), Allo
     ensures { OnOk result (out.new.items ≡ out.old.items ++ given (codes "AA") borrower.now) }
 {
     match borrower {
-        Some(patron) => put_field(out, b"AA", patron.as_bytes()),
+        Some(patron) => put_id(out, b"AA", patron),
         None => Ok(()),
     }
 }
@@ -111,9 +111,9 @@ pub fn put_hold(out: &mut Vec<u8>, answer: &HoldAnswer) -> Result<(), AllocError
     put_flag(out, answer.available)?;
     out.extend_from_slice(answer.date.as_bytes())?;
     put_position(out, &answer.position)?;
-    put_field(out, b"AO", answer.institution.as_bytes())?;
-    put_field(out, b"AA", answer.patron.as_bytes())?;
-    put_field(out, b"AB", answer.item.as_bytes())?;
+    put_id(out, b"AO", &answer.institution)?;
+    put_id(out, b"AA", &answer.patron)?;
+    put_id(out, b"AB", &answer.item)?;
     put_title(out, &answer.title)
 }
 

@@ -8,7 +8,7 @@ ghost use Rattle.sip_answer.specs.Parts.{count, digit, each, field, filled, flag
 ghost use Rattle.sip_answer.specs.Texts.{loan_text, money, renew_all_text};
 
 use super::dates::{put_due, put_four};
-use super::parts::{COUNT_MAX, put_digit, put_field, put_filled, put_flag, put_money};
+use super::parts::{COUNT_MAX, put_digit, put_field, put_filled, put_flag, put_id, put_money};
 use crate::answer::{KnownItem, LoanAnswer, RenewAllAnswer};
 use sip_reader::{Amount, Id};
 use std::alloc::AllocError;
@@ -44,9 +44,9 @@ fn put_loan_names(out: &mut Vec<u8>, answer: &LoanAnswer) -> Result<(), AllocErr
         ++ field (codes "AB") answer.now.item
         ++ field (codes "AJ") (option_map_or (λ i. i.title) answer.now.known [])) }
 {
-    put_field(out, b"AO", answer.institution.as_bytes())?;
-    put_field(out, b"AA", answer.patron.as_bytes())?;
-    put_field(out, b"AB", answer.item.as_bytes())?;
+    put_id(out, b"AO", &answer.institution)?;
+    put_id(out, b"AA", &answer.patron)?;
+    put_id(out, b"AB", &answer.item)?;
     put_title(out, &answer.known)
 }
 
@@ -99,7 +99,7 @@ pub fn put_renew_all(out: &mut Vec<u8>, answer: &RenewAllAnswer) -> Result<(), A
     put_count(out, renewed.len())?;
     put_count(out, unrenewed.len())?;
     out.extend_from_slice(answer.date.as_bytes())?;
-    put_field(out, b"AO", answer.institution.as_bytes())?;
+    put_id(out, b"AO", &answer.institution)?;
     put_each(out, b"BM", renewed)?;
     put_each(out, b"BN", unrenewed)
 }

@@ -6,7 +6,7 @@ ghost use Rattle.sip_answer.specs.Texts.{money};
 ghost use Rattle.sip_answer.specs.Parts.{field, filled, digit, flag, hex_digit, hex_digits, with_sequence};
 
 use itoa::Buffer;
-use sip_reader::{push_amount, sum_of};
+use sip_reader::{KeptId, push_amount, sum_of};
 use std::alloc::AllocError;
 
 /// The greatest count that the four digits of a response tell (SIP 2.00, fixed-length fields).
@@ -19,6 +19,17 @@ pub fn put_field(out: &mut Vec<u8>, id: &[u8; 2], text: &[u8]) -> Result<(), All
 {
     out.extend_from_slice(id)?;
     out.extend_from_slice(text)?;
+    out.push(b'|')?;
+    Ok(())
+}
+
+/// A field of an id. Most ids are short, and are copied without a call.
+#[tactic(auto, unfolding(crate::specs::Parts::field))]
+pub fn put_id(out: &mut Vec<u8>, id: &[u8; 2], named: &KeptId) -> Result<(), AllocError>
+    ensures { OnOk result (out.new.items ≡ out.old.items ++ field id.now named.now) }
+{
+    out.extend_from_slice(id)?;
+    named.put_behind(out)?;
     out.push(b'|')?;
     Ok(())
 }

@@ -5,7 +5,7 @@ ghost use Rattle.std.specs.Option.{option_map_or};
 ghost use Rattle.sip_answer.specs.Parts.{field, flag};
 ghost use Rattle.sip_answer.specs.Texts.{fee_paid_text, owed_text, patron_text, status_text};
 
-use super::parts::{put_field, put_flag, put_money};
+use super::parts::{put_field, put_flag, put_id, put_money};
 use crate::answer::{FeePaidAnswer, KnownPatron, PatronAnswer, PatronStatus};
 use std::alloc::AllocError;
 
@@ -29,8 +29,8 @@ pub fn put_patron(out: &mut Vec<u8>, id: &[u8], answer: &PatronAnswer) -> Result
     put_status(out, answer.status)?;
     out.extend_from_slice(b"000")?;
     out.extend_from_slice(answer.date.as_bytes())?;
-    put_field(out, b"AO", answer.institution.as_bytes())?;
-    put_field(out, b"AA", answer.patron.as_bytes())?;
+    put_id(out, b"AO", &answer.institution)?;
+    put_id(out, b"AA", &answer.patron)?;
     put_name(out, &answer.known)?;
     put_field(out, b"BL", if answer.known.is_some() { b"Y" } else { b"N" })
 }
@@ -65,6 +65,6 @@ pub fn put_fee_paid(out: &mut Vec<u8>, answer: &FeePaidAnswer) -> Result<(), All
     out.extend_from_slice(b"38")?;
     put_flag(out, answer.accepted)?;
     out.extend_from_slice(answer.date.as_bytes())?;
-    put_field(out, b"AO", answer.institution.as_bytes())?;
-    put_field(out, b"AA", answer.patron.as_bytes())
+    put_id(out, b"AO", &answer.institution)?;
+    put_id(out, b"AA", &answer.patron)
 }

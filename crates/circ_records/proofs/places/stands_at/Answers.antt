@@ -6,8 +6,8 @@ use Rattle.circ_records.proofs.places.stands_at.Goals as goal
 
 -- the entry there has the key
 pub returns-in-Some : goal.returns-in-Some
-returns-in-Some c = λ is.
-    let es = c.args.listed.now in
-    let h = c.in-Some.ensures.lookup in
-    let there : slice_get es c.args.position ≡ Some c.in-Some.entry.now = slice_get_read es (length es) c.args.position c.in-Some.entry.now refl h.3.0 h.1 in
-    stands-at es c.args.key.now c.args.position c.in-Some.entry.now c.requires there (sym c.is.ensures ∙ is)
+returns-in-Some c = λ at is.
+    let es = at.args.listed.now in
+    let h = at.in-Some.ensures.lookup in
+    let there : slice_get es at.args.position ≡ Some at.in-Some.entry.now = slice_get_read es (length es) at.args.position at.in-Some.entry.now refl h.3.0 h.1 in
+    stands-at es (c.S.Sought.key at.args.key.now) at.args.position at.in-Some.entry.now at.requires there (sym at.stands_in.ensures ∙ is)

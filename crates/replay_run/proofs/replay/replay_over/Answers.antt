@@ -1,7 +1,7 @@
 use Rattle.std.proofs.Common.{◌≡◌, ◌∙◌, ◌+◌, ◌++◌, ◌∷◌, [], ap, sym, subst, length, arith}
 use Rattle.std.proofs.lemmas.Grind.{common_steps}
 use Rattle.read_set.specs.Plans.{Planned, plan_over}
-use Rattle.read_set.specs.Replay.{after}
+use Rattle.read_set.specs.Replay.{after, one_at}
 use Rattle.replay_run.proofs.Replayed.{Replayed, over-at, replayed-next}
 use Rattle.replay_run.specs.Live.{standing}
 use Rattle.replay_run.proofs.replay.replay_over.Goals as goal
@@ -14,9 +14,10 @@ loop-i-preserved c =
     let before = after whole c.loop-i.i in
     let line = ap (λ first. first + c.loop-i.i) c.first-first.ensures in
     let same = over-at plan c.args.base (c.first-first.result + c.loop-i.i) before in
-    subst (λ answers. Replayed whole (c.loop-i.i + 1) (standing c.take_line.new.live) answers) (sym c.in_ok-push.ensures.items)
-    (replayed-next whole c.loop-i.i _ (standing c.loop-i.live) (standing c.take_line.new.live) c.loop-i.answers.items c.in_ok-take_line.field-0 line so
-    (c.in_ok-take_line.ensures.answer before so.records ∙ ap (λ e. e.1) (sym same)) (λ k. c.in_ok-take_line.ensures.records before so.records k ∙ ap (λ e. e.0 k) (sym same)))
+    let answer = (one_at plan (c.first-first.result + c.loop-i.i) before).1 in
+    subst (λ answers. Replayed whole (c.loop-i.i + 1) (standing c.take_line.new.live) answers) (sym (c.in_ok-take_line.ensures.answer before so.records))
+    (replayed-next whole c.loop-i.i _ (standing c.loop-i.live) (standing c.take_line.new.live) c.loop-i.answers.items answer line so
+    (ap (λ e. e.1) (sym same)) (λ k. c.in_ok-take_line.ensures.records before so.records k ∙ ap (λ e. e.0 k) (sym same)))
 
 pub returns-clause-records : goal.returns-clause-records
 returns-clause-records c =

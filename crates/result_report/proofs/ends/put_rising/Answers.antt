@@ -11,7 +11,7 @@ returns-in_ok-put_rising-in-Some g c keys has =
     let found = c.in_ok-found-in-Some.found in
     let put : (q : Key) → record_at c.put_rising.new.self q ≡ cond (eq_by_cmp key_cmp c.args.key.now q) (Some found) (record_at c.args.records.now q) =
     subst (λ (k : Key). (q : Key) → record_at c.put_rising.new.self q ≡ cond (eq_by_cmp key_cmp k q) (Some found) (record_at c.args.records.now q))
-    c.in_ok-kept-in-Some.ensures.cases c.in_ok-put_rising-in-Some.ensures in
+    c.in_ok-kept-in-Some.ensures.cases c.in_ok-put_rising-in-Some.ensures.put in
     taken keys (g.E.End.left c.args.end.now) c.args.records.now c.put_rising.new.self c.args.key.now found
     (ap (λ r. Some r) c.in_ok-found-in-Some.ensures ∙ c.in-Some.ensures ∙ ap (g.E.End.left c.args.end.now) c.key.ensures) put has
 

@@ -3,5 +3,5 @@ use Rattle.sip_answer.proofs.writing.items.put_checkin.Goals as goal
 
 pub returns : goal.returns
 returns c =
-    rw (c.in_ok-put_returned.ensures, c.in_ok-put_field-2.ensures, c.in_ok-put_field.ensures, c.in_ok-put_checkin_head.ensures, c.as_bytes.ensures, c.as_bytes-2.ensures)
+    rw (c.in_ok-put_returned.ensures, c.in_ok-put_id-2.ensures, c.in_ok-put_id.ensures, c.in_ok-put_checkin_head.ensures)
     (simp append_assoc)

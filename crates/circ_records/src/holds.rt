@@ -84,10 +84,13 @@ impl Holds {
         Ok(())
     }
 
-    /// The same queue.
+    /// The same queue. Most are empty.
     pub fn copy(&self, alloc: Global) -> Result<Holds, AllocError>
         ensures { IfOk result (λ h. h ≡ self.now) }
     {
+        if self.is_empty() {
+            return Ok(Holds::new(alloc));
+        }
         let holds = copy_holds(alloc, self.holds.as_slice())?;
         Ok(Holds { holds })
     }

@@ -139,9 +139,19 @@ impl Held {
     fn longer(alloc: Global, ids: &[KeptId], last: KeptId) -> Result<Held, AllocError>
         ensures { IfOk result (λ held. ids_held held ≡ ids.now ++ last ∷ []) }
     {
+        match ids {
+            [] => Ok(Held::One(Shared::new(alloc, [last])?)),
+            [a] => Ok(Held::Two(Shared::new(alloc, [a.clone()?, last])?)),
+            _ => Held::of_three_or_more(alloc, ids, last),
+        }
+    }
+
+    /// The same, where it comes to three or more. It is by itself, since a call makes room for the longest list of its own first.
+    #[inline(never)]
+    fn of_three_or_more(alloc: Global, ids: &[KeptId], last: KeptId) -> Result<Held, AllocError>
+        ensures { IfOk result (λ held. ids_held held ≡ ids.now ++ last ∷ []) }
+    {
         Ok(match ids {
-            [] => Held::One(Shared::new(alloc, [last])?),
-            [a] => Held::Two(Shared::new(alloc, [a.clone()?, last])?),
             [a, b] => Held::Three(Shared::new(alloc, [a.clone()?, b.clone()?, last])?),
             [a, b, c] => Held::Four(Shared::new(
                 alloc,

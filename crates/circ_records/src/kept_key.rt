@@ -10,7 +10,7 @@ ghost use Rattle.circ_records.specs.Keys.{key_cmp, kind, id_of};
 ghost use Rattle.circ_records.specs.declared.key.Key.TheVariants as keys;
 
 use crate::key::Key;
-use sip_reader::{Id, LongId, ShortId};
+use sip_reader::{Id, KeptId, LongId, ShortId};
 use std::alloc::{AllocError, Global};
 use std::cmp::Ordering;
 use std::marker::Model;
@@ -63,10 +63,19 @@ impl KeptKey {
     pub fn new(alloc: Global, key: &Key) -> Result<KeptKey, AllocError>
         ensures { IfOk result (λ kept. kept ≡ key.now) }
     {
-        let kept = match ShortId::new(key.id()) {
-            Some(id) => Kept::short(key, id),
-            None => Kept::long(key, LongId::new(alloc, key.id())?),
-        };
+        if let Some(id) = ShortId::new(key.id()) {
+            let kept = Kept::short(key, id);
+            return Ok(KeptKey { kept });
+        }
+        KeptKey::of_long(alloc, key)
+    }
+
+    /// The same, in memory of its own.
+    #[inline(never)]
+    fn of_long(alloc: Global, key: &Key) -> Result<KeptKey, AllocError>
+        ensures { IfOk result (λ kept. kept ≡ key.now) }
+    {
+        let kept = Kept::long(key, LongId::new(alloc, key.id())?);
         Ok(KeptKey { kept })
     }
 
@@ -148,6 +157,28 @@ impl KeptKey {
         ensures { result ≡ eq_by_cmp key_cmp key.now self.now }
     {
         self.kept.kind() == key.kind() && self.kept.is(key.id())
+    }
+
+    /// Whether it is the key of a patron, whose id is kept.
+    pub(crate) fn is_patron(&self, id: &KeptId) -> bool
+        ensures { result ≡ eq_by_cmp key_cmp (keys.Patron id.now) self.now }
+    {
+        match &self.kept {
+            Kept::ShortPatron(own) => id.is_short(own),
+            Kept::LongPatron(own) => id.as_bytes().cmp(own.as_bytes()).is_eq(),
+            _ => false,
+        }
+    }
+
+    /// Whether it is the key of an item, whose id is kept.
+    pub(crate) fn is_item(&self, id: &KeptId) -> bool
+        ensures { result ≡ eq_by_cmp key_cmp (keys.Item id.now) self.now }
+    {
+        match &self.kept {
+            Kept::ShortItem(own) => id.is_short(own),
+            Kept::LongItem(own) => id.as_bytes().cmp(own.as_bytes()).is_eq(),
+            _ => false,
+        }
     }
 
     /// Whether another kept key is this key. Two short ids are compared as they are kept.

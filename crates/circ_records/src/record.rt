@@ -131,6 +131,13 @@ impl KeptLoan {
         &self.patron
     }
 
+    /// The day until which the patron has it.
+    pub fn due(&self) -> Day
+        ensures { result ≡ self.now.due }
+    {
+        self.due
+    }
+
     /// How often it was renewed.
     pub fn renewals(&self) -> u32
         ensures { result ≡ self.now.renewals }
@@ -296,14 +303,11 @@ impl Patron {
         })
     }
 
-    /// A patron on its own, to be changed: the very fields, where nobody else has the record, and else a copy.
+    /// A patron on its own, to be changed. The record from which it comes mostly has copies, so this is a copy of its fields.
     pub fn of(shared: Shared<Patron>) -> Result<Patron, AllocError>
         ensures { IfOk result (λ p. p ≡ shared) }
     {
-        match shared.into_sole() {
-            Ok(patron) => Ok(patron),
-            Err(shared) => shared.get().copy(),
-        }
+        shared.get().copy()
     }
 }
 
@@ -312,13 +316,20 @@ impl Item {
     pub fn copy(&self, alloc: Global) -> Result<Item, AllocError>
         ensures { IfOk result (λ i. i ≡ self.now) }
     {
+        self.with(self.kept_loan()?, self.holds.copy(alloc)?)
+    }
+
+    /// The same item with another loan, or none, and another queue.
+    pub fn with(&self, loan: Option<KeptLoan>, holds: Holds) -> Result<Item, AllocError>
+        ensures { IfOk result (λ i. i ≡ record self.now { loan = loan; holds = holds }) }
+    {
         Ok(Item {
             title: self.title.clone()?,
             media: self.media,
             location: self.location.clone()?,
             properties: self.properties.clone()?,
-            loan: self.kept_loan()?,
-            holds: self.holds.copy(alloc)?,
+            loan,
+            holds,
         })
     }
 
@@ -342,13 +353,10 @@ impl Item {
         }
     }
 
-    /// An item on its own, to be changed: the very fields, where nobody else has the record, and else a copy.
+    /// An item on its own, to be changed, in the same way.
     pub fn of(alloc: Global, shared: Shared<Item>) -> Result<Item, AllocError>
         ensures { IfOk result (λ i. i ≡ shared) }
     {
-        match shared.into_sole() {
-            Ok(item) => Ok(item),
-            Err(shared) => shared.get().copy(alloc),
-        }
+        shared.get().copy(alloc)
     }
 }

@@ -7,6 +7,7 @@ ghost use Rattle.circ_records.specs.Keys.{key_cmp};
 ghost use Rattle.circ_records.specs.Laws.{AreRising};
 ghost use Rattle.circ_records.specs.Records.{record_at};
 ghost use Rattle.circ_records.specs.declared.key.Key.{Key};
+ghost use Rattle.circ_records.specs.declared.key.Key.TheVariants as keys;
 
 use crate::changes::{Change, apply};
 use crate::fault::BaseRule;
@@ -15,6 +16,8 @@ use crate::key::Key;
 use crate::listed::{found_likely, goes_behind, position_in};
 use crate::places::Places;
 use crate::record::Record;
+use crate::sought::{ItemKey, PatronKey};
+use sip_reader::KeptId;
 use std::alloc::{AllocError, Global};
 use std::collections::BTreeMap;
 use std::marker::Model;
@@ -89,6 +92,32 @@ impl RecordMap {
         match found_likely(self.listed.as_slice(), &self.places, key) {
             Some(found) => Some(found),
             None => self.placed.get(key),
+        }
+    }
+
+    /// The record at the key of a patron, by its id as it is kept: where it likely stands, no key is made of it.
+    pub fn patron(&self, id: &KeptId) -> Option<&Record>
+        ensures { option_copied result ≡ record_at self.now (keys.Patron id.now) }
+    {
+        match self
+            .places
+            .position(self.listed.as_slice(), &PatronKey { id })
+        {
+            Some(position) => Some(&self.listed[position].1),
+            None => self.get(&Key::Patron(id.id())),
+        }
+    }
+
+    /// The record at the key of an item, in the same way.
+    pub fn item(&self, id: &KeptId) -> Option<&Record>
+        ensures { option_copied result ≡ record_at self.now (keys.Item id.now) }
+    {
+        match self
+            .places
+            .position(self.listed.as_slice(), &ItemKey { id })
+        {
+            Some(position) => Some(&self.listed[position].1),
+            None => self.get(&Key::Item(id.id())),
         }
     }
 

@@ -1,7 +1,7 @@
 //! Values that their copies have together with them.
 
 ghost use Rattle.std.specs.Borrow.{sem};
-ghost use Rattle.std.specs.Prelude.{◌≡◌, IfOk, IfSome, MatchResult};
+ghost use Rattle.std.specs.Prelude.{◌≡◌, IfOk, IfSome};
 ghost use Rattle.circ_records.specs.Devices.Sharing.{LendsSole};
 
 use std::alloc::{AllocError, Global};
@@ -62,16 +62,5 @@ impl<T: Drop> Shared<T> {
         ensures value { IfSome result (λ x. x.now ≡ self.old) }
     {
         Arc::get_mut(&mut self.held)
-    }
-
-    /// The value by itself, where no copy has it.
-    pub(crate) fn into_sole(self) -> Result<T, Shared<T>>
-        ensures { MatchResult result (λ value. value ≡ self) (λ shared. shared ≡ self) }
-    {
-        let Shared { held } = self;
-        match Arc::try_unwrap(held) {
-            Ok(value) => Ok(value),
-            Err(held) => Err(Shared { held }),
-        }
     }
 }

@@ -4,11 +4,13 @@ ghost use Rattle.std.specs.Prelude.{◌≡◌};
 ghost use Rattle.std.specs.Ordering.{eq_by_cmp};
 ghost use Rattle.circ_records.specs.Keys.{key_cmp};
 ghost use Rattle.circ_records.specs.declared.key.Key.{Key};
+ghost use Rattle.circ_records.specs.declared.key.Key.TheVariants as keys;
 
 use crate::kept_key::KeptKey;
 use crate::key::Key;
+use sip_reader::KeptId;
 
-/// A key, or one that is kept: each is compared as it is.
+/// A key, one that is kept, or one by an id that is kept: each is compared as it is.
 pub(crate) trait Sought {
     /// The key.
     ghost key: { Self → Key };
@@ -42,5 +44,41 @@ impl Sought for KeptKey {
 
     fn stands_in(&self, kept: &KeptKey) -> bool {
         self.is_same(kept)
+    }
+}
+
+/// The key of a patron, by its id as it is kept.
+#[derive(Clone, Copy)]
+pub(crate) struct PatronKey<'i> {
+    pub id: &'i KeptId,
+}
+
+impl Sought for PatronKey<'_> {
+    ghost key = { λ k. keys.Patron k.id.now };
+
+    fn id_number(&self) -> u64 {
+        self.id.number()
+    }
+
+    fn stands_in(&self, kept: &KeptKey) -> bool {
+        kept.is_patron(self.id)
+    }
+}
+
+/// The key of an item, by its id as it is kept.
+#[derive(Clone, Copy)]
+pub(crate) struct ItemKey<'i> {
+    pub id: &'i KeptId,
+}
+
+impl Sought for ItemKey<'_> {
+    ghost key = { λ k. keys.Item k.id.now };
+
+    fn id_number(&self) -> u64 {
+        self.id.number()
+    }
+
+    fn stands_in(&self, kept: &KeptKey) -> bool {
+        kept.is_item(self.id)
     }
 }

@@ -11,11 +11,11 @@ ghost use Rattle.read_set.specs.Stops.{Follows};
 
 use crate::asked::Line;
 use crate::asking::loan_in;
-use crate::fees::{Charge, list_fee, make_fee, nothing};
+use crate::fees::{Charge, draft_for, list_fee, make_fee, nothing};
 use crate::lists::{has_queue, without};
 use crate::lookup::{borrower_of, item_of};
 use circ_policy::{Media, Policy, late_fee};
-use circ_records::{FeeType, Item, Key, Loan, Patron, Record};
+use circ_records::{FeeType, Item, KeptLoan, Key, Patron, Record};
 use read_set::{Article, Draft, Effect, Member, Source, Stop};
 use sip_answer::{Answer, CheckinAnswer, ReturnedItem};
 use sip_reader::{Amount, Checkin, Day, Id, KeptId, Stamp};
@@ -72,13 +72,13 @@ fn back(request: &Checkin, date: Stamp) -> Day
     }
 }
 
-fn lateness_of(request: &Checkin, date: Stamp, loan: &Loan, media: &Media) -> Amount
+fn lateness_of(request: &Checkin, date: Stamp, loan: &KeptLoan, media: &Media) -> Amount
     ensures { result ≡ lateness request.now date loan.now media.now }
 {
     if request.cancel {
         nothing()
     } else {
-        late_fee(loan.due, back(request, date), media)
+        late_fee(loan.due(), back(request, date), media)
     }
 }
 
@@ -113,7 +113,7 @@ fn return_by(
         return Ok(());
     };
     let patron = return_from(line.alloc, line.number, item, fee, member)?;
-    writes.put(Key::Patron(borrower), Record::patron(line.alloc, patron)?)?;
+    writes.put(&Key::Patron(borrower), Record::patron(line.alloc, patron)?)?;
     let charge = Charge {
         patron: borrower,
         kind: FeeType::Overdue,
@@ -122,42 +122,41 @@ fn return_by(
     make_fee(line.alloc, line.number, 0, charge, writes)
 }
 
-fn unlent(alloc: Global, article: Article) -> Result<Item, AllocError>
-    ensures { IfOk result (λ i. i ≡ record article.item { loan = None }) }
+fn unlent(alloc: Global, article: &Article) -> Result<Item, AllocError>
+    ensures { IfOk result (λ i. i ≡ record article.now.item { loan = None }) }
 {
-    let mut item = Item::of(alloc, article.into_item())?;
-    item.loan = None;
-    Ok(item)
+    let item = article.item.get();
+    item.with(None, item.holds.copy(alloc)?)
 }
 
 fn write_return(
     line: &Line<'_>,
     item: &Id,
     fee: Amount,
-    article: Article,
+    article: &Article,
     member: Option<Member>,
-    loan: &Loan,
+    loan: &KeptLoan,
 ) -> Result<Draft, AllocError>
-    ensures { IfOk result (λ w. w ≡ returned_writes line.now.number item.now fee article member loan.now) }
+    ensures { IfOk result (λ w. w ≡ returned_writes line.now.number item.now fee article.now member loan.now) }
 {
-    let mut writes = Draft::new(line.alloc);
-    return_by(line, item, loan.patron, fee, member, &mut writes)?;
+    let mut writes = draft_for(line.alloc, fee)?;
+    return_by(line, item, loan.patron().id(), fee, member, &mut writes)?;
     let back = unlent(line.alloc, article)?;
-    writes.put(Key::Item(*item), Record::item(line.alloc, back)?)?;
+    writes.put(&Key::Item(*item), Record::item(line.alloc, back)?)?;
     Ok(writes)
 }
 
 fn end_loan(
     line: &Line<'_>,
     request: &Checkin,
-    article: Article,
-    loan: &Loan,
+    article: &Article,
+    loan: &KeptLoan,
     member: Option<Member>,
 ) -> Result<Effect, AllocError>
-    ensures { IfOk result (λ e. e ≡ returned line.now.policy.now line.now.number request.now line.now.date article member (Some loan.now)) }
+    ensures { IfOk result (λ e. e ≡ returned line.now.policy.now line.now.number request.now line.now.date article.now member (Some loan.now)) }
 {
-    let borrower = KeptId::new(line.alloc, &loan.patron)?;
-    let answer = tell(line, request, &article, Some(borrower))?;
+    let borrower = loan.patron().clone()?;
+    let answer = tell(line, request, article, Some(borrower))?;
     let fee = lateness_of(request, line.date, loan, &article.media);
     let writes = write_return(line, &request.item.id(), fee, article, member, loan)?;
     Ok(Effect {
@@ -169,16 +168,15 @@ fn end_loan(
 fn end_any(
     line: &Line<'_>,
     request: &Checkin,
-    article: Article,
-    loan: Option<Loan>,
+    article: &Article,
     member: Option<Member>,
 ) -> Result<Effect, AllocError>
-    ensures { IfOk result (λ e. e ≡ returned line.now.policy.now line.now.number request.now line.now.date article member loan) }
+    ensures { IfOk result (λ e. e ≡ returned line.now.policy.now line.now.number request.now line.now.date article.now member article.now.item.loan) }
 {
-    match loan {
-        Some(loan) => end_loan(line, request, article, &loan, member),
+    match loan_in(article) {
+        Some(loan) => end_loan(line, request, article, loan, member),
         None => {
-            let answer = tell(line, request, &article, None)?;
+            let answer = tell(line, request, article, None)?;
             Ok(Effect::unwritten(line.alloc, Some(answer)))
         }
     }
@@ -197,8 +195,7 @@ fn end(
         let answer = tell_unknown(line, request)?;
         return Ok(Effect::unwritten(line.alloc, Some(answer)));
     };
-    let loan = article.item.get().loan();
-    end_any(line, request, article, loan, member)
+    end_any(line, request, &article, member)
 }
 
 /// Whoever has the item, where both are known.

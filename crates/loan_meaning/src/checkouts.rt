@@ -16,7 +16,7 @@ ghost use Rattle.read_set.specs.Stops.{Follows};
 
 use crate::asked::{Asked, Line};
 use crate::asking::{ask_checkout, charge_of, due_of, has_lent_to, has_loan, loan_in, rental_in};
-use crate::fees::{Charge, list_fee, make_fee, test_owing};
+use crate::fees::{Charge, draft_for, list_fee, make_fee, test_owing};
 use crate::lists::{is_first_another, is_kept, without, without_hold};
 use crate::lookup::{item_of, patron_of};
 use crate::renewals::renew_one;
@@ -93,7 +93,7 @@ fn end_other_loan(
         return Ok(());
     };
     let patron = without_loan(alloc, item, other)?;
-    writes.put(Key::Patron(borrower.id()), Record::patron(alloc, patron)?)?;
+    writes.put(&Key::Patron(borrower.id()), Record::patron(alloc, patron)?)?;
     Ok(())
 }
 
@@ -124,15 +124,14 @@ fn end_other_loan_by(
 fn lent_item(alloc: Global, a: &LoanRequest, due: Day, article: Article) -> Result<Item, AllocError>
     ensures { IfOk result (λ i. i ≡ lent a.now due article.item) }
 {
-    let mut item = Item::of(alloc, article.into_item())?;
-    item.holds = without_hold(alloc, &item.holds, &a.patron)?;
+    let item = article.item.get();
+    let holds = without_hold(alloc, &item.holds, &a.patron)?;
     let loan = Loan {
         patron: a.patron,
         due,
         renewals: 0,
     };
-    item.loan = Some(KeptLoan::new(alloc, &loan)?);
-    Ok(item)
+    item.with(Some(KeptLoan::new(alloc, &loan)?), holds)
 }
 
 /// The item goes last in the patron's list, once. Without memory the list stays.
@@ -168,11 +167,11 @@ fn write_lending(
     let alloc = asked.alloc;
     let n = asked.number;
     let a = &asked.request;
-    let mut writes = Draft::new(alloc);
+    let mut writes = draft_for(alloc, charge)?;
     end_other_loan_by(alloc, &a.item, loan_in(&article), other, &mut writes)?;
     let item = lent_item(alloc, a, due, article)?;
-    writes.put(Key::Patron(a.patron), Record::patron(alloc, patron)?)?;
-    writes.put(Key::Item(a.item), Record::item(alloc, item)?)?;
+    writes.put(&Key::Patron(a.patron), Record::patron(alloc, patron)?)?;
+    writes.put(&Key::Item(a.item), Record::item(alloc, item)?)?;
     let rental = Charge {
         patron: a.patron,
         kind: FeeType::Rental,

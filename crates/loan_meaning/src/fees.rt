@@ -1,6 +1,6 @@
 //! What is owed, and what is charged.
 
-ghost use Rattle.std.specs.Prelude.{◌≡◌, nat_lt, OnOk, OnErr};
+ghost use Rattle.std.specs.Prelude.{◌≡◌, [], nat_lt, IfOk, OnOk, OnErr};
 ghost use Rattle.loan_meaning.specs.Owing.{owed_at, owed_from, owing_tests};
 ghost use Rattle.loan_meaning.specs.Devices.Sums.{IsKnown};
 ghost use Rattle.read_set.specs.Asks.{follow, Gains};
@@ -103,9 +103,16 @@ pub fn make_fee(
             amount: charge.amount,
             paid: nothing(),
         };
-        writes.put(Key::Fee(Id::of_fee(line, k)), Record::fee(alloc, fee)?)?;
+        writes.put(&Key::Fee(Id::of_fee(line, k)), Record::fee(alloc, fee)?)?;
     }
     Ok(())
+}
+
+/// No records yet, with room for a patron, an item and the fee of what is charged, where anything is.
+pub fn draft_for(alloc: Global, charge: Amount) -> Result<Draft, AllocError>
+    ensures { IfOk result (λ w. w ≡ []) }
+{
+    Draft::with_room(alloc, if has_amount(charge) { 3 } else { 2 })
 }
 
 /// An amount of 0.

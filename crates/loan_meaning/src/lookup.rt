@@ -22,7 +22,7 @@ pub fn patron_of<S: Source>(
     ensures gives { Follows result (follow (S.has source.new) (patron_at policy.now id.now)) }
     ensures keeps { Gains (S.has source.old) (S.has source.new) (patron_at policy.now id.now) }
 {
-    let found = source.read(alloc, &Key::Patron(id.id()))?;
+    let found = source.read_patron(alloc, id)?;
     Ok(known_patron(policy, found))
 }
 
@@ -37,7 +37,7 @@ pub fn item_of<S: Source>(
     ensures gives { Follows result (follow (S.has source.new) (item_at policy.now id.now)) }
     ensures keeps { Gains (S.has source.old) (S.has source.new) (item_at policy.now id.now) }
 {
-    let found = source.read(alloc, &Key::Item(id.id()))?;
+    let found = source.read_item(alloc, id)?;
     Ok(known_item(policy, found))
 }
 

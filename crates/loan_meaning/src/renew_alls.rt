@@ -58,7 +58,7 @@ fn write_turn(
 {
     let alloc = asked.alloc;
     let item = renew_loan_of(alloc, due, article)?;
-    writes.put(Key::Item(asked.request.item), Record::item(alloc, item)?)?;
+    writes.put(&Key::Item(asked.request.item), Record::item(alloc, item)?)?;
     let charge = Charge {
         patron: asked.request.patron,
         kind: FeeType::Rental,
@@ -255,7 +255,7 @@ fn finish(line: &Line<'_>, request: &RenewAll, done: Renewals) -> Result<Effect,
     } = done;
     if made > 0 {
         let patron = Record::Patron(member.into_patron());
-        writes.put(Key::Patron(request.patron.id()), patron)?;
+        writes.put(&Key::Patron(request.patron.id()), patron)?;
     }
     Ok(Effect {
         writes: writes.finish(line.alloc)?,

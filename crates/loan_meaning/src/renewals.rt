@@ -15,7 +15,7 @@ ghost use Rattle.read_set.specs.Stops.{Follows};
 
 use crate::asked::Asked;
 use crate::asking::{ask_renew, charge_of, due_of, loan_in, rental_in};
-use crate::fees::{Charge, has_amount, list_fee, make_fee, test_owing};
+use crate::fees::{Charge, draft_for, has_amount, list_fee, make_fee, test_owing};
 use crate::lists::{has_queue, is_kept};
 use crate::lookup::{item_of, patron_of};
 use crate::telling::{refuse, refuse_for, tell_made};
@@ -136,11 +136,11 @@ fn write_renewal(
     let alloc = asked.alloc;
     let a = &asked.request;
     let item = renew_loan_of(alloc, due, article)?;
-    let mut writes = Draft::new(alloc);
+    let mut writes = draft_for(alloc, charge)?;
     if has_amount(charge) {
-        writes.put(Key::Patron(a.patron), Record::patron(alloc, patron)?)?;
+        writes.put(&Key::Patron(a.patron), Record::patron(alloc, patron)?)?;
     }
-    writes.put(Key::Item(a.item), Record::item(alloc, item)?)?;
+    writes.put(&Key::Item(a.item), Record::item(alloc, item)?)?;
     let rental = Charge {
         patron: a.patron,
         kind: FeeType::Rental,

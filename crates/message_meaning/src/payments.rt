@@ -72,7 +72,7 @@ fn pay_part(
     }
     done.left -= part;
     done.writes
-        .put(Key::Fee(*id), Record::fee(alloc, with_paid(fee, part))?)?;
+        .put(&Key::Fee(*id), Record::fee(alloc, with_paid(fee, part))?)?;
     if part == rest(fee) {
         done.closed.push(alloc, *id)?;
     }
@@ -227,7 +227,7 @@ fn finish(
     if is_some_id(closed.as_slice()) {
         let patron = close(alloc, &closed, member)?;
         writes.put(
-            Key::Patron(request.patron.id()),
+            &Key::Patron(request.patron.id()),
             Record::patron(alloc, patron)?,
         )?;
     }

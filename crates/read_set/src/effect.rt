@@ -71,6 +71,15 @@ impl Draft {
         }
     }
 
+    /// No records, with room for so many.
+    pub fn with_room(alloc: Global, count: usize) -> Result<Draft, AllocError>
+        ensures { IfOk result (λ d. d ≡ []) }
+    {
+        Ok(Draft {
+            kept: Kept::Few(Vec::with_capacity(alloc, count)?),
+        })
+    }
+
     /// The record that was written last under a key.
     pub fn get(&self, key: &Key) -> Option<&Record>
         ensures { option_copied result ≡ record_at self.now key.now }
@@ -82,14 +91,14 @@ impl Draft {
     }
 
     /// One more record. Without memory nothing changes.
-    pub fn put(&mut self, key: Key, written: Record) -> Result<(), AllocError>
-        ensures ok { OnOk result (self.new ≡ insert_entry key_cmp self.old key written) }
+    pub fn put(&mut self, key: &Key, written: Record) -> Result<(), AllocError>
+        ensures ok { OnOk result (self.new ≡ insert_entry key_cmp self.old key.now written) }
         ensures err { OnErr result (self.new ≡ self.old) }
     {
         self.make_room()?;
         match &mut self.kept {
             Kept::Few(list) => put_in(list, key, written),
-            Kept::Many(map) => put_over(map, key, written),
+            Kept::Many(map) => put_over(map, *key, written),
         }
     }
 

@@ -48,16 +48,16 @@ fn position_of(entries: &[(KeptKey, Record)], key: &Key) -> Result<usize, usize>
 /// Puts a record under its key. Without memory nothing changes.
 pub fn put_in(
     entries: &mut Vec<(KeptKey, Record)>,
-    key: Key,
+    key: &Key,
     written: Record,
 ) -> Result<(), AllocError>
     requires { Rise entries.old.items }
-    ensures ok { OnOk result (entries.new.items ≡ insert_entry key_cmp entries.old.items key written) }
+    ensures ok { OnOk result (entries.new.items ≡ insert_entry key_cmp entries.old.items key.now written) }
     ensures err { OnErr result (entries.new.items ≡ entries.old.items) }
     ensures rising { Rise entries.new.items }
 {
-    let kept = KeptKey::new(*entries.allocator(), &key)?;
-    match position_of(entries.as_slice(), &key) {
+    let kept = KeptKey::new(*entries.allocator(), key)?;
+    match position_of(entries.as_slice(), key) {
         Ok(position) => entries[position] = (kept, written),
         // most come behind the others
         Err(position) if position == entries.len() => entries.push((kept, written))?,

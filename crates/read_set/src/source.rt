@@ -1,10 +1,12 @@
 ghost use Rattle.std.specs.Prelude.{Option};
 ghost use Rattle.circ_records.specs.declared.key.Key.{Key};
+ghost use Rattle.circ_records.specs.declared.key.Key.TheVariants as keys;
 ghost use Rattle.circ_records.specs.declared.record.Record.{Record};
 ghost use Rattle.read_set.specs.Asks.{follow, Ask, Give, Gains};
 ghost use Rattle.read_set.specs.Stops.{Follows};
 
 use circ_records::{Key, Record};
+use sip_reader::KeptId;
 use std::alloc::{AllocError, Global};
 
 /// Why the meaning of a line stopped before its end.
@@ -37,4 +39,20 @@ pub trait Source {
     fn read(&mut self, alloc: Global, key: &Key) -> Result<Option<Record>, Stop>
         ensures gives { Follows result (follow (has self.new) (Ask key.now Give)) }
         ensures keeps { Gains (has self.old) (has self.new) (Ask key.now Give) };
+
+    /// The same of a patron, by its id as it is kept. A source that finds it so makes no key of it.
+    fn read_patron(&mut self, alloc: Global, id: &KeptId) -> Result<Option<Record>, Stop>
+        ensures gives { Follows result (follow (has self.new) (Ask (keys.Patron id.now) Give)) }
+        ensures keeps { Gains (has self.old) (has self.new) (Ask (keys.Patron id.now) Give) }
+    {
+        self.read(alloc, &Key::Patron(id.id()))
+    }
+
+    /// The same of an item.
+    fn read_item(&mut self, alloc: Global, id: &KeptId) -> Result<Option<Record>, Stop>
+        ensures gives { Follows result (follow (has self.new) (Ask (keys.Item id.now) Give)) }
+        ensures keeps { Gains (has self.old) (has self.new) (Ask (keys.Item id.now) Give) }
+    {
+        self.read(alloc, &Key::Item(id.id()))
+    }
 }

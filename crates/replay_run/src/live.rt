@@ -4,6 +4,7 @@ ghost use Rattle.std.specs.Prelude.{◌≡◌};
 
 use circ_records::{Key, Record, RecordMap, Records};
 use read_set::{Source, Stop, Writes};
+use sip_reader::KeptId;
 use std::alloc::{AllocError, Global};
 
 /// The records as they stand: those before the first line, and over them what the lines so far wrote. They are one map,
@@ -70,6 +71,22 @@ impl Source for Live {
     #[tactic(auto, using(read_set::proofs::Gaining::gains_none))]
     fn read(&mut self, _alloc: Global, key: &Key) -> Result<Option<Record>, Stop> {
         match self.at(key) {
+            Some(found) => Ok(Some(found.copy()?)),
+            None => Ok(None),
+        }
+    }
+
+    #[tactic(auto, using(read_set::proofs::Gaining::gains_none))]
+    fn read_patron(&mut self, _alloc: Global, id: &KeptId) -> Result<Option<Record>, Stop> {
+        match self.records.patron(id) {
+            Some(found) => Ok(Some(found.copy()?)),
+            None => Ok(None),
+        }
+    }
+
+    #[tactic(auto, using(read_set::proofs::Gaining::gains_none))]
+    fn read_item(&mut self, _alloc: Global, id: &KeptId) -> Result<Option<Record>, Stop> {
+        match self.records.item(id) {
             Some(found) => Ok(Some(found.copy()?)),
             None => Ok(None),
         }

@@ -71,8 +71,9 @@ fn take_line(
 {
     match perform(alloc, plan, line, live) {
         Ok(Effect { writes, answer }) => {
-            live.put(writes)?;
+            // at once, so that it moves from where it was made
             answers.push(answer)?;
+            live.put(writes)?;
             Ok(())
         }
         Err(Stop::Unnoted(_)) => unreachable!(),

@@ -1,6 +1,6 @@
 //! The variable fields of a request.
 
-ghost use Rattle.std.specs.Prelude.{◌≡◌, ◌≤◌, ◌||◌, ◌==◌, drop, get_or, length};
+ghost use Rattle.std.specs.Prelude.{◌≡◌, ◌≤◌, ◌||◌, ◌==◌, [], drop, get_or, length};
 ghost use Rattle.std.specs.Option.{option_copied};
 ghost use Rattle.sip_reader.specs.Fields.{text_after, or_else, pieces, texts};
 ghost use Rattle.sip_reader.specs.Views.{texts_behind, with_piece};
@@ -34,13 +34,11 @@ pub struct Fields<'a> {
 }
 
 impl<'a> Fields<'a> {
-    /// The fields of what stands after the fixed part, which ends here.
-    pub fn read(message: &'a [u8], fixed: usize) -> Fields<'a>
-        requires long { BLOCK ≤ length message.now }
-        requires within { fixed ≤ length message.now }
-        ensures { texts_behind result ≡ texts (pieces (drop fixed message.now)) }
+    /// Those of no pieces.
+    pub fn none() -> Fields<'a>
+        ensures { texts_behind result ≡ texts [] }
     {
-        let mut fields = Fields {
+        Fields {
             patron: None,
             item: None,
             title: None,
@@ -51,16 +49,25 @@ impl<'a> Fields<'a> {
             fee: None,
             properties: None,
             short: false,
-        };
+        }
+    }
+
+    /// The pieces of what stands after the fixed part, which ends here, are noted in their place: what has the fields is large, and moves
+    /// no more.
+    pub fn note_behind(&mut self, message: &'a [u8], fixed: usize)
+        requires long { BLOCK ≤ length message.now }
+        requires within { fixed ≤ length message.now }
+        requires none { texts_behind self.old ≡ texts [] }
+        ensures { texts_behind self.new ≡ texts (pieces (drop fixed message.now)) }
+    {
         let mut at = fixed;
         let mut end = bar_from(message, at);
         while end < message.len() {
-            fields.note(&message[at..end]);
+            self.note(&message[at..end]);
             at = end + 1;
             end = bar_from(message, at);
         }
-        fields.note(&message[at..]);
-        fields
+        self.note(&message[at..]);
     }
 
     /// One piece more. Its first two bytes tell which of the fields it may be.

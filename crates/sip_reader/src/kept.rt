@@ -5,9 +5,11 @@ ghost use Rattle.std.specs.Cmp.Lexicographic.{slice_cmp};
 ghost use Rattle.std.specs.Cmp.Rules.{comparing};
 ghost use Rattle.std.specs.Ordering.{nat_cmp, eq_by_cmp};
 ghost use Rattle.std.proofs.Common.{rules};
+ghost use Rattle.sip_reader.specs.Devices.Numbers.{id_number};
 ghost use Rattle.sip_reader.specs.Texts.{is_id};
 
 use crate::id::{Id, is_valid};
+use crate::short_id::ShortId;
 use crate::text::Text;
 use std::alloc::{AllocError, Global};
 use std::cmp::Ordering;
@@ -94,6 +96,26 @@ impl KeptId {
         ensures { is_id self.now ≡ true }
     {
         let KeptId { text: _text } = self;
+    }
+
+    /// Its number, as `Id::number` tells it.
+    pub fn number(&self) -> u64
+        ensures { result ≡ id_number self.now }
+    {
+        match self.text.few() {
+            Some(few) => few.number(),
+            None => self.id().number(),
+        }
+    }
+
+    /// Whether a short id is this one.
+    pub fn is_short(&self, other: &ShortId) -> bool
+        ensures { result ≡ eq_by_cmp (slice_cmp nat_cmp) self.now other.now }
+    {
+        match self.text.few() {
+            Some(few) => other.is_of(few),
+            None => self.as_bytes().cmp(other.as_bytes()).is_eq(),
+        }
     }
 
     /// How its bytes go against those of an id, in the order of bytes.

@@ -84,7 +84,8 @@ fn read_kind(
         return Ok(Reading::Unread(Why::BadFlag));
     }
     let rest = &message[fixed..];
-    let fields = Fields::read(message, fixed);
+    let mut fields = Fields::none();
+    fields.note_behind(message, fixed);
     if is_bad_field(&layout, rest, &fields) {
         return Ok(Reading::Unread(Why::BadField));
     }

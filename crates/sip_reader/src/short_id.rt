@@ -106,6 +106,13 @@ impl ShortId {
         self.order_short(other).is_eq()
     }
 
+    /// Whether its bytes are these.
+    pub(crate) fn is_of(&self, few: &Few) -> bool
+        ensures { result ≡ eq_by_cmp (slice_cmp nat_cmp) few.now self.now }
+    {
+        few.order_few(&self.few).is_eq()
+    }
+
     /// The same id.
     pub fn copy(&self) -> ShortId
         ensures { result ≡ self.now }

@@ -77,12 +77,11 @@ impl Text {
         requires { is_text bytes.now ≡ true }
         ensures { IfOk result (λ t. t ≡ bytes.now) }
     {
-        match Few::new(bytes) {
-            Some(few) => Ok(Text {
-                held: Held::Few(few),
-            }),
-            None => Text::new(alloc, bytes.as_bytes()),
+        if let Some(few) = Few::new(bytes) {
+            let held = Held::Few(few);
+            return Ok(Text { held });
         }
+        Text::new(alloc, bytes.as_bytes())
     }
 
     /// The text that these bytes are.
@@ -151,6 +150,14 @@ impl Held {
         if bytes.len() <= FEW_MAX {
             return Ok(Held::Few(Few::of(bytes)));
         }
+        Held::of_more(alloc, bytes)
+    }
+
+    /// Bytes that take memory.
+    #[inline(never)]
+    fn of_more(alloc: Global, bytes: &[u8]) -> Result<Held, AllocError>
+        ensures { IfOk result (λ held. bytes_held held ≡ bytes.now) }
+    {
         if let Ok(block) = ArrayVec::try_from(bytes) {
             return Held::block(alloc, block);
         }
@@ -178,7 +185,19 @@ impl Held {
         }
     }
 
+    /// The same bytes. Most are in place, and are copied in this path alone, which lets the compiler copy them in two words.
     fn copy(&self) -> Result<Held, AllocError>
+        ensures { IfOk result (λ held. bytes_held held ≡ bytes_held self.now) }
+    {
+        if let Held::Few(few) = self {
+            return Ok(Held::Few(*few));
+        }
+        self.copy_any()
+    }
+
+    /// The same, wherever they stand.
+    #[inline(never)]
+    fn copy_any(&self) -> Result<Held, AllocError>
         ensures { IfOk result (λ held. bytes_held held ≡ bytes_held self.now) }
     {
         match self {

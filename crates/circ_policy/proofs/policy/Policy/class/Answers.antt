@@ -1,4 +1,4 @@
-use Rattle.std.proofs.Common.{rules, ◌≡◌, List, ℕ, nat_cmp, sym, ◌∙◌, ap, subst}
+use Rattle.std.proofs.Common.{rules, List, ℕ, nat_cmp, sym, ◌∙◌, ap, subst}
 use Rattle.std.proofs.lemmas.Fn.{always_returns_same}
 use Rattle.std.specs.BTreeMap.{is_at}
 use Rattle.std.specs.Cmp.Lexicographic.{slice_cmp}

@@ -1,0 +1,25 @@
+use Rattle.std.proofs.Common.{◌≡◌, ◌∙◌, Ok, Some, arith, get_or, length, ap, sym}
+use Rattle.circ_records.specs.Devices.Positions.{position_from}
+use Rattle.circ_records.specs.declared.key.Key.{Key}
+use Rattle.circ_records.specs.declared.key.Key.TheVariants as keys
+use Rattle.circ_records.specs.declared.record.Record.{Record}
+use Rattle.circ_records.proofs.Positions.{held, in-first, rises-first}
+use Rattle.circ_records.proofs.record_map.RecordMap.item.Goals as goal
+
+pub position-requires : goal.position-requires
+position-requires c = rw c.as_slice.ensures.value (rises-first c.self.inside.listed.items c.self.inside.placed.entries c.self.invariant)
+
+pub index-requires : goal.index-requires
+index-requires c =
+    let k = keys.Item c.args.id.now in
+    let at : position_from 0 k c.self.inside.listed.items ≡ Ok c.in-Some.position = ap (position_from 0 k) (sym c.as_slice.ensures.value) ∙ c.in-Some.ensures in
+    let within = (held c.self.inside.listed.items k c.in-Some.position at).0 in
+    omega (arith, within, ap length c.as_slice.ensures.value, c.as_slice.ensures.len)
+
+pub returns-in-Some : goal.returns-in-Some
+returns-in-Some c =
+    let es = c.self.inside.listed.items in
+    let k = keys.Item c.args.id.now in
+    let at : position_from 0 k es ≡ Ok c.in-Some.position = ap (position_from 0 k) (sym c.as_slice.ensures.value) ∙ c.in-Some.ensures in
+    let stands = held es k c.in-Some.position at in
+    rw (← c.self.view_is) (ap (λ (e : Key × Record). Some e.1) c.index.ensures ∙ sym (in-first es c.self.inside.placed.entries k (get_or es c.in-Some.position c.index.result.now).1 (stands.2 c.index.result.now)))

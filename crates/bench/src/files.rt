@@ -3,12 +3,13 @@
 use crate::units::{microseconds, peak_kilobytes};
 use anyhow::{Result, bail};
 use circ_records::Tables;
+use csv_table::read_bytes;
 use replay_run::{Inputs, Output, one_thread};
-use std::fs;
 use std::io::{ErrorKind, Print};
 use std::mem::forget;
 use std::rt::Files;
 use std::time::{Clock, Instant};
+use std::{fs, io};
 
 /// Reads a policy, a folder of tables and a journal, replays the journal by one thread, and writes what comes out to a
 /// folder. Prints what a line cost, by parts. Nothing that the end of the process gives back is torn down before.
@@ -26,9 +27,9 @@ pub(crate) fn measure<R: Clock + Print + Files + AllocGlobal>(
     };
     let start = Instant::now(rt)?;
     let inputs = Inputs {
-        policy: fs::read(rt, policy.as_str())?,
+        policy: bytes_at(rt, policy.as_str())?,
         tables: read_tables(rt, base.as_str())?,
-        journal: fs::read(rt, journal.as_str())?,
+        journal: bytes_at(rt, journal.as_str())?,
     };
     let reading = microseconds(rt, start)?;
     let start = Instant::now(rt)?;
@@ -64,11 +65,16 @@ fn read_tables<R: Files + AllocGlobal>(rt: &R, folder: &str) -> Result<Tables> {
 /// The bytes of a file of a folder, none where there is no such file.
 fn read_in<R: Files + AllocGlobal>(rt: &R, folder: &str, name: &str) -> Result<Vec<u8>> {
     let path = format!(in rt.alloc(); "{folder}/{name}")?;
-    match fs::read(rt, path.as_str()) {
+    match bytes_at(rt, path.as_str()) {
         Ok(bytes) => Ok(bytes),
         Err(error) if error.kind() == ErrorKind::NotFound => Ok(Vec::new(rt.alloc())),
         Err(error) => Err(error.into()),
     }
+}
+
+/// Read as the program reads its files.
+fn bytes_at<R: Files + AllocGlobal>(rt: &R, path: &str) -> io::Result<Vec<u8>> {
+    read_bytes(rt.alloc(), &mut fs::open(rt, path)?)
 }
 
 /// Writes the tables and the result tables.

@@ -107,10 +107,18 @@ impl Policy {
         ensures { result ≡ class_of self.now name.now }
     {
         if self.classes.len() > FEW {
-            self.class(&name.id())
+            self.class_of_many(name)
         } else {
             self.class_of_few(name)
         }
+    }
+
+    /// The same, looked for by halves. It stands by itself, so that few classes need no room for a whole id.
+    #[inline(never)]
+    fn class_of_many(&self, name: &KeptId) -> Option<Class>
+        ensures { result ≡ class_of self.now name.now }
+    {
+        self.class(&name.id())
     }
 
     /// The same, looked for from the first class on.

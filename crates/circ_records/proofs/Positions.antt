@@ -1,12 +1,12 @@
 -- Entries that rise by key: where a key stands or goes, and what is left of the order with one more.
-use Rattle.std.proofs.Common.{◌≡◌, ◌∙◌, ◌++◌, ◌+◌, ◌<◌, ◌≤◌, ℕ, zero, suc, Bool, true, false, cond, List, [], ◌∷◌, length, map, take, drop, get_or, Option, Some, None, Result, Ok, Err, HoldsAt, arith, refl, sym, ap, subst, append-nil, take_all, drop_of_length-le}
+use Rattle.std.proofs.Common.{◌≡◌, ◌∙◌, ◌++◌, ◌+◌, ◌<◌, ◌≤◌, ℕ, zero, suc, Bool, true, false, cond, List, [], ◌∷◌, length, map, take, drop, get_or, Option, Some, None, Result, Ok, Err, HoldsAt, arith, refl, sym, ap, subst, append-nil, append_assoc, rules, take_all, drop_of_length-le}
 use Rattle.std.specs.BTreeMap.{insert_entry}
 use Rattle.std.specs.Cmp.{eq_by_cmp_equiv}
 use Rattle.std.specs.List.{AllByRecursion, AllWithin, insert, slice_set}
 use Rattle.std.specs.List.Sorted.{IsBinarySearchResult, IsNonDecreasingBy, IsSearchInRange, IsStrictlySortedBy}
 use Rattle.std.specs.Option.{option_or, unwrap_or}
-use Rattle.std.specs.Prelude.{slice_get}
-use Rattle.std.specs.Ordering.{eq_by_cmp, is_eq, match_ordering, ordering_index, ordering_reverse}
+use Rattle.std.specs.Prelude.{IsSome, slice_get}
+use Rattle.std.specs.Ordering.{eq_by_cmp, is_eq, is_gt, is_lt, match_ordering, ordering_index, ordering_reverse}
 use Rattle.std.specs.declared.cmp.Ordering.{Ordering}
 use Rattle.std.specs.declared.cmp.Ordering.TheVariants.{Less, Equal, Greater}
 use Rattle.circ_records.specs.Devices.Behind.{IsBehind}
@@ -417,11 +417,10 @@ put-last es fs gs k r s at none is =
     has-put (es ++ fs) (gs ++ fs) k r s
     (ap (λ (l : Entries). gs ++ l) none ∙ append-nil gs ∙ is ∙ ap (λ (l : Entries). es ++ insert_entry key_cmp l k r) (sym none) ∙ sym all ∙ sym p.1)
 
--- in the second, into which went what stands in the first from its position on
-pub put-map : (es fs ts ns : Entries) (k : Key) (r : Record) (position : ℕ) → AreRising (es ++ fs) → position_from 0 k es ≡ Err position
-    → ts ≡ take position es → ns ≡ insert_entry key_cmp (drop position es ++ fs) k r → HasPut (es ++ fs) (ts ++ ns) k r
-put-map es fs ts ns k r position s at first second =
-    has-put (es ++ fs) (ts ++ ns) k r s (ap (λ (l : Entries). l ++ ns) first ∙ ap (λ (l : Entries). take position es ++ l) second ∙ sym (past es fs k r position at).1)
+-- behind what stands in the first before its position, among the others
+pub put-between : (es fs zs : Entries) (k : Key) (r : Record) (position : ℕ) → AreRising (es ++ fs) → position_from 0 k es ≡ Err position
+    → zs ≡ take position es ++ insert_entry key_cmp (drop position es ++ fs) k r → HasPut (es ++ fs) zs k r
+put-between es fs zs k r position s at is = has-put (es ++ fs) zs k r s (is ∙ sym (past es fs k r position at).1)
 
 -- what stands there before
 pub there-before : (es fs : Entries) (k : Key) (position : ℕ) (d : Key × Record) → position_from 0 k es ≡ Ok position → record_at (es ++ fs) k ≡ Some (get_or es position d).1
@@ -431,3 +430,34 @@ pub none-before : (es fs : Entries) (k : Key) (position : ℕ) → AreRising (es
 none-before es fs k position s at =
     let none : record_at es k ≡ None = missing 0 es k position (rises-first es fs s) at in
     in-second (drop position es) fs k (none-dropped position es k none) ∙ sym (in-second es fs k none)
+
+-- ---- among the first of those behind a list
+
+pub less-of : (o : Ordering) → is_lt o ≡ true → o ≡ Less
+less-of Less h = refl
+less-of Equal h = cc
+less-of Greater h = cc
+
+-- a key below the first of all
+pub goes-before : (es : Entries) (x : Key) (y : Record) (k : Key) (r : Record) → slice_get es 0 ≡ Some (x, y) → key_cmp k x ≡ Less → insert_entry key_cmp es k r ≡ (k, r) ∷ es
+goes-before [] x y k r at less = refl
+goes-before (e ∷ es) x y k r at less =
+    let same : e.0 ≡ x = cc in
+    ap (λ o. match_ordering o ((k, r) ∷ e ∷ es) ((e.0, r) ∷ es) (e ∷ insert_entry key_cmp es k r)) (ap (key_cmp k) same ∙ less)
+
+-- has no record among them
+pub none-least : (o : Option Record) (x k : Key) → (IsSome o → is_gt (key_cmp x k) ≡ false) → key_cmp k x ≡ Less → o ≡ None
+none-least None x k least less = refl
+none-least (Some r) x k least less =
+    let above : key_cmp x k ≡ Greater = flipped k x Less less in
+    let not : is_gt (key_cmp x k) ≡ false = search (rules, least) in
+    cc
+
+-- one that is not below it: the first can stand behind the list
+pub followed : (es fs gs zs : Entries) (e : Key × Record) (k : Key) (r : Record) → fs ≡ e ∷ gs → key_cmp k e.0 ≡ Greater → zs ≡ es ++ e ∷ []
+    → zs ++ insert_entry key_cmp gs k r ≡ es ++ insert_entry key_cmp fs k r
+followed es fs gs zs e k r split above more =
+    let step : insert_entry key_cmp (e ∷ gs) k r ≡ e ∷ insert_entry key_cmp gs k r =
+    ap (λ o. match_ordering o ((k, r) ∷ e ∷ gs) ((e.0, r) ∷ gs) (e ∷ insert_entry key_cmp gs k r)) above in
+    ap (λ (l : Entries). l ++ insert_entry key_cmp gs k r) more ∙ append_assoc es (e ∷ []) (insert_entry key_cmp gs k r)
+    ∙ sym (ap (λ (l : Entries). es ++ l) (ap (λ (l : Entries). insert_entry key_cmp l k r) split ∙ step))

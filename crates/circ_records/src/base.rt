@@ -113,8 +113,23 @@ impl Base {
         ensures { IfOk result (λ m. m ≡ []) }
     {
         let places = self.places.copy()?;
-        Ok(RecordMap::from_list(alloc, Vec::new(alloc), places))
+        let listed = Vec::with_capacity(alloc, places.count())?;
+        Ok(RecordMap::from_list(alloc, listed, places))
     }
+}
+
+/// So many bytes has a row at least, but for a few.
+const ROW_BYTES: usize = 16;
+
+/// How many records the tables tell at most, likely. Where they tell more, the list grows.
+fn likely_rows(tables: &Tables) -> usize {
+    let bytes = tables
+        .patrons
+        .len()
+        .saturating_add(tables.items.len())
+        .saturating_add(tables.fees.len())
+        .saturating_add(tables.closed.len());
+    bytes / ROW_BYTES
 }
 
 /// The base that the rows of the tables tell, table by table, or the first rule that a row breaks. What the tables
@@ -131,15 +146,15 @@ fn records_of(
     ensures coherent { IfOk result (λ b. Coherent policy.now (number_before first) b) }
     ensures err { IfErr result (λ e. StopsAll e tables.now (first_broken policy.now first (rows_in tables.now))) }
 {
-    let mut records = RecordMap::new(alloc);
-    add_patrons(alloc, policy, tables, &mut records)?;
-    add_items(alloc, policy, tables, &mut records)?;
+    let mut listed = RecordMap::with_room(alloc, likely_rows(tables))?;
+    add_patrons(alloc, policy, tables, &mut listed)?;
+    add_items(alloc, policy, tables, &mut listed)?;
     // what follows looks for each patron and item that it names
-    records.find_fast(alloc)?;
-    add_loans(alloc, tables, &mut records)?;
-    add_fees(alloc, first, tables, &mut records)?;
-    add_closed(alloc, first, tables, &mut records)?;
-    add_holds(alloc, tables, &mut records)?;
-    let (records, places) = records.into_list(alloc)?;
+    let mut found = listed.found_fast(alloc)?;
+    add_loans(alloc, tables, &mut found)?;
+    add_fees(alloc, first, tables, &mut found)?;
+    add_closed(alloc, first, tables, &mut found)?;
+    add_holds(alloc, tables, &mut found)?;
+    let (records, places) = found.into_list(alloc)?;
     Ok(Base { records, places })
 }

@@ -18,7 +18,7 @@ pub(crate) fn write_fees(
     alloc: Global,
     text: &mut TableText,
     records: &Records,
-    patron: &Id,
+    patron: &[u8],
     fees: &[KeptId],
 ) -> Result<(), AllocError>
     requires { HasWidth 5 text.old }
@@ -35,7 +35,7 @@ fn write_open_fee(
     alloc: Global,
     text: &mut TableText,
     records: &Records,
-    patron: &Id,
+    patron: &[u8],
     id: &Id,
 ) -> Result<(), AllocError>
     requires { HasWidth 5 text.old }
@@ -44,7 +44,7 @@ fn write_open_fee(
     match open_fee_of(records, id) {
         Some(fee) => text.row(&[
             id.as_bytes(),
-            patron.as_bytes(),
+            patron,
             fee.kind.code().as_slice(),
             amount_text(alloc, fee.amount)?.as_slice(),
             amount_text(alloc, fee.paid)?.as_slice(),
@@ -84,7 +84,7 @@ pub(crate) fn is_open(fee: &Fee) -> bool
 pub(crate) fn write_closed(
     alloc: Global,
     text: &mut TableText,
-    id: &Id,
+    id: &[u8],
     fee: &Fee,
 ) -> Result<(), AllocError>
     requires { HasWidth 4 text.old }
@@ -94,7 +94,7 @@ pub(crate) fn write_closed(
         return Ok(());
     }
     text.row(&[
-        id.as_bytes(),
+        id,
         fee.patron.as_bytes(),
         fee.kind.code().as_slice(),
         amount_text(alloc, fee.amount)?.as_slice(),

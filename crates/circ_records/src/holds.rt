@@ -85,6 +85,7 @@ impl Holds {
     }
 
     /// The same queue. Most are empty.
+    #[inline(always)]
     pub fn copy(&self, alloc: Global) -> Result<Holds, AllocError>
         ensures { IfOk result (λ h. h ≡ self.now) }
     {

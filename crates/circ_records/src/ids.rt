@@ -35,6 +35,7 @@ enum Held {
 }
 
 impl Drop for Held {
+    #[inline(always)]
     fn drop(self) {
         match self {
             Held::None => {}
@@ -136,6 +137,7 @@ impl Ids {
 
 impl Held {
     /// The ids, and one more behind them.
+    #[inline(always)]
     fn longer(alloc: Global, ids: &[KeptId], last: KeptId) -> Result<Held, AllocError>
         ensures { IfOk result (λ held. ids_held held ≡ ids.now ++ last ∷ []) }
     {

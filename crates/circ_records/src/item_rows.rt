@@ -7,16 +7,15 @@ ghost use Rattle.circ_records.specs.Written.{hold_row, item_row, queued};
 use crate::holds::Hold;
 use crate::record::Item;
 use csv_table::TableText;
-use sip_reader::Id;
 use std::alloc::AllocError;
 
 /// An item.
-pub(crate) fn write_item(text: &mut TableText, id: &Id, item: &Item) -> Result<(), AllocError>
+pub(crate) fn write_item(text: &mut TableText, id: &[u8], item: &Item) -> Result<(), AllocError>
     requires { HasWidth 5 text.old }
     ensures { OnOk result (text.new ≡ with_rows (item_row id.now item.now ∷ []) text.old) }
 {
     text.row(&[
-        id.as_bytes(),
+        id,
         item.title.as_bytes(),
         item.media.code().as_slice(),
         item.location.as_bytes(),
@@ -25,7 +24,11 @@ pub(crate) fn write_item(text: &mut TableText, id: &Id, item: &Item) -> Result<(
 }
 
 /// The queue of an item, in its order.
-pub(crate) fn write_holds(text: &mut TableText, item: &Id, holds: &[Hold]) -> Result<(), AllocError>
+pub(crate) fn write_holds(
+    text: &mut TableText,
+    item: &[u8],
+    holds: &[Hold],
+) -> Result<(), AllocError>
     requires { HasWidth 3 text.old }
     ensures { OnOk result (text.new ≡ with_rows (queued item.now holds.now) text.old) }
 {
@@ -36,13 +39,9 @@ pub(crate) fn write_holds(text: &mut TableText, item: &Id, holds: &[Hold]) -> Re
 }
 
 /// A position in the queue of an item.
-fn write_hold(text: &mut TableText, item: &Id, hold: &Hold) -> Result<(), AllocError>
+fn write_hold(text: &mut TableText, item: &[u8], hold: &Hold) -> Result<(), AllocError>
     requires { HasWidth 3 text.old }
     ensures { OnOk result (text.new ≡ with_rows (hold_row item.now hold.now ∷ []) text.old) }
 {
-    text.row(&[
-        item.as_bytes(),
-        hold.patron.as_bytes(),
-        hold.pickup.as_bytes(),
-    ])
+    text.row(&[item, hold.patron.as_bytes(), hold.pickup.as_bytes()])
 }

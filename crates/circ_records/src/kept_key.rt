@@ -5,7 +5,7 @@ ghost use Rattle.std.specs.Cmp.Lexicographic.{slice_cmp};
 ghost use Rattle.std.specs.Ordering.{eq_by_cmp, nat_cmp};
 ghost use Rattle.sip_reader.specs.Devices.Numbers.{id_number};
 ghost use Rattle.sip_reader.specs.Texts.{is_id};
-ghost use Rattle.circ_records.specs.Devices.KeptKeys.{key_kept};
+ghost use Rattle.circ_records.specs.Devices.KeptKeys.{key_kept, key_lent};
 ghost use Rattle.circ_records.specs.Keys.{key_cmp, kind, id_of};
 ghost use Rattle.circ_records.specs.declared.key.Key.TheVariants as keys;
 
@@ -21,6 +21,7 @@ pub struct KeptKey {
 }
 
 impl Drop for KeptKey {
+    #[inline(always)]
     fn drop(self) {
         let KeptKey { kept: _ } = self;
     }
@@ -47,6 +48,13 @@ impl Drop for Kept {
             Kept::LongFee(_) => {}
         }
     }
+}
+
+/// A key that borrows the bytes of its id.
+pub(crate) enum LentKey<'k> {
+    Patron(&'k [u8]),
+    Item(&'k [u8]),
+    Fee(&'k [u8]),
 }
 
 impl Model for KeptKey {
@@ -121,6 +129,20 @@ impl KeptKey {
         }
     }
 
+    /// The key, whose id is borrowed: no `Key` is made of it.
+    pub(crate) fn lent(&self) -> LentKey<'_>
+        ensures { key_lent result ≡ self.now }
+    {
+        match &self.kept {
+            Kept::ShortPatron(id) => LentKey::Patron(id.as_bytes()),
+            Kept::ShortItem(id) => LentKey::Item(id.as_bytes()),
+            Kept::ShortFee(id) => LentKey::Fee(id.as_bytes()),
+            Kept::LongPatron(id) => LentKey::Patron(id.as_bytes()),
+            Kept::LongItem(id) => LentKey::Item(id.as_bytes()),
+            Kept::LongFee(id) => LentKey::Fee(id.as_bytes()),
+        }
+    }
+
     /// How it goes against a key, in the order of keys. No `Key` is made of it, which has room for the longest id.
     pub fn order(&self, key: &Key) -> Ordering
         ensures { result ≡ key_cmp self.now key.now }
@@ -146,6 +168,7 @@ impl KeptKey {
     }
 
     /// The number of its id.
+    #[inline(always)]
     pub(crate) fn number(&self) -> u64
         ensures { result ≡ id_number (id_of self.now) }
     {
@@ -262,6 +285,7 @@ impl Kept {
         }
     }
 
+    #[inline(always)]
     fn number(&self) -> u64
         ensures { result ≡ id_number (id_of (key_kept self.now)) }
     {

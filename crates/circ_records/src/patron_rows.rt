@@ -1,26 +1,29 @@
 //! The rows of patrons and of their loans.
 
-ghost use Rattle.std.specs.Prelude.{◌≡◌, ◌∷◌, [], OnOk, option_map};
+ghost use Rattle.std.specs.Prelude.{◌≡◌, ◌∷◌, [], OnOk, option_copied, option_map};
 ghost use Rattle.std.specs.List.{cons_option};
 ghost use Rattle.circ_records.specs.Writing.{HasWidth, with_rows};
 ghost use Rattle.circ_records.specs.Written.{listed_loans, loan_at, loan_row, patron_row};
 
-use crate::key::Key;
-use crate::record::{Loan, Patron, Record};
+use crate::record::{KeptLoan, Patron, Record};
 use crate::records::Records;
 use crate::row_texts::{day_text, flag_text};
 use csv_table::TableText;
 use itoa::Buffer;
-use sip_reader::{Id, KeptId};
+use sip_reader::KeptId;
 use std::alloc::AllocError;
 
 /// A patron.
-pub(crate) fn write_patron(text: &mut TableText, id: &Id, patron: &Patron) -> Result<(), AllocError>
+pub(crate) fn write_patron(
+    text: &mut TableText,
+    id: &[u8],
+    patron: &Patron,
+) -> Result<(), AllocError>
     requires { HasWidth 4 text.old }
     ensures { OnOk result (text.new ≡ with_rows (patron_row id.now patron.now ∷ []) text.old) }
 {
     text.row(&[
-        id.as_bytes(),
+        id,
         patron.name.as_bytes(),
         patron.class.as_bytes(),
         flag_text(patron.blocked).as_slice(),
@@ -31,14 +34,14 @@ pub(crate) fn write_patron(text: &mut TableText, id: &Id, patron: &Patron) -> Re
 pub(crate) fn write_loans(
     text: &mut TableText,
     records: &Records,
-    patron: &Id,
+    patron: &[u8],
     items: &[KeptId],
 ) -> Result<(), AllocError>
     requires { HasWidth 4 text.old }
     ensures { OnOk result (text.new ≡ with_rows (listed_loans records.now patron.now items.now) text.old) }
 {
     for item in items {
-        write_loan(text, records, patron, &item.id())?;
+        write_loan(text, records, patron, item)?;
     }
     Ok(())
 }
@@ -47,30 +50,30 @@ pub(crate) fn write_loans(
 fn write_loan(
     text: &mut TableText,
     records: &Records,
-    patron: &Id,
-    item: &Id,
+    patron: &[u8],
+    item: &KeptId,
 ) -> Result<(), AllocError>
     requires { HasWidth 4 text.old }
     ensures { OnOk result (text.new ≡ with_rows (cons_option (option_map (loan_row patron.now item.now) (loan_at records.now item.now)) []) text.old) }
 {
     match loan_of(records, item) {
         Some(loan) => text.row(&[
-            patron.as_bytes(),
+            patron,
             item.as_bytes(),
-            day_text(loan.due).as_slice(),
-            Buffer::new().format(loan.renewals).as_bytes(),
+            day_text(loan.due()).as_slice(),
+            Buffer::new().format(loan.renewals()).as_bytes(),
         ]),
         None => Ok(()),
     }
 }
 
 /// The loan of an item.
-fn loan_of(records: &Records, item: &Id) -> Option<Loan>
-    ensures { result ≡ loan_at records.now item.now }
+fn loan_of<'r>(records: &'r Records, item: &KeptId) -> Option<&'r KeptLoan>
+    ensures { option_copied result ≡ loan_at records.now item.now }
 {
-    match records.get(&Key::Item(*item)) {
+    match records.item(item) {
         Some(record) => match record {
-            Record::Item(item) => item.get().loan(),
+            Record::Item(item) => item.get().loan.as_ref(),
             Record::Patron(_) | Record::Fee(_) => None,
         },
         None => None,

@@ -22,11 +22,13 @@ const FREE: u32 = u32::MAX;
 /// key stands there, and halves the list where it doesn't. So nothing but time depends on it.
 pub(crate) struct Places {
     slots: Vec<u32>,
+    /// So many slots are taken at most.
+    taken: usize,
 }
 
 impl Drop for Places {
     fn drop(self) {
-        let Places { slots: _ } = self;
+        let Places { slots: _, taken: _ } = self;
     }
 }
 
@@ -35,6 +37,7 @@ impl Places {
     pub(crate) fn none(alloc: Global) -> Places {
         Places {
             slots: Vec::new(alloc),
+            taken: 0,
         }
     }
 
@@ -49,27 +52,46 @@ impl Places {
             };
             take_slot(&mut slots, entry.0.number(), position);
         }
-        Ok(Places { slots })
+        let taken = listed.len();
+        Ok(Places { slots, taken })
     }
 
-    /// One more record, behind those of the list, where there are places for a list.
-    pub(crate) fn add(&mut self, key: &KeptKey, position: usize) {
+    /// How many records the list had of which they were made.
+    pub(crate) fn count(&self) -> usize {
+        self.slots.len().saturating_sub(TRIES) / SLOTS_A_RECORD
+    }
+
+    /// One more record, behind those of a list, where there are places for a list. Where the slots are half taken, also by records that
+    /// stand elsewhere by now, all get new ones: a list that is twice as long has twice as many.
+    pub(crate) fn add(
+        &mut self,
+        alloc: Global,
+        listed: &[(KeptKey, Record)],
+        key: &KeptKey,
+    ) -> Result<(), AllocError> {
         if self.slots.is_empty() {
-            return;
+            return Ok(());
         }
+        if self.taken > self.slots.len() / 2 {
+            *self = Places::of(alloc, listed)?;
+        }
+        self.taken = self.taken.saturating_add(1);
         // further records than 32 bits count have no slot
-        if let Ok(position) = u32::try_from(position) {
+        if let Ok(position) = u32::try_from(listed.len()) {
             take_slot(&mut self.slots, key.number(), position);
         }
+        Ok(())
     }
 
     /// The same places, for a list that likely has the same keys.
     pub(crate) fn copy(&self) -> Result<Places, AllocError> {
         let slots = self.slots.clone()?;
-        Ok(Places { slots })
+        let taken = self.taken;
+        Ok(Places { slots, taken })
     }
 
     /// The position of a key in a list, where its slot has it.
+    #[inline(always)]
     pub(crate) fn position<S: Sought>(&self, listed: &[(KeptKey, Record)], key: &S) -> Option<usize>
         requires { AreRising listed.now }
         ensures { IfSome result (λ position. position_from 0 (S.key key.now) listed.now ≡ Ok position) }

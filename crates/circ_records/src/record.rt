@@ -253,6 +253,7 @@ impl Record {
     }
 
     /// The record of an item.
+    #[inline(always)]
     pub fn item(alloc: Global, item: Item) -> Result<Record, AllocError>
         ensures { IfOk result (λ r. r ≡ record_of.Item item) }
     {
@@ -291,6 +292,7 @@ impl Clone for Record {
 
 impl Patron {
     /// The same patron. It takes no memory beyond its own fields.
+    #[inline(always)]
     pub fn copy(&self) -> Result<Patron, AllocError>
         ensures { IfOk result (λ p. p ≡ self.now) }
     {
@@ -320,6 +322,7 @@ impl Item {
     }
 
     /// The same item with another loan, or none, and another queue.
+    #[inline(always)]
     pub fn with(&self, loan: Option<KeptLoan>, holds: Holds) -> Result<Item, AllocError>
         ensures { IfOk result (λ i. i ≡ record self.now { loan = loan; holds = holds }) }
     {

@@ -3,6 +3,7 @@
 ghost use Rattle.std.specs.Prelude.{◌≡◌, IfOk, option_copied};
 ghost use Rattle.circ_records.specs.Laws.{AreRising};
 ghost use Rattle.circ_records.specs.Records.{record_at};
+ghost use Rattle.circ_records.specs.declared.key.Key.TheVariants as keys;
 
 use crate::kept_key::KeptKey;
 use crate::key::Key;
@@ -10,6 +11,8 @@ use crate::listed::found_likely;
 use crate::places::Places;
 use crate::record::Record;
 use crate::record_map::RecordMap;
+use crate::sought::ItemKey;
+use sip_reader::KeptId;
 use std::alloc::{AllocError, Global};
 use std::marker::Model;
 
@@ -58,6 +61,27 @@ impl Records {
         ensures { option_copied result ≡ record_at self.now key.now }
     {
         found_likely(self.records.as_slice(), &self.places, key)
+    }
+
+    /// The record at the key of an item, by its id as it is kept: where it likely stands, no key is made of it.
+    pub(crate) fn item(&self, id: &KeptId) -> Option<&Record>
+        ensures { option_copied result ≡ record_at self.now (keys.Item id.now) }
+    {
+        match self
+            .places
+            .position(self.records.as_slice(), &ItemKey { id })
+        {
+            Some(position) => Some(&self.records[position].1),
+            None => self.item_by_key(id),
+        }
+    }
+
+    /// The same, by its key. It is by itself, since a call makes room for the key first.
+    #[inline(never)]
+    fn item_by_key(&self, id: &KeptId) -> Option<&Record>
+        ensures { option_copied result ≡ record_at self.now (keys.Item id.now) }
+    {
+        self.get(&Key::Item(id.id()))
     }
 
     /// The records with their keys, rising.

@@ -81,6 +81,7 @@ impl<'t> TableRows<'t> {
     }
 
     /// Reads the next row. Without one, at the end, `row` means nothing.
+    #[inline(always)]
     pub(crate) fn next(&mut self, row: &mut ByteRecord) -> Result<bool, BaseError>
         ensures table { self.new.table ≡ self.old.table }
         ensures row { IfOk result (λ found. found ≡ true → self.old.rows ≡ option_map (λ rest. fields_of row.new ∷ rest) self.new.rows) }

@@ -9,14 +9,13 @@ ghost use Rattle.circ_records.specs.declared.record.Record.TheVariants as record
 
 use crate::fee_rows::{write_closed, write_fees};
 use crate::item_rows::{write_holds, write_item};
-use crate::key::Key;
+use crate::kept_key::{KeptKey, LentKey};
 use crate::patron_rows::{write_loans, write_patron};
 use crate::record::{Fee, Item, Patron, Record};
 use crate::records::Records;
 use crate::rows::{CLOSED, FEES, HOLDS, ITEMS, LOANS, PATRONS};
 use crate::tables::Tables;
 use csv_table::TableText;
-use sip_reader::Id;
 use std::alloc::{AllocError, Global};
 
 /// The texts of the tables while they are written. Where memory runs out all six are dropped (`written.rt`), so nothing is
@@ -65,22 +64,22 @@ impl TableTexts {
         &mut self,
         alloc: Global,
         records: &Records,
-        key: &Key,
+        key: &KeptKey,
         record: &Record,
     ) -> Result<(), AllocError>
         requires { HasWidths self.old }
         ensures { OnOk result (Gains records.now (key.now, «record».now) self.old self.new) }
     {
-        match key {
-            Key::Patron(id) => match record {
+        match key.lent() {
+            LentKey::Patron(id) => match record {
                 Record::Patron(patron) => self.patron(alloc, records, id, patron.get()),
                 Record::Item(_) | Record::Fee(_) => Ok(()),
             },
-            Key::Item(id) => match record {
+            LentKey::Item(id) => match record {
                 Record::Item(item) => self.item(id, item.get()),
                 Record::Patron(_) | Record::Fee(_) => Ok(()),
             },
-            Key::Fee(id) => match record {
+            LentKey::Fee(id) => match record {
                 Record::Fee(fee) => self.fee(alloc, id, fee.get()),
                 Record::Patron(_) | Record::Item(_) => Ok(()),
             },
@@ -92,7 +91,7 @@ impl TableTexts {
         &mut self,
         alloc: Global,
         records: &Records,
-        id: &Id,
+        id: &[u8],
         patron: &Patron,
     ) -> Result<(), AllocError>
         requires { HasWidths self.old }
@@ -104,7 +103,7 @@ impl TableTexts {
     }
 
     /// An item and its queue.
-    fn item(&mut self, id: &Id, item: &Item) -> Result<(), AllocError>
+    fn item(&mut self, id: &[u8], item: &Item) -> Result<(), AllocError>
         requires { HasWidths self.old }
         ensures { OnOk result ((all : Entries) → Gains all (key_of.Item id.now, record_of.Item item.now) self.old self.new) }
     {
@@ -113,7 +112,7 @@ impl TableTexts {
     }
 
     /// A fee, where it is paid in full.
-    fn fee(&mut self, alloc: Global, id: &Id, fee: &Fee) -> Result<(), AllocError>
+    fn fee(&mut self, alloc: Global, id: &[u8], fee: &Fee) -> Result<(), AllocError>
         requires { HasWidths self.old }
         ensures { OnOk result ((all : Entries) → Gains all (key_of.Fee id.now, record_of.Fee fee.now) self.old self.new) }
     {

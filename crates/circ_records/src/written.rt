@@ -27,7 +27,7 @@ fn told(alloc: Global, records: &Records) -> Result<TableTexts, AllocError>
     let mut texts = TableTexts::new(alloc)?;
     let entries = records.as_slice();
     for entry in entries {
-        texts.entry(alloc, records, &entry.0.key(), &entry.1)?;
+        texts.entry(alloc, records, &entry.0, &entry.1)?;
     }
     Ok(texts)
 }

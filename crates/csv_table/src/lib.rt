@@ -8,9 +8,11 @@ ghost use Rattle.csv.specs.Records.{fields_of};
 ghost use Rattle.csv.specs.Reading.{error_kind};
 ghost use Rattle.csv_table.specs.Rows.{is_row, refusal};
 
+mod bytes;
 mod reader;
 mod text;
 
+pub use bytes::read_bytes;
 use csv::{ByteRecord, ErrorKind};
 pub use reader::RowReader;
 pub use text::{TableText, reads_back};

@@ -61,33 +61,28 @@ impl<'a> RowReader<'a> {
         ensures size { IfOk result (λ rows. rows.size < 2 ^ 64) }
     {
         size_fits(text);
-        let mut reader = ReaderBuilder::new()
-            .has_headers(false)
-            .from_reader(alloc, text);
+        // into its memory as it is made, so that it moves once
+        let Ok(mut reader) = Box::new(
+            alloc,
+            ReaderBuilder::new()
+                .has_headers(false)
+                .from_reader(alloc, text),
+        ) else {
+            return Err(TableError::Memory);
+        };
         let mut first = ByteRecord::new(alloc);
         if reader.read_byte_record(&mut first)? && has_fields(&first, header) {
-            RowReader::boxed(alloc, reader)
+            Ok(RowReader {
+                reader,
+                reach: Reach::Within,
+            })
         } else {
             Err(TableError::Table)
         }
     }
 
-    /// The rows that are left in a reader behind the header.
-    fn boxed(alloc: Global, reader: Reader<&'a [u8]>) -> Result<RowReader<'a>, TableError>
-        requires { IsReading reader }
-        ensures ok { IfOk result (λ rows. rows ≡ unread_by reader.entry) }
-        ensures err { IfErr result (λ e. e ≡ table.Memory) }
-    {
-        match Box::new(alloc, reader) {
-            Ok(reader) => Ok(RowReader {
-                reader,
-                reach: Reach::Within,
-            }),
-            Err(_) => Err(TableError::Memory),
-        }
-    }
-
     /// Reads the next row. Without one, at the end, `row` means nothing.
+    #[inline(always)]
     pub fn next(&mut self, row: &mut ByteRecord) -> Result<bool, TableError>
         // A row is the first of those that were left.
         ensures row { IfOk result (λ found. found ≡ true → self.old.rows ≡ option_map (λ rest. fields_of row.new ∷ rest) self.new.rows) }

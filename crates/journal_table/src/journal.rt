@@ -17,6 +17,9 @@ use std::marker::Model;
 
 const HEADER: [&str; 4] = ["line", "connection", "request", "response"];
 
+/// Room for the lines is made for rows of so many bytes: most journals have longer ones, and their lines never move.
+const USUAL_ROW: usize = 128;
+
 /// The lines of a journal, their numbers rising by one, at most 1,000,000; the last number is at most 9,999,999,999. They
 /// borrow from the bytes that they were read from.
 pub struct Journal<'t> {
@@ -85,7 +88,7 @@ fn read_lines<'t>(
     ensures ok { IfOk result (λ lines. lines_of rows.old.rows ≡ Ok lines.items) }
     ensures err { IfErr result (λ e. Stops e rows.old.rows rows.new.rows) }
 {
-    let mut lines = Vec::new(alloc);
+    let mut lines = Vec::with_capacity(alloc, bytes.len() / USUAL_ROW)?;
     let mut before = None;
     let mut texts = RowTexts::behind_header(bytes);
     let mut row = ByteRecord::new(alloc);

@@ -143,7 +143,8 @@ fn read_stretch(alloc: Global, lines: &[Line]) -> Result<Vec<Reading>, AllocErro
 {
     let mut readings = Vec::with_capacity(alloc, lines.len())?;
     for line in lines {
-        readings.push(read_request(alloc, line.request())?)?;
+        // there is room for it, so it goes there with no test between
+        readings.push_reserved(read_request(alloc, line.request())?);
     }
     Ok(readings)
 }

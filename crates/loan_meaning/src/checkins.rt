@@ -3,8 +3,8 @@
 ghost use Rattle.std.specs.Prelude.{◌≡◌, IfOk, OnOk, Some, None};
 ghost use Rattle.loan_meaning.specs.Checkins.{checkin_rule};
 ghost use Rattle.loan_meaning.specs.Lookups.{borrower_at};
-ghost use Rattle.read_set.specs.Asks.{follow, Gains};
-ghost use Rattle.read_set.specs.Effects.{written};
+ghost use Rattle.read_set.specs.Asks.{follow, Done, Gains};
+ghost use Rattle.read_set.specs.Effects.{unwritten, written};
 ghost use Rattle.read_set.specs.Maps.{Map, Agrees};
 ghost use Rattle.read_set.specs.Checkins.{returned_item, checkin_answer, day_back, lateness, returner, returned_by, returned_writes, returned, checked_in, loan_of, checkin};
 ghost use Rattle.read_set.specs.Stops.{Follows};
@@ -45,6 +45,8 @@ fn show(item: &Item) -> Result<ReturnedItem, AllocError>
     })
 }
 
+/// In line, where an effect is made: so its answer stands there at once, and doesn't move.
+#[inline(always)]
 fn tell(
     line: &Line<'_>,
     request: &Checkin,
@@ -152,17 +154,36 @@ fn end_loan(
     article: &Article,
     loan: &KeptLoan,
     member: Option<Member>,
-) -> Result<Effect, AllocError>
-    ensures { IfOk result (λ e. e ≡ returned line.now.policy.now line.now.number request.now line.now.date article.now member (Some loan.now)) }
+) -> Result<Effect, Stop>
+    ensures { Follows result (Done (returned line.now.policy.now line.now.number request.now line.now.date article.now member (Some loan.now))) }
 {
-    let borrower = loan.patron().clone()?;
-    let answer = tell(line, request, article, Some(borrower))?;
     let fee = lateness_of(request, line.date, loan, &article.media);
     let writes = write_return(line, &request.item.id(), fee, article, member, loan)?;
+    let writes = writes.finish(line.alloc)?;
+    let borrower = loan.patron().clone()?;
+    let answer = tell(line, request, article, Some(borrower))?;
     Ok(Effect {
-        writes: writes.finish(line.alloc)?,
+        writes,
         answer: Some(answer),
     })
+}
+
+/// An item that isn't on loan stays as it is. By itself: what an answer is made in is filled with zeros before it is known whether there is one.
+#[inline(never)]
+fn end_unlent(line: &Line<'_>, request: &Checkin, article: &Article) -> Result<Effect, Stop>
+    ensures { Follows result (Done (unwritten (Some (checkin_answer line.now.policy.now request.now line.now.date (Some article.now.item) None)))) }
+{
+    let answer = tell(line, request, article, None)?;
+    Ok(Effect::unwritten(line.alloc, Some(answer)))
+}
+
+/// An unknown item is refused. By itself, for the same reason.
+#[inline(never)]
+fn end_unknown(line: &Line<'_>, request: &Checkin) -> Result<Effect, Stop>
+    ensures { Follows result (Done (unwritten (Some (checkin_answer line.now.policy.now request.now line.now.date None None)))) }
+{
+    let answer = tell_unknown(line, request)?;
+    Ok(Effect::unwritten(line.alloc, Some(answer)))
 }
 
 fn end_any(
@@ -170,16 +191,13 @@ fn end_any(
     request: &Checkin,
     article: &Article,
     member: Option<Member>,
-) -> Result<Effect, AllocError>
-    ensures { IfOk result (λ e. e ≡ returned line.now.policy.now line.now.number request.now line.now.date article.now member article.now.item.loan) }
+) -> Result<Effect, Stop>
+    ensures { Follows result (Done (returned line.now.policy.now line.now.number request.now line.now.date article.now member article.now.item.loan)) }
 {
-    match loan_in(article) {
-        Some(loan) => end_loan(line, request, article, loan, member),
-        None => {
-            let answer = tell(line, request, article, None)?;
-            Ok(Effect::unwritten(line.alloc, Some(answer)))
-        }
-    }
+    let Some(loan) = loan_in(article) else {
+        return end_unlent(line, request, article);
+    };
+    end_loan(line, request, article, loan, member)
 }
 
 #[tactic(auto, unfolding(read_set::specs::Checkins::checked_in))]
@@ -188,12 +206,11 @@ fn end(
     request: &Checkin,
     article: Option<Article>,
     member: Option<Member>,
-) -> Result<Effect, AllocError>
-    ensures { IfOk result (λ e. e ≡ checked_in line.now.policy.now line.now.number request.now line.now.date article member) }
+) -> Result<Effect, Stop>
+    ensures { Follows result (Done (checked_in line.now.policy.now line.now.number request.now line.now.date article member)) }
 {
     let Some(article) = article else {
-        let answer = tell_unknown(line, request)?;
-        return Ok(Effect::unwritten(line.alloc, Some(answer)));
+        return end_unknown(line, request);
     };
     end_any(line, request, &article, member)
 }
@@ -237,5 +254,5 @@ pub fn check_in<S: Source>(
         number: n,
         date,
     };
-    Ok(end(&line, request, article, member)?)
+    end(&line, request, article, member)
 }

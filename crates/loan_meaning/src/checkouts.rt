@@ -5,7 +5,7 @@ ghost use Rattle.circ_records.specs.declared.key.Key.TheVariants as keys;
 ghost use Rattle.circ_records.specs.declared.record.FeeType.TheVariants as fee_types;
 ghost use Rattle.circ_records.specs.declared.record.Record.TheVariants as records;
 ghost use Rattle.loan_meaning.specs.Checkouts.{lending_tests, other_at, lending_rule_by, lending_rule, checkout_rule_known, checkout_rule};
-ghost use Rattle.read_set.specs.Asks.{follow, Gains};
+ghost use Rattle.read_set.specs.Asks.{follow, Done, Gains};
 ghost use Rattle.read_set.specs.Effects.{written, ◌⊕◌};
 ghost use Rattle.read_set.specs.Fees.{fee_made};
 ghost use Rattle.read_set.specs.Ids.{without};
@@ -78,7 +78,8 @@ fn other_of<S: Source>(
     patron_of(asked.alloc, asked.policy, source, loan.patron())
 }
 
-/// The other borrower's record, without the item among the loans. Without memory nothing is written.
+/// The other borrower's record, without the item among the loans. Without memory nothing is written. By itself, since few loans end another.
+#[inline(never)]
 fn end_other_loan(
     alloc: Global,
     item: &Id,
@@ -121,8 +122,13 @@ fn end_other_loan_by(
     }
 }
 
-fn lent_item(alloc: Global, a: &LoanRequest, due: Day, article: Article) -> Result<Item, AllocError>
-    ensures { IfOk result (λ i. i ≡ lent a.now due article.item) }
+fn lent_item(
+    alloc: Global,
+    a: &LoanRequest,
+    due: Day,
+    article: &Article,
+) -> Result<Item, AllocError>
+    ensures { IfOk result (λ i. i ≡ lent a.now due article.now.item) }
 {
     let item = article.item.get();
     let holds = without_hold(alloc, &item.holds, &a.patron)?;
@@ -159,16 +165,16 @@ fn write_lending(
     due: Day,
     charge: Amount,
     patron: Patron,
-    article: Article,
+    article: &Article,
     other: Option<Member>,
 ) -> Result<Draft, AllocError>
-    ensures { IfOk result (λ w. w ≡ [] ⊕ loan_ended_by asked.now.request.item article.item.loan other ⊕ ((keys.Patron asked.now.request.patron, records.Patron patron) ∷ (keys.Item asked.now.request.item, records.Item (lent asked.now.request due article.item)) ∷ []) ⊕ fee_made asked.now.number 0 asked.now.request.patron fee_types.Rental charge) }
+    ensures { IfOk result (λ w. w ≡ [] ⊕ loan_ended_by asked.now.request.item article.now.item.loan other ⊕ ((keys.Patron asked.now.request.patron, records.Patron patron) ∷ (keys.Item asked.now.request.item, records.Item (lent asked.now.request due article.now.item)) ∷ []) ⊕ fee_made asked.now.number 0 asked.now.request.patron fee_types.Rental charge) }
 {
     let alloc = asked.alloc;
     let n = asked.number;
     let a = &asked.request;
     let mut writes = draft_for(alloc, charge)?;
-    end_other_loan_by(alloc, &a.item, loan_in(&article), other, &mut writes)?;
+    end_other_loan_by(alloc, &a.item, loan_in(article), other, &mut writes)?;
     let item = lent_item(alloc, a, due, article)?;
     writes.put(&Key::Patron(a.patron), Record::patron(alloc, patron)?)?;
     writes.put(&Key::Item(a.item), Record::item(alloc, item)?)?;
@@ -181,26 +187,29 @@ fn write_lending(
     Ok(writes)
 }
 
+/// In line, so that what it does isn't moved again.
+#[inline(always)]
 #[tactic(auto, unfolding(read_set::specs::Checkouts::lending_made))]
 fn make_loan(
     asked: &Asked<'_>,
     member: Member,
     article: Article,
     other: Option<Member>,
-) -> Result<Effect, AllocError>
-    ensures { IfOk result (λ e. e ≡ lending_made asked.now.policy.now asked.now.number asked.now.request asked.now.date member article other) }
+) -> Result<Effect, Stop>
+    ensures { Follows result (Done (lending_made asked.now.policy.now asked.now.number asked.now.request asked.now.date member article other)) }
 {
     let alloc = asked.alloc;
     let a = &asked.request;
     let due = due_of(asked, &article.media);
     let charge = charge_of(a, &article.media);
-    let answer = tell_made(asked, &article, due, false, charge)?;
     let mut patron = Patron::of(member.into_patron())?;
     list_loan(alloc, a, loan_in(&article), &mut patron.loans)?;
     list_fee(alloc, asked.number, 0, charge, &mut patron.fees)?;
-    let writes = write_lending(asked, due, charge, patron, article, other)?;
+    let writes = write_lending(asked, due, charge, patron, &article, other)?;
+    let writes = writes.finish(alloc)?;
+    let answer = tell_made(asked, &article, due, false, charge)?;
     Ok(Effect {
-        writes: writes.finish(alloc)?,
+        writes,
         answer: Some(answer),
     })
 }
@@ -218,15 +227,15 @@ fn lend_by<S: Source>(
     ensures keeps { Gains (S.has source.old) (S.has source.new) (lending_rule_by asked.now.policy.now asked.now.number asked.now.request asked.now.date member article verdict) }
 {
     let rental = rental_in(&article);
+    // each is returned at once: what is done by one of several branches would move once more behind them, and is large
     match verdict {
-        Verdict::Refused => Ok(refuse(asked, Some(article))?),
-        Verdict::Unpaid => Ok(refuse_for(asked, Some(article), rental)?),
-        Verdict::Made => {
-            let loan = loan_in(&article);
-            let other = other_of(asked, loan, source)?;
-            Ok(make_loan(asked, member, article, other)?)
-        }
+        Verdict::Refused => return refuse(asked, Some(article)),
+        Verdict::Unpaid => return refuse_for(asked, Some(article), rental),
+        Verdict::Made => {}
     }
+    let loan = loan_in(&article);
+    let other = other_of(asked, loan, source)?;
+    make_loan(asked, member, article, other)
 }
 
 #[tactic(auto, unfolding(crate::specs::Checkouts::lending_rule), using(read_set::proofs::Gaining::gains_none, read_set::proofs::Gaining::gains_first, read_set::proofs::Following::follow_wants))]
@@ -270,16 +279,15 @@ fn lend_both<S: Source>(
         request: a,
     };
     let Some(member) = member else {
-        return Ok(refuse(&asked, article)?);
+        return refuse(&asked, article);
     };
     let Some(article) = article else {
-        return Ok(refuse(&asked, None)?);
+        return refuse(&asked, None);
     };
     if is_renewal(request, &article) {
-        renew_one(&asked, member, article, source)
-    } else {
-        lend(&asked, member, article, source)
+        return renew_one(&asked, member, article, source);
     }
+    lend(&asked, member, article, source)
 }
 
 /// A checkout (message 11) on line n.

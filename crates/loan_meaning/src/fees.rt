@@ -1,6 +1,6 @@
 //! What is owed, and what is charged.
 
-ghost use Rattle.std.specs.Prelude.{◌≡◌, [], nat_lt, IfOk, OnOk, OnErr};
+ghost use Rattle.std.specs.Prelude.{◌≡◌, [], nat_lt, true, IfOk, OnOk, OnErr};
 ghost use Rattle.loan_meaning.specs.Owing.{owed_at, owed_from, owing_tests};
 ghost use Rattle.loan_meaning.specs.Devices.Sums.{IsKnown};
 ghost use Rattle.read_set.specs.Asks.{follow, Gains};
@@ -97,14 +97,31 @@ pub fn make_fee(
     ensures err { OnErr result (writes.new ≡ writes.old) }
 {
     if has_amount(charge.amount) {
-        let fee = Fee {
-            patron: charge.patron,
-            kind: charge.kind,
-            amount: charge.amount,
-            paid: nothing(),
-        };
-        writes.put(&Key::Fee(Id::of_fee(line, k)), Record::fee(alloc, fee)?)?;
+        write_fee(alloc, line, k, charge, writes)
+    } else {
+        Ok(())
     }
+}
+
+/// The same of an amount above 0. Most loans and returns cost nothing, and then nothing is made ready for a fee.
+fn write_fee(
+    alloc: Global,
+    line: u64,
+    k: u64,
+    charge: Charge,
+    writes: &mut Draft,
+) -> Result<(), AllocError>
+    requires { nat_lt 0 charge.amount ≡ true }
+    ensures ok { OnOk result (writes.new ≡ written writes.old (fee_made line k charge.patron charge.kind charge.amount)) }
+    ensures err { OnErr result (writes.new ≡ writes.old) }
+{
+    let fee = Fee {
+        patron: charge.patron,
+        kind: charge.kind,
+        amount: charge.amount,
+        paid: nothing(),
+    };
+    writes.put(&Key::Fee(Id::of_fee(line, k)), Record::fee(alloc, fee)?)?;
     Ok(())
 }
 

@@ -12,6 +12,7 @@ use sip_reader::{Id, KeptId};
 use std::alloc::Global;
 
 /// The patron of an id, where it is known.
+#[inline(always)]
 #[tactic(auto, unfolding(crate::specs::Lookups::patron_at), using(read_set::proofs::Gaining::gains_ask))]
 pub fn patron_of<S: Source>(
     alloc: Global,
@@ -27,6 +28,7 @@ pub fn patron_of<S: Source>(
 }
 
 /// The item that a request names, where it is known.
+#[inline(always)]
 #[tactic(auto, unfolding(crate::specs::Lookups::item_at), using(read_set::proofs::Gaining::gains_ask))]
 pub fn item_of<S: Source>(
     alloc: Global,

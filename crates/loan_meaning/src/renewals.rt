@@ -6,7 +6,7 @@ ghost use Rattle.circ_records.specs.declared.record.FeeType.TheVariants as fee_t
 ghost use Rattle.circ_records.specs.declared.record.Record.TheVariants as records;
 ghost use Rattle.loan_meaning.specs.Renewals.{renewal_tests, renewal_rule, renew_rule_known, renew_rule};
 ghost use Rattle.loan_meaning.specs.Devices.Sums.{IsKnown};
-ghost use Rattle.read_set.specs.Asks.{follow, Gains};
+ghost use Rattle.read_set.specs.Asks.{follow, Done, Gains};
 ghost use Rattle.read_set.specs.Effects.{◌⊕◌};
 ghost use Rattle.read_set.specs.Renewals.{may_renew, renewals_of, one_more, renewed_loan, renewed, renewal_made, renewal_by, renew};
 ghost use Rattle.read_set.specs.Fees.{fee_made};
@@ -108,8 +108,8 @@ pub fn renew_loan_of(alloc: Global, due: Day, article: Article) -> Result<Item, 
 }
 
 #[tactic(auto, unfolding(read_set::specs::Renewals::renewal_made))]
-fn make_renewal(asked: &Asked<'_>, member: Member, article: Article) -> Result<Effect, AllocError>
-    ensures { IfOk result (λ e. e ≡ renewal_made asked.now.policy.now asked.now.number asked.now.request asked.now.date member article) }
+fn make_renewal(asked: &Asked<'_>, member: Member, article: Article) -> Result<Effect, Stop>
+    ensures { Follows result (Done (renewal_made asked.now.policy.now asked.now.number asked.now.request asked.now.date member article)) }
 {
     let due = due_of(asked, &article.media);
     let charge = charge_of(&asked.request, &article.media);
@@ -155,8 +155,8 @@ fn renew_by(
     member: Member,
     article: Article,
     verdict: Verdict,
-) -> Result<Effect, AllocError>
-    ensures { IfOk result (λ e. e ≡ renewal_by asked.now.policy.now asked.now.number asked.now.request asked.now.date member article verdict) }
+) -> Result<Effect, Stop>
+    ensures { Follows result (Done (renewal_by asked.now.policy.now asked.now.number asked.now.request asked.now.date member article verdict)) }
 {
     let rental = rental_in(&article);
     match verdict {
@@ -179,7 +179,7 @@ pub fn renew_one<S: Source>(
 {
     let writes = Draft::new(asked.alloc);
     let verdict = test_renewal(asked, &writes, &member, &article, &mut None, source)?;
-    Ok(renew_by(asked, member, article, verdict)?)
+    renew_by(asked, member, article, verdict)
 }
 
 #[tactic(auto, using(read_set::proofs::Gaining::gains_none, read_set::proofs::Gaining::gains_first))]
@@ -193,10 +193,10 @@ fn renew_both<S: Source>(
     ensures keeps { Gains (S.has source.old) (S.has source.new) (renew_rule_known asked.now.policy.now asked.now.number asked.now.request asked.now.date member article) }
 {
     let Some(member) = member else {
-        return Ok(refuse(asked, article)?);
+        return refuse(asked, article);
     };
     let Some(article) = article else {
-        return Ok(refuse(asked, None)?);
+        return refuse(asked, None);
     };
     renew_one(asked, member, article, source)
 }

@@ -1,12 +1,14 @@
 //! What is answered to a checkout and to a renewal.
 
 ghost use Rattle.std.specs.Prelude.{◌≡◌, IfOk, Some};
+ghost use Rattle.read_set.specs.Asks.{Done};
 ghost use Rattle.read_set.specs.Loans.{known_item, rental_in_answer, loan_answer_of, by_kind, loan_answer, refused};
+ghost use Rattle.read_set.specs.Stops.{Follows};
 
 use crate::asked::Asked;
 use crate::fees::{has_amount, nothing};
 use circ_records::Item;
-use read_set::{Article, Effect};
+use read_set::{Article, Effect, Stop};
 use sip_answer::{Answer, KnownItem, LoanAnswer};
 use sip_reader::{Amount, Day, KeptId};
 use std::alloc::AllocError;
@@ -31,7 +33,9 @@ fn tell_rental(rental: Amount) -> Option<Amount>
     }
 }
 
-/// The answer to what is asked for, by its kind. It is made in one piece, since moving it costs as much as making it.
+/// The answer to what is asked for, by its kind. It is made in one piece, and in line where an effect is made, since moving it costs as much
+/// as making it.
+#[inline(always)]
 fn tell(
     asked: &Asked<'_>,
     known: Option<KnownItem>,
@@ -60,7 +64,8 @@ fn tell(
     }
 }
 
-/// The answer to a loan or a renewal that is made.
+/// The answer to a loan or a renewal that is made. In line, for the same reason.
+#[inline(always)]
 pub fn tell_made(
     asked: &Asked<'_>,
     article: &Article,
@@ -80,8 +85,8 @@ pub fn refuse_for(
     asked: &Asked<'_>,
     article: Option<Article>,
     rental: Amount,
-) -> Result<Effect, AllocError>
-    ensures { IfOk result (λ e. e ≡ refused asked.now.policy.now asked.now.request asked.now.date article rental) }
+) -> Result<Effect, Stop>
+    ensures { Follows result (Done (refused asked.now.policy.now asked.now.request asked.now.date article rental)) }
 {
     let known = match article {
         Some(article) => Some(show(article.item.get())?),
@@ -92,8 +97,8 @@ pub fn refuse_for(
 }
 
 /// A refusal for something else than a rental.
-pub fn refuse(asked: &Asked<'_>, article: Option<Article>) -> Result<Effect, AllocError>
-    ensures { IfOk result (λ e. e ≡ refused asked.now.policy.now asked.now.request asked.now.date article 0) }
+pub fn refuse(asked: &Asked<'_>, article: Option<Article>) -> Result<Effect, Stop>
+    ensures { Follows result (Done (refused asked.now.policy.now asked.now.request asked.now.date article 0)) }
 {
     refuse_for(asked, article, nothing())
 }

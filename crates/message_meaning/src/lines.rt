@@ -48,13 +48,18 @@ fn follow_line<S: Source>(
     let Some(reading) = plan.reading(line) else {
         return Ok(Effect::unwritten(alloc, None));
     };
-    match reading {
-        Reading::Asked(request) => follow_request(alloc, plan.policy(), line, request, source),
-        Reading::BadSum => Ok(Effect::unwritten(alloc, Some(Answer::Resend))),
-        Reading::Passed(_) | Reading::Unread(_) => Ok(Effect::unwritten(alloc, None)),
-    }
+    let answer = match reading {
+        Reading::Asked(request) => {
+            return follow_request(alloc, plan.policy(), line, request, source);
+        }
+        Reading::BadSum => Some(Answer::Resend),
+        Reading::Passed(_) | Reading::Unread(_) => None,
+    };
+    Ok(Effect::unwritten(alloc, answer))
 }
 
+/// In line, so that what the line does isn't moved again.
+#[inline(always)]
 #[tactic(auto, unfolding(crate::specs::Rules::rule_of), using(read_set::proofs::Gaining::gains_none))]
 fn follow_request<S: Source>(
     alloc: Global,
@@ -66,22 +71,20 @@ fn follow_request<S: Source>(
     ensures gives { Follows result (follow (S.has source.new) (rule_of policy.now line request.now.date request.now.act)) }
     ensures keeps { Gains (S.has source.old) (S.has source.new) (rule_of policy.now line request.now.date request.now.act) }
 {
+    // each is returned at once: what is done by one of several branches would move once more behind them, and is large
     match &request.act {
-        Act::BlockPatron(asked) => block(alloc, policy, true, &asked.patron, request.date, source),
-        Act::Checkin(asked) => check_in(alloc, policy, line, asked, request.date, source),
-        Act::Checkout(asked) => check_out(alloc, policy, line, asked, request.date, source),
-        Act::Hold(asked) => hold(alloc, policy, asked, request.date, source),
-        Act::ItemStatus(asked) => update(alloc, policy, asked, request.date, source),
-        Act::PatronEnable(asked) => block(
-            alloc,
-            policy,
-            false,
-            &asked.patron,
-            request.date,
-            source,
-        ),
-        Act::Renew(asked) => renew_item(alloc, policy, line, asked, request.date, source),
-        Act::FeePaid(asked) => take_payment(alloc, policy, asked, request.date, source),
-        Act::RenewAll(asked) => renew_all(alloc, policy, line, asked, request.date, source),
+        Act::BlockPatron(asked) => {
+            return block(alloc, policy, true, &asked.patron, request.date, source);
+        }
+        Act::Checkin(asked) => return check_in(alloc, policy, line, asked, request.date, source),
+        Act::Checkout(asked) => return check_out(alloc, policy, line, asked, request.date, source),
+        Act::Hold(asked) => return hold(alloc, policy, asked, request.date, source),
+        Act::ItemStatus(asked) => return update(alloc, policy, asked, request.date, source),
+        Act::PatronEnable(asked) => {
+            return block(alloc, policy, false, &asked.patron, request.date, source);
+        }
+        Act::Renew(asked) => return renew_item(alloc, policy, line, asked, request.date, source),
+        Act::FeePaid(asked) => return take_payment(alloc, policy, asked, request.date, source),
+        Act::RenewAll(asked) => return renew_all(alloc, policy, line, asked, request.date, source),
     }
 }

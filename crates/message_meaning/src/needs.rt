@@ -41,7 +41,7 @@ fn need_on<J: PlanName, N: NotesName>(
     let mut source: NotesSource<N> = NotesSource::new(notes);
     match perform(alloc, plan, line, &mut source) {
         Ok(effect) => end(alloc, line, attempt, notes, effect),
-        Err(Stop::Unnoted(key)) => Ok(Need::Key(key)),
+        Err(Stop::Unnoted(key)) => Ok(Need::Key(key.key())),
         Err(Stop::Memory) => Err(AllocError),
     }
 }

@@ -123,6 +123,7 @@ impl Draft {
     }
 
     /// The records in the order of keys.
+    #[inline(always)]
     pub fn finish(self, alloc: Global) -> Result<Writes, AllocError>
         ensures { IfOk result (λ w. w ≡ self) }
     {

@@ -54,6 +54,7 @@ impl Member {
 }
 
 /// The item that a record is: a record of another kind, and an item whose media type the policy lacks, count as unknown.
+#[inline(always)]
 #[tactic(auto, unfolding(crate::specs::Known::as_article))]
 pub fn known_item(policy: &Policy, found: Option<Record>) -> Option<Article>
     ensures { result ≡ as_article policy.now found }
@@ -68,6 +69,7 @@ pub fn known_item(policy: &Policy, found: Option<Record>) -> Option<Article>
 }
 
 /// The patron that a record is: a record of another kind, and a patron whose class the policy lacks, count as unknown.
+#[inline(always)]
 #[tactic(auto, unfolding(crate::specs::Known::as_member))]
 pub fn known_patron(policy: &Policy, found: Option<Record>) -> Option<Member>
     ensures { result ≡ as_member policy.now found }

@@ -53,10 +53,10 @@ impl<N: NotesName> Source for NotesSource<'_, N> {
     ghost has = { λ s. noted N.notes };
 
     #[tactic(auto, using(crate::proofs::Gaining::gains_none))]
-    fn read(&mut self, _alloc: Global, key: &Key) -> Result<Option<Record>, Stop> {
+    fn read(&mut self, alloc: Global, key: &Key) -> Result<Option<Record>, Stop> {
         match self.notes.get(key) {
             Some(note) => Ok(note.found.record()?),
-            None => Err(Stop::Unnoted(*key)),
+            None => Err(Stop::Unnoted(KeptKey::new(alloc, key)?)),
         }
     }
 }
@@ -105,7 +105,7 @@ fn look_for<L: Looks>(
     ensures keeps { Gains (noted notes.old) (noted notes.new) (Ask key.now Give) }
 {
     let Some(seen) = looks.look(alloc, key)? else {
-        return Err(Stop::Unnoted(*key));
+        return Err(Stop::Unnoted(KeptKey::new(alloc, key)?));
     };
     let (name, found) = seen;
     note_found(alloc, notes, key, name, found)

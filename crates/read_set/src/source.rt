@@ -5,15 +5,16 @@ ghost use Rattle.circ_records.specs.declared.record.Record.{Record};
 ghost use Rattle.read_set.specs.Asks.{follow, Ask, Give, Gains};
 ghost use Rattle.read_set.specs.Stops.{Follows};
 
-use circ_records::{Key, Record};
+use circ_records::{KeptKey, Key, Record};
 use sip_reader::KeptId;
 use std::alloc::{AllocError, Global};
 
-/// Why the meaning of a line stopped before its end.
+/// Why the meaning of a line stopped before its end. Each record that is read comes with room for a stop, so its key is kept: a `Key` has
+/// room for the longest id.
 #[derive(Drop)]
 pub enum Stop {
     /// The source has nothing at this key, neither a record nor that there is none.
-    Unnoted(Key),
+    Unnoted(KeptKey),
     /// There was no memory.
     Memory,
 }

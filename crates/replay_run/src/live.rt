@@ -76,6 +76,7 @@ impl Source for Live {
         }
     }
 
+    #[inline(always)]
     #[tactic(auto, using(read_set::proofs::Gaining::gains_none))]
     fn read_patron(&mut self, _alloc: Global, id: &KeptId) -> Result<Option<Record>, Stop> {
         match self.records.patron(id) {
@@ -84,6 +85,7 @@ impl Source for Live {
         }
     }
 
+    #[inline(always)]
     #[tactic(auto, using(read_set::proofs::Gaining::gains_none))]
     fn read_item(&mut self, _alloc: Global, id: &KeptId) -> Result<Option<Record>, Stop> {
         match self.records.item(id) {

@@ -1,6 +1,6 @@
 //! The replay by one thread: the lines in the order of the journal, each on the records that the lines before it left.
 
-ghost use Rattle.std.specs.Prelude.{◌≡◌, ◌++◌, ◌∷◌, [], IfOk, OnOk, length, replicate};
+ghost use Rattle.std.specs.Prelude.{◌≡◌, ◌<◌, ◌+◌, ◌++◌, ◌∷◌, [], IfOk, OnOk, length, replicate, vec_capacity, vec_len};
 ghost use Rattle.circ_records.specs.declared.key.Key.{Key};
 ghost use Rattle.read_set.specs.Maps.{Map};
 ghost use Rattle.read_set.specs.Plans.{plan_over};
@@ -57,8 +57,8 @@ fn replay_over(alloc: Global, plan: &Plan, base: RecordMap) -> Result<ReplayEnd,
     })
 }
 
-/// Takes the line of a number on the records as they stand, and puts its answer, where it has one, behind the others. Where memory
-/// runs out nothing is said of them: the replay drops them all then.
+/// Takes the line of a number on the records as they stand, and puts its answer, where it has one, behind the others, who have room for it:
+/// so it goes there at once. Where memory runs out nothing is said of them: the replay drops them all then.
 fn take_line(
     alloc: Global,
     plan: &Plan,
@@ -66,13 +66,16 @@ fn take_line(
     live: &mut Live,
     answers: &mut Vec<Option<Answer>>,
 ) -> Result<(), AllocError>
+    requires { vec_len answers.old < vec_capacity answers.old }
+    ensures len { OnOk result (vec_len answers.new ≡ vec_len answers.old + 1) }
+    ensures capacity { OnOk result (vec_capacity answers.new ≡ vec_capacity answers.old) }
     ensures answer { OnOk result ((M : Map) → ((k : Key) → standing live.old k ≡ M k) → answers.new.items ≡ answers.old.items ++ (one_at plan.now line M).1 ∷ []) }
     ensures records { OnOk result ((M : Map) → ((k : Key) → standing live.old k ≡ M k) → (k : Key) → standing live.new k ≡ (one_at plan.now line M).0 k) }
 {
     match perform(alloc, plan, line, live) {
         Ok(Effect { writes, answer }) => {
             // at once, so that it moves from where it was made
-            answers.push(answer)?;
+            answers.push_reserved(answer);
             live.put(writes)?;
             Ok(())
         }

@@ -31,6 +31,7 @@ impl Listing {
 
     /// Writes the row of a line at the end: its number, its connection, and words about it. Where memory runs out the
     /// table can no longer be finished.
+    #[inline(always)]
     pub fn row(&mut self, line: &Line, words: &[u8]) -> Result<(), AllocError>
         requires { HasRoomFor self.old }
         ensures ok { OnOk result (Gains (Some (row_of line.now words.now)) self.old self.new) }

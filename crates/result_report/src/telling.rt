@@ -81,6 +81,7 @@ impl Telling {
     }
 
     /// Tells one line. Where memory runs out its caller drops all that is told, so nothing is said of it.
+    #[inline(always)]
     pub fn line(
         &mut self,
         alloc: Global,

@@ -1,5 +1,6 @@
 pub mod AmountDigits
 pub mod Calendar
+pub mod Codes
 pub mod DueTexts
 pub mod FirstFields
 pub mod Forms

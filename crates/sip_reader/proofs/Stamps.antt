@@ -1,6 +1,6 @@
 -- What the bytes of a date have.
-use Rattle.std.proofs.Common.{◌≡◌, ◌≢◌, ◌≤◌, ◌<◌, ◌+◌, ◌-◌, ◌%◌, ◌^◌, ℕ, Bool, true, List, [], ◌∷◌, map, length, get_or, replicate, cond, eqb, leb, ◌&&◌, not, false, take, drop, Fits, w8, None, refl, sym, ap, ap₂, ◌∙◌, arith}
-use Rattle.std.proofs.lemmas.Bool.{and_parts, eqb-true, leb-true, lt-leb, ne_eqb}
+use Rattle.std.proofs.Common.{◌≡◌, ◌≢◌, ◌≤◌, ◌<◌, ◌+◌, ◌-◌, ◌%◌, ◌^◌, ℕ, Bool, true, List, [], ◌∷◌, map, length, get_or, replicate, cond, eqb, leb, ltb, ◌&&◌, not, false, take, drop, Fits, w8, None, refl, sym, ap, ap₂, ◌∙◌, arith}
+use Rattle.std.proofs.lemmas.Bool.{and_parts, eqb-true, le-ltb, leb-true, lt-leb, lt-ltb, ltb-false, ltb-true, ne_eqb}
 use Rattle.std.proofs.lemmas.List.{get_or-drop, get_or-take, length-drop, length-map, length-take-le, take_all}
 use Rattle.std.proofs.lemmas.Simd.{chunk-fits, length-chunk, map-map, zip2_splat, zip2_splat_left}
 use lib.Lanes.{chunk, mask_l, top, zip2}
@@ -61,23 +61,46 @@ last_six s bits long is =
 low : (b : ℕ) → is_ascii_digit b ≡ true → 48 ≤ b
 low b h = leb-true 48 b (and_parts (leb 48 b) (leb b 57) h).0
 
+high : (b : ℕ) → is_ascii_digit b ≡ true → b ≤ 57
+high b h = leb-true b 57 (and_parts (leb 48 b) (leb b 57) h).1
+
 front : (s : List ℕ) (i : ℕ) → length s ≡ 18 → has_digits s ≡ true → i < 8 → 48 ≤ get_or s i 0
 front s i long digits small =
     let all = (and_parts (list_all is_ascii_digit (take 8 s)) (list_all is_ascii_digit (drop 12 s)) digits).0 in
     let here = length-take-le 8 s (omega arith) in
     low (get_or s i 0) (ap is_ascii_digit (sym (get_or-take 8 s i 0 small)) ∙ digit_at (take 8 s) i all (omega (arith, here)))
 
-back : (s : List ℕ) (i : ℕ) → length s ≡ 18 → has_digits s ≡ true → 12 ≤ i → i < 18 → 48 ≤ get_or s i 0
-back s i long digits large small =
+back_digit : (s : List ℕ) (i : ℕ) → length s ≡ 18 → has_digits s ≡ true → 12 ≤ i → i < 18 → is_ascii_digit (get_or s i 0) ≡ true
+back_digit s i long digits large small =
     let all = (and_parts (list_all is_ascii_digit (take 8 s)) (list_all is_ascii_digit (drop 12 s)) digits).1 in
     let place : 12 + (i - 12) ≡ i = omega arith in
-    low (get_or s i 0) (ap (λ k. is_ascii_digit (get_or s k 0)) (sym place) ∙ ap is_ascii_digit (sym (get_or-drop 12 s (i - 12) 0)) ∙ digit_at (drop 12 s) (i - 12) all (omega (arith, length-drop 12 s)))
+    ap (λ k. is_ascii_digit (get_or s k 0)) (sym place) ∙ ap is_ascii_digit (sym (get_or-drop 12 s (i - 12) 0)) ∙ digit_at (drop 12 s) (i - 12) all (omega (arith, length-drop 12 s))
+
+back : (s : List ℕ) (i : ℕ) → length s ≡ 18 → has_digits s ≡ true → 12 ≤ i → i < 18 → 48 ≤ get_or s i 0
+back s i long digits large small = low (get_or s i 0) (back_digit s i long digits large small)
+
+pub back_high : (s : List ℕ) (i : ℕ) → length s ≡ 18 → has_digits s ≡ true → 12 ≤ i → i < 18 → get_or s i 0 ≤ 57
+back_high s i long digits large small = high (get_or s i 0) (back_digit s i long digits large small)
 
 pub front_pair : (s : List ℕ) (i : ℕ) → length s ≡ 18 → has_digits s ≡ true → i + 1 < 8 → ArePair s i
 front_pair s i long digits small = (front s i long digits (omega arith), front s (i + 1) long digits small)
 
 pub back_pair : (s : List ℕ) (i : ℕ) → length s ≡ 18 → has_digits s ≡ true → 12 ≤ i → i + 1 < 18 → ArePair s i
 back_pair s i long digits large small = (back s i long digits large (omega arith), back s (i + 1) long digits (omega arith) small)
+
+-- two digits behind the zone spell less than 60 where the first is less than a 6
+pub sixtieth : (s : List ℕ) (i : ℕ) → length s ≡ 18 → has_digits s ≡ true → 12 ≤ i → i + 1 < 18 → ltb (get_or s i 0) 54 ≡ ltb (two_at i s) 60
+sixtieth s i long digits behind within = by (ltb (get_or s i 0) 54) refl
+  where
+    first : 48 ≤ get_or s i 0
+    first = back s i long digits behind (omega arith)
+
+    second : get_or s (i + 1) 0 ≤ 57
+    second = back_high s (i + 1) long digits (omega arith) within
+
+    by : (b : Bool) → ltb (get_or s i 0) 54 ≡ b → b ≡ ltb (two_at i s) 60
+    by true e = let less = ltb-true (get_or s i 0) 54 e in sym (lt-ltb (two_at i s) 60 (omega (arith, less, first, second)))
+    by false e = let more = ltb-false (get_or s i 0) 54 e in sym (le-ltb (two_at i s) 60 (omega (arith, more, first, second)))
 
 pub stamp_digits : (s : List ℕ) → is_stamp s ≡ true → has_digits s ≡ true
 unfolding is_stamp

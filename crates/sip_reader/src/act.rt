@@ -20,6 +20,7 @@ use crate::{
 use std::alloc::{AllocError, Global};
 
 /// What a request of a kind asks, once it has passed the tests.
+#[inline(always)]
 pub fn asked_act(
     alloc: Global,
     kind: Kind,

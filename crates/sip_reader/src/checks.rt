@@ -123,7 +123,8 @@ pub fn is_lacking(layout: &Layout, fields: &Fields<'_>) -> bool
         || layout.amount && fields.amount.is_none()
 }
 
-/// Whether a required amount isn't one.
+/// Whether a required amount isn't one. In line, since few requests have an amount.
+#[inline(always)]
 #[tactic(auto, unfolding(crate::specs::Reading::has_bad_amount))]
 pub fn is_bad_amount(layout: &Layout, fields: &Fields<'_>) -> bool
     ensures { result ≡ has_bad_amount layout.now (texts_behind fields.now) }
@@ -131,7 +132,8 @@ pub fn is_bad_amount(layout: &Layout, fields: &Fields<'_>) -> bool
     layout.amount && amount_in(fields.amount).is_none()
 }
 
-/// The amount that a text spells.
+/// The amount that a text spells. It stands by itself, so that a request without one makes no room for it.
+#[inline(never)]
 pub fn amount_in(text: Option<&[u8]>) -> Option<Amount>
     ensures { result ≡ option_and_then amount_of (option_copied text.entry) }
 {

@@ -78,13 +78,24 @@ impl Few {
         &self.bytes[..self.len as usize]
     }
 
-    /// Puts them behind other bytes. All 14 are copied and the zeros cut off again, which takes no call.
+    /// Puts them behind other bytes. All 14 are copied and the zeros cut off again, which takes no call where there is room.
     pub fn put_behind(&self, out: &mut Vec<u8>) -> Result<(), AllocError>
         ensures { OnOk result (out.new.items ≡ out.old.items ++ self.now) }
     {
+        if out.capacity().wrapping_sub(out.len()) < FEW_MAX {
+            return self.put_behind_last(out);
+        }
         out.extend_from_slice(&self.bytes)?;
         out.truncate(out.len() - (FEW_MAX - self.len as usize));
         Ok(())
+    }
+
+    /// The same where there may be too little room, which is rare: it stands by itself, so that the other way needs none for a call.
+    #[inline(never)]
+    fn put_behind_last(&self, out: &mut Vec<u8>) -> Result<(), AllocError>
+        ensures { OnOk result (out.new.items ≡ out.old.items ++ self.now) }
+    {
+        out.extend_from_slice(self.as_bytes())
     }
 
     /// How they go against others in the order of bytes. Others that are more differ among the first 14, or are longer.

@@ -74,8 +74,9 @@ impl<'a> Fields<'a> {
     fn note(&mut self, piece: &'a [u8])
         ensures { texts_behind self.new ≡ with_piece (texts_behind self.old) piece.now }
     {
-        let (letter, second) = (first_byte(piece), second_byte(piece));
+        // written before the bytes are looked at, which the compiler then needn't read again
         self.short = is_short_so_far(self.short, piece);
+        let (letter, second) = (first_byte(piece), second_byte(piece));
         if letter == b'A' {
             if second == b'A' {
                 self.patron = first(self.patron, b'A', b'A', piece);

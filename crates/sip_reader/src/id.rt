@@ -47,6 +47,7 @@ impl Model for Id {
 
 impl Id {
     /// The id of these bytes.
+    #[inline(always)]
     pub fn new(bytes: &[u8]) -> Option<Id>
         ensures { result ≡ (if is_id bytes.now then Some bytes.now else None) }
     {

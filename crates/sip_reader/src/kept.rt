@@ -99,13 +99,22 @@ impl KeptId {
     }
 
     /// Its number, as `Id::number` tells it.
+    #[inline(always)]
     pub fn number(&self) -> u64
         ensures { result ≡ id_number self.now }
     {
         match self.text.few() {
             Some(few) => few.number(),
-            None => self.id().number(),
+            None => self.number_of_many(),
         }
+    }
+
+    /// The same, wherever its bytes stand. It stands by itself, so that few bytes need no room for a whole id.
+    #[inline(never)]
+    fn number_of_many(&self) -> u64
+        ensures { result ≡ id_number self.now }
+    {
+        self.id().number()
     }
 
     /// Whether a short id is this one.

@@ -1,6 +1,6 @@
 //! Dates and times of messages.
 
-ghost use Rattle.std.specs.Prelude.{◌≡◌, ◌<◌, ◌≤◌, ◌+◌, ◌-◌, if◌then◌else◌, Some, None, true, length, IsTrue};
+ghost use Rattle.std.specs.Prelude.{◌≡◌, ◌<◌, ◌≤◌, ◌+◌, ◌-◌, if◌then◌else◌, Some, None, true, length, IsTrue, nat_lt};
 ghost use Rattle.sip_reader.specs.Days.{LAST_STAMP_DAY};
 ghost use Rattle.sip_reader.specs.Devices.Bars.{other_bits};
 ghost use Rattle.sip_reader.specs.Devices.Digits.{ArePair};
@@ -12,6 +12,9 @@ use std::simd::prelude::*;
 
 /// The length of a date and time in a message, in bytes.
 pub const STAMP_LEN: usize = 18;
+
+/// What the digits of 00 count as bytes: it is taken from two digits at once.
+const TWO_ZEROS: u32 = 528;
 
 /// A date and time `YYYYMMDDZZZZHHMMSS` as it stands in a message, of the years 1900 to 9900.
 #[derive(Clone, Copy)]
@@ -100,10 +103,23 @@ fn is_time(s: &[u8]) -> bool
     requires digits { has_digits s.now ≡ true }
     ensures { result ≡ has_time s.now }
 {
-    two(s, 12) < 24 && two(s, 14) < 60 && two(s, 16) < 60
+    two(s, 12) < 24 && is_sixtieth(s, 14) && is_sixtieth(s, 16)
+}
+
+/// Whether two digits behind the zone spell less than 60, which the first tells.
+#[tactic(auto, using(crate::proofs::Stamps::sixtieth))]
+fn is_sixtieth(s: &[u8], i: usize) -> bool
+    requires long { length s.now ≡ STAMP_LEN }
+    requires digits { has_digits s.now ≡ true }
+    requires behind { 12 ≤ i }
+    requires within { i + 1 < STAMP_LEN }
+    ensures { result ≡ nat_lt (two_at i s.now) 60 }
+{
+    s[i] < b'6'
 }
 
 /// The day of bytes, where they are a date.
+#[inline(always)]
 #[tactic(auto, unfolding(crate::specs::Dates::is_stamp, crate::specs::Dates::day_of))]
 pub(crate) fn day_in(bytes: &[u8]) -> Option<Day>
     ensures { result ≡ given_day bytes.now }
@@ -144,5 +160,5 @@ fn two(s: &[u8], i: usize) -> u32
     ensures value { result ≡ two_at i s.now }
     ensures small { result < 3000 }
 {
-    u32::from(s[i] - b'0') * 10 + u32::from(s[i + 1] - b'0')
+    u32::from(s[i]) * 10 + u32::from(s[i + 1]) - TWO_ZEROS
 }

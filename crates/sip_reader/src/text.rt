@@ -104,13 +104,22 @@ impl Text {
     }
 
     /// Puts its bytes behind others.
+    #[inline(always)]
     pub fn put_behind(&self, out: &mut Vec<u8>) -> Result<(), AllocError>
         ensures { OnOk result (out.new.items ≡ out.old.items ++ self.now) }
     {
         match self.few() {
             Some(few) => few.put_behind(out),
-            None => out.extend_from_slice(self.as_bytes()),
+            None => self.put_many_behind(out),
         }
+    }
+
+    /// The same, wherever they stand. It stands by itself, so that few bytes need no room for a call.
+    #[inline(never)]
+    fn put_many_behind(&self, out: &mut Vec<u8>) -> Result<(), AllocError>
+        ensures { OnOk result (out.new.items ≡ out.old.items ++ self.now) }
+    {
+        out.extend_from_slice(self.as_bytes())
     }
 
     /// Its bytes are a text, as its type promises. There is nothing to do: it is for whoever has to know it of bytes that were not looked at.

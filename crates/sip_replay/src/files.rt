@@ -2,6 +2,7 @@
 
 use crate::stop::Stop;
 use command_line::Options;
+use csv_table::read_bytes;
 use replay_run::{Inputs, Output, Tables};
 use std::alloc::{AllocError, Global};
 use std::io::Write;
@@ -126,7 +127,11 @@ fn read_in<R: Files + AllocGlobal>(rt: &R, folder: &str, name: &str) -> Result<V
 }
 
 fn read_file<R: Files + AllocGlobal>(rt: &R, path: &str) -> Result<Vec<u8>, Stop> {
-    fs::read(rt, path).map_err(|error| Stop::of_file(rt.alloc(), &error, path))
+    bytes_at(rt, path).map_err(|error| Stop::of_file(rt.alloc(), &error, path))
+}
+
+fn bytes_at<R: Files + AllocGlobal>(rt: &R, path: &str) -> io::Result<Vec<u8>> {
+    read_bytes(rt.alloc(), &mut fs::open(rt, path)?)
 }
 
 /// The bytes of a file, none where there is no such file. One that is there and can't be read is a fault.
@@ -136,7 +141,7 @@ fn read_if_there<R: Files + AllocGlobal>(
     name: &str,
 ) -> Result<Vec<u8>, Stop> {
     let path = path_in(rt.alloc(), folder, name)?;
-    match fs::read(rt, path.as_str()) {
+    match bytes_at(rt, path.as_str()) {
         Ok(bytes) => Ok(bytes),
         Err(error) if error.kind() == io::ErrorKind::NotFound => Ok(Vec::new(rt.alloc())),
         Err(error) => Err(Stop::of_file(rt.alloc(), &error, path.as_str())),

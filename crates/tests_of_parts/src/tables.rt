@@ -2,7 +2,7 @@
 //! `books` and `cases`.
 
 use csv::ByteRecord;
-use csv_table::{RowReader, TableError, TableText, column};
+use csv_table::{RowReader, TableError, TableText, column, read_bytes};
 use journal_table::{Journal, Line};
 use std::alloc::{AllocError, AllocGlobal, Global};
 use std::process::Abort;
@@ -85,5 +85,22 @@ fn quotes_what_needs_it(rt: HostRuntime) -> Result<(), Fail> {
     let want = "id,name\nP1,\"Ann, again\"\n,\"say \"\"x\"\"\"\n\"two\nlines\",\"end\r\"\n P 2 ,\n";
     let text = text.finish()?;
     assert!(rt; text.as_slice() == want.as_bytes());
+    Ok(())
+}
+
+/// More bytes than are read at once, and none.
+#[test]
+fn bytes_of_a_reader(rt: HostRuntime) -> Result<(), Fail> {
+    let mut text = Vec::new(rt.alloc());
+    for i in 0..20_000u32 {
+        text.push((i % 251) as u8)?;
+    }
+    for length in [0, 1, 8_191, 8_192, 8_193, 20_000] {
+        let front = text.as_slice().get(..length).expect(&rt, "so many bytes");
+        let mut reader = front;
+        let bytes = read_bytes(rt.alloc(), &mut reader).ok();
+        let bytes = bytes.expect(&rt, "bytes");
+        assert!(rt; bytes.as_slice() == front, "{length}");
+    }
     Ok(())
 }

@@ -6,7 +6,9 @@ ghost use Rattle.circ_policy.specs.Medias.{media_code};
 ghost use Rattle.sip_answer.specs.Parts.{digit, field, filled, flag, given};
 ghost use Rattle.sip_answer.specs.Texts.{checkin_text, hold_text, item_status_text, position_text};
 
-use super::parts::{put_digit, put_field, put_filled, put_flag, put_id, put_number};
+use super::parts::{
+    put_digit, put_field, put_filled, put_flag, put_id, put_media, put_number, put_text,
+};
 use crate::answer::{
     CheckinAnswer, HoldAnswer, ItemStatusAnswer, QueuePosition, ReturnedItem, TitledItem,
 };
@@ -79,10 +81,10 @@ fn put_returned(
 {
     match known {
         Some(item) => {
-            put_field(out, b"AQ", item.location.as_bytes())?;
+            put_text(out, b"AQ", &item.location)?;
             put_field(out, b"AJ", item.title.as_bytes())?;
             put_borrower(out, borrower)?;
-            put_field(out, b"CK", &item.media.code())?;
+            put_media(out, item.media)?;
             put_filled(out, b"CH", item.properties.as_bytes())
         }
         None => {

@@ -8,7 +8,9 @@ ghost use Rattle.sip_answer.specs.Parts.{count, digit, each, field, filled, flag
 ghost use Rattle.sip_answer.specs.Texts.{loan_text, money, renew_all_text};
 
 use super::dates::{put_due, put_four};
-use super::parts::{COUNT_MAX, put_digit, put_field, put_filled, put_flag, put_id, put_money};
+use super::parts::{
+    COUNT_MAX, put_digit, put_field, put_filled, put_flag, put_id, put_media, put_money,
+};
 use crate::answer::{KnownItem, LoanAnswer, RenewAllAnswer};
 use sip_reader::{Amount, Id};
 use std::alloc::AllocError;
@@ -81,7 +83,7 @@ fn put_media_and_properties(out: &mut Vec<u8>, known: &Option<KnownItem>) -> Res
 {
     match known {
         Some(item) => {
-            put_field(out, b"CK", &item.media.code())?;
+            put_media(out, item.media)?;
             put_filled(out, b"CH", item.properties.as_bytes())
         }
         None => Ok(()),

@@ -1,18 +1,24 @@
 //! The parts of which a response is made, each appended to what is written before.
 
 ghost use Rattle.std.specs.Prelude.{◌≡◌, ◌++◌, ◌<◌, ◌/◌, ◌%◌, OnOk, Some, codes, decimal};
+ghost use Rattle.circ_policy.specs.Medias.{media_code};
 ghost use Rattle.sip_reader.specs.Amounts.{amount_text};
 ghost use Rattle.sip_answer.specs.Texts.{money};
 ghost use Rattle.sip_answer.specs.Parts.{field, filled, digit, flag, hex_digit, hex_digits, with_sequence};
 
+use circ_policy::MediaType;
 use itoa::Buffer;
-use sip_reader::{KeptId, push_amount, sum_of};
+use sip_reader::{KeptId, Text, push_amount, sum_of};
 use std::alloc::AllocError;
 
 /// The greatest count that the four digits of a response tell (SIP 2.00, fixed-length fields).
 pub const COUNT_MAX: usize = 9999;
 
-/// A field: its identifier, its text and a bar.
+/// The hexadecimal digits.
+const HEX: &[u8; 16] = b"0123456789ABCDEF";
+
+/// A field: its identifier, its text and a bar. In line, since each caller knows its identifier.
+#[inline(always)]
 #[tactic(auto, unfolding(crate::specs::Parts::field))]
 pub fn put_field(out: &mut Vec<u8>, id: &[u8; 2], text: &[u8]) -> Result<(), AllocError>
     ensures { OnOk result (out.new.items ≡ out.old.items ++ field id.now text.now) }
@@ -23,7 +29,8 @@ pub fn put_field(out: &mut Vec<u8>, id: &[u8; 2], text: &[u8]) -> Result<(), All
     Ok(())
 }
 
-/// A field of an id. Most ids are short, and are copied without a call.
+/// A field of an id. Most ids are short, and are copied without a call. In line, for the same reason.
+#[inline(always)]
 #[tactic(auto, unfolding(crate::specs::Parts::field))]
 pub fn put_id(out: &mut Vec<u8>, id: &[u8; 2], named: &KeptId) -> Result<(), AllocError>
     ensures { OnOk result (out.new.items ≡ out.old.items ++ field id.now named.now) }
@@ -32,6 +39,27 @@ pub fn put_id(out: &mut Vec<u8>, id: &[u8; 2], named: &KeptId) -> Result<(), All
     named.put_behind(out)?;
     out.push(b'|')?;
     Ok(())
+}
+
+/// A field of a text that is mostly short: then it is copied without a call. In line, for the same reason.
+#[inline(always)]
+#[tactic(auto, unfolding(crate::specs::Parts::field))]
+pub fn put_text(out: &mut Vec<u8>, id: &[u8; 2], text: &Text) -> Result<(), AllocError>
+    ensures { OnOk result (out.new.items ≡ out.old.items ++ field id.now text.now) }
+{
+    out.extend_from_slice(id)?;
+    text.put_behind(out)?;
+    out.push(b'|')?;
+    Ok(())
+}
+
+/// The field of a media type: so few bytes are copied at once.
+#[tactic(auto, using(crate::proofs::Codes::three_digits), unfolding(crate::specs::Parts::field))]
+pub fn put_media(out: &mut Vec<u8>, media: MediaType) -> Result<(), AllocError>
+    ensures { OnOk result (out.new.items ≡ out.old.items ++ field (codes "CK") (media_code media)) }
+{
+    let code = media.code();
+    out.extend_from_slice(&[b'C', b'K', code[0], code[1], code[2], b'|'])
 }
 
 /// A field that is left out where its text is empty.
@@ -111,15 +139,12 @@ fn behind_point(hundredths: u64) -> [u8; 3]
     [b'.', b'0' + tens, b'0' + ones]
 }
 
+#[tactic(auto, using(crate::proofs::Codes::sixteen))]
 fn hex(n: u16) -> u8
     requires { n < 16 }
     ensures { result ≡ hex_digit n }
 {
-    if n < 10 {
-        b'0' + n as u8
-    } else {
-        b'A' - 10 + n as u8
-    }
+    HEX[n as usize]
 }
 
 #[tactic(auto, unfolding(crate::specs::Parts::hex_digits))]

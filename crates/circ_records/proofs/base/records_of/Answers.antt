@@ -9,7 +9,7 @@ use Rattle.circ_records.proofs.base.records_of.Goals as goal
 
 pub returns-in_err-add_patrons-clause-err : goal.returns-in_err-add_patrons-clause-err
 returns-in_err-add_patrons-clause-err c =
-    still-stops _ _ _ _ c.from_residual.ensures.1 (in-patrons _ c.args.policy.now c.args.first c.args.tables.now c.in_err-add_patrons.ensures.err)
+    still-stops _ _ _ _ c.from_residual-in_err-add_patrons.ensures.1 (in-patrons _ c.args.policy.now c.args.first c.args.tables.now c.in_err-add_patrons.ensures.err)
 
 pub returns-in_err-add_items-clause-err : goal.returns-in_err-add_items-clause-err
 returns-in_err-add_items-clause-err c =

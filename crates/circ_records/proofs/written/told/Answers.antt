@@ -17,9 +17,8 @@ loop-entry-preserved c =
     let next : suc n ≡ n + 1 = omega arith in
     let more : take n all ++ c.entry-item.result ∷ [] ≡ take (n + 1) all =
     ap (λ e. take n all ++ e ∷ []) c.entry-item.is ∙ sym (take-suc all n c.entry-item.result c.loop-entry-test.true) ∙ ap (λ m. take m all) next in
-    let told = rw c.key.ensures at c.in_ok-entry.ensures in
     subst (λ (es : Entries). Holds c.args.records.now es c.entry.new.self) more
-    (holds-more c.args.records.now (take n all) c.entry-item.result c.loop-entry.texts c.entry.new.self c.loop-entry.invariant told)
+    (holds-more c.args.records.now (take n all) c.entry-item.result c.loop-entry.texts c.entry.new.self c.loop-entry.invariant c.in_ok-entry.ensures)
 
 pub returns : goal.returns
 returns c =

@@ -1,6 +1,7 @@
-use Rattle.std.proofs.Common.{ap, sym, Ok}
+use Rattle.std.proofs.Common.{refl, subst, sym}
 use Rattle.std.proofs.lemmas.Result.{err_from_is_err_and}
-use Rattle.read_set.specs.Asks.{Give, Done}
+use Rattle.read_set.specs.Asks.{Give}
+use Rattle.read_set.specs.Stops.{Follows}
 use Rattle.loan_meaning.specs.Lookups.{item_at, borrower_at}
 use Rattle.loan_meaning.specs.Checkins.{checkin_rule}
 use Rattle.read_set.specs.Checkins.{checkin, checked_in, loan_of}
@@ -21,12 +22,14 @@ pub returns-clause-gives : goal.returns-clause-gives
 unfolding checkin_rule
 returns-clause-gives g c =
     let second = c.in_ok-member.ensures.gives in
-    follow_next _ _ (item_at c.args.policy.now c.args.request.now.item) _ c.in_ok-article.article _ c.in_ok-member.ensures.keeps.grows c.in_ok-article.ensures.gives
-    (follow_then _ (borrower_at c.args.policy.now (loan_of c.in_ok-article.article)) (λ member. Give (checked_in c.args.policy.now c.args.n c.args.request.now c.args.date c.in_ok-article.article member)) c.in_ok-member.member _ second (ap Done (sym c.in_ok-end.ensures)))
+    let ended = checked_in c.args.policy.now c.args.n c.args.request.now c.args.date c.in_ok-article.article c.in_ok-member.member in
+    let reached = follow_next _ _ (item_at c.args.policy.now c.args.request.now.item) _ c.in_ok-article.article ended c.in_ok-member.ensures.keeps.grows c.in_ok-article.ensures.gives
+    (follow_then _ (borrower_at c.args.policy.now (loan_of c.in_ok-article.article)) (λ member. Give (checked_in c.args.policy.now c.args.n c.args.request.now c.args.date c.in_ok-article.article member)) c.in_ok-member.member ended second refl) in
+    subst (Follows c.end.result) (sym reached) c.end.ensures
 
 pub returns-clause-means : goal.returns-clause-means
 returns-clause-means g c =
-    meant (g.S.Source.has c.any_borrower_of.new.source) (checkin_rule c.args.policy.now c.args.n c.args.request.now c.args.date) (checkin c.args.policy.now c.args.n c.args.request.now c.args.date) (Ok c.in_ok-end.field-0)
+    meant (g.S.Source.has c.any_borrower_of.new.source) (checkin_rule c.args.policy.now c.args.n c.args.request.now c.args.date) (checkin c.args.policy.now c.args.n c.args.request.now c.args.date) c.end.result
     (λ M. checkin_whole M c.args.policy.now c.args.n c.args.request.now c.args.date) (returns-clause-gives g c)
 
 pub returns-in_err-member-clause-keeps : goal.returns-in_err-member-clause-keeps
@@ -47,10 +50,3 @@ pub returns-in_err-article-clause-keeps : goal.returns-in_err-article-clause-kee
 unfolding checkin_rule
 returns-in_err-article-clause-keeps g c =
     gains_first _ _ (item_at c.args.policy.now c.args.request.now.item) _ c.in_err-article.ensures.keeps
-
-pub returns-in_err-end-clause-keeps : goal.returns-in_err-end-clause-keeps
-unfolding checkin_rule
-returns-in_err-end-clause-keeps g c =
-    let second = c.in_ok-member.ensures.keeps in
-    gains_then _ _ _ (item_at c.args.policy.now c.args.request.now.item) _ c.in_ok-article.article c.in_ok-article.ensures.gives c.in_ok-article.ensures.keeps
-    (gains_first _ _ (borrower_at c.args.policy.now (loan_of c.in_ok-article.article)) (λ member. Give (checked_in c.args.policy.now c.args.n c.args.request.now c.args.date c.in_ok-article.article member)) second)

@@ -1,6 +1,6 @@
-use Rattle.std.proofs.Common.{◌≡◌, Option, ap, ap₂, sym, ◌∙◌, subst}
+use Rattle.std.proofs.Common.{◌≡◌, Option, ap, ap₂, sym, subst}
 use Rattle.loan_meaning.specs.Renewals.{renewal_rule, renew_rule_known}
-use Rattle.read_set.specs.Asks.{Asks, Give, Done, Gains, follow}
+use Rattle.read_set.specs.Asks.{Asks, Give, Gains, follow}
 use Rattle.read_set.specs.Loans.{refused}
 use Rattle.read_set.specs.Maps.{Part}
 use Rattle.read_set.specs.Stops.{Follows}
@@ -29,6 +29,6 @@ returns-in_default g c =
     let is : renew_rule_known q.policy.now q.number q.request q.date c.args.member c.args.article ≡ Give (refused q.policy.now q.request q.date c.args.article 0) =
     ap (λ (m : Option Member). renew_rule_known q.policy.now q.number q.request q.date m c.args.article) c.in_default.is in
     record {
-      gives = ap (λ (rule : Asks Effect). follow had rule) is ∙ ap (λ (e : Effect). Done e) (sym c.in_ok-refuse.ensures);
+      gives = subst (λ (rule : Asks Effect). Follows c.refuse.result (follow had rule)) (sym is) c.refuse.ensures;
       keeps = gains_none had (renew_rule_known q.policy.now q.number q.request q.date c.args.member c.args.article);
     }

@@ -5,13 +5,13 @@ use Rattle.circ_records.specs.declared.key.Key.{Key}
 use Rattle.replay_run.specs.Live.{standing}
 use Rattle.replay_run.proofs.replay.take_line.Goals as goal
 
-pub returns-in_ok-put-in-Ok-clause-answer : goal.returns-in_ok-put-in-Ok-clause-answer
-returns-in_ok-put-in-Ok-clause-answer c M same =
+pub returns-in-Ok-clause-answer : goal.returns-in-Ok-clause-answer
+returns-in-Ok-clause-answer c M same =
     let kept : (j : Key) → standing c.perform.new.source j ≡ standing c.args.live.now j = λ j. ap (λ o. unwrap_or o None) (c.perform.ensures.keeps.grows j (standing c.args.live.now j) refl) in
-    c.in_ok-push-in-Ok.ensures.items ∙ ap (λ a. c.args.answers.now.items ++ a ∷ []) (sym (c.in-Ok.ensures.gives M (λ j found e. sym (same j) ∙ sym (kept j) ∙ ap (λ o. unwrap_or o None) e)).1)
+    c.push_reserved.ensures.items ∙ ap (λ a. c.args.answers.now.items ++ a ∷ []) (sym (c.in-Ok.ensures.gives M (λ j found e. sym (same j) ∙ sym (kept j) ∙ ap (λ o. unwrap_or o None) e)).1)
 
-pub returns-in_ok-put-in-Ok-clause-records : goal.returns-in_ok-put-in-Ok-clause-records
-returns-in_ok-put-in-Ok-clause-records c M same k =
+pub returns-in-Ok-clause-records : goal.returns-in-Ok-clause-records
+returns-in-Ok-clause-records c M same k =
     let kept : (j : Key) → standing c.perform.new.source j ≡ standing c.args.live.now j = λ j. ap (λ o. unwrap_or o None) (c.perform.ensures.keeps.grows j (standing c.args.live.now j) refl) in
     c.in_ok-put-in-Ok.ensures k
     ∙ ap (λ found. option_or (record_at c.in-Ok.field-0.writes k) found) (kept k ∙ same k)

@@ -4,9 +4,3 @@ use Rattle.sip_reader.proofs.stamp.is_time.Goals as goal
 
 pub two-requires-clause-digits : goal.two-requires-clause-digits
 two-requires-clause-digits c = back_pair c.args.s.now 12 c.requires.long c.requires.digits (omega arith) (omega arith)
-
-pub two-requires-then-two-lt24-clause-digits : goal.two-requires-then-two-lt24-clause-digits
-two-requires-then-two-lt24-clause-digits c = back_pair c.args.s.now 14 c.requires.long c.requires.digits (omega arith) (omega arith)
-
-pub two-requires-then-two-lt60-clause-digits : goal.two-requires-then-two-lt60-clause-digits
-two-requires-then-two-lt60-clause-digits c = back_pair c.args.s.now 16 c.requires.long c.requires.digits (omega arith) (omega arith)

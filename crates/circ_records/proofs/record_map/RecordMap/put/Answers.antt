@@ -6,7 +6,7 @@ use Rattle.circ_records.specs.Keys.{key_cmp}
 use Rattle.circ_records.specs.Records.{Entries, record_at}
 use Rattle.circ_records.specs.declared.key.Key.{Key}
 use Rattle.circ_records.specs.declared.record.Record.{Record}
-use Rattle.circ_records.proofs.Positions.{held, missing, in-second, empty-of, none-before, past, put-at, put-last, put-map, rises-first, rises-rest, there-before}
+use Rattle.circ_records.proofs.Positions.{held, missing, in-second, empty-of, none-before, past, put-at, put-between, put-last, rises-first, rises-rest, there-before}
 use Rattle.circ_records.proofs.record_map.RecordMap.put.Goals as goal
 
 pub position_in-requires : goal.position_in-requires
@@ -95,8 +95,9 @@ invariant_of-self-2 c =
     let tail : c.in_ok-split_off.field-0.items ≡ drop c.in-Err.position es = c.in_ok-split_off.ensures.tail ∙ ap (λ v. drop c.in-Err.position v.items) c.replace-listed.ensures.value in
     let back : c.in_ok-placed.placed.entries ≡ drop c.in-Err.position es ++ fs =
     c.in_ok-placed.ensures ∙ ap (λ (l : Entries). l ++ c.replace-placed.result.entries) tail ∙ ap (λ (m : BTreeMap Key Record). drop c.in-Err.position es ++ m.entries) c.replace-placed.ensures.value in
-    let more : c.insert.new.self.entries ≡ insert_entry key_cmp (drop c.in-Err.position es ++ fs) c.args.key c.args.told = c.in_ok-before.ensures.entries ∙ ap (λ (l : Entries). insert_entry key_cmp l c.args.key c.args.told) back in
-    (put-map es fs c.split_off.new.self.items c.insert.new.self.entries c.args.key c.args.told c.in-Err.position c.self.invariant at front more).rising
+    let all : c.put_behind.new.listed.items ++ c.put_behind.new.placed.entries ≡ take c.in-Err.position es ++ insert_entry key_cmp (drop c.in-Err.position es ++ fs) c.args.key c.args.told =
+    c.in_ok-double.ensures.put ∙ ap (λ (l : Entries). l ++ insert_entry key_cmp c.in_ok-placed.placed.entries c.args.key c.args.told) front ∙ ap (λ (l : Entries). take c.in-Err.position es ++ insert_entry key_cmp l c.args.key c.args.told) back in
+    (put-between es fs (c.put_behind.new.listed.items ++ c.put_behind.new.placed.entries) c.args.key c.args.told c.in-Err.position c.self.invariant at all).rising
 
 pub returns-clause-double : goal.returns-clause-double
 returns-clause-double c =
@@ -107,7 +108,7 @@ returns-clause-double c =
     let back : c.in_ok-placed.placed.entries ≡ drop c.in-Err.position es ++ fs =
     c.in_ok-placed.ensures ∙ ap (λ (l : Entries). l ++ c.replace-placed.result.entries) tail ∙ ap (λ (m : BTreeMap Key Record). drop c.in-Err.position es ++ m.entries) c.replace-placed.ensures.value in
     rw (← c.self.view_is)
-    (c.is_some.ensures ∙ ap is_some (c.in_ok-before.ensures.old ∙ ap (λ (l : Entries). record_at l c.args.key) back ∙ none-before es fs c.args.key c.in-Err.position c.self.invariant at))
+    (c.in_ok-double.ensures.double ∙ ap is_some (ap (λ (l : Entries). record_at l c.args.key) back ∙ none-before es fs c.args.key c.in-Err.position c.self.invariant at))
 
 pub returns-clause-put : goal.returns-clause-put
 returns-clause-put c =
@@ -118,5 +119,6 @@ returns-clause-put c =
     let tail : c.in_ok-split_off.field-0.items ≡ drop c.in-Err.position es = c.in_ok-split_off.ensures.tail ∙ ap (λ v. drop c.in-Err.position v.items) c.replace-listed.ensures.value in
     let back : c.in_ok-placed.placed.entries ≡ drop c.in-Err.position es ++ fs =
     c.in_ok-placed.ensures ∙ ap (λ (l : Entries). l ++ c.replace-placed.result.entries) tail ∙ ap (λ (m : BTreeMap Key Record). drop c.in-Err.position es ++ m.entries) c.replace-placed.ensures.value in
-    let more : c.insert.new.self.entries ≡ insert_entry key_cmp (drop c.in-Err.position es ++ fs) c.args.key c.args.told = c.in_ok-before.ensures.entries ∙ ap (λ (l : Entries). insert_entry key_cmp l c.args.key c.args.told) back in
-    rw (← c.self.view_is) (put-map es fs c.split_off.new.self.items c.insert.new.self.entries c.args.key c.args.told c.in-Err.position c.self.invariant at front more).put
+    let all : c.put_behind.new.listed.items ++ c.put_behind.new.placed.entries ≡ take c.in-Err.position es ++ insert_entry key_cmp (drop c.in-Err.position es ++ fs) c.args.key c.args.told =
+    c.in_ok-double.ensures.put ∙ ap (λ (l : Entries). l ++ insert_entry key_cmp c.in_ok-placed.placed.entries c.args.key c.args.told) front ∙ ap (λ (l : Entries). take c.in-Err.position es ++ insert_entry key_cmp l c.args.key c.args.told) back in
+    rw (← c.self.view_is) (put-between es fs (c.put_behind.new.listed.items ++ c.put_behind.new.placed.entries) c.args.key c.args.told c.in-Err.position c.self.invariant at all).put

@@ -1,0 +1,46 @@
+//! The bytes of a table, from wherever they are read.
+
+ghost use Rattle.std.specs.Prelude.{◌≡◌, ◌≤◌, IfOk, IfSome, None, length, take};
+ghost use Rattle.std.specs.Io.KnownBytes.{Consumes, IsAtEnd};
+
+use std::alloc::Global;
+use std::io;
+use std::io::{ErrorKind, Read};
+
+/// So many bytes are asked for at once.
+const ROOM: usize = 8192;
+
+/// Room for the first bytes, so that they are seldom copied as more come. What is never written to stays untouched.
+const FIRST_ROOM: usize = 1 << 20;
+
+/// All bytes that a reader has left. They come by way of a room of its own, which is filled with zeros once: `fs::read` fills with zeros
+/// all that it then reads over.
+pub fn read_bytes<R: Read>(alloc: Global, reader: &mut R) -> io::Result<Vec<u8>>
+    ensures { IfOk result (λ v. IfSome (R.remaining reader.old) (λ bytes. v.items ≡ bytes)) }
+{
+    let mut room = [0; ROOM];
+    let mut bytes = Vec::with_capacity(alloc, FIRST_ROOM)?;
+    // the turns are counted, so that the loop is known to end
+    for _turn in 0..u64::MAX {
+        match read_part(reader, &mut room)? {
+            Some(count) => bytes.extend_from_slice(&room[..count])?,
+            None => return Ok(bytes),
+        }
+    }
+    Err(io::Error::from(ErrorKind::TimedOut))
+}
+
+/// Reads some bytes to the front of a room, and says how many: none where a signal came between. Without a number the reader is at its end.
+fn read_part<R: Read>(reader: &mut R, room: &mut [u8]) -> io::Result<Option<usize>>
+    requires { length room.old ≡ ROOM }
+    ensures within { IfOk result (λ part. IfSome part (λ n. n ≤ length room.new)) }
+    ensures part { IfOk result (λ part. IfSome part (λ n. Consumes (R.remaining reader.old) (R.remaining reader.new) (take n room.new))) }
+    ensures end { IfOk result (λ part. part ≡ None → IsAtEnd (R.remaining reader.old)) }
+{
+    match reader.read(room) {
+        Ok(0) => Ok(None),
+        Ok(count) => Ok(Some(count)),
+        Err(error) if error.kind() == ErrorKind::Interrupted => Ok(Some(0)),
+        Err(error) => Err(error),
+    }
+}

@@ -1,107 +1,99 @@
-//! Measures what the parts of a run cost. With no word it says how it is called.
+//! A run by one thread, from files to files, for the scripts of `bench/`. With no words it says how it is called.
 #![tactic(auto)]
 
-mod checkins;
-mod driving;
-mod files;
-mod journals;
-mod library;
-mod outcomes;
-mod policy;
-mod reading;
-mod renewals;
-mod reporting;
-mod requests;
-mod shelf;
-mod units;
-
 use anyhow::{Result, bail};
-use std::env;
+use csv_table::read_bytes;
+use replay_run::{Inputs, Output, Tables, one_thread};
 use std::io::Print;
+use std::mem::forget;
 use std::rt::Files;
-use std::sync::Wait;
-use std::thread::Threads;
-use std::time::Clock;
+use std::{env, fs};
 
-const USAGE: &str = "bench MEASURE N..  prints a cost for each number N
-  requests  N requests: nanoseconds a request, picoseconds a byte
-  rows      a journal of N lines: rows a second, and by how much the peak of memory grows a line, the text counted
-  readings  the requests of N lines, read in turn and by all cores
-  renewals  a renewal of all of N items with a rental each: milliseconds
-  needs     all that it wants, asked for record by record and noted: nanoseconds a record
-  fees      the same of a payment of N fees
-  looks     the same of each look, driven in order through a board and by a list of steps
-  report    the result tables of N lines, by one thread and by all cores
-  drive     nanoseconds a line of N lines, driven in order through a board, and of a whole run by one thread
-bench files POLICY BASE JOURNAL OUT  a whole run by one thread, from files to files: microseconds of its parts, peak memory";
-
-/// What is measured.
-#[derive(Clone, Copy)]
-enum Measure {
-    Requests,
-    Rows,
-    Readings,
-    Renewals,
-    Needs,
-    Fees,
-    Looks,
-    Report,
-    Drive,
-}
-
-impl Measure {
-    /// The measure of a name.
-    fn named(word: &str) -> Option<Measure> {
-        match word {
-            "requests" => Some(Measure::Requests),
-            "rows" => Some(Measure::Rows),
-            "readings" => Some(Measure::Readings),
-            "renewals" => Some(Measure::Renewals),
-            "needs" => Some(Measure::Needs),
-            "fees" => Some(Measure::Fees),
-            "looks" => Some(Measure::Looks),
-            "report" => Some(Measure::Report),
-            "drive" => Some(Measure::Drive),
-            _ => None,
-        }
-    }
-
-    /// Prints what it costs, for so many requests, lines or items.
-    fn print<R>(self, rt: &R, count: usize) -> Result<()>
-    where
-        R: Clock + Print + Files + AllocGlobal + Threads + Sync + Wait,
-    {
-        match self {
-            Measure::Requests => requests::measure(rt, count),
-            Measure::Rows => reading::rows(rt, count),
-            Measure::Readings => reading::readings(rt, count),
-            Measure::Renewals => renewals::measure(rt, count as u64),
-            Measure::Needs => renewals::measure_needs(rt, count as u64),
-            Measure::Fees => renewals::measure_fees(rt, count as u64),
-            Measure::Looks => driving::measure_looks(rt, count as u64),
-            Measure::Report => reporting::measure(rt, count),
-            Measure::Drive => driving::measure(rt, count as u64),
-        }
-    }
-}
+const USAGE: &str = "bench files POLICY BASE JOURNAL OUT
+reads a policy, a folder of tables and a journal, replays the journal by one thread, writes to a folder, and prints one line";
 
 fn main(rt: HostRuntime) -> Result<()> {
     let words: Vec<String> = env::args(&rt)?.collect(rt.alloc())?;
-    let Some(name) = words.get(1) else {
-        println!(rt; "{USAGE}")?;
-        return Ok(());
-    };
-    if name.as_str() == "files" {
-        return files::measure(&rt, &words[2..]);
+    match words.as_slice() {
+        [_, files, policy, base, journal, out] if files.as_str() == "files" => replay(
+            &rt,
+            [policy.as_str(), base.as_str(), journal.as_str()],
+            out.as_str(),
+        ),
+        _ => {
+            println!(rt; "{USAGE}")?;
+            Ok(())
+        }
     }
-    let Some(measure) = Measure::named(name.as_str()) else {
-        bail!("no such measure: {name}");
+}
+
+/// Reads the files of a run, replays it by one thread, writes what comes out and prints the line that `sip_replay` prints. Nothing
+/// that the end of the process gives back is torn down before.
+fn replay<R: Print + Files + AllocGlobal>(rt: &R, from: [&str; 3], out: &str) -> Result<()> {
+    let inputs = read_inputs(rt, from)?;
+    let Ok(output) = one_thread(rt.alloc(), &inputs) else {
+        bail!("the run fails");
     };
-    for word in words.iter().skip(2) {
-        let Ok(count) = word.parse::<usize>() else {
-            bail!("a number is wanted, not {word}");
-        };
-        measure.print(&rt, count)?;
+    forget(inputs);
+    write_output(rt, out, &output)?;
+    let sizes = output.sizes;
+    forget(output);
+    let (answered, passed, differences) = (sizes.answered, sizes.passed, sizes.differences);
+    let lines = answered.saturating_add(passed);
+    println!(rt; "lines {lines} answered {answered} passed {passed} differences {differences}")?;
+    Ok(())
+}
+
+/// The policy, the tables of the base and the journal.
+fn read_inputs<R: Files + AllocGlobal>(
+    rt: &R,
+    [policy, base, journal]: [&str; 3],
+) -> Result<Inputs> {
+    Ok(Inputs {
+        policy: bytes_at(rt, policy)?,
+        tables: read_tables(rt, base)?,
+        journal: bytes_at(rt, journal)?,
+    })
+}
+
+fn read_tables<R: Files + AllocGlobal>(rt: &R, base: &str) -> Result<Tables> {
+    Ok(Tables {
+        patrons: read_in(rt, base, "patrons.csv")?,
+        items: read_in(rt, base, "items.csv")?,
+        loans: read_in(rt, base, "loans.csv")?,
+        fees: read_in(rt, base, "fees.csv")?,
+        closed: read_in(rt, base, "closed.csv")?,
+        holds: read_in(rt, base, "holds.csv")?,
+    })
+}
+
+fn read_in<R: Files + AllocGlobal>(rt: &R, folder: &str, name: &str) -> Result<Vec<u8>> {
+    let path = format!(in rt.alloc(); "{folder}/{name}")?;
+    bytes_at(rt, path.as_str())
+}
+
+/// Read as `sip_replay` reads its files.
+fn bytes_at<R: Files + AllocGlobal>(rt: &R, path: &str) -> Result<Vec<u8>> {
+    Ok(read_bytes(rt.alloc(), &mut fs::open(rt, path)?)?)
+}
+
+/// Writes the tables and the result tables.
+fn write_output<R: Files + AllocGlobal>(rt: &R, folder: &str, output: &Output) -> Result<()> {
+    let tables = &output.tables;
+    let texts = [
+        ("patrons.csv", &tables.patrons),
+        ("items.csv", &tables.items),
+        ("loans.csv", &tables.loans),
+        ("fees.csv", &tables.fees),
+        ("closed.csv", &tables.closed),
+        ("holds.csv", &tables.holds),
+        ("answers.csv", &output.answers),
+        ("report.csv", &output.report),
+        ("passed.csv", &output.passed),
+    ];
+    for (name, text) in texts {
+        let path = format!(in rt.alloc(); "{folder}/{name}")?;
+        fs::write(rt, path.as_str(), text.as_slice())?;
     }
     Ok(())
 }

@@ -1,7 +1,7 @@
-//! What a policy has, and the due days and late fees that it gives. Which rule a policy breaks stands in `books`.
+//! The due days and late fees of a policy. Which rule a policy breaks stands in `books`.
 
-use circ_policy::{DueForm, LoanDays, MediaType, Policy, late_fee};
-use sip_reader::{Day, Id};
+use circ_policy::{MediaType, Policy, late_fee};
+use sip_reader::Day;
 use std::alloc::AllocGlobal;
 use std::process::Abort;
 
@@ -30,34 +30,10 @@ late = 0
 cap = 0
 ";
 
-pub fn policy<R: AllocGlobal + Abort>(rt: &R) -> Policy {
+fn policy<R: AllocGlobal + Abort>(rt: &R) -> Policy {
     Policy::read(rt.alloc(), SMALL.as_bytes())
         .ok()
         .expect(rt, "a policy")
-}
-
-#[test]
-fn values(rt: HostRuntime) {
-    let policy = policy(&rt);
-    assert!(rt; policy.institution().as_bytes() == b"L1".as_slice());
-    assert!(rt; policy.currency() == *b"USD" && policy.due_form() == DueForm::Sip);
-    let id = Id::new(b"A").expect(&rt, "an id");
-    let class = policy.class(&id).expect(&rt, "a class");
-    let numbers = [class.max_loans, class.max_renewals];
-    assert!(rt; numbers == [2, 1] && class.max_fees.hundredths() == 1000);
-    let media = policy.media(MediaType::VideoTape).expect(&rt, "a type");
-    assert!(rt; media.days.count() == 7 && media.rental.hundredths() == 100);
-    assert!(rt; media.late.hundredths() == 0 && media.cap.hundredths() == 0);
-}
-
-#[test]
-fn what_is_not_there(rt: HostRuntime) {
-    let policy = policy(&rt);
-    let id = Id::new(b"a").expect(&rt, "an id");
-    assert!(rt; policy.class(&id).is_none() && policy.media(MediaType::Cd).is_none());
-    assert!(rt; MediaType::of_code(b"010") == Some(MediaType::BookWithTape));
-    assert!(rt; MediaType::of_code(b"011").is_none() && LoanDays::new(3651).is_none());
-    assert!(rt; MediaType::Magazine.code() == *b"002");
 }
 
 type Date = (u16, u8, u8);

@@ -1,10 +1,8 @@
-//! Days, dates, amounts, sums that are owed, ids and lists of them, texts and words.
+//! Days, dates, amounts, ids and texts, sums and line ends.
 
-use circ_records::{Ids, KeptKey, KeptLoan, Key, Loan};
-use sip_answer::Owed;
 use sip_reader::{
-    AMOUNT_MAX, Amount, Day, Id, KeptId, Kind, Passed, Reading, Stamp, Text, Why, push_amount,
-    read_request, sum_of, unsummed, without_line_end,
+    AMOUNT_MAX, Amount, Day, Id, Reading, Stamp, Text, push_amount, read_request, sum_of, unsummed,
+    without_line_end,
 };
 use std::test::Fail;
 
@@ -89,16 +87,6 @@ fn amounts(rt: HostRuntime) -> Result<(), Fail> {
     Ok(())
 }
 
-/// What is owed is kept as it is, also above the greatest amount.
-#[test]
-fn sums_that_are_owed(rt: HostRuntime) -> Result<(), Fail> {
-    for (hundredths, want) in AMOUNTS {
-        let owed = Owed::new(rt.alloc(), hundredths)?;
-        assert!(rt; owed.hundredths() == hundredths, "{want}");
-    }
-    Ok(())
-}
-
 #[test]
 fn ids_and_texts(rt: HostRuntime) -> Result<(), Fail> {
     let alloc = rt.alloc();
@@ -128,58 +116,6 @@ fn ids_and_texts(rt: HostRuntime) -> Result<(), Fail> {
     Ok(())
 }
 
-/// Ids that stand in place, and longer ones, are kept as they are.
-#[test]
-fn kept_ids(rt: HostRuntime) -> Result<(), Fail> {
-    let longest = [b'7'; 64];
-    for length in [1, 3, 6, 9, 14, 15, 64] {
-        let bytes = &longest[..length];
-        let id = Id::new(bytes).expect(&rt, "an id");
-        let kept = KeptId::new(rt.alloc(), &id)?;
-        assert!(rt; kept.as_bytes() == bytes && kept.id() == id, "{length}");
-        assert!(rt; kept.clone()?.as_bytes() == bytes, "{length}");
-        assert!(rt;
-            kept.order(&id).is_eq() && kept == kept.clone()?,
-            "{length}"
-        );
-        let read = KeptId::read(rt.alloc(), bytes)?.expect(&rt, "an id");
-        assert!(rt; read.id() == id, "{length}");
-    }
-    let others = [b"".as_slice(), b"a|b", &[b'7'; 65]];
-    for other in others {
-        assert!(rt; KeptId::read(rt.alloc(), other)?.is_none());
-    }
-    Ok(())
-}
-
-/// Lists of few ids and of many are in order as they grow, and a copy stays as it was.
-#[test]
-fn lists_of_ids(rt: HostRuntime) -> Result<(), Fail> {
-    let alloc = rt.alloc();
-    let (mut own, mut copied) = (Ids::new(), Ids::new());
-    for count in 0..10 {
-        let before = copied.copy()?;
-        own.push(alloc, Id::of_fee(count, 0))?;
-        copied.push(alloc, Id::of_fee(count, 0))?;
-        let made = Ids::from_vec(alloc, Vec::from_clones(alloc, before.as_slice())?)?;
-        assert!(rt;
-            are_first(&before, count) && are_first(&made, count),
-            "{count}"
-        );
-        assert!(rt;
-            are_first(&own, count + 1) && are_first(&copied, count + 1),
-            "{count}"
-        );
-    }
-    Ok(())
-}
-
-/// Whether these are the ids of the first fees of so many lines.
-fn are_first(ids: &Ids, count: u64) -> bool {
-    let mut numbered = (0..count).zip(ids.as_slice());
-    ids.len() as u64 == count && numbered.all(|(n, id)| id.id() == Id::of_fee(n, 0))
-}
-
 #[test]
 fn ends_and_sums(rt: HostRuntime) {
     let sums = [sum_of(b"9900302.00AY1AZ"), sum_of(b"96AZ"), sum_of(b"")];
@@ -189,88 +125,4 @@ fn ends_and_sums(rt: HostRuntime) {
     assert!(rt; body == b"96".as_slice() && digit == Some(b'0'));
     let (body, digit) = unsummed(b"96AZFEF6");
     assert!(rt; body == b"96AZFEF6".as_slice() && digit == None);
-}
-
-#[test]
-fn words(rt: HostRuntime) {
-    assert!(rt; Kind::BlockPatron.digits() == "01" && Passed::Title.word() == "title");
-    assert!(rt; Passed::TerminalStatus.word() == "99" && Why::TooLong.word() == "too_long");
-}
-
-/// Keys of each kind are kept as they are, and no other key is a kept one.
-#[test]
-fn kept_keys(rt: HostRuntime) -> Result<(), Fail> {
-    for bytes in [b"7".as_slice(), b"I00001", b"R9999999999-12345"] {
-        let id = Id::new(bytes).expect(&rt, "an id");
-        let keys = [Key::Patron(id), Key::Item(id), Key::Fee(id)];
-        for (i, key) in keys.iter().enumerate() {
-            let kept = KeptKey::new(rt.alloc(), key)?;
-            assert!(rt; kept.key() == *key && kept.clone()?.key() == *key);
-            for (j, other) in keys.iter().enumerate() {
-                assert!(rt; kept.is(other) == (i == j) && kept.order(other) == i.cmp(&j));
-                assert!(rt; kept.is_same(&KeptKey::new(rt.alloc(), other)?) == (i == j));
-            }
-        }
-        let other = Key::Item(Id::new(b"I00002").expect(&rt, "an id"));
-        assert!(rt; !KeptKey::new(rt.alloc(), &keys[1])?.is(&other));
-    }
-    Ok(())
-}
-
-/// Kept keys go as keys do: by the first eight bytes of their ids, by those behind them, and by how many there are.
-#[test]
-fn order_of_kept_keys(rt: HostRuntime) -> Result<(), Fail> {
-    let rising = [
-        b"7".as_slice(),
-        b"7\0",
-        b"70000000",
-        b"700000001",
-        b"70000000123456",
-        b"70000000123456\0",
-        b"700000001234567",
-        b"70000000123457",
-        b"8",
-    ];
-    for (i, bytes) in rising.iter().enumerate() {
-        let key = Key::Item(Id::new(bytes).expect(&rt, "an id"));
-        let kept = KeptKey::new(rt.alloc(), &key)?;
-        for (j, other) in rising.iter().enumerate() {
-            let other = Key::Item(Id::new(other).expect(&rt, "an id"));
-            let kept_other = KeptKey::new(rt.alloc(), &other)?;
-            assert!(rt; kept.order(&other) == i.cmp(&j), "{i} {j}");
-            assert!(rt; kept.is(&other) == (i == j), "{i} {j}");
-            assert!(rt; kept.is_same(&kept_other) == (i == j), "{i} {j}");
-        }
-    }
-    Ok(())
-}
-
-/// Behind other bytes an id has its own bytes and no more, be it short or not.
-#[test]
-fn ids_behind_other_bytes(rt: HostRuntime) -> Result<(), Fail> {
-    for bytes in [b"7".as_slice(), b"70000000123456", b"700000001234567"] {
-        let id = KeptId::read(rt.alloc(), bytes)?.expect(&rt, "an id");
-        let (mut out, mut wanted) = (Vec::new(rt.alloc()), Vec::new(rt.alloc()));
-        out.push(b'|')?;
-        wanted.push(b'|')?;
-        id.put_behind(&mut out)?;
-        wanted.extend_from_slice(bytes)?;
-        assert!(rt; out.as_slice() == wanted.as_slice());
-    }
-    Ok(())
-}
-
-/// A kept loan is the loan that it was made of.
-#[test]
-fn kept_loans(rt: HostRuntime) -> Result<(), Fail> {
-    for patron in [b"P1".as_slice(), b"21234000123456789"] {
-        let loan = Loan {
-            patron: Id::new(patron).expect(&rt, "an id"),
-            due: Day::of(2026, 3, 16).expect(&rt, "a day"),
-            renewals: 2,
-        };
-        let kept = KeptLoan::new(rt.alloc(), &loan)?.clone()?.loan();
-        assert!(rt; kept.patron == loan.patron && kept.due == loan.due && kept.renewals == 2);
-    }
-    Ok(())
 }

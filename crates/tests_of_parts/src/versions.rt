@@ -1,12 +1,14 @@
+//! Two stores get the same calls and give the same replies: that of the board, and a plain list of entries.
+
 ghost use Rattle.std.specs.Prelude.{◌≡◌};
 ghost use Rattle.read_set.specs.Plans.{no_plan};
-ghost use Rattle.version_store.specs.Entries.{IsLine};
+ghost use Rattle.version_store.specs.Entries.{HasLines};
 
-mod agreement;
-mod crowd;
 mod plain;
+mod script;
 
 use circ_records::{KeptKey, Key};
+use plain::PlainStore;
 use read_set::{Name, Notes, PlanName, Version, Writes};
 use sip_reader::Id;
 use std::alloc::AllocError;
@@ -16,20 +18,32 @@ use std::sync::Wait;
 use std::test::Fail;
 use version_store::{EntryStore, Found, Place, Seen, VersionTable};
 
-/// Five keys: of one id under each kind, and of two more ids.
-fn key(rt: &impl Abort, number: u32) -> Key {
-    let texts: [&[u8]; 5] = [b"B", b"A", b"AA", b"A", b"A"];
-    let id = Id::new(texts[(number % 5) as usize]).expect(rt, "an id");
-    match number % 5 {
-        0 | 1 | 2 => Key::Item(id),
-        3 => Key::Patron(id),
+const FIRST: u64 = 9_999_999_990;
+
+const LINES: u64 = 6;
+
+/// An id under each kind, one that begins with it, and more items than a part of the index is looked through for one by one.
+const KEYS: &str =
+    "patron A,item A,fee A,item AA,item B,item C,item D,item E,item F,item G,item H,item I,\
+item J,item K,item L,item M,item N,item O,item P,item Q,item R,item S";
+
+/// The key that a kind and an id name.
+fn key(rt: &impl Abort, text: &str) -> Key {
+    let (kind, id) = text.split_once(' ').unwrap_or(("", text));
+    let id = Id::new(id.as_bytes()).expect(rt, "an id");
+    match kind {
+        "patron" => Key::Patron(id),
+        "item" => Key::Item(id),
         _ => Key::Fee(id),
     }
 }
 
-/// One of the five, kept.
-fn kept_key<R: AllocGlobal + Abort>(rt: &R, number: u32) -> Result<KeptKey, AllocError> {
-    KeptKey::new(rt.alloc(), &key(rt, number))
+fn kept_keys<R: AllocGlobal + Abort>(rt: &R) -> Result<Vec<KeptKey>, AllocError> {
+    let mut keys = Vec::new(rt.alloc());
+    for text in KEYS.split(',') {
+        keys.push(KeptKey::new(rt.alloc(), &key(rt, text))?)?;
+    }
+    Ok(keys)
 }
 
 /// A version of a line that a plan of nothing lacks: it reads, writes and answers nothing.
@@ -49,106 +63,132 @@ fn put_version<'t, J: PlanName, R: Wait + AllocGlobal>(
     }
 }
 
-fn made(line: u64, attempt: u32) -> Found {
-    Found::Named(Name::Made { line, attempt })
-}
-
-/// Line 8 places at an item and a patron, and is made suspect. Gives where its version stands.
-fn place_first<'t, J: PlanName, R: Wait + AllocGlobal + Abort>(
-    rt: &R,
-    table: &'t VersionTable<J>,
-    item: &'t KeptKey,
-    patron: &'t KeptKey,
-    store: &mut EntryStore<'t, J>,
-) -> Result<Place<'t, J>, AllocError>
-    requires named { J.plan ≡ no_plan }
-    requires line { IsLine store.old 8 }
-    ensures { IsLine store.new 8 }
-{
-    let first = put_version(rt, table, 8, 0)?;
-    store.place(rt.alloc(), 8, 0, item, first)?;
-    store.place(rt.alloc(), 8, 0, patron, first)?;
-    let (item, patron) = (item.key(), patron.key());
-    assert!(rt; store.name(&item, 8) == Found::Named(Name::Base));
-    assert!(rt; store.name(&item, 9) == made(8, 0) && store.name(&patron, 10) == made(8, 0));
-    store.suspect_all(8);
-    assert!(rt; store.name(&patron, 9) == Found::Suspect { line: 8 });
-    Ok(first)
-}
-
-/// The line's next attempt places the item alone: the patron is left.
-fn place_again<'t, J: PlanName, R: Wait + AllocGlobal + Abort>(
-    rt: &R,
-    table: &'t VersionTable<J>,
-    item: &'t KeptKey,
-    patron: &Key,
-    store: &mut EntryStore<'t, J>,
-) -> Result<(), AllocError>
-    requires named { J.plan ≡ no_plan }
-    requires line { IsLine store.old 8 }
-    ensures { IsLine store.new 8 }
-{
-    let second = put_version(rt, table, 8, 1)?;
-    store.place(rt.alloc(), 8, 1, item, second)?;
-    let item = item.key();
-    assert!(rt; store.name(&item, 9) == made(8, 1));
-    assert!(rt; store.name(patron, 9) == Found::Suspect { line: 8 });
-    assert!(rt; store.attempt_at(8, &item) == Some(1) && store.attempt_at(8, patron) == Some(0));
-    assert!(rt; is_key(store.left(8, 1), patron) && is_key(store.left(8, 0), &item));
-    Ok(())
-}
-
-/// What was left is lifted; what touches no entry changes nothing.
-fn lift_left<J: PlanName>(rt: &impl Abort, store: &mut EntryStore<'_, J>)
-    requires { IsLine store.old 8 }
-{
-    let (item, patron) = (key(rt, 1), key(rt, 3));
-    store.lift(8, &patron);
-    assert!(rt; store.left(8, 1).is_none() && store.attempt_at(8, &patron).is_none());
-    store.lift(10, &item);
-    store.suspect_all(6);
-    assert!(rt; store.name(&patron, 9) == Found::Named(Name::Base));
-    assert!(rt; attempt_of(store.see(&item, 9)) == Some(1));
-}
-
-/// The three in turn; the first version is as it was.
-fn two_attempts<'t, J: PlanName, R: Wait + AllocGlobal + Abort>(
-    rt: &R,
-    table: &'t VersionTable<J>,
-    item: &'t KeptKey,
-    patron: &'t KeptKey,
-    store: &mut EntryStore<'t, J>,
-) -> Result<(), AllocError>
-    requires named { J.plan ≡ no_plan }
-    requires line { IsLine store.old 8 }
-{
-    let first = place_first(rt, table, item, patron, store)?;
-    place_again(rt, table, item, &patron.key(), store)?;
-    lift_left(rt, store);
-    assert!(rt; first.show().attempt() == 0);
-    Ok(())
-}
-
-fn is_key(found: Option<&KeptKey>, key: &Key) -> bool {
-    match found {
-        Some(found) => found.is(key),
-        None => false,
+/// Names, sights, places and lists of keys, also of lines that aren't there.
+fn agree<J: PlanName>(
+    rt: &impl Abort,
+    store: &EntryStore<'_, J>,
+    plain: &PlainStore,
+    keys: &[KeptKey],
+) {
+    for (i, kept) in keys.iter().enumerate() {
+        let key = kept.key();
+        for line in FIRST - 1..FIRST + LINES + 1 {
+            agree_at(rt, store, plain, &key, line);
+            let ours = match store.keys_of(line, i) {
+                None => None,
+                Some((kept, attempt)) => Some((kept.key(), attempt)),
+            };
+            assert!(rt; ours == plain.keys_of(line, i));
+        }
     }
 }
 
-/// The attempt of the version that is seen.
-fn attempt_of<J: PlanName>(seen: Seen<'_, J>) -> Option<u32> {
-    match seen {
-        Seen::Made { place, .. } => Some(place.show().attempt()),
-        Seen::Base | Seen::Suspect { .. } => None,
+fn agree_at<J: PlanName>(
+    rt: &impl Abort,
+    store: &EntryStore<'_, J>,
+    plain: &PlainStore,
+    key: &Key,
+    line: u64,
+) {
+    let name = plain.name(key, line);
+    assert!(rt; store.name(key, line) == name);
+    match store.see(key, line) {
+        Seen::Base => assert!(rt; name == Found::Named(Name::Base)),
+        Seen::Suspect { line } => assert!(rt; name == Found::Suspect { line }),
+        Seen::Made { name: made, .. } => assert!(rt; name == Found::Named(made)),
     }
+    let shown = match store.shown_at(key, line) {
+        None => None,
+        Some(place) => Some((place.show().line(), place.show().attempt())),
+    };
+    assert!(rt; shown == plain.shown_at(key, line));
+}
+
+/// A call of a store: of a line by its place, and of a key by its number.
+#[derive(Clone, Copy)]
+enum Call {
+    Place { line: u64, attempt: u32, key: usize },
+    Lift { line: u64, key: usize },
+    Suspect { line: u64 },
+}
+
+/// One call, of both stores.
+fn make_call<'t, J: PlanName, R: Wait + AllocGlobal + Abort>(
+    rt: &R,
+    table: &'t VersionTable<J>,
+    keys: &'t [KeptKey],
+    store: &mut EntryStore<'t, J>,
+    plain: &mut PlainStore,
+    call: Call,
+) -> Result<(), AllocError>
+    requires named { J.plan ≡ no_plan }
+    requires lines { HasLines FIRST 6 store.old }
+    ensures { HasLines FIRST 6 store.new }
+{
+    match call {
+        Call::Place { line, attempt, key } => {
+            let line = FIRST + line % LINES;
+            let kept = keys.get(key).expect(rt, "a key");
+            let place = put_version(rt, table, line, attempt)?;
+            store.place(rt.alloc(), line, attempt, kept, place)?;
+            plain.place(line, attempt, kept.key())
+        }
+        Call::Lift { line, key } => {
+            let line = FIRST + line % LINES;
+            let key = keys.get(key).expect(rt, "a key").key();
+            store.lift(line, &key);
+            plain.lift(line, &key);
+            Ok(())
+        }
+        Call::Suspect { line } => {
+            let line = FIRST + line % LINES;
+            store.suspect_all(line);
+            plain.suspect_all(line);
+            Ok(())
+        }
+    }
+}
+
+/// A call by chance: places, lifts and marks of six lines, with attempts that don't rise.
+fn call_of(seed: u32) -> Call {
+    let line = u64::from(seed >> 8);
+    let key = ((seed >> 16) % 22) as usize;
+    match (seed >> 24) % 8 {
+        0 => Call::Suspect { line },
+        1 | 2 => Call::Lift { line, key },
+        _ => Call::Place {
+            line,
+            attempt: seed % 7,
+            key,
+        },
+    }
+}
+
+/// 300 calls in an order of chance.
+fn calls<'t, J: PlanName, R: Wait + AllocGlobal + Abort>(
+    rt: &R,
+    table: &'t VersionTable<J>,
+    keys: &'t [KeptKey],
+    store: &mut EntryStore<'t, J>,
+) -> Result<(), AllocError>
+    requires named { J.plan ≡ no_plan }
+    requires lines { HasLines FIRST 6 store.old }
+{
+    let mut plain = PlainStore::new(rt.alloc());
+    let mut seed = 12345u32;
+    for _turn in 0..300u32 {
+        seed = seed.wrapping_mul(1664525).wrapping_add(1013904223);
+        make_call(rt, table, keys, store, &mut plain, call_of(seed))?;
+        agree(rt, store, &plain, keys);
+    }
+    Ok(())
 }
 
 #[test]
-fn two_attempts_at_a_line(rt: HostRuntime) -> Result<(), Fail> {
+fn both_stores_agree(rt: HostRuntime) -> Result<(), Fail> {
     let table: VersionTable<Brand> = VersionTable::new(rt.alloc())?;
-    let (item, patron) = (kept_key(&rt, 1)?, kept_key(&rt, 3)?);
-    let mut store = EntryStore::new(rt.alloc(), 7, 3)?;
-    two_attempts(&rt, &table, &item, &patron, &mut store)?;
+    let keys = kept_keys(&rt)?;
+    let mut store = EntryStore::new(rt.alloc(), FIRST, LINES as usize)?;
+    calls(&rt, &table, keys.as_slice(), &mut store)?;
     Ok(())
 }

@@ -1,11 +1,64 @@
-//! Tests of whole runs. By workers in threads: what they give is proved; shown here is that workers run at once, that a run
-//! tells its gate of each step, and how workers end where a fault was left. What is collected of an end that lends other
-//! things than a replay comes to. And runs of which one growth of the heap is refused, by `.ci/growths`. Runs by lists of
-//! steps stand in `worked_books`, those of the program in `cases`.
+//! Tests of whole runs: worked examples, told in books of texts; runs by workers in threads, whose gate is told of each step; faults that
+//! were left; inputs that are cut; and runs of which one growth of the heap is refused, by `.ci/growths`. What a run of the built program shows
+//! stands in `books` and `cases`.
+//!
+//! A book is a text. A row begins with `#` and its title; each line behind it says one thing:
+//!
+//! | Line | Says |
+//! |---|---|
+//! | `base TABLE ROW` | a row more in a table that the run begins with |
+//! | `first NUMBER` | the number of the first line, else 1 |
+//! | `asked REQUEST` | the next line of the journal |
+//! | `recorded RESPONSE` | what was recorded as its response, else nothing |
+//! | `answer TEXT` | the line's answer |
+//! | `passed WHY` | the line has no answer |
+//! | `differs WORDS` | the line's row in the report; `agrees` says that no line has one |
+//! | `after TABLE ROW` | a row of a table after the last line, all of whose rows are told so; `after TABLE` tells that it has none |
+//! | `fault TEXT` | the run gives this fault |
+//! | `policy TEXT` | another policy |
+//! | `waiting NUMBER` | so many patrons more, W1 and so on, all of whom wait for the book |
+//! | `list WORKERS: STEPS => TEXT` | what a run by this list of steps gives: `output` and the attempts, `unfinished` and how many lines are committed, or the fault |
+//!
+//! Each run begins with the same library: patrons P1 (Ann) and P2 (Bob) of class A, the book I1 and the video tapes V1
+//! and V2, closed on Sundays. Whoever is of class C borrows nothing.
+//!
+//! Each row is run by one thread, and driven in order through a board. Both must give the same tables and the same report.
+//!
+//! A script of the board begins as a row does. `starting ATTEMPT CLOCK` tells with which
+//! attempt and at which clock its board begins, else 0 and 0. Then come calls, each with the reply that must come behind ` = `,
+//! and what is refused must leave the board as it was. `given TEXT` tells, of a script that is steps alone, what the run by them gives
+//! as soon as all lines are committed; each beginning of the script is run. `halts NUMBER: FAULT` tells after how many steps the script halts as a
+//! list:
+//!
+//! | Call | What it does |
+//! |---|---|
+//! | `take WORKER LINE` | `taken ATTEMPT` |
+//! | `look WORKER` | looks at the key that the line needs next: `seen ID NAME`, a name being `base` or a line and its attempt, `1.0`; `look WORKER at item ID` looks at this one |
+//! | `publish WORKER` | an act of the version of the last act, else of the one that the line needs |
+//! | `publish WORKER of OTHER` | an act of a new version, the one that the other worker's line needs |
+//! | `publish WORKER writing item ID` | an act of a new version of equal notes, which writes the noted record again |
+//! | `keep WORKER`, `publish WORKER kept` | the version that the line needs is kept, and published later |
+//! | `check WORKER LINE`, `commit LINE` | the calls of these names; `changed ID NOTED FOUND` |
+//! | `choose`, `begin WORKER` | the choice of a free worker, `take 1`; with its reply, `take 1: taken 0` |
+//! | `does WORKER` | what the version does that the line needs: its answer, then each record that it writes |
+//! | `clock`, `committed`, `counts` | the board's; of the counts takes, failed checks, stops, commits and live lines |
+//!
+//! A single line tells records that need not fit together, one line, the records for which it asks (`wants`), in the order of
+//! asking, and what it does. `{9998}` stands for so many places of P2 in a queue.
 #![tactic(auto)]
 
 #[cfg(test)]
-mod ends;
+mod again;
+#[cfg(test)]
+mod books;
+#[cfg(test)]
+mod calls;
+#[cfg(test)]
+mod checked;
+#[cfg(test)]
+mod cut;
+#[cfg(test)]
+mod driven;
 #[cfg(test)]
 mod faults;
 #[cfg(test)]
@@ -15,8 +68,22 @@ mod library;
 #[cfg(test)]
 mod refused;
 #[cfg(test)]
-mod scripts;
+mod replies;
+#[cfg(test)]
+mod row;
+#[cfg(test)]
+mod runs;
+#[cfg(test)]
+mod script;
+#[cfg(test)]
+mod shelf;
 #[cfg(test)]
 mod sight;
+#[cfg(test)]
+mod single;
+#[cfg(test)]
+mod steps;
+#[cfg(test)]
+mod tests;
 #[cfg(test)]
 mod workers;

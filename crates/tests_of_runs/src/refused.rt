@@ -1,252 +1,264 @@
 //! Runs of which one growth of the heap is refused.
 //!
 //! `.ci/growths` runs each test here whose name ends in `_refused` again and again, each time with another growth of the whole
-//! test refused, until a run meets no refusal. So of all calls of a test one at most meets want of memory: where it did, all
-//! that comes behind it must be well, and where it is the test's own growth, nothing is asked. Run alone, a test meets none.
+//! test refused, until a run meets no refusal. So of all calls of a test one at most is out of memory. A call that is tried gives all
+//! that it gives else, or is out of memory; any other fault fails the test. Each is tried twice, or goes on where it was refused, so all that
+//! it gives is seen in each run. Where the growth was the test's own, nothing more is asked. Tests print what they met: `.ci/growths`
+//! wants to see `out of memory` at least once, and `full output` where nothing is refused.
 
 ghost use Rattle.std.specs.Prelude.{◌≡◌};
+ghost use Rattle.read_set.specs.Plans.{readings_of};
 
+use crate::books::driving::DAYS;
+use crate::driven::output_of;
 use crate::gates::Watch;
-use crate::library::{plan_over, told};
-use crate::scripts::{DAY, IN_PART, LINES_OF_DAY, STALE, SUSPECT, parts_of};
-use crate::sight::{WORKERS, ended, sight};
+use crate::row::{Prepared, Row, prepare};
+use crate::runs::compare;
+use crate::script::{Script, WORKERS};
+use crate::sight::sight;
+use crate::steps::rows::{EARLY, IN_PART, ORDERED, SUSPECT};
+use crate::tests::row_of;
+use journal_table::Journal;
 use read_set::{Plan, PlanName};
 use replay_run::{Fault, Inputs, Moment, Output, Run, Step, one_thread, rebuild, rebuild_by_steps};
 use speculate::{Board, BoardFault, drive_in_order, play};
-use std::alloc::{AllocError, AllocGlobal, Global};
+use std::alloc::{AllocError, AllocGlobal};
+use std::io::Print;
 use std::marker::Brand;
+use std::process::Abort;
 use std::sync::Wait;
 use std::sync::atomic::Ordering;
 use std::thread::Threads;
 use version_store::VersionTable;
 
-/// The number of the fault of a run that wants memory.
-const MEMORY: u8 = 10;
-
-/// All that a run gives but its attempts; no bytes where it gives another fault than want of memory.
-fn given(alloc: Global, run: Result<Output, Fault>) -> Result<Vec<u8>, AllocError> {
-    if let Err(fault) = &run
-        && fault.number() == MEMORY
-    {
-        return Err(AllocError);
-    }
-    told(alloc, run, &mut String::new(alloc))
-}
-
-/// Whether the same run gave the same twice, where each gave something; one of both may have wanted memory.
-fn is_same(one: Result<Vec<u8>, AllocError>, other: Result<Vec<u8>, AllocError>) -> bool {
-    match (one, other) {
-        (Ok(one), Ok(other)) => !one.is_empty() && one.as_slice() == other.as_slice(),
-        (Ok(text), Err(_)) | (Err(_), Ok(text)) => !text.is_empty(),
-        (Err(_), Err(_)) => false,
+/// Whether a run gave the output that the row wants. Else it was out of memory.
+fn is_given<R: Abort>(rt: &R, run: Result<Output, Fault>, row: &Row) -> bool {
+    match run {
+        Ok(output) => {
+            compare(rt, "a run", &output, row);
+            true
+        }
+        Err(Fault::Memory) => false,
+        Err(_) => panic!(rt; "another fault"),
     }
 }
 
-fn is_well_by_one_thread(alloc: Global) -> Result<bool, AllocError> {
-    let (inputs, _steps) = parts_of(alloc, DAY)?;
-    let one = given(alloc, one_thread(alloc, &inputs));
-    Ok(is_same(one, given(alloc, one_thread(alloc, &inputs))))
+/// Tells what the two runs of a call gave, of which one may have been out of memory.
+fn tell<R: Abort + Print>(rt: &R, one: bool, other: bool) {
+    assert!(rt; one || other, "out of memory twice");
+    if one && other {
+        let _ = println!(rt; "full output");
+    } else {
+        let _ = println!(rt; "out of memory");
+    }
+}
+
+/// The text between the first `#` of a book and the second.
+fn first_of(book: &str) -> &str {
+    let (_, rows) = book.split_once('#').unwrap_or(("", book));
+    let (row, _) = rows.split_once('#').unwrap_or((rows, ""));
+    let (_, lines) = row.split_once('\n').unwrap_or(("", row));
+    lines
+}
+
+fn try_one_thread<R: AllocGlobal + Abort + Print>(rt: &R) -> Result<(), AllocError> {
+    let row = row_of(rt, "a day", first_of(DAYS))?;
+    let one = is_given(rt, one_thread(rt.alloc(), &row.inputs), &row);
+    let other = is_given(rt, one_thread(rt.alloc(), &row.inputs), &row);
+    tell(rt, one, other);
+    Ok(())
 }
 
 #[test]
 fn one_thread_refused(rt: HostRuntime) {
-    assert!(rt; is_well_by_one_thread(rt.alloc()).unwrap_or(true));
+    let _ = try_one_thread(&rt);
 }
 
-fn by_steps<R: Wait>(
+/// The run by steps that commit all lines.
+fn by_steps<R: Wait + AllocGlobal + Abort>(
     rt: &R,
-    alloc: Global,
     inputs: &Inputs,
     steps: &[Step],
-) -> Result<Vec<u8>, AllocError> {
-    match rebuild_by_steps(rt, alloc, inputs, WORKERS, steps) {
-        Ok(Run::Output(output)) => given(alloc, Ok(output)),
-        Ok(Run::Unfinished { .. }) => Ok(Vec::new(alloc)),
-        Err(fault) => given(alloc, Err(fault)),
+) -> Result<Output, Fault> {
+    match rebuild_by_steps(rt, rt.alloc(), inputs, WORKERS, steps) {
+        Ok(Run::Output(output)) => Ok(output),
+        Ok(Run::Unfinished { .. }) => panic!(rt; "unfinished"),
+        Err(fault) => Err(fault),
     }
 }
 
-fn is_well_by_steps<R: Wait>(rt: &R, alloc: Global, script: &str) -> Result<bool, AllocError> {
-    let (inputs, steps) = parts_of(alloc, script)?;
-    let one = by_steps(rt, alloc, &inputs, steps.as_slice());
-    Ok(is_same(one, by_steps(rt, alloc, &inputs, steps.as_slice())))
+fn try_steps<R: Wait + AllocGlobal + Abort + Print>(rt: &R, book: &str) -> Result<(), AllocError> {
+    let script = Script::read(rt, "steps", first_of(book))?;
+    let steps = script.steps(rt.alloc())?;
+    let row = &script.row;
+    let one = is_given(rt, by_steps(rt, &row.inputs, steps.as_slice()), row);
+    let other = is_given(rt, by_steps(rt, &row.inputs, steps.as_slice()), row);
+    tell(rt, one, other);
+    Ok(())
 }
 
 #[test]
 fn rebuild_by_steps_refused(rt: HostRuntime) {
-    for script in [STALE, IN_PART, SUSPECT] {
-        assert!(rt;
-            is_well_by_steps(&rt, rt.alloc(), script).unwrap_or(true),
-            "{script}"
-        );
+    for book in [IN_PART, SUSPECT, EARLY] {
+        let _ = try_steps(&rt, book);
     }
 }
 
-/// A run of the script DAY by workers. A run that wants memory doesn't begin again, so that no line is committed twice.
-fn by_workers<R: Threads + Wait + Sync>(
+/// A run by workers. One that is out of memory doesn't begin again, so no line is committed twice.
+fn by_workers<R: Threads + Wait + Sync + AllocGlobal + Abort>(
     rt: &R,
-    alloc: Global,
-    inputs: &Inputs,
-) -> Result<Vec<u8>, AllocError> {
+    row: &Row,
+) -> Result<Output, Fault> {
     let gate = Watch::new(false, Moment::Taken);
-    let run = rebuild(rt, alloc, inputs, WORKERS, &gate);
-    if gate.committed.load(Ordering::SeqCst) > LINES_OF_DAY {
-        return Ok(Vec::new(alloc));
-    }
-    given(alloc, run)
+    let run = rebuild(rt, rt.alloc(), &row.inputs, 2, &gate);
+    let committed = gate.committed.load(Ordering::SeqCst);
+    assert!(rt; committed <= row.asked, "committed twice");
+    run
 }
 
-fn is_well_by_workers<R: Threads + Wait + Sync>(rt: &R, alloc: Global) -> Result<bool, AllocError> {
-    let (inputs, _steps) = parts_of(alloc, DAY)?;
-    let one = by_workers(rt, alloc, &inputs);
-    Ok(is_same(one, by_workers(rt, alloc, &inputs)))
+fn try_workers<R: Threads + Wait + Sync + AllocGlobal + Abort + Print>(
+    rt: &R,
+) -> Result<(), AllocError> {
+    let row = row_of(rt, "a day", first_of(DAYS))?;
+    let one = is_given(rt, by_workers(rt, &row), &row);
+    let other = is_given(rt, by_workers(rt, &row), &row);
+    tell(rt, one, other);
+    Ok(())
 }
 
 #[test]
 fn rebuild_refused(rt: HostRuntime) {
-    assert!(rt; is_well_by_workers(&rt, rt.alloc()).unwrap_or(true));
+    let _ = try_workers(&rt);
 }
 
-/// Whether a board that has done so many of the steps is seen as a new one is that does them, and comes to the same by the rest.
-fn goes_on<'t, J: PlanName + 'static, R: Wait + AllocGlobal>(
+/// Plays the steps of a script on a board, or drives the board in order. Only the test's own growths are given back as a fault.
+fn try_board<R: Wait + AllocGlobal + Abort + Print>(
     rt: &R,
-    table: &'t VersionTable<J>,
-    board: Board<'_, 't, J>,
-    mut other: Board<'_, 't, J>,
-    steps: &[Step],
-    done: usize,
-) -> Result<bool, AllocError> {
-    let alloc = rt.alloc();
-    let before = steps.get(..done).unwrap_or(steps);
-    let rest = steps.get(done..).unwrap_or(&[]);
-    if play(rt, alloc, table, &mut other, before).is_err() {
-        return Err(AllocError);
-    }
-    let (seen, shown) = (sight(alloc, &board)?, sight(alloc, &other)?);
-    let one = end_by(rt, table, board, rest)?;
-    let another = end_by(rt, table, other, rest)?;
-    Ok(seen.as_str() == shown.as_str() && is_same(Ok(one), Ok(another)))
-}
-
-/// What a board comes to by steps.
-fn end_by<'t, J: PlanName + 'static, R: Wait + AllocGlobal>(
-    rt: &R,
-    table: &'t VersionTable<J>,
-    mut board: Board<'_, 't, J>,
-    steps: &[Step],
-) -> Result<Vec<u8>, AllocError> {
-    match play(rt, rt.alloc(), table, &mut board, steps) {
-        Ok(()) => ended(rt.alloc(), board),
-        Err(_) => Err(AllocError),
-    }
-}
-
-/// Plays the steps. Where they halt, the board is as it was before the refused step, and goes on from there.
-fn is_well_played<'t, J: PlanName + 'static, R: Wait + AllocGlobal>(
-    rt: &R,
-    table: &'t VersionTable<J>,
-    plan: &Plan,
-    steps: &[Step],
-) -> Result<bool, AllocError>
-    requires { plan.now ≡ J.plan }
-{
-    let alloc = rt.alloc();
-    let mut board = Board::new(alloc, plan, WORKERS)?;
-    let other = Board::new(alloc, plan, WORKERS)?;
-    match play(rt, alloc, table, &mut board, steps) {
-        Ok(()) => goes_on(rt, table, board, other, steps, steps.len()),
-        Err(halt) => {
-            let well = goes_on(rt, table, board, other, steps, halt.done);
-            Ok(halt.fault == BoardFault::Memory && well.unwrap_or(false))
-        }
-    }
-}
-
-/// How many steps lead a new board to where it is seen as the given one; all where none do.
-fn steps_to<'t, J: PlanName, R: Wait + AllocGlobal>(
-    rt: &R,
-    table: &'t VersionTable<J>,
-    board: &Board<'_, 't, J>,
-    mut passing: Board<'_, 't, J>,
-    steps: &[Step],
-) -> Result<usize, AllocError> {
-    let alloc = rt.alloc();
-    let seen = sight(alloc, board)?;
-    for (done, step) in steps.iter().enumerate() {
-        if sight(alloc, &passing)?.as_str() == seen.as_str() {
-            return Ok(done);
-        }
-        if play(rt, alloc, table, &mut passing, &[*step]).is_err() {
-            return Err(AllocError);
-        }
-    }
-    Ok(steps.len())
-}
-
-/// Drives a board in order. Where that ends by want of memory, the board is one that the steps of the drive lead to, and goes on
-/// from there.
-fn is_well_driven<'t, J: PlanName + 'static, R: Wait + AllocGlobal>(
-    rt: &R,
-    table: &'t VersionTable<J>,
-    plan: &Plan,
-    steps: &[Step],
-) -> Result<bool, AllocError>
-    requires { plan.now ≡ J.plan }
-{
-    let alloc = rt.alloc();
-    let mut board = Board::new(alloc, plan, WORKERS)?;
-    let passing = Board::new(alloc, plan, WORKERS)?;
-    let other = Board::new(alloc, plan, WORKERS)?;
-    match drive_in_order(rt, alloc, table, &mut board) {
-        Ok(()) => goes_on(rt, table, board, other, steps, steps.len()),
-        Err(fault) => {
-            let done = steps_to(rt, table, &board, passing, steps).unwrap_or(0);
-            let well = goes_on(rt, table, board, other, steps, done);
-            Ok(fault == BoardFault::Memory && well.unwrap_or(false))
-        }
-    }
-}
-
-/// Plays a script on a board, or drives the board in order. (Where there is no plan, memory was wanted.)
-fn is_well_on_a_board<R: Wait + AllocGlobal>(
-    rt: &R,
-    script: &str,
+    book: &str,
     is_driven: bool,
-) -> Result<bool, AllocError> {
-    let (inputs, steps) = parts_of(rt.alloc(), script)?;
-    match plan_over(rt.alloc(), &inputs)? {
-        Some(plan) => is_well_over::<Brand, R>(rt, &plan, steps.as_slice(), is_driven),
-        None => Err(AllocError),
+) -> Result<(), Fault> {
+    let alloc = rt.alloc();
+    let script = Script::read(rt, "a board", first_of(book))?;
+    let steps = script.steps(alloc)?;
+    let Prepared { plan, journal } = prepare(alloc, &script.row.inputs)?;
+    let tried = Tried {
+        steps: steps.as_slice(),
+        is_driven,
+        row: &script.row,
+    };
+    try_over::<Brand, R>(rt, &plan, &journal, &tried)?;
+    Ok(())
+}
+
+/// What is tried on a board: steps, or the drive that does them, and what they must come to.
+struct Tried<'a> {
+    steps: &'a [Step],
+    is_driven: bool,
+    row: &'a Row,
+}
+
+impl Drop for Tried<'_> {
+    fn drop(self) {
+        let Tried {
+            steps: _,
+            is_driven: _,
+            row: _,
+        } = self;
     }
 }
 
-fn is_well_over<J: PlanName + 'static, R: Wait + AllocGlobal>(
+fn try_over<J: PlanName + 'static, R: Wait + AllocGlobal + Abort + Print>(
     rt: &R,
     plan: &Plan,
-    steps: &[Step],
-    is_driven: bool,
-) -> Result<bool, AllocError>
-    requires { plan.now ≡ J.plan }
+    journal: &Journal,
+    tried: &Tried<'_>,
+) -> Result<(), AllocError>
+    requires named { plan.now ≡ J.plan }
+    requires fits { plan.now.readings ≡ readings_of journal.now }
 {
-    let table: VersionTable<J> = VersionTable::new(rt.alloc())?;
-    if is_driven {
-        is_well_driven(rt, &table, plan, steps)
+    let alloc = rt.alloc();
+    let table: VersionTable<J> = VersionTable::new(alloc)?;
+    let mut board = Board::new(alloc, plan, WORKERS)?;
+    let halted = if tried.is_driven {
+        match drive_in_order(rt, alloc, &table, &mut board) {
+            Ok(()) => None,
+            Err(fault) => Some(fault),
+        }
     } else {
-        is_well_played(rt, &table, plan, steps)
+        match play(rt, alloc, &table, &mut board, tried.steps) {
+            Ok(()) => None,
+            Err(halt) => Some(halt.fault),
+        }
+    };
+    match halted {
+        None => end(rt, plan, journal, tried, board)?,
+        Some(fault) => {
+            assert!(rt; fault == BoardFault::Memory, "another fault");
+            let _ = println!(rt; "out of memory");
+            let gone_on = go_on(rt, &table, plan, journal, tried, board);
+            assert!(rt; gone_on.is_ok(), "out of memory twice");
+        }
     }
+    let _ = println!(rt; "full output");
+    Ok(())
+}
+
+/// Goes on from a board that is out of memory: it is seen as one is that some of the steps lead to, and the others commit all lines.
+fn go_on<'t, J: PlanName + 'static, R: Wait + AllocGlobal + Abort>(
+    rt: &R,
+    table: &'t VersionTable<J>,
+    plan: &Plan,
+    journal: &Journal,
+    tried: &Tried<'_>,
+    mut board: Board<'_, 't, J>,
+) -> Result<(), AllocError>
+    requires named { plan.now ≡ J.plan }
+    requires fits { plan.now.readings ≡ readings_of journal.now }
+{
+    let alloc = rt.alloc();
+    let seen = sight(alloc, &board)?;
+    let mut other = Board::new(alloc, plan, WORKERS)?;
+    let mut done: usize = 0;
+    for step in tried.steps {
+        if sight(alloc, &other)?.as_str() == seen.as_str() {
+            break;
+        }
+        assert!(rt; play(rt, alloc, table, &mut other, &[*step]).is_ok());
+        done = done.saturating_add(1);
+    }
+    let rest = tried.steps.get(done..).unwrap_or(&[]);
+    assert!(rt; play(rt, alloc, table, &mut board, rest).is_ok());
+    end(rt, plan, journal, tried, board)
+}
+
+/// Compares what a board comes to on which all lines are committed.
+fn end<J: PlanName + 'static, R: AllocGlobal + Abort>(
+    rt: &R,
+    plan: &Plan,
+    journal: &Journal,
+    tried: &Tried<'_>,
+    board: Board<'_, '_, J>,
+) -> Result<(), AllocError>
+    requires { plan.now.readings ≡ readings_of journal.now }
+{
+    let output = output_of(rt, rt.alloc(), plan, journal, board)?;
+    compare(rt, "a board", &output, tried.row);
+    Ok(())
+}
+
+/// The test's own growth was refused, or none of it.
+fn is_own(tried: Result<(), Fault>) -> bool {
+    matches!(tried, Ok(()) | Err(Fault::Memory))
 }
 
 #[test]
 fn play_refused(rt: HostRuntime) {
-    for script in [DAY, STALE, IN_PART, SUSPECT] {
-        assert!(rt;
-            is_well_on_a_board(&rt, script, false).unwrap_or(true),
-            "{script}"
-        );
+    for book in [IN_PART, SUSPECT, EARLY] {
+        assert!(rt; is_own(try_board(&rt, book, false)));
     }
 }
 
 #[test]
 fn drive_in_order_refused(rt: HostRuntime) {
-    assert!(rt; is_well_on_a_board(&rt, DAY, true).unwrap_or(true));
+    assert!(rt; is_own(try_board(&rt, ORDERED, true)));
 }

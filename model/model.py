@@ -518,6 +518,8 @@ def differences(answer, recorded):
 # ---------------------------------------------------------------- files
 
 def rows_of(text):
+    # (each character is a byte, so a byte order mark is three of them)
+    text = text.removeprefix('\xef\xbb\xbf')
     return [row for row in csv.reader(io.StringIO(text, newline='')) if row][1:]
 
 

@@ -1,5 +1,5 @@
 -- Each call keeps what holds of a reached board.
-use Rattle.std.proofs.Common.{◌≡◌, ◌≢◌, ℕ, suc, ◌+◌, ◌<◌, ◌≤◌, List, [], ◌∷◌, ◌++◌, Option, Some, None, length, slice_get, refl, sym, ap, subst, ◌∙◌, inl, inr, arith}
+use Rattle.std.proofs.Common.{◌≡◌, ◌≢◌, ℕ, suc, ◌+◌, ◌<◌, ◌≤◌, false, List, [], ◌∷◌, ◌++◌, Option, Some, None, length, slice_get, refl, sym, ap, subst, ◌∙◌, inl, inr, arith}
 use Rattle.std.specs.Option.{option_or}
 use Rattle.std.specs.FinMap.{insert, remove}
 use Rattle.std.proofs.lemmas.Option.{none-some, same_Some}
@@ -16,7 +16,7 @@ use Rattle.read_set.specs.declared.notes.Name.{Name}
 use Rattle.read_set.specs.declared.notes.Note.{Note}
 use Rattle.version_store.specs.Entries.{Shown, shown_by, as_suspect, suspected}
 use Rattle.version_store.specs.declared.entry.Found.TheVariants.{Named}
-use Rattle.board_steps.specs.Board.{State, Row, Board, IsLine, row_at, entry, IsOf, IsCommitted, holder, live_of, written_at, value_at, found, entry_over}
+use Rattle.board_steps.specs.Board.{State, Row, Board, IsLine, row_at, entry, IsOf, IsCommitted, holder, live_of, written_at, value_at, found, entry_over, EachNote}
 use Rattle.board_steps.specs.Board.State.{Waiting, Running, Placing, Done, Checking}
 use Rattle.board_steps.specs.Reached.{NoteHolds, IsNow, Held, EachPlaced, RunningOk, PlacingOk, DoneOk, CheckingOk, StateOk, RowOk, RowsOk, Reached}
 use Rattle.board_steps.specs.Steps.{put_row, with_state, MayTake, taken, MayLook, seen, stopped, MayPublish, Fits, IsNextWrite, AllPlaced, IsNextLeft, NoneLeft, placed, lifted, Compares, failing, marked, IsVersion}
@@ -124,6 +124,12 @@ module _ (plan : Planned) (b : Board) (w : ℕ) (k : Key) (n : ℕ) (notes : Lis
         hands = hands_put b n (with_state (row_at b n) Waiting) look_within ok.hands (λ v h. absurd (none-some v h));
       }
 
+-- what a line that is to be published has noted and placed
+pub record Published (plan : Planned) (rows : ℕ → Row) (n : ℕ) (r : Row) (notes : List Note) : Type 0 where
+  pub noted : EachNote notes (NoteHolds plan rows n)
+  pub placed : EachPlaced plan n r notes
+  pub clear : (k : Key) (e : Shown) → entry r k ≡ Some e → suc e.attempt ≡ r.next → e.suspect ≡ false
+
 -- entries of no attempt of its own are of versions, whichever
 running_placed : (plan : Planned) (n : ℕ) (l : Row) (notes : List Note) → ((k : Key) (e : Shown) → entry l k ≡ Some e → suc e.attempt ≡ l.next → ⊥) → EachPlaced plan n l notes
 running_placed plan n l notes h = λ k e g i. absurd (h k e g i)
@@ -144,11 +150,16 @@ module _ (plan : Planned) (b : Board) (w n : ℕ) (notes : List Note) (v : Conte
   publish_live : live_of (row_at b n).state ≡ 1
   publish_live = elim may [ inl e ↦ ap live_of e | inr e ↦ ap live_of e.1 ]
 
-  publishing : PlacingOk plan (row_at b) n (row_at b n) notes
+  publishing : Published plan (row_at b) n (row_at b n) notes
   publishing = elim may [
     | inl e ↦ (let was : RunningOk plan (row_at b) n (row_at b n) notes = state_is plan b n ok (Running w notes) e in
-        record { noted = was.noted; placed = running_placed plan n (row_at b n) notes was.none_of_its_own })
-    | inr e ↦ state_is plan b n ok (Placing w notes e.0) e.1
+        record {
+          noted = was.noted;
+          placed = running_placed plan n (row_at b n) notes was.none_of_its_own;
+          clear = λ k e g i. absurd (was.none_of_its_own k e g i);
+        })
+    | inr e ↦ (let was : PlacingOk plan (row_at b) n (row_at b n) notes e.0 = state_is plan b n ok (Placing w notes e.0) e.1 in
+        record { noted = was.noted; placed = was.placed; clear = was.clear })
   ]
 
   settles : Settles plan n notes v.writes v.answer
@@ -195,6 +206,11 @@ module _ (plan : Planned) (b : Board) (w n : ℕ) (notes : List Note) (v : Conte
                       ∙ ap (λ (x : Shown). written_at x k) same ∙ ap (λ x. written_at e x) (sym j))
                   | inr ne ↦ publishing.placed q e (sym (off_k q ne) ∙ h) i M true_in
                 ];
+                clear = λ q e h i. elim (cases_key q k) [
+                  | inl j ↦ ap (λ (x : Shown). x.suspect) (sym (same_Some e' e (sym at_k ∙ subst (λ x. entry r x ≡ Some e) j h)))
+                  | inr ne ↦ publishing.clear q e (sym (off_k q ne) ∙ h) i
+                ];
+                fits = (v, refl, fits.same_line, fits.same_attempt, fits.same_notes);
               };
             });
         first = ok.first;
@@ -233,6 +249,8 @@ module _ (plan : Planned) (b : Board) (w n : ℕ) (notes : List Note) (v : Conte
               state = record {
                 noted = notes_keep plan (row_at b) (row_at (put_row b n r)) b.clock (b.clock + 1) n r turn n notes publishing.noted;
                 placed = λ q e h i M true_in. publishing.placed q e (was q e h) i M true_in;
+                clear = λ q e h i. publishing.clear q e (was q e h) i;
+                fits = (v, refl, fits.same_line, fits.same_attempt, fits.same_notes);
               };
             });
         first = ok.first;
@@ -260,6 +278,7 @@ module _ (plan : Planned) (b : Board) (w n : ℕ) (notes : List Note) (v : Conte
                 answers = λ M true_in. (settles M true_in).1;
               };
               held = λ t e. absurd (none-some t e);
+              clear = λ k e h. publishing.clear k e h (ap suc (none k e h) ∙ fits.same_attempt);
             });
         first = ok.first;
         all = length_put b n r ∙ ok.all;
@@ -301,6 +320,7 @@ module _ (plan : Planned) (b : Board) (w n : ℕ) (notes : List Note) (answer : 
           settled = was.settled;
           past = omega (arith, c.2);
           held = inr (λ j x lt g. absurd (omega (arith, c.3)));
+          clear = was.clear;
         })
     | inr e ↦ state_is plan b n ok (Checking w notes answer t i) e
   ]
@@ -318,6 +338,7 @@ module _ (plan : Planned) (b : Board) (w n : ℕ) (notes : List Note) (answer : 
               past = checking.past;
               held = held_keep (row_at b) (row_at (put_row b n r)) b.clock n notes t (i + 1) checking.past
                   (moved_at plan (row_at b) (row_at (put_row b n r)) b.clock b.clock n r turn) (held_more (row_at b) n notes t i x checking.held at now);
+              clear = checking.clear;
             });
         first = ok.first;
         all = length_put b n r ∙ ok.all;
@@ -343,6 +364,7 @@ module _ (plan : Planned) (b : Board) (w n : ℕ) (notes : List Note) (answer : 
                 held_keep (row_at b) (row_at (put_row b n r)) b.clock n notes t (length notes) checking.past
                     (moved_at plan (row_at b) (row_at (put_row b n r)) b.clock b.clock n r turn) (held_all (row_at b) n notes t i le checking.held),
               );
+              clear = checking.clear;
             });
         first = ok.first;
         all = length_put b n r ∙ ok.all;

@@ -10,9 +10,9 @@ use Rattle.sip_answer.specs.declared.answer.Answer.{Answer}
 use Rattle.read_set.specs.Plans.{Planned}
 use Rattle.read_set.specs.Replay.{before, after, last}
 use Rattle.read_set.specs.declared.notes.Note.{Note}
-use Rattle.board_steps.specs.Board.{Row, Board, IsLine, blank, row_at, entry, IsCommitted, holder, live_of, value_at}
-use Rattle.board_steps.specs.Board.State.{Waiting, Done, Checking, Committed}
-use Rattle.board_steps.specs.Reached.{Held, StateOk, RowOk, CommittedOk, DoneOk, CheckingOk, Reached}
+use Rattle.board_steps.specs.Board.{Row, State, Board, IsLine, blank, row_at, entry, IsCommitted, holder, live_of, value_at}
+use Rattle.board_steps.specs.Board.State.{Waiting, Running, Placing, Done, Checking, Committed}
+use Rattle.board_steps.specs.Reached.{Held, NoneSuspect, StateOk, RowOk, CommittedOk, DoneOk, CheckingOk, Reached}
 use Rattle.board_steps.specs.Steps.{Call, Reply, opening_row, opening, Run}
 use Rattle.board_steps.proofs.Lines.{row_before, row_from}
 use Rattle.board_steps.proofs.Steps.{step_reached}
@@ -89,6 +89,18 @@ module _ (plan : Planned) (b : Board) (ok : Reached plan b) where
 
   pub all_committed : (n : ℕ) → ((m : ℕ) → plan.first ≤ m → m < n → IsCommitted (row_at b m).state) → (k : Key) → value_at plan (row_at b) n k ≡ before plan n k
   all_committed n all = value_before plan (row_at b) b.clock ok.rows.each ok.rows.bare n all
+
+-- no entry of a committed line is suspect
+clear_in : (plan : Planned) (rows : ℕ → Row) (clock n : ℕ) (r : Row) (s : State) → StateOk plan rows clock n r s → IsCommitted s → NoneSuspect r
+clear_in plan rows clock n r (Committed answer) h is = h.clear
+clear_in plan rows clock n r Waiting h is = absurd is
+clear_in plan rows clock n r (Running w notes) h is = absurd is
+clear_in plan rows clock n r (Placing w notes last) h is = absurd is
+clear_in plan rows clock n r (Done notes answer stamp) h is = absurd is
+clear_in plan rows clock n r (Checking w notes answer t i) h is = absurd is
+
+pub committed_clear : (plan : Planned) (b : Board) → Reached plan b → (n : ℕ) → IsCommitted (row_at b n).state → NoneSuspect (row_at b n)
+committed_clear plan b ok n is = clear_in plan (row_at b) b.clock n (row_at b n) (row_at b n).state (ok.rows.each n).state is
 
 -- all lines are committed: what is visible past the last is what one thread leaves
 pub last_committed : (plan : Planned) (b : Board) → Reached plan b → ((m : ℕ) → IsLine b m → IsCommitted (row_at b m).state) → (k : Key) → value_at plan (row_at b) (b.first + length b.rows) k ≡ last plan k

@@ -18,7 +18,7 @@ module _ (plan : Planned) (rows others : ℕ → Row) (clock later n : ℕ) (r :
   state_keep m l (Running w notes) h =
       record { noted = notes_keep plan rows others clock later n r turn m notes h.noted; none_of_its_own = h.none_of_its_own }
   state_keep m l (Placing w notes last) h =
-      record { noted = notes_keep plan rows others clock later n r turn m notes h.noted; placed = h.placed }
+      record { noted = notes_keep plan rows others clock later n r turn m notes h.noted; placed = h.placed; clear = h.clear; fits = h.fits }
   state_keep m l (Done notes answer stamp) h =
       record {
         noted = notes_keep plan rows others clock later n r turn m notes h.noted;
@@ -26,6 +26,7 @@ module _ (plan : Planned) (rows others : ℕ → Row) (clock later n : ℕ) (r :
         held = λ t e.
             let g = h.held t e in
             (omega (arith, g.0, turn.tick), held_keep rows others clock m notes t (length notes) g.0 (moved_at plan rows others clock later n r turn) g.1);
+        clear = h.clear;
       }
   state_keep m l (Checking w notes answer t i) h =
       record {
@@ -33,6 +34,7 @@ module _ (plan : Planned) (rows others : ℕ → Row) (clock later n : ℕ) (r :
         settled = h.settled;
         past = omega (arith, h.past, turn.tick);
         held = held_keep rows others clock m notes t i h.past (moved_at plan rows others clock later n r turn) h.held;
+        clear = h.clear;
       }
   state_keep m l (Committed answer) h = h
 

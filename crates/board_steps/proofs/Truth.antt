@@ -126,6 +126,7 @@ module _ (plan : Planned) (b : Board) (n : ℕ) (notes : List Note) (answer : Op
                 state = record {
                   map = λ k. sym (done.settled.map (before plan n) true_in k) ∙ sym (before_next plan n k commit_from);
                   answers = sym (done.settled.answers (before plan n) true_in);
+                  clear = done.clear;
                 };
               });
         };

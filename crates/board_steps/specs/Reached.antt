@@ -1,5 +1,5 @@
 -- A reached board: what holds of every board that steps lead to (the board).
-use Rattle.std.specs.Prelude.{◌≡◌, ℕ, suc, ◌+◌, ◌<◌, ◌≤◌, ◌⊎◌, List, length, Option, Some, None}
+use Rattle.std.specs.Prelude.{◌≡◌, ℕ, suc, ◌+◌, ◌<◌, ◌≤◌, ◌⊎◌, List, false, length, Option, Some, None}
 use Rattle.std.specs.List.{sum_by}
 use Rattle.circ_records.specs.Records.{record_at}
 use Rattle.circ_records.specs.declared.key.Key.{Key}
@@ -8,7 +8,7 @@ use Rattle.sip_answer.specs.declared.answer.Answer.{Answer}
 use Rattle.read_set.specs.Maps.{Map}
 use Rattle.read_set.specs.Plans.{Planned}
 use Rattle.read_set.specs.Replay.{one_at, before, answer_of}
-use Rattle.read_set.specs.Settling.{AreTrue}
+use Rattle.read_set.specs.Settling.{AreTrue, Contents}
 use Rattle.read_set.specs.declared.notes.Name.{Name}
 use Rattle.read_set.specs.declared.notes.Name.TheVariants.{Base, Made}
 use Rattle.read_set.specs.declared.notes.Note.{Note}
@@ -62,31 +62,42 @@ pub record RunningOk (plan : Planned) (rows : ℕ → Row) (n : ℕ) (r : Row) (
   pub noted : EachNote notes (NoteHolds plan rows n)
   pub none_of_its_own : (k : Key) (e : Shown) → entry r k ≡ Some e → suc e.attempt ≡ r.next → ⊥
 
-pub record PlacingOk (plan : Planned) (rows : ℕ → Row) (n : ℕ) (r : Row) (notes : List Note) : Type 0 where
+-- no entry of the line is suspect
+abbrev pub NoneSuspect : Row → Type 0
+NoneSuspect r = (k : Key) (e : Shown) → entry r k ≡ Some e → e.suspect ≡ false
+
+pub record PlacingOk (plan : Planned) (rows : ℕ → Row) (n : ℕ) (r : Row) (notes : List Note) (last : Option Contents) : Type 0 where
   pub noted : EachNote notes (NoteHolds plan rows n)
   pub placed : EachPlaced plan n r notes
+  -- no entry of the attempt is suspect
+  pub clear : (k : Key) (e : Shown) → entry r k ≡ Some e → suc e.attempt ≡ r.next → e.suspect ≡ false
+  -- there is a version of the last act, of the line, its attempt and its notes
+  pub fits : (v : Contents) × (last ≡ Some v) × (v.line ≡ n) × (suc v.attempt ≡ r.next) × (v.reads ≡ notes)
 
 pub record DoneOk (plan : Planned) (rows : ℕ → Row) (clock n : ℕ) (r : Row) (notes : List Note) (answer : Option Answer) (stamp : Option ℕ) : Type 0 where
   pub noted : EachNote notes (NoteHolds plan rows n)
   pub settled : Settled plan n r notes answer
   pub held : (t : ℕ) → stamp ≡ Some t → (t ≤ clock) × Held rows n notes t (length notes)
+  pub clear : NoneSuspect r
 
 pub record CheckingOk (plan : Planned) (rows : ℕ → Row) (clock n : ℕ) (r : Row) (notes : List Note) (answer : Option Answer) (stamp compared : ℕ) : Type 0 where
   pub noted : EachNote notes (NoteHolds plan rows n)
   pub settled : Settled plan n r notes answer
   pub past : stamp ≤ clock
   pub held : Held rows n notes stamp compared
+  pub clear : NoneSuspect r
 
 -- a committed line has its answer in the replay by one thread, and its entries, put over the records before it, are the
 -- records after it
 pub record CommittedOk (plan : Planned) (n : ℕ) (r : Row) (answer : Option Answer) : Type 0 where
   pub map : (k : Key) → entry_over (entry r k) k (before plan n k) ≡ before plan (suc n) k
   pub answers : answer ≡ answer_of plan n
+  pub clear : NoneSuspect r
 
 abbrev pub StateOk : Planned → (ℕ → Row) → ℕ → ℕ → Row → State → Type 0
 StateOk plan rows clock n r Waiting = Unit {0}
 StateOk plan rows clock n r (Running worker notes) = RunningOk plan rows n r notes
-StateOk plan rows clock n r (Placing worker notes last) = PlacingOk plan rows n r notes
+StateOk plan rows clock n r (Placing worker notes last) = PlacingOk plan rows n r notes last
 StateOk plan rows clock n r (Done notes answer stamp) = DoneOk plan rows clock n r notes answer stamp
 StateOk plan rows clock n r (Checking worker notes answer stamp compared) = CheckingOk plan rows clock n r notes answer stamp compared
 StateOk plan rows clock n r (Committed answer) = CommittedOk plan n r answer

@@ -53,11 +53,11 @@ module _ (plan : Planned) (b : Board) (reached : Reached plan b) (w : ℕ) where
 
   -- it wants one key, or has one version, and not both
   one_wanted : (k j : Key) → Wants plan b w k → Wants plan b w j → k ≡ j
-  one_wanted k j (n, a, notes, h, is) (m, c, more, i, at) =
+  one_wanted k j (n, a, notes, h, is, wanted) (m, c, more, i, at, wanted') =
       let e : AsksFor k ≡ AsksFor j = sym is ∙ one_stand n m a c notes more h i ∙ at in cc
 
-  not_both : (k : Key) (v : Contents) → Wants plan b w k → HasVersion plan b w v → ⊥
-  not_both k v (n, a, notes, h, is) (m, c, more, i, line, attempt, reads, at, settles) =
+  pub not_both : (k : Key) (v : Contents) → Wants plan b w k → HasVersion plan b w v → ⊥
+  not_both k v (n, a, notes, h, is, wanted) (m, c, more, i, line, attempt, reads, at, settles) =
       let e : AsksFor k ≡ EndsIn (effect v) = sym is ∙ one_stand n m a c notes more h i ∙ at in cc
 
   -- versions that tell the same are one

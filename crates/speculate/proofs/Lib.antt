@@ -1,6 +1,7 @@
 mod BoardEnds
 pub mod Calling
 pub mod Choosing
+pub mod ComingOn
 pub mod Determined
 pub mod Drives
 pub mod Finishes

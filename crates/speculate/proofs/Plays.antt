@@ -3,6 +3,7 @@ use Rattle.std.proofs.Common.{◌≡◌, ◌≢◌, ℕ, suc, List, [], ◌∷�
 use Rattle.circ_records.specs.declared.key.Key.{Key}
 use Rattle.read_set.specs.Plans.{Planned}
 use Rattle.message_meaning.specs.Needs.{IsNeed}
+use Rattle.message_meaning.proofs.LineReach.{wanted}
 use Rattle.message_meaning.proofs.Whole.{given_all}
 use Rattle.read_set.proofs.Keeping.{true-agrees}
 use Rattle.read_set.specs.Asks.{Reached as Outcome, Done as EndsIn, Wants as AsksFor}
@@ -154,7 +155,7 @@ in_hand plan b w n a notes reached held next (m, holds, noted) =
     record { held = held; attempt = next; noted = subst (λ x. notes_of (row_at b x).state ≡ notes) same noted }
 
 pub next_is : {J : Type 0} (plan : Planned) (b : Board) (w n a : ℕ) (notes : List Note) (next : Need J) → HasRunning b w → InHand b w n a notes → IsNeed plan n a notes next → SettlesIfDone plan next → IsNext plan b w (Some next)
-next_is plan b w n a notes (needs.Key k) runs hand need settles = (runs, (n, a, notes, hand, need.1))
+next_is plan b w n a notes (needs.Key k) runs hand need settles = (runs, (n, a, notes, hand, need.1, need.0))
 next_is plan b w n a notes (needs.Done v) runs hand need settles = (runs, (n, a, notes, hand, need.1, need.2, need.3, need.0, settles))
 
 -- a line of which a part is published doesn't run
@@ -184,7 +185,7 @@ has_version plan b w n a notes e hand ends = (n, a, notes, hand, refl, refl, ref
 
 -- a line that doesn't run looks at nothing, wherever its rule stands
 rests_looking : (plan : Planned) (b : Board) (w n a : ℕ) (notes : List Note) (o : Outcome Effect) → stands_at plan n notes ≡ o → InHand b w n a notes → (HasRunning b w → ⊥) → Looks plan b w Idle b
-rests_looking plan b w n a notes (AsksFor k) is hand not = inl (k, (n, a, notes, hand, is), (λ m noted may. not (m, noted, may.running), refl))
+rests_looking plan b w n a notes (AsksFor k) is hand not = inl (k, (n, a, notes, hand, is, wanted (noted notes) plan n k is), (λ m others may. not (m, others, may.running), refl))
 rests_looking plan b w n a notes (EndsIn e) is hand not = inr (inr (_, has_version plan b w n a notes e hand is), refl, refl)
 
 pub look_rests : {J : Type 0} (plan : Planned) (b : Board) (w : ℕ) (next : Option (Need J)) → IsNext plan b w next → None ≡ needed_key next → Goes plan b (steps.Look w) b
@@ -210,7 +211,7 @@ no_publish b w not none n notes (inr (last, is)) = none n notes last is
 -- nor does it publish
 rests_publishing : (plan : Planned) (b : Board) (w n a : ℕ) (notes : List Note) (o : Outcome Effect) → stands_at plan n notes ≡ o → InHand b w n a notes
     → (HasRunning b w → ⊥) → IsPlacing b w None → Publishes plan b w Idle b
-rests_publishing plan b w n a notes (AsksFor k) is hand not none = inr (inr (none_placing b w none, k, (n, a, notes, hand, is)), refl, refl)
+rests_publishing plan b w n a notes (AsksFor k) is hand not none = inr (inr (none_placing b w none, k, (n, a, notes, hand, is, wanted (noted notes) plan n k is)), refl, refl)
 rests_publishing plan b w n a notes (EndsIn e) is hand not none =
     let has = has_version plan b w n a notes e hand is in
     inl (_, inr (none_placing b w none, has), has.8, (no_publish b w not none, refl))

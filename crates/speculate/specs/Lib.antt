@@ -1,5 +1,6 @@
 pub mod BoardEnds
 pub mod Choices
+pub mod ComingOn
 pub mod Devices
 pub mod Driving
 pub mod Ending

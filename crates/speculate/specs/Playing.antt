@@ -6,6 +6,7 @@ use Rattle.read_set.specs.Asks.{follow, Reached as Outcome, Done as EndsIn, Want
 use Rattle.read_set.specs.Notes.{noted}
 use Rattle.read_set.specs.Plans.{Planned}
 use Rattle.read_set.specs.Settling.{Contents}
+use Rattle.read_set.specs.Wanted.{Wanted}
 use Rattle.read_set.specs.declared.effect.Effect.{Effect}
 use Rattle.read_set.specs.declared.notes.Note.{Note}
 use Rattle.board_steps.specs.Board.{Board, row_at, holder}
@@ -31,9 +32,10 @@ pub record InHand (b : Board) (w n a : ℕ) (notes : List Note) : Type 0 where
 abbrev pub stands_at : Planned → ℕ → List Note → Outcome Effect
 stands_at plan n notes = follow (noted notes) (rule_at plan n)
 
--- the rule of the line in hand asks for the record at a key
+-- the rule of the line in hand asks for the record at a key, which is wanted
 abbrev pub Wants : Planned → Board → ℕ → Key → Type 0
-Wants plan b w k = (n : ℕ) × (a : ℕ) × (notes : List Note) × InHand b w n a notes × (stands_at plan n notes ≡ AsksFor k)
+Wants plan b w k =
+    (n : ℕ) × (a : ℕ) × (notes : List Note) × InHand b w n a notes × (stands_at plan n notes ≡ AsksFor k) × Wanted plan n (noted notes) k
 
 -- The version of the line in hand: its number, its attempt, its notes, and what its rule comes to on them. So it settles.
 abbrev pub HasVersion : Planned → Board → ℕ → Contents → Type 0
@@ -54,7 +56,7 @@ ToPublish plan b w v = HasLast b w v ⊎ (((u : Contents) → HasLast b w u → 
 abbrev pub Rests : Planned → Board → ℕ → Type 0
 Rests plan b w = HasNoLine b w ⊎ (((u : Contents) → HasLast b w u → ⊥) × (k : Key) × Wants plan b w k)
 
--- A look: at the key for which the rule of the line in hand asks. It is idle where nothing is in hand, or the rule has come to its end.
+-- A look: at the wanted key for which the rule of the line in hand asks. It is idle where nothing is in hand, or the rule has come to its end.
 abbrev pub Looks : Planned → Board → ℕ → Reply → Board → Type 0
 Looks plan old w reply new =
     ((k : Key) × Wants plan old w k × Step plan old (Look w k) reply new)

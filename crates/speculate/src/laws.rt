@@ -1,9 +1,12 @@
 //! What holds of every board to which lists of steps lead.
 
-ghost use Rattle.std.specs.Prelude.{◌≡◌, List};
-ghost use Rattle.board_steps.specs.Board.{Board};
+ghost use Rattle.std.specs.Prelude.{◌≡◌, ◌<◌, ◌⊎◌, ℕ, List};
+ghost use Rattle.board_steps.specs.Board.{Board, IsCommitted, IsLine, row_at};
+ghost use Rattle.board_steps.specs.Choice.{Choice, IsChoice};
 ghost use Rattle.board_steps.specs.Reached.{Reached};
+ghost use Rattle.board_steps.specs.Steps.{Call, Reply, Step};
 ghost use Rattle.read_set.specs.Plans.{Planned};
+ghost use Rattle.speculate.specs.ComingOn.{ComesOn, IsSpent, Names, NoneInHand};
 ghost use Rattle.speculate.specs.Playing.{Halts, Plays};
 ghost use Rattle.speculate.specs.declared.steps.BoardFault.TheVariants as faults;
 ghost use Rattle.speculate.specs.declared.steps.Halt.{Halt};
@@ -20,4 +23,12 @@ pub fn plays_are_reached()
 pub fn plays_lead_to_one_board()
     ensures one { (plan : Planned) (old new other : Board) (steps : List WorkerStep) → Reached plan old → Plays plan old steps new → Plays plan old steps other → new ≡ other }
     ensures memory { (plan : Planned) (old new stopped : Board) (steps : List WorkerStep) (halt : Halt) → Reached plan old → Plays plan old steps new → Halts plan old steps halt stopped → halt.fault ≡ faults.Memory }
+{}
+
+/// Nobody waits for nobody. Where no worker has a line in hand and some line isn't committed, the choice of a free worker names a
+/// call: it neither waits nor ends. That call, done by any worker, brings its line on: the worker has the line in hand, or the
+/// line is committed, or checked, or waits anew for a change that the reply names; else its attempts or the clock are spent.
+pub fn nobody_waits_for_nobody()
+    ensures names { (plan : Planned) (b : Board) (m : ℕ) (choice : Choice) (w : ℕ) → Reached plan b → NoneInHand b → IsLine b m → (IsCommitted (row_at b m).state → ⊥) → IsChoice b choice → (n : ℕ) × (call : Call) × Names choice w n call }
+    ensures comes_on { (plan : Planned) (b new : Board) (choice : Choice) (w n : ℕ) (call : Call) (reply : Reply) → Reached plan b → NoneInHand b → w < b.workers → IsChoice b choice → Names choice w n call → Step plan b call reply new → ComesOn b w n call reply new ⊎ IsSpent n reply }
 {}

@@ -22,6 +22,6 @@ pub use board_lines::{Hand, PlaceNotes, PlacedName, Reply, read_notes};
 pub use choice::Choice;
 pub use driving::drive_in_order;
 pub use finished::{Finished, Open};
-pub use laws::{plays_are_reached, plays_lead_to_one_board};
+pub use laws::{nobody_waits_for_nobody, plays_are_reached, plays_lead_to_one_board};
 pub use playing::play;
 pub use steps::{BoardFault, Halt, Step};

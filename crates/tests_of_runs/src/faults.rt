@@ -15,12 +15,12 @@ use std::alloc::{AllocGlobal, Global};
 use std::marker::Brand;
 use std::process::Abort;
 use std::sync::Wait;
-use std::sync::atomic::Ordering;
+use std::sync::atomic::{AtomicU64, Ordering};
 use std::test::Fail;
 use std::thread;
 use std::thread::Threads;
 use version_store::VersionTable;
-use worker_pool::{Closed, Left, SharedBoard, Sight, run_workers};
+use worker_pool::{Closed, Left, SharedBoard, run_workers};
 
 /// Other words for an item, and then its loan.
 const STATUS_AND_LOAN: &str = "\
@@ -34,8 +34,14 @@ fn ends_where_a_fault_was_left(rt: HostRuntime) -> Result<(), Fail> {
     hold_one::<Brand, HostRuntime>(&rt, &plan)
 }
 
+/// How often each of some workers begins at most while the others do.
+const BEGINS: u32 = 500_000;
+
+/// So many tries that found the lock taken are enough: among them some workers have tried it over and over.
+const VAIN_TRIES: u64 = 20_000;
+
 /// Whether a step tells want of memory.
-fn tells_memory<T: Copy>(told: Result<T, Left>) -> bool {
+fn tells_memory<T>(told: &Result<T, Left>) -> bool {
     matches!(told, Err(Left(BoardFault::Memory)))
 }
 
@@ -52,15 +58,11 @@ fn leave_two<J: PlanName + Send + Sync + 'static, R: Threads + Wait + Sync + All
     assert!(rt; shared.begin(rt, 0).is_ok());
     shared.leave(rt, BoardFault::Memory);
     shared.leave(rt, BoardFault::ClockSpent);
-    assert!(rt; tells_memory(shared.begin(rt, 1)), "begin");
+    assert!(rt; tells_memory(&shared.begin(rt, 1)), "begin");
     let key = Key::Item(Id::new(b"I1").expect(rt, "an id"));
-    match shared.look(rt, 0, &key) {
-        Ok(Sight::Seen { .. }) => panic!(rt; "seen"),
-        Ok(Sight::Over) => panic!(rt; "over"),
-        Err(left) => assert!(rt; tells_memory::<()>(Err(left)), "look"),
-    }
-    assert!(rt; tells_memory(shared.publish_more(rt, 0)), "publish_more");
-    assert!(rt; tells_memory(shared.check(rt, 0, 1)), "check");
+    assert!(rt; tells_memory(&shared.look(rt, 0, &key)), "look");
+    assert!(rt; tells_memory(&shared.publish_more(rt, 0)), "publish_more");
+    assert!(rt; tells_memory(&shared.check(rt, 0, 1)), "check");
     // A line that the journal lacks wants nothing.
     let Need::Done(version) = need(alloc, plan, 3, 0, &Notes::new(alloc))? else {
         panic!(rt; "a version")
@@ -68,7 +70,7 @@ fn leave_two<J: PlanName + Send + Sync + 'static, R: Threads + Wait + Sync + All
     let Ok(place) = table.put(rt, version) else {
         panic!(rt; "a place")
     };
-    assert!(rt; tells_memory(shared.publish(rt, 0, place)), "publish");
+    assert!(rt; tells_memory(&shared.publish(rt, 0, place)), "publish");
     let run = run_workers(rt, alloc, &shared, &NoGate);
     assert!(rt; matches!(run, Err(BoardFault::Memory)), "run_workers");
     match shared.close() {
@@ -123,4 +125,73 @@ fn leave_while_held<J: PlanName + Send + Sync + 'static, R: Threads + Wait + Syn
             gate.free.store(1, Ordering::SeqCst);
         },
     );
+}
+
+#[test]
+fn begins_nothing_behind_a_fault_whoever_has_the_lock(rt: HostRuntime) -> Result<(), Fail> {
+    let plan = plan_of(rt.alloc(), 2, STATUS_AND_LOAN)?.expect(&rt, "a plan");
+    begin_at_once::<Brand, HostRuntime>(&rt, &plan)
+}
+
+/// Four workers begin at once, over and over, where want of memory was left.
+fn begin_at_once<
+    J: PlanName + Send + Sync + 'static,
+    R: Threads + Wait + Sync + AllocGlobal + Abort,
+>(rt: &R, plan: &Plan) -> Result<(), Fail>
+    requires { plan.now ≡ J.plan }
+{
+    let alloc = rt.alloc();
+    let table: VersionTable<J> = VersionTable::new(alloc)?;
+    let shared = SharedBoard::new(Board::new(alloc, plan, 4)?, &table);
+    shared.leave(rt, BoardFault::Memory);
+    let others = AtomicU64::new(0);
+    begin_in_threads(rt, &shared, &others);
+    assert_eq!(rt; others.load(Ordering::SeqCst), 0);
+    Ok(())
+}
+
+/// Four threads, each of which begins for a worker.
+fn begin_in_threads<J: PlanName + Send + Sync + 'static, R: Threads + Wait + Sync>(
+    rt: &R,
+    shared: &SharedBoard<'_, '_, J>,
+    others: &AtomicU64,
+) {
+    thread::scope(
+        thread::scope_env(),
+        rt,
+        |scope|
+            requires { IsStatic J.row }
+        {
+            for worker in 0..4 {
+                let _ = scope.spawn(
+                    move ||
+                        requires { IsStatic J.row }
+                    { begin_often(rt, shared, worker, others) },
+                );
+            }
+        },
+    );
+}
+
+/// Begins until threads have met at the lock, and counts what is given in place of the fault. A try that asked the board gives
+/// the fault, too.
+fn begin_often<J: PlanName + 'static, R: Wait>(
+    rt: &R,
+    shared: &SharedBoard<'_, '_, J>,
+    worker: u32,
+    others: &AtomicU64,
+) {
+    for _ in 0..BEGINS {
+        if shared.vain_tries() > VAIN_TRIES {
+            return;
+        }
+        if !tells_memory(&shared.begin(rt, worker)) {
+            others.fetch_add(1, Ordering::SeqCst);
+        }
+        if let Some(told) = shared.try_begin(worker)
+            && !tells_memory(&told)
+        {
+            others.fetch_add(1, Ordering::SeqCst);
+        }
+    }
 }

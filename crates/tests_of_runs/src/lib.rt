@@ -1,5 +1,5 @@
-//! Tests of whole runs: worked examples, told in books of texts; runs by workers in threads, whose gate is told of each step; faults that
-//! were left; inputs that are cut; and runs of which one growth of the heap is refused, by `.ci/growths`. What a run of the built program shows
+//! Tests of whole runs: worked examples, told in books of texts; runs by workers in threads, whose gate is told of each step; what the steps of
+//! a shared board give; faults that were left; inputs that are cut; and runs of which one growth of the heap is refused, by `.ci/growths`. What a run of the built program shows
 //! stands in `books` and `cases`.
 //!
 //! A book is a text. A row begins with `#` and its title; each line behind it says one thing:
@@ -63,6 +63,8 @@ mod driven;
 mod faults;
 #[cfg(test)]
 mod gates;
+#[cfg(test)]
+mod holds;
 #[cfg(test)]
 mod library;
 #[cfg(test)]

@@ -1,10 +1,12 @@
-//! What a call of the shared board comes to, for the worker that made it.
+//! What a hold of the lock gives.
+
+ghost use Rattle.std.specs.Prelude.{◌≡◌};
+ghost use Rattle.worker_pool.specs.Holds.{fault_in, fault_of};
 
 use board_lines::Reply;
-use read_set::{Name, PlanName};
-use speculate::BoardFault;
+use read_set::PlanName;
+use speculate::{BoardFault, Choice};
 use std::alloc::AllocError;
-use version_store::Place;
 
 /// The first fault that was left: all workers are to end.
 #[derive(Clone, Copy)]
@@ -16,53 +18,27 @@ impl From<AllocError> for Left {
     }
 }
 
-/// What a free worker has begun.
-#[derive(Clone, Copy)]
-pub enum Begun {
-    /// The line is committed.
-    Committed { line: u64 },
-    /// It checks the line.
-    Checks { line: u64, course: Course },
-    /// It has the line in hand, with this attempt.
-    Taken { line: u64, attempt: u32 },
-    /// There is nothing to do until another worker's line comes on.
-    Nothing,
-    /// All lines are committed.
-    End,
-}
+/// What a free worker has begun: its choice, with the board's reply to the call that the choice names, if it names one.
+pub type Begun<'t, J> = (Choice, Option<Reply<'t, J>>);
 
-/// What a worker sees at a key for its line.
-pub enum Sight<'t, J: PlanName> {
-    /// The key is noted under this name. The record is what the version at the place writes; without a place it is the base's.
-    Seen {
-        name: Name,
-        place: Option<Place<'t, J>>,
-    },
-    /// The attempt has ended.
-    Over,
-}
-
-/// How far a publication or a check has come.
-#[derive(Clone, Copy)]
-pub enum Course {
-    /// An act was done, and there is more to do.
-    More,
-    /// All is published, or all was compared.
-    Whole,
-    /// It has ended, or there is none.
-    Over,
-}
-
-/// What the board's reply says of the publication or the check that it belongs to, or the fault for which it was refused.
-pub fn course_of<J: PlanName>(reply: Reply<'_, J>) -> Result<Course, BoardFault> {
+/// The fault for which a reply refuses its call.
+pub fn refusal<J: PlanName>(reply: &Reply<'_, J>) -> Option<BoardFault>
+    ensures { result ≡ fault_of reply.now }
+{
     match reply {
-        Reply::Placed => Ok(Course::More),
-        Reply::Lifted => Ok(Course::More),
-        Reply::Same => Ok(Course::More),
-        Reply::Whole => Ok(Course::Whole),
-        Reply::Attempts { line } => Err(BoardFault::Attempts { line }),
-        Reply::ClockSpent => Err(BoardFault::ClockSpent),
-        Reply::Memory => Err(BoardFault::Memory),
-        _ => Ok(Course::Over),
+        Reply::Attempts { line } => Some(BoardFault::Attempts { line: *line }),
+        Reply::ClockSpent => Some(BoardFault::ClockSpent),
+        Reply::Memory => Some(BoardFault::Memory),
+        _ => None,
+    }
+}
+
+/// The same of a reply, if there is one.
+pub fn refusal_in<J: PlanName>(reply: &Option<Reply<'_, J>>) -> Option<BoardFault>
+    ensures { result ≡ fault_in reply.now }
+{
+    match reply {
+        Some(reply) => refusal(reply),
+        None => None,
     }
 }

@@ -1,14 +1,22 @@
 //! What lies under the lock, and what one hold of it does.
 
-use crate::calls::{Begun, Course, Left, Sight, course_of};
+ghost use Rattle.std.specs.Prelude.{◌≡◌};
+ghost use Rattle.std.specs.Option.{unwrap_or};
+ghost use Rattle.board_steps.specs.Steps.Call.{Check, Look, Publish};
+ghost use Rattle.board_lines.specs.Courses.{PublishesMore};
+ghost use Rattle.board_lines.specs.Notes.{contents_at};
+ghost use Rattle.board_lines.specs.Replies.{Answers};
+ghost use Rattle.worker_pool.specs.Holds.{BeginsChosen, Holds, fault_in, fault_of};
+
+use crate::calls::{Begun, Left, refusal, refusal_in};
 use board_lines::Reply;
 use circ_records::Key;
 use read_set::PlanName;
-use speculate::{Board, BoardFault, Choice};
+use speculate::{Board, BoardFault};
 use version_store::Place;
 
-/// The board, and the first fault that was left. Each step does one call of the board, and leaves the fault for which the
-/// board refuses it; where a fault was left before, it does nothing and tells that fault.
+/// The board, and the first fault that was left. Each step is one call of the board, and leaves the fault for which the board
+/// refuses it; where a fault was left before, it does nothing and gives that fault.
 #[derive(Drop)]
 pub struct Held<'p, 't, J: PlanName> {
     pub board: Board<'p, 't, J>,
@@ -17,86 +25,87 @@ pub struct Held<'p, 't, J: PlanName> {
 
 impl<'p, 't, J: PlanName> Held<'p, 't, J> {
     /// What a free worker does next, done.
-    pub fn begin(&mut self, worker: u32) -> Result<Begun, Left> {
-        if let Some(fault) = self.left {
-            return Err(Left(fault));
+    pub fn begin(&mut self, worker: u32) -> Result<Begun<'t, J>, Left>
+        ensures { Holds (BeginsChosen J.plan worker) (λ begun. fault_in begun.1) self.old result self.new }
+    {
+        if let Some(first) = self.left {
+            return Err(Left(first));
         }
-        match self.board.begin(worker) {
-            (Choice::End, _) => Ok(Begun::End),
-            (Choice::Commit(line), Some(Reply::Committed)) => Ok(Begun::Committed { line }),
-            (Choice::Take(line), Some(Reply::Taken { attempt })) => {
-                Ok(Begun::Taken { line, attempt })
-            }
-            (Choice::Check(line), Some(reply)) => match course_of(reply) {
-                Ok(course) => Ok(Begun::Checks { line, course }),
-                Err(fault) => Err(self.refuse(fault)),
-            },
-            (_, Some(reply)) => match course_of(reply) {
-                Ok(_) => Ok(Begun::Nothing),
-                Err(fault) => Err(self.refuse(fault)),
-            },
-            (_, None) => Ok(Begun::Nothing),
+        let begun = self.board.begin(worker);
+        self.left = refusal_in(&begun.1);
+        match self.left {
+            Some(fault) => Err(Left(fault)),
+            None => Ok(begun),
         }
     }
 
     /// A worker looks at a key for its line.
-    pub fn look(&mut self, worker: u32, key: &Key) -> Result<Sight<'t, J>, Left> {
+    pub fn look(&mut self, worker: u32, key: &Key) -> Result<Reply<'t, J>, Left>
+        ensures { Holds (λ old. Answers J.plan old (Look worker key.now)) fault_of self.old result self.new }
+    {
         if let Some(fault) = self.left {
             return Err(Left(fault));
         }
-        match self.board.look(worker, key) {
-            Reply::Seen { name, place } => Ok(Sight::Seen { name, place }),
-            Reply::Memory => Err(self.refuse(BoardFault::Memory)),
-            _ => Ok(Sight::Over),
+        let reply = self.board.look(worker, key);
+        self.left = refusal(&reply);
+        match self.left {
+            Some(fault) => Err(Left(fault)),
+            None => Ok(reply),
         }
     }
 
     /// The first act of the publication of the version at a place.
-    pub fn publish(&mut self, worker: u32, place: Place<'t, J>) -> Result<Course, Left> {
+    pub fn publish(&mut self, worker: u32, place: Place<'t, J>) -> Result<Reply<'t, J>, Left>
+        ensures { Holds (λ old. Answers J.plan old (Publish worker (contents_at place.entry))) fault_of self.old result self.new }
+    {
         if let Some(fault) = self.left {
             return Err(Left(fault));
         }
-        match course_of(self.board.publish(worker, place)) {
-            Ok(course) => Ok(course),
-            Err(fault) => Err(self.refuse(fault)),
+        let reply = self.board.publish(worker, place);
+        self.left = refusal(&reply);
+        match self.left {
+            Some(fault) => Err(Left(fault)),
+            None => Ok(reply),
         }
     }
 
-    /// One more act of the publication that the worker's line is in.
-    pub fn publish_more(&mut self, worker: u32) -> Result<Course, Left> {
+    /// One more act of the publication that the worker's line is in; None, and no change, where it is in none.
+    pub fn publish_more(&mut self, worker: u32) -> Result<Option<Reply<'t, J>>, Left>
+        ensures { Holds (λ old. PublishesMore J.plan old worker) fault_in self.old result self.new }
+    {
         if let Some(fault) = self.left {
             return Err(Left(fault));
         }
-        let Some(reply) = self.board.publish_more(worker) else {
-            return Ok(Course::Over);
-        };
-        match course_of(reply) {
-            Ok(course) => Ok(course),
-            Err(fault) => Err(self.refuse(fault)),
+        let reply = self.board.publish_more(worker);
+        self.left = refusal_in(&reply);
+        match self.left {
+            Some(fault) => Err(Left(fault)),
+            None => Ok(reply),
         }
     }
 
     /// Begins to check a line that is done, or goes on with it, by one noted name.
-    pub fn check(&mut self, worker: u32, line: u64) -> Result<Course, Left> {
+    pub fn check(&mut self, worker: u32, line: u64) -> Result<Reply<'t, J>, Left>
+        ensures { Holds (λ old. Answers J.plan old (Check worker line)) fault_of self.old result self.new }
+    {
         if let Some(fault) = self.left {
             return Err(Left(fault));
         }
-        match course_of(self.board.check(worker, line)) {
-            Ok(course) => Ok(course),
-            Err(fault) => Err(self.refuse(fault)),
+        let reply = self.board.check(worker, line);
+        self.left = refusal(&reply);
+        match self.left {
+            Some(fault) => Err(Left(fault)),
+            None => Ok(reply),
         }
     }
 
     /// Leaves a fault, unless one was left before.
-    pub fn leave(&mut self, fault: BoardFault) {
+    pub fn leave(&mut self, fault: BoardFault)
+        ensures board { self.new.board ≡ self.old.board }
+        ensures first { self.new.left ≡ Some (unwrap_or self.old.left fault) }
+    {
         if self.left.is_none() {
             self.left = Some(fault);
         }
-    }
-
-    /// Leaves the first fault.
-    fn refuse(&mut self, fault: BoardFault) -> Left {
-        self.left = Some(fault);
-        Left(fault)
     }
 }

@@ -11,7 +11,7 @@ mod looking;
 mod shared;
 mod workers;
 
-pub use calls::{Begun, Course, Left, Sight};
+pub use calls::{Begun, Left};
 pub use gate::{Gate, Moment, NoGate};
 pub use shared::{Closed, SharedBoard};
 pub use workers::run_workers;

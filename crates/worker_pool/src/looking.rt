@@ -1,8 +1,8 @@
 //! Looking at the board for what a line wants.
 
-use crate::calls::{Left, Sight};
+use crate::calls::Left;
 use crate::shared::SharedBoard;
-use board_lines::{copied, record_seen};
+use board_lines::{Reply, copied, record_seen};
 use circ_records::{Key, Record};
 use read_set::{Looks, Name, PlanName};
 use std::alloc::{AllocError, Global};
@@ -25,11 +25,11 @@ impl<J: PlanName + 'static, R: Wait> Looks for OnBoard<'_, '_, '_, J, R> {
         key: &Key,
     ) -> Result<Option<(Name, Option<Record>)>, AllocError> {
         match self.shared.look(self.rt, self.worker, key) {
-            Ok(Sight::Seen { name, place }) => {
+            Ok(Reply::Seen { name, place }) => {
                 let found = copied(record_seen(self.shared.plan(), key, place))?;
                 Ok(Some((name, found)))
             }
-            Ok(Sight::Over) => Ok(None),
+            Ok(_) => Ok(None),
             Err(left) => {
                 self.left = Some(left);
                 Ok(None)

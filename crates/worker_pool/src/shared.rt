@@ -2,8 +2,9 @@
 
 ghost use Rattle.std.specs.Prelude.{◌≡◌};
 
-use crate::calls::{Begun, Course, Left, Sight};
+use crate::calls::{Begun, Left};
 use crate::held::Held;
+use board_lines::Reply;
 use circ_records::Key;
 use read_set::{Plan, PlanName};
 use speculate::{Board, BoardFault, Finished};
@@ -21,8 +22,9 @@ const TRIES: u32 = 1000;
 /// nothing up, and who holds the lock last has the board in its core's cache (`bench/threads`).
 const TRIES_AT_EASE: u32 = 20;
 
-/// A board under a lock, with the plan and the table of the versions beside it. Each step is one hold of the lock: one call of
-/// the board, with what its reply says, or, once a fault was left, no call and that fault.
+/// A board under a lock, with the plan and the table of the versions beside it. Each of the five steps `begin`, `look`, `publish`,
+/// `publish_more` and `check` is one hold of the lock: one call of the board, with its reply, or, once a fault was left, no call
+/// and that fault. The two counters touch no board.
 #[derive(Drop)]
 pub struct SharedBoard<'p, 't, J: PlanName> {
     plan: &'p Plan,
@@ -112,19 +114,19 @@ impl<'p, 't, J: PlanName + 'static> SharedBoard<'p, 't, J> {
         }
     }
 
-    /// What a free worker does next, done. Nothing where others are at the lock, but for the first worker, which waits for it.
-    pub fn begin<R: Wait>(&self, rt: &R, worker: u32) -> Result<Begun, Left> {
-        if worker == 0 {
-            return self.hold(rt).begin(worker);
-        }
-        match self.try_hold(TRIES_AT_EASE) {
-            Some(mut held) => held.begin(worker),
-            None => Ok(Begun::Nothing),
-        }
+    /// What a free worker does next, done.
+    pub fn begin<R: Wait>(&self, rt: &R, worker: u32) -> Result<Begun<'t, J>, Left> {
+        self.hold(rt).begin(worker)
+    }
+
+    /// The same where the lock is free at one of a few tries; else None: the board wasn't asked, nor whether a fault was left.
+    pub fn try_begin(&self, worker: u32) -> Option<Result<Begun<'t, J>, Left>> {
+        let mut held = self.try_hold(TRIES_AT_EASE)?;
+        Some(held.begin(worker))
     }
 
     /// A worker looks at a key for its line.
-    pub fn look<R: Wait>(&self, rt: &R, worker: u32, key: &Key) -> Result<Sight<'t, J>, Left> {
+    pub fn look<R: Wait>(&self, rt: &R, worker: u32, key: &Key) -> Result<Reply<'t, J>, Left> {
         self.hold(rt).look(worker, key)
     }
 
@@ -134,23 +136,18 @@ impl<'p, 't, J: PlanName + 'static> SharedBoard<'p, 't, J> {
         rt: &R,
         worker: u32,
         place: Place<'t, J>,
-    ) -> Result<Course, Left> {
+    ) -> Result<Reply<'t, J>, Left> {
         self.hold(rt).publish(worker, place)
     }
 
-    /// One more act of the publication that the worker's line is in.
-    pub fn publish_more<R: Wait>(&self, rt: &R, worker: u32) -> Result<Course, Left> {
+    /// One more act of the publication that the worker's line is in; None where it is in none.
+    pub fn publish_more<R: Wait>(&self, rt: &R, worker: u32) -> Result<Option<Reply<'t, J>>, Left> {
         self.hold(rt).publish_more(worker)
     }
 
     /// Begins to check a line that is done, or goes on with it, by one noted name.
-    pub fn check<R: Wait>(&self, rt: &R, worker: u32, line: u64) -> Result<Course, Left> {
+    pub fn check<R: Wait>(&self, rt: &R, worker: u32, line: u64) -> Result<Reply<'t, J>, Left> {
         self.hold(rt).check(worker, line)
-    }
-
-    /// The place of the version that the worker's line publishes.
-    pub fn placing<R: Wait>(&self, rt: &R, worker: u32) -> Option<Place<'t, J>> {
-        self.hold(rt).board.placing(worker)
     }
 
     /// All workers are to end for this fault, unless one was left before.

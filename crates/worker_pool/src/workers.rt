@@ -5,13 +5,14 @@ ghost use Rattle.message_meaning.specs.Needs.{AreAsked};
 ghost use Rattle.read_set.specs.Settling.{Settles};
 ghost use Rattle.worker_pool.specs.Rows.{IsStatic};
 
-use crate::calls::{Begun, Course, Left};
+use crate::calls::{Begun, Left};
 use crate::gate::{Gate, Moment};
 use crate::looking::OnBoard;
 use crate::shared::SharedBoard;
+use board_lines::Reply;
 use message_meaning::perform;
 use read_set::{Effect, Notes, Noting, PlanName, Stop, Version};
-use speculate::BoardFault;
+use speculate::{BoardFault, Choice};
 use std::alloc::Global;
 use std::hint::spin_loop;
 use std::sync::Wait;
@@ -43,6 +44,27 @@ struct Task {
     worker: u32,
     line: u64,
     attempt: u32,
+}
+
+/// What a worker has begun.
+#[derive(Clone, Copy)]
+enum Duty {
+    Commit { line: u64 },
+    Check { line: u64, course: Course },
+    Attempt(Task),
+    Nothing,
+    End,
+}
+
+/// How far a publication or a check has come.
+#[derive(Clone, Copy)]
+enum Course {
+    /// An act was done, and there is more to do.
+    More,
+    /// All is published, or all was compared.
+    Whole,
+    /// It has ended, or there is none.
+    Over,
 }
 
 /// How a worker goes on.
@@ -159,7 +181,8 @@ fn stand_back<J: PlanName + 'static, R: Wait>(
     thread::yield_now();
 }
 
-/// What a free worker does next: a commit, a check of a line, or an attempt at a line.
+/// What a free worker does next: a commit, a check of a line, or an attempt at a line. The first worker waits for the lock; any
+/// other lets those go first that keep it busy.
 fn take_turn<J: PlanName + 'static, G: Gate, R: Wait>(
     rt: &R,
     alloc: Global,
@@ -167,23 +190,71 @@ fn take_turn<J: PlanName + 'static, G: Gate, R: Wait>(
     gate: &G,
     worker: u32,
 ) -> Result<Turn, Left> {
-    match shared.begin(rt, worker)? {
-        Begun::End => Ok(Turn::Last),
-        Begun::Nothing => Ok(Turn::Yield),
-        Begun::Committed { line } => {
+    match begin(rt, shared, worker)? {
+        Duty::End => Ok(Turn::Last),
+        Duty::Nothing => Ok(Turn::Yield),
+        Duty::Commit { line } => {
             gate.at(worker, line, Moment::Committed);
             Ok(Turn::Next)
         }
-        Begun::Checks { line, course } => check_line(rt, shared, gate, worker, line, course),
-        Begun::Taken { line, attempt } => {
-            gate.at(worker, line, Moment::Taken);
-            let task = Task {
-                worker,
-                line,
-                attempt,
-            };
+        Duty::Check { line, course } => check_line(rt, shared, gate, worker, line, course),
+        Duty::Attempt(task) => {
+            gate.at(worker, task.line, Moment::Taken);
             run_line(rt, alloc, shared, gate, task)
         }
+    }
+}
+
+/// Begins what a free worker does next; nothing where others are at the lock, but for the first worker.
+fn begin<J: PlanName + 'static, R: Wait>(
+    rt: &R,
+    shared: &SharedBoard<'_, '_, J>,
+    worker: u32,
+) -> Result<Duty, Left> {
+    if worker == 0 {
+        return duty_of(worker, &shared.begin(rt, worker));
+    }
+    match &shared.try_begin(worker) {
+        Some(begun) => duty_of(worker, begun),
+        None => Ok(Duty::Nothing),
+    }
+}
+
+/// What the worker goes on with.
+fn duty_of<J: PlanName>(worker: u32, begun: &Result<Begun<'_, J>, Left>) -> Result<Duty, Left> {
+    match begun {
+        Ok((Choice::End, _)) => Ok(Duty::End),
+        Ok((Choice::Commit(line), Some(Reply::Committed))) => Ok(Duty::Commit { line: *line }),
+        Ok((Choice::Check(line), Some(reply))) => Ok(Duty::Check {
+            line: *line,
+            course: course_of(reply),
+        }),
+        Ok((Choice::Take(line), Some(Reply::Taken { attempt }))) => Ok(Duty::Attempt(Task {
+            worker,
+            line: *line,
+            attempt: *attempt,
+        })),
+        Ok(_) => Ok(Duty::Nothing),
+        Err(left) => Err(*left),
+    }
+}
+
+/// How far the publication or the check has come to which the reply belongs.
+fn course_of<J: PlanName>(reply: &Reply<'_, J>) -> Course {
+    match reply {
+        Reply::Placed => Course::More,
+        Reply::Lifted => Course::More,
+        Reply::Same => Course::More,
+        Reply::Whole => Course::Whole,
+        _ => Course::Over,
+    }
+}
+
+/// The same of what a step gave.
+fn course_after<J: PlanName>(given: &Result<Reply<'_, J>, Left>) -> Result<Course, Left> {
+    match given {
+        Ok(reply) => Ok(course_of(reply)),
+        Err(left) => Err(*left),
     }
 }
 
@@ -206,7 +277,7 @@ fn check_line<J: PlanName + 'static, G: Gate, R: Wait>(
             }
             Course::Over => return Ok(Turn::Yield),
         }
-        course = shared.check(rt, worker, line)?;
+        course = course_after(&shared.check(rt, worker, line))?;
     }
     unreachable!()
 }
@@ -277,7 +348,7 @@ fn publish_line<'t, J: PlanName + 'static, G: Gate, R: Wait>(
     task: Task,
     place: Place<'t, J>,
 ) -> Result<Turn, Left> {
-    let mut course = shared.publish(rt, task.worker, place)?;
+    let mut course = course_after(&shared.publish(rt, task.worker, place))?;
     for _ in rt.forever() {
         match course {
             Course::More => {}
@@ -287,7 +358,11 @@ fn publish_line<'t, J: PlanName + 'static, G: Gate, R: Wait>(
             }
             Course::Over => return Ok(Turn::Yield),
         }
-        course = shared.publish_more(rt, task.worker)?;
+        course = match &shared.publish_more(rt, task.worker) {
+            Ok(Some(reply)) => course_of(reply),
+            Ok(None) => Course::Over,
+            Err(left) => return Err(*left),
+        };
     }
     unreachable!()
 }

@@ -130,10 +130,13 @@ def zsh(told):
     def quoted(text):
         return text.replace("'", "'\\''").replace("[", "\\[").replace("]", "\\]").replace(":", "\\:")
 
-    kinds, found = folders_and_files(told), []
+    kinds, found, place = folders_and_files(told), [], 0
     for words, value, text in told.options:
         if not words:
-            found.append(f"    '*:{quoted(text)}:_files'")
+            # an argument of which there may be several is the rest of the line
+            place += 1
+            at = "*" if value.endswith("...") else place
+            found.append(f"    '{at}:{quoted(text)}:_files{' -/' if 'folder' in text else ''}'")
             continue
         action = ":folder:_files -/" if words[-1] in kinds["folder"] else ":file:_files" if words[-1] in kinds["file"] else ""
         if value and not action:

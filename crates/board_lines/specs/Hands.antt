@@ -1,5 +1,5 @@
 -- What a worker has in hand, and what the counts are (the board: a worker has at most one line in hand, the counts balance).
-use Rattle.std.specs.Prelude.{◌≡◌, ◌≢◌, ℕ, suc, List, [], Option, Some, None}
+use Rattle.std.specs.Prelude.{◌≡◌, ◌≢◌, ℕ, suc, ◌<◌, List, [], Option, Some, None}
 use Rattle.attempts.specs.declared.counts.Counts.{Counts}
 use Rattle.read_set.specs.Plans.{Planned}
 use Rattle.read_set.specs.declared.notes.Note.{Note}
@@ -12,6 +12,10 @@ use Rattle.board_lines.specs.declared.hand.Hand.{Hand}
 -- the worker has no line in hand
 abbrev pub HasNoLine : Board → ℕ → Type 0
 HasNoLine b w = (n : ℕ) → holder (row_at b n).state ≢ Some w
+
+-- whoever has a line in hand is a worker of the board
+abbrev pub AreWorkers : Board → Type 0
+AreWorkers b = (n w : ℕ) → holder (row_at b n).state ≡ Some w → w < b.workers
 
 -- the line that the worker has in hand
 abbrev pub IsInHand : Board → ℕ → Option ℕ → Type 0

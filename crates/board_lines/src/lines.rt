@@ -10,7 +10,7 @@ ghost use Rattle.board_steps.specs.Steps.Reply.{Same as TheSame, Whole as TheWho
 ghost use Rattle.board_steps.specs.declared.TheConstants.{WORKERS_MAX};
 ghost use Rattle.version_store.specs.Entries.{SeesSuspect, seen};
 ghost use Rattle.version_store.specs.declared.entry.Found.TheVariants.{Named};
-ghost use Rattle.board_lines.specs.Hands.{AreCounts, AreNotesOf, IsHand, IsInHand, notes_of};
+ghost use Rattle.board_lines.specs.Hands.{AreCounts, AreNotesOf, AreWorkers, IsHand, IsInHand, notes_of};
 ghost use Rattle.board_lines.specs.Notes.{key_and_name, notes_by, contents_at};
 ghost use Rattle.board_lines.specs.Replies.{Answers};
 ghost use Rattle.board_lines.specs.Sights.{IsCheck, IsLooking, IsNameOf, IsOther, IsSame, IsStopped, IsWhole, MayStop, names_now};
@@ -370,9 +370,10 @@ impl<'p, 't, J: PlanName> Lines<'p, 't, J> {
         self.attempts.counts()
     }
 
-    /// How many workers the board was made for.
+    /// How many workers the board was made for. Whoever has a line in hand is one of them.
     pub fn workers(&self) -> usize
-        ensures { result ≡ self.now.workers }
+        ensures count { result ≡ self.now.workers }
+        ensures hands { AreWorkers self.now }
     {
         self.hands.len()
     }

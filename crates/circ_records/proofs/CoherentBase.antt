@@ -14,7 +14,7 @@ use Rattle.sip_reader.specs.declared.amount.TheConstants.{AMOUNT_MAX}
 use Rattle.circ_records.specs.declared.holds.TheConstants.{QUEUE_MAX}
 use Rattle.circ_records.specs.Base.{broken_closed, broken_fees, broken_holds, broken_items, broken_loans, broken_patrons}
 use Rattle.circ_records.specs.MadeFees.{is_taken, may_be_made}
-use Rattle.circ_records.specs.Coherent.{IsCoherentFee, IsCoherentItem, IsCoherentLoan, IsCoherentMap, IsCoherentPatron, Map, are_distinct, as_fee, as_item, as_patron, has_id, is_hold, is_known, is_lent_to, is_loan_of, is_of_kind, is_owed_by, number_before}
+use Rattle.circ_records.specs.Coherent.{IsCoherentFee, IsCoherentItem, IsCoherentLoan, IsCoherentMap, IsCoherentPatron, AreOfKind, Map, are_distinct, as_fee, as_item, as_patron, has_id, is_hold, is_known, is_lent_to, is_loan_of, is_of_kind, is_owed_by, number_before}
 use Rattle.circ_records.specs.Rules.{closed_rule, fee_rule, has_class, has_fee_texts, has_hold_texts, has_item_texts, has_loan_values, has_media, has_patron_texts, has_row, hold_rule, is_owing, item_rule, loan_rule, patron_rule}
 use Rattle.circ_records.specs.Tables.{Row, Rows, field}
 use Rattle.circ_records.specs.Told.{closed_told, fee_told, fees_of, item_told, loan_in, loans_of, patron_told, queue_of, row_with, rows_with, told}
@@ -305,8 +305,11 @@ pub coherent-rows : (policy : Terms) (first : Option ℕ) (rows : Rows) (m : Map
 coherent-rows policy first rows m p i l f c h tells =
     let kept = kept-rows policy first rows p i l f c h in
     record {
-      kinds = λ k r e. kinds rows k r (sym (tells k) ∙ e);
       patrons = λ id x e. coherent-patron policy first rows m kept tells id x (ap as_patron (sym (tells (key.Patron id))) ∙ e);
       items = λ id x e. coherent-item policy first rows m kept tells id x (ap as_item (sym (tells (key.Item id))) ∙ e);
       fees = λ id x e. coherent-fee policy first rows m kept tells id x (ap as_fee (sym (tells (key.Fee id))) ∙ e);
     }
+
+-- what rows tell is of the keys' kinds
+pub told-kinds : (rows : Rows) (m : Map) → ((k : Key) → m k ≡ told rows k) → AreOfKind m
+told-kinds rows m tells k r e = kinds rows k r (sym (tells k) ∙ e)

@@ -16,7 +16,7 @@ use Rattle.std.proofs.lemmas.Map.Text.{is_eq-slice_cmp}
 use Rattle.circ_records.specs.Keys.{key_cmp, key_cmp_total, key_cmp-IsAntisymmetric}
 use Rattle.circ_records.specs.Records.{Entries, record_at}
 use Rattle.circ_records.specs.Tables.{Row, Rows, field}
-use Rattle.circ_records.specs.Told.{closed_entry, closed_told, entries_told, fee_entry, fee_told, item_entry, item_told, listed, patron_entry, patron_told, row_with, told}
+use Rattle.circ_records.specs.Told.{Tells, closed_entry, closed_told, entries_told, fee_entry, fee_told, item_entry, item_told, listed, patron_entry, patron_told, row_with, told}
 use Rattle.circ_records.specs.Values.{is_same}
 use Rattle.circ_records.specs.declared.key.Key.{Key}
 use Rattle.circ_records.specs.declared.key.Key.TheVariants as key
@@ -95,6 +95,13 @@ listed-told rows (key.Fee q) =
     (find-none (item_entry rows) (key.Fee q) rows.items (λ row. refl))
     (find-row fee_entry (key.Fee q) q (λ id. fee_told) rows.fees (λ row. is_eq-slice_cmp q (field 0 row)) (λ row. refl))
     (find-row closed_entry (key.Fee q) q (λ id. closed_told) rows.closed (λ row. is_eq-slice_cmp q (field 0 row)) (λ row. refl))
+
+-- the entries that rows tell have these records
+pub entries-tell : (rows : Rows) → Tells rows (record_at (entries_told rows))
+unfolding entries_told
+entries-tell rows k =
+    let m = from_entries {R = key_cmp} (listed rows) in
+    sym (sym (get-entries m k) ∙ get-from_entries key_cmp_total (listed rows) k ∙ listed-told rows k)
 
 -- rising entries that have the records that rows tell are theirs
 pub same-entries : (rows : Rows) (es : Entries) → IsStrictlySortedBy key_cmp (keys_of es) → ((k : Key) → record_at es k ≡ told rows k) → es ≡ entries_told rows

@@ -8,9 +8,9 @@ use Rattle.csv_table.proofs.Written.{written-back}
 use Rattle.circ_policy.specs.Terms.{Terms}
 use Rattle.circ_records.specs.Base.{base_of, first_broken, rows_of, table_rows, unless_broken}
 use Rattle.circ_records.specs.Base as Base
-use Rattle.circ_records.specs.Coherent.{Coherent}
+use Rattle.circ_records.specs.Coherent.{AreOfKind, Coherent}
 use Rattle.circ_records.specs.Laws.{AreRising}
-use Rattle.circ_records.specs.Records.{Entries}
+use Rattle.circ_records.specs.Records.{Entries, record_at}
 use Rattle.circ_records.specs.Tables.{Row, patrons_header, items_header, loans_header, fees_header, closed_header, holds_header}
 use Rattle.circ_records.specs.Written.{closed_row, closed_rows, fee_row, fee_rows, hold_rows, is_open, item_rows, listed_fees, listed_loans, loan_at, loan_row, loan_rows, open_fee_at, patron_rows, queued, rows_telling, tables_of}
 use Rattle.circ_records.specs.declared.holds.Hold.{Hold}
@@ -119,7 +119,7 @@ with-rows (b ∷ text) rows some is = is
 some-text : (rows : List Row) → 0 < length (table_text (holds_header ∷ rows))
 some-text rows = omega arith
 
-module _ (policy : Terms) (n : ℕ) (es : Entries) (rising : AreRising es) (co : Coherent policy n es) where
+module _ (policy : Terms) (n : ℕ) (es : Entries) (rising : AreRising es) (co : Coherent policy n es) (kinds : AreOfKind (record_at es)) where
   read-rows : rows_of (tables_of es) ≡ Ok (rows_telling es)
   unfolding rows_of rows_telling
   read-rows =
@@ -133,4 +133,4 @@ module _ (policy : Terms) (n : ℕ) (es : Entries) (rising : AreRising es) (co :
 
   pub read-again : base_of policy (tables_of es) None ≡ Ok es
   unfolding base_of
-  read-again = rw (read-rows, none-broken policy n es rising co) (ap Ok (sym (same-entries (rows_telling es) es rising (λ k. sym (told-back policy n es rising co k)))))
+  read-again = rw (read-rows, none-broken policy n es rising co kinds) (ap Ok (sym (same-entries (rows_telling es) es rising (λ k. sym (told-back policy n es rising co kinds k)))))

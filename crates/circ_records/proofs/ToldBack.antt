@@ -5,7 +5,7 @@ use Rattle.std.specs.List.{cons_option, filter_map, flat_map}
 use Rattle.std.specs.Option.{option_or}
 use Rattle.std.specs.Prelude.{option_map, ◌||◌, ◌&&◌}
 use Rattle.circ_policy.specs.Terms.{Terms}
-use Rattle.circ_records.specs.Coherent.{Coherent, as_fee, as_item, as_patron, has_id, is_lent_to, is_loan_of, is_owed_by}
+use Rattle.circ_records.specs.Coherent.{AreOfKind, Coherent, as_fee, as_item, as_patron, has_id, is_lent_to, is_loan_of, is_owed_by}
 use Rattle.circ_records.specs.Laws.{AreRising}
 use Rattle.circ_records.specs.Records.{Entries, record_at}
 use Rattle.circ_records.specs.Tables.{Row, field}
@@ -70,7 +70,7 @@ queue-back : (id : List ℕ) (holds : List Hold) → map hold_in (queued id hold
 queue-back id [] = refl
 queue-back id (h ∷ hs) = ap (λ (rest : List Hold). h ∷ rest) (queue-back id hs)
 
-module _ (policy : Terms) (n : ℕ) (es : Entries) (rising : AreRising es) (co : Coherent policy n es) where
+module _ (policy : Terms) (n : ℕ) (es : Entries) (rising : AreRising es) (co : Coherent policy n es) (kinds : AreOfKind (record_at es)) where
   -- a patron's lists
   pub loans-back : (id : List ℕ) (p : Patron) → record_at es (key.Patron id) ≡ Some (record_of.Patron p) → loans_of id (flat_map (loan_rows es) es) ≡ p.loans
   loans-back id p at =
@@ -103,8 +103,8 @@ module _ (policy : Terms) (n : ℕ) (es : Entries) (rising : AreRising es) (co :
       of : (o : Option Record) → record_at es (key.Patron id) ≡ o → option_map (patron_told (rows_telling es) id) (head (given patron_rows (key.Patron id) o)) ≡ o
       of None at = refl
       of (Some (record_of.Patron p)) at = ap Some (patron-back id p at)
-      of (Some (record_of.Item i)) at = let no : false ≡ true = co.kinds (key.Patron id) (record_of.Item i) at in cc
-      of (Some (record_of.Fee f)) at = let no : false ≡ true = co.kinds (key.Patron id) (record_of.Fee f) at in cc
+      of (Some (record_of.Item i)) at = let no : false ≡ true = kinds (key.Patron id) (record_of.Item i) at in cc
+      of (Some (record_of.Fee f)) at = let no : false ≡ true = kinds (key.Patron id) (record_of.Fee f) at in cc
 
       by : (o : Option Record) → record_at es (key.Patron id) ≡ o → told (rows_telling es) (key.Patron id) ≡ o
       by o at =
@@ -124,7 +124,7 @@ module _ (policy : Terms) (n : ℕ) (es : Entries) (rising : AreRising es) (co :
   loan-back id i at =
       ap (option_map Tells.loan_in)
       (first-row 1 id (flat_map (loan_rows es) es)
-      ∙ ap head (loan-rows policy n es rising co id)
+      ∙ ap head (loan-rows policy n es rising co kinds id)
       ∙ ap (λ (o : Option Record). head (owners (λ q. cons_option (option_map (loan_row q id) (loan_in o)) []) (borrower_of (as_item o)))) at)
       ∙ loan-told id i at i.loan refl
 
@@ -141,8 +141,8 @@ module _ (policy : Terms) (n : ℕ) (es : Entries) (rising : AreRising es) (co :
       of : (o : Option Record) → record_at es (key.Item id) ≡ o → option_map (item_told (rows_telling es) id) (head (given item_rows (key.Item id) o)) ≡ o
       of None at = refl
       of (Some (record_of.Item i)) at = ap Some (item-back id i at)
-      of (Some (record_of.Patron p)) at = let no : false ≡ true = co.kinds (key.Item id) (record_of.Patron p) at in cc
-      of (Some (record_of.Fee f)) at = let no : false ≡ true = co.kinds (key.Item id) (record_of.Fee f) at in cc
+      of (Some (record_of.Patron p)) at = let no : false ≡ true = kinds (key.Item id) (record_of.Patron p) at in cc
+      of (Some (record_of.Fee f)) at = let no : false ≡ true = kinds (key.Item id) (record_of.Fee f) at in cc
 
       by : (o : Option Record) → record_at es (key.Item id) ≡ o → told (rows_telling es) (key.Item id) ≡ o
       by o at =
@@ -177,11 +177,11 @@ module _ (policy : Terms) (n : ℕ) (es : Entries) (rising : AreRising es) (co :
           ≡ o
       of None at = refl
       of (Some (record_of.Fee f)) at = fee-told id f at (is_open f) refl
-      of (Some (record_of.Patron p)) at = let no : false ≡ true = co.kinds (key.Fee id) (record_of.Patron p) at in cc
-      of (Some (record_of.Item i)) at = let no : false ≡ true = co.kinds (key.Fee id) (record_of.Item i) at in cc
+      of (Some (record_of.Patron p)) at = let no : false ≡ true = kinds (key.Fee id) (record_of.Patron p) at in cc
+      of (Some (record_of.Item i)) at = let no : false ≡ true = kinds (key.Fee id) (record_of.Item i) at in cc
 
       opens : row_with 0 id (flat_map (fee_rows es) es) ≡ head (owners (λ q. cons_option (option_map (fee_row q id) (open_fee_at es id)) []) (debtor_of (as_fee (record_at es (key.Fee id)))))
-      opens = first-row 0 id (flat_map (fee_rows es) es) ∙ ap head (fee-rows policy n es rising co id)
+      opens = first-row 0 id (flat_map (fee_rows es) es) ∙ ap head (fee-rows policy n es rising co kinds id)
 
       closes : row_with 0 id (flat_map closed_rows es) ≡ head (given closed_rows (key.Fee id) (record_at es (key.Fee id)))
       closes = first-row 0 id (flat_map closed_rows es) ∙ ap head (closed-rows id es rising)

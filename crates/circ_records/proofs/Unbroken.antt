@@ -14,7 +14,7 @@ use Rattle.sip_reader.proofs.AmountTexts.{amount_of-amount_text}
 use Rattle.sip_reader.specs.Texts.{is_barred, is_id, is_text}
 use Rattle.circ_records.specs.declared.holds.TheConstants.{QUEUE_MAX}
 use Rattle.circ_records.specs.Base.{first_broken}
-use Rattle.circ_records.specs.Coherent.{Coherent, are_distinct, as_fee, as_item, as_patron, has_id, is_hold, is_known, is_lent_to, is_loan_of, is_owed_by}
+use Rattle.circ_records.specs.Coherent.{AreOfKind, Coherent, are_distinct, as_fee, as_item, as_patron, has_id, is_hold, is_known, is_lent_to, is_loan_of, is_owed_by}
 use Rattle.circ_records.specs.Laws.{AreRising}
 use Rattle.circ_records.specs.Records.{Entries, record_at}
 use Rattle.circ_records.specs.Rules.{broken, broken_from, closed_rule, fee_rule, has_class, has_closed_values, has_fee_texts, has_fee_values, has_hold, has_hold_texts, has_item_texts, has_loan_texts, has_loan_values, has_media, has_patron_texts, has_row, hold_rule, is_borrower, is_full, is_of_patron, is_owing, item_rule, loan_rule, patron_rule}
@@ -173,7 +173,7 @@ queued-patrons : (x : List ℕ) (holds : List Hold) → map (field 1) (queued x 
 queued-patrons x [] = refl
 queued-patrons x (h ∷ hs) = ap (λ (ids : List (List ℕ)). h.patron ∷ ids) (queued-patrons x hs)
 
-module _ (policy : Terms) (n : ℕ) (es : Entries) (rising : AreRising es) (co : Coherent policy n es) where
+module _ (policy : Terms) (n : ℕ) (es : Entries) (rising : AreRising es) (co : Coherent policy n es) (kinds : AreOfKind (record_at es)) where
   -- THE ROWS OF RECORDS
 
   a-patron : (id : List ℕ) (p : Patron) → record_at es (key.Patron id) ≡ Some (record_of.Patron p) → rows_with 0 id (flat_map patron_rows es) ≡ patron_row id p ∷ []
@@ -282,7 +282,7 @@ module _ (policy : Terms) (n : ℕ) (es : Entries) (rising : AreRising es) (co :
   -- the one row of a loan
   one-loan : (x : List ℕ) (i : Item) (l : Loan) → record_at es (key.Item x) ≡ Some (record_of.Item i) → i.loan ≡ Some l → rows_with 1 x (flat_map (loan_rows es) es) ≡ loan_row l.patron x l ∷ []
   one-loan x i l at is =
-      loan-rows policy n es rising co x
+      loan-rows policy n es rising co kinds x
       ∙ ap (λ (o : Option Record). owners (λ q. cons_option (option_map (loan_row q x) (loan_in o)) []) (borrower_of (as_item o))) at
       ∙ ap (λ (o : Option Loan). owners (λ q. cons_option (option_map (loan_row q x) o) []) (option_map (λ l. l.patron) o)) is
 
@@ -347,7 +347,7 @@ module _ (policy : Terms) (n : ℕ) (es : Entries) (rising : AreRising es) (co :
   fee-row-of : (x : List ℕ) (f : Fee) (b : Bool) → record_at es (key.Fee x) ≡ Some (record_of.Fee f) → is_open f ≡ b
       → rows_with 0 x (flat_map (fee_rows es) es) ≡ owners (λ q. cons_option (option_map (fee_row q x) (cond b (Some f) None)) []) (cond b (Some f.patron) None)
   fee-row-of x f b at is =
-      fee-rows policy n es rising co x
+      fee-rows policy n es rising co kinds x
       ∙ ap (λ (o : Option Record). owners (λ q. cons_option (option_map (fee_row q x) (open_fee_in o)) []) (debtor_of (as_fee o))) at
       ∙ ap (λ b. owners (λ q. cons_option (option_map (fee_row q x) (cond b (Some f) None)) []) (cond b (Some f.patron) None)) is
 
@@ -473,7 +473,7 @@ module _ (policy : Terms) (n : ℕ) (es : Entries) (rising : AreRising es) (co :
   borrows x i h at waits None is =
       ap (is_of_patron h.patron)
       (first-row 1 x (flat_map (loan_rows es) es)
-      ∙ ap head (loan-rows policy n es rising co x
+      ∙ ap head (loan-rows policy n es rising co kinds x
       ∙ ap (λ (o : Option Record). owners (λ q. cons_option (option_map (loan_row q x) (loan_in o)) []) (borrower_of (as_item o))) at
       ∙ ap (λ (o : Option Loan). owners (λ q. cons_option (option_map (loan_row q x) o) []) (option_map (λ l. l.patron) o)) is))
   borrows x i h at waits (Some l) is =

@@ -4,7 +4,7 @@ use Rattle.std.specs.List.{AllByRecursion, cons_option, flat_map}
 use Rattle.std.specs.Ordering.{is_eq}
 use Rattle.std.specs.Prelude.{is_some, option_map, ◌&&◌, unwrap_or}
 use Rattle.circ_policy.specs.Terms.{Terms}
-use Rattle.circ_records.specs.Coherent.{Coherent, as_fee, as_item, as_patron, is_lent_to, is_loan_of, is_owed_by}
+use Rattle.circ_records.specs.Coherent.{AreOfKind, Coherent, as_fee, as_item, as_patron, is_lent_to, is_loan_of, is_owed_by}
 use Rattle.circ_records.specs.Keys.{key_cmp}
 use Rattle.circ_records.specs.Laws.{AreRising}
 use Rattle.circ_records.specs.Records.{Entries, record_at}
@@ -196,7 +196,7 @@ owed-by : (q : List ℕ) (o : Option Fee) → is_owed_by q o ≡ is_owner q (deb
 owed-by q None = refl
 owed-by q (Some f) = and-cond (is_same q f.patron) (is_open f) q f.patron refl
 
-module _ (policy : Terms) (n : ℕ) (es : Entries) (rising : AreRising es) (co : Coherent policy n es) where
+module _ (policy : Terms) (n : ℕ) (es : Entries) (rising : AreRising es) (co : Coherent policy n es) (kinds : AreOfKind (record_at es)) where
   -- the row of an item's loan is in the list of who has it, and in no other
   pub loan-rows : (id : List ℕ) → rows_with 1 id (flat_map (loan_rows es) es) ≡ owners (λ q. cons_option (option_map (loan_row q id) (loan_at es id)) []) (borrower_of (as_item (record_at es (key.Item id))))
   loan-rows id =
@@ -209,8 +209,8 @@ module _ (policy : Terms) (n : ℕ) (es : Entries) (rising : AreRising es) (co :
           let patron = co.patrons q p (ap as_patron at) in
           once 1 (λ x. option_map (loan_row q x) (loan_at es x)) (λ x row is. says-loan q x row (loan_at es x) is) id p.loans patron.loans_once
           ∙ ap (λ b. cond b (cons_option (option_map (loan_row q id) (loan_at es id)) []) []) (patron.loans id ∙ lent-to q (as_item (record_at es (key.Item id))))
-      each q (record_of.Item i) at = let no : false ≡ true = co.kinds (key.Patron q) (record_of.Item i) at in cc
-      each q (record_of.Fee f) at = let no : false ≡ true = co.kinds (key.Patron q) (record_of.Fee f) at in cc
+      each q (record_of.Item i) at = let no : false ≡ true = kinds (key.Patron q) (record_of.Item i) at in cc
+      each q (record_of.Fee f) at = let no : false ≡ true = kinds (key.Patron q) (record_of.Fee f) at in cc
 
       loan-known : (q : List ℕ) (i : Item) (o : Option Loan) → as_item (record_at es (key.Item id)) ≡ Some i → i.loan ≡ o → option_map (λ l. l.patron) o ≡ Some q → (r : Record) × (record_at es (key.Patron q) ≡ Some r)
       loan-known q i None at is owner = cc
@@ -234,8 +234,8 @@ module _ (policy : Terms) (n : ℕ) (es : Entries) (rising : AreRising es) (co :
           let patron = co.patrons q p (ap as_patron at) in
           once 0 (λ x. option_map (fee_row q x) (open_fee_at es x)) (λ x row is. says-fee q x row (open_fee_at es x) is) id p.fees patron.fees_once
           ∙ ap (λ b. cond b (cons_option (option_map (fee_row q id) (open_fee_at es id)) []) []) (patron.fees id ∙ owed-by q (as_fee (record_at es (key.Fee id))))
-      each q (record_of.Item i) at = let no : false ≡ true = co.kinds (key.Patron q) (record_of.Item i) at in cc
-      each q (record_of.Fee f) at = let no : false ≡ true = co.kinds (key.Patron q) (record_of.Fee f) at in cc
+      each q (record_of.Item i) at = let no : false ≡ true = kinds (key.Patron q) (record_of.Item i) at in cc
+      each q (record_of.Fee f) at = let no : false ≡ true = kinds (key.Patron q) (record_of.Fee f) at in cc
 
       debtor : (q : List ℕ) (f : Fee) (b : Bool) → as_fee (record_at es (key.Fee id)) ≡ Some f → cond b (Some f.patron) None ≡ Some q → (r : Record) × (record_at es (key.Patron q) ≡ Some r)
       debtor q f true at owner =

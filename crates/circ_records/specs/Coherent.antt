@@ -38,12 +38,16 @@ abbrev pub as_fee : Option Record → Option Fee
 as_fee (Some (record_of.Fee f)) = Some f
 as_fee _ = None
 
--- each record is of its key's kind
+-- whether a record is of its key's kind
 abbrev pub is_of_kind : Key → Record → Bool
 is_of_kind (key.Patron id) (record_of.Patron p) = true
 is_of_kind (key.Item id) (record_of.Item i) = true
 is_of_kind (key.Fee id) (record_of.Fee f) = true
 is_of_kind k r = false
+
+-- each record is of its key's kind, as in a base that was read: none counts as none
+abbrev pub AreOfKind : Map → Type 0
+AreOfKind m = (k : Key) (r : Record) → m k ≡ Some r → is_of_kind k r ≡ true
 
 -- whether there is such a patron
 abbrev pub is_known : Map → List ℕ → Bool
@@ -112,9 +116,8 @@ pub record IsCoherentFee (n : ℕ) (m : Map) (id : List ℕ) (f : Fee) : Type 0 
   pub amount : f.amount ≤ AMOUNT_MAX
   pub number : may_be_made n id ≡ false
 
--- a map of coherent records
+-- a map of coherent records. What stands at a key of another kind counts as none: it is no patron, item or fee, and nothing is asked of it
 pub record IsCoherentMap (policy : Terms) (n : ℕ) (m : Map) : Type 0 where
-  pub kinds : (k : Key) (r : Record) → m k ≡ Some r → is_of_kind k r ≡ true
   pub patrons : (id : List ℕ) (p : Patron) → as_patron (m (key.Patron id)) ≡ Some p → IsCoherentPatron policy m id p
   pub items : (id : List ℕ) (i : Item) → as_item (m (key.Item id)) ≡ Some i → IsCoherentItem policy m id i
   pub fees : (id : List ℕ) (f : Fee) → as_fee (m (key.Fee id)) ≡ Some f → IsCoherentFee n m id f

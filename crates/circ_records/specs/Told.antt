@@ -1,5 +1,5 @@
 -- The records that the rows of the tables tell (the profile of this project: the columns of the tables).
-use Rattle.std.specs.Prelude.{ℕ, false, List, ◌++◌, Option, map, option_map, unwrap_or}
+use Rattle.std.specs.Prelude.{◌≡◌, ℕ, false, List, ◌++◌, Option, map, option_map, unwrap_or}
 use Rattle.std.specs.FinMap.{entries, from_entries}
 use Rattle.std.specs.List.{filter, find}
 use Rattle.std.specs.Option.{option_or}
@@ -93,6 +93,10 @@ abbrev pub told : Rows → Key → Option Record
 told rows (key.Patron id) = option_map (patron_told rows id) (row_with 0 id rows.patrons)
 told rows (key.Item id) = option_map (item_told rows id) (row_with 0 id rows.items)
 told rows (key.Fee id) = option_or (option_map fee_told (row_with 0 id rows.fees)) (option_map closed_told (row_with 0 id rows.closed))
+
+-- rows tell a map that has at each key the record that they tell there
+abbrev pub Tells : Rows → (Key → Option Record) → Type 0
+Tells rows m = (k : Key) → told rows k ≡ m k
 
 -- each row that tells a record, under its key
 abbrev pub patron_entry : Rows → Row → Key × Record

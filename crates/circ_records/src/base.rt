@@ -2,7 +2,7 @@
 
 ghost use Rattle.std.specs.Prelude.{◌≡◌, ◌<◌, ◌^◌, [], None, length, option_copied, IfOk, IfErr};
 ghost use Rattle.circ_records.specs.Base.{Gives, base_of, first_broken};
-ghost use Rattle.circ_records.specs.Coherent.{Coherent, number_before};
+ghost use Rattle.circ_records.specs.Coherent.{AreOfKind, Coherent, number_before};
 ghost use Rattle.circ_records.specs.Laws.{AreRising};
 ghost use Rattle.circ_records.specs.Read.{AreTables, StopsAll, rows_in};
 ghost use Rattle.circ_records.specs.Records.{record_at};
@@ -70,6 +70,7 @@ impl Base {
     ) -> Result<Base, BaseError>
         ensures told { Gives result (base_of policy.now (texts_of tables.now) first) }
         ensures coherent { IfOk result (λ b. Coherent policy.now (number_before first) b) }
+        ensures kinds { IfOk result (λ b. AreOfKind (record_at b)) }
     {
         match records_of(alloc, policy, tables, first) {
             Ok(base) => Ok(base),
@@ -144,6 +145,7 @@ fn records_of(
     ensures ok { IfOk result (λ b. first_broken policy.now first (rows_in tables.now) ≡ None) }
     ensures told { IfOk result (λ b. b ≡ entries_told (rows_in tables.now)) }
     ensures coherent { IfOk result (λ b. Coherent policy.now (number_before first) b) }
+    ensures kinds { IfOk result (λ b. AreOfKind (record_at b)) }
     ensures err { IfErr result (λ e. StopsAll e tables.now (first_broken policy.now first (rows_in tables.now))) }
 {
     let mut listed = RecordMap::with_room(alloc, likely_rows(tables))?;

@@ -1,6 +1,11 @@
 //! Laws of the definitions: functions without code, whose contracts are proved of every value.
 
-ghost use Rattle.circ_records.specs.Laws.{WrittenIsTold, WrittenReadsBack};
+ghost use Rattle.circ_records.specs.Laws.{EntriesAreTold, WrittenIsTold, WrittenReadsBack};
+
+/// A base has at each key the record that the rows of its tables tell there.
+pub fn entries_are_told()
+    ensures { EntriesAreTold }
+{}
 
 /// What is written of coherent records tells these records: at each key the rows have the record that is there.
 pub fn written_is_told()

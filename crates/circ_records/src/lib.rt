@@ -46,7 +46,7 @@ pub use holds::{Hold, Holds, QUEUE_MAX};
 pub use ids::Ids;
 pub use kept_key::KeptKey;
 pub use key::Key;
-pub use laws::{written_is_told, written_reads_back};
+pub use laws::{entries_are_told, written_is_told, written_reads_back};
 pub use record::{Fee, FeeType, Item, KeptLoan, Loan, Patron, Record};
 pub use record_map::RecordMap;
 pub use records::Records;

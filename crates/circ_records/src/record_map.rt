@@ -1,7 +1,7 @@
 //! Records by their keys, as they grow.
 
 ghost use Rattle.std.specs.BTreeMap.{insert_entry};
-ghost use Rattle.std.specs.Prelude.{◌≡◌, ◌++◌, ◌∷◌, [], Some, None, IsTrue, cond, is_some, option_copied, IfOk, OnOk, OnErr};
+ghost use Rattle.std.specs.Prelude.{◌≡◌, ◌⊎◌, ◌++◌, ◌∷◌, [], Some, None, IsTrue, cond, is_some, option_copied, IfOk, OnOk, OnErr};
 ghost use Rattle.std.specs.Ordering.{eq_by_cmp};
 ghost use Rattle.std.specs.declared.cmp.Ordering.TheVariants.{Greater};
 ghost use Rattle.circ_records.specs.Changes.{IsChanged, broken_by};
@@ -149,10 +149,12 @@ impl RecordMap {
         self.get(&Key::Item(id.id()))
     }
 
-    /// Puts a record at a key, and says whether there was one.
+    /// Puts a record at a key, and says whether there was one. Without memory all records stay or all are lost: a map that refused a record
+    /// isn't to be used again. So it is of each way to put one.
     pub fn put(&mut self, alloc: Global, key: Key, told: Record) -> Result<bool, AllocError>
         ensures double { IfOk result (λ double. double ≡ is_some (record_at self.old key)) }
         ensures put { OnOk result ((q : Key) → record_at self.new q ≡ cond (eq_by_cmp key_cmp key q) (Some told) (record_at self.old q)) }
+        ensures err { OnErr result ((self.new ≡ self.old) ⊎ (self.new ≡ [])) }
     {
         let position = match position_in(self.listed.as_slice(), &self.places, &key) {
             Ok(position) => {
@@ -178,7 +180,8 @@ impl RecordMap {
 
     /// Puts a record at a key that mostly has one: there it is looked for as it is kept.
     pub fn put_over(&mut self, alloc: Global, kept: KeptKey, told: Record) -> Result<(), AllocError>
-        ensures { OnOk result ((q : Key) → record_at self.new q ≡ cond (eq_by_cmp key_cmp kept q) (Some told) (record_at self.old q)) }
+        ensures put { OnOk result ((q : Key) → record_at self.new q ≡ cond (eq_by_cmp key_cmp kept q) (Some told) (record_at self.old q)) }
+        ensures err { OnErr result ((self.new ≡ self.old) ⊎ (self.new ≡ [])) }
     {
         if let Some(position) = self.places.position(self.listed.as_slice(), &kept) {
             self.listed[position].1 = told;
@@ -199,6 +202,7 @@ impl RecordMap {
     ) -> Result<bool, AllocError>
         ensures double { IfOk result (λ double. double ≡ is_some (record_at self.old kept)) }
         ensures put { OnOk result ((q : Key) → record_at self.new q ≡ cond (eq_by_cmp key_cmp kept q) (Some told) (record_at self.old q)) }
+        ensures err { OnErr result ((self.new ≡ self.old) ⊎ (self.new ≡ [])) }
     {
         if self.placed.is_empty() && goes_behind(self.listed.as_slice(), &kept) {
             self.listed.push((kept, told))?;
@@ -212,6 +216,7 @@ impl RecordMap {
     fn put_by_key(&mut self, alloc: Global, kept: KeptKey, told: Record) -> Result<bool, AllocError>
         ensures double { IfOk result (λ double. double ≡ is_some (record_at self.old kept)) }
         ensures put { OnOk result ((q : Key) → record_at self.new q ≡ cond (eq_by_cmp key_cmp kept q) (Some told) (record_at self.old q)) }
+        ensures err { OnErr result ((self.new ≡ self.old) ⊎ (self.new ≡ [])) }
     {
         self.put(alloc, kept.key(), told)
     }

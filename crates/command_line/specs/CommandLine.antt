@@ -5,7 +5,7 @@ use Rattle.std.specs.Str.Parse.{IsNumeral, digits_value, without_leading_plus}
 use Rattle.clap.specs.Words.{App, Row, Rule, Text, first_of, one_of, new_app, new_rule}
 use Rattle.clap.specs.Words.{with_rule}
 use Rattle.clap.specs.Simple.{on_top}
-use Rattle.clap.specs.Words.{IsParsedFrom, IsPlainArg, first_value, found_of}
+use Rattle.clap.specs.Words.{IsParsedFrom, IsPlainArg, first_value, found_of, matches_of, takes}
 use Rattle.clap.specs.declared.builder.action.ArgAction.TheVariants.{Set, SetTrue}
 use Rattle.clap.specs.declared.builder.arg.Arg.{Arg}
 use Rattle.clap.specs.declared.builder.command.Command.{Command}
@@ -60,6 +60,14 @@ pub record GivesOptions (rows : List Row) (o : Options) : Type 0 where
   pub out : Some (string_bytes o.out) ≡ first_of (codes "out") rows
   pub workers : Counts 4 (one_of (codes "workers") rows) o.workers
   pub explain : Says (one_of (codes "explain") rows) o.explain
+
+-- The words, of which the first is the program's name, give these options.
+abbrev pub AreAskedBy : List Text → Options → Type 0
+AreAskedBy words o = GivesOptions (matches_of sip_replay_line words) o
+
+-- clap's definition takes the words
+abbrev pub AreTaken : List Text → Type 0
+AreTaken words = takes sip_replay_line words ≡ true
 
 -- an argument of this name that stands for itself
 abbrev pub IsOwnArg : Text → Arg → Type 0

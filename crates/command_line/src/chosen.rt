@@ -34,9 +34,11 @@ pub struct PageOptions {
     /// The journal of the run, a CSV file.
     pub journal: String,
     /// The folder of the tables that the run began with.
-    pub base: String,
+    pub base: Option<String>,
     /// The folder that has the files of the run.
     pub out: String,
+    /// What was told of why responses were wrong, a CSV file.
+    pub why: Option<String>,
     /// How many wrong responses, and how many changes, are shown.
     pub limit: u32,
 }
@@ -47,6 +49,7 @@ impl Drop for PageOptions {
             journal: _,
             base: _,
             out: _,
+            why: _,
             limit: _,
         } = self;
     }

@@ -1,14 +1,14 @@
 //! The words of the command line of `sip_page`, read by `clap`.
-ghost use Rattle.std.specs.Prelude.{◌≡◌, IfErr, IfOk, codes, map, true};
-ghost use Rattle.clap.specs.Words.{app_of, matches_of, rule_of, takes};
+ghost use Rattle.std.specs.Prelude.{◌≡◌, IfErr, IfOk, codes, map, option_map, string_bytes, true};
+ghost use Rattle.clap.specs.Words.{app_of, first_value, found_of, matches_of, rule_of, takes};
 ghost use Rattle.command_line.specs.CommandLine.{IsOwnArg};
-ghost use Rattle.command_line.specs.Page.{GivesPage, HasPagePaths, limit_rule, sip_page_line};
+ghost use Rattle.command_line.specs.Page.{GivesPage, HasPagePaths, limit_rule, sip_page_line, spare_path_rule};
 ghost use Rattle.command_line.specs.declared.refusal.Refusal.TheVariants.{Memory};
 
 use crate::chosen::PageOptions;
 use crate::refusal::Refusal;
 use crate::words::{VERSION, path, text_of};
-use clap::{Arg, Command, value_parser};
+use clap::{Arg, ArgMatches, Command, value_parser};
 use std::alloc::{AllocError, Global};
 use std::convert::AsStr;
 
@@ -18,9 +18,13 @@ const ABOUT: &str = "Writes one page, in HTML, that tells what a run of sip_repl
 
 const JOURNAL_HELP: &str = "The journal of the run";
 
-const BASE_HELP: &str = "The folder of the tables that the run began with";
+const BASE_HELP: &str =
+    "The folder of the tables that the run began with; left out, the page doesn't tell what changed for whom";
 
 const OUT_HELP: &str = "The folder that has what the run wrote";
+
+const WHY_HELP: &str =
+    "What sip_why told of this run's wrong responses; the page then tells why each was wrong";
 
 const LIMIT_HELP: &str =
     "How many wrong responses, and how many changes, the page shows; 1000 if left out";
@@ -30,8 +34,8 @@ const AFTER_HELP: &str = "Example:
 
 The page goes to standard output. It has names of patrons and what they borrowed, and no passwords.
 
-Status 0: the page is written. 2: the command line or a table is refused, and standard error says why. 3: a file cannot be
-read, or memory ran out.";
+Status 0: the page is written. 2: the command line or a table is refused, or the tables are not of one run, and standard error
+says why. 3: a file cannot be read, or memory ran out.";
 
 /// The options of a page that the words give, of which the first is the program's name; or why they give none.
 pub fn page_options<S: AsStr>(alloc: Global, words: &[S]) -> Result<PageOptions, Refusal>
@@ -44,15 +48,45 @@ pub fn page_options<S: AsStr>(alloc: Global, words: &[S]) -> Result<PageOptions,
         Err(error) => return Err(Refusal::of_error(alloc, &error)),
     };
     let journal = text_of(alloc, &matches, "journal")?;
-    let base = text_of(alloc, &matches, "base")?;
+    let base = text_if_given(alloc, &matches, "base")?;
     let out = text_of(alloc, &matches, "out")?;
+    let why = text_if_given(alloc, &matches, "why")?;
     let limit = matches.get_one::<u32>("limit").unwrap_or(DEFAULT_LIMIT);
     Ok(PageOptions {
         journal,
         base,
         out,
+        why,
         limit,
     })
+}
+
+/// The first value of `id`, copied, where it has one.
+fn text_if_given(
+    alloc: Global,
+    matches: &ArgMatches<'_>,
+    id: &str,
+) -> Result<Option<String>, AllocError>
+    ensures { IfOk result (λ o. option_map string_bytes o ≡ first_value (found_of matches.now) id.now) }
+{
+    match matches.get_str(id) {
+        Some(text) => match String::from_str(alloc, text) {
+            Ok(copy) => Ok(Some(copy)),
+            Err(error) => Err(error),
+        },
+        None => Ok(None),
+    }
+}
+
+/// An argument that takes a path and may be left out.
+fn spare_path<'a>(alloc: Global, name: &'a str, value: &'a str, help: &'a str) -> Arg<'a>
+    ensures rule { rule_of result ≡ spare_path_rule name.entry.now }
+    ensures own { IsOwnArg name.entry.now result }
+{
+    Arg::new(alloc, name)
+        .long(name)
+        .value_name(value)
+        .help(help)
 }
 
 /// How many wrong responses and changes are shown, a number.
@@ -73,8 +107,9 @@ fn command<'a>(alloc: Global) -> Result<Command<'a>, AllocError>
     ensures paths { IfOk result HasPagePaths }
 {
     let journal = path(alloc, "journal", "F", JOURNAL_HELP);
-    let base = path(alloc, "base", "DIR", BASE_HELP);
+    let base = spare_path(alloc, "base", "DIR", BASE_HELP);
     let out = path(alloc, "out", "DIR", OUT_HELP);
+    let why = spare_path(alloc, "why", "F", WHY_HELP);
     let limit = limit(alloc);
     Command::new(alloc, "sip_page")
         .version(VERSION)
@@ -83,5 +118,6 @@ fn command<'a>(alloc: Global) -> Result<Command<'a>, AllocError>
         .arg(journal)?
         .arg(base)?
         .arg(out)?
+        .arg(why)?
         .arg(limit)
 }

@@ -16,8 +16,8 @@ use std::convert::AsStr;
 
 const DEFAULT_WORKERS: u32 = 4;
 
-/// The version that the programs tell of themselves.
-pub(crate) const VERSION: &str = "0.1.0";
+/// The version that the programs tell of themselves, that of the file `VERSION`.
+pub(crate) const VERSION: &str = "0.3.0";
 
 const ABOUT: &str =
     "Replays a journal of SIP2 messages over the tables of a library's circulation, and reports where \
@@ -32,7 +32,7 @@ const BASE_HELP: &str =
 fees.csv, closed.csv and, where there are holds, holds.csv";
 
 const JOURNAL_HELP: &str =
-    "The messages, a CSV file with the columns line, connection, request, response";
+    "The messages, a CSV file with the columns line, connection, request, response; - for standard input";
 
 const OUT_HELP: &str =
     "A folder that is there: it gets the six tables after the last message, and answers.csv, \

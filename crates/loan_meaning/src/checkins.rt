@@ -224,7 +224,7 @@ fn any_borrower_of<S: Source>(
     article: &Option<Article>,
 ) -> Result<Option<Member>, Stop>
     ensures gives { Follows result (follow (S.has source.new) (borrower_at policy.now (loan_of article.now))) }
-    ensures keeps { Gains (S.has source.old) (S.has source.new) (borrower_at policy.now (loan_of article.now)) }
+    ensures keeps { Gains S.one_by_one (S.has source.old) (S.has source.new) (borrower_at policy.now (loan_of article.now)) }
 {
     match article {
         Some(article) => borrower_of(alloc, policy, source, loan_in(article)),
@@ -244,7 +244,7 @@ pub fn check_in<S: Source>(
 ) -> Result<Effect, Stop>
     ensures gives { Follows result (follow (S.has source.new) (checkin_rule policy.now n request.now date)) }
     ensures means { IfOk result (λ e. (M : Map) → Agrees (S.has source.new) M → e ≡ checkin policy.now n request.now date M) }
-    ensures keeps { Gains (S.has source.old) (S.has source.new) (checkin_rule policy.now n request.now date) }
+    ensures keeps { Gains S.one_by_one (S.has source.old) (S.has source.new) (checkin_rule policy.now n request.now date) }
 {
     let article = item_of(alloc, policy, source, &request.item)?;
     let member = any_borrower_of(alloc, policy, source, &article)?;

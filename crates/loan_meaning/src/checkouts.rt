@@ -35,7 +35,7 @@ fn test_lending<S: Source>(
     source: &mut S,
 ) -> Result<Verdict, Stop>
     ensures gives { Follows result (follow (S.has source.new) (lending_tests asked.now.request member.now article.now)) }
-    ensures keeps { Gains (S.has source.old) (S.has source.new) (lending_tests asked.now.request member.now article.now) }
+    ensures keeps { Gains S.one_by_one (S.has source.old) (S.has source.new) (lending_tests asked.now.request member.now article.now) }
 {
     let a = &asked.request;
     if a.forced {
@@ -67,7 +67,7 @@ fn other_of<S: Source>(
     source: &mut S,
 ) -> Result<Option<Member>, Stop>
     ensures gives { Follows result (follow (S.has source.new) (other_at asked.now.policy.now asked.now.request.patron loan.now)) }
-    ensures keeps { Gains (S.has source.old) (S.has source.new) (other_at asked.now.policy.now asked.now.request.patron loan.now) }
+    ensures keeps { Gains S.one_by_one (S.has source.old) (S.has source.new) (other_at asked.now.policy.now asked.now.request.patron loan.now) }
 {
     let Some(loan) = loan else {
         return Ok(None);
@@ -224,7 +224,7 @@ fn lend_by<S: Source>(
     source: &mut S,
 ) -> Result<Effect, Stop>
     ensures gives { Follows result (follow (S.has source.new) (lending_rule_by asked.now.policy.now asked.now.number asked.now.request asked.now.date member article verdict)) }
-    ensures keeps { Gains (S.has source.old) (S.has source.new) (lending_rule_by asked.now.policy.now asked.now.number asked.now.request asked.now.date member article verdict) }
+    ensures keeps { Gains S.one_by_one (S.has source.old) (S.has source.new) (lending_rule_by asked.now.policy.now asked.now.number asked.now.request asked.now.date member article verdict) }
 {
     let rental = rental_in(&article);
     // each is returned at once: what is done by one of several branches would move once more behind them, and is large
@@ -246,7 +246,7 @@ fn lend<S: Source>(
     source: &mut S,
 ) -> Result<Effect, Stop>
     ensures gives { Follows result (follow (S.has source.new) (lending_rule asked.now.policy.now asked.now.number asked.now.request asked.now.date member article)) }
-    ensures keeps { Gains (S.has source.old) (S.has source.new) (lending_rule asked.now.policy.now asked.now.number asked.now.request asked.now.date member article) }
+    ensures keeps { Gains S.one_by_one (S.has source.old) (S.has source.new) (lending_rule asked.now.policy.now asked.now.number asked.now.request asked.now.date member article) }
 {
     let verdict = test_lending(asked, &member, &article, source)?;
     lend_by(asked, member, article, verdict, source)
@@ -268,7 +268,7 @@ fn lend_both<S: Source>(
     source: &mut S,
 ) -> Result<Effect, Stop>
     ensures gives { Follows result (follow (S.has source.new) (checkout_rule_known line.now.policy.now line.now.number request.now line.now.date member article)) }
-    ensures keeps { Gains (S.has source.old) (S.has source.new) (checkout_rule_known line.now.policy.now line.now.number request.now line.now.date member article) }
+    ensures keeps { Gains S.one_by_one (S.has source.old) (S.has source.new) (checkout_rule_known line.now.policy.now line.now.number request.now line.now.date member article) }
 {
     let a = ask_checkout(request);
     let asked = Asked {
@@ -302,7 +302,7 @@ pub fn check_out<S: Source>(
 ) -> Result<Effect, Stop>
     ensures gives { Follows result (follow (S.has source.new) (checkout_rule policy.now n request.now date)) }
     ensures means { IfOk result (λ e. (M : Map) → Agrees (S.has source.new) M → e ≡ checkout policy.now n request.now date M) }
-    ensures keeps { Gains (S.has source.old) (S.has source.new) (checkout_rule policy.now n request.now date) }
+    ensures keeps { Gains S.one_by_one (S.has source.old) (S.has source.new) (checkout_rule policy.now n request.now date) }
 {
     let member = patron_of(alloc, policy, source, &request.patron)?;
     let article = item_of(alloc, policy, source, &request.item)?;

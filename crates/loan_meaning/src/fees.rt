@@ -37,7 +37,7 @@ pub fn owed_of<S: Source>(
     fees: &[KeptId],
 ) -> Result<u128, Stop>
     ensures gives { Follows result (follow (S.has source.new) (owed_at writes.now fees.now)) }
-    ensures keeps { Gains (S.has source.old) (S.has source.new) (owed_at writes.now fees.now) }
+    ensures keeps { Gains S.one_by_one (S.has source.old) (S.has source.new) (owed_at writes.now fees.now) }
 {
     let mut sum: u128 = 0;
     for id in fees {
@@ -59,7 +59,7 @@ pub fn owed_once<S: Source>(
 ) -> Result<u128, Stop>
     requires { IsKnown (S.has source.old) writes.now fees.now sum.old }
     ensures gives { Follows result (follow (S.has source.new) (owed_at writes.now fees.now)) }
-    ensures keeps { Gains (S.has source.old) (S.has source.new) (owed_at writes.now fees.now) }
+    ensures keeps { Gains S.one_by_one (S.has source.old) (S.has source.new) (owed_at writes.now fees.now) }
     ensures known { OnOk result (IsKnown (S.has source.new) writes.now fees.now sum.new) }
 {
     if let Some(known) = *sum {
@@ -198,7 +198,7 @@ pub fn test_owing<S: Source>(
 ) -> Result<Verdict, Stop>
     requires { IsKnown (S.has source.old) writes.now member.now.patron.fees sum.old }
     ensures gives { Follows result (follow (S.has source.new) (owing_tests writes.now asked.now.request.agreed member.now article.now)) }
-    ensures keeps { Gains (S.has source.old) (S.has source.new) (owing_tests writes.now asked.now.request.agreed member.now article.now) }
+    ensures keeps { Gains S.one_by_one (S.has source.old) (S.has source.new) (owing_tests writes.now asked.now.request.agreed member.now article.now) }
     ensures known { OnOk result (IsKnown (S.has source.new) writes.now member.now.patron.fees sum.new) }
 {
     let fees = member.patron.get().fees.as_slice();

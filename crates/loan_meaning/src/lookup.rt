@@ -21,7 +21,7 @@ pub fn patron_of<S: Source>(
     id: &KeptId,
 ) -> Result<Option<Member>, Stop>
     ensures gives { Follows result (follow (S.has source.new) (patron_at policy.now id.now)) }
-    ensures keeps { Gains (S.has source.old) (S.has source.new) (patron_at policy.now id.now) }
+    ensures keeps { Gains S.one_by_one (S.has source.old) (S.has source.new) (patron_at policy.now id.now) }
 {
     let found = source.read_patron(alloc, id)?;
     Ok(known_patron(policy, found))
@@ -37,7 +37,7 @@ pub fn item_of<S: Source>(
     id: &KeptId,
 ) -> Result<Option<Article>, Stop>
     ensures gives { Follows result (follow (S.has source.new) (item_at policy.now id.now)) }
-    ensures keeps { Gains (S.has source.old) (S.has source.new) (item_at policy.now id.now) }
+    ensures keeps { Gains S.one_by_one (S.has source.old) (S.has source.new) (item_at policy.now id.now) }
 {
     let found = source.read_item(alloc, id)?;
     Ok(known_item(policy, found))
@@ -47,7 +47,7 @@ pub fn item_of<S: Source>(
 #[tactic(auto, unfolding(crate::specs::Lookups::fee_at), using(read_set::proofs::Gaining::gains_ask))]
 pub fn fee_of<S: Source>(alloc: Global, source: &mut S, id: &Id) -> Result<Option<Fee>, Stop>
     ensures gives { Follows result (follow (S.has source.new) (fee_at id.now)) }
-    ensures keeps { Gains (S.has source.old) (S.has source.new) (fee_at id.now) }
+    ensures keeps { Gains S.one_by_one (S.has source.old) (S.has source.new) (fee_at id.now) }
 {
     let found = source.read(alloc, &Key::Fee(*id))?;
     Ok(known_fee(&found))
@@ -62,7 +62,7 @@ pub fn borrower_of<S: Source>(
     loan: &Option<KeptLoan>,
 ) -> Result<Option<Member>, Stop>
     ensures gives { Follows result (follow (S.has source.new) (borrower_at policy.now loan.now)) }
-    ensures keeps { Gains (S.has source.old) (S.has source.new) (borrower_at policy.now loan.now) }
+    ensures keeps { Gains S.one_by_one (S.has source.old) (S.has source.new) (borrower_at policy.now loan.now) }
 {
     match loan {
         Some(loan) => patron_of(alloc, policy, source, loan.patron()),
@@ -79,7 +79,7 @@ pub fn read_after<S: Source>(
     key: &Key,
 ) -> Result<Option<Record>, Stop>
     ensures gives { Follows result (follow (S.has source.new) (ask_after writes.now key.now)) }
-    ensures keeps { Gains (S.has source.old) (S.has source.new) (ask_after writes.now key.now) }
+    ensures keeps { Gains S.one_by_one (S.has source.old) (S.has source.new) (ask_after writes.now key.now) }
 {
     match writes.get(key) {
         Some(found) => Ok(Some(found.copy()?)),

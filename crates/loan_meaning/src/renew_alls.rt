@@ -130,7 +130,7 @@ fn turn_known<S: Source>(
     requires small { done.made + 1 < 2 ^ 64 }
     requires runs { Runs (S.has source.old) asked.now.number fresh done sum.old }
     ensures gives { Follows result (follow (S.has source.new) (turn_rule_known asked.now.policy.now asked.now.number asked.now.request asked.now.date done (Some article))) }
-    ensures keeps { Gains (S.has source.old) (S.has source.new) (turn_rule_known asked.now.policy.now asked.now.number asked.now.request asked.now.date done (Some article)) }
+    ensures keeps { Gains S.one_by_one (S.has source.old) (S.has source.new) (turn_rule_known asked.now.policy.now asked.now.number asked.now.request asked.now.date done (Some article)) }
     ensures few { IfOk result (λ next. next.made ≤ done.made + 1) }
     ensures runs { IfOk result (λ next. Runs (S.has source.new) asked.now.number fresh next sum.new) }
 {
@@ -152,7 +152,7 @@ fn turn_any<S: Source>(
     requires small { done.made + 1 < 2 ^ 64 }
     requires runs { Runs (S.has source.old) asked.now.number fresh done sum.old }
     ensures gives { Follows result (follow (S.has source.new) (turn_rule_known asked.now.policy.now asked.now.number asked.now.request asked.now.date done article)) }
-    ensures keeps { Gains (S.has source.old) (S.has source.new) (turn_rule_known asked.now.policy.now asked.now.number asked.now.request asked.now.date done article) }
+    ensures keeps { Gains S.one_by_one (S.has source.old) (S.has source.new) (turn_rule_known asked.now.policy.now asked.now.number asked.now.request asked.now.date done article) }
     ensures few { IfOk result (λ next. next.made ≤ done.made + 1) }
     ensures runs { IfOk result (λ next. Runs (S.has source.new) asked.now.number fresh next sum.new) }
 {
@@ -174,7 +174,7 @@ fn take_turn<S: Source>(
     requires small { done.made + 1 < 2 ^ 64 }
     requires runs { Runs (S.has source.old) asked.now.number fresh done sum.old }
     ensures gives { Follows result (follow (S.has source.new) (turn_rule asked.now.policy.now asked.now.number asked.now.request asked.now.date done)) }
-    ensures keeps { Gains (S.has source.old) (S.has source.new) (turn_rule asked.now.policy.now asked.now.number asked.now.request asked.now.date done) }
+    ensures keeps { Gains S.one_by_one (S.has source.old) (S.has source.new) (turn_rule asked.now.policy.now asked.now.number asked.now.request asked.now.date done) }
     ensures few { IfOk result (λ next. next.made ≤ done.made + 1) }
     ensures runs { IfOk result (λ next. Runs (S.has source.new) asked.now.number fresh next sum.new) }
 {
@@ -206,7 +206,7 @@ fn take_turns<S: Source>(
     source: &mut S,
 ) -> Result<Renewals, Stop>
     ensures gives { Follows result (follow (S.has source.new) (turns_rule line.now.policy.now line.now.number request.now line.now.date items.now (none_renewed member))) }
-    ensures keeps { Gains (S.has source.old) (S.has source.new) (turns_rule line.now.policy.now line.now.number request.now line.now.date items.now (none_renewed member)) }
+    ensures keeps { Gains S.one_by_one (S.has source.old) (S.has source.new) (turns_rule line.now.policy.now line.now.number request.now line.now.date items.now (none_renewed member)) }
 {
     let fresh = are_new(line.number, member.patron.get().fees.as_slice());
     let mut sum = None;
@@ -271,7 +271,7 @@ fn renew_each<S: Source>(
     source: &mut S,
 ) -> Result<Effect, Stop>
     ensures gives { Follows result (follow (S.has source.new) (renew_all_rule_known line.now.policy.now line.now.number request.now line.now.date (Some member))) }
-    ensures keeps { Gains (S.has source.old) (S.has source.new) (renew_all_rule_known line.now.policy.now line.now.number request.now line.now.date (Some member)) }
+    ensures keeps { Gains S.one_by_one (S.has source.old) (S.has source.new) (renew_all_rule_known line.now.policy.now line.now.number request.now line.now.date (Some member)) }
 {
     let items = member.patron.get().loans.copy()?;
     let done = take_turns(line, request, items.as_slice(), member, source)?;
@@ -286,7 +286,7 @@ fn renew_any<S: Source>(
     source: &mut S,
 ) -> Result<Effect, Stop>
     ensures gives { Follows result (follow (S.has source.new) (renew_all_rule_known line.now.policy.now line.now.number request.now line.now.date member)) }
-    ensures keeps { Gains (S.has source.old) (S.has source.new) (renew_all_rule_known line.now.policy.now line.now.number request.now line.now.date member) }
+    ensures keeps { Gains S.one_by_one (S.has source.old) (S.has source.new) (renew_all_rule_known line.now.policy.now line.now.number request.now line.now.date member) }
 {
     match member {
         Some(member) => renew_each(line, request, member, source),
@@ -310,7 +310,7 @@ pub fn renew_all<S: Source>(
 ) -> Result<Effect, Stop>
     ensures gives { Follows result (follow (S.has source.new) (renew_all_rule policy.now n request.now date)) }
     ensures means { IfOk result (λ e. (M : Map) → Agrees (S.has source.new) M → e ≡ renew_all policy.now n request.now date M) }
-    ensures keeps { Gains (S.has source.old) (S.has source.new) (renew_all_rule policy.now n request.now date) }
+    ensures keeps { Gains S.one_by_one (S.has source.old) (S.has source.new) (renew_all_rule policy.now n request.now date) }
 {
     let member = patron_of(alloc, policy, source, &request.patron)?;
     let line = Line {

@@ -55,7 +55,7 @@ pub fn test_renewal<S: Source>(
 ) -> Result<Verdict, Stop>
     requires { IsKnown (S.has source.old) writes.now member.now.patron.fees sum.old }
     ensures gives { Follows result (follow (S.has source.new) (renewal_tests writes.now asked.now.request member.now article.now)) }
-    ensures keeps { Gains (S.has source.old) (S.has source.new) (renewal_tests writes.now asked.now.request member.now article.now) }
+    ensures keeps { Gains S.one_by_one (S.has source.old) (S.has source.new) (renewal_tests writes.now asked.now.request member.now article.now) }
     ensures known { OnOk result (IsKnown (S.has source.new) writes.now member.now.patron.fees sum.new) }
 {
     if !is_renewable(&asked.request, loan_in(article)) {
@@ -175,7 +175,7 @@ pub fn renew_one<S: Source>(
     source: &mut S,
 ) -> Result<Effect, Stop>
     ensures gives { Follows result (follow (S.has source.new) (renewal_rule asked.now.policy.now asked.now.number asked.now.request asked.now.date member article)) }
-    ensures keeps { Gains (S.has source.old) (S.has source.new) (renewal_rule asked.now.policy.now asked.now.number asked.now.request asked.now.date member article) }
+    ensures keeps { Gains S.one_by_one (S.has source.old) (S.has source.new) (renewal_rule asked.now.policy.now asked.now.number asked.now.request asked.now.date member article) }
 {
     let writes = Draft::new(asked.alloc);
     let verdict = test_renewal(asked, &writes, &member, &article, &mut None, source)?;
@@ -190,7 +190,7 @@ fn renew_both<S: Source>(
     source: &mut S,
 ) -> Result<Effect, Stop>
     ensures gives { Follows result (follow (S.has source.new) (renew_rule_known asked.now.policy.now asked.now.number asked.now.request asked.now.date member article)) }
-    ensures keeps { Gains (S.has source.old) (S.has source.new) (renew_rule_known asked.now.policy.now asked.now.number asked.now.request asked.now.date member article) }
+    ensures keeps { Gains S.one_by_one (S.has source.old) (S.has source.new) (renew_rule_known asked.now.policy.now asked.now.number asked.now.request asked.now.date member article) }
 {
     let Some(member) = member else {
         return refuse(asked, article);
@@ -213,7 +213,7 @@ pub fn renew_item<S: Source>(
 ) -> Result<Effect, Stop>
     ensures gives { Follows result (follow (S.has source.new) (renew_rule policy.now n request.now date)) }
     ensures means { IfOk result (λ e. (M : Map) → Agrees (S.has source.new) M → e ≡ renew policy.now n request.now date M) }
-    ensures keeps { Gains (S.has source.old) (S.has source.new) (renew_rule policy.now n request.now date) }
+    ensures keeps { Gains S.one_by_one (S.has source.old) (S.has source.new) (renew_rule policy.now n request.now date) }
 {
     let member = patron_of(alloc, policy, source, &request.patron)?;
     let article = item_of(alloc, policy, source, &request.item)?;

@@ -114,7 +114,7 @@ fn block_known<S: Source>(
     source: &mut S,
 ) -> Result<Effect, Stop>
     ensures gives { Follows result (follow (S.has source.new) (block_rule_known asked.now.policy.now asked.now.blocks asked.now.id.now asked.now.date (Some member))) }
-    ensures keeps { Gains (S.has source.old) (S.has source.new) (block_rule_known asked.now.policy.now asked.now.blocks asked.now.id.now asked.now.date (Some member)) }
+    ensures keeps { Gains S.one_by_one (S.has source.old) (S.has source.new) (block_rule_known asked.now.policy.now asked.now.blocks asked.now.id.now asked.now.date (Some member)) }
 {
     let owes = owed_of(
         asked.alloc,
@@ -132,7 +132,7 @@ fn block_any<S: Source>(
     source: &mut S,
 ) -> Result<Effect, Stop>
     ensures gives { Follows result (follow (S.has source.new) (block_rule_known asked.now.policy.now asked.now.blocks asked.now.id.now asked.now.date member)) }
-    ensures keeps { Gains (S.has source.old) (S.has source.new) (block_rule_known asked.now.policy.now asked.now.blocks asked.now.id.now asked.now.date member) }
+    ensures keeps { Gains S.one_by_one (S.has source.old) (S.has source.new) (block_rule_known asked.now.policy.now asked.now.blocks asked.now.id.now asked.now.date member) }
 {
     match member {
         Some(member) => block_known(asked, member, source),
@@ -155,7 +155,7 @@ pub fn block<S: Source>(
 ) -> Result<Effect, Stop>
     ensures gives { Follows result (follow (S.has source.new) (block_rule policy.now blocks id.now date)) }
     ensures means { IfOk result (λ e. (M : Map) → Agrees (S.has source.new) M → e ≡ block policy.now blocks id.now date M) }
-    ensures keeps { Gains (S.has source.old) (S.has source.new) (block_rule policy.now blocks id.now date) }
+    ensures keeps { Gains S.one_by_one (S.has source.old) (S.has source.new) (block_rule policy.now blocks id.now date) }
 {
     let member = patron_of(alloc, policy, source, id)?;
     let asked = BlockAsked {

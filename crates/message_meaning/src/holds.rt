@@ -213,7 +213,7 @@ pub fn hold<S: Source>(
 ) -> Result<Effect, Stop>
     ensures gives { Follows result (follow (S.has source.new) (hold_rule policy.now request.now date)) }
     ensures means { IfOk result (λ e. (M : Map) → Agrees (S.has source.new) M → e ≡ hold policy.now request.now date M) }
-    ensures keeps { Gains (S.has source.old) (S.has source.new) (hold_rule policy.now request.now date) }
+    ensures keeps { Gains S.one_by_one (S.has source.old) (S.has source.new) (hold_rule policy.now request.now date) }
 {
     let member = patron_of(alloc, policy, source, &request.patron)?;
     let article = item_of(alloc, policy, source, &request.item)?;

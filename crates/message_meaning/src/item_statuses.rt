@@ -24,7 +24,7 @@ pub fn update<S: Source>(
 ) -> Result<Effect, Stop>
     ensures gives { Follows result (follow (S.has source.new) (item_status_rule policy.now request.now date)) }
     ensures means { IfOk result (λ e. (M : Map) → Agrees (S.has source.new) M → e ≡ item_status policy.now request.now date M) }
-    ensures keeps { Gains (S.has source.old) (S.has source.new) (item_status_rule policy.now request.now date) }
+    ensures keeps { Gains S.one_by_one (S.has source.old) (S.has source.new) (item_status_rule policy.now request.now date) }
 {
     let found = item_of(alloc, policy, source, &request.item)?;
     Ok(update_found(alloc, request, date, found)?)

@@ -1,7 +1,8 @@
-ghost use Rattle.std.specs.Prelude.{◌≡◌, IfOk, IfErr};
+ghost use Rattle.std.specs.Prelude.{◌≡◌, ◌⊎◌, IfOk, IfErr};
+ghost use Rattle.circ_records.specs.declared.key.Key.{Key};
 ghost use Rattle.message_meaning.specs.Rules.{rule_of, rule_at};
-ghost use Rattle.read_set.specs.Asks.{follow, Gains};
-ghost use Rattle.read_set.specs.Maps.{Map, Agrees};
+ghost use Rattle.read_set.specs.Asks.{follow, Gains, IsAsked};
+ghost use Rattle.read_set.specs.Maps.{Map, Agrees, Grows};
 ghost use Rattle.read_set.specs.Replay.{GivesAt};
 ghost use Rattle.read_set.specs.Stops.{Follows, LacksAt};
 ghost use Rattle.read_set.specs.Wanted.{WantsAt};
@@ -12,7 +13,7 @@ use crate::item_statuses::update;
 use crate::payments::take_payment;
 use circ_policy::Policy;
 use loan_meaning::{check_in, check_out, renew_all, renew_item};
-use read_set::{Effect, Plan, Source, Stop};
+use read_set::{Effect, OneByOne, Plan, Source, Stop};
 use sip_answer::Answer;
 use sip_reader::{Act, Reading, Request};
 use std::alloc::Global;
@@ -30,9 +31,27 @@ pub fn perform<S: Source>(
     ensures order { Follows result (follow (S.has source.new) (rule_at plan.now line)) }
     ensures lacks { IfErr result (LacksAt (S.has source.new)) }
     ensures wanted { IfErr result (WantsAt plan.now line (S.has source.new)) }
-    ensures keeps { Gains (S.has source.old) (S.has source.new) (rule_at plan.now line) }
+    ensures keeps { Gains S.one_by_one (S.has source.old) (S.has source.new) (rule_at plan.now line) }
 {
     follow_line(alloc, plan, line, source)
+}
+
+/// The same over a source that comes to have nothing but what it is asked for: what it has anew is what the line's rule asks for.
+#[inline(always)]
+pub fn perform_one_by_one<S: OneByOne>(
+    alloc: Global,
+    plan: &Plan,
+    line: u64,
+    source: &mut S,
+) -> Result<Effect, Stop>
+    ensures gives { IfOk result (λ e. (M : Map) → Agrees (S.has source.new) M → GivesAt plan.now line M e) }
+    ensures order { Follows result (follow (S.has source.new) (rule_at plan.now line)) }
+    ensures lacks { IfErr result (LacksAt (S.has source.new)) }
+    ensures wanted { IfErr result (WantsAt plan.now line (S.has source.new)) }
+    ensures keeps { Grows (S.has source.old) (S.has source.new) }
+    ensures asked { (k : Key) → (S.has source.new k ≡ S.has source.old k) ⊎ IsAsked (S.has source.new) (rule_at plan.now line) k }
+{
+    perform(alloc, plan, line, source)
 }
 
 #[tactic(auto, unfolding(crate::specs::Rules::rule_at, crate::specs::Rules::rule), using(read_set::proofs::Gaining::gains_none))]
@@ -43,7 +62,7 @@ fn follow_line<S: Source>(
     source: &mut S,
 ) -> Result<Effect, Stop>
     ensures gives { Follows result (follow (S.has source.new) (rule_at plan.now line)) }
-    ensures keeps { Gains (S.has source.old) (S.has source.new) (rule_at plan.now line) }
+    ensures keeps { Gains S.one_by_one (S.has source.old) (S.has source.new) (rule_at plan.now line) }
 {
     let Some(reading) = plan.reading(line) else {
         return Ok(Effect::unwritten(alloc, None));
@@ -69,7 +88,7 @@ fn follow_request<S: Source>(
     source: &mut S,
 ) -> Result<Effect, Stop>
     ensures gives { Follows result (follow (S.has source.new) (rule_of policy.now line request.now.date request.now.act)) }
-    ensures keeps { Gains (S.has source.old) (S.has source.new) (rule_of policy.now line request.now.date request.now.act) }
+    ensures keeps { Gains S.one_by_one (S.has source.old) (S.has source.new) (rule_of policy.now line request.now.date request.now.act) }
 {
     // each is returned at once: what is done by one of several branches would move once more behind them, and is large
     match &request.act {

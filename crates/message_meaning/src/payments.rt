@@ -96,7 +96,7 @@ fn pay(alloc: Global, id: &Id, done: Payments, fee: Option<Fee>) -> Result<Payme
 #[tactic(auto, using(read_set::proofs::Gaining::gains_none, read_set::proofs::Gaining::gains_first, read_set::proofs::Following::follow_wants))]
 fn named_ids<S: Source>(alloc: Global, id: &Id, fees: &Ids, source: &mut S) -> Result<Ids, Stop>
     ensures gives { Follows result (follow (S.has source.new) (named true id.now fees.now)) }
-    ensures keeps { Gains (S.has source.old) (S.has source.new) (named true id.now fees.now) }
+    ensures keeps { Gains S.one_by_one (S.has source.old) (S.has source.new) (named true id.now fees.now) }
 {
     let fee = fee_of(alloc, source, id)?;
     Ok(only(alloc, id, fees, fee)?)
@@ -124,7 +124,7 @@ fn meant_ids<S: Source>(
     source: &mut S,
 ) -> Result<Ids, Stop>
     ensures gives { Follows result (follow (S.has source.new) (meant_at fee.now fees.now)) }
-    ensures keeps { Gains (S.has source.old) (S.has source.new) (meant_at fee.now fees.now) }
+    ensures keeps { Gains S.one_by_one (S.has source.old) (S.has source.new) (meant_at fee.now fees.now) }
 {
     match fee {
         Some(meant) => {
@@ -148,7 +148,7 @@ fn pay_all<S: Source>(
     source: &mut S,
 ) -> Result<Payments, Stop>
     ensures gives { Follows result (follow (S.has source.new) (pay_rule_each ids.now (record { left = amount; writes = []; closed = [] }))) }
-    ensures keeps { Gains (S.has source.old) (S.has source.new) (pay_rule_each ids.now (record { left = amount; writes = []; closed = [] })) }
+    ensures keeps { Gains S.one_by_one (S.has source.old) (S.has source.new) (pay_rule_each ids.now (record { left = amount; writes = []; closed = [] })) }
 {
     let mut done = Payments {
         left: amount,
@@ -247,7 +247,7 @@ fn pay_fees<S: Source>(
     source: &mut S,
 ) -> Result<Effect, Stop>
     ensures gives { Follows result (follow (S.has source.new) (payment_rule policy.now request.now date member.patron)) }
-    ensures keeps { Gains (S.has source.old) (S.has source.new) (payment_rule policy.now request.now date member.patron) }
+    ensures keeps { Gains S.one_by_one (S.has source.old) (S.has source.new) (payment_rule policy.now request.now date member.patron) }
 {
     let ids = meant_ids(alloc, &request.fee, &member.patron.get().fees, source)?;
     let done = pay_all(alloc, ids.as_slice(), request.amount.hundredths(), source)?;
@@ -270,7 +270,7 @@ fn pay_known<S: Source>(
     source: &mut S,
 ) -> Result<Effect, Stop>
     ensures gives { Follows result (follow (S.has source.new) (fee_paid_rule_known policy.now request.now date member)) }
-    ensures keeps { Gains (S.has source.old) (S.has source.new) (fee_paid_rule_known policy.now request.now date member) }
+    ensures keeps { Gains S.one_by_one (S.has source.old) (S.has source.new) (fee_paid_rule_known policy.now request.now date member) }
 {
     let Some(member) = member else {
         return Ok(refuse(alloc, policy, request, date)?);
@@ -295,7 +295,7 @@ pub fn take_payment<S: Source>(
 ) -> Result<Effect, Stop>
     ensures gives { Follows result (follow (S.has source.new) (fee_paid_rule policy.now request.now date)) }
     ensures means { IfOk result (λ e. (M : Map) → Agrees (S.has source.new) M → e ≡ fee_paid policy.now request.now date M) }
-    ensures keeps { Gains (S.has source.old) (S.has source.new) (fee_paid_rule policy.now request.now date) }
+    ensures keeps { Gains S.one_by_one (S.has source.old) (S.has source.new) (fee_paid_rule policy.now request.now date) }
 {
     let member = patron_of(alloc, policy, source, &request.patron)?;
     pay_known(alloc, policy, request, date, member, source)

@@ -1,4 +1,4 @@
--- A page in HTML: pieces of markup, each with a text behind it.
+-- A page in HTML: pieces of markup, each with a text after it.
 use Rattle.std.specs.Prelude.{◌++◌, ◌∷◌, ◌||◌, ℕ, Bool, List, [], codes, if◌then◌else◌, nat_eq, nat_lt}
 use Rattle.std.specs.List.{flat_map}
 use Rattle.std.specs.Str.Lossy.{replacement_bytes, utf8_lossy}

@@ -1,6 +1,7 @@
 //! A page, and how it is written.
 
 ghost use Rattle.std.specs.Prelude.{◌≡◌, ◌++◌, ◌∷◌, [], IfOk, OnOk, OnErr};
+ghost use Rattle.std.specs.Fmt.{decimal};
 ghost use Rattle.std.specs.List.{filter};
 ghost use Rattle.page_text.specs.Page.{is_mark, markup_of, written};
 
@@ -8,7 +9,7 @@ use crate::piece::Piece;
 use std::alloc::{AllocError, Global};
 use std::marker::Model;
 
-/// A page in HTML: pieces of markup, each with a text behind it.
+/// A page in HTML: pieces of markup, each with a text after it.
 pub struct Page {
     alloc: Global,
     pieces: Vec<Piece>,
@@ -43,7 +44,7 @@ impl Page {
         }
     }
 
-    /// Adds markup, which is a constant of the program, and the text behind it. Without memory the page stays as it was.
+    /// Adds markup, which is a constant of the program, and the text after it. Without memory the page stays as it was.
     pub fn add(&mut self, markup: &'static str, text: &[u8]) -> Result<(), AllocError>
         ensures ok { OnOk result (self.new ≡ self.old ++ record { markup = markup.now; text = text.now } ∷ []) }
         ensures err { OnErr result (self.new ≡ self.old) }
@@ -51,6 +52,17 @@ impl Page {
         let piece = Piece::new(self.alloc, markup, text)?;
         self.pieces.push(piece)?;
         Ok(())
+    }
+
+    /// Adds markup, and the digits of a number after it. Without memory the page stays as it was.
+    pub fn add_number(&mut self, markup: &'static str, number: u64) -> Result<(), AllocError>
+        ensures ok { OnOk result (self.new ≡ self.old ++ record { markup = markup.now; text = decimal number } ∷ []) }
+        ensures err { OnErr result (self.new ≡ self.old) }
+    {
+        match format!(in self.alloc; "{number}") {
+            Ok(digits) => self.add(markup, digits.as_bytes()),
+            Err(error) => Err(error),
+        }
     }
 
     /// The page as it is written: the markup as it stands, and each text with those characters spelled that mean something

@@ -7,7 +7,7 @@ use crate::text::push_text;
 use std::alloc::{AllocError, Global};
 use std::marker::Model;
 
-/// Markup, and the text behind it.
+/// Markup, and the text after it.
 pub struct Piece {
     markup: &'static str,
     text: Vec<u8>,

@@ -41,18 +41,18 @@ asked_next has (Give y) f x k e h = let same : x ≡ y = cc in subst (λ v. IsAs
 asked_next has (Ask j rule) f x k e h = inr (next_had has (has j) j rule f x k (λ r. asked_next has (rule r) f x k) e h)
 
 -- nothing was read
-pub gains_none : {A : Type 0} (has : Part) (m : Asks A) → Gains has has m
-gains_none has m = record { grows = λ k r e. e; asked = λ k. inl refl }
+pub gains_none : {A P : Type 0} (has : Part) (m : Asks A) → Gains P has has m
+gains_none has m = record { grows = λ k r e. e; asked = λ p k. inl refl }
 
 nothing : (o : Option (Option Record)) (P : Option Record → Type 0) → OnHad o (λ r. ⊥) → OnHad o P
 nothing None P h = h
 nothing (Some r) P h = absurd h
 
 -- one record was read
-pub gains_ask : {A : Type 0} (old new : Part) (j : Key) (rule : Option Record → Asks A) → Gains old new (Ask j Give) → Gains old new (Ask j rule)
+pub gains_ask : {A P : Type 0} (old new : Part) (j : Key) (rule : Option Record → Asks A) → Gains P old new (Ask j Give) → Gains P old new (Ask j rule)
 gains_ask old new j rule h = record {
   grows = h.grows;
-  asked = λ k. elim (h.asked k) [
+  asked = λ p k. elim (h.asked p k) [
     | inl e ↦ inl e
     | inr a ↦ elim a [
       | inl is ↦ inr (inl is)
@@ -62,21 +62,21 @@ gains_ask old new j rule h = record {
 }
 
 -- a first part alone was followed
-pub gains_first : {A B : Type 0} (old new : Part) (m : Asks A) (f : A → Asks B) → Gains old new m → Gains old new (m >>= f)
+pub gains_first : {A B P : Type 0} (old new : Part) (m : Asks A) (f : A → Asks B) → Gains P old new m → Gains P old new (m >>= f)
 gains_first old new m f h = record {
   grows = h.grows;
-  asked = λ k. elim (h.asked k) [
+  asked = λ p k. elim (h.asked p k) [
     | inl e ↦ inl e
     | inr a ↦ inr (asked_first new m f k a)
   ];
 }
 
 -- a part, of a walk of which it is the next, after what was read before
-pub gains_step : {A B : Type 0} (first now last : Part) (m : Asks A) (whole : Asks B) → Gains first now whole → Gains now last m → ((k : Key) → IsAsked last m k → IsAsked last whole k) → Gains first last whole
+pub gains_step : {A B P : Type 0} (first now last : Part) (m : Asks A) (whole : Asks B) → Gains P first now whole → Gains P now last m → ((k : Key) → IsAsked last m k → IsAsked last whole k) → Gains P first last whole
 gains_step first now last m whole h g within = record {
   grows = λ k r e. g.grows k r (h.grows k r e);
-  asked = λ k. elim (g.asked k) [
-    | inl e ↦ elim (h.asked k) [
+  asked = λ p k. elim (g.asked p k) [
+    | inl e ↦ elim (h.asked p k) [
       | inl d ↦ inl (e ∙ d)
       | inr a ↦ inr (asked_more now last whole k g.grows a)
     ]
@@ -85,7 +85,7 @@ gains_step first now last m whole h g within = record {
 }
 
 -- a part that came to its end, and then the next
-pub gains_then : {A B : Type 0} (first now last : Part) (m : Asks A) (f : A → Asks B) (x : A) → follow now m ≡ Done x → Gains first now m → Gains now last (f x) → Gains first last (m >>= f)
+pub gains_then : {A B P : Type 0} (first now last : Part) (m : Asks A) (f : A → Asks B) (x : A) → follow now m ≡ Done x → Gains P first now m → Gains P now last (f x) → Gains P first last (m >>= f)
 gains_then first now last m f x e h g =
     gains_step first now last (f x) (m >>= f) (gains_first first now m f h) g
     (λ k a. asked_next last m f x k (follow_more now last m x g.grows e) a)

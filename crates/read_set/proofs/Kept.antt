@@ -6,7 +6,7 @@ use Rattle.std.specs.Ordering.{is_eq}
 use Rattle.circ_policy.specs.Ranges.{FitsPolicy}
 use Rattle.circ_policy.specs.Terms.{Terms}
 use Rattle.circ_records.proofs.RowsKept.{same-itself}
-use Rattle.circ_records.specs.Coherent.{IsCoherentMap, as_item, has_id}
+use Rattle.circ_records.specs.Coherent.{AreOfKind, IsCoherentMap, as_item, has_id}
 use Rattle.circ_records.specs.Keys.{id_of, key_cmp}
 use Rattle.circ_records.specs.Records.{Entries, record_at}
 use Rattle.circ_records.specs.Values.{is_same}
@@ -38,7 +38,7 @@ use Rattle.read_set.proofs.States.{Parts, coherent-parts, parts-later}
 line-begins : (p : Terms) (n : ℕ) (M : Map) → FitsPolicy p → n ≤ 9999999999 → HasFewItems M → IsCoherentMap p n M → Line p n M
 line-begins p n M fits low few h = record { low = low; policy = fits; parts = parts-later p n M h few; free = free p n M h low }
 
-act-keeps : (p : Terms) (n : ℕ) (M : Map) → Line p n M → (date : List ℕ) (act : Act) → is_stamp date ≡ true → FitsAct act → Parts p (n + 1) (put (effect_of p n date act M).writes M)
+act-keeps : (p : Terms) (n : ℕ) (M : Map) → Line p n M → (date : List ℕ) (act : Act) → is_stamp date ≡ true → FitsAct act → Parts p (n + 1) M (put (effect_of p n date act M).writes M)
 unfolding effect_of
 act-keeps p n M line date (acts.BlockPatron q) stamp fits = block-keeps p (n + 1) true q.patron date M line.parts
 act-keeps p n M line date (acts.Checkin q) stamp fits = checkin-keeps p n M line q date
@@ -50,7 +50,7 @@ act-keeps p n M line date (acts.Renew q) stamp fits = renew-keeps p n M line q d
 act-keeps p n M line date (acts.FeePaid q) stamp fits = payment-keeps p n M line q date
 act-keeps p n M line date (acts.RenewAll q) stamp fits = renew-all-keeps p n M line q date stamp
 
-line-keeps : (p : Terms) (n : ℕ) (M : Map) → Line p n M → (r : Reading) → FitsReading r → Parts p (n + 1) (put (effect p n r M).writes M)
+line-keeps : (p : Terms) (n : ℕ) (M : Map) → Line p n M → (r : Reading) → FitsReading r → Parts p (n + 1) M (put (effect p n r M).writes M)
 unfolding effect
 line-keeps p n M line (readings.Asked q) fits = act-keeps p n M line q.date q.act fits.0 fits.1
 line-keeps p n M line readings.BadSum fits = nothing p (n + 1) M line.parts
@@ -60,7 +60,7 @@ line-keeps p n M line (readings.Unread why) fits = nothing p (n + 1) M line.part
 pub meaning-keeps : MeaningKeepsCoherence
 meaning-keeps p n r M policy fits low few h =
     let parts = line-keeps p n M (line-begins p n M policy low few h) r fits in
-    (coherent-parts p (n + 1) (one p n r M).0 parts, parts.few)
+    (coherent-parts p (n + 1) M (one p n r M).0 parts, parts.few, parts.kinds)
 
 -- ALL LINES
 
@@ -102,18 +102,19 @@ fits-reading plan fits line r e = by (nat_lt line plan.first) e
 
 record Stands (plan : Planned) (line : ℕ) (M : Map) : Type 0 where
   coherent : IsCoherentMap plan.policy line M
+  kinds : AreOfKind (record_at plan.base) → AreOfKind M
   few : HasFewItems M
 
 step-by : (plan : Planned) → FitsPlan plan → (line : ℕ) (M : Map) → Stands plan line M → line ≤ 9999999999 → (o : Option Reading) → reading_at plan line ≡ o → Stands plan (line + 1) (one_by plan line o M).0
-step-by plan fits line M h low None e = record { coherent = coherent-parts plan.policy (line + 1) M (parts-later plan.policy line M h.coherent h.few); few = h.few }
+step-by plan fits line M h low None e = record { coherent = coherent-parts plan.policy (line + 1) M M (parts-later plan.policy line M h.coherent h.few); kinds = h.kinds; few = h.few }
 step-by plan fits line M h low (Some r) e =
     let kept = meaning-keeps plan.policy line r M fits.policy (fits-reading plan fits line r e) low h.few h.coherent in
-    record { coherent = kept.0; few = kept.1 }
+    record { coherent = kept.0; kinds = λ base. kept.2 (h.kinds base); few = kept.1 }
 
 stands-after : (plan : Planned) → FitsPlan plan → (n : ℕ) → n ≤ length plan.readings → Stands plan (plan.first + n) (after plan n)
 stands-after plan fits zero h =
     let same : plan.first ≡ plan.first + 0 = omega arith in
-    subst (λ (line : ℕ). Stands plan line (record_at plan.base)) same (record { coherent = fits.base; few = few-items plan.base fits.few })
+    subst (λ (line : ℕ). Stands plan line (record_at plan.base)) same (record { coherent = fits.base; kinds = λ base. base; few = few-items plan.base fits.few })
 stands-after plan fits (suc n) h =
     let end : plan.first + length plan.readings ≤ 10000000000 = fits.last in
     let same : plan.first + n + 1 ≡ plan.first + suc n = omega arith in
@@ -126,4 +127,5 @@ replay-keeps plan fits = record {
       let same : plan.first + (line - plan.first) ≡ line = omega arith in
       subst (λ (x : ℕ). IsCoherentMap plan.policy x (after plan (line - plan.first))) same (stands-after plan fits (line - plan.first) (omega arith)).coherent;
   last = (stands-after plan fits (length plan.readings) (omega arith)).coherent;
+  kinds = (stands-after plan fits (length plan.readings) (omega arith)).kinds;
 }

@@ -68,7 +68,7 @@ lent-from : (p : Terms) (n : ℕ) (M N : Map) → Line p n M → (a : LoanReques
     → M (keys.Patron a.patron) ≡ Some (records.Patron member.patron) → M (keys.Item a.item) ≡ Some (records.Item article.item)
     → State p (n + 1) M N L (lent_by M) (fees_of M) (owed_by M)
     → IsListed (set_at a.patron (Some (kept_list a article.item.loan member.patron.loans)) L) (set_at a.item None (lent_by M))
-    → Parts p (n + 1) (puts (fee_made n 0 a.patron fee_types.Rental charge) (puts (lending_records n a due charge member article) N))
+    → Parts p (n + 1) M (puts (fee_made n 0 a.patron fee_types.Rental charge) (puts (lending_records n a due charge member article) N))
 lent-from p n M N line a due charge member article L day most e f s listed =
     let known : is_known M a.patron ≡ true = member-known M a.patron member.patron e in
     let q : Patron = lending_patron n a charge article.item.loan member.patron in
@@ -86,9 +86,9 @@ lent-from p n M N line a due charge member article L day most e f s listed =
 
 lending-writes : (p : Terms) (n : ℕ) (M : Map) → Line p n M → (a : LoanRequest) (due charge : ℕ) (member : Member) (article : Article) → IsDay due → charge ≤ 99999999999
     → M (keys.Patron a.patron) ≡ Some (records.Patron member.patron) → M (keys.Item a.item) ≡ Some (records.Item article.item)
-    → Parts p (n + 1) (put (lending_writes n a due charge member article (other_in p M a.patron article.item.loan)) M)
+    → Parts p (n + 1) M (put (lending_writes n a due charge member article (other_in p M a.patron article.item.loan)) M)
 lending-writes p n M line a due charge member article day most e f =
-    subst (λ (N : Map). Parts p (n + 1) N)
+    subst (λ (N : Map). Parts p (n + 1) M N)
     (sym (put-three (loan_ended_by a.item article.item.loan (other_in p M a.patron article.item.loan)) (lending_records n a due charge member article) (fee_made n 0 a.patron fee_types.Rental charge) M))
     (by article.item.loan refl)
   where
@@ -100,13 +100,13 @@ lending-writes p n M line a due charge member article day most e f =
 
     from : (N : Map) (L : List ℕ → Option (List (List ℕ))) (o : Option Loan) → article.item.loan ≡ o → State p (n + 1) M N L (lent_by M) (fees_of M) (owed_by M)
         → IsListed (set_at a.patron (Some (kept_list a o member.patron.loans)) L) (set_at a.item None (lent_by M))
-        → Parts p (n + 1) (puts (fee_made n 0 a.patron fee_types.Rental charge) (puts (lending_records n a due charge member article) N))
+        → Parts p (n + 1) M (puts (fee_made n 0 a.patron fee_types.Rental charge) (puts (lending_records n a due charge member article) N))
     from N L o l s listed =
         lent-from p n M N line a due charge member article L day most e f s
         (subst (λ (x : Option Loan). IsListed (set_at a.patron (Some (kept_list a x member.patron.loans)) L) (set_at a.item None (lent_by M))) (sym l) listed)
 
     lent-to : (loan : Loan) → article.item.loan ≡ Some loan → (b : Bool) → same loan.patron a.patron ≡ b
-        → Parts p (n + 1) (puts (fee_made n 0 a.patron fee_types.Rental charge) (puts (lending_records n a due charge member article) (puts (loan_ended a.item loan.patron (cond b None (patron_in p M loan.patron))) M)))
+        → Parts p (n + 1) M (puts (fee_made n 0 a.patron fee_types.Rental charge) (puts (lending_records n a due charge member article) (puts (loan_ended a.item loan.patron (cond b None (patron_in p M loan.patron))) M)))
     lent-to loan l true t =
         let one : loan.patron ≡ a.patron = same-text loan.patron a.patron (sym (same-is loan.patron a.patron) ∙ t) in
         let has : lent_by M a.item ≡ Some a.patron = lent-at M a.item article.item f ∙ ap borrower_of l ∙ ap Some one in
@@ -127,13 +127,13 @@ lending-writes p n M line a due charge member article day most e f =
         let s : State p (n + 1) M (put_one (keys.Patron loan.patron) (records.Patron other) M) L (lent_by M) (fees_of M) (owed_by M) =
         subst (λ (x : List ℕ → Option (List (List ℕ))). State p (n + 1) M (put_one (keys.Patron loan.patron) (records.Patron other) M) L (lent_by M) x (owed_by M)) (same-fees M loan.patron m.0.patron there)
         (put-patron begin loan.patron other (same-patron p (n + 1) M loan.patron m.0.patron other line.parts.sound there refl refl)) in
-        subst (λ (o : Option Member). Parts p (n + 1) (puts (fee_made n 0 a.patron fee_types.Rental charge) (puts (lending_records n a due charge member article) (puts (loan_ended a.item loan.patron o) M)))) (sym m.1)
+        subst (λ (o : Option Member). Parts p (n + 1) M (puts (fee_made n 0 a.patron fee_types.Rental charge) (puts (lending_records n a due charge member article) (puts (loan_ended a.item loan.patron o) M)))) (sym m.1)
         (from (put_one (keys.Patron loan.patron) (records.Patron other) M) L (Some loan) l s
         (subst (λ (b : Bool). IsListed (set_at a.patron (Some (cond b (without a.item member.patron.loans) member.patron.loans)) L) (set_at a.item None (lent_by M))) (sym t)
         (subst (λ (x : List ℕ → Option (List (List ℕ))). IsListed x (set_at a.item None (lent_by M))) (sym (set-same a.patron (Some member.patron.loans) L kept)) less)))
 
     by : (o : Option Loan) → article.item.loan ≡ o
-        → Parts p (n + 1) (puts (fee_made n 0 a.patron fee_types.Rental charge) (puts (lending_records n a due charge member article) (puts (loan_ended_by a.item o (other_in p M a.patron o)) M)))
+        → Parts p (n + 1) M (puts (fee_made n 0 a.patron fee_types.Rental charge) (puts (lending_records n a due charge member article) (puts (loan_ended_by a.item o (other_in p M a.patron o)) M)))
     by None l =
         let none : lent_by M a.item ≡ None = lent-at M a.item article.item f ∙ ap borrower_of l in
         from M (loans_of M) None l begin
@@ -142,11 +142,11 @@ lending-writes p n M line a due charge member article day most e f =
     by (Some loan) l = lent-to loan l (same loan.patron a.patron) refl
 
 pub lending-keeps : (p : Terms) (n : ℕ) (M : Map) → Line p n M → (a : LoanRequest) (date : List ℕ) (member : Member) (article : Article) → is_stamp date ≡ true → IfSome a.given IsDay
-    → patron_in p M a.patron ≡ Some member → item_in p M a.item ≡ Some article → Parts p (n + 1) (put (lending p n a date M member article).writes M)
+    → patron_in p M a.patron ≡ Some member → item_in p M a.item ≡ Some article → Parts p (n + 1) M (put (lending p n a date M member article).writes M)
 unfolding refused lending_made
 lending-keeps p n M line a date member article stamp fits e f = by (lending_verdict M a member article)
   where
-    by : (v : Verdict) → Parts p (n + 1) (put (lending_by p n a date M member article v).writes M)
+    by : (v : Verdict) → Parts p (n + 1) M (put (lending_by p n a date M member article v).writes M)
     by verdicts.Refused = nothing p (n + 1) M line.parts
     by verdicts.Unpaid = nothing p (n + 1) M line.parts
     by verdicts.Made =
@@ -157,21 +157,21 @@ lending-keeps p n M line a date member article stamp fits e f = by (lending_verd
 
 -- THE TWO REQUESTS
 
-pub renew-keeps : (p : Terms) (n : ℕ) (M : Map) → Line p n M → (q : Renew) (date : List ℕ) → is_stamp date ≡ true → IfSome q.due IsDay → Parts p (n + 1) (put (renew p n q date M).writes M)
+pub renew-keeps : (p : Terms) (n : ℕ) (M : Map) → Line p n M → (q : Renew) (date : List ℕ) → is_stamp date ≡ true → IfSome q.due IsDay → Parts p (n + 1) M (put (renew p n q date M).writes M)
 unfolding refused
 renew-keeps p n M line q date stamp fits = by (patron_in p M q.patron) refl (item_in p M q.item) refl
   where
-    by : (o : Option Member) → patron_in p M q.patron ≡ o → (x : Option Article) → item_in p M q.item ≡ x → Parts p (n + 1) (put (renew_known p n (by_renew q) date M o x).writes M)
+    by : (o : Option Member) → patron_in p M q.patron ≡ o → (x : Option Article) → item_in p M q.item ≡ x → Parts p (n + 1) M (put (renew_known p n (by_renew q) date M o x).writes M)
     by None e None f = nothing p (n + 1) M line.parts
     by None e (Some article) f = nothing p (n + 1) M line.parts
     by (Some member) e None f = nothing p (n + 1) M line.parts
     by (Some member) e (Some article) f = renewal-keeps p n M line (by_renew q) date member article stamp fits e f
 
-pub checkout-keeps : (p : Terms) (n : ℕ) (M : Map) → Line p n M → (q : Checkout) (date : List ℕ) → is_stamp date ≡ true → IfSome q.due IsDay → Parts p (n + 1) (put (checkout p n q date M).writes M)
+pub checkout-keeps : (p : Terms) (n : ℕ) (M : Map) → Line p n M → (q : Checkout) (date : List ℕ) → is_stamp date ≡ true → IfSome q.due IsDay → Parts p (n + 1) M (put (checkout p n q date M).writes M)
 unfolding refused
 checkout-keeps p n M line q date stamp fits = by (patron_in p M q.patron) refl (item_in p M q.item) refl
   where
-    by : (o : Option Member) → patron_in p M q.patron ≡ o → (x : Option Article) → item_in p M q.item ≡ x → Parts p (n + 1) (put (checkout_known p n q date M o x).writes M)
+    by : (o : Option Member) → patron_in p M q.patron ≡ o → (x : Option Article) → item_in p M q.item ≡ x → Parts p (n + 1) M (put (checkout_known p n q date M o x).writes M)
     by None e None f = nothing p (n + 1) M line.parts
     by None e (Some article) f = nothing p (n + 1) M line.parts
     by (Some member) e None f = nothing p (n + 1) M line.parts

@@ -41,7 +41,7 @@ use Rattle.read_set.proofs.States.{Parts, State, ends, fees-at, put-item, put-pa
 pub record Line (p : Terms) (n : ℕ) (M : Map) : Type 0 where
   pub low : n ≤ 9999999999
   pub policy : FitsPolicy p
-  pub parts : Parts p (n + 1) M
+  pub parts : Parts p (n + 1) M M
   pub free : (k : ℕ) → k < 2 ^ 64 → owed_by M (fee_id n k) ≡ None
 
 -- several writes, one after the other
@@ -122,24 +122,24 @@ same-renewed due (Some loan) = refl
 -- RENEWAL
 
 renewal-writes : (p : Terms) (n : ℕ) (M : Map) → Line p n M → (a : LoanRequest) (due charge : ℕ) (member : Member) (article : Article) → IsDay due → charge ≤ 99999999999
-    → M (keys.Patron a.patron) ≡ Some (records.Patron member.patron) → M (keys.Item a.item) ≡ Some (records.Item article.item) → Parts p (n + 1) (put (renewal_writes n a due charge member article) M)
+    → M (keys.Patron a.patron) ≡ Some (records.Patron member.patron) → M (keys.Item a.item) ≡ Some (records.Item article.item) → Parts p (n + 1) M (put (renewal_writes n a due charge member article) M)
 renewal-writes p n M line a due charge member article day most e f =
     let one = put-charged p n M line a.patron charge member.patron e in
     let right = sound-in p (n + 1) M (puts (charged n a.patron charge member.patron) M) one.known (keys.Item a.item) (records.Item (renewed due article.item))
     (right-renewed p M a.item article.item due day (line.parts.sound.at (keys.Item a.item) (records.Item article.item) f)) in
     let two = put-item one a.item (renewed due article.item) right (article-known M a.item article.item f) in
     let three = put-made n 0 a.patron fee_types.Rental charge line.low (omega arith) most two (two.known.at a.patron (member-known M a.patron member.patron e)) in
-    subst (λ (N : Map). Parts p (n + 1) N) (sym (put-three (charged n a.patron charge member.patron) ((keys.Item a.item, records.Item (renewed due article.item)) ∷ []) (fee_made n 0 a.patron fee_types.Rental charge) M))
+    subst (λ (N : Map). Parts p (n + 1) M N) (sym (put-three (charged n a.patron charge member.patron) ((keys.Item a.item, records.Item (renewed due article.item)) ∷ []) (fee_made n 0 a.patron fee_types.Rental charge) M))
     (ends three line.parts.few
     (subst (λ (x : List ℕ → Option (List ℕ)). IsListed (loans_of M) x) (sym (ap (λ b. set_at a.item b (lent_by M)) (same-renewed due article.item.loan) ∙ same-borrower M a.item article.item f)) line.parts.loans)
     (listed-made n 0 a.patron charge (fees_of M) (owed_by M) member.patron.fees line.parts.fees (fees-at M a.patron member.patron e) (line.free 0 (omega arith))))
 
 pub renewal-keeps : (p : Terms) (n : ℕ) (M : Map) → Line p n M → (a : LoanRequest) (date : List ℕ) (member : Member) (article : Article) → is_stamp date ≡ true → IfSome a.given IsDay
-    → patron_in p M a.patron ≡ Some member → item_in p M a.item ≡ Some article → Parts p (n + 1) (put (renewal p n a date M member article).writes M)
+    → patron_in p M a.patron ≡ Some member → item_in p M a.item ≡ Some article → Parts p (n + 1) M (put (renewal p n a date M member article).writes M)
 unfolding refused renewal_made
 renewal-keeps p n M line a date member article stamp fits e f = by (renewal_verdict M a member article)
   where
-    by : (v : Verdict) → Parts p (n + 1) (put (renewal_by p n a date member article v).writes M)
+    by : (v : Verdict) → Parts p (n + 1) M (put (renewal_by p n a date member article v).writes M)
     by verdicts.Refused = nothing p (n + 1) M line.parts
     by verdicts.Unpaid = nothing p (n + 1) M line.parts
     by verdicts.Made =

@@ -8,7 +8,7 @@ use Rattle.std.specs.Ordering.{is_eq}
 use Rattle.std.proofs.Math.Path.{fun_ext}
 use Rattle.std.proofs.lemmas.Bool.{and_from, and_parts}
 use Rattle.circ_policy.specs.Terms.{Terms}
-use Rattle.circ_records.specs.Coherent.{IsCoherentFee, IsCoherentItem, IsCoherentLoan, as_fee, as_item, as_patron, is_hold, is_known}
+use Rattle.circ_records.specs.Coherent.{AreOfKind, IsCoherentFee, IsCoherentItem, IsCoherentLoan, as_fee, as_item, as_patron, is_hold, is_known, is_of_kind}
 use Rattle.circ_records.specs.Keys.{key_cmp}
 use Rattle.circ_records.specs.Records.{Entries, record_at}
 use Rattle.circ_records.specs.Rules.{has_class}
@@ -183,12 +183,12 @@ pub record IsSoundPatron (policy : Terms) (id : List ℕ) (p : Patron) : Type 0 
   pub name : is_text p.name ≡ true
   pub class : has_class policy p.class ≡ true
 
--- a record is of its key's kind, and what it holds by itself is right
+-- what a record holds by itself is right; one of another kind than its key's counts as none
 abbrev pub IsSoundRecord : Terms → ℕ → Map → Key → Record → Type 0
 IsSoundRecord policy n M (keys.Patron id) (records.Patron p) = IsSoundPatron policy id p
 IsSoundRecord policy n M (keys.Item id) (records.Item i) = IsCoherentItem policy M id i
 IsSoundRecord policy n M (keys.Fee id) (records.Fee f) = IsCoherentFee n M id f
-IsSoundRecord policy n M k r = ⊥
+IsSoundRecord policy n M k r = Unit {0}
 
 pub record IsSound (policy : Terms) (n : ℕ) (M : Map) : Type 0 where
   pub at : (k : Key) (r : Record) → M k ≡ Some r → IsSoundRecord policy n M k r
@@ -225,36 +225,48 @@ sound-in policy n M N known (keys.Item id) (records.Item i) h = record {
   few = h.few;
 }
 sound-in policy n M N known (keys.Fee id) (records.Fee f) h = record { id_text = h.id_text; patron = known.at f.patron h.patron; paid = h.paid; amount = h.amount; number = h.number }
-sound-in policy n M N known (keys.Patron id) (records.Item i) h = absurd h
-sound-in policy n M N known (keys.Patron id) (records.Fee f) h = absurd h
-sound-in policy n M N known (keys.Item id) (records.Patron p) h = absurd h
-sound-in policy n M N known (keys.Item id) (records.Fee f) h = absurd h
-sound-in policy n M N known (keys.Fee id) (records.Patron p) h = absurd h
-sound-in policy n M N known (keys.Fee id) (records.Item i) h = absurd h
+sound-in policy n M N known (keys.Patron id) (records.Item i) h = tt
+sound-in policy n M N known (keys.Patron id) (records.Fee f) h = tt
+sound-in policy n M N known (keys.Item id) (records.Patron p) h = tt
+sound-in policy n M N known (keys.Item id) (records.Fee f) h = tt
+sound-in policy n M N known (keys.Fee id) (records.Patron p) h = tt
+sound-in policy n M N known (keys.Fee id) (records.Item i) h = tt
 
--- nobody is forgotten as a right record is put
-pub known-put : (policy : Terms) (n : ℕ) (M N : Map) (k : Key) (r : Record) → IsSoundRecord policy n M k r → AreKnown N (put_one k r N)
+-- nobody is forgotten as a record of its key's kind is put
+pub known-put : (N : Map) (k : Key) (r : Record) → is_of_kind k r ≡ true → AreKnown N (put_one k r N)
 unfolding put_one
-known-put policy n M N (keys.Patron a) (records.Patron p) h = record { at = λ id e. ap (λ o. is_some (as_patron o)) (at-patron a (records.Patron p) N id) ∙ by (is_same id a) (N (keys.Patron id)) e }
+known-put N (keys.Patron a) (records.Patron p) h = record { at = λ id e. ap (λ o. is_some (as_patron o)) (at-patron a (records.Patron p) N id) ∙ by (is_same id a) (N (keys.Patron id)) e }
   where
     by : (b : Bool) (o : Option Record) → is_some (as_patron o) ≡ true → is_some (as_patron (cond b (Some (records.Patron p)) o)) ≡ true
     by true o e = refl
     by false o e = e
-known-put policy n M N (keys.Item a) (records.Item i) h = record { at = λ id e. e }
-known-put policy n M N (keys.Fee a) (records.Fee f) h = record { at = λ id e. e }
-known-put policy n M N (keys.Patron id) (records.Item i) h = absurd h
-known-put policy n M N (keys.Patron id) (records.Fee f) h = absurd h
-known-put policy n M N (keys.Item id) (records.Patron p) h = absurd h
-known-put policy n M N (keys.Item id) (records.Fee f) h = absurd h
-known-put policy n M N (keys.Fee id) (records.Patron p) h = absurd h
-known-put policy n M N (keys.Fee id) (records.Item i) h = absurd h
+known-put N (keys.Item a) (records.Item i) h = record { at = λ id e. e }
+known-put N (keys.Fee a) (records.Fee f) h = record { at = λ id e. e }
+known-put N (keys.Patron id) (records.Item i) h = cc h
+known-put N (keys.Patron id) (records.Fee f) h = cc h
+known-put N (keys.Item id) (records.Patron p) h = cc h
+known-put N (keys.Item id) (records.Fee f) h = cc h
+known-put N (keys.Fee id) (records.Patron p) h = cc h
+known-put N (keys.Fee id) (records.Item i) h = cc h
 
-pub sound-put : (policy : Terms) (n : ℕ) (M : Map) (k : Key) (r : Record) → IsSound policy n M → IsSoundRecord policy n M k r → IsSound policy n (put_one k r M)
+-- and then each record is of its key's kind, where each was
+pub kinds-put : (M : Map) (k : Key) (r : Record) → is_of_kind k r ≡ true → AreOfKind M → AreOfKind (put_one k r M)
 unfolding put_one
-sound-put policy n M k r h right = record { at = λ x q e. by x q (is_eq (key_cmp x k)) refl e }
+kinds-put M k r right h x q e = by (is_eq (key_cmp x k)) refl e
+  where
+    by : (b : Bool) → is_eq (key_cmp x k) ≡ b → cond b (Some r) (M x) ≡ Some q → is_of_kind x q ≡ true
+    by true s e =
+        let one : x ≡ k = one-key x k s in
+        let same : r ≡ q = cc e in
+        ap (λ y. is_of_kind y q) one ∙ ap (is_of_kind k) (sym same) ∙ right
+    by false s e = h x q e
+
+pub sound-put : (policy : Terms) (n : ℕ) (M : Map) (k : Key) (r : Record) → IsSound policy n M → is_of_kind k r ≡ true → IsSoundRecord policy n M k r → IsSound policy n (put_one k r M)
+unfolding put_one
+sound-put policy n M k r h kind right = record { at = λ x q e. by x q (is_eq (key_cmp x k)) refl e }
   where
     more : AreKnown M (put_one k r M)
-    more = known-put policy n M M k r right
+    more = known-put M k r kind
 
     by : (x : Key) (q : Record) (b : Bool) → is_eq (key_cmp x k) ≡ b → cond b (Some r) (M x) ≡ Some q → IsSoundRecord policy n (put_one k r M) x q
     by x q true s e =

@@ -36,8 +36,8 @@ pub asked_there : (notes : List Note) (note : Note) → note_of notes note.key �
 asked_there notes note fresh = ap (λ (o : Option (Option Record)). option_map_or (λ r. Done r) o (Wants note.key)) (noted_there notes note fresh)
 
 -- no other key comes to be had
-pub noted_gains : (notes : List Note) (note : Note) → note_of notes note.key ≡ None → Gains (noted notes) (noted (notes ++ note ∷ [])) (Ask note.key Give)
-noted_gains notes note fresh = record { grows = noted_more notes note fresh; asked = λ k. by k (is_at (key_cmp k) note.key) refl }
+pub noted_gains : {P : Type 0} (notes : List Note) (note : Note) → note_of notes note.key ≡ None → Gains P (noted notes) (noted (notes ++ note ∷ [])) (Ask note.key Give)
+noted_gains notes note fresh = record { grows = noted_more notes note fresh; asked = λ p k. by k (is_at (key_cmp k) note.key) refl }
   where
     by : (k : Key) (b : Bool) → is_at (key_cmp k) note.key ≡ b → (noted (notes ++ note ∷ []) k ≡ noted notes k) ⊎ IsAsked (noted (notes ++ note ∷ [])) (Ask note.key Give) k
     by k true s = inr (inl (one-key k note.key s))

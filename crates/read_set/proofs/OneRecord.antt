@@ -49,16 +49,16 @@ pub same-borrower : (M : Map) (id : List ℕ) (i : Item) → M (keys.Item id) �
 same-borrower M id i e = set-same id (borrower_of i.loan) (lent_by M) (lent-at M id i e)
 
 -- a patron that keeps its lists is put
-pub keeps-lists : (policy : Terms) (n : ℕ) (M : Map) → Parts policy n M → (id : List ℕ) (p q : Patron) → M (keys.Patron id) ≡ Some (records.Patron p)
-    → q.name ≡ p.name → q.class ≡ p.class → q.loans ≡ p.loans → q.fees ≡ p.fees → Parts policy n (put_one (keys.Patron id) (records.Patron q) M)
+pub keeps-lists : (policy : Terms) (n : ℕ) (M : Map) → Parts policy n M M → (id : List ℕ) (p q : Patron) → M (keys.Patron id) ≡ Some (records.Patron p)
+    → q.name ≡ p.name → q.class ≡ p.class → q.loans ≡ p.loans → q.fees ≡ p.fees → Parts policy n M (put_one (keys.Patron id) (records.Patron q) M)
 keeps-lists policy n M h id p q e name class loans fees =
     ends (put-patron (start policy n M h.sound) id q (same-patron policy n M id p q h.sound e name class)) h.few
     (subst (λ (x : List ℕ → Option (List (List ℕ))). IsListed x (lent_by M)) (sym (ap (λ l. set_at id (Some l) (loans_of M)) loans ∙ same-loans M id p e)) h.loans)
     (subst (λ (x : List ℕ → Option (List (List ℕ))). IsListed x (owed_by M)) (sym (ap (λ l. set_at id (Some l) (fees_of M)) fees ∙ same-fees M id p e)) h.fees)
 
 -- an item that keeps its borrower is put
-pub keeps-borrower : (policy : Terms) (n : ℕ) (M : Map) → Parts policy n M → (id : List ℕ) (i j : Item) → M (keys.Item id) ≡ Some (records.Item i)
-    → IsCoherentItem policy M id j → borrower_of j.loan ≡ borrower_of i.loan → Parts policy n (put_one (keys.Item id) (records.Item j) M)
+pub keeps-borrower : (policy : Terms) (n : ℕ) (M : Map) → Parts policy n M M → (id : List ℕ) (i j : Item) → M (keys.Item id) ≡ Some (records.Item i)
+    → IsCoherentItem policy M id j → borrower_of j.loan ≡ borrower_of i.loan → Parts policy n M (put_one (keys.Item id) (records.Item j) M)
 keeps-borrower policy n M h id i j e right same =
     ends (put-item (start policy n M h.sound) id j right (article-known M id i e)) h.few
     (subst (λ (x : List ℕ → Option (List ℕ)). IsListed (loans_of M) x) (sym (ap (λ b. set_at id b (lent_by M)) same ∙ same-borrower M id i e)) h.loans)

@@ -186,7 +186,7 @@ module _ (p : Terms) (n : ℕ) (M : Map) (line : Line p n M) (id : List ℕ) (pa
           by true e = nobody q (owed_by M x) apart (t.own x e)
           by false e = refl
 
-  ends-paid : (q : FeePaid) (date : List ℕ) → q.patron ≡ id → (done : Payments) → Paying p n M id done → Parts p (n + 1) (put (all_paid p q date patron done).writes M)
+  ends-paid : (q : FeePaid) (date : List ℕ) → q.patron ≡ id → (done : Payments) → Paying p n M id done → Parts p (n + 1) M (put (all_paid p q date patron done).writes M)
   unfolding all_paid
   ends-paid q date own done t = by done.closed refl
     where
@@ -197,19 +197,19 @@ module _ (p : Terms) (n : ℕ) (M : Map) (line : Line p n M) (id : List ℕ) (pa
       none-closed e = fun_ext (λ x. t.whose x ∙ ap (λ (l : List (List ℕ)). cond (has_id x l) None (owed_by M x)) e)
 
       by : (l : List (List ℕ)) → done.closed ≡ l
-          → Parts p (n + 1) (put (cond (is_any l) (written done.writes ((keys.Patron q.patron, records.Patron (record patron { fees = without_all done.closed patron.fees })) ∷ [])) done.writes) M)
+          → Parts p (n + 1) M (put (cond (is_any l) (written done.writes ((keys.Patron q.patron, records.Patron (record patron { fees = without_all done.closed patron.fees })) ∷ [])) done.writes) M)
       by [] e = ends t.state line.parts.few line.parts.loans (subst (λ (D : List ℕ → Option (List ℕ)). IsListed (fees_of M) D) (sym (none-closed e)) line.parts.fees)
       by (x ∷ more) e =
-          subst (λ (k : List ℕ). Parts p (n + 1) (put (written done.writes ((keys.Patron k, records.Patron (record patron { fees = without_all done.closed patron.fees })) ∷ [])) M)) (sym own)
-          (subst (λ (K : Map). Parts p (n + 1) K) (sym (put-written done.writes ((keys.Patron id, records.Patron (record patron { fees = without_all done.closed patron.fees })) ∷ []) M))
+          subst (λ (k : List ℕ). Parts p (n + 1) M (put (written done.writes ((keys.Patron k, records.Patron (record patron { fees = without_all done.closed patron.fees })) ∷ [])) M)) (sym own)
+          (subst (λ (K : Map). Parts p (n + 1) M K) (sym (put-written done.writes ((keys.Patron id, records.Patron (record patron { fees = without_all done.closed patron.fees })) ∷ []) M))
           (ends (put-patron t.state id (record patron { fees = without_all done.closed patron.fees }) (same-patron p (n + 1) M id patron (record patron { fees = without_all done.closed patron.fees }) line.parts.sound there refl refl)) line.parts.few
           (subst (λ (L : List ℕ → Option (List (List ℕ))). IsListed L (lent_by M)) (sym (same-loans M id patron there)) line.parts.loans)
           (less-listed done t)))
 
-pub payment-keeps : (p : Terms) (n : ℕ) (M : Map) → Line p n M → (q : FeePaid) (date : List ℕ) → Parts p (n + 1) (put (fee_paid p q date M).writes M)
+pub payment-keeps : (p : Terms) (n : ℕ) (M : Map) → Line p n M → (q : FeePaid) (date : List ℕ) → Parts p (n + 1) M (put (fee_paid p q date M).writes M)
 payment-keeps p n M line q date = by (patron_in p M q.patron) refl
   where
-    by : (o : Option Member) → patron_in p M q.patron ≡ o → Parts p (n + 1) (put (fee_paid_known p q date M o).writes M)
+    by : (o : Option Member) → patron_in p M q.patron ≡ o → Parts p (n + 1) M (put (fee_paid_known p q date M o).writes M)
     by None e = nothing p (n + 1) M line.parts
     by (Some member) e =
         let there = member-there p M q.patron member e in

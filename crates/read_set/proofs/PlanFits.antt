@@ -10,7 +10,7 @@ use Rattle.read_set.specs.Replay.{last}
 use Rattle.read_set.specs.Maps.{Map}
 use Rattle.circ_records.proofs.ReadAgain.{read-again}
 use Rattle.std.proofs.Math.Path.{fun_ext}
-use Rattle.circ_records.specs.Coherent.{Coherent, number_before, IsCoherentMap}
+use Rattle.circ_records.specs.Coherent.{AreOfKind, Coherent, number_before, IsCoherentMap}
 use Rattle.circ_records.specs.Records.{Entries, record_at}
 use Rattle.journal_table.proofs.Ends.{ends-lines}
 use Rattle.journal_table.specs.Entry.{Entry, first_number}
@@ -76,7 +76,7 @@ plan-fits text bytes policy base lines p j few h = record {
 
 -- no records are coherent
 none-coherent : (policy : Terms) (n : ℕ) → Coherent policy n []
-none-coherent policy n = record { kinds = λ k r e. cc; patrons = λ id p e. cc; items = λ id i e. cc; fees = λ id f e. cc }
+none-coherent policy n = record { patrons = λ id p e. cc; items = λ id i e. cc; fees = λ id f e. cc }
 
 -- so a plan that fits does over no records
 pub bare-fits : (plan : Planned) → FitsPlan plan → FitsPlan (plan_over plan [])
@@ -87,8 +87,9 @@ read-plans base few text bytes policy lines p j h = replay-keeps (plan_of policy
 
 -- the tables of the last records are read again
 pub final-tables : (base : Entries) → length base ≤ 2 ^ 64 → FinalTablesReadBack base
-final-tables base few text bytes policy lines p j h entries rising tells =
+final-tables base few text bytes policy lines p j h kinds entries rising tells =
     let plan : Planned = plan_of policy base lines in
     let stays : StaysCoherent plan = read-plans base few text bytes policy lines p j h in
     let same : record_at entries ≡ last plan = fun_ext tells in
     read-again policy (plan.first + length plan.readings) entries rising (subst (λ (m : Map). IsCoherentMap policy (plan.first + length plan.readings) m) (sym same) stays.last)
+    (subst (λ (m : Map). AreOfKind m) (sym same) (stays.kinds kinds))

@@ -178,13 +178,13 @@ module _ (p : Terms) (n : ℕ) (M : Map) (line : Line p n M) (q : RenewAll) (dat
           lent-known None e = cc e
           lent-known (Some i) e = refl
 
-  end : (done : Renewals) (most : ℕ) → Turned p n M q.patron member most done → Parts p (n + 1) (put (all_renewed p q date done).writes M)
+  end : (done : Renewals) (most : ℕ) → Turned p n M q.patron member most done → Parts p (n + 1) M (put (all_renewed p q date done).writes M)
   unfolding all_renewed
   end done most t = by (nat_lt 0 done.made) refl
     where
-      by : (b : Bool) → nat_lt 0 done.made ≡ b → Parts p (n + 1) (put (cond b (written done.writes ((keys.Patron q.patron, records.Patron done.member.patron) ∷ [])) done.writes) M)
+      by : (b : Bool) → nat_lt 0 done.made ≡ b → Parts p (n + 1) M (put (cond b (written done.writes ((keys.Patron q.patron, records.Patron done.member.patron) ∷ [])) done.writes) M)
       by true e =
-          subst (λ (x : Map). Parts p (n + 1) x) (sym (put-written done.writes ((keys.Patron q.patron, records.Patron done.member.patron) ∷ []) M))
+          subst (λ (x : Map). Parts p (n + 1) M x) (sym (put-written done.writes ((keys.Patron q.patron, records.Patron done.member.patron) ∷ []) M))
           (ends (put-patron t.state q.patron done.member.patron (same-patron p (n + 1) M q.patron member.patron done.member.patron line.parts.sound there t.name t.class)) line.parts.few
           (subst (λ (x : List ℕ → Option (List (List ℕ))). IsListed x (lent_by M)) (sym (ap (λ l. set_at q.patron (Some l) (loans_of M)) t.loans ∙ same-loans M q.patron member.patron there)) line.parts.loans)
           t.listed)
@@ -192,10 +192,10 @@ module _ (p : Terms) (n : ℕ) (M : Map) (line : Line p n M) (q : RenewAll) (dat
           ends t.state line.parts.few line.parts.loans
           (subst (λ (x : List ℕ → Option (List (List ℕ))). IsListed x t.owners) (ap (λ l. set_at q.patron (Some l) (fees_of M)) (t.none e) ∙ same-fees M q.patron member.patron there) t.listed)
 
-pub renew-all-keeps : (p : Terms) (n : ℕ) (M : Map) → Line p n M → (q : RenewAll) (date : List ℕ) → is_stamp date ≡ true → Parts p (n + 1) (put (renew_all p n q date M).writes M)
+pub renew-all-keeps : (p : Terms) (n : ℕ) (M : Map) → Line p n M → (q : RenewAll) (date : List ℕ) → is_stamp date ≡ true → Parts p (n + 1) M (put (renew_all p n q date M).writes M)
 renew-all-keeps p n M line q date stamp = by (patron_in p M q.patron) refl
   where
-    by : (o : Option Member) → patron_in p M q.patron ≡ o → Parts p (n + 1) (put (renew_all_known p n q date M o).writes M)
+    by : (o : Option Member) → patron_in p M q.patron ≡ o → Parts p (n + 1) M (put (renew_all_known p n q date M o).writes M)
     by None e = nothing p (n + 1) M line.parts
     by (Some member) e =
         let there = member-there p M q.patron member e in

@@ -50,7 +50,7 @@ back-right p M id i h = record {
 
 returned-writes : (p : Terms) (n : ℕ) (M : Map) → Line p n M → (item : List ℕ) (fee : ℕ) (article : Article) (member : Member) (loan : Loan) → fee ≤ 99999999999
     → M (keys.Item item) ≡ Some (records.Item article.item) → article.item.loan ≡ Some loan → M (keys.Patron loan.patron) ≡ Some (records.Patron member.patron)
-    → Parts p (n + 1) (put (returned_writes n item fee article (Some member) loan) M)
+    → Parts p (n + 1) M (put (returned_writes n item fee article (Some member) loan) M)
 returned-writes p n M line item fee article member loan most f l e =
     let b : List ℕ = loan.patron in
     let q : Patron = returner n item fee member.patron in
@@ -59,16 +59,16 @@ returned-writes p n M line item fee article member loan most f l e =
     let right = sound-in p (n + 1) M (puts (fee_made n 0 b fee_types.Overdue fee) (put_one (keys.Patron b) (records.Patron q) M)) two.known (keys.Item item) (records.Item (record article.item { loan = None }))
     (back-right p M item article.item (line.parts.sound.at (keys.Item item) (records.Item article.item) f)) in
     let three = put-item two item (record article.item { loan = None }) right (article-known M item article.item f) in
-    subst (λ (N : Map). Parts p (n + 1) N) (sym (put-two (returned_by n item b fee (Some member)) ((keys.Item item, records.Item (record article.item { loan = None })) ∷ []) M))
+    subst (λ (N : Map). Parts p (n + 1) M N) (sym (put-two (returned_by n item b fee (Some member)) ((keys.Item item, records.Item (record article.item { loan = None })) ∷ []) M))
     (ends three line.parts.few
     (listed-less (loans_of M) (lent_by M) b item member.patron.loans line.parts.loans (loans-at M b member.patron e) (lent-at M item article.item f ∙ ap borrower_of l))
     (listed-made n 0 b fee (fees_of M) (owed_by M) member.patron.fees line.parts.fees (fees-at M b member.patron e) (line.free 0 (omega arith))))
 
-pub checkin-keeps : (p : Terms) (n : ℕ) (M : Map) → Line p n M → (q : Checkin) (date : List ℕ) → Parts p (n + 1) (put (checkin p n q date M).writes M)
+pub checkin-keeps : (p : Terms) (n : ℕ) (M : Map) → Line p n M → (q : Checkin) (date : List ℕ) → Parts p (n + 1) M (put (checkin p n q date M).writes M)
 unfolding checked_in
 checkin-keeps p n M line q date = by (item_in p M q.item) refl
   where
-    by-loan : (article : Article) → item_in p M q.item ≡ Some article → (l : Option Loan) → article.item.loan ≡ l → Parts p (n + 1) (put (returned p n q date article (borrower_in p M l) l).writes M)
+    by-loan : (article : Article) → item_in p M q.item ≡ Some article → (l : Option Loan) → article.item.loan ≡ l → Parts p (n + 1) M (put (returned p n q date article (borrower_in p M l) l).writes M)
     by-loan article e None f = nothing p (n + 1) M line.parts
     by-loan article e (Some loan) f =
         let there = article-there p M q.item article e in
@@ -76,9 +76,9 @@ checkin-keeps p n M line q date = by (item_in p M q.item) refl
         let right : IsCoherentLoan M article.item.holds loan = item.loan loan f in
         let m = known-member p (n + 1) M loan.patron line.parts.sound right.patron in
         let terms : FitsMedia article.media = line.policy article.item.media article.media there.1 in
-        subst (λ (o : Option Member). Parts p (n + 1) (put (returned p n q date article o (Some loan)).writes M)) (sym m.1)
+        subst (λ (o : Option Member). Parts p (n + 1) M (put (returned p n q date article o (Some loan)).writes M)) (sym m.1)
         (returned-writes p n M line q.item (lateness q date loan article.media) article m.0 loan (late-most q date loan article.media terms.cap) there.0 f (member-there p M loan.patron m.0 m.1))
 
-    by : (o : Option Article) → item_in p M q.item ≡ o → Parts p (n + 1) (put (checked_in p n q date o (borrower_in p M (loan_of o))).writes M)
+    by : (o : Option Article) → item_in p M q.item ≡ o → Parts p (n + 1) M (put (checked_in p n q date o (borrower_in p M (loan_of o))).writes M)
     by None e = nothing p (n + 1) M line.parts
     by (Some article) e = by-loan article e article.item.loan refl

@@ -35,19 +35,19 @@ use Rattle.read_set.proofs.QueueLists.{all-less, all-more, all-pickup, distinct-
 use Rattle.read_set.proofs.States.{Parts}
 
 -- nothing is written
-pub nothing : (p : Terms) (n : ℕ) (M : Map) → Parts p n M → Parts p n (put [] M)
-nothing p n M h = subst (λ (N : Map). Parts p n N) (sym (put-none M)) h
+pub nothing : (p : Terms) (n : ℕ) (M : Map) → Parts p n M M → Parts p n M (put [] M)
+nothing p n M h = subst (λ (N : Map). Parts p n M N) (sym (put-none M)) h
 
 -- BLOCK AND ENABLE
 
-pub block-keeps : (p : Terms) (n : ℕ) (blocks : Bool) (id date : List ℕ) (M : Map) → Parts p n M → Parts p n (put (block p blocks id date M).writes M)
+pub block-keeps : (p : Terms) (n : ℕ) (blocks : Bool) (id date : List ℕ) (M : Map) → Parts p n M M → Parts p n M (put (block p blocks id date M).writes M)
 unfolding blocked_by
 block-keeps p n blocks id date M h = by (patron_in p M id) refl
   where
-    by : (o : Option Member) → patron_in p M id ≡ o → Parts p n (put (block_known p blocks id date M o).writes M)
+    by : (o : Option Member) → patron_in p M id ≡ o → Parts p n M (put (block_known p blocks id date M o).writes M)
     by None e = nothing p n M h
     by (Some member) e =
-        subst (λ (N : Map). Parts p n N) (sym (put-single (keys.Patron id) (records.Patron (record member.patron { blocked = blocks })) M))
+        subst (λ (N : Map). Parts p n M N) (sym (put-single (keys.Patron id) (records.Patron (record member.patron { blocked = blocks })) M))
         (keeps-lists p n M h id member.patron (record member.patron { blocked = blocks }) (member-there p M id member e) refl refl refl refl)
 
 -- ITEM STATUS
@@ -65,19 +65,19 @@ relabelled-item p M id i given h t = record {
   few = h.few;
 }
 
-pub status-keeps : (p : Terms) (n : ℕ) (q : ItemStatus) (date : List ℕ) (M : Map) → Parts p n M → IfSome q.properties (λ t. is_text t ≡ true) → Parts p n (put (item_status p q date M).writes M)
+pub status-keeps : (p : Terms) (n : ℕ) (q : ItemStatus) (date : List ℕ) (M : Map) → Parts p n M M → IfSome q.properties (λ t. is_text t ≡ true) → Parts p n M (put (item_status p q date M).writes M)
 unfolding updated
 status-keeps p n q date M h fits = by (item_in p M q.item) refl
   where
-    given : (article : Article) → item_in p M q.item ≡ Some article → (o : Option (List ℕ)) → IfSome o (λ t. is_text t ≡ true) → Parts p n (put (relabelled q date article.item o).writes M)
+    given : (article : Article) → item_in p M q.item ≡ Some article → (o : Option (List ℕ)) → IfSome o (λ t. is_text t ≡ true) → Parts p n M (put (relabelled q date article.item o).writes M)
     given article e None t = nothing p n M h
     given article e (Some text) t =
         let there = (article-there p M q.item article e).0 in
-        subst (λ (N : Map). Parts p n N) (sym (put-single (keys.Item q.item) (records.Item (record article.item { properties = text })) M))
+        subst (λ (N : Map). Parts p n M N) (sym (put-single (keys.Item q.item) (records.Item (record article.item { properties = text })) M))
         (keeps-borrower p n M h q.item article.item (record article.item { properties = text }) there
         (relabelled-item p M q.item article.item text (h.sound.at (keys.Item q.item) (records.Item article.item) there) t) refl)
 
-    by : (o : Option Article) → item_in p M q.item ≡ o → Parts p n (put (updated q date o).writes M)
+    by : (o : Option Article) → item_in p M q.item ≡ o → Parts p n M (put (updated q date o).writes M)
     by None e = nothing p n M h
     by (Some article) e = given article e q.properties fits
 
@@ -135,25 +135,25 @@ queue-right p M q i modes.Change blocked right known text made =
     (let few : length i.holds ≤ QUEUE_MAX = right.few in let same : length (with_pickup q.patron q.pickup i.holds) ≡ length i.holds = length-pickup q.patron q.pickup i.holds in omega arith)
 
 -- either of two effects, by a test
-pub either-keeps : (p : Terms) (n : ℕ) (M : Map) (b : Bool) (x y : Effect) → (b ≡ true → Parts p n (put x.writes M)) → (b ≡ false → Parts p n (put y.writes M)) → Parts p n (put (cond b x y).writes M)
+pub either-keeps : (p : Terms) (n : ℕ) (M : Map) (b : Bool) (x y : Effect) → (b ≡ true → Parts p n M (put x.writes M)) → (b ≡ false → Parts p n M (put y.writes M)) → Parts p n M (put (cond b x y).writes M)
 either-keeps p n M true x y h k = h refl
 either-keeps p n M false x y h k = k refl
 
-pub hold-keeps : (p : Terms) (n : ℕ) (q : HoldRequest) (date : List ℕ) (M : Map) → Parts p n M → is_text q.pickup ≡ true → Parts p n (put (hold p q date M).writes M)
+pub hold-keeps : (p : Terms) (n : ℕ) (q : HoldRequest) (date : List ℕ) (M : Map) → Parts p n M M → is_text q.pickup ≡ true → Parts p n M (put (hold p q date M).writes M)
 unfolding held hold_kept
 hold-keeps p n q date M h text = by (patron_in p M q.patron) refl (item_in p M q.item) refl
   where
     kept : (member : Member) (article : Article) → patron_in p M q.patron ≡ Some member → item_in p M q.item ≡ Some article → refuses_hold q.mode q.patron member.patron.blocked article.item ≡ false
-        → Parts p n (put (hold_kept p q date article.item (queue_after q article.item.holds q.mode)).writes M)
+        → Parts p n M (put (hold_kept p q date article.item (queue_after q article.item.holds q.mode)).writes M)
     kept member article e f made =
         let there = (article-there p M q.item article f).0 in
         let changed = record article.item { holds = queue_after q article.item.holds q.mode } in
-        subst (λ (N : Map). Parts p n N) (sym (put-single (keys.Item q.item) (records.Item changed) M))
+        subst (λ (N : Map). Parts p n M N) (sym (put-single (keys.Item q.item) (records.Item changed) M))
         (keeps-borrower p n M h q.item article.item changed there
         (queue-right p M q article.item q.mode member.patron.blocked (h.sound.at (keys.Item q.item) (records.Item article.item) there)
         (member-known M q.patron member.patron (member-there p M q.patron member e)) text made) refl)
 
-    by : (o : Option Member) → patron_in p M q.patron ≡ o → (a : Option Article) → item_in p M q.item ≡ a → Parts p n (put (held p q date o a).writes M)
+    by : (o : Option Member) → patron_in p M q.patron ≡ o → (a : Option Article) → item_in p M q.item ≡ a → Parts p n M (put (held p q date o a).writes M)
     by None e None f = nothing p n M h
     by None e (Some article) f = nothing p n M h
     by (Some member) e None f = nothing p n M h

@@ -3,7 +3,7 @@ use Rattle.std.proofs.Common.{◌≡◌, ◌+◌, ℕ, List, Bool, true, false, 
 use Rattle.std.specs.Prelude.{◌&&◌, is_some, nat_lt, option_map}
 use Rattle.circ_policy.specs.Terms.{Terms}
 use Rattle.circ_records.proofs.Lookups.{same-text}
-use Rattle.circ_records.specs.Coherent.{IsCoherentFee, IsCoherentMap, IsCoherentPatron, are_distinct, as_fee, as_item, as_patron, has_id, is_lent_to, is_loan_of, is_of_kind, is_owed_by}
+use Rattle.circ_records.specs.Coherent.{AreOfKind, IsCoherentFee, IsCoherentMap, IsCoherentPatron, are_distinct, as_fee, as_item, as_patron, has_id, is_lent_to, is_loan_of, is_owed_by}
 use Rattle.circ_records.specs.Values.{is_same}
 use Rattle.circ_records.specs.declared.key.Key.{Key}
 use Rattle.circ_records.specs.declared.key.Key.TheVariants as keys
@@ -17,11 +17,12 @@ use Rattle.read_set.specs.Coherence.{HasFewItems}
 use Rattle.read_set.specs.Maps.{Map}
 use Rattle.read_set.proofs.FeeNumbers.{not-later}
 use Rattle.read_set.proofs.Listing.{IsListed, owned_by, set_at}
-use Rattle.read_set.proofs.MapParts.{AreKnown, IsSound, IsSoundPatron, IsSoundRecord, at-item, debtor, fees-fee, fees-item, fees-patron, fees_of, known-itself, known-put, lent-fee, lent-item, lent-patron, lent_by, lent_item, loans-fee, loans-item, loans-patron, loans_of, borrower_of, owed-fee, owed-item, owed-patron, owed_by, owed_fee, put_one, sound-put}
+use Rattle.read_set.proofs.MapParts.{AreKnown, IsSound, IsSoundPatron, IsSoundRecord, at-item, debtor, fees-fee, fees-item, fees-patron, fees_of, kinds-put, known-itself, known-put, lent-fee, lent-item, lent-patron, lent_by, lent_item, loans-fee, loans-item, loans-patron, loans_of, borrower_of, owed-fee, owed-item, owed-patron, owed_by, owed_fee, put_one, sound-put}
 
 -- A map that others were put over: what it has by itself, and who has what in it.
 pub record State (policy : Terms) (n : ℕ) (M N : Map) (L : List ℕ → Option (List (List ℕ))) (O : List ℕ → Option (List ℕ)) (F : List ℕ → Option (List (List ℕ))) (D : List ℕ → Option (List ℕ)) : Type 0 where
   pub sound : IsSound policy n N
+  pub kinds : AreOfKind M → AreOfKind N
   pub known : AreKnown M N
   pub items : (id : List ℕ) → is_some (as_item (N (keys.Item id))) ≡ true → is_some (as_item (M (keys.Item id))) ≡ true
   pub loans : loans_of N ≡ L
@@ -30,7 +31,7 @@ pub record State (policy : Terms) (n : ℕ) (M N : Map) (L : List ℕ → Option
   pub owed : owed_by N ≡ D
 
 pub start : (policy : Terms) (n : ℕ) (M : Map) → IsSound policy n M → State policy n M M (loans_of M) (lent_by M) (fees_of M) (owed_by M)
-start policy n M h = record { sound = h; known = known-itself M; items = λ id e. e; loans = refl; lent = refl; fees = refl; owed = refl }
+start policy n M h = record { sound = h; kinds = λ k. k; known = known-itself M; items = λ id e. e; loans = refl; lent = refl; fees = refl; owed = refl }
 
 -- a patron is put
 pub put-patron : {policy : Terms} {n : ℕ} {M N : Map} {L : List ℕ → Option (List (List ℕ))} {O : List ℕ → Option (List ℕ)} {F : List ℕ → Option (List (List ℕ))} {D : List ℕ → Option (List ℕ)}
@@ -38,8 +39,9 @@ pub put-patron : {policy : Terms} {n : ℕ} {M N : Map} {L : List ℕ → Option
     → State policy n M (put_one (keys.Patron id) (records.Patron p) N) (set_at id (Some p.loans) L) O (set_at id (Some p.fees) F) D
 unfolding put_one
 put-patron {policy} {n} {M} {N} s id p right = record {
-  sound = sound-put policy n N (keys.Patron id) (records.Patron p) s.sound right;
-  known = record { at = λ q e. (known-put policy n N N (keys.Patron id) (records.Patron p) right).at q (s.known.at q e) };
+  sound = sound-put policy n N (keys.Patron id) (records.Patron p) s.sound refl right;
+  kinds = λ h. kinds-put N (keys.Patron id) (records.Patron p) refl (s.kinds h);
+  known = record { at = λ q e. (known-put N (keys.Patron id) (records.Patron p) refl).at q (s.known.at q e) };
   items = λ q e. s.items q e;
   loans = loans-patron id p N ∙ ap (set_at id (Some p.loans)) s.loans;
   lent = lent-patron id (records.Patron p) N ∙ s.lent;
@@ -57,8 +59,9 @@ pub put-item : {policy : Terms} {n : ℕ} {M N : Map} {L : List ℕ → Option (
     → State policy n M N L O F D → (id : List ℕ) (i : Item) → IsSoundRecord policy n N (keys.Item id) (records.Item i) → is_some (as_item (M (keys.Item id))) ≡ true
     → State policy n M (put_one (keys.Item id) (records.Item i) N) L (set_at id (borrower_of i.loan) O) F D
 put-item {policy} {n} {M} {N} s id i right there = record {
-  sound = sound-put policy n N (keys.Item id) (records.Item i) s.sound right;
-  known = record { at = λ q e. (known-put policy n N N (keys.Item id) (records.Item i) right).at q (s.known.at q e) };
+  sound = sound-put policy n N (keys.Item id) (records.Item i) s.sound refl right;
+  kinds = λ h. kinds-put N (keys.Item id) (records.Item i) refl (s.kinds h);
+  known = record { at = λ q e. (known-put N (keys.Item id) (records.Item i) refl).at q (s.known.at q e) };
   items = λ q e. old q (subst (λ (o : Option Record). is_some (as_item o) ≡ true) (at-item id (records.Item i) N q) e);
   loans = loans-item id (records.Item i) N ∙ s.loans;
   lent = lent-item id i N ∙ ap (set_at id (borrower_of i.loan)) s.lent;
@@ -75,8 +78,9 @@ pub put-fee : {policy : Terms} {n : ℕ} {M N : Map} {L : List ℕ → Option (L
     → State policy n M (put_one (keys.Fee id) (records.Fee f) N) L O F (set_at id (debtor f) D)
 unfolding put_one
 put-fee {policy} {n} {M} {N} s id f right = record {
-  sound = sound-put policy n N (keys.Fee id) (records.Fee f) s.sound right;
-  known = record { at = λ q e. (known-put policy n N N (keys.Fee id) (records.Fee f) right).at q (s.known.at q e) };
+  sound = sound-put policy n N (keys.Fee id) (records.Fee f) s.sound refl right;
+  kinds = λ h. kinds-put N (keys.Fee id) (records.Fee f) refl (s.kinds h);
+  known = record { at = λ q e. (known-put N (keys.Fee id) (records.Fee f) refl).at q (s.known.at q e) };
   items = λ q e. s.items q e;
   loans = loans-fee id (records.Fee f) N ∙ s.loans;
   lent = lent-fee id (records.Fee f) N ∙ s.lent;
@@ -86,17 +90,20 @@ put-fee {policy} {n} {M} {N} s id f right = record {
 
 -- COHERENT RECORDS
 
-pub record Parts (policy : Terms) (n : ℕ) (M : Map) : Type 0 where
-  pub sound : IsSound policy n M
-  pub few : HasFewItems M
-  pub loans : IsListed (loans_of M) (lent_by M)
-  pub fees : IsListed (fees_of M) (owed_by M)
+-- what was put over M left N so
+pub record Parts (policy : Terms) (n : ℕ) (M N : Map) : Type 0 where
+  pub sound : IsSound policy n N
+  pub kinds : AreOfKind M → AreOfKind N
+  pub few : HasFewItems N
+  pub loans : IsListed (loans_of N) (lent_by N)
+  pub fees : IsListed (fees_of N) (owed_by N)
 
 -- what is put over records leaves them coherent where the lists agree in the end
 pub ends : {policy : Terms} {n : ℕ} {M N : Map} {L : List ℕ → Option (List (List ℕ))} {O : List ℕ → Option (List ℕ)} {F : List ℕ → Option (List (List ℕ))} {D : List ℕ → Option (List ℕ)}
-    → State policy n M N L O F D → HasFewItems M → IsListed L O → IsListed F D → Parts policy n N
+    → State policy n M N L O F D → HasFewItems M → IsListed L O → IsListed F D → Parts policy n M N
 ends {N = N} {L = L} {O = O} {F = F} {D = D} s few loans fees = record {
   sound = s.sound;
+  kinds = s.kinds;
   few = (few.0, few.1, λ id e. few.2 id (s.items id e));
   loans = subst (λ (x : List ℕ → Option (List ℕ)). IsListed (loans_of N) x) (sym s.lent) (subst (λ (x : List ℕ → Option (List (List ℕ))). IsListed x O) (sym s.loans) loans);
   fees = subst (λ (x : List ℕ → Option (List ℕ)). IsListed (fees_of N) x) (sym s.owed) (subst (λ (x : List ℕ → Option (List (List ℕ))). IsListed x D) (sym s.fees) fees);
@@ -139,17 +146,6 @@ owing id (Some f) = by (nat_lt f.paid f.amount) (is_same id f.patron) refl
     by false true e = refl
     by false false e = refl
 
-of-kind : (policy : Terms) (n : ℕ) (M : Map) (k : Key) (r : Record) → IsSoundRecord policy n M k r → is_of_kind k r ≡ true
-of-kind policy n M (keys.Patron id) (records.Patron p) h = refl
-of-kind policy n M (keys.Item id) (records.Item i) h = refl
-of-kind policy n M (keys.Fee id) (records.Fee f) h = refl
-of-kind policy n M (keys.Patron id) (records.Item i) h = absurd h
-of-kind policy n M (keys.Patron id) (records.Fee f) h = absurd h
-of-kind policy n M (keys.Item id) (records.Patron p) h = absurd h
-of-kind policy n M (keys.Item id) (records.Fee f) h = absurd h
-of-kind policy n M (keys.Fee id) (records.Patron p) h = absurd h
-of-kind policy n M (keys.Fee id) (records.Item i) h = absurd h
-
 pub loans-at : (M : Map) (id : List ℕ) (p : Patron) → M (keys.Patron id) ≡ Some (records.Patron p) → loans_of M id ≡ Some p.loans
 unfolding loans_of
 loans-at M id p e = ap (λ o. option_map (λ (q : Patron). q.loans) (as_patron o)) e
@@ -167,9 +163,8 @@ unfolding owed_by
 owed-is M id fee = owing id (as_fee (M (keys.Fee fee)))
 
 -- records whose parts are right are coherent
-pub coherent-parts : (policy : Terms) (n : ℕ) (M : Map) → Parts policy n M → IsCoherentMap policy n M
-coherent-parts policy n M h = record {
-  kinds = λ k r e. of-kind policy n M k r (h.sound.at k r e);
+pub coherent-parts : (policy : Terms) (n : ℕ) (N M : Map) → Parts policy n N M → IsCoherentMap policy n M
+coherent-parts policy n N M h = record {
   patrons = λ id p e. patron id p (patron-is (M (keys.Patron id)) p e);
   items = λ id i e. h.sound.at (keys.Item id) (records.Item i) (item-is (M (keys.Item id)) i e);
   fees = λ id f e. h.sound.at (keys.Fee id) (records.Fee f) (fee-is (M (keys.Fee id)) f e);
@@ -192,16 +187,16 @@ coherent-parts policy n M h = record {
 later-fee : (n : ℕ) (M : Map) (id : List ℕ) (f : Fee) → IsCoherentFee n M id f → IsCoherentFee (n + 1) M id f
 later-fee n M id f h = record { id_text = h.id_text; patron = h.patron; paid = h.paid; amount = h.amount; number = not-later n id h.number }
 
-sound-map : (policy : Terms) (n : ℕ) (M : Map) → IsCoherentMap policy n M → (k : Key) (r : Record) → M k ≡ Some r → is_of_kind k r ≡ true → IsSoundRecord policy (n + 1) M k r
-sound-map policy n M h (keys.Patron id) (records.Patron p) e kind = let c : IsCoherentPatron policy M id p = h.patrons id p (ap as_patron e) in record { id_text = c.id_text; name = c.name; class = c.class }
-sound-map policy n M h (keys.Item id) (records.Item i) e kind = h.items id i (ap as_item e)
-sound-map policy n M h (keys.Fee id) (records.Fee f) e kind = later-fee n M id f (h.fees id f (ap as_fee e))
-sound-map policy n M h (keys.Patron id) (records.Item i) e kind = cc kind
-sound-map policy n M h (keys.Patron id) (records.Fee f) e kind = cc kind
-sound-map policy n M h (keys.Item id) (records.Patron p) e kind = cc kind
-sound-map policy n M h (keys.Item id) (records.Fee f) e kind = cc kind
-sound-map policy n M h (keys.Fee id) (records.Patron p) e kind = cc kind
-sound-map policy n M h (keys.Fee id) (records.Item i) e kind = cc kind
+sound-map : (policy : Terms) (n : ℕ) (M : Map) → IsCoherentMap policy n M → (k : Key) (r : Record) → M k ≡ Some r → IsSoundRecord policy (n + 1) M k r
+sound-map policy n M h (keys.Patron id) (records.Patron p) e = let c : IsCoherentPatron policy M id p = h.patrons id p (ap as_patron e) in record { id_text = c.id_text; name = c.name; class = c.class }
+sound-map policy n M h (keys.Item id) (records.Item i) e = h.items id i (ap as_item e)
+sound-map policy n M h (keys.Fee id) (records.Fee f) e = later-fee n M id f (h.fees id f (ap as_fee e))
+sound-map policy n M h (keys.Patron id) (records.Item i) e = tt
+sound-map policy n M h (keys.Patron id) (records.Fee f) e = tt
+sound-map policy n M h (keys.Item id) (records.Patron p) e = tt
+sound-map policy n M h (keys.Item id) (records.Fee f) e = tt
+sound-map policy n M h (keys.Fee id) (records.Patron p) e = tt
+sound-map policy n M h (keys.Fee id) (records.Item i) e = tt
 
 of-patron : {A : Type 0} (f : Patron → A) (o : Option Record) (x : A) → option_map f (as_patron o) ≡ Some x → (p : Patron) × (as_patron o ≡ Some p) × (f p ≡ x)
 of-patron f None x e = cc e
@@ -227,9 +222,10 @@ fees-listed policy n M h = record {
   once = λ id list e. let f = of-patron (λ (q : Patron). q.fees) (M (keys.Patron id)) list e in ap are_distinct (sym f.2) ∙ (h.patrons id f.0 f.1).fees_once;
 }
 
-pub parts-later : (policy : Terms) (n : ℕ) (M : Map) → IsCoherentMap policy n M → HasFewItems M → Parts policy (n + 1) M
+pub parts-later : (policy : Terms) (n : ℕ) (M : Map) → IsCoherentMap policy n M → HasFewItems M → Parts policy (n + 1) M M
 parts-later policy n M h few = record {
-  sound = record { at = λ k r e. sound-map policy n M h k r e (h.kinds k r e) };
+  sound = record { at = λ k r e. sound-map policy n M h k r e };
+  kinds = λ kinds. kinds;
   few = few;
   loans = loans-listed policy n M h;
   fees = fees-listed policy n M h;

@@ -9,7 +9,7 @@ use Rattle.circ_records.specs.Base.{base_of}
 use Rattle.circ_records.specs.Laws.{AreRising}
 use Rattle.circ_records.specs.Written.{tables_of}
 use Rattle.circ_records.specs.declared.key.Key.{Key}
-use Rattle.circ_records.specs.Coherent.{Coherent, IsCoherentMap, as_item, has_id, number_before}
+use Rattle.circ_records.specs.Coherent.{AreOfKind, Coherent, IsCoherentMap, as_item, has_id, number_before}
 use Rattle.circ_records.specs.Records.{Entries, record_at}
 use Rattle.circ_records.specs.declared.key.Key.TheVariants as keys
 use Rattle.journal_table.specs.Entry.{Entry, first_number}
@@ -47,10 +47,10 @@ FitsReading r = Unit {0}
 abbrev pub HasFewItems : Map → Type 0
 HasFewItems M = (ids : List (List ℕ)) × (length ids ≤ 2 ^ 64) × ((id : List ℕ) → is_some (as_item (M (keys.Item id))) ≡ true → has_id id ids ≡ true)
 
--- line n takes records that are coherent before it to such that are coherent before line n + 1
+-- line n takes records that are coherent before it to such that are coherent before line n + 1; where each is of its key's kind, it leaves each so
 abbrev pub MeaningKeepsCoherence : Type 0
 MeaningKeepsCoherence = (policy : Terms) (n : ℕ) (r : Reading) (M : Map) → FitsPolicy policy → FitsReading r → n ≤ line_number_max
-    → HasFewItems M → IsCoherentMap policy n M → IsCoherentMap policy (n + 1) (one policy n r M).0 × HasFewItems (one policy n r M).0
+    → HasFewItems M → IsCoherentMap policy n M → IsCoherentMap policy (n + 1) (one policy n r M).0 × HasFewItems (one policy n r M).0 × (AreOfKind M → AreOfKind (one policy n r M).0)
 
 -- what a plan's type keeps: it is made of what fits, on a base that is coherent at the number of its first line and that a memory holds, and no line has
 -- a number of more than ten digits
@@ -61,9 +61,10 @@ pub record FitsPlan (plan : Planned) : Type 0 where
   pub few : length plan.base ≤ 2 ^ 64
   pub last : plan.first + length plan.readings ≤ line_number_end
 
--- the records before each line, and behind the last one, are coherent there
+-- the records before each line, and behind the last one, are coherent there; the last ones are of their keys' kinds where those of the base are
 pub record StaysCoherent (plan : Planned) : Type 0 where
   pub before : (line : ℕ) → plan.first ≤ line → line ≤ plan.first + length plan.readings → IsCoherentMap plan.policy line (before plan line)
+  pub kinds : AreOfKind (record_at plan.base) → AreOfKind (last plan)
   pub last : IsCoherentMap plan.policy (plan.first + length plan.readings) (last plan)
 
 -- so do those of a replay
@@ -78,5 +79,5 @@ ReadPlansStayCoherent base = (text bytes : List ℕ) (policy : Terms) (lines : L
 -- and then the six final tables, which tell the records after the last line, are read again as these records, as a base before a journal without lines
 abbrev pub FinalTablesReadBack : Entries → Type 0
 FinalTablesReadBack base = (text bytes : List ℕ) (policy : Terms) (lines : List Entry) → policy_of text ≡ Ok policy → journal_of bytes ≡ Ok lines
-    → Coherent policy (number_before (first_number lines)) base
+    → Coherent policy (number_before (first_number lines)) base → AreOfKind (record_at base)
     → (entries : Entries) → AreRising entries → ((k : Key) → record_at entries k ≡ last (plan_of policy base lines) k) → base_of policy (tables_of entries) None ≡ Ok entries

@@ -1,13 +1,13 @@
 //! Notes as sources of records: those that stand, and those that grow by what is looked at.
 
-ghost use Rattle.std.specs.Prelude.{◌≡◌, None};
+ghost use Rattle.std.specs.Prelude.{◌≡◌, None, ⊤};
 ghost use Rattle.read_set.specs.Asks.{follow, Ask, Give, Gains};
 ghost use Rattle.read_set.specs.Notes.{note_of, noted};
 ghost use Rattle.read_set.specs.Stops.{Follows};
 
 use crate::found::NotedRecord;
 use crate::notes::{Name, Note, Notes};
-use crate::source::{Source, Stop};
+use crate::source::{OneByOne, Source, Stop};
 use circ_records::{KeptKey, Key, Record};
 use std::alloc::{AllocError, Global};
 use std::marker::{Brand, PhantomData};
@@ -52,6 +52,8 @@ impl<N: NotesName> Source for NotesSource<'_, N> {
 
     ghost has = { λ s. noted N.notes };
 
+    ghost one_by_one = { ⊤ };
+
     #[tactic(auto, using(crate::proofs::Gaining::gains_none))]
     fn read(&mut self, alloc: Global, key: &Key) -> Result<Option<Record>, Stop> {
         match self.notes.get(key) {
@@ -83,6 +85,8 @@ impl<L: Looks> Source for Noting<L> {
 
     ghost has = { λ s. noted s.notes };
 
+    ghost one_by_one = { ⊤ };
+
     #[tactic(auto, using(crate::proofs::Gaining::gains_none))]
     fn read(&mut self, alloc: Global, key: &Key) -> Result<Option<Record>, Stop> {
         match self.notes.get(key) {
@@ -90,6 +94,11 @@ impl<L: Looks> Source for Noting<L> {
             None => look_for(alloc, &mut self.notes, &mut self.looks, key),
         }
     }
+}
+
+/// It notes nothing but what it is asked for.
+impl<L: Looks> OneByOne for Noting<L> {
+    ghost fetches = { tt };
 }
 
 /// Looks for a record, notes it and gives it.
@@ -102,7 +111,7 @@ fn look_for<L: Looks>(
 ) -> Result<Option<Record>, Stop>
     requires { note_of notes.old key.now ≡ None }
     ensures gives { Follows result (follow (noted notes.new) (Ask key.now Give)) }
-    ensures keeps { Gains (noted notes.old) (noted notes.new) (Ask key.now Give) }
+    ensures keeps { Gains ⊤ (noted notes.old) (noted notes.new) (Ask key.now Give) }
 {
     let Some(seen) = looks.look(alloc, key)? else {
         return Err(Stop::Unnoted(KeptKey::new(alloc, key)?));
@@ -122,7 +131,7 @@ fn note_found(
 ) -> Result<Option<Record>, Stop>
     requires { note_of notes.old key.now ≡ None }
     ensures gives { Follows result (follow (noted notes.new) (Ask key.now Give)) }
-    ensures keeps { Gains (noted notes.old) (noted notes.new) (Ask key.now Give) }
+    ensures keeps { Gains ⊤ (noted notes.old) (noted notes.new) (Ask key.now Give) }
 {
     let found = NotedRecord::new(found);
     let copy = found.record()?;

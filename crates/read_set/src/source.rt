@@ -30,21 +30,24 @@ impl From<AllocError> for Stop {
     }
 }
 
-/// Where the meaning of a line reads the records that it asks for. It may come to have what is read, keeps what it has,
-/// and has nothing else anew.
+/// Where the meaning of a line reads the records that it asks for. It gives at a key what it has there, and keeps what it has. It may come to
+/// have more, also at keys that nobody asked for, as one that fetches a page of records at once.
 pub trait Source {
     /// What it has at each key: nothing, or the record there, or that there is none.
     ghost has: { Self → Key → Option (Option Record) };
 
+    /// What holds where it comes to have nothing but what it is asked for. A source that has to promise so is `OneByOne`.
+    ghost one_by_one: { Type 0 };
+
     /// The record at a key, or that there is none; a stop where the source has nothing there.
     fn read(&mut self, alloc: Global, key: &Key) -> Result<Option<Record>, Stop>
         ensures gives { Follows result (follow (has self.new) (Ask key.now Give)) }
-        ensures keeps { Gains (has self.old) (has self.new) (Ask key.now Give) };
+        ensures keeps { Gains one_by_one (has self.old) (has self.new) (Ask key.now Give) };
 
     /// The same of a patron, by its id as it is kept. A source that finds it so makes no key of it.
     fn read_patron(&mut self, alloc: Global, id: &KeptId) -> Result<Option<Record>, Stop>
         ensures gives { Follows result (follow (has self.new) (Ask (keys.Patron id.now) Give)) }
-        ensures keeps { Gains (has self.old) (has self.new) (Ask (keys.Patron id.now) Give) }
+        ensures keeps { Gains one_by_one (has self.old) (has self.new) (Ask (keys.Patron id.now) Give) }
     {
         self.read(alloc, &Key::Patron(id.id()))
     }
@@ -52,8 +55,13 @@ pub trait Source {
     /// The same of an item.
     fn read_item(&mut self, alloc: Global, id: &KeptId) -> Result<Option<Record>, Stop>
         ensures gives { Follows result (follow (has self.new) (Ask (keys.Item id.now) Give)) }
-        ensures keeps { Gains (has self.old) (has self.new) (Ask (keys.Item id.now) Give) }
+        ensures keeps { Gains one_by_one (has self.old) (has self.new) (Ask (keys.Item id.now) Give) }
     {
         self.read(alloc, &Key::Item(id.id()))
     }
+}
+
+/// A source that comes to have nothing but what it is asked for.
+pub trait OneByOne: Source {
+    ghost fetches: { Self.one_by_one };
 }

@@ -4,36 +4,31 @@ use Rattle.std.specs.BTreeMap.{is_at}
 use Rattle.std.specs.FinMap as fin
 use Rattle.std.specs.List.{flat_map, list_any, range_with_len}
 use Rattle.std.specs.Map.{lookup}
-use Rattle.std.specs.Option.{is_some, option_or}
+use Rattle.std.specs.Prelude.{get_or, if◌then◌else◌, nat_lt, slice_get}
+use Rattle.std.specs.Option.{is_some}
 use Rattle.std.proofs.lemmas.List.Folds.{list_any-append}
+use Rattle.std.proofs.lemmas.Bool.Decides.{nat_tests}
+use Rattle.std.proofs.lemmas.Option.{slice_get_past}
 use Rattle.std.proofs.lemmas.List.FromFn.{map-range_with_len_more}
 use Rattle.circ_records.specs.Keys.{key_cmp}
 use Rattle.circ_records.specs.Records.{Entries, record_at}
 use Rattle.circ_records.specs.declared.key.Key.{Key}
-use Rattle.circ_records.specs.declared.record.Record.{Record}
 use Rattle.sip_reader.specs.declared.request.Reading.{Reading}
-use Rattle.journal_table.specs.Entry.{Entry}
 use Rattle.sip_answer.specs.declared.answer.Answer.{Answer}
 use Rattle.board_steps.specs.Board.{Board, IsCommitted, State, entry, entry_over, row_at}
 use Rattle.board_steps.specs.Board.State.{Waiting, Running, Placing, Done, Checking, Committed}
 use Rattle.board_steps.specs.Reached.{Reached}
 use Rattle.board_steps.proofs.Histories.{committed_ok}
 use Rattle.read_set.specs.Maps.{Map}
-use Rattle.read_set.specs.Meaning.{effect}
 use Rattle.read_set.specs.Plans.{Planned, reading_at}
 use Rattle.read_set.specs.Replay.{after, answer_of, before, last, one_at, one_by}
 use Rattle.speculate.specs.BoardEnds.{entered_on}
 use Rattle.result_report.specs.Ends.{AreRecordsAt, keys_named, lines_keys, named_keys, numbers_of, only_at}
-use Rattle.result_report.specs.Report.{line_results}
-use Rattle.result_report.specs.Tables.{AreTexts}
-use Rattle.result_report.specs.declared.outcome.Outcome.{Outcome}
 use Rattle.speculate.specs.Finishing.{IsWhole}
 use Rattle.version_store.specs.Entries.{Shown}
 use Rattle.replay_run.specs.Answers.{answers_of, first_answers}
 use Rattle.replay_run.specs.Entries.{AreEntries}
-use Rattle.replay_run.specs.OneThread.{IsOutput, results_of}
-use Rattle.replay_run.specs.OwnEnd.{IsAlone, IsCollectedAlone, IsMadeOf, entered_alone, written_by}
-use Rattle.replay_run.specs.declared.inputs.Output.{Output}
+use Rattle.replay_run.specs.ReplayEnd.{ChangeThere, entered_at, keys_at}
 
 -- the position of a line is its number's
 place_back : (plan : Planned) (n : ℕ) → plan.first + n - plan.first ≡ n
@@ -75,7 +70,7 @@ none_each p f a (suc n) none (suc i) lt =
     ∙ none_each p f (a + 1) n
     (or_right (list_any p (f a)) (list_any p (flat_map f (range_with_len (a + 1) n))) (sym (list_any-append p (f a) (flat_map f (range_with_len (a + 1) n))) ∙ none)) i (omega arith)
 
-unfound : {X : Type 0} (p : Key → Bool) (entries : List (Key × X)) → list_any p (map (λ e. e.0) entries) ≡ false → lookup p entries ≡ None
+pub unfound : {X : Type 0} (p : Key → Bool) (entries : List (Key × X)) → list_any p (map (λ e. e.0) entries) ≡ false → lookup p entries ≡ None
 unfound p [] none = refl
 unfound p (e ∷ entries) none =
     ap (λ b. cond b (Some e.1) (lookup p entries)) (or_left (p e.0) (list_any p (map (λ x. x.0) entries)) none)
@@ -88,10 +83,6 @@ is_none (Some x) e = absurd (cc e)
 keys_shown : (entries : List (Key × Shown)) → keys_named (map (λ e. (e.0, e.1.attempt)) entries) ≡ map (λ e. e.0) entries
 keys_shown [] = refl
 keys_shown (e ∷ entries) = ap (λ (ks : List Key). e.0 ∷ ks) (keys_shown entries)
-
-keys_written : (writes : Entries) → keys_named (map (λ (w : Key × Record). (w.0, 0)) writes) ≡ map (λ w. w.0) writes
-keys_written [] = refl
-keys_written (w ∷ writes) = ap (λ (ks : List Key). w.0 ∷ ks) (keys_written writes)
 
 -- a key that isn't among those of a line has no entry of it
 no_entry : (b : Board) (line : ℕ) (k : Key) → list_any (is_at (key_cmp k)) (keys_named (entered_on b line)) ≡ false → entry (row_at b line) k ≡ None
@@ -156,43 +147,93 @@ module _ (plan : Planned) (b : Board) (reached : Reached plan b) (whole : IsWhol
   records_named entries at = all_named plan (entered_on b) kept_by entries at
 
 -- ---- the end of one thread
--- a line writes nothing at a key that isn't among those of its writes
-kept_line : (plan : Planned) (line : ℕ) (r : Option Reading) (M : Map) (k : Key) → list_any (is_at (key_cmp k)) (keys_named (written_by plan line r M)) ≡ false → M k ≡ (one_by plan line r M).0 k
-kept_line plan line None M k none = refl
-kept_line plan line (Some r) M k none =
-    ap (λ found. option_or found (M k)) (sym (unfound (is_at (key_cmp k)) (effect plan.policy line r M).writes (sym (ap (list_any (is_at (key_cmp k))) (keys_written (effect plan.policy line r M).writes)) ∙ none)))
+module _ (plan : Planned) (written : List (List Key)) where
+  keys_only : (keys : List Key) → keys_named (map (λ (key : Key). (key, 0)) keys) ≡ keys
+  keys_only [] = refl
+  keys_only (key ∷ keys) = ap (λ (ks : List Key). key ∷ ks) (keys_only keys)
 
-kept_alone : (plan : Planned) (n : ℕ) → n < length plan.readings → (k : Key) → list_any (is_at (key_cmp k)) (keys_named (entered_alone plan (plan.first + n))) ≡ false → after plan n k ≡ after plan (suc n) k
-kept_alone plan n lt k none =
-    let same : before plan (plan.first + n) ≡ after plan n = ap (after plan) (place_back plan n) in
-    kept_line plan (plan.first + n) (reading_at plan (plan.first + n)) (after plan n) k
-    (ap (λ M. list_any (is_at (key_cmp k)) (keys_named (written_by plan (plan.first + n) (reading_at plan (plan.first + n)) M))) (sym same) ∙ none)
+  not_before : (n : ℕ) → nat_lt (plan.first + n) plan.first ≡ false
+  not_before n = grind (arith, nat_tests)
 
-all_zero : (a n : ℕ) → map {B = ℕ} (λ (line : ℕ). 0) (range_with_len a n) ≡ replicate n 0
+  -- the keys of the line at a place, by its number
+  pub entered_there : (n : ℕ) → entered_at plan.first written (plan.first + n) ≡ map (λ key. (key, 0)) (keys_at written n)
+  entered_there n =
+      ap (λ t. if t then [] else map (λ (key : Key). (key, 0)) (keys_at written (plan.first + n - plan.first))) (not_before n)
+      ∙ ap (λ m. map (λ (key : Key). (key, 0)) (keys_at written m)) (place_back plan n)
+
+  kept_alone : ChangeThere plan (length plan.readings) written
+      → (n : ℕ) → n < length plan.readings → (k : Key) → list_any (is_at (key_cmp k)) (keys_named (entered_at plan.first written (plan.first + n))) ≡ false → after plan n k ≡ after plan (suc n) k
+  kept_alone there n lt k none =
+      there n lt k (sym (ap (λ entries. list_any (is_at (key_cmp k)) (keys_named entries)) (entered_there n) ∙ ap (list_any (is_at (key_cmp k))) (keys_only (keys_at written n))) ∙ none)
+
+  -- what is collected of it is all that the replay leaves, and all that it leaves would be collected
+  pub collected_alone : ChangeThere plan (length plan.readings) written → (entries : Entries) → AreRecordsAt (named_keys plan (entered_at plan.first written)) (last plan) entries → AreEntries (last plan) entries
+  collected_alone there entries at = all_named plan (entered_at plan.first written) (kept_alone there) entries at
+
+  pub lent_alone : ChangeThere plan (length plan.readings) written → (entries : Entries) → AreEntries (last plan) entries → AreRecordsAt (named_keys plan (entered_at plan.first written)) (last plan) entries
+  lent_alone there entries at = named_all plan (entered_at plan.first written) (kept_alone there) entries at
+
+pub all_zero : (a n : ℕ) → map {B = ℕ} (λ (line : ℕ). 0) (range_with_len a n) ≡ replicate n 0
 all_zero a zero = refl
 all_zero a (suc n) = ap (λ (more : List ℕ). 0 ∷ more) (all_zero (a + 1) n)
 
--- what is collected of it, and what it has
-pub collected_alone : (plan : Planned) (o : Outcome) → IsCollectedAlone plan o → IsAlone plan o
-collected_alone plan o c = record {
-  answers = c.answers ∙ answers_by_number plan;
-  attempts = c.attempts ∙ all_zero plan.first (length plan.readings);
-  records = all_named plan (entered_alone plan) (kept_alone plan) o.records c.records;
-}
+-- what a line that isn't there answers, and what one that is there
+no_line : (plan : Planned) (line : ℕ) (r : Option Reading) → r ≡ None → None ≡ (one_by plan line r (before plan line)).1
+no_line plan line None e = refl
+no_line plan line (Some r) e = absurd (cc e)
 
-pub alone_collected : (plan : Planned) (o : Outcome) → IsAlone plan o → IsCollectedAlone plan o
-alone_collected plan o a = record {
-  answers = a.answers ∙ sym (answers_by_number plan);
-  attempts = a.attempts ∙ sym (all_zero plan.first (length plan.readings));
-  records = named_all plan (entered_alone plan) (kept_alone plan) o.records a.records;
-}
+pub unanswered_before : (plan : Planned) (line : ℕ) → line < plan.first → None ≡ answer_of plan line
+unanswered_before plan line lt =
+    let e : nat_lt line plan.first ≡ true = grind (arith, nat_tests) in
+    no_line plan line (reading_at plan line) (ap (λ t. if t then None else slice_get plan.readings (line - plan.first)) e)
 
-pub output_alone : (plan : Planned) (lines : List Entry) (c : Outcome) (o : Output) → IsCollectedAlone plan c → IsMadeOf plan lines c o → IsOutput plan lines o
-output_alone plan lines c o collected made =
-    let alone = collected_alone plan c collected in
-    record {
-      tables = (c.records, alone.records, made.tables);
-      results = subst (λ answers. AreTexts (line_results lines plan.readings answers) (results_of o)) alone.answers made.results;
-      each_once = made.each_once;
-      attempts = made.attempts ∙ alone.attempts;
-    }
+pub unanswered_past : (plan : Planned) (line : ℕ) → plan.first ≤ line → length plan.readings ≤ line - plan.first → None ≡ answer_of plan line
+unanswered_past plan line le past =
+    let e : nat_lt line plan.first ≡ false = grind (arith, nat_tests) in
+    no_line plan line (reading_at plan line)
+    (ap (λ t. if t then None else slice_get plan.readings (line - plan.first)) e ∙ slice_get_past plan.readings (line - plan.first) past)
+
+get_mapped : (f : ℕ → Option Answer) (a n i : ℕ) (x : Option Answer) → Some x ≡ slice_get (map f (range_with_len a n)) i → x ≡ f (a + i)
+get_mapped f a zero i x e = absurd (cc e)
+get_mapped f a (suc n) zero x e = let at : a + 0 ≡ a = omega arith in let same : x ≡ f a = cc e in same ∙ ap f (sym at)
+get_mapped f a (suc n) (suc i) x e = let at : a + 1 + i ≡ a + suc i = omega arith in get_mapped f (a + 1) n i x e ∙ ap f at
+
+none_mapped : (f : ℕ → Option Answer) (a n i : ℕ) → None ≡ slice_get (map f (range_with_len a n)) i → n ≤ i
+none_mapped f a zero i e = omega arith
+none_mapped f a (suc n) zero e = absurd (cc e)
+none_mapped f a (suc n) (suc i) e = let h = none_mapped f (a + 1) n i e in omega (arith, h)
+
+pub answered_there : (plan : Planned) (line : ℕ) → plan.first ≤ line → (x : Option Answer) → Some x ≡ slice_get (answers_of plan) (line - plan.first) → x ≡ answer_of plan line
+answered_there plan line le x e =
+    let at : plan.first + (line - plan.first) ≡ line = omega (arith, le) in
+    get_mapped (answer_of plan) plan.first (length plan.readings) (line - plan.first) x (e ∙ ap (λ (given : List (Option Answer)). slice_get given (line - plan.first)) (sym (answers_by_number plan)))
+    ∙ ap (answer_of plan) at
+
+pub unanswered_there : (plan : Planned) (line : ℕ) → plan.first ≤ line → None ≡ slice_get (answers_of plan) (line - plan.first) → None ≡ answer_of plan line
+unanswered_there plan line le e =
+    unanswered_past plan line le
+    (none_mapped (answer_of plan) plan.first (length plan.readings) (line - plan.first) (e ∙ ap (λ (given : List (Option Answer)). slice_get given (line - plan.first)) (sym (answers_by_number plan))))
+
+-- no answer past the last position
+pub unanswered_index : (plan : Planned) (given : List (Option Answer)) (line first : ℕ) → given ≡ answers_of plan → first ≡ plan.first → first ≤ line
+    → false ≡ nat_lt (line - first) (length given) → None ≡ answer_of plan line
+unanswered_index plan given line first all start le past =
+    let from : plan.first ≤ line = omega (arith, start, le) in
+    let place : line - first ≡ line - plan.first = ap (λ n. line - n) start in
+    let after : length given ≤ line - first = grind (arith, nat_tests) in
+    unanswered_there plan line from
+    (sym (slice_get_past given (line - first) after) ∙ ap (λ n. slice_get given n) place ∙ ap (λ (ans : List (Option Answer)). slice_get ans (line - plan.first)) all)
+
+-- the answer at a line's position
+pub answered_index : (plan : Planned) (given : List (Option Answer)) (line first : ℕ) (x : Option Answer) → given ≡ answers_of plan → first ≡ plan.first → first ≤ line
+    → true ≡ nat_lt (line - first) (length given) → x ≡ get_or given (line - first) x → x ≡ answer_of plan line
+answered_index plan given line first x all start le lt is =
+    let from : plan.first ≤ line = omega (arith, start, le) in
+    let place : line - first ≡ line - plan.first = ap (λ n. line - n) start in
+    let within : line - first < length given = grind (arith, nat_tests) in
+    answered_there plan line from x (at_index given (line - first) x within is ∙ ap (λ n. slice_get given n) place ∙ ap (λ (ans : List (Option Answer)). slice_get ans (line - plan.first)) all)
+  where
+    at_index : (xs : List (Option Answer)) (i : ℕ) (x : Option Answer) → i < length xs → x ≡ get_or xs i x → Some x ≡ slice_get xs i
+    at_index [] i x lt is = absurd (omega (arith, lt))
+    at_index (y ∷ xs) zero x lt is = ap (λ (z : Option Answer). Some z) is
+    at_index (y ∷ xs) (suc i) x lt is = at_index xs i x (omega (arith, lt)) is

@@ -4,3 +4,5 @@ mod Fitting
 mod Answered
 mod Ended
 mod Stepping
+mod Spans
+mod Copying

@@ -1,35 +1,62 @@
 -- The first lines, replayed.
-use Rattle.std.proofs.Common.{◌≡◌, ◌∙◌, ℕ, suc, ◌+◌, List, [], ◌∷◌, ◌++◌, Option, Some, None, arith, ap, refl, subst}
+use Rattle.std.proofs.Common.{◌≡◌, ◌∙◌, ◌<◌, ◌≤◌, ◌⊎◌, inl, inr, ℕ, zero, suc, ◌+◌, false, List, [], ◌∷◌, ◌++◌, length, Option, Some, None, arith, ap, refl, sym, subst}
+use Rattle.std.specs.BTreeMap.{is_at}
+use Rattle.std.specs.List.{list_any}
+use Rattle.std.proofs.lemmas.Bool.{cases_lt}
+use Rattle.circ_records.specs.Keys.{key_cmp}
 use Rattle.circ_records.specs.declared.key.Key.{Key}
 use Rattle.sip_answer.specs.declared.answer.Answer.{Answer}
 use Rattle.read_set.specs.Maps.{Map}
-use Rattle.circ_records.specs.Records.{Entries}
-use Rattle.sip_reader.specs.declared.request.Reading.{Reading}
-use Rattle.read_set.specs.Plans.{Planned, plan_over, reading_at}
-use Rattle.read_set.specs.Replay.{after, one_at, one_by}
+use Rattle.read_set.specs.Plans.{Planned}
+use Rattle.read_set.specs.Replay.{after, one_at}
 use Rattle.replay_run.specs.Answers.{first_answers}
+use Rattle.replay_run.specs.ReplayEnd.{ChangeThere, keys_at}
 
--- the records as they stand and the answers so far are those of the first lines
-pub record Replayed (plan : Planned) (n : ℕ) (M : Map) (given : List (Option Answer)) : Type 0 where
+-- the records as they stand, the answers so far and the keys that were written are those of the first lines
+pub record SoFar (plan : Planned) (n : ℕ) (M : Map) (given : List (Option Answer)) (written : List (List Key)) : Type 0 where
   pub answers : given ≡ first_answers plan n
   pub records : (k : Key) → M k ≡ after plan n k
+  pub lines : length written ≡ n
+  pub changes : ChangeThere plan n written
+
+-- the keys of the lines before, and of the last
+keys-before : (written : List (List Key)) (keys : List Key) (m : ℕ) → m < length written → keys_at (written ++ keys ∷ []) m ≡ keys_at written m
+keys-before [] keys m lt = absurd (omega (arith, lt))
+keys-before (ks ∷ written) keys zero lt = refl
+keys-before (ks ∷ written) keys (suc m) lt = keys-before written keys m (omega (arith, lt))
+
+keys-last : (written : List (List Key)) (keys : List Key) (m : ℕ) → m ≡ length written → keys_at (written ++ keys ∷ []) m ≡ keys
+keys-last [] keys m e = rw e refl
+keys-last (ks ∷ written) keys zero e = absurd (cc e)
+keys-last (ks ∷ written) keys (suc m) e = keys-last written keys m (omega (arith, e))
+
+changes-next : (plan : Planned) (n : ℕ) (written : List (List Key)) (keys : List Key) → length written ≡ n → ChangeThere plan n written
+    → ((k : Key) → list_any (is_at (key_cmp k)) keys ≡ false → after plan n k ≡ after plan (suc n) k)
+    → ChangeThere plan (suc n) (written ++ keys ∷ [])
+changes-next plan n written keys lines changes last m lt k none = elim (cases_lt m n) [
+  | inl before ↦ changes m before k (ap (list_any (is_at (key_cmp k))) (sym (keys-before written keys m (omega (arith, before, lines)))) ∙ none)
+  | inr from ↦
+      let same : m ≡ n = omega (arith, from, lt) in
+      let here = last k (ap (list_any (is_at (key_cmp k))) (sym (keys-last written keys m (omega (arith, same, lines)))) ∙ none) in
+      subst (λ j. after plan j k ≡ after plan (suc j) k) (sym same) here
+]
 
 -- one line more
-pub replayed-next : (plan : Planned) (n line : ℕ) (M N : Map) (answers : List (Option Answer)) (a : Option Answer) → line ≡ plan.first + n
-    → Replayed plan n M answers → a ≡ (one_at plan line (after plan n)).1 → ((k : Key) → N k ≡ (one_at plan line (after plan n)).0 k)
-    → Replayed plan (n + 1) N (answers ++ a ∷ [])
-replayed-next plan n line M N answers a at so answered stands =
-    let next : suc n ≡ n + 1 = omega arith in
-    let more : Replayed plan (suc n) N (answers ++ a ∷ []) = record {
+pub next : (plan : Planned) (n line : ℕ) (M N : Map) (answers : List (Option Answer)) (a : Option Answer) (written : List (List Key)) (keys : List Key) → line ≡ plan.first + n
+    → SoFar plan n M answers written → a ≡ (one_at plan line (after plan n)).1 → ((k : Key) → N k ≡ (one_at plan line (after plan n)).0 k)
+    → ((k : Key) → list_any (is_at (key_cmp k)) keys ≡ false → N k ≡ M k)
+    → SoFar plan (n + 1) N (answers ++ a ∷ []) (written ++ keys ∷ [])
+next plan n line M N answers a written keys at so answered stands unchanged =
+    let one : suc n ≡ n + 1 = omega arith in
+    let then : (k : Key) → N k ≡ after plan (suc n) k = λ k. stands k ∙ ap (λ l. (one_at plan l (after plan n)).0 k) at in
+    let more : SoFar plan (suc n) N (answers ++ a ∷ []) (written ++ keys ∷ []) = record {
       answers = ap (λ (ans : List (Option Answer)). ans ++ a ∷ []) so.answers ∙ ap (λ b. first_answers plan n ++ b ∷ []) (answered ∙ ap (λ l. (one_at plan l (after plan n)).1) at);
-      records = λ k. stands k ∙ ap (λ l. (one_at plan l (after plan n)).0 k) at;
+      records = then;
+      lines = length-last written keys ∙ ap suc so.lines;
+      changes = changes-next plan n written keys so.lines so.changes (λ k none. sym (so.records k) ∙ sym (unchanged k none) ∙ then k);
     } in
-    subst (λ m. Replayed plan m N (answers ++ a ∷ [])) next more
-
-over-by : (plan : Planned) (base : Entries) (line : ℕ) (r : Option Reading) (M : Map) → one_by (plan_over plan base) line r M ≡ one_by plan line r M
-over-by plan base line None M = refl
-over-by plan base line (Some r) M = refl
-
--- a line does the same over other records before the first
-pub over-at : (plan : Planned) (base : Entries) (line : ℕ) (M : Map) → one_at (plan_over plan base) line M ≡ one_at plan line M
-over-at plan base line M = over-by plan base line (reading_at plan line) M
+    subst (λ m. SoFar plan m N (answers ++ a ∷ []) (written ++ keys ∷ [])) one more
+  where
+    length-last : (written : List (List Key)) (keys : List Key) → length (written ++ keys ∷ []) ≡ suc (length written)
+    length-last [] keys = refl
+    length-last (ks ∷ written) keys = ap suc (length-last written keys)

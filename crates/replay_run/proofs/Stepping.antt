@@ -1,15 +1,26 @@
 -- Why a run by steps gives no output.
-use Rattle.std.proofs.Common.{◌≡◌, ◌≤◌, ℕ, zero, suc, List, Result, Ok, Err, arith, refl}
+use Rattle.std.proofs.Common.{◌≡◌, ◌∙◌, ◌≤◌, ℕ, zero, suc, List, Result, Ok, Err, IfOk, length, map, ap, arith, refl}
+use Rattle.std.proofs.lemmas.List.{length-map}
+use Rattle.std.proofs.lemmas.List.FromFn.{length-map-range_with_len}
+use Rattle.sip_reader.specs.Reading.{reading}
+use Rattle.journal_table.specs.Entry.{Entry}
+use Rattle.read_set.specs.Plans.{Planned, readings_of}
 use Rattle.board_steps.specs.Board.{Board}
+use Rattle.speculate.specs.BoardEnds.{attempt_on}
 use Rattle.speculate.specs.Playing.{Halts}
 use Rattle.speculate.specs.declared.steps.BoardFault.{BoardFault}
 use Rattle.speculate.specs.declared.steps.BoardFault.TheVariants as refusals
 use Rattle.speculate.specs.declared.steps.Halt.{Halt}
 use Rattle.speculate.specs.declared.steps.Step.{Step}
-use Rattle.replay_run.specs.BySteps.{AreWorkers, FailsBySteps, IsRunOf, first_board}
+use Rattle.replay_run.specs.Attempts.{IfOutput}
+use Rattle.replay_run.specs.BySteps.{AreWorkers, FailsBySteps, IsRun, IsRunOf, attempts_on, first_board}
 use Rattle.replay_run.specs.ByWorkers.{IsMadeOf, MayFail}
 use Rattle.replay_run.specs.Faults.{board_fault}
 use Rattle.replay_run.specs.Judgements.{Fails, Accepted, Refused}
+use Rattle.replay_run.specs.OneThread.{IsOutputBy}
+use Rattle.replay_run.specs.declared.by_steps.Run.{Run}
+use Rattle.replay_run.specs.declared.by_steps.Run.TheVariants as runs
+use Rattle.replay_run.specs.declared.inputs.Output.{Output}
 use Rattle.replay_run.specs.declared.fault.Fault.{Fault}
 use Rattle.replay_run.specs.declared.fault.Fault.TheVariants as faults
 
@@ -59,3 +70,20 @@ met refusals.Memory = tt
 pub crew : (workers : ℕ) → (workers ≡ 0 → ⊥) → workers ≤ 64 → AreWorkers workers
 crew zero some few = absurd (some refl)
 crew (suc workers) some few = (omega arith, few)
+
+-- the attempts of a board are one for each line
+pub each-once : (plan : Planned) (lines : List Entry) (b : Board) (o : Output) → plan.readings ≡ readings_of lines → IsOutputBy plan lines (attempts_on plan b) o → length o.attempts.items ≡ length lines
+each-once plan lines b o fits output =
+    ap length output.attempts
+    ∙ length-map-range_with_len (attempt_on b) plan.first (length plan.readings)
+    ∙ ap length fits
+    ∙ length-map lines (λ (line : Entry). reading line.request)
+
+pub all-once : {F : Type 0} (plan : Planned) (lines : List Entry) (b : Board) (r : Result Output F) → plan.readings ≡ readings_of lines → IfOk r (IsOutputBy plan lines (attempts_on plan b)) → IfOk r (λ o. length o.attempts.items ≡ length lines)
+all-once plan lines b (Ok o) fits is = each-once plan lines b o fits is
+all-once plan lines b (Err fault) fits is = tt
+
+pub one-each : (j : Accepted) (workers : ℕ) (steps : List Step) (r : Result Run Fault) → j.plan.readings ≡ readings_of j.lines → IsRun j workers steps r → IfOk r (λ run. IfOutput run (λ o. length o.attempts.items ≡ length j.lines))
+one-each j workers steps (Ok (runs.Output o)) fits (after, played, whole, output) = each-once j.plan j.lines after o fits output
+one-each j workers steps (Ok (runs.Unfinished committed)) fits run = tt
+one-each j workers steps (Err fault) fits run = tt

@@ -1,10 +1,12 @@
 pub mod Answers
+pub mod Attempts
 pub mod BySteps
 pub mod ByWorkers
+pub mod Devices
 pub mod Entries
 pub mod Faults
 pub mod Judgements
 pub mod Live
 pub mod OneThread
-pub mod OwnEnd
 pub mod Prepared
+pub mod ReplayEnd

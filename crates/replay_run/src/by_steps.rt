@@ -2,8 +2,9 @@
 
 ghost use Rattle.std.specs.Prelude.{◌≡◌, ◌≤◌, IfOk};
 ghost use Rattle.read_set.specs.Plans.{readings_of};
+ghost use Rattle.replay_run.specs.Attempts.{AreOnePerLine, IfOutput};
 ghost use Rattle.replay_run.specs.BySteps.{AreWorkers, IsBySteps, IsRun, attempts_on};
-ghost use Rattle.replay_run.specs.OneThread.{IsOutputBy};
+ghost use Rattle.replay_run.specs.OneThread.{IsOutputBy, judgement};
 ghost use Rattle.speculate.specs.Finishing.{IsWhole};
 
 use crate::fault::Fault;
@@ -40,7 +41,8 @@ pub fn rebuild_by_steps<R: Wait>(
     workers: u32,
     steps: &[Step],
 ) -> Result<Run, Fault>
-    ensures { IsBySteps inputs.now workers steps.now result }
+    ensures run { IsBySteps inputs.now workers steps.now result }
+    ensures attempts { IfOk result (λ run. IfOutput run (λ o. AreOnePerLine (judgement inputs.now) o.attempts.items)) }
 {
     if workers == 0 {
         return Err(Fault::BadWorkers);

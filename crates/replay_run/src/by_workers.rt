@@ -1,35 +1,34 @@
 //! A whole run by workers in threads.
 
-ghost use Rattle.std.specs.Prelude.{◌≡◌, ◌+◌, ◌≤◌, IfOk, length};
-ghost use Rattle.circ_records.specs.Tables.{texts_of};
-ghost use Rattle.circ_records.specs.Written.{tables_of};
+ghost use Rattle.std.specs.Prelude.{◌≡◌, ◌≤◌, IfErr, IfOk, length};
 ghost use Rattle.read_set.specs.Plans.{readings_of};
 ghost use Rattle.read_set.specs.Replay.{last};
-ghost use Rattle.result_report.specs.Report.{AreAnswers, answers_behind, line_results};
-ghost use Rattle.result_report.specs.Tables.{AreTexts};
+ghost use Rattle.result_report.specs.Report.{answers_behind};
 ghost use Rattle.replay_run.specs.Answers.{answers_of};
+ghost use Rattle.replay_run.specs.Attempts.{AreOnePerLine};
 ghost use Rattle.replay_run.specs.BySteps.{AreWorkers, attempts_on};
-ghost use Rattle.replay_run.specs.ByWorkers.{IsByWorkers, IsMade};
+ghost use Rattle.replay_run.specs.ByWorkers.{IsByWorkers, IsMade, MayFail};
 ghost use Rattle.replay_run.specs.Entries.{AreEntries};
-ghost use Rattle.replay_run.specs.OneThread.{IsOutputBy, results_of};
+ghost use Rattle.replay_run.specs.OneThread.{IsOutputBy, judgement};
+ghost use Rattle.speculate.specs.Driving.{RunsTo};
 
 use crate::fault::Fault;
 use crate::inputs::{Inputs, Output};
 use crate::prepared::Prepared;
-use crate::run::judge_parallel;
+use crate::run::{judge_parallel, put_together};
 use board_steps::WORKERS_MAX;
 use circ_records::{RecordMap, Records, write_records};
 use journal_table::Journal;
 use read_set::{Plan, PlanName};
-use result_report::{Outcome, collect, report_parallel};
-use speculate::{Board, Finished};
+use result_report::{LastRecords, Outcome, collect, report_parallel};
+use speculate::{Board, Finished, Open, drive_in_order};
 use std::alloc::{AllocError, Global};
 use std::marker::Brand;
 use std::mem::forget;
 use std::sync::Wait;
 use std::thread::Threads;
 use version_store::VersionTable;
-use worker_pool::{Closed, Gate, SharedBoard, run_workers};
+use worker_pool::{Gate, SharedBoard, run_workers};
 
 /// The output of one thread, made by 1 to 64 workers in threads; its attempts are those that were committed. The faults: first
 /// the number of workers, then those of the inputs, then the first that a worker meets. The gate is told of each worker's
@@ -44,7 +43,8 @@ pub fn rebuild<G: Gate + Sync, R: Threads + Wait + Sync>(
     workers: u32,
     gate: &G,
 ) -> Result<Output, Fault>
-    ensures { IsByWorkers inputs.now workers result }
+    ensures output { IsByWorkers inputs.now workers result }
+    ensures attempts { IfOk result (λ o. AreOnePerLine (judgement inputs.now) o.attempts.items) }
 {
     if workers == 0 {
         return Err(Fault::BadWorkers);
@@ -63,8 +63,8 @@ pub fn rebuild<G: Gate + Sync, R: Threads + Wait + Sync>(
     }
 }
 
-/// The run of the workers over the plan of a journal. Where they end with lines open and no fault, as where none could be
-/// made, they begin again.
+/// The run of the workers over the plan of a journal. A fault that they hand on ends it, whatever is committed by then. Where they
+/// end with lines open and no fault, the calling thread commits these in order.
 #[tactic(auto, using(crate::proofs::Stepping::met))]
 fn run_named<J: PlanName + Send + Sync + 'static, G: Gate + Sync, R: Threads + Wait + Sync>(
     rt: &R,
@@ -77,27 +77,40 @@ fn run_named<J: PlanName + Send + Sync + 'static, G: Gate + Sync, R: Threads + W
     requires named { plan.now ≡ J.plan }
     requires fits { plan.now.readings ≡ readings_of journal.now }
     requires workers { AreWorkers workers }
-    ensures { IsMade (record { plan = plan.now; lines = journal.now }) result }
+    ensures output { IsMade (record { plan = plan.now; lines = journal.now }) result }
+    ensures attempts { IfOk result (λ o. length o.attempts.items ≡ length journal.now) }
 {
-    for _ in rt.forever() {
-        let table: VersionTable<J> = VersionTable::for_lines(alloc, plan.readings().len())?;
-        let board = Board::new(alloc, plan, workers)?;
-        let shared = SharedBoard::new(board, &table);
-        let run = run_workers(rt, alloc, &shared, gate);
-        let finished = match shared.close() {
-            Closed::Finished(finished) => finished,
-            Closed::Open { .. } => {
-                if let Err(fault) = run {
-                    return Err(Fault::from(fault));
-                }
-                continue;
-            }
-        };
-        let output = collect_parallel(rt, alloc, plan, journal, finished)?;
-        forget(table);
-        return Ok(output);
+    let table: VersionTable<J> = VersionTable::for_lines(alloc, plan.readings().len())?;
+    let board = Board::new(alloc, plan, workers)?;
+    let shared = SharedBoard::new(board, &table);
+    let run = run_workers(rt, alloc, &shared, gate);
+    let finished = match (run, shared.close()) {
+        (Err(fault), _) => return Err(Fault::from(fault)),
+        (Ok(()), Ok(finished)) => finished,
+        (Ok(()), Err(open)) => finish_in_order(rt, alloc, &table, open)?,
+    };
+    let output = collect_parallel(rt, alloc, plan, journal, finished)?;
+    forget(table);
+    Ok(output)
+}
+
+/// The end of an open board's replay: each line that isn't committed is, in the order of the journal.
+#[tactic(auto, using(crate::proofs::Stepping::met))]
+fn finish_in_order<'p, 't, J: PlanName + 'static, R: Wait>(
+    rt: &R,
+    alloc: Global,
+    table: &'t VersionTable<J>,
+    open: Open<'p, 't, J>,
+) -> Result<Finished<'p, 't, J>, Fault>
+    ensures led { IfOk result (λ finished. RunsTo J.plan «open».entry.board finished) }
+    ensures fault { IfErr result MayFail }
+{
+    let mut board = open.into_board();
+    drive_in_order(rt, alloc, table, &mut board)?;
+    match board.finish() {
+        Ok(finished) => Ok(finished),
+        Err(_) => unreachable!(),
     }
-    unreachable!()
 }
 
 /// The output of a board on which all lines are committed; the result tables are made by all cores.
@@ -110,7 +123,8 @@ fn collect_parallel<J: PlanName + 'static, R: Threads + Sync>(
 ) -> Result<Output, AllocError>
     requires named { plan.now ≡ J.plan }
     requires fits { plan.now.readings ≡ readings_of journal.now }
-    ensures { IfOk result (IsOutputBy plan.now journal.now (attempts_on plan.now finished.entry)) }
+    ensures output { IfOk result (IsOutputBy plan.now journal.now (attempts_on plan.now finished.entry)) }
+    ensures attempts { IfOk result (λ o. length o.attempts.items ≡ length journal.now) }
 {
     let _plan = finished.plan();
     let outcome = collect(alloc, &finished)?;
@@ -132,44 +146,19 @@ fn output_parallel<R: Threads + Sync>(
     requires records { AreEntries (last plan.now) outcome.records }
     ensures { IfOk result (IsOutputBy plan.now journal.now outcome.entry.attempts.items) }
 {
-    write_parallel(rt, alloc, plan, journal, outcome)
-}
-
-/// What `write_outcome` gives; the result tables are made by all cores.
-fn write_parallel<R: Threads + Sync>(
-    rt: &R,
-    alloc: Global,
-    plan: &Plan,
-    journal: &Journal,
-    outcome: Outcome<'_>,
-) -> Result<Output, AllocError>
-    requires planned { plan.now.readings ≡ readings_of journal.now }
-    requires answered { AreAnswers (readings_of journal.now) (answers_behind outcome.answers.items) }
-    ensures tables { IfOk result (λ o. texts_of o.tables ≡ tables_of outcome.entry.records) }
-    ensures results { IfOk result (λ o. AreTexts (line_results journal.now (readings_of journal.now) (answers_behind outcome.entry.answers.items)) (results_of o)) }
-    ensures each_once { IfOk result (λ o. o.sizes.answered + o.sizes.passed ≡ length journal.now) }
-    ensures attempts { IfOk result (λ o. o.attempts.items ≡ outcome.entry.attempts.items) }
-{
     let Outcome {
         records,
         answers,
         attempts,
     } = outcome;
-    let tables = write_records(alloc, &records)?;
+    let tables = write_records(alloc, records.as_records())?;
     // their memory is wanted for the texts
     drop(records);
     let rest = Outcome {
-        records: Records::from_map(alloc, RecordMap::new(alloc))?,
+        records: LastRecords::collected(Records::from_map(alloc, RecordMap::new(alloc))?),
         answers,
         attempts,
     };
     let texts = report_parallel(rt, alloc, journal, plan, &rest)?;
-    Ok(Output {
-        tables,
-        answers: texts.answers,
-        report: texts.report,
-        passed: texts.passed,
-        sizes: texts.sizes,
-        attempts: rest.attempts,
-    })
+    Ok(put_together(tables, texts, rest.attempts))
 }

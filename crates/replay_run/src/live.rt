@@ -3,7 +3,7 @@
 ghost use Rattle.std.specs.Prelude.{◌≡◌};
 
 use circ_records::{Key, Record, RecordMap, Records};
-use read_set::{Source, Stop, Writes};
+use read_set::{Plan, Source, Stop, Writes};
 use sip_reader::KeptId;
 use std::alloc::{AllocError, Global};
 
@@ -27,11 +27,18 @@ impl Live {
     ghost use Rattle.replay_run.specs.Entries.{AreEntries};
     ghost use Rattle.replay_run.specs.Live.{standing};
 
-    /// These records.
-    pub fn new(records: RecordMap) -> Live
-        ensures { (k : Key) → standing result k ≡ record_at records k }
+    /// The records before the first line, copied: the plan keeps its own. Their keys rise, so each goes behind the others.
+    pub fn over(alloc: Global, plan: &Plan) -> Result<Live, AllocError>
+        ensures { IfOk result (λ live. (k : Key) → standing live k ≡ record_at plan.now.base k) }
     {
-        Live { records }
+        let mut records = plan.empty_map(alloc)?;
+        let keys = plan.keys();
+        for entry in keys {
+            let kept = entry.0.clone()?;
+            let record = entry.1.copy()?;
+            records.put_rising(alloc, kept, record)?;
+        }
+        Ok(Live { records })
     }
 
     /// The record at a key.
@@ -63,10 +70,12 @@ impl Live {
 }
 
 impl Source for Live {
-    ghost use Rattle.std.specs.Prelude.{Some};
+    ghost use Rattle.std.specs.Prelude.{Some, ⊤};
     ghost use Rattle.replay_run.specs.Live.{standing};
 
     ghost has = { λ live k. Some (standing live k) };
+
+    ghost one_by_one = { ⊤ };
 
     #[tactic(auto, using(read_set::proofs::Gaining::gains_none))]
     fn read(&mut self, _alloc: Global, key: &Key) -> Result<Option<Record>, Stop> {

@@ -1,59 +1,55 @@
 //! The replay by one thread: the lines in the order of the journal, each on the records that the lines before it left.
 
-ghost use Rattle.std.specs.Prelude.{◌≡◌, ◌<◌, ◌+◌, ◌++◌, ◌∷◌, [], IfOk, OnOk, length, replicate, vec_capacity, vec_len};
+ghost use Rattle.std.specs.Prelude.{◌≡◌, ◌<◌, ◌+◌, ◌++◌, ◌∷◌, [], List, false, IfOk, OnOk, vec_capacity, vec_len};
+ghost use Rattle.std.specs.BTreeMap.{is_at};
+ghost use Rattle.std.specs.List.{list_any};
+ghost use Rattle.circ_records.specs.Keys.{key_cmp};
 ghost use Rattle.circ_records.specs.declared.key.Key.{Key};
 ghost use Rattle.read_set.specs.Maps.{Map};
-ghost use Rattle.read_set.specs.Plans.{plan_over};
-ghost use Rattle.read_set.specs.Replay.{last, one_at};
-ghost use Rattle.replay_run.specs.Answers.{answers_of};
-ghost use Rattle.replay_run.specs.Entries.{AreEntries};
+ghost use Rattle.read_set.specs.Replay.{one_at};
 ghost use Rattle.replay_run.specs.Live.{standing};
+ghost use Rattle.replay_run.specs.ReplayEnd.{IsReplay};
 
 use crate::live::Live;
-use circ_records::{RecordMap, Records};
+use crate::written::WrittenKeys;
+use circ_records::Records;
 use message_meaning::perform;
 use read_set::{Effect, Plan, Stop};
 use sip_answer::Answer;
 use std::alloc::{AllocError, Global};
 
-/// What a replay comes to: the records after the last line, and of each line its answer, where it has one, and the
-/// number of the attempt whose answer that is.
+/// What a replay comes to: the records after the last line, and of each line its answer, where it has one, and the keys of
+/// the records that it wrote.
 #[derive(Drop)]
-pub struct ReplayEnd {
+pub struct Replayed {
     pub records: Records,
     pub answers: Vec<Option<Answer>>,
-    pub attempts: Vec<u32>,
+    pub written: WrittenKeys,
 }
 
-/// What the lines of a plan come to, taken in order by one thread. Each line is attempted once, by the number 0. The
-/// plan's records are those that the lines change, so that none is copied: the plan is left without records.
-pub fn replay(alloc: Global, plan: &mut Plan) -> Result<ReplayEnd, AllocError>
-    ensures answers { IfOk result (λ o. o.answers.items ≡ answers_of plan.old) }
-    ensures records { IfOk result (λ o. AreEntries (last plan.old) o.records) }
-    ensures attempts { IfOk result (λ o. o.attempts.items ≡ replicate (length plan.old.readings) 0) }
-    ensures lines { plan.new.readings ≡ plan.old.readings }
-{
-    let base = plan.take_base(alloc);
-    replay_over(alloc, plan, base)
-}
-
-/// What the lines of a plan come to over these records.
-fn replay_over(alloc: Global, plan: &Plan, base: RecordMap) -> Result<ReplayEnd, AllocError>
-    ensures answers { IfOk result (λ o. o.answers.items ≡ answers_of (plan_over plan.now base)) }
-    ensures records { IfOk result (λ o. AreEntries (last (plan_over plan.now base)) o.records) }
-    ensures attempts { IfOk result (λ o. o.attempts.items ≡ replicate (length plan.now.readings) 0) }
+/// What the lines of a plan come to, taken in order by one thread.
+pub fn replay(alloc: Global, plan: &Plan) -> Result<Replayed, AllocError>
+    ensures { IfOk result (IsReplay plan.now) }
 {
     let count = plan.readings().len();
     let first = plan.first();
-    let mut live = Live::new(base);
+    let mut live = Live::over(alloc, plan)?;
     let mut answers = Vec::with_capacity(alloc, count)?;
+    let mut written = WrittenKeys::with_room(alloc, count)?;
     for i in 0..count {
-        take_line(alloc, plan, first + i as u64, &mut live, &mut answers)?;
+        take_line(
+            alloc,
+            plan,
+            first + i as u64,
+            &mut live,
+            &mut answers,
+            &mut written,
+        )?;
     }
-    Ok(ReplayEnd {
+    Ok(Replayed {
         records: live.into_records(alloc)?,
         answers,
-        attempts: vec![in alloc; 0; count]?,
+        written,
     })
 }
 
@@ -65,17 +61,21 @@ fn take_line(
     line: u64,
     live: &mut Live,
     answers: &mut Vec<Option<Answer>>,
+    written: &mut WrittenKeys,
 ) -> Result<(), AllocError>
     requires { vec_len answers.old < vec_capacity answers.old }
     ensures len { OnOk result (vec_len answers.new ≡ vec_len answers.old + 1) }
     ensures capacity { OnOk result (vec_capacity answers.new ≡ vec_capacity answers.old) }
     ensures answer { OnOk result ((M : Map) → ((k : Key) → standing live.old k ≡ M k) → answers.new.items ≡ answers.old.items ++ (one_at plan.now line M).1 ∷ []) }
     ensures records { OnOk result ((M : Map) → ((k : Key) → standing live.old k ≡ M k) → (k : Key) → standing live.new k ≡ (one_at plan.now line M).0 k) }
+    ensures written { OnOk result ((keys : List Key) × (written.new ≡ written.old ++ keys ∷ [])
+        × ((k : Key) → list_any (is_at (key_cmp k)) keys ≡ false → standing live.new k ≡ standing live.old k)) }
 {
     match perform(alloc, plan, line, live) {
         Ok(Effect { writes, answer }) => {
             // at once, so that it moves from where it was made
             answers.push_reserved(answer);
+            written.add(writes.as_slice())?;
             live.put(writes)?;
             Ok(())
         }

@@ -1,12 +1,9 @@
 //! A whole run by one thread, and the output of any run that comes to what one thread comes to.
 
-ghost use Rattle.std.specs.Prelude.{◌≡◌, ◌+◌, IfOk, length};
-ghost use Rattle.circ_records.specs.Tables.{texts_of};
-ghost use Rattle.circ_records.specs.Written.{tables_of};
+ghost use Rattle.std.specs.Prelude.{◌≡◌, IfOk};
 ghost use Rattle.read_set.specs.Plans.{readings_of};
 ghost use Rattle.read_set.specs.Replay.{last};
-ghost use Rattle.result_report.specs.Report.{AreAnswers, answers_behind, line_results};
-ghost use Rattle.result_report.specs.Tables.{AreTexts};
+ghost use Rattle.result_report.specs.Report.{answers_behind};
 ghost use Rattle.replay_run.specs.Answers.{answers_of};
 ghost use Rattle.replay_run.specs.Entries.{AreEntries};
 ghost use Rattle.replay_run.specs.Prepared.{IsSound, IsJudgement};
@@ -16,12 +13,12 @@ use crate::fault::Fault;
 use crate::inputs::{Inputs, Output};
 use crate::judge::judge;
 use crate::prepared::{Prepared, Sound};
-use crate::replay::{ReplayEnd, replay};
-use circ_records::{Records, Tables, write_records};
+use crate::replay::replay;
+use crate::replay_end::ReplayEnd;
+use circ_records::{Tables, write_records};
 use journal_table::{Journal, read_all};
 use read_set::Plan;
-use result_report::{Outcome, Texts, report};
-use sip_answer::Answer;
+use result_report::{Outcome, Texts, collect, report};
 use std::alloc::{AllocError, Global};
 use std::mem::forget;
 use std::thread::Threads;
@@ -36,7 +33,8 @@ pub fn one_thread(alloc: Global, inputs: &Inputs) -> Result<Output, Fault>
 {
     match judge_inputs(alloc, inputs) {
         Ok(Prepared { plan, journal }) => {
-            let output = output(alloc, plan, &journal)?;
+            let output = output(alloc, &plan, &journal)?;
+            forget(plan);
             forget(journal);
             Ok(output)
         }
@@ -101,30 +99,26 @@ fn sound_inputs(alloc: Global, inputs: &Inputs) -> Result<Sound<'_>, Fault>
     )
 }
 
-/// The output of one thread over the plan of a journal.
-fn output(alloc: Global, plan: Plan, journal: &Journal) -> Result<Output, AllocError>
-    requires { plan.readings ≡ readings_of journal.now }
-    ensures { IfOk result (IsOutput plan journal.now) }
+/// The output of one thread over the plan of a journal. What the replay came to isn't torn down.
+fn output(alloc: Global, plan: &Plan, journal: &Journal) -> Result<Output, AllocError>
+    requires { plan.now.readings ≡ readings_of journal.now }
+    ensures { IfOk result (IsOutput plan.now journal.now) }
 {
-    let mut plan = plan;
-    let ReplayEnd {
-        records,
-        answers,
-        attempts,
-    } = replay(alloc, &mut plan)?;
-    let outcome = Outcome {
-        records,
-        answers: references_to(alloc, answers.as_slice())?,
-        attempts,
-    };
-    let (output, records) = write_outcome(alloc, &plan, journal, outcome)?;
-    forget(records);
-    forget(answers);
-    forget(plan);
+    let replayed = replay(alloc, plan)?;
+    let outcome = collect(
+        alloc,
+        &ReplayEnd {
+            plan,
+            replayed: &replayed,
+        },
+    )?;
+    let output = output_of(alloc, plan, journal, outcome)?;
+    forget(replayed);
     Ok(output)
 }
 
-/// The output of a run over the plan of a journal that came to the records and the answers of one thread.
+/// The output of a run over the plan of a journal that came to the records and the answers of one thread: the tables of these
+/// records, and the result tables of the lines with these answers.
 pub fn output_of(
     alloc: Global,
     plan: &Plan,
@@ -136,33 +130,13 @@ pub fn output_of(
     requires records { AreEntries (last plan.now) outcome.records }
     ensures { IfOk result (IsOutputBy plan.now journal.now outcome.entry.attempts.items) }
 {
-    let (output, _records) = write_outcome(alloc, plan, journal, outcome)?;
-    Ok(output)
-}
-
-/// The tables of the records that a run came to, and the result tables of the lines with its answers; and the records, which
-/// whoever asked tears down or leaves. Of the plan only the readings count.
-fn write_outcome(
-    alloc: Global,
-    plan: &Plan,
-    journal: &Journal,
-    outcome: Outcome<'_>,
-) -> Result<(Output, Records), AllocError>
-    requires planned { plan.now.readings ≡ readings_of journal.now }
-    requires answered { AreAnswers (readings_of journal.now) (answers_behind outcome.answers.items) }
-    ensures tables { IfOk result (λ w. texts_of w.0.tables ≡ tables_of outcome.entry.records) }
-    ensures results { IfOk result (λ w. AreTexts (line_results journal.now (readings_of journal.now) (answers_behind outcome.entry.answers.items)) (results_of w.0)) }
-    ensures each_once { IfOk result (λ w. w.0.sizes.answered + w.0.sizes.passed ≡ length journal.now) }
-    ensures attempts { IfOk result (λ w. w.0.attempts.items ≡ outcome.entry.attempts.items) }
-{
-    let tables = write_records(alloc, &outcome.records)?;
+    let tables = write_records(alloc, outcome.records.as_records())?;
     let texts = report(alloc, journal, plan, &outcome)?;
-    let output = put_together(tables, texts, outcome.attempts);
-    Ok((output, outcome.records))
+    Ok(put_together(tables, texts, outcome.attempts))
 }
 
 /// The output of these tables and texts.
-fn put_together(tables: Tables, texts: Texts, attempts: Vec<u32>) -> Output
+pub fn put_together(tables: Tables, texts: Texts, attempts: Vec<u32>) -> Output
     ensures tables { result.tables ≡ tables }
     ensures results { results_of result ≡ texts }
     ensures attempts { result.attempts ≡ attempts }
@@ -175,18 +149,4 @@ fn put_together(tables: Tables, texts: Texts, attempts: Vec<u32>) -> Output
         sizes: texts.sizes,
         attempts,
     }
-}
-
-/// References to the answers.
-fn references_to(
-    alloc: Global,
-    answers: &[Option<Answer>],
-) -> Result<Vec<Option<&Answer>>, AllocError>
-    ensures { IfOk result (λ v. answers_behind v.items ≡ answers.now) }
-{
-    let mut references = Vec::with_capacity(alloc, answers.len())?;
-    for answer in answers {
-        references.push(answer.as_ref())?;
-    }
-    Ok(references)
 }

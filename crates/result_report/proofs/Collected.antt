@@ -1,5 +1,5 @@
 -- Records that are collected key by key.
-use Rattle.std.proofs.Common.{◌≡◌, ◌∙◌, ◌+◌, ◌<◌, ◌⊎◌, inl, inr, Bool, true, false, cond, ◌||◌, ℕ, zero, suc, List, [], ◌∷◌, ◌++◌, length, take, Option, Some, None, IsSome, refl, sym, ap, subst, arith, append_assoc}
+use Rattle.std.proofs.Common.{◌≡◌, ◌∙◌, ◌+◌, ◌<◌, ◌⊎◌, inl, inr, Bool, true, false, cond, ◌||◌, ℕ, zero, suc, List, [], ◌∷◌, ◌++◌, length, take, Option, Some, None, IsSome, map, ap₂, refl, sym, ap, subst, arith, append_assoc}
 use Rattle.std.specs.Prelude.{slice_get}
 use Rattle.std.specs.BTreeMap.{is_at}
 use Rattle.std.specs.List.{list_any, range_with_len}
@@ -7,14 +7,16 @@ use Rattle.std.specs.Ordering.{is_eq, ordering_reverse}
 use Rattle.std.specs.declared.cmp.Ordering.{Ordering}
 use Rattle.std.specs.declared.cmp.Ordering.TheVariants.{Less, Equal, Greater}
 use Rattle.std.proofs.lemmas.Grind.{flat_map-append}
-use Rattle.std.proofs.lemmas.List.{append-nil}
+use Rattle.std.proofs.lemmas.List.{append-nil, length-map}
 use Rattle.std.proofs.lemmas.List.Folds.{list_any-append}
 use Rattle.circ_records.specs.Keys.{key_cmp, key_cmp-IsAntisymmetric, key_cmp_total}
 use Rattle.circ_records.specs.Records.{Entries, record_at}
 use Rattle.circ_records.specs.declared.key.Key.{Key}
 use Rattle.circ_records.specs.declared.record.Record.{Record}
 use Rattle.read_set.specs.Maps.{Map}
-use Rattle.result_report.specs.Ends.{HasAt, keys_named, lines_keys, only_at}
+use Rattle.read_set.specs.Plans.{Planned}
+use Rattle.sip_reader.specs.declared.request.Reading.{Reading}
+use Rattle.result_report.specs.Ends.{HasAt, keys_named, lines_keys, numbers_of, only_at}
 
 equal-of : (o : Ordering) → is_eq o ≡ true → o ≡ Equal
 equal-of Less e = cc
@@ -129,3 +131,9 @@ pub entry-more : (M : Map) (map_entries : Entries) (keys : List Key) (entries : 
     → HasAt ((keys ++ keys_named (take i entries)) ++ e.0 ∷ []) M map_entries → HasAt (keys ++ keys_named (take (i + 1) entries)) M map_entries
 entry-more M map_entries keys entries i e at has =
     subst (λ ks. HasAt ks M map_entries) (append_assoc keys (keys_named (take i entries)) (e.0 ∷ []) ∙ ap (λ (l : List Key). keys ++ l) (keys-next entries i e at)) has
+
+-- the lines of a plan, by the number of its first line and by how many there are
+pub numbers : {X : Type 0} (f : X → Reading) (xs : List X) (plan a b : Planned) (first count : ℕ) → a ≡ plan → b ≡ plan → first ≡ a.first → count ≡ length xs → map f xs ≡ b.readings
+    → range_with_len first count ≡ numbers_of plan
+numbers f xs plan a b first count p q start many read =
+    ap₂ range_with_len (start ∙ ap (λ (x : Planned). x.first) p) (many ∙ sym (length-map xs f) ∙ ap length read ∙ ap (λ (x : Planned). length x.readings) q)

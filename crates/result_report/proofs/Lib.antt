@@ -1,5 +1,5 @@
 mod Joined
 mod TellingLines
 mod Parts
-mod Collected
+pub mod Collected
 mod Once

@@ -1,4 +1,5 @@
 pub mod Report
+pub mod LastRecords
 pub mod Listings
 pub mod Tellings
 pub mod Tables

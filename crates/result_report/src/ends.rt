@@ -1,6 +1,6 @@
 //! The end of a run, and what is collected from it.
 
-ghost use Rattle.std.specs.Prelude.{◌≡◌, ◌≤◌, ◌<◌, ◌+◌, ◌++◌, ◌∷◌, ◌^◌, [], ℕ, List, Option, IfOk, OnOk, length, map, option_copied, option_map, slice_get};
+ghost use Rattle.std.specs.Prelude.{◌≡◌, ◌≤◌, ◌<◌, ◌+◌, ◌++◌, ◌∷◌, ◌^◌, [], ℕ, List, Option, IfOk, IfSome, OnOk, length, map, option_copied, option_map, slice_get};
 ghost use Rattle.std.specs.List.{range_with_len};
 ghost use Rattle.circ_records.specs.declared.key.Key.{Key};
 ghost use Rattle.circ_records.specs.declared.record.Record.{Record};
@@ -9,7 +9,7 @@ ghost use Rattle.sip_answer.specs.declared.answer.Answer.{Answer};
 ghost use Rattle.result_report.specs.Ends.{AreRecordsAt, HasAt, keys_named, lines_keys, named_keys, numbers_of};
 ghost use Rattle.result_report.specs.Report.{answers_behind};
 
-use crate::outcome::Outcome;
+use crate::outcome::{LastRecords, Outcome};
 use circ_records::{KeptKey, Key, Record, RecordMap, Records};
 use read_set::Plan;
 use sip_answer::Answer;
@@ -53,6 +53,10 @@ pub trait End<'e> {
     /// The record at a key after the last line.
     fn final_of(&self, key: &Key) -> Option<&Record>
         ensures { option_copied result ≡ left self.now key.now };
+
+    /// All of them, where the end has them together: those at the keys of the plan and of what the lines wrote.
+    fn records(&self) -> Option<&'e Records>
+        ensures { IfSome result (λ r. AreRecordsAt (named_keys (planned self.now) (entered self.now)) (left self.now) r.now) };
 }
 
 /// What a run comes to, exactly as its end gives it: each line's answer and attempt, and the records at the keys of the
@@ -64,13 +68,32 @@ pub fn collect<'e, E: End<'e>>(alloc: Global, end: &E) -> Result<Outcome<'e>, Al
 {
     let first = end.plan().first();
     let count = end.plan().readings().len();
-    let mut records = base_records(alloc, end)?;
-    take_lines(alloc, end, first, count, &mut records)?;
     Ok(Outcome {
-        records: Records::from_map(alloc, records)?,
+        records: last_records(alloc, end)?,
         answers: collect_answers(alloc, end, first, count)?,
         attempts: collect_attempts(alloc, end, first, count)?,
     })
+}
+
+/// The records after the last line, as the end has them together, or else looked up key by key.
+fn last_records<'e, E: End<'e>>(alloc: Global, end: &E) -> Result<LastRecords<'e>, AllocError>
+    ensures { IfOk result (AreRecordsAt (named_keys (E.planned end.now) (E.entered end.now)) (E.left end.now)) }
+{
+    match end.records() {
+        Some(records) => Ok(LastRecords::lent(records)),
+        None => Ok(LastRecords::collected(collect_records(alloc, end)?)),
+    }
+}
+
+/// The records at the keys of the plan and of what the lines wrote.
+fn collect_records<'e, E: End<'e>>(alloc: Global, end: &E) -> Result<Records, AllocError>
+    ensures { IfOk result (AreRecordsAt (named_keys (E.planned end.now) (E.entered end.now)) (E.left end.now)) }
+{
+    let first = end.plan().first();
+    let count = end.plan().readings().len();
+    let mut records = base_records(alloc, end)?;
+    take_lines(alloc, end, first, count, &mut records)?;
+    Ok(Records::from_map(alloc, records)?)
 }
 
 fn collect_answers<'e, E: End<'e>>(

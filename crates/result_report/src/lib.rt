@@ -10,5 +10,5 @@ mod texts;
 mod words;
 
 pub use ends::{End, collect};
-pub use outcome::Outcome;
+pub use outcome::{LastRecords, Outcome};
 pub use texts::{Sizes, Texts, report, report_parallel};

@@ -1,14 +1,68 @@
 //! What a run comes to.
 
+ghost use Rattle.std.specs.Prelude.{◌≡◌};
+
 use circ_records::Records;
 use sip_answer::Answer;
+use std::marker::Model;
 
 /// What a run comes to: the records after the last line, and of each line, in the order of the journal, its answer,
 /// where it has one, and the number of the attempt whose answer that is, counted from 0. The answers are borrowed by the
 /// end of the run, so that none is copied.
 #[derive(Drop)]
 pub struct Outcome<'e> {
-    pub records: Records,
+    pub records: LastRecords<'e>,
     pub answers: Vec<Option<&'e Answer>>,
     pub attempts: Vec<u32>,
+}
+
+/// The records after the last line, by their keys. The end of the run lends them, or they were collected of it.
+#[derive(Drop)]
+pub struct LastRecords<'e> {
+    held: Held<'e>,
+}
+
+#[derive(Drop)]
+enum Held<'e> {
+    Lent(&'e Records),
+    Collected(Records),
+}
+
+impl<'e> Model for LastRecords<'e> {
+    ghost use Rattle.circ_records.specs.Records.{Entries};
+    ghost use Rattle.result_report.specs.LastRecords.{entries_held};
+
+    ghost Value = { Entries };
+
+    ghost view = { λ r. entries_held r.held };
+}
+
+impl<'e> LastRecords<'e> {
+    /// Records that the end of the run lends.
+    pub fn lent(records: &'e Records) -> LastRecords<'e>
+        ensures { result ≡ records.now }
+    {
+        LastRecords {
+            held: Held::Lent(records),
+        }
+    }
+
+    /// Records that were collected.
+    pub fn collected(records: Records) -> LastRecords<'e>
+        ensures { result ≡ records }
+    {
+        LastRecords {
+            held: Held::Collected(records),
+        }
+    }
+
+    /// The records.
+    pub fn as_records(&self) -> &Records
+        ensures { result.now ≡ self.now }
+    {
+        match &self.held {
+            Held::Lent(records) => records,
+            Held::Collected(records) => records,
+        }
+    }
 }

@@ -1,9 +1,9 @@
 //! Answers as bytes.
 //!
-//! Where memory runs out a part of an answer may stand in the text. `write_answer` drops it, and `put_answer` clears it before
-//! the next answer, so the functions that put the parts there say nothing of it.
+//! Where memory runs out a part of an answer may stand in the text. `write_answer` drops it, and `put_answer` clears it, so the functions that
+//! put the parts there say nothing of it.
 
-ghost use Rattle.std.specs.Prelude.{◌≡◌, ◌++◌, IfOk, OnOk};
+ghost use Rattle.std.specs.Prelude.{◌≡◌, ◌++◌, [], IfOk, OnErr, OnOk};
 ghost use Rattle.sip_answer.specs.Texts.{answer_text};
 
 mod dates;
@@ -34,13 +34,26 @@ pub fn write_answer(
     Ok(out)
 }
 
-/// The same, in place of what stood in `out`: so one piece of memory serves for answer after answer.
-#[tactic(auto, unfolding(crate::specs::Texts::answer_text))]
+/// The same, in place of what stood in `text`: so one piece of memory serves for answer after answer. Without memory nothing stands there.
 pub fn put_answer(
-    out: &mut Vec<u8>,
+    text: &mut Vec<u8>,
     answer: &Answer,
     sequence: Option<u8>,
 ) -> Result<(), AllocError>
+    ensures ok { OnOk result (text.new.items ≡ answer_text answer.now sequence) }
+    ensures err { OnErr result (text.new.items ≡ []) }
+{
+    if let Err(error) = put_whole(text, answer, sequence) {
+        text.clear();
+        return Err(error);
+    }
+    Ok(())
+}
+
+/// An answer's bytes in place of what stood there.
+#[inline(always)]
+#[tactic(auto, unfolding(crate::specs::Texts::answer_text))]
+fn put_whole(out: &mut Vec<u8>, answer: &Answer, sequence: Option<u8>) -> Result<(), AllocError>
     ensures { OnOk result (out.new.items ≡ answer_text answer.now sequence) }
 {
     out.clear();

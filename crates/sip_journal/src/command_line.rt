@@ -9,8 +9,8 @@ use sip_reader::LINE_NUMBER_MAX;
 use std::alloc::{AllocError, Global};
 use std::convert::AsStr;
 
-/// The version that the program tells of itself.
-const VERSION: &str = "0.1.0";
+/// The version that the program tells of itself, that of the file `VERSION`.
+const VERSION: &str = "0.3.0";
 
 const ABOUT: &str =
     "Makes a journal for sip_replay from a server's log: each request with the response to it";

@@ -1,105 +1,163 @@
-//! What changed for whom: the loans, fees, holds and blocks of the base against those that the run wrote.
+//! What changed: the tables that a run began with against those that it wrote.
 
-use crate::fields::Field;
 use crate::files::{Rows, Table, read_in};
-use crate::known::cut;
-use crate::sayings::{Case, Titles, fill};
-use crate::sheet::Sheet;
+use crate::findings::Findings;
 use crate::stop::Stop;
-use command_line::PageOptions;
+use crate::subjects::{Change, Subjects};
 use csv::ByteRecord;
 use csv_table::column;
+use page_words::{Case, Field, Names, Texts, cut, fill};
 use std::alloc::{AllocError, Global};
 use std::collections::BTreeMap;
 use std::rt::Files;
 
-/// What a table says of a patron: of whom and of what, on two lines, and what of it.
+/// What a table says: of whom and of what, on two lines, and what of it.
 struct Source {
     table: Table,
     about: &'static str,
     says: &'static str,
 }
 
-static SOURCES: [Source; 4] = [
-    Source {
-        table: Table {
-            file: "patrons.csv",
-            header: &["id", "name", "class", "blocked"],
-        },
-        about: "{?id}\nblock",
-        says: "{?blocked}",
-    },
-    Source {
-        table: Table {
-            file: "loans.csv",
-            header: &["patron", "item", "due", "renewals"],
-        },
-        about: "{?patron}\nloan of {?item}",
-        says: "until {?due}, renewals {?renewals}",
-    },
-    Source {
-        table: Table {
-            file: "fees.csv",
-            header: &["id", "patron", "type", "amount", "paid"],
-        },
-        about: "{?patron}\nfee {?id}",
-        says: "{?type} {?amount}, paid {?paid}",
-    },
-    Source {
-        table: Table {
-            file: "holds.csv",
-            header: &["item", "patron", "pickup"],
-        },
-        about: "{?patron}\nhold on {?item}",
-        says: "waits, pickup {?pickup}",
-    },
-];
+static PATRONS: Table = Table {
+    file: "patrons.csv",
+    header: &["id", "name", "class", "blocked"],
+};
 
 static ITEMS: Table = Table {
     file: "items.csv",
     header: &["id", "title", "media", "location", "properties"],
 };
 
-/// The head of the table of what changed.
-const CHANGES_HEAD: &str =
-    "<div><table><caption>Loans, fees, holds and blocks that are other than before</caption>
-<thead><tr><th scope=\"col\">Patron</th><th scope=\"col\">What</th><th scope=\"col\">Before</th><th scope=\"col\">After</th></tr></thead>
-<tbody>
-";
+/// What is said of patrons.
+static OF_PATRONS: [Source; 4] = [
+    Source {
+        table: Table {
+            file: "patrons.csv",
+            header: &["id", "name", "class", "blocked"],
+        },
+        about: "{~id}\nblock",
+        says: "{~blocked}",
+    },
+    Source {
+        table: Table {
+            file: "loans.csv",
+            header: &["patron", "item", "due", "renewals"],
+        },
+        about: "{~patron}\nloan of {~item}",
+        says: "until {~due}, renewals {~renewals}",
+    },
+    Source {
+        table: Table {
+            file: "fees.csv",
+            header: &["id", "patron", "type", "amount", "paid"],
+        },
+        about: "{~patron}\nfee {~id}",
+        says: "{~type} {~amount}, paid {~paid}",
+    },
+    Source {
+        table: Table {
+            file: "holds.csv",
+            header: &["item", "patron", "pickup"],
+        },
+        about: "{~patron}\nhold on {~item}",
+        says: "waits, pickup {~pickup}",
+    },
+];
 
-/// The titles of the items of a folder.
-pub fn titles_of<R: Files + AllocGlobal>(rt: &R, folder: &str) -> Result<Titles, Stop> {
+/// What is said of items.
+static OF_ITEMS: [Source; 3] = [
+    Source {
+        table: Table {
+            file: "items.csv",
+            header: &["id", "title", "media", "location", "properties"],
+        },
+        about: "{~id}\nproperties",
+        says: "{~properties}",
+    },
+    Source {
+        table: Table {
+            file: "loans.csv",
+            header: &["patron", "item", "due", "renewals"],
+        },
+        about: "{~thing}\nloan",
+        says: "to {~AA} until {~due}, renewals {~renewals}",
+    },
+    Source {
+        table: Table {
+            file: "holds.csv",
+            header: &["item", "patron", "pickup"],
+        },
+        about: "{~thing}\nhold of {~AA}",
+        says: "waits, pickup {~pickup}",
+    },
+];
+
+/// The texts of a column of a table of a folder, by the ids of the rows.
+fn texts_of<R: Files + AllocGlobal>(rt: &R, folder: &str, table: &Table) -> Result<Texts, Stop> {
     let alloc = rt.alloc();
-    let text = read_in(rt, folder, &ITEMS)?;
-    let mut rows = Rows::under(alloc, &ITEMS, &text)?;
+    let text = read_in(rt, folder, table)?;
+    let mut rows = Rows::under(alloc, table, &text)?;
     let mut row = ByteRecord::new(alloc);
-    let mut titles = BTreeMap::new(alloc);
+    let mut texts = BTreeMap::new(alloc);
     for _ in 0..u64::MAX {
         if !rows.next(&mut row)? {
             break;
         }
         let id = Vec::from_slice(alloc, column(&row, 0))?;
-        titles.insert(id, Vec::from_slice(alloc, column(&row, 1))?)?;
+        texts.insert(id, Vec::from_slice(alloc, column(&row, 1))?)?;
     }
-    Ok(titles)
+    Ok(texts)
 }
 
-/// What is otherwise, by of whom and of what it is: what was said before, and behind a line feed, which no text of a table
+/// What the items and the patrons of a folder are called.
+pub fn names_of<R: Files + AllocGlobal>(rt: &R, folder: &str) -> Result<Names, Stop> {
+    Ok(Names {
+        titles: texts_of(rt, folder, &ITEMS)?,
+        patrons: texts_of(rt, folder, &PATRONS)?,
+    })
+}
+
+/// Refuses tables of a base that has other patrons or items than the output: no message makes or removes one.
+pub fn check_base<R: Files + AllocGlobal>(rt: &R, base: &str, names: &Names) -> Result<(), Stop> {
+    let patrons = texts_of(rt, base, &PATRONS)?;
+    let items = texts_of(rt, base, &ITEMS)?;
+    check_same(rt.alloc(), PATRONS.file, &patrons, &names.patrons)?;
+    check_same(rt.alloc(), ITEMS.file, &items, &names.titles)
+}
+
+/// Refuses rows of which one isn't in the output, or another is.
+fn check_same(alloc: Global, file: &'static str, base: &Texts, out: &Texts) -> Result<(), Stop> {
+    for (id, text) in base {
+        if out.get(id.as_slice()).map(|it| it.as_slice()) != Some(text.as_slice()) {
+            return Err(Stop::of_row(alloc, file, id));
+        }
+    }
+    for id in out.keys() {
+        if !base.contains_key(id.as_slice()) {
+            return Err(Stop::of_row(alloc, file, id));
+        }
+    }
+    Ok(())
+}
+
+/// What is otherwise, by of whom and of what it is: what was said before, and after a line feed, which no text of a table
 /// has, what is said now where something is.
 type Changes = BTreeMap<Vec<u8>, Vec<u8>>;
 
-/// What the tables of `--out` say other than those of `--base`.
-pub fn changes_of<R: Files + AllocGlobal>(
+/// What the tables of the output say other than those of the base.
+fn changes_of<R: Files + AllocGlobal>(
     rt: &R,
-    options: &PageOptions,
-    titles: &Titles,
+    sources: &[Source],
+    base: &str,
+    out: &str,
+    names: &Names,
 ) -> Result<Changes, Stop> {
     let mut changes = BTreeMap::new(rt.alloc());
-    for source in &SOURCES {
-        let before = read_in(rt, options.base.as_str(), &source.table)?;
-        let after = read_in(rt, options.out.as_str(), &source.table)?;
-        note_rows(rt.alloc(), &mut changes, source, &before, titles, false)?;
-        note_rows(rt.alloc(), &mut changes, source, &after, titles, true)?;
+    for source in sources {
+        let before = read_in(rt, base, &source.table)?;
+        let after = read_in(rt, out, &source.table)?;
+        note_rows(rt.alloc(), &mut changes, source, &before, names, false)?;
+        note_rows(rt.alloc(), &mut changes, source, &after, names, true)?;
     }
     Ok(changes)
 }
@@ -110,7 +168,7 @@ fn note_rows(
     changes: &mut Changes,
     source: &Source,
     text: &[u8],
-    titles: &Titles,
+    names: &Names,
     after: bool,
 ) -> Result<(), Stop> {
     if text.is_empty() {
@@ -122,7 +180,7 @@ fn note_rows(
         if !rows.next(&mut row)? {
             break;
         }
-        note_row(alloc, changes, source, &row, titles, after)?;
+        note_row(alloc, changes, source, &row, names, after)?;
     }
     Ok(())
 }
@@ -133,14 +191,15 @@ fn note_row(
     changes: &mut Changes,
     source: &Source,
     row: &ByteRecord,
-    titles: &Titles,
+    names: &Names,
     after: bool,
 ) -> Result<(), AllocError> {
-    let case = case_of(alloc, source.table.header, row)?;
+    let case = no_case(alloc);
+    let fields = fields_of_row(alloc, &source.table, row)?;
     let mut about = Vec::new(alloc);
-    fill(&mut about, source.about.as_bytes(), &case, titles)?;
+    fill(&mut about, source.about.as_bytes(), &case, &fields, names)?;
     let mut says = Vec::new(alloc);
-    fill(&mut says, source.says.as_bytes(), &case, titles)?;
+    fill(&mut says, source.says.as_bytes(), &case, &fields, names)?;
     if after {
         compare(alloc, changes, about, &says)
     } else {
@@ -148,25 +207,39 @@ fn note_row(
     }
 }
 
-/// A row, with its columns as fields.
-fn case_of<'r>(
-    alloc: Global,
-    header: &'static [&'static str],
-    row: &'r ByteRecord,
-) -> Result<Case<'r>, AllocError> {
-    let mut asked = Vec::new(alloc);
-    for (position, name) in header.iter().enumerate() {
-        asked.push(Field {
-            name: name.as_bytes(),
-            value: column(row, position),
-        })?;
-    }
-    Ok(Case {
+fn no_case<'r>(alloc: Global) -> Case<'r> {
+    Case {
         kind: b"",
-        asked,
+        recorded_name: b"",
+        asked: Vec::new(alloc),
         recorded: Vec::new(alloc),
         right: Vec::new(alloc),
-    })
+    }
+}
+
+/// The columns of a row as fields. An item is there a second time to be written as its id alone, and a patron to be written with the name.
+fn fields_of_row<'r>(
+    alloc: Global,
+    table: &Table,
+    row: &'r ByteRecord,
+) -> Result<Vec<Field<'r>>, AllocError> {
+    let mut fields = Vec::new(alloc);
+    for (position, name) in table.header.iter().enumerate() {
+        let value = column(row, position);
+        fields.push(Field {
+            name: name.as_bytes(),
+            value,
+        })?;
+        if *name == "item" {
+            fields.push(Field {
+                name: b"thing",
+                value,
+            })?;
+        } else if *name == "patron" {
+            fields.push(Field { name: b"AA", value })?;
+        }
+    }
+    Ok(fields)
 }
 
 fn put(changes: &mut Changes, about: Vec<u8>, says: Vec<u8>) -> Result<(), AllocError> {
@@ -195,22 +268,49 @@ fn compare(
     put(changes, about, both)
 }
 
-/// Adds a table with a row for each change, `limit` at most.
-pub fn add_changes(sheet: &mut Sheet, changes: &Changes, limit: u64) {
-    sheet.add(CHANGES_HEAD, b"");
-    let mut shown = 0;
+/// A change of somebody or something that no wrong response is about.
+#[derive(Drop)]
+pub struct OtherChange {
+    pub id: Vec<u8>,
+    pub change: Change,
+}
+
+/// Gives each change to whom or what it is of, and returns those of others.
+fn share_out(
+    alloc: Global,
+    changes: &Changes,
+    subjects: &mut Subjects,
+) -> Result<Vec<OtherChange>, AllocError> {
+    let mut others = Vec::new(alloc);
     for (about, says) in changes {
-        if shown >= limit {
-            break;
-        }
-        shown += 1;
-        let (patron, what) = cut(about, b'\n');
+        let (id, what) = cut(about, b'\n');
         let (before, after) = cut(says, b'\n');
-        sheet.add("<tr><th scope=\"row\">", patron);
-        sheet.add("</th><td>", what);
-        sheet.add("</td><td>", before);
-        sheet.add("</td><td>", if after.is_empty() { b"none" } else { after });
-        sheet.add("</td></tr>\n", b"");
+        let change = Change {
+            what: Vec::from_slice(alloc, what)?,
+            before: Vec::from_slice(alloc, before)?,
+            after: Vec::from_slice(alloc, if after.is_empty() { b"none" } else { after })?,
+        };
+        match subjects.get_mut(id) {
+            Some(subject) => subject.changes.push(change)?,
+            None => others.push(OtherChange {
+                id: Vec::from_slice(alloc, id)?,
+                change,
+            })?,
+        }
     }
-    sheet.add("</tbody></table></div>\n", b"");
+    Ok(others)
+}
+
+/// Gives each change of the run to the patron and to the item that it is of, and returns those of patrons that no wrong response is about.
+pub fn note_changes<R: Files + AllocGlobal>(
+    rt: &R,
+    base: &str,
+    out: &str,
+    names: &Names,
+    findings: &mut Findings,
+) -> Result<Vec<OtherChange>, Stop> {
+    let of_items = changes_of(rt, &OF_ITEMS, base, out, names)?;
+    let _ = share_out(rt.alloc(), &of_items, &mut findings.items)?;
+    let of_patrons = changes_of(rt, &OF_PATRONS, base, out, names)?;
+    Ok(share_out(rt.alloc(), &of_patrons, &mut findings.patrons)?)
 }

@@ -1,220 +1,185 @@
-//! What a run found: journal, answers and report side by side.
+//! What a run comes to: its counts, and its wrong responses in groups.
 
-use crate::counts::{Counts, Tally, count};
-use crate::fields::{fields_of, value_in};
-use crate::files::{Rows, Table};
-use crate::sayings::Titles;
-use crate::sections::add_wrong;
-use crate::sheet::Sheet;
+use crate::facts::{Facts, facts_of};
+use crate::groups::{Finding, Groups, count_in, key_of, show_in};
+use crate::reading::{Line, Reading};
 use crate::stop::Stop;
-use csv::ByteRecord;
-use csv_table::column;
-use std::alloc::Global;
+use crate::subjects::{Subjects, note};
+use crate::tally::{Tally, count, counted};
+use crate::whys::Whys;
+use one_run::{Fate, RunTexts};
+use page_words::{Names, value_in};
+use std::alloc::{AllocError, Global};
 use std::collections::BTreeMap;
 
-pub static JOURNAL: Table = Table {
-    file: "journal.csv",
-    header: &["line", "connection", "request", "response"],
-};
+/// What a run comes to.
+#[derive(Drop)]
+pub struct Findings {
+    pub lines: u64,
+    pub answered: u64,
+    /// How many recorded responses were wrong.
+    pub wrong: u64,
+    /// The numbers of the first line and of the last.
+    pub first_line: u64,
+    pub last_line: u64,
+    /// The institution of the first answer that has one.
+    pub library: Vec<u8>,
+    /// How many of the wrong responses came on each day, as eight digits, and in each hour of the clock.
+    pub days: Tally,
+    pub hours: Tally,
+    /// How many responses of each message over each connection were right.
+    pub right: Tally,
+    pub groups: Groups,
+    pub patrons: Subjects,
+    pub items: Subjects,
+}
 
-pub static ANSWERS: Table = Table {
-    file: "answers.csv",
-    header: &["line", "connection", "response"],
-};
-
-pub static REPORT: Table = Table {
-    file: "report.csv",
-    header: &["line", "connection", "fields"],
-};
-
-pub static PASSED: Table = Table {
-    file: "passed.csv",
-    header: &["line", "connection", "why"],
-};
-
-/// How many lines have each reason of `passed.csv`.
-pub fn reasons_of(alloc: Global, text: &[u8]) -> Result<Tally, Stop> {
-    let mut rows = Rows::under(alloc, &PASSED, text)?;
-    let mut row = ByteRecord::new(alloc);
-    let mut reasons = BTreeMap::new(alloc);
-    for _ in 0..u64::MAX {
-        if !rows.next(&mut row)? {
-            break;
+impl Findings {
+    /// Of no line.
+    fn none(alloc: Global) -> Findings {
+        Findings {
+            lines: 0,
+            answered: 0,
+            wrong: 0,
+            first_line: 0,
+            last_line: 0,
+            library: Vec::new(alloc),
+            days: BTreeMap::new(alloc),
+            hours: BTreeMap::new(alloc),
+            right: BTreeMap::new(alloc),
+            groups: BTreeMap::new(alloc),
+            patrons: BTreeMap::new(alloc),
+            items: BTreeMap::new(alloc),
         }
-        count(alloc, &mut reasons, column(&row, 2), 1)?;
-    }
-    Ok(reasons)
-}
-
-/// A line of the journal with its rows of the answers and of the report.
-pub struct Line {
-    pub journal: ByteRecord,
-    pub answer: ByteRecord,
-    pub report: ByteRecord,
-}
-
-impl Drop for Line {
-    fn drop(self) {
-        let Line {
-            journal: _,
-            answer: _,
-            report: _,
-        } = self;
-    }
-}
-
-impl Line {
-    /// Whether the row of the answers is of the line.
-    fn has_answer(&self) -> bool {
-        column(&self.journal, 0) == column(&self.answer, 0)
     }
 
-    /// Whether the row of the report is of the line.
-    fn has_report(&self) -> bool {
-        column(&self.journal, 0) == column(&self.report, 0)
-    }
-}
-
-/// The three tables of a run, read side by side; each has its rows in the order of the lines.
-struct Reading<'t> {
-    journal: Rows<'t>,
-    answers: Rows<'t>,
-    report: Rows<'t>,
-    line: Line,
-    /// Whether `line` has a row of the answers, and one of the report, that no line had yet.
-    answered: bool,
-    differs: bool,
-}
-
-impl Drop for Reading<'_> {
-    fn drop(self) {
-        let Reading {
-            journal: _,
-            answers: _,
-            report: _,
-            line: _,
-            answered: _,
-            differs: _,
-        } = self;
-    }
-}
-
-impl<'t> Reading<'t> {
-    /// Begins with the first row of the answers and of the report.
-    fn of(alloc: Global, texts: [&'t [u8]; 3]) -> Result<Reading<'t>, Stop> {
-        let [journal, answers, report] = texts;
-        let mut reading = Reading {
-            journal: Rows::under(alloc, &JOURNAL, journal)?,
-            answers: Rows::under(alloc, &ANSWERS, answers)?,
-            report: Rows::under(alloc, &REPORT, report)?,
-            line: no_line(alloc),
-            answered: false,
-            differs: false,
-        };
-        reading.next_answer()?;
-        reading.next_report()?;
-        Ok(reading)
+    /// Whether the journal has more than one day, so that times need dates.
+    pub fn is_dated(&self) -> bool {
+        self.days.len() > 1
     }
 
-    fn next_line(&mut self) -> Result<bool, Stop> {
-        self.journal.next(&mut self.line.journal)
+    fn note_line(&mut self, number: u64) {
+        if self.lines == 0 {
+            self.first_line = number;
+        }
+        self.last_line = number;
+        self.lines = self.lines.saturating_add(1);
     }
 
-    fn next_answer(&mut self) -> Result<(), Stop> {
-        self.answered = self.answers.next(&mut self.line.answer)?;
+    /// Notes an answered line, whose recorded response is wrong or right.
+    fn note_answered(
+        &mut self,
+        alloc: Global,
+        line: &Line,
+        is_wrong: bool,
+        whys: &mut Whys,
+    ) -> Result<(), AllocError> {
+        self.answered = self.answered.saturating_add(1);
+        let case = line.case(alloc)?;
+        if self.library.is_empty() {
+            self.library
+                .extend_from_slice(value_in(&case.right, b"AO"))?;
+        }
+        let date = value_in(&case.asked, b"date");
+        whys.note(self.last_line, date, line.connection())?;
+        let more = u64::from(is_wrong);
+        if is_day(date) {
+            count(alloc, &mut self.days, date.get(..8).unwrap_or(b""), more)?;
+            count(
+                alloc,
+                &mut self.hours,
+                date.get(12..14).unwrap_or(b"--"),
+                more,
+            )?;
+        }
+        if !is_wrong {
+            let name = message_at(alloc, case.kind, line.connection())?;
+            count(alloc, &mut self.right, &name, 1)?;
+        }
         Ok(())
     }
 
-    fn next_report(&mut self) -> Result<(), Stop> {
-        self.differs = self.report.next(&mut self.line.report)?;
+    /// Notes a wrong response, which is shown where `shown` says so.
+    fn note_wrong(
+        &mut self,
+        alloc: Global,
+        number: u64,
+        line: Line,
+        names: &Names,
+        whys: &Whys,
+        shown: bool,
+    ) -> Result<(), AllocError> {
+        let facts = facts_of(alloc, number, &line, names, whys)?;
+        if shown {
+            self.note_subjects(alloc, &facts, number)?;
+        }
+        let key = key_of(alloc, &facts)?;
+        let name = message_at(alloc, &facts.kind, &facts.connection)?;
+        let right = counted(&self.right, &name);
+        count_in(&mut self.groups, &key, facts, right)?;
+        if shown {
+            show_in(&mut self.groups, &key, Finding { number, line })?;
+        }
+        Ok(())
+    }
+
+    /// Notes whom and what a wrong response is about.
+    fn note_subjects(
+        &mut self,
+        alloc: Global,
+        facts: &Facts,
+        number: u64,
+    ) -> Result<(), AllocError> {
+        for id in &facts.patrons {
+            note(alloc, &mut self.patrons, id, number)?;
+        }
+        for id in &facts.items {
+            note(alloc, &mut self.items, id, number)?;
+        }
         Ok(())
     }
 }
 
-/// Counts the lines of a run, and adds a section for each wrong response to the sheet, `limit` at most.
-pub fn find(
-    sheet: &mut Sheet,
+/// Whether a transaction date begins with eight digits.
+fn is_day(date: &[u8]) -> bool {
+    match date.get(..8) {
+        Some(day) => day.iter().all(|byte| byte.is_ascii_digit()),
+        None => false,
+    }
+}
+
+/// The name of a message over a connection, in a tally.
+pub fn message_at(alloc: Global, kind: &[u8], connection: &[u8]) -> Result<Vec<u8>, AllocError> {
+    let mut name = Vec::from_slice(alloc, kind)?;
+    name.push(b' ')?;
+    name.extend_from_slice(connection)?;
+    Ok(name)
+}
+
+/// What the tables of a run come to, whose lines have these fates; `limit` wrong responses are shown at most.
+pub fn findings_of(
     alloc: Global,
-    texts: [&[u8]; 3],
-    titles: &Titles,
+    texts: &RunTexts<'_>,
+    fates: &[Fate],
+    names: &Names,
+    whys: &mut Whys,
     limit: u64,
-) -> Result<Counts, Stop> {
-    let mut counts = none_counted(alloc);
+) -> Result<Findings, Stop> {
+    let mut findings = Findings::none(alloc);
     let mut reading = Reading::of(alloc, texts)?;
-    for _ in 0..u64::MAX {
-        if !reading.next_line()? {
-            break;
+    for fate in fates {
+        let number = reading.next_line()?;
+        findings.note_line(number);
+        match *fate {
+            Fate::Passed => {}
+            Fate::Right => findings.note_answered(alloc, reading.next_answer()?, false, whys)?,
+            Fate::Wrong => {
+                findings.note_answered(alloc, reading.next_answer()?, true, whys)?;
+                findings.wrong = findings.wrong.saturating_add(1);
+                let shown = findings.wrong <= limit;
+                findings.note_wrong(alloc, number, reading.next_wrong()?, names, whys, shown)?;
+            }
         }
-        counts.lines = counts.lines.saturating_add(1);
-        if reading.answered && reading.line.has_answer() {
-            take(sheet, alloc, &mut reading, &mut counts, titles, limit)?;
-        }
     }
-    if reading.answered || reading.differs {
-        return Err(Stop::Table("answers.csv, report.csv"));
-    }
-    Ok(counts)
-}
-
-/// Takes in a line that is answered, and reads on in the answers, and in the report where it was wrong.
-fn take(
-    sheet: &mut Sheet,
-    alloc: Global,
-    reading: &mut Reading<'_>,
-    counts: &mut Counts,
-    titles: &Titles,
-    limit: u64,
-) -> Result<(), Stop> {
-    let wrong = reading.differs && reading.line.has_report();
-    count_answered(alloc, counts, &reading.line, wrong)?;
-    if wrong {
-        if counts.wrong <= limit {
-            add_wrong(sheet, alloc, &reading.line, titles)?;
-        }
-        reading.next_report()?;
-    }
-    reading.next_answer()
-}
-
-fn none_counted(alloc: Global) -> Counts {
-    Counts {
-        lines: 0,
-        answered: 0,
-        wrong: 0,
-        hours: BTreeMap::new(alloc),
-        connections: BTreeMap::new(alloc),
-    }
-}
-
-fn no_line(alloc: Global) -> Line {
-    Line {
-        journal: ByteRecord::new(alloc),
-        answer: ByteRecord::new(alloc),
-        report: ByteRecord::new(alloc),
-    }
-}
-
-/// Counts a line that is answered, whose recorded response is wrong or right.
-fn count_answered(
-    alloc: Global,
-    counts: &mut Counts,
-    line: &Line,
-    wrong: bool,
-) -> Result<(), Stop> {
-    let more = u64::from(wrong);
-    counts.answered = counts.answered.saturating_add(1);
-    counts.wrong = counts.wrong.saturating_add(more);
-    let asked = fields_of(alloc, column(&line.journal, 2))?;
-    match value_in(&asked, b"date").get(12..14) {
-        Some(hour) => count(alloc, &mut counts.hours, hour, more)?,
-        None if wrong => count(alloc, &mut counts.hours, b"--", 1)?,
-        None => {}
-    }
-    count(
-        alloc,
-        &mut counts.connections,
-        column(&line.journal, 1),
-        more,
-    )?;
-    Ok(())
+    Ok(findings)
 }

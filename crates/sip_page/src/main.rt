@@ -1,18 +1,25 @@
 //! The program `sip_page`: one page that tells a librarian what a run of `sip_replay` found. How texts are written into a page
-//! stands in `page_text`; here are the files, the sentences and the tables.
+//! stands in `page_text`, what is said in `page_words`, which tables are of one run in `one_run`; here are the files, what is
+//! gathered from them, and what is shown of it.
 #![tactic(auto)]
 
 mod changes;
-mod counts;
-mod fields;
+mod facts;
 mod files;
 mod findings;
-mod known;
+mod groups;
+mod head;
+mod index;
+mod messages;
+mod reading;
 mod run;
-mod sayings;
-mod sections;
 mod sheet;
+mod shown;
 mod stop;
+mod subjects;
+mod summary;
+mod tally;
+mod whys;
 
 use crate::stop::Stop;
 use std::env::Env;

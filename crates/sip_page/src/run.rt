@@ -1,78 +1,42 @@
 //! The whole run: words, files, the page and the status.
 
-use crate::changes::{add_changes, changes_of, titles_of};
-use crate::counts::{Counts, add_bars, add_reasons};
-use crate::files::{read, read_in};
-use crate::findings::{ANSWERS, PASSED, REPORT, find, reasons_of};
-use crate::sayings::Titles;
+use crate::changes::{OtherChange, check_base, names_of, note_changes};
+use crate::files::{Rows, read, read_in};
+use crate::findings::{Findings, findings_of};
+use crate::reading::{ANSWERS, PASSED, REPORT};
 use crate::sheet::Sheet;
+use crate::shown::{View, add_groups};
 use crate::stop::Stop;
+use crate::subjects::{ITEMS, PATRONS, add_subjects};
+use crate::summary::{add_head, add_summary};
+use crate::tally::{Tally, count};
+use crate::whys::Whys;
 use command_line::{PageOptions, Refusal, page_options};
+use csv::ByteRecord;
+use csv_table::column;
+use one_run::{RunTexts, fates};
+use page_words::{Names, REASONS, known};
+use std::alloc::Global;
+use std::collections::BTreeMap;
+use std::env;
+use std::env::Env;
 use std::io::Write;
 use std::rt::Files;
 
-/// The page up to its first sentence. The policy lets nothing be loaded, whatever the page should come to hold. Words break
-/// where they must; the names at the head of a row don't, so that ids stay whole, and a table that is too wide for a
-/// telephone scrolls in its room.
-const HEAD: &str = "<!DOCTYPE html>
-<html lang=\"en\">
-<head>
-<meta charset=\"utf-8\">
-<meta http-equiv=\"Content-Security-Policy\" content=\"default-src 'none'; style-src 'unsafe-inline'\">
-<meta name=\"viewport\" content=\"width=device-width, initial-scale=1\">
-<title>What was wrong, and what is right</title>
-<style>
-body { font: 1rem/1.5 sans-serif; color: #111; background: #fff; max-width: 76rem; margin: 0 auto; padding: 0 1rem 2rem; }
-h1, h2, h3 { line-height: 1.25; break-after: avoid; }
-h2 { margin-top: 2.5rem; }
-p { overflow-wrap: anywhere; }
-section { border-top: 1px solid #767676; }
-section p { max-width: 48rem; }
-div { overflow-x: auto; margin-bottom: 1rem; }
-table { border-collapse: collapse; }
-caption { text-align: left; font-weight: bold; padding-bottom: 0.25rem; }
-th, td { border: 1px solid #767676; padding: 0.2rem 0.5rem; text-align: left; vertical-align: top; }
-th { font-weight: normal; background: #f2f2f2; }
-thead th { font-weight: bold; }
-td { min-width: 3rem; overflow-wrap: anywhere; white-space: break-spaces; }
-mark { background: #ffe08a; color: #111; font-weight: bold; print-color-adjust: exact; }
-svg { width: 15rem; max-width: 45vw; height: 0.8rem; }
-rect { fill: #8a1c1c; }
-@media print, (min-width: 60rem) {
-section { display: grid; grid-template-columns: fit-content(45%) minmax(0, 1fr); column-gap: 1.5rem; align-items: start; }
-section h3, section p { grid-column: 1 / -1; margin-bottom: 0; }
-section div { margin-top: 1rem; }
-}
-@media (max-width: 30rem) {
-h1 { font-size: 1.6rem; }
-table { font-size: 0.875rem; }
-th, td { padding: 0.2rem 0.35rem; }
-}
-@media print {
-html { font-size: 9pt; }
-body { max-width: none; padding: 0; line-height: 1.3; }
-th, td { padding: 0.05rem 0.35rem; }
-section, tr { break-inside: avoid; }
-div { overflow-x: visible; }
-}
-</style>
-</head>
-<body>
-<main>
-<h1>What was wrong, and what is right</h1>
-";
+/// Up to so many wrong responses the patrons and items that they are about stand open.
+const OPEN: u64 = 100;
 
-/// The head of the table of the hours.
-const HOURS: &str = "<h2>When they were wrong</h2>
-<div><table><caption>Wrong responses by hour of the clock</caption>
-<thead><tr><th scope=\"col\">Hour</th><th scope=\"col\">Wrong responses</th></tr></thead>
+/// The head of the table of what changed of others.
+const OTHERS_HEAD: &str =
+    "<div class=\"t\"><table class=\"c\"><caption>Loans, fees, holds and blocks that are other than before</caption>
+<thead><tr><th scope=\"col\">Patron</th><th scope=\"col\">What</th><th scope=\"col\">Before</th><th scope=\"col\">After</th></tr></thead>
 <tbody>
 ";
 
-/// The head of the table of the connections.
-const CONNECTIONS: &str = "<h2>Where they were wrong</h2>
-<div><table><caption>Wrong responses by connection</caption>
-<thead><tr><th scope=\"col\">Connection</th><th scope=\"col\">Wrong responses</th></tr></thead>
+/// The head of the table of reasons.
+const REASONS_HEAD: &str =
+    "<div class=\"t\"><table><caption>Requests that changed nothing, by reason</caption>
+<thead><tr><th scope=\"col\">Reason</th><th scope=\"col\">It says that the request</th><th scope=\"col\">Requests</th></tr></thead>
 <tbody>
 ";
 
@@ -80,11 +44,11 @@ const CONNECTIONS: &str = "<h2>Where they were wrong</h2>
 /// of the program:
 ///
 /// - 0 where the page is written, and for help, whose text goes to `out`;
-/// - 2 where the command line or a table is refused;
+/// - 2 where the command line or a table is refused, or the tables aren't of one run;
 /// - 3 where a file can't be read, `out` takes no text, or memory ran out.
 ///
 /// What stopped the run is told on `err`.
-pub fn run<R: Files + AllocGlobal, W: Write, E: Write>(
+pub fn run<R: Files + Env + AllocGlobal, W: Write, E: Write>(
     rt: &R,
     words: &[String],
     out: &mut W,
@@ -109,56 +73,116 @@ fn write_to<W: Write>(out: &mut W, text: &[u8]) -> Result<(), Stop> {
     }
 }
 
-fn write_page<R: Files + AllocGlobal, W: Write>(
+fn write_page<R: Files + Env + AllocGlobal, W: Write>(
     rt: &R,
     options: &PageOptions,
     out: &mut W,
 ) -> Result<(), Stop> {
-    let mut head = Sheet::new(rt.alloc());
-    let mut body = Sheet::new(rt.alloc());
-    add_all(rt, &mut head, &mut body, options)?;
-    write_sheet(out, &head)?;
-    write_sheet(out, &body)
-}
-
-fn write_sheet<W: Write>(out: &mut W, sheet: &Sheet) -> Result<(), Stop> {
+    let mut sheet = Sheet::new(rt.alloc());
+    add_all(rt, &mut sheet, options)?;
     let bytes = sheet.bytes()?;
     write_to(out, &bytes)
 }
 
-/// Adds the whole page: its beginning, which counts what is found in the rest, and the rest.
-fn add_all<R: Files + AllocGlobal>(
-    rt: &R,
-    head: &mut Sheet,
-    body: &mut Sheet,
-    options: &PageOptions,
-) -> Result<(), Stop> {
-    let titles = titles_of(rt, options.out.as_str())?;
-    let counts = show_wrong(rt, body, options, &titles)?;
-    add_counts(head, &counts);
-    show_changes(rt, body, options, &titles)?;
-    show_passed(rt, body, options)
-}
-
-/// Adds the wrong responses, and gives what was counted.
-fn show_wrong<R: Files + AllocGlobal>(
+/// Adds the whole page.
+fn add_all<R: Files + Env + AllocGlobal>(
     rt: &R,
     sheet: &mut Sheet,
     options: &PageOptions,
-    titles: &Titles,
-) -> Result<Counts, Stop> {
+) -> Result<(), Stop> {
+    let names = names_of(rt, options.out.as_str())?;
+    if let Some(base) = &options.base {
+        check_base(rt, base.as_str(), &names)?;
+    }
+    let (mut findings, passed, whys) = read_run(rt, options, &names)?;
+    let others = match &options.base {
+        Some(base) => Some(note_changes(
+            rt,
+            base.as_str(),
+            options.out.as_str(),
+            &names,
+            &mut findings,
+        )?),
+        None => None,
+    };
+    let view = View {
+        alloc: rt.alloc(),
+        names: &names,
+        findings: &findings,
+        whys: &whys,
+    };
+    add_head(sheet, &view)?;
+    add_summary(sheet, &view, options, made_by(rt)?.as_str())?;
+    add_wrong(sheet, &view, u64::from(options.limit))?;
+    add_people(sheet, &view, &others, u64::from(options.limit));
+    add_things(sheet, &view, others.is_some());
+    add_passed(sheet, &passed);
+    Ok(())
+}
+
+/// By which program the page is made, where who called it says so.
+fn made_by<R: Env + AllocGlobal>(rt: &R) -> Result<String, Stop> {
+    match env::var(rt, "SIP_PAGE_BUILD") {
+        Ok(text) => Ok(text),
+        Err(_) => Ok(String::from_str(
+            rt.alloc(),
+            "sip_page; of which commit, and whether it is proved, nobody told it",
+        )?),
+    }
+}
+
+/// What the tables of the run come to, and how many lines were passed over for each reason.
+fn read_run<R: Files + AllocGlobal>(
+    rt: &R,
+    options: &PageOptions,
+    names: &Names,
+) -> Result<(Findings, Tally, Whys), Stop> {
     let journal = read(rt, options.journal.as_str())?;
     let answers = read_in(rt, options.out.as_str(), &ANSWERS)?;
+    let passed = read_in(rt, options.out.as_str(), &PASSED)?;
     let report = read_in(rt, options.out.as_str(), &REPORT)?;
+    let texts = RunTexts {
+        journal: &journal,
+        answers: &answers,
+        passed: &passed,
+        report: &report,
+    };
+    let fates = match fates(rt.alloc(), &texts) {
+        Ok(fates) => fates,
+        Err(error) => return Err(Stop::of_no_run(rt.alloc(), &error)),
+    };
+    let mut whys = match &options.why {
+        Some(path) => Whys::of(rt.alloc(), &read(rt, path.as_str())?, &report)?,
+        None => Whys::none(rt.alloc()),
+    };
     let limit = u64::from(options.limit);
-    sheet.add("<h2>Each wrong response</h2>\n", b"");
-    let texts = [journal.as_slice(), answers.as_slice(), report.as_slice()];
-    let counts = find(sheet, rt.alloc(), texts, titles, limit)?;
-    if counts.wrong == 0 {
+    let findings = findings_of(rt.alloc(), &texts, &fates, names, &mut whys, limit)?;
+    Ok((findings, reasons_of(rt.alloc(), &passed)?, whys))
+}
+
+/// How many lines have each reason of `passed.csv`.
+fn reasons_of(alloc: Global, text: &[u8]) -> Result<Tally, Stop> {
+    let mut rows = Rows::under(alloc, &PASSED, text)?;
+    let mut row = ByteRecord::new(alloc);
+    let mut reasons = BTreeMap::new(alloc);
+    for _ in 0..u64::MAX {
+        if !rows.next(&mut row)? {
+            break;
+        }
+        count(alloc, &mut reasons, column(&row, 2), 1)?;
+    }
+    Ok(reasons)
+}
+
+/// Adds the wrong responses.
+fn add_wrong(sheet: &mut Sheet, view: &View<'_>, limit: u64) -> Result<(), Stop> {
+    sheet.add("<h2 id=\"wrong\">Wrong responses</h2>\n", b"");
+    if view.findings.wrong == 0 {
         sheet.add("<p>No recorded response was wrong.</p>\n", b"");
     }
-    add_left_out(sheet, counts.wrong.saturating_sub(limit));
-    Ok(counts)
+    add_left_out(sheet, view.findings.wrong.saturating_sub(limit));
+    add_groups(sheet, view)?;
+    Ok(())
 }
 
 /// Adds how many were left out, where some were.
@@ -169,54 +193,101 @@ fn add_left_out(sheet: &mut Sheet, count: u64) {
     }
 }
 
-/// Adds the head of the page, the counts and the bars.
-fn add_counts(sheet: &mut Sheet, counts: &Counts) {
-    sheet.add(HEAD, b"");
-    sheet.add_number("<p>Requests: ", counts.lines);
-    sheet.add_number(". Answered by the rules: ", counts.answered);
-    let passed = counts.lines.saturating_sub(counts.answered);
-    sheet.add_number(". Passed over: ", passed);
-    sheet.add_number(". <strong>Wrong responses: ", counts.wrong);
-    sheet.add("</strong>.</p>\n", b"");
-    if counts.wrong > 0 {
-        add_bars(sheet, HOURS, ":00", &counts.hours);
-        add_bars(sheet, CONNECTIONS, "", &counts.connections);
+/// Adds the patrons that wrong responses are about, and what changed for others.
+fn add_people(sheet: &mut Sheet, view: &View<'_>, others: &Option<Vec<OtherChange>>, limit: u64) {
+    let findings = view.findings;
+    sheet.add(
+        "<h2 id=\"patrons\">Patrons, and what changed for whom</h2>\n",
+        b"",
+    );
+    if others.is_none() {
+        sheet.add(
+            "<p>No base tables were given, so nothing is told of what changed.</p>\n",
+            b"",
+        );
+    }
+    add_subjects(
+        sheet,
+        &PATRONS,
+        &findings.patrons,
+        &view.names.patrons,
+        others.is_some(),
+        findings.wrong <= OPEN,
+    );
+    match others {
+        Some(others) if others.is_empty() && findings.patrons.is_empty() => {
+            sheet.add("<p>Nothing changed for anybody.</p>\n", b"");
+        }
+        Some(others) if others.is_empty() => sheet.add("<p>Nothing changed for others.</p>\n", b""),
+        Some(others) => add_others(sheet, others, limit),
+        None => {}
     }
 }
 
-/// Adds what changed for whom.
-fn show_changes<R: Files + AllocGlobal>(
-    rt: &R,
-    sheet: &mut Sheet,
-    options: &PageOptions,
-    titles: &Titles,
-) -> Result<(), Stop> {
-    let changes = changes_of(rt, options, titles)?;
-    let limit = u64::from(options.limit);
-    sheet.add("<h2>What changed for whom</h2>\n", b"");
-    if changes.is_empty() {
-        sheet.add("<p>Nothing changed for anybody.</p>\n", b"");
-    } else {
-        add_changes(sheet, &changes, limit);
+/// Adds what changed for patrons that no wrong response is about, `limit` changes at most.
+fn add_others(sheet: &mut Sheet, others: &[OtherChange], limit: u64) {
+    sheet.add_number(
+        "<details class=\"x\"><summary>What changed for others: ",
+        others.len() as u64,
+    );
+    sheet.add(" changes</summary>\n", b"");
+    sheet.add(OTHERS_HEAD, b"");
+    let mut shown = 0;
+    for other in others {
+        if shown >= limit {
+            break;
+        }
+        shown += 1;
+        sheet.add("<tr><th scope=\"row\">", &other.id);
+        sheet.add("</th><td>", &other.change.what);
+        sheet.add("</td><td>", &other.change.before);
+        sheet.add("</td><td>", &other.change.after);
+        sheet.add("</td></tr>\n", b"");
     }
-    add_left_out(sheet, (changes.len() as u64).saturating_sub(limit));
-    Ok(())
+    sheet.add("</tbody></table></div>\n", b"");
+    add_left_out(sheet, (others.len() as u64).saturating_sub(limit));
+    sheet.add("</details>\n", b"");
+}
+
+/// Adds the items that wrong responses are about.
+fn add_things(sheet: &mut Sheet, view: &View<'_>, known: bool) {
+    let findings = view.findings;
+    sheet.add("<h2 id=\"items\">Items</h2>\n", b"");
+    if findings.items.is_empty() {
+        sheet.add("<p>No wrong response is about an item.</p>\n", b"");
+    }
+    add_subjects(
+        sheet,
+        &ITEMS,
+        &findings.items,
+        &view.names.titles,
+        known,
+        findings.wrong <= OPEN,
+    );
 }
 
 /// Adds the lines that were passed over, by reason, and the end of the page.
-fn show_passed<R: Files + AllocGlobal>(
-    rt: &R,
-    sheet: &mut Sheet,
-    options: &PageOptions,
-) -> Result<(), Stop> {
-    let text = read_in(rt, options.out.as_str(), &PASSED)?;
-    let reasons = reasons_of(rt.alloc(), &text)?;
-    sheet.add("<h2>Requests that were passed over</h2>\n", b"");
+fn add_passed(sheet: &mut Sheet, reasons: &Tally) {
+    sheet.add(
+        "<h2 id=\"passed\">Requests that were passed over</h2>\n",
+        b"",
+    );
     if reasons.is_empty() {
         sheet.add("<p>No request was passed over.</p>\n", b"");
     } else {
-        add_reasons(sheet, &reasons);
+        add_reasons(sheet, reasons);
     }
     sheet.add("</main>\n</body>\n</html>\n", b"");
-    Ok(())
+}
+
+/// Adds a table with each reason of lines that were passed over.
+fn add_reasons(sheet: &mut Sheet, reasons: &Tally) {
+    sheet.add(REASONS_HEAD, b"");
+    for (why, count) in reasons {
+        sheet.add("<tr><th scope=\"row\">", why);
+        sheet.add("</th><td>", known(REASONS, why));
+        sheet.add_number("</td><td>", *count);
+        sheet.add("</td></tr>\n", b"");
+    }
+    sheet.add("</tbody></table></div>\n", b"");
 }

@@ -1,23 +1,14 @@
-//! The page as it grows. What is added behind a failure is lost, and the failure is told when the page is read off.
+//! The page as it grows. What is added after a failure is lost, and the failure is told when the page is read off.
 
 use page_text::Page;
 use std::alloc::{AllocError, Global};
 
 /// A page, or a part of one.
+#[derive(Drop)]
 pub struct Sheet {
     alloc: Global,
     page: Page,
     failed: bool,
-}
-
-impl Drop for Sheet {
-    fn drop(self) {
-        let Sheet {
-            alloc: _,
-            page: _,
-            failed: _,
-        } = self;
-    }
 }
 
 impl Sheet {
@@ -30,19 +21,23 @@ impl Sheet {
         }
     }
 
-    /// Adds markup, and a text behind it.
+    /// Adds markup, and a text after it.
     pub fn add(&mut self, markup: &'static str, text: &[u8]) {
         if self.page.add(markup, text).is_err() {
             self.failed = true;
         }
     }
 
-    /// Adds markup, and a number behind it.
+    /// Adds markup, and a number after it.
     pub fn add_number(&mut self, markup: &'static str, number: u64) {
-        match format!(in self.alloc; "{number}") {
-            Ok(text) => self.add(markup, text.as_bytes()),
-            Err(_) => self.failed = true,
+        if self.page.add_number(markup, number).is_err() {
+            self.failed = true;
         }
+    }
+
+    /// Adds nothing more: memory ran out.
+    pub fn fail(&mut self) {
+        self.failed = true;
     }
 
     /// What is on it, as it is written.

@@ -1,6 +1,7 @@
 //! What ends a run before its page is written, and the status that tells it.
 
 use csv_table::TableError;
+use one_run::NoRun;
 use std::alloc::{AllocError, AllocFailed, Global};
 use std::io;
 use std::io::Write;
@@ -20,8 +21,10 @@ pub enum Stop {
     Words(String),
     /// A word of the command line isn't text.
     NoText,
-    /// The file of this name isn't the table of this run that it should be.
+    /// The file of this name isn't the table that it should be.
     Table(&'static str),
+    /// The tables aren't of one run: what says so.
+    NotOneRun(String),
     /// The file of this path can't be read.
     File(String),
     /// Standard output takes nothing more.
@@ -69,6 +72,30 @@ impl Stop {
         }
     }
 
+    /// The stop of tables that aren't of one run.
+    pub fn of_no_run(alloc: Global, error: &NoRun) -> Stop {
+        match error {
+            NoRun::Memory => Stop::Memory,
+            NoRun::Table(file) => Stop::Table(*file),
+            NoRun::Line(line, says) => match format!(in alloc; "line {line}: {says}") {
+                Ok(text) => Stop::NotOneRun(text),
+                Err(_) => Stop::Memory,
+            },
+        }
+    }
+
+    /// The stop of a table of the base that has no such row as that of the output.
+    pub fn of_row(alloc: Global, file: &'static str, id: &[u8]) -> Stop {
+        let Ok(id) = String::from_utf8_lossy(alloc, id) else {
+            return Stop::Memory;
+        };
+        let id = id.as_str();
+        match format!(in alloc; "{file} of the base and of the output: other rows of {id}") {
+            Ok(text) => Stop::NotOneRun(text),
+            Err(_) => Stop::Memory,
+        }
+    }
+
     /// Prints what stopped the run, and gives its status. A failed write to `err` changes no status.
     pub fn tell<E: Write>(&self, err: &mut E) -> u8 {
         let (status, what, name) = match self {
@@ -80,6 +107,7 @@ impl Stop {
                 "",
             ),
             Stop::Table(file) => (REFUSED, "error: no such table, or not of this run: ", *file),
+            Stop::NotOneRun(text) => (REFUSED, "error: not of one run: ", text.as_str()),
             Stop::File(text) => (FAILED, "file: ", text.as_str()),
             Stop::Output => (FAILED, "error: standard output takes nothing more\n", ""),
         };

@@ -1,6 +1,6 @@
 //! Up to 14 bytes that take no memory of their own.
 
-ghost use Rattle.std.specs.Prelude.{◌≡◌, ◌≤◌, ◌+◌, ◌++◌, ◌-◌, if◌then◌else◌, nat_le, OnOk, Some, None, length, replicate};
+ghost use Rattle.std.specs.Prelude.{◌≡◌, ◌≤◌, ◌+◌, ◌++◌, ◌-◌, if◌then◌else◌, nat_le, OnErr, OnOk, Some, None, length, replicate};
 ghost use Rattle.std.specs.Cmp.Lexicographic.{slice_cmp};
 ghost use Rattle.std.specs.Ordering.{eq_by_cmp, nat_cmp};
 ghost use Rattle.sip_reader.specs.Devices.Numbers.{id_number};
@@ -78,9 +78,10 @@ impl Few {
         &self.bytes[..self.len as usize]
     }
 
-    /// Puts them behind other bytes. All 14 are copied and the zeros cut off again, which takes no call where there is room.
+    /// Puts them behind other bytes; without memory those stay alone. All 14 are copied and the zeros cut off again, which takes no call where there is room.
     pub fn put_behind(&self, out: &mut Vec<u8>) -> Result<(), AllocError>
-        ensures { OnOk result (out.new.items ≡ out.old.items ++ self.now) }
+        ensures ok { OnOk result (out.new.items ≡ out.old.items ++ self.now) }
+        ensures err { OnErr result (out.new.items ≡ out.old.items) }
     {
         if out.capacity().wrapping_sub(out.len()) < FEW_MAX {
             return self.put_behind_last(out);
@@ -93,7 +94,8 @@ impl Few {
     /// The same where there may be too little room, which is rare: it stands by itself, so that the other way needs none for a call.
     #[inline(never)]
     fn put_behind_last(&self, out: &mut Vec<u8>) -> Result<(), AllocError>
-        ensures { OnOk result (out.new.items ≡ out.old.items ++ self.now) }
+        ensures ok { OnOk result (out.new.items ≡ out.old.items ++ self.now) }
+        ensures err { OnErr result (out.new.items ≡ out.old.items) }
     {
         out.extend_from_slice(self.as_bytes())
     }

@@ -1,6 +1,6 @@
 //! Ids that are kept.
 
-ghost use Rattle.std.specs.Prelude.{◌≡◌, ◌++◌, true, IfOk, OnOk, if◌then◌else◌, Some, None};
+ghost use Rattle.std.specs.Prelude.{◌≡◌, ◌++◌, true, IfOk, OnErr, OnOk, if◌then◌else◌, Some, None};
 ghost use Rattle.std.specs.Cmp.Lexicographic.{slice_cmp};
 ghost use Rattle.std.specs.Cmp.Rules.{comparing};
 ghost use Rattle.std.specs.Ordering.{nat_cmp, eq_by_cmp};
@@ -84,9 +84,10 @@ impl KeptId {
         self.text.as_bytes()
     }
 
-    /// Puts its bytes behind others.
+    /// Puts its bytes behind others; without memory those stay alone.
     pub fn put_behind(&self, out: &mut Vec<u8>) -> Result<(), AllocError>
-        ensures { OnOk result (out.new.items ≡ out.old.items ++ self.now) }
+        ensures ok { OnOk result (out.new.items ≡ out.old.items ++ self.now) }
+        ensures err { OnErr result (out.new.items ≡ out.old.items) }
     {
         self.text.put_behind(out)
     }

@@ -1,6 +1,6 @@
 //! Texts of records and messages.
 
-ghost use Rattle.std.specs.Prelude.{◌≡◌, ◌++◌, true, IfOk, IfSome, OnOk, if◌then◌else◌, Some, None};
+ghost use Rattle.std.specs.Prelude.{◌≡◌, ◌++◌, true, IfOk, IfSome, OnErr, OnOk, if◌then◌else◌, Some, None};
 ghost use Rattle.sip_reader.specs.Devices.Held.{bytes_held};
 ghost use Rattle.sip_reader.specs.Texts.{is_text};
 
@@ -103,10 +103,11 @@ impl Text {
         self.held.as_slice()
     }
 
-    /// Puts its bytes behind others.
+    /// Puts its bytes behind others; without memory those stay alone.
     #[inline(always)]
     pub fn put_behind(&self, out: &mut Vec<u8>) -> Result<(), AllocError>
-        ensures { OnOk result (out.new.items ≡ out.old.items ++ self.now) }
+        ensures ok { OnOk result (out.new.items ≡ out.old.items ++ self.now) }
+        ensures err { OnErr result (out.new.items ≡ out.old.items) }
     {
         match self.few() {
             Some(few) => few.put_behind(out),
@@ -117,7 +118,8 @@ impl Text {
     /// The same, wherever they stand. It stands by itself, so that few bytes need no room for a call.
     #[inline(never)]
     fn put_many_behind(&self, out: &mut Vec<u8>) -> Result<(), AllocError>
-        ensures { OnOk result (out.new.items ≡ out.old.items ++ self.now) }
+        ensures ok { OnOk result (out.new.items ≡ out.old.items ++ self.now) }
+        ensures err { OnErr result (out.new.items ≡ out.old.items) }
     {
         out.extend_from_slice(self.as_bytes())
     }

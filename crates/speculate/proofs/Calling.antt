@@ -109,7 +109,7 @@ nowhere_at b r n s ready there e is =
 pub take_ready : (old new : Board) (w n a : ℕ) (r r' : Ready) → TakeStep old w n (Taken a) new → IsReady old r → Puts r r' (n - old.first) marks.Nowhere → IsReady new r'
 take_ready old new w n a r r' h ready puts =
     let row : Row = record (row_at old n) { state = Running w []; next = (row_at old n).next + 1 } in
-    let turns : Turns old new n row = turns_put old new n row h.0.within (ap (λ (b : Board). b.first) h.3) (ap (λ (b : Board). b.rows) h.3) in
+    let turns : Turns old new n row = turns_put old new n row h.0.within (ap (λ (b : Board). b.first) h.3) (ap (λ (b : Board). b.rows) h.3) (ap (λ (b : Board). b.workers) h.3) in
     ready_put old new n row turns r r' marks.Nowhere refl refl puts ready
 
 pub take_other : {J : Type 0} (plan : Planned) (old new : Board) (w n : ℕ) (r : Ready) (reply : Reply J) → ((a : ℕ) → reply ≡ replies.Taken a → ⊥) → Answers plan old (Take w n) reply new
@@ -128,7 +128,7 @@ stop_ready plan old new w m k hand r r' ok in_hand h ready puts =
     let row : Row = with_state (row_at old n) Waiting in
     let there = line_running old n w h.1 h.2.running in
     let same : hand.line ≡ n = ok.hands hand.line n w in_hand.0 (ap holder h.2.running) in
-    let turns : Turns old new n row = turns_put old new n row there (ap (λ (b : Board). b.first) h.4) (ap (λ (b : Board). b.rows) h.4) in
+    let turns : Turns old new n row = turns_put old new n row there (ap (λ (b : Board). b.first) h.4) (ap (λ (b : Board). b.rows) h.4) (ap (λ (b : Board). b.workers) h.4) in
     ready_put old new n row turns r r' marks.Waiting refl refl (subst (λ x. Puts r r' (x - old.first) marks.Waiting) same puts) ready
 
 -- a line that runs on has no mark
@@ -138,7 +138,7 @@ see_ready plan old new w k name value r h ready =
     let notes : List Note = h.1 ++ record { key = k; name = name; found = value_at plan (row_at old) n k } ∷ [] in
     let row : Row = with_state (row_at old n) (Running w notes) in
     let there = line_running old n w h.1 h.2.running in
-    let turns : Turns old new n row = turns_put old new n row there (ap (λ (b : Board). b.first) h.5) (ap (λ (b : Board). b.rows) h.5) in
+    let turns : Turns old new n row = turns_put old new n row there (ap (λ (b : Board). b.first) h.5) (ap (λ (b : Board). b.rows) h.5) (ap (λ (b : Board). b.workers) h.5) in
     ready_put old new n row turns r r marks.Nowhere refl refl (nowhere_at old r n (Running w h.1) ready there h.2.running (λ mark e. e)) ready
 
 pub look_other : {J : Type 0} (plan : Planned) (old new : Board) (w : ℕ) (k : Key) (r : Ready) (reply : Reply J) → ((m : ℕ) → reply ≡ replies.Suspect m → ⊥) → Answers plan old (Look w k) reply new
@@ -168,7 +168,7 @@ placed_ready plan old new w v hand r r' ok in_hand h ready loses =
     let line : Row = record (row_at old n) { state = Placing w h.1 (Some v); entries = insert (row_at old n).entries h.4 (shown_by v.attempt v) } in
     let row : Row = record line { changed = old.clock + 1 } in
     let same : hand.line ≡ n = ok.hands hand.line n w in_hand.0 (held_by_publisher old w n h.1 h.2) in
-    let turns : Turns old new n row = turns_put old new n row (line_published old w n h.1 h.2) (ap (λ (b : Board). b.first) h.8) (ap (λ (b : Board). b.rows) h.8) in
+    let turns : Turns old new n row = turns_put old new n row (line_published old w n h.1 h.2) (ap (λ (b : Board). b.first) h.8) (ap (λ (b : Board). b.rows) h.8) (ap (λ (b : Board). b.workers) h.8) in
     ready_change old new n row turns r r r' marks.Nowhere (stamp_by plan old ok) (omega arith) refl (nowhere_published old r w n h.1 ready h.2)
     (subst (λ x. Loses r r' (x - old.first)) same loses) ready
 
@@ -179,7 +179,7 @@ lifted_ready plan old new w v hand r r' ok in_hand h ready loses =
     let line : Row = record (row_at old n) { state = Placing w h.1 (Some v); entries = remove (row_at old n).entries h.5 } in
     let row : Row = record line { changed = old.clock + 1 } in
     let same : hand.line ≡ n = ok.hands hand.line n w in_hand.0 (held_by_publisher old w n h.1 h.2) in
-    let turns : Turns old new n row = turns_put old new n row (line_published old w n h.1 h.2) (ap (λ (b : Board). b.first) h.8) (ap (λ (b : Board). b.rows) h.8) in
+    let turns : Turns old new n row = turns_put old new n row (line_published old w n h.1 h.2) (ap (λ (b : Board). b.first) h.8) (ap (λ (b : Board). b.rows) h.8) (ap (λ (b : Board). b.workers) h.8) in
     ready_change old new n row turns r r r' marks.Nowhere (stamp_by plan old ok) (omega arith) refl (nowhere_published old r w n h.1 ready h.2)
     (subst (λ x. Loses r r' (x - old.first)) same loses) ready
 
@@ -189,7 +189,7 @@ published_ready plan old new w v hand r r' ok in_hand h ready puts =
     let n = h.0 in
     let row : Row = with_state (row_at old n) (Done h.1 v.answer None) in
     let same : hand.line ≡ n = ok.hands hand.line n w in_hand.0 (held_by_publisher old w n h.1 h.2) in
-    let turns : Turns old new n row = turns_put old new n row (line_published old w n h.1 h.2) (ap (λ (b : Board). b.first) h.6) (ap (λ (b : Board). b.rows) h.6) in
+    let turns : Turns old new n row = turns_put old new n row (line_published old w n h.1 h.2) (ap (λ (b : Board). b.first) h.6) (ap (λ (b : Board). b.rows) h.6) (ap (λ (b : Board). b.workers) h.6) in
     ready_put old new n row turns r r' marks.Unchecked refl refl (subst (λ x. Puts r r' (x - old.first) marks.Unchecked) same puts) ready
 
 pub publish_other : {J : Type 0} (plan : Planned) (old new : Board) (w : ℕ) (v : Contents) (r : Ready) (reply : Reply J)
@@ -213,7 +213,7 @@ same_begins : (plan : Planned) (old new : Board) (w n : ℕ) (r r' : Ready) → 
 same_begins plan old new w n r r' ok none h ready puts =
     let row : Row = with_state (row_at old n) (Checking w h.0 h.1 h.2 (h.3 + 1)) in
     let from = begins_free old w n h.0 h.1 h.2 h.3 none h.4 in
-    let turns : Turns old new n row = turns_put old new n row (line_compared old w n h.0 h.1 h.2 h.3 h.4) (ap (λ (b : Board). b.first) h.8) (ap (λ (b : Board). b.rows) h.8) in
+    let turns : Turns old new n row = turns_put old new n row (line_compared old w n h.0 h.1 h.2 h.3 h.4) (ap (λ (b : Board). b.first) h.8) (ap (λ (b : Board). b.rows) h.8) (ap (λ (b : Board). b.workers) h.8) in
     ready_put old new n row turns r r' marks.Checking refl (inl (refl, λ m lt. omega (arith, from.1, (ok.rows.each m).past))) puts ready
 
 pub same_begin : (plan : Planned) (old new : Board) (w n : ℕ) (hand : Option Hand) (r r' : Ready) → Reached plan old → IsHand old w hand → is_some hand ≡ false → CheckStep old w n Same new
@@ -227,7 +227,7 @@ same_goes_on plan old new w n hand r in_hand e h ready =
     let row : Row = with_state (row_at old n) (Checking w h.0 h.1 h.2 (h.3 + 1)) in
     let there = line_compared old w n h.0 h.1 h.2 h.3 h.4 in
     let was = mark_by old r n (Checking w h.0 h.1 h.2 h.3) ready there (goes_on old w n h.0 h.1 h.2 h.3 held.0 held.1 h.4) in
-    let turns : Turns old new n row = turns_put old new n row there (ap (λ (b : Board). b.first) h.8) (ap (λ (b : Board). b.rows) h.8) in
+    let turns : Turns old new n row = turns_put old new n row there (ap (λ (b : Board). b.first) h.8) (ap (λ (b : Board). b.rows) h.8) (ap (λ (b : Board). b.workers) h.8) in
     ready_put old new n row turns r r was.0 refl was.1 (puts_none r (n - old.first) was.0 was.2) ready
 
 -- whether the check began now or before
@@ -240,7 +240,7 @@ module _ (plan : Planned) (old new : Board) (w n : ℕ) (r r' : Ready) (ok : Rea
 
   turns : Turns old new n row
   unfolding row
-  turns = turns_put old new n row there (ap (λ (b : Board). b.first) h.6) (ap (λ (b : Board). b.rows) h.6)
+  turns = turns_put old new n row there (ap (λ (b : Board). b.first) h.6) (ap (λ (b : Board). b.rows) h.6) (ap (λ (b : Board). b.workers) h.6)
 
   -- the line is checked
   to_checked : IsStill (row_at old) n h.2 → Puts r r' (n - old.first) marks.Checked → IsReady new r'
@@ -287,7 +287,7 @@ failed_ready plan old new w n key noted now r r' true ok h differs same ready se
       | inr x ↦
           (let line : Row = record (row_at old n) { state = Waiting; entries = suspected (row_at old n).entries } in
           let row : Row = record line { changed = old.clock + 1 } in
-          let turns : Turns old new n row = turns_put old new n row there (ap (λ (b : Board). b.first) x.2) (ap (λ (b : Board). b.rows) x.2) in
+          let turns : Turns old new n row = turns_put old new n row there (ap (λ (b : Board). b.first) x.2) (ap (λ (b : Board). b.rows) x.2) (ap (λ (b : Board). b.workers) x.2) in
           ready_change old new n row turns r sends.0 r' marks.Waiting (stamp_by plan old ok) (omega arith) refl sends.1 sends.2 ready)
     ]
 failed_ready plan old new w n key noted now r r' false ok h differs same ready sends =
@@ -295,7 +295,7 @@ failed_ready plan old new w n key noted now r r' false ok h differs same ready s
     elim h.6 [
       | inl x ↦
           (let row : Row = with_state (row_at old n) Waiting in
-          let turns : Turns old new n row = turns_put old new n row there (ap (λ (b : Board). b.first) x.1) (ap (λ (b : Board). b.rows) x.1) in
+          let turns : Turns old new n row = turns_put old new n row there (ap (λ (b : Board). b.first) x.1) (ap (λ (b : Board). b.rows) x.1) (ap (λ (b : Board). b.workers) x.1) in
           ready_put old new n row turns r r' marks.Waiting refl refl sends ready)
       | inr x ↦ absurd (let e : old.clock + 1 ≡ old.clock = sym (ap (λ (b : Board). b.clock) x.2) ∙ same refl in omega arith)
     ]
@@ -316,7 +316,7 @@ pub commit_ready : (old new : Board) (n : ℕ) (r r' : Ready) → CommitStep old
 commit_ready old new n r r' h ready puts =
     let row : Row = with_state (row_at old n) (Committed h.1) in
     let there = line_done old n h.0 h.1 (Some h.2) h.3.done in
-    let turns : Turns old new n row = turns_put old new n row there (ap (λ (b : Board). b.first) h.4) (ap (λ (b : Board). b.rows) h.4) in
+    let turns : Turns old new n row = turns_put old new n row there (ap (λ (b : Board). b.first) h.4) (ap (λ (b : Board). b.rows) h.4) (ap (λ (b : Board). b.workers) h.4) in
     ready_put old new n row turns r r' marks.Nowhere refl refl puts ready
 
 pub commit_other : {J : Type 0} (plan : Planned) (old new : Board) (n : ℕ) (r : Ready) (reply : Reply J) → (reply ≡ replies.Committed → ⊥) → Answers plan old (Commit n) reply new

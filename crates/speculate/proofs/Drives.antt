@@ -1,9 +1,10 @@
 -- The board's replies while a line is run alone, and the steps that were made.
-use Rattle.std.proofs.Common.{◌≡◌, ◌≢◌, ℕ, suc, ◌+◌, ◌-◌, ◌<◌, List, [], ◌∷◌, ◌++◌, Option, Some, None, Result, Ok, Err, length, replicate, inl, inr, zero, refl, sym, ap, subst, ◌∙◌, arith, option_map, cond, get_or, map, take, true, false, Bool}
+use Rattle.std.proofs.Common.{◌≡◌, ◌≢◌, ℕ, suc, ◌+◌, ◌-◌, ◌<◌, ◌≤◌, ◌⊎◌, List, [], ◌∷◌, ◌++◌, Option, Some, None, Result, Ok, Err, IfErr, IfOk, OnErr, OnOk, length, replicate, inl, inr, zero, refl, sym, ap, subst, ◌∙◌, arith, option_map, cond, get_or, map, take, sum_by, true, false, Bool}
 use Rattle.std.specs.BTreeMap.{is_at}
 use Rattle.std.specs.FinMap.{get-empty}
 use Rattle.std.proofs.lemmas.Bool.{cases_lt}
 use Rattle.std.proofs.lemmas.List.{get_or-replicate, get_or_past, length-replicate, take_more}
+use Rattle.std.proofs.lemmas.List.Sums.{sum_by-cons}
 use Rattle.std.proofs.lemmas.Option.{none-some, same_Some}
 use Rattle.circ_records.specs.Keys.{key_cmp}
 use Rattle.circ_records.specs.declared.key.Key.{Key}
@@ -16,27 +17,29 @@ use Rattle.read_set.specs.declared.notes.Note.{Note}
 use Rattle.read_set.specs.declared.version.Need.{Need}
 use Rattle.read_set.specs.declared.version.Need.TheVariants as needs
 use Rattle.version_store.specs.declared.table.Place.{Place}
-use Rattle.board_steps.specs.Board.{Board, EachNote, IsLine, Row, blank, entry, row_at}
-use Rattle.board_steps.specs.Board.State.{Running}
-use Rattle.board_steps.specs.Reached.{Reached}
+use Rattle.version_store.specs.declared.entry.Found.{Found}
+use Rattle.board_steps.specs.Board.{Board, EachNote, IsCommitted, IsLine, Row, State, blank, holder, live_of, row_at}
+use Rattle.board_steps.specs.Board.State.{Waiting, Running, Placing, Done, Checking, Committed}
+use Rattle.board_steps.specs.Reached.{Reached, live}
 use Rattle.board_steps.specs.Steps.{ByVersion, Call, IsVersion, Reply, Run, Step, opening, opening_row}
 use Rattle.board_steps.specs.Steps.Call.{Take, Look, Publish, Check, Commit}
-use Rattle.board_steps.specs.Steps.Reply.{ClockSpent as Spent}
+use Rattle.board_steps.specs.Steps.Reply.{Idle, Taken, Seen, Stranger, Placed, Lifted, Whole, Same, Commits, Later, Attempts, ClockSpent as Spent}
 use Rattle.board_steps.proofs.Entries.{same_keys}
-use Rattle.board_steps.proofs.Histories.{opening_reached}
-use Rattle.board_steps.proofs.Lines.{row_before, row_from}
-use Rattle.speculate.specs.Driving.{IsDriven, IsNew, MayStop, RunsTo}
+use Rattle.board_steps.proofs.Lines.{row_before, row_from, within_board}
+use Rattle.speculate.specs.ComingOn.{NoneInHand}
+use Rattle.speculate.specs.Driving.{IsDriven, IsNew, MayHalt, MayStop, RunsTo}
+use Rattle.speculate.specs.Finishing.{IsWhole}
 use Rattle.speculate.specs.Ending.{ended_by}
 use Rattle.speculate.specs.Needed.{SettlesIfDone}
 use Rattle.board_lines.specs.Notes.{found_by, contents_at}
-use Rattle.speculate.specs.Devices.Phases.{Appears, GoesOn, Holds, IsAppearing, Proves, Reads, Waits}
+use Rattle.speculate.specs.Devices.Phases.{Appears, AreFresh, Checks, Drives, GoesOn, Holds, IsAppearing, IsBegun, IsDone, IsFresh, IsTaken, Proves, Reads, Waits}
 use Rattle.board_lines.specs.Replies.{Answers, Grows}
 use Rattle.board_lines.specs.declared.reply.Reply.{Reply as CodeReply}
 use Rattle.board_lines.specs.declared.reply.Reply.TheVariants as replies
 use Rattle.speculate.specs.declared.steps.BoardFault.{BoardFault}
 use Rattle.speculate.specs.declared.steps.BoardFault.TheVariants as faults
 use Rattle.read_set.proofs.Keeping.{fresh-at}
-use Rattle.speculate.proofs.Phases.{check_never_changes, check_never_idle, check_never_spent, commit_never_idle, commit_never_later, look_goes, look_never_idle, look_never_stops, publish_never_idle, publish_no_stranger, take_never, take_never_idle}
+use Rattle.speculate.proofs.Phases.{IsFor, IsKept, check_never_changes, check_never_idle, check_never_spent, commit_never_idle, commit_never_later, look_goes, look_never_idle, look_never_stops, publish_never_idle, publish_no_stranger, spares_none, spares_on, spares_same, step_spares}
 use Rattle.speculate.proofs.Plays.{CallEnds, call_ends}
 
 -- ---- steps that were made
@@ -58,23 +61,103 @@ ended_led plan old new call (Err fault) by h = ([], h.1)
 pub led : {J : Type 0} (plan : Planned) (old new : Board) (call : Call) (reply : CodeReply J) → ByVersion plan call → Answers plan old call reply new → RunsTo plan old new
 led plan old new call reply by h = ended_led plan old new call (ended_by reply) by (call_ends plan old new call reply h)
 
+-- a reply of code that is neither a stop nor a failed check
+abbrev pub KeptReply : {J : Type 0} → CodeReply J → Type 0
+KeptReply (replies.Suspect line) = ⊥
+KeptReply (replies.Changed key noted found) = ⊥
+KeptReply _ = Unit {0}
+
+abbrev pub KeptStep : Planned → Board → Call → Board → Type 0
+KeptStep plan old call new = (new ≡ old) ⊎ ((r : Reply) × IsKept r × Step plan old call r new)
+
+kept_step : {J : Type 0} (plan : Planned) (old new : Board) (call : Call) (reply : CodeReply J) → KeptReply reply → Answers plan old call reply new → KeptStep plan old call new
+kept_step plan old new call replies.Idle kept h = inr (Idle, tt, h)
+kept_step plan old new call (replies.Taken attempt) kept h = inr (Taken attempt, tt, h)
+kept_step plan old new (Look w k) (replies.Seen name place) kept h = inr (Seen name (found_by plan.base k (option_map contents_at place)), tt, h)
+kept_step plan old new (Take w n) (replies.Seen name place) kept h = absurd h
+kept_step plan old new (Publish w v) (replies.Seen name place) kept h = absurd h
+kept_step plan old new (Check w n) (replies.Seen name place) kept h = absurd h
+kept_step plan old new (Commit n) (replies.Seen name place) kept h = absurd h
+kept_step plan old new call (replies.Suspect line) kept h = absurd kept
+kept_step plan old new call replies.Stranger kept h = inr (Stranger, tt, h)
+kept_step plan old new call replies.Placed kept h = inr (Placed, tt, h)
+kept_step plan old new call replies.Lifted kept h = inr (Lifted, tt, h)
+kept_step plan old new call replies.Whole kept h = inr (Whole, tt, h)
+kept_step plan old new call replies.Same kept h = inr (Same, tt, h)
+kept_step plan old new call (replies.Changed key noted found) kept h = absurd kept
+kept_step plan old new call replies.Committed kept h = inr (Commits, tt, h)
+kept_step plan old new call replies.Later kept h = inr (Later, tt, h)
+kept_step plan old new call (replies.Attempts line) kept h = inr (Attempts line, tt, h)
+kept_step plan old new call replies.ClockSpent kept h = inr (Spent, tt, h)
+kept_step plan old new call replies.Memory kept h = inl h.1
+
+kept_drives : (plan : Planned) (line : ℕ) (old new : Board) (call : Call) → ByVersion plan call → IsFor old line call → KeptStep plan old call new → Drives plan old new line
+kept_drives plan line old new call by for (inl same) = record { led = ([], same); spares = spares_same plan old new line same }
+kept_drives plan line old new call by for (inr (r, kept, step)) = record { led = ((call, r) ∷ [], (by, (new, step, refl))); spares = step_spares plan old new line call r for kept step }
+
+-- a call of the board for the line
+pub drives : {J : Type 0} (plan : Planned) (line : ℕ) (old new : Board) (call : Call) (reply : CodeReply J) → ByVersion plan call → IsFor old line call → KeptReply reply → Answers plan old call reply new → Drives plan old new line
+drives plan line old new call reply by for kept h = kept_drives plan line old new call by for (kept_step plan old new call reply kept h)
+
+pub drives_none : (plan : Planned) (b : Board) (line : ℕ) → Drives plan b b line
+drives_none plan b line = record { led = runs_none plan b; spares = spares_none b line }
+
+pub drives_on : (plan : Planned) (line : ℕ) (a b c : Board) → Drives plan a b line → Drives plan b c line → Drives plan a c line
+drives_on plan line a b c x y = record { led = runs_on plan a b c x.led y.led; spares = spares_on a b c line x.spares y.spares }
+
+-- what stops a new board may stop any
+pub may_halt : (plan : Planned) (b : Board) (fault : BoardFault) → MayStop plan b fault → MayHalt plan b fault
+may_halt plan b (faults.Attempts n) h = absurd h
+may_halt plan b faults.ClockSpent h = (Publish 0 h.0, h.1, h.2)
+may_halt plan b faults.Memory h = (0, h)
+
+pub stop_halts : {A : Type 0} (plan : Planned) (b : Board) (r : Result A BoardFault) → IfErr r (MayStop plan b) → IfErr r (MayHalt plan b)
+stop_halts plan b (Ok u) h = tt
+stop_halts plan b (Err fault) h = may_halt plan b fault h
+
 -- ---- take
-pub take_only : {J : Type 0} (plan : Planned) (b new : Board) (line : ℕ) (reply : CodeReply J) → Waits plan b line → IsLine b line → Answers plan b (Take 0 line) reply new → ((a : ℕ) → reply ≡ replies.Taken a → ⊥) → ⊥
-take_only plan b new line (replies.Taken a) waits there h not = not a refl
-take_only plan b new line replies.Idle waits there h not = take_never_idle plan b line waits there new h
-take_only plan b new line (replies.Attempts n) waits there h not = take_never plan b line waits there h.1
-take_only plan b new line replies.Memory waits there h not = h.0
-take_only plan b new line (replies.Seen name place) waits there h not = h
-take_only plan b new line (replies.Suspect n) waits there h not = h
-take_only plan b new line replies.Stranger waits there h not = h
-take_only plan b new line replies.Placed waits there h not = h
-take_only plan b new line replies.Lifted waits there h not = h
-take_only plan b new line replies.Whole waits there h not = h
-take_only plan b new line replies.Same waits there h not = h
-take_only plan b new line (replies.Changed key name found) waits there h not = h
-take_only plan b new line replies.Committed waits there h not = h
-take_only plan b new line replies.Later waits there h not = h
-take_only plan b new line replies.ClockSpent waits there h not = h
+pub take_other : {J : Type 0} (plan : Planned) (b new : Board) (line : ℕ) (reply : CodeReply J) → Answers plan b (Take 0 line) reply new
+    → ((a : ℕ) → reply ≡ replies.Taken a → ⊥) → (reply ≢ replies.Idle) → ((n : ℕ) → reply ≡ replies.Attempts n → ⊥) → ⊥
+take_other plan b new line (replies.Taken a) h t i n = t a refl
+take_other plan b new line replies.Idle h t i n = i refl
+take_other plan b new line (replies.Attempts m) h t i n = n m refl
+take_other plan b new line replies.Memory h t i n = h.0
+take_other plan b new line (replies.Seen name place) h t i n = h
+take_other plan b new line (replies.Suspect m) h t i n = h
+take_other plan b new line replies.Stranger h t i n = h
+take_other plan b new line replies.Placed h t i n = h
+take_other plan b new line replies.Lifted h t i n = h
+take_other plan b new line replies.Whole h t i n = h
+take_other plan b new line replies.Same h t i n = h
+take_other plan b new line (replies.Changed key name found) h t i n = h
+take_other plan b new line replies.Committed h t i n = h
+take_other plan b new line replies.Later h t i n = h
+take_other plan b new line replies.ClockSpent h t i n = h
+
+-- a take that is refused
+pub attempts_halt : (plan : Planned) (b new : Board) (line n : ℕ) → Step plan b (Take 0 line) (Attempts n) new → MayHalt plan new (faults.Attempts n)
+attempts_halt plan b new line n h =
+    let at : line ≡ n = sym h.2 in
+    (0, subst (λ x. Step plan x (Take 0 n) (Attempts n) x) (sym h.3) (subst (λ m. Step plan b (Take 0 m) (Attempts n) b) at (subst (λ x. Step plan b (Take 0 line) (Attempts n) x) h.3 h)))
+
+-- ---- the next line
+pub begun_taken : (plan : Planned) (old new : Board) (line : ℕ) (o : Option ℕ) (a : ℕ) → IsTaken plan old new line o → o ≡ Some a → IsBegun plan new line (Some a)
+begun_taken plan old new line o a h e = subst (λ x. IsTaken plan old new line x) e h
+
+pub taken_none : (plan : Planned) (old new : Board) (line : ℕ) (o : Option ℕ) → IsTaken plan old new line o → o ≡ None → IsDone (row_at old line).state × (new ≡ old)
+taken_none plan old new line o h e = subst (λ x. IsTaken plan old new line x) e h
+
+never_done : (s : State) → s ≡ Waiting → IsDone s → ⊥
+never_done s waits (notes, answer, stamp, is) = let z : Waiting ≡ Done notes answer stamp = sym waits ∙ is in cc
+
+-- a line that waits is taken
+pub begun_again : (plan : Planned) (b new : Board) (line : ℕ) (r : Result (Option ℕ) BoardFault) → (row_at b line).state ≡ Waiting → IfOk r (IsTaken plan b new line) → IfOk r (IsBegun plan new line)
+begun_again plan b new line (Ok (Some a)) waits h = h
+begun_again plan b new line (Ok None) waits h = absurd (never_done (row_at b line).state waits h.0)
+begun_again plan b new line (Err fault) waits h = tt
+
+pub fresh_waits : (b : Board) (line : ℕ) → IsFresh b line → IsDone (row_at b line).state → ⊥
+fresh_waits b line fresh done = never_done (row_at b line).state (ap (λ (r : Row). r.state) fresh) done
 
 -- ---- look
 at_own_key : (k : Key) (x : Note) (b : Bool) → is_at (key_cmp k) x.key ≡ b → x.key ≡ k → b ≡ true
@@ -85,7 +168,7 @@ none_before true x rest e = absurd (cc)
 none_before false x rest e = (refl, e)
 
 -- a key that isn't noted is that of no note
-unnoted : (notes : List Note) (k : Key) → note_of notes k ≡ None → EachNote notes (λ x. x.key ≢ k)
+pub unnoted : (notes : List Note) (k : Key) → note_of notes k ≡ None → EachNote notes (λ x. x.key ≢ k)
 unnoted [] k e j x at = absurd (none-some x at)
 unnoted (n ∷ notes) k e zero x at =
     let same : n ≡ x = same_Some n x at in
@@ -130,7 +213,7 @@ next_keys asked i x lt at =
     ∙ keys_more (take i asked) x
 
 pub look_seen : {J : Type 0} (plan : Planned) (b new : Board) (line : ℕ) (notes : List Note) (k : Key) (name : Name) (place : Option (Place J)) → Reads plan b line notes → Answers plan b (Look 0 k) (replies.Seen name place) new
-    → Reads plan new line (notes ++ record { key = k; name = name; found = found_by plan.base k (option_map contents_at place) } ∷ [])
+    → Reads plan new line (notes ++ record { key = k; name = name; found = found_by plan.base k (option_map contents_at place) } ∷ []) × ((row_at new line).next ≡ (row_at b line).next)
 look_seen plan b new line notes k name place reads h = look_goes plan b line notes reads k name (found_by plan.base k (option_map contents_at place)) new h
 
 -- nothing else comes but want of memory
@@ -153,20 +236,20 @@ look_only plan b new line notes k replies.Later reads none h s m = h
 look_only plan b new line notes k replies.ClockSpent reads none h s m = h
 
 -- ---- a version
-appears_of : (plan : Planned) (b : Board) (line : ℕ) (notes : List Note) (v : Contents) → Reads plan b line notes → (v.line ≡ line) × (v.attempt ≡ 0) × (v.reads ≡ notes) → IsVersion plan v → Appears plan b line v
-appears_of plan b line notes v reads of_it settles = record {
+appears_of : (plan : Planned) (b : Board) (line a : ℕ) (notes : List Note) (v : Contents) → Reads plan b line notes → suc a ≡ (row_at b line).next → (v.line ≡ line) × (v.attempt ≡ a) × (v.reads ≡ notes) → IsVersion plan v → Appears plan b line v
+appears_of plan b line a notes v reads next of_it settles = record {
   goes = subst (λ ns. GoesOn plan b line ns) (sym of_it.2) reads.goes;
   state = inl (reads.state ∙ ap (λ (ns : List Note). Running 0 ns) (sym of_it.2));
   of_line = of_it.0;
-  first = of_it.1;
+  attempt = ap suc of_it.1 ∙ next;
   settles = settles;
 }
 
 -- the version that a line needs may be published
-pub done_appears : {J : Type 0} (plan : Planned) (b : Board) (line : ℕ) (notes : List Note) (next : Need J) (v : Contents) → Reads plan b line notes → IsNeed plan line 0 notes next → SettlesIfDone plan next → next ≡ needs.Done v → Appears plan b line v
-done_appears plan b line notes next v reads need settles is =
-    let done = subst (λ x. IsNeed plan line 0 notes x) is need in
-    appears_of plan b line notes v reads (done.1, done.2, done.3) (subst (λ x. SettlesIfDone plan x) is settles)
+pub done_appears : {J : Type 0} (plan : Planned) (b : Board) (line a : ℕ) (notes : List Note) (next : Need J) (v : Contents) → Reads plan b line notes → suc a ≡ (row_at b line).next → IsNeed plan line a notes next → SettlesIfDone plan next → next ≡ needs.Done v → Appears plan b line v
+done_appears plan b line a notes next v reads begun need settles is =
+    let done = subst (λ x. IsNeed plan line a notes x) is need in
+    appears_of plan b line a notes v reads begun (done.1, done.2, done.3) (subst (λ x. SettlesIfDone plan x) is settles)
 
 -- ---- publish
 pub spent_stops : (plan : Planned) (b new : Board) (v : Contents) → IsVersion plan v → Step plan b (Publish 0 v) Spent new → MayStop plan new faults.ClockSpent
@@ -178,7 +261,7 @@ reads_stops plan b line notes reads = inl (line, notes, reads.state)
 
 -- so also once a look has noted what it saw
 pub seen_stops : {J : Type 0} (plan : Planned) (b new : Board) (line : ℕ) (notes : List Note) (k : Key) (name : Name) (place : Option (Place J)) → Reads plan b line notes → Answers plan b (Look 0 k) (replies.Seen name place) new → MayStop plan new faults.Memory
-seen_stops plan b new line notes k name place reads h = reads_stops plan new line _ (look_seen plan b new line notes k name place reads h)
+seen_stops plan b new line notes k name place reads h = reads_stops plan new line _ (look_seen plan b new line notes k name place reads h).0
 
 -- and at an act of its publication, which leaves the board
 appears_stops : (plan : Planned) (b : Board) (line : ℕ) (v : Contents) → Appears plan b line v → Grows plan b (Publish 0 v) → IsAppearing (row_at b line).state v → MayStop plan b faults.Memory
@@ -212,7 +295,7 @@ check_other plan b new line replies.Same proves h s w = s refl
 check_other plan b new line replies.Whole proves h s w = w refl
 check_other plan b new line (replies.Changed key name found) proves h s w = check_never_changes plan b line proves key name found new h
 check_other plan b new line replies.ClockSpent proves h s w = check_never_spent plan b line proves new h
-check_other plan b new line replies.Idle proves h s w = check_never_idle plan b line proves new h
+check_other plan b new line replies.Idle proves h s w = check_never_idle plan b line proves.notes proves.checks new h
 check_other plan b new line replies.Memory proves h s w = h.0
 check_other plan b new line (replies.Taken a) proves h s w = h
 check_other plan b new line (replies.Attempts n) proves h s w = h
@@ -223,6 +306,29 @@ check_other plan b new line replies.Placed proves h s w = h
 check_other plan b new line replies.Lifted proves h s w = h
 check_other plan b new line replies.Committed proves h s w = h
 check_other plan b new line replies.Later proves h s w = h
+
+-- a line that is done is checked anew
+pub recheck_other : {J : Type 0} (plan : Planned) (b new : Board) (line : ℕ) (notes : List Note) (reply : CodeReply J) → Checks plan b line notes → Answers plan b (Check 0 line) reply new
+    → (reply ≢ replies.Same) → (reply ≢ replies.Whole) → ((key : Key) (name : Name) (found : Found) → reply ≡ replies.Changed key name found → ⊥) → (reply ≢ replies.ClockSpent) → ⊥
+recheck_other plan b new line notes replies.Same checks h s w c p = s refl
+recheck_other plan b new line notes replies.Whole checks h s w c p = w refl
+recheck_other plan b new line notes (replies.Changed key name found) checks h s w c p = c key name found refl
+recheck_other plan b new line notes replies.ClockSpent checks h s w c p = p refl
+recheck_other plan b new line notes replies.Idle checks h s w c p = check_never_idle plan b line notes checks new h
+recheck_other plan b new line notes replies.Memory checks h s w c p = h.0
+recheck_other plan b new line notes (replies.Taken a) checks h s w c p = h
+recheck_other plan b new line notes (replies.Attempts n) checks h s w c p = h
+recheck_other plan b new line notes (replies.Seen name place) checks h s w c p = h
+recheck_other plan b new line notes (replies.Suspect n) checks h s w c p = h
+recheck_other plan b new line notes replies.Stranger checks h s w c p = h
+recheck_other plan b new line notes replies.Placed checks h s w c p = h
+recheck_other plan b new line notes replies.Lifted checks h s w c p = h
+recheck_other plan b new line notes replies.Committed checks h s w c p = h
+recheck_other plan b new line notes replies.Later checks h s w c p = h
+
+-- at the end of the clock
+pub check_halts : (plan : Planned) (b new : Board) (line : ℕ) → Step plan b (Check 0 line) Spent new → MayHalt plan new faults.ClockSpent
+check_halts plan b new line h = (Check 0 line, tt, subst (λ x. Step plan x (Check 0 line) Spent x) (sym h.8) (subst (λ x. Step plan b (Check 0 line) Spent x) h.8 h))
 
 -- ---- commit
 pub commit_only : {J : Type 0} (plan : Planned) (b new : Board) (line : ℕ) (reply : CodeReply J) → Holds plan b line → Answers plan b (Commit line) reply new → (reply ≢ replies.Committed) → ⊥
@@ -252,34 +358,83 @@ opening_rows plan workers m = elim (cases_lt m plan.first) [
   ]
 ]
 
-opening_waits : (plan : Planned) (workers : ℕ) → 0 < workers → Waits plan (opening plan workers 0 0) (plan.first + 0)
-opening_waits plan workers some = record {
-  stands = record {
-    reached = opening_reached plan workers 0 0;
-    from = omega arith;
-    worker = some;
-    below = λ m from lt. absurd (omega (arith, from, lt));
-    above = λ m lt. opening_rows plan workers m;
-    clean = λ m k e h. absurd (none-some e (sym (get-empty key_cmp k) ∙ sym (ap (λ (r : Row). entry r k) (opening_rows plan workers m)) ∙ h));
-    commits = refl;
-    takes = omega arith;
-    failed = refl;
-    stops = refl;
-  };
-  row = opening_rows plan workers (plan.first + 0);
-}
+opening_fresh : (plan : Planned) (workers : ℕ) → AreFresh (opening plan workers 0 0) (plan.first + 0)
+opening_fresh plan workers = record { above = λ m le. opening_rows plan workers m; failed = refl; stops = refl }
 
-pub new_waits : (plan : Planned) (b : Board) → IsNew plan b → Waits plan b (plan.first + 0)
-new_waits plan b (workers, some, e) = subst (λ x. Waits plan x (plan.first + 0)) (sym e) (opening_waits plan workers some)
+pub new_fresh : (plan : Planned) (b : Board) → IsNew plan b → AreFresh b (plan.first + b.committed)
+new_fresh plan b (workers, some, e) = subst (λ x. AreFresh x (plan.first + x.committed)) (sym e) (opening_fresh plan workers)
+
+-- no worker has a line in hand on a new board
+pub new_free : (plan : Planned) (b : Board) → IsNew plan b → NoneInHand b
+new_free plan b (workers, some, e) = λ w m h. none-some w (sym (ap (λ (x : Board). holder (row_at x m).state) e ∙ ap (λ (r : Row). holder r.state) (opening_rows plan workers m)) ∙ h)
+
+-- the next line, where no worker has a line in hand
+pub free_waits : (plan : Planned) (b : Board) → Reached plan b → 0 < b.workers → NoneInHand b → Waits plan b (plan.first + b.committed)
+free_waits plan b reached worker none = record {
+  stands = record { reached = reached; worker = worker; commits = refl; others = λ m w ne. none w m };
+  own = λ w. none w (plan.first + b.committed);
+}
 
 pub line_there : (plan : Planned) (b : Board) (i : ℕ) → Reached plan b → i < length plan.readings → IsLine b (plan.first + i)
 line_there plan b i reached lt = (omega (arith, reached.first), omega (arith, lt, reached.first, reached.all))
 
-pub driven : (plan : Planned) (b : Board) → Waits plan b (plan.first + length plan.readings) → IsDriven plan b
-driven plan b waits = record {
-  committed = λ m there. waits.stands.below m (omega (arith, there.0, waits.stands.reached.first)) (omega (arith, there.1, waits.stands.reached.first, waits.stands.reached.all));
-  commits = omega (arith, waits.stands.commits);
-  takes = omega (arith, waits.stands.takes);
-  failed = waits.stands.failed;
-  stops = waits.stands.stops;
-}
+-- no more lines are committed than there are
+pub few_committed : (plan : Planned) (b : Board) → Reached plan b → b.committed ≤ length plan.readings
+few_committed plan b reached = elim (cases_lt (length plan.readings) b.committed) [
+  | inl more ↦
+      let q : ℕ = plan.first + length plan.readings in
+      let is : IsCommitted (row_at b q).state = reached.rows.first q (omega arith) (omega (arith, more)) in
+      let there = within_board b q (λ e. subst IsCommitted e is) in
+      absurd (omega (arith, there.1, reached.first, reached.all))
+  | inr le ↦ le
+]
+
+-- all lines are committed
+pub all_whole : (plan : Planned) (b : Board) → Waits plan b (plan.first + length plan.readings) → IsWhole b
+all_whole plan b waits m there =
+    let reached = waits.stands.reached in
+    reached.rows.first m (omega (arith, there.0, reached.first)) (omega (arith, there.1, reached.first, reached.all, waits.stands.commits))
+
+live_committed : (s : State) → IsCommitted s → live_of s ≡ 0
+live_committed (Committed answer) is = refl
+live_committed Waiting is = absurd is
+live_committed (Running w notes) is = absurd is
+live_committed (Placing w notes last) is = absurd is
+live_committed (Done notes answer stamp) is = absurd is
+live_committed (Checking w notes answer t i) is = absurd is
+
+none_live : (rows : List Row) → ((i : ℕ) → i < length rows → IsCommitted (get_or rows i blank).state) → sum_by (λ (r : Row). live_of r.state) rows ≡ 0
+none_live [] each = refl
+none_live (r ∷ rows) each =
+    let here : live_of r.state ≡ 0 = live_committed r.state (each 0 (omega arith)) in
+    let rest : sum_by (λ (x : Row). live_of x.state) rows ≡ 0 = none_live rows (λ i lt. each (suc i) (omega (arith, lt))) in
+    omega (arith, sum_by-cons (λ (x : Row). live_of x.state) r rows, here, rest)
+
+row_place : (b : Board) (i : ℕ) → row_at b (b.first + i) ≡ get_or b.rows i blank
+row_place b i = let e : b.first + i - b.first ≡ i = omega arith in row_from b (b.first + i) (omega arith) ∙ ap (λ p. get_or b.rows p blank) e
+
+pub driven : (plan : Planned) (b : Board) → Waits plan b (plan.first + length plan.readings) → AreFresh b (plan.first + length plan.readings) → IsDriven plan b
+driven plan b waits fresh =
+    let reached = waits.stands.reached in
+    let all : IsWhole b = all_whole plan b waits in
+    let none : live b ≡ 0 = none_live b.rows (λ i lt. subst (λ (r : Row). IsCommitted r.state) (row_place b i) (all (b.first + i) (omega arith, omega (arith, lt)))) in
+    let commits : b.committed ≡ length plan.readings = omega (arith, waits.stands.commits) in
+    record {
+      committed = all;
+      commits = commits;
+      takes = omega (arith, reached.counted, commits, fresh.failed, fresh.stops, none);
+      failed = fresh.failed;
+      stops = fresh.stops;
+    }
+
+-- ---- as the drive ends
+pub all_whole_ok : (plan : Planned) (b : Board) (r : Result (Unit {0}) BoardFault) → OnOk r (Waits plan b (plan.first + length plan.readings)) → OnOk r (IsWhole b)
+all_whole_ok plan b (Ok u) waits = all_whole plan b waits
+all_whole_ok plan b (Err fault) waits = tt
+
+pub all_driven : (plan : Planned) (b : Board) (r : Result (Unit {0}) BoardFault) → OnOk r (Waits plan b (plan.first + length plan.readings)) → OnOk r (AreFresh b (plan.first + length plan.readings)) → OnOk r (IsDriven plan b)
+all_driven plan b (Ok u) waits fresh = driven plan b waits fresh
+all_driven plan b (Err fault) waits fresh = tt
+
+pub fresh_after : (plan : Planned) (old new : Board) → IsNew plan old → new ≡ old → AreFresh new (plan.first + new.committed)
+fresh_after plan old new is same = subst (λ b. AreFresh b (plan.first + b.committed)) (sym same) (new_fresh plan old is)

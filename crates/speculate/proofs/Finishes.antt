@@ -1,5 +1,5 @@
 -- Where all lines are committed, each line's answer is that of the replay by one thread.
-use Rattle.std.proofs.Common.{◌≡◌, ℕ, ◌-◌, ◌<◌, ◌≤◌, Option, None, length, slice_get, refl, sym, ap, ◌∙◌, inl, inr, arith}
+use Rattle.std.proofs.Common.{◌≡◌, ℕ, ◌+◌, ◌-◌, ◌<◌, ◌≤◌, Option, None, length, slice_get, refl, sym, ap, ◌∙◌, inl, inr, arith}
 use Rattle.std.specs.Prelude.{if◌then◌else◌, nat_lt, true, false}
 use Rattle.std.proofs.lemmas.Bool.{cases_lt}
 use Rattle.std.proofs.lemmas.Bool.Decides.{nat_tests}
@@ -20,6 +20,16 @@ module _ (plan : Planned) (b : Board) (reached : Reached plan b) where
   -- as many are committed as there are
   pub whole_if : length plan.readings ≤ b.committed → IsWhole b
   whole_if all m there = reached.rows.first m (omega (arith, there.0, reached.first)) (omega (arith, there.1, reached.first, reached.all, all))
+
+  -- where all lines are committed, the number of those that are is that of the lines
+  pub all_if : IsWhole b → length plan.readings ≤ b.committed
+  all_if whole = elim (cases_lt b.committed (length plan.readings)) [
+    | inl lt ↦
+        let q : ℕ = plan.first + b.committed in
+        let is : IsCommitted (row_at b q).state = whole q (omega (arith, reached.first), omega (arith, lt, reached.first, reached.all)) in
+        absurd (omega (arith, reached.rows.only q is))
+    | inr le ↦ le
+  ]
 
   state_answer : (n : ℕ) (s : State) → (row_at b n).state ≡ s → IsCommitted s → committed_answer s ≡ answer_of plan n
   state_answer n (Committed answer) is h = (committed_ok plan b reached n answer is).answers

@@ -11,3 +11,4 @@ pub mod Marking
 pub mod Phases
 pub mod Plays
 pub mod Readying
+pub mod Works

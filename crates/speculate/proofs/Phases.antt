@@ -1,8 +1,8 @@
 -- A line that is run alone: each call goes on.
 use Rattle.std.proofs.Common.{◌≡◌, ◌≢◌, ℕ, zero, suc, ◌+◌, ◌-◌, ◌^◌, ◌<◌, ◌≤◌, Bool, true, false, List, [], ◌∷◌, ◌++◌, Option, Some, None, length, slice_get, refl, sym, ap, subst, ◌∙◌, inl, inr, arith}
 use Rattle.std.specs.Prelude.{if◌then◌else◌}
-use Rattle.std.specs.FinMap.{get, insert, remove}
-use Rattle.std.proofs.lemmas.Bool.{cases_eq, cases_lt, cases_order}
+use Rattle.std.specs.FinMap.{insert, remove}
+use Rattle.std.proofs.lemmas.Bool.{cases_eq, cases_lt}
 use Rattle.std.proofs.lemmas.Option.{none-some, same_Some, slice_get_within}
 use Rattle.circ_records.specs.declared.key.Key.{Key}
 use Rattle.circ_records.specs.declared.record.Record.{Record}
@@ -12,22 +12,23 @@ use Rattle.read_set.specs.Settling.{Contents}
 use Rattle.read_set.specs.declared.notes.Name.{Name}
 use Rattle.read_set.specs.declared.notes.Name.TheVariants as names
 use Rattle.read_set.specs.declared.notes.Note.{Note}
-use Rattle.version_store.specs.Entries.{Shown, above, found_of, shown_by}
+use Rattle.version_store.specs.Entries.{Shown, above, found_of, shown_by, suspected}
 use Rattle.version_store.specs.declared.entry.Found.{Found}
 use Rattle.version_store.specs.declared.entry.Found.TheVariants.{Named, Suspect}
 use Rattle.board_steps.specs.Board.{Board, EachNote, IsCommitted, IsLine, Row, State, entry, found, holder, row_at, seen_entry, value_at}
 use Rattle.board_steps.specs.Board.State.{Waiting, Running, Placing, Done, Checking, Committed}
 use Rattle.board_steps.specs.Reached.{IsNow, Reached}
-use Rattle.board_steps.specs.Steps.{Compares, Differs, Fits, HasRoom, IsFree, MayCommit, MayLook, MayPublish, MayTake, Step, opening_row, placed, lifted, put_row, seen, taken, with_state}
+use Rattle.board_steps.specs.Steps.{Call, Compares, Differs, Fits, HasRoom, IsFree, MayCommit, MayLook, MayPublish, MayTake, Reply, Step, placed, lifted, put_row, seen, taken, with_state}
 use Rattle.board_steps.specs.Steps.Call.{Take, Look, Publish, Check, Commit}
-use Rattle.board_steps.specs.Steps.Reply.{Idle, Taken, Seen, Stopped, Stranger, Placed, Lifted, Whole, Same, Changed, Commits, Later, ClockSpent}
-use Rattle.board_steps.proofs.Entries.{cases_key, each_push, get_insert_same, get_insert_other, get_remove_same, get_remove_other}
-use Rattle.board_steps.proofs.Lines.{row_before, row_put, row_put_off, length_put}
+use Rattle.board_steps.specs.Steps.Reply.{Idle, Taken, Seen, Stopped, Stranger, Placed, Lifted, Whole, Same, Changed, Commits, Later, Attempts, ClockSpent}
+use Rattle.board_steps.proofs.Entries.{each_push}
+use Rattle.board_steps.proofs.Histories.{committed_clear}
+use Rattle.board_steps.proofs.Lines.{row_put, row_put_off, length_put}
 use Rattle.board_steps.proofs.Steps.{step_reached}
 use Rattle.board_steps.proofs.Views.{visible_entry}
 use Rattle.board_lines.specs.Acts.{IsPlacing}
 use Rattle.board_lines.specs.Hands.{notes_of}
-use Rattle.speculate.specs.Devices.Phases.{Appears, GoesOn, Holds, IsChecked, IsAppearing, Proves, Reads, Stands, Waits, left_of}
+use Rattle.speculate.specs.Devices.Phases.{Appears, AreFresh, Checks, GoesOn, Holds, IsAppearing, IsChecked, IsDone, IsFresh, Proves, Reads, Spares, Stands, Waits, left_of}
 
 -- ---- what is seen
 above_same : (n : ℕ) (o p : Option Shown) (x y : Option (ℕ × Shown)) → o ≡ p → x ≡ y → above n o x ≡ above n p y
@@ -49,79 +50,53 @@ not_suspect : (b : Bool) (x y a m : ℕ) → b ≡ false → if b then Suspect x
 not_suspect true x y a m e h = cc
 not_suspect false x y a m e h = cc
 
-suspect_of : (rows : ℕ → Row) (n : ℕ) (k : Key) (m : ℕ) (o : Option (ℕ × Shown)) → seen_entry rows n k ≡ o → ((q : ℕ) (k : Key) (e : Shown) → entry (rows q) k ≡ Some e → e.suspect ≡ false) → found_of o ≡ Suspect m → ⊥
-suspect_of rows n k m None is clean h = cc
-suspect_of rows n k m (Some p) is clean h = not_suspect p.1.suspect p.0 p.0 p.1.attempt m (clean p.0 k p.1 (visible_entry rows n k p is).1) h
+suspect_of : (rows : ℕ → Row) (n : ℕ) (k : Key) (m : ℕ) (o : Option (ℕ × Shown)) → seen_entry rows n k ≡ o → ((q : ℕ) (k : Key) (e : Shown) → q < n → entry (rows q) k ≡ Some e → e.suspect ≡ false) → found_of o ≡ Suspect m → ⊥
+suspect_of rows n k m None is clear h = cc
+suspect_of rows n k m (Some p) is clear h =
+    let seen = visible_entry rows n k p is in not_suspect p.1.suspect p.0 p.0 p.1.attempt m (clear p.0 k p.1 seen.0 seen.1) h
 
--- where no entry is suspect, none is seen
-none_suspect : (rows : ℕ → Row) (n : ℕ) (k : Key) (m : ℕ) → ((q : ℕ) (k : Key) (e : Shown) → entry (rows q) k ≡ Some e → e.suspect ≡ false) → found rows n k ≡ Suspect m → ⊥
-none_suspect rows n k m clean h = suspect_of rows n k m (seen_entry rows n k) refl clean h
+-- where no entry below is suspect, none is seen
+none_suspect : (rows : ℕ → Row) (n : ℕ) (k : Key) (m : ℕ) → ((q : ℕ) (k : Key) (e : Shown) → q < n → entry (rows q) k ≡ Some e → e.suspect ≡ false) → found rows n k ≡ Suspect m → ⊥
+none_suspect rows n k m clear h = suspect_of rows n k m (seen_entry rows n k) refl clear h
 
--- ---- hands
-committed_free : (s : State) (w : ℕ) → IsCommitted s → holder s ≢ Some w
-committed_free Waiting w h e = h
-committed_free (Running v notes) w h e = h
-committed_free (Placing v notes last) w h e = h
-committed_free (Done notes answer stamp) w h e = h
-committed_free (Checking v notes answer stamp compared) w h e = h
-committed_free (Committed answer) w h e = absurd (cc)
-
-waiting_free : (r : Row) (w : ℕ) → r ≡ opening_row 0 → holder r.state ≢ Some w
-waiting_free r w e h = (let z : None ≡ Some w = sym (ap (λ (x : Row). holder x.state) e) ∙ h in cc)
-
-module _ (plan : Planned) (b : Board) (line more : ℕ) (stands : Stands plan b line more) where
-  -- the other lines are in no hand
-  others_free : (m w : ℕ) → m ≢ line → holder (row_at b m).state ≢ Some w
-  others_free m w ne = elim (cases_order m line) [
-    | inl e ↦ absurd (ne e)
-    | inr d ↦ elim d [
-      | inl lt ↦ elim (cases_lt m plan.first) [
-        | inl before ↦ waiting_free (row_at b m) w (row_before b m (omega (arith, before, stands.reached.first)))
-        | inr from ↦ committed_free (row_at b m).state w (stands.below m from lt)
-      ]
-      | inr gt ↦ waiting_free (row_at b m) w (stands.above m gt)
-    ]
-  ]
-
-  -- so a line in hand is this one
+module _ (plan : Planned) (b : Board) (line : ℕ) (stands : Stands plan b line) where
+  -- a line in hand is this one
   held_is : (m w : ℕ) → holder (row_at b m).state ≡ Some w → m ≡ line
-  held_is m w h = elim (cases_eq m line) [ inl e ↦ e | inr ne ↦ absurd (others_free m w ne h) ]
+  held_is m w h = elim (cases_eq m line) [ inl e ↦ e | inr ne ↦ absurd (stands.others m w ne h) ]
 
-  -- no line below has changed since now
+  -- no line has changed since now
   unchanged : (m : ℕ) → (row_at b m).changed ≤ b.clock
   unchanged m = (stands.reached.rows.each m).past
 
+  -- no entry below is suspect: the lines there are committed
+  below_clear : (q : ℕ) (k : Key) (e : Shown) → q < line → entry (row_at b q) k ≡ Some e → e.suspect ≡ false
+  below_clear q k e lt h = elim (cases_lt q plan.first) [
+    | inl before ↦ absurd (none-some e (sym (stands.reached.rows.bare q before k) ∙ h))
+    | inr from ↦ committed_clear plan b stands.reached q (stands.reached.rows.first q from (omega (arith, lt, stands.commits))) k e h
+  ]
+
   -- another row for the line
-  pub stands_put : (new : Board) (r : Row) (fewer : ℕ) → Reached plan new → row_at new line ≡ r → ((m : ℕ) → m ≢ line → row_at new m ≡ row_at b m)
-      → ((k : Key) (e : Shown) → entry r k ≡ Some e → e.suspect ≡ false)
-      → new.workers ≡ b.workers → new.committed ≡ b.committed → plan.first + new.takes ≡ line + fewer → new.failed ≡ b.failed → new.stops ≡ b.stops
-      → Stands plan new line fewer
-  stands_put new r fewer reached at off clean workers commits takes failed stops = record {
+  pub stands_put : (new : Board) → Reached plan new → ((m : ℕ) → m ≢ line → row_at new m ≡ row_at b m) → new.workers ≡ b.workers → new.committed ≡ b.committed → Stands plan new line
+  stands_put new reached off workers commits = record {
     reached = reached;
-    from = stands.from;
     worker = omega (arith, stands.worker, workers);
-    below = λ m from lt. subst (λ (x : Row). IsCommitted x.state) (sym (off m (λ e. omega (arith, e, lt)))) (stands.below m from lt);
-    above = λ m lt. off m (λ e. omega (arith, e, lt)) ∙ stands.above m lt;
-    clean = λ m k e h. elim (cases_eq m line) [
-      | inl same ↦ clean k e (subst (λ (x : Row). entry x k ≡ Some e) (ap (λ q. row_at new q) same ∙ at) h)
-      | inr ne ↦ stands.clean m k e (subst (λ (x : Row). entry x k ≡ Some e) (off m ne) h)
-    ];
     commits = ap (λ x. plan.first + x) commits ∙ stands.commits;
-    takes = takes;
-    failed = failed ∙ stands.failed;
-    stops = stops ∙ stands.stops;
+    others = λ m w ne h. stands.others m w ne (ap (λ (x : Row). holder x.state) (sym (off m ne)) ∙ h);
   }
 
   -- what is seen from the line stays
   pub seen_stays : (new : Board) (notes : List Note) → ((m : ℕ) → m ≢ line → row_at new m ≡ row_at b m) → EachNote notes (IsNow (row_at b) line) → EachNote notes (IsNow (row_at new) line)
   seen_stays new notes off now = still_now (row_at b) (row_at new) line notes (λ m lt. off m (λ e. omega (arith, e, lt))) now
 
+  -- the line isn't committed
+  is_open : IsCommitted (row_at b line).state → ⊥
+  is_open h = let lt = stands.reached.rows.only line h in omega (arith, lt, stands.commits)
+
 -- ---- rows that are put
-module _ (plan : Planned) (b : Board) (line more fewer : ℕ) (stands : Stands plan b line more) (there : IsLine b line) (r : Row) (takes : ℕ) (clock : ℕ)
-    (clean : (k : Key) (e : Shown) → entry r k ≡ Some e → e.suspect ≡ false) (count : plan.first + takes ≡ line + fewer) where
-  -- the board with another row for the line, and another count of takes and clock
+module _ (plan : Planned) (b : Board) (line : ℕ) (stands : Stands plan b line) (there : IsLine b line) (r : Row) (takes clock failed : ℕ) where
+  -- the board with another row for the line, and other counts of takes and failed checks, and another clock
   abbrev with_row : Board
-  with_row = record (put_row b line r) { takes = takes; clock = clock }
+  with_row = record (put_row b line r) { takes = takes; clock = clock; failed = failed }
 
   row_is : row_at with_row line ≡ r
   row_is = row_put b line r there
@@ -129,90 +104,105 @@ module _ (plan : Planned) (b : Board) (line more fewer : ℕ) (stands : Stands p
   row_off : (m : ℕ) → m ≢ line → row_at with_row m ≡ row_at b m
   row_off m ne = row_put_off b line r m ne
 
-  pub with_row_stands : Reached plan with_row → Stands plan with_row line fewer
-  with_row_stands reached = stands_put plan b line more stands with_row r fewer reached row_is row_off clean refl refl count refl refl
+  pub with_row_stands : Reached plan with_row → Stands plan with_row line
+  with_row_stands reached = stands_put plan b line stands with_row reached row_off refl refl
 
   pub with_row_there : IsLine with_row line
   with_row_there = (there.0, omega (arith, there.1, length_put b line r))
 
-  pub with_row_goes : (notes : List Note) → Reached plan with_row → fewer ≡ 1 → r.next ≡ 1 → EachNote notes (IsNow (row_at b) line) → GoesOn plan with_row line notes
-  with_row_goes notes reached one next now = record {
-    stands = subst (λ n. Stands plan with_row line n) one (with_row_stands reached);
+  pub with_row_goes : (notes : List Note) → Reached plan with_row → EachNote notes (IsNow (row_at b) line) → GoesOn plan with_row line notes
+  with_row_goes notes reached now = record {
+    stands = with_row_stands reached;
     there = with_row_there;
-    next = ap (λ (x : Row). x.next) row_is ∙ next;
-    now = seen_stays plan b line more stands with_row notes row_off now;
+    now = seen_stays plan b line stands with_row notes row_off now;
   }
 
   pub with_row_state : (row_at with_row line).state ≡ r.state
   with_row_state = ap (λ (x : Row). x.state) row_is
 
+  pub with_row_next : (row_at with_row line).next ≡ r.next
+  with_row_next = ap (λ (x : Row). x.next) row_is
+
 -- ---- take
 module _ (plan : Planned) (b : Board) (line : ℕ) (waits : Waits plan b line) (there : IsLine b line) where
-  may_take : MayTake b 0 line
-  may_take = record {
-    within = there;
-    free = (
-      waits.stands.worker,
-      λ m. elim (cases_eq m line) [
-        | inl e ↦ waiting_free (row_at b m) 0 (ap (λ q. row_at b q) e ∙ waits.row)
-        | inr ne ↦ others_free plan b line 0 waits.stands m 0 ne
-      ],
-    );
-    waiting = ap (λ (r : Row). r.state) waits.row;
-  }
+  free_here : IsFree b 0
+  free_here = (
+    waits.stands.worker,
+    λ m. elim (cases_eq m line) [
+      | inl e ↦ (λ h. waits.own 0 (ap (λ q. holder (row_at b q).state) (sym e) ∙ h))
+      | inr ne ↦ waits.stands.others m 0 ne
+    ],
+  )
 
   begun : Row
   begun = record (row_at b line) { state = Running 0 []; next = (row_at b line).next + 1 }
 
-  taken_reads : Reached plan (taken b 0 line) → Reads plan (taken b 0 line) line []
+  taken_reads : Reached plan (taken b 0 line) → Reads plan (taken b 0 line) line [] × (suc (row_at b line).next ≡ (row_at (taken b 0 line) line).next)
   unfolding begun
-  taken_reads reached =
-      let count : plan.first + (b.takes + 1) ≡ line + 1 = omega (arith, waits.stands.takes) in
-      record {
-        goes = with_row_goes plan b line 0 1 waits.stands there begun (b.takes + 1) b.clock (λ k e h. waits.stands.clean line k e h) count [] reached refl (ap (λ (r : Row). r.next + 1) waits.row) (λ j x at. absurd (none-some x at));
-        state = with_row_state plan b line 0 1 waits.stands there begun (b.takes + 1) b.clock (λ k e h. waits.stands.clean line k e h) count;
-      }
+  taken_reads reached = (
+    record {
+      goes = with_row_goes plan b line waits.stands there begun (b.takes + 1) b.clock b.failed [] reached (λ j x at. absurd (none-some x at));
+      state = with_row_state plan b line waits.stands there begun (b.takes + 1) b.clock b.failed;
+    },
+    (let e : (row_at (taken b 0 line) line).next ≡ (row_at b line).next + 1 = with_row_next plan b line waits.stands there begun (b.takes + 1) b.clock b.failed in omega (arith, e)),
+  )
 
-  pub take_goes : (a : ℕ) (new : Board) → Step plan b (Take 0 line) (Taken a) new → Reads plan new line []
+  pub take_goes : (a : ℕ) (new : Board) → Step plan b (Take 0 line) (Taken a) new → Reads plan new line [] × (suc a ≡ (row_at new line).next)
   take_goes a new h =
       let reached = step_reached plan b new (Take 0 line) (Taken a) waits.stands.reached tt h in
-      subst (λ x. Reads plan x line []) (sym h.3) (taken_reads (subst (λ x. Reached plan x) h.3 reached))
+      let e : new ≡ taken b 0 line = h.3 in
+      let done = taken_reads (subst (λ x. Reached plan x) e reached) in
+      (subst (λ x. Reads plan x line []) (sym e) done.0, ap suc h.2 ∙ done.1 ∙ ap (λ (x : Board). (row_at x line).next) (sym e))
 
-  -- it has attempts left
-  pub take_never : (2 ^ 32 ≤ (row_at b line).next) → ⊥
-  take_never h = omega (arith, h, ap (λ (r : Row). r.next) waits.row)
+  -- a fresh line has attempts left
+  pub take_never : (n : ℕ) (new : Board) → IsFresh b line → Step plan b (Take 0 line) (Attempts n) new → ⊥
+  take_never n new fresh h = omega (arith, h.1, ap (λ (r : Row). r.next) fresh)
 
-  pub take_never_idle : (new : Board) → Step plan b (Take 0 line) Idle new → ⊥
-  take_never_idle new h = h.0 may_take
+  idle_done : (s : State) → (row_at b line).state ≡ s → (MayTake b 0 line → ⊥) → IsDone s
+  idle_done Waiting is not = absurd (not (record { within = there; free = free_here; waiting = is }))
+  idle_done (Running w notes) is not = absurd (waits.own w (ap holder is))
+  idle_done (Placing w notes last) is not = absurd (waits.own w (ap holder is))
+  idle_done (Done notes answer stamp) is not = (notes, answer, stamp, refl)
+  idle_done (Checking w notes answer t i) is not = absurd (waits.own w (ap holder is))
+  idle_done (Committed answer) is not = absurd (is_open plan b line waits.stands (subst IsCommitted (sym is) tt))
+
+  -- one that can't be taken is done
+  pub take_idle : (new : Board) → Step plan b (Take 0 line) Idle new → IsDone (row_at b line).state × (new ≡ b)
+  take_idle new h = (idle_done (row_at b line).state refl h.0, h.1)
+
+  pub done_checks : IsDone (row_at b line).state → (notes : List Note) × Checks plan b line notes
+  done_checks d = (d.0, record { stands = waits.stands; there = there; state = subst (λ s. IsChecked s d.0 b.clock) (sym d.3) refl })
 
 -- ---- look
 module _ (plan : Planned) (b : Board) (line : ℕ) (notes : List Note) (reads : Reads plan b line notes) where
-  stands_here : Stands plan b line 1
+  stands_here : Stands plan b line
   stands_here = reads.goes.stands
 
   same_notes : (n : ℕ) (k : Key) (others : List Note) → MayLook b 0 k n others → n ≡ line → others ≡ notes
   same_notes n k others may e = let z : Running 0 others ≡ Running 0 notes = sym may.running ∙ ap (λ q. (row_at b q).state) e ∙ reads.state in cc
 
   is_line : (n : ℕ) (k : Key) (others : List Note) → MayLook b 0 k n others → n ≡ line
-  is_line n k others may = held_is plan b line 1 stands_here n 0 (ap holder may.running)
+  is_line n k others may = held_is plan b line stands_here n 0 (ap holder may.running)
 
   note_now : Key → Name → Option Record → Note
   note_now k name value = record { key = k; name = name; found = value }
 
   reads_more : (k : Key) (name : Name) → found (row_at b) line k ≡ Named name → Reached plan (seen plan b 0 k line notes name)
-      → Reads plan (seen plan b 0 k line notes name) line (notes ++ note_now k name (value_at plan (row_at b) line k) ∷ [])
+      → Reads plan (seen plan b 0 k line notes name) line (notes ++ note_now k name (value_at plan (row_at b) line k) ∷ []) × ((row_at (seen plan b 0 k line notes name) line).next ≡ (row_at b line).next)
   unfolding note_now
   reads_more k name is reached =
-      let r : Row = with_state (row_at b line) (Running 0 (notes ++ note_now k name (value_at plan (row_at b) line k) ∷ [])) in
-      let clean : (q : Key) (e : Shown) → entry r q ≡ Some e → e.suspect ≡ false = λ q e h. stands_here.clean line q e h in
-      record {
-        goes = with_row_goes plan b line 1 1 stands_here reads.goes.there r b.takes b.clock clean stands_here.takes
-            (notes ++ note_now k name (value_at plan (row_at b) line k) ∷ []) reached refl reads.goes.next
-            (each_push (IsNow (row_at b) line) notes (note_now k name (value_at plan (row_at b) line k)) reads.goes.now is);
-        state = with_row_state plan b line 1 1 stands_here reads.goes.there r b.takes b.clock clean stands_here.takes;
-      }
+      let r : Row = with_state (row_at b line) (Running 0 (notes ++ note_now k name (value_at plan (row_at b) line k) ∷ [])) in (
+        record {
+          goes = with_row_goes plan b line stands_here reads.goes.there r b.takes b.clock b.failed
+              (notes ++ note_now k name (value_at plan (row_at b) line k) ∷ []) reached
+              (each_push (IsNow (row_at b) line) notes (note_now k name (value_at plan (row_at b) line k)) reads.goes.now is);
+          state = with_row_state plan b line stands_here reads.goes.there r b.takes b.clock b.failed;
+        },
+        with_row_next plan b line stands_here reads.goes.there r b.takes b.clock b.failed,
+      )
 
-  pub look_goes : (k : Key) (name : Name) (value : Option Record) (new : Board) → Step plan b (Look 0 k) (Seen name value) new → Reads plan new line (notes ++ record { key = k; name = name; found = value } ∷ [])
+  pub look_goes : (k : Key) (name : Name) (value : Option Record) (new : Board) → Step plan b (Look 0 k) (Seen name value) new
+      → Reads plan new line (notes ++ record { key = k; name = name; found = value } ∷ []) × ((row_at new line).next ≡ (row_at b line).next)
   unfolding note_now
   look_goes k name value new (n, others, may, is, v, e) =
       let at = is_line n k others may in
@@ -221,9 +211,11 @@ module _ (plan : Planned) (b : Board) (line : ℕ) (notes : List Note) (reads : 
       let is_new : new ≡ seen plan b 0 k line notes name = e ∙ ap (λ q. seen plan b 0 k q others name) at ∙ ap (λ ns. seen plan b 0 k line ns name) same in
       let is_value : value ≡ value_at plan (row_at b) line k = v ∙ ap (λ q. value_at plan (row_at b) q k) at in
       let found_here : found (row_at b) line k ≡ Named name = subst (λ q. found (row_at b) q k ≡ Named name) at is in
-      let done = reads_more k name found_here (subst (λ x. Reached plan x) is_new reached) in
-      subst (λ x. Reads plan x line (notes ++ record { key = k; name = name; found = value } ∷ [])) (sym is_new)
-      (subst (λ (x : Option Record). Reads plan (seen plan b 0 k line notes name) line (notes ++ record { key = k; name = name; found = x } ∷ [])) (sym is_value) done)
+      let done = reads_more k name found_here (subst (λ x. Reached plan x) is_new reached) in (
+        subst (λ x. Reads plan x line (notes ++ record { key = k; name = name; found = value } ∷ [])) (sym is_new)
+            (subst (λ (x : Option Record). Reads plan (seen plan b 0 k line notes name) line (notes ++ record { key = k; name = name; found = x } ∷ [])) (sym is_value) done.0),
+        ap (λ (x : Board). (row_at x line).next) is_new ∙ done.1,
+      )
 
   may_look : (k : Key) → EachNote notes (λ x. x.key ≢ k) → MayLook b 0 k line notes
   may_look k fresh = record { running = reads.state; unnoted = fresh }
@@ -232,10 +224,12 @@ module _ (plan : Planned) (b : Board) (line : ℕ) (notes : List Note) (reads : 
   look_never_idle k new fresh h = h.0 line notes (may_look k fresh)
 
   pub look_never_stops : (k : Key) (m : ℕ) (new : Board) → Step plan b (Look 0 k) (Stopped m) new → ⊥
-  look_never_stops k m new (n, others, may, is, e) = none_suspect (row_at b) n k m stands_here.clean is
+  look_never_stops k m new (n, others, may, is, e) =
+      let at = is_line n k others may in
+      none_suspect (row_at b) line k m (below_clear plan b line stands_here) (subst (λ q. found (row_at b) q k ≡ Suspect m) at is)
 
 -- ---- publish
-publish_held : (b : Board) (w n : ℕ) (notes : List Note) → MayPublish b w n notes → (holder (row_at b n).state ≡ Some w) × (notes_of (row_at b n).state ≡ notes)
+pub publish_held : (b : Board) (w n : ℕ) (notes : List Note) → MayPublish b w n notes → (holder (row_at b n).state ≡ Some w) × (notes_of (row_at b n).state ≡ notes)
 publish_held b w n notes (inl is) = (ap holder is, ap notes_of is)
 publish_held b w n notes (inr (last, is)) = (ap holder is, ap notes_of is)
 
@@ -251,47 +245,29 @@ module _ (plan : Planned) (b : Board) (line : ℕ) (v : Contents) (appears : App
   goes_here = appears.goes
 
   line_is : (n : ℕ) (notes : List Note) → MayPublish b 0 n notes → n ≡ line
-  line_is n notes may = held_is plan b line 1 goes_here.stands n 0 (publish_held b 0 n notes may).0
+  line_is n notes may = held_is plan b line goes_here.stands n 0 (publish_held b 0 n notes may).0
 
   fits_here : Fits b line v.reads v
-  fits_here = record { same_line = appears.of_line; same_attempt = ap suc appears.first ∙ sym goes_here.next; same_notes = refl }
+  fits_here = record { same_line = appears.of_line; same_attempt = appears.attempt; same_notes = refl }
 
-  -- no entry of the line is suspect after another is placed
-  clean_more : (k q : Key) (e : Shown) → get (insert (row_at b line).entries k (shown_by v.attempt v)) q ≡ Some e → e.suspect ≡ false
-  clean_more k q e h = elim (cases_key q k) [
-    | inl same ↦
-        let z : Some (shown_by v.attempt v) ≡ Some e = sym (get_insert_same (row_at b line).entries k (shown_by v.attempt v)) ∙ subst (λ x. get (insert (row_at b line).entries k (shown_by v.attempt v)) x ≡ Some e) same h in
-        ap (λ (x : Shown). x.suspect) (sym (same_Some _ _ z))
-    | inr ne ↦ goes_here.stands.clean line q e (sym (get_insert_other (row_at b line).entries k (shown_by v.attempt v) q ne) ∙ h)
-  ]
-
-  clean_less : (k q : Key) (e : Shown) → get (remove (row_at b line).entries k) q ≡ Some e → e.suspect ≡ false
-  clean_less k q e h = elim (cases_key q k) [
-    | inl same ↦ absurd (none-some e (sym (get_remove_same (row_at b line).entries k) ∙ subst (λ x. get (remove (row_at b line).entries k) x ≡ Some e) same h))
-    | inr ne ↦ goes_here.stands.clean line q e (sym (get_remove_other (row_at b line).entries k q ne) ∙ h)
-  ]
+  -- the line with other entries
+  changed_appears : (r : Row) → r.state ≡ Placing 0 v.reads (Some v) → r.next ≡ (row_at b line).next → Reached plan (record (put_row b line r) { clock = b.clock + 1 })
+      → Appears plan (record (put_row b line r) { clock = b.clock + 1 }) line v
+  changed_appears r is next reached = record {
+    goes = with_row_goes plan b line goes_here.stands goes_here.there r b.takes (b.clock + 1) b.failed v.reads reached goes_here.now;
+    state = inr (with_row_state plan b line goes_here.stands goes_here.there r b.takes (b.clock + 1) b.failed ∙ is);
+    of_line = appears.of_line;
+    attempt = appears.attempt ∙ sym next ∙ sym (with_row_next plan b line goes_here.stands goes_here.there r b.takes (b.clock + 1) b.failed);
+    settles = appears.settles;
+  }
 
   placed_appears : (k : Key) → Reached plan (placed b 0 line v.reads v k) → Appears plan (placed b 0 line v.reads v k) line v
   placed_appears k reached =
-      let r : Row = record (row_at b line) { state = Placing 0 v.reads (Some v); changed = b.clock + 1; entries = insert (row_at b line).entries k (shown_by v.attempt v) } in
-      record {
-        goes = with_row_goes plan b line 1 1 goes_here.stands goes_here.there r b.takes (b.clock + 1) (clean_more k) goes_here.stands.takes v.reads reached refl goes_here.next goes_here.now;
-        state = inr (with_row_state plan b line 1 1 goes_here.stands goes_here.there r b.takes (b.clock + 1) (clean_more k) goes_here.stands.takes);
-        of_line = appears.of_line;
-        first = appears.first;
-        settles = appears.settles;
-      }
+      changed_appears (record (row_at b line) { state = Placing 0 v.reads (Some v); changed = b.clock + 1; entries = insert (row_at b line).entries k (shown_by v.attempt v) }) refl refl reached
 
   lifted_appears : (k : Key) → Reached plan (lifted b 0 line v.reads v k) → Appears plan (lifted b 0 line v.reads v k) line v
   lifted_appears k reached =
-      let r : Row = record (row_at b line) { state = Placing 0 v.reads (Some v); changed = b.clock + 1; entries = remove (row_at b line).entries k } in
-      record {
-        goes = with_row_goes plan b line 1 1 goes_here.stands goes_here.there r b.takes (b.clock + 1) (clean_less k) goes_here.stands.takes v.reads reached refl goes_here.next goes_here.now;
-        state = inr (with_row_state plan b line 1 1 goes_here.stands goes_here.there r b.takes (b.clock + 1) (clean_less k) goes_here.stands.takes);
-        of_line = appears.of_line;
-        first = appears.first;
-        settles = appears.settles;
-      }
+      changed_appears (record (row_at b line) { state = Placing 0 v.reads (Some v); changed = b.clock + 1; entries = remove (row_at b line).entries k }) refl refl reached
 
   whole_board : Board
   whole_board = put_row b line (with_state (row_at b line) (Done v.reads v.answer None))
@@ -300,11 +276,15 @@ module _ (plan : Planned) (b : Board) (line : ℕ) (v : Contents) (appears : App
   unfolding whole_board
   whole_proves reached =
       let r : Row = with_state (row_at b line) (Done v.reads v.answer None) in
-      let clean : (k : Key) (e : Shown) → entry r k ≡ Some e → e.suspect ≡ false = λ k e h. goes_here.stands.clean line k e h in
+      let goes = with_row_goes plan b line goes_here.stands goes_here.there r b.takes b.clock b.failed v.reads reached goes_here.now in
       record {
         notes = v.reads;
-        goes = with_row_goes plan b line 1 1 goes_here.stands goes_here.there r b.takes b.clock clean goes_here.stands.takes v.reads reached refl goes_here.next goes_here.now;
-        state = subst (λ s. IsChecked s v.reads b.clock) (sym (with_row_state plan b line 1 1 goes_here.stands goes_here.there r b.takes b.clock clean goes_here.stands.takes)) refl;
+        checks = record {
+          stands = goes.stands;
+          there = goes.there;
+          state = subst (λ s. IsChecked s v.reads b.clock) (sym (with_row_state plan b line goes_here.stands goes_here.there r b.takes b.clock b.failed)) refl;
+        };
+        now = goes.now;
       }
 
   pub placed_goes : (new : Board) → Step plan b (Publish 0 v) Placed new → Appears plan new line v × (new.clock ≡ b.clock + 1) × HasRoom b
@@ -344,87 +324,73 @@ module _ (plan : Planned) (b : Board) (line : ℕ) (v : Contents) (appears : App
   -- the version of the last act is this one
   pub last_act : (u : Contents) → IsPlacing b 0 (Some u) → u ≡ v
   last_act u (n, notes, is) =
-      let at : n ≡ line = held_is plan b line 1 goes_here.stands n 0 (ap holder is) in
+      let at : n ≡ line = held_is plan b line goes_here.stands n 0 (ap holder is) in
       last_of (row_at b line).state u notes (subst (λ q. (row_at b q).state ≡ Placing 0 notes (Some u)) at is) appears.state
 
 -- ---- check
-module _ (plan : Planned) (b : Board) (line : ℕ) (proves : Proves plan b line) where
-  goes_now : GoesOn plan b line proves.notes
-  goes_now = proves.goes
-
-  compared_notes : (notes : List Note) (answer : Option Answer) (t i : ℕ) → Compares b 0 line notes answer t i → (notes ≡ proves.notes) × (t ≡ b.clock)
-  compared_notes notes answer t i (inl (free, (s, is), now, none)) = (subst (λ x. IsChecked x proves.notes b.clock) is proves.state, now)
-  compared_notes notes answer t i (inr is) = let h = subst (λ x. IsChecked x proves.notes b.clock) is proves.state in (h.1, h.2)
+module _ (plan : Planned) (b : Board) (line : ℕ) (ns : List Note) (checks : Checks plan b line ns) where
+  compared_notes : (notes : List Note) (answer : Option Answer) (t i : ℕ) → Compares b 0 line notes answer t i → (notes ≡ ns) × (t ≡ b.clock)
+  compared_notes notes answer t i (inl (free, (s, is), now, none)) = (subst (λ x. IsChecked x ns b.clock) is checks.state, now)
+  compared_notes notes answer t i (inr is) = let h = subst (λ x. IsChecked x ns b.clock) is checks.state in (h.1, h.2)
 
   -- what is left before and after a name is compared
   left_less : (notes : List Note) (answer : Option Answer) (t i : ℕ) (x : Note) → Compares b 0 line notes answer t i → slice_get notes i ≡ Some x → length notes - (i + 1) < left_of (row_at b line).state
   left_less notes answer t i x (inl (free, (s, is), now, none)) at = let l = ap left_of is in omega (arith, l, none)
   left_less notes answer t i x (inr is) at = let l = ap left_of is in omega (arith, l, slice_get_within notes i x at)
 
-  each_now : (notes : List Note) → notes ≡ proves.notes → EachNote notes (IsNow (row_at b) line)
-  each_now notes e = subst (λ ns. EachNote ns (IsNow (row_at b) line)) (sym e) goes_now.now
-
-  module _ (notes : List Note) (answer : Option Answer) (t : ℕ) (same : notes ≡ proves.notes) (now : t ≡ b.clock) where
-    pub compared_proves : (i : ℕ) → Reached plan (put_row b line (with_state (row_at b line) (Checking 0 notes answer t i)))
-        → Proves plan (put_row b line (with_state (row_at b line) (Checking 0 notes answer t i))) line × (left_of (row_at (put_row b line (with_state (row_at b line) (Checking 0 notes answer t i))) line).state ≡ length notes - i)
-    compared_proves i reached =
+  module _ (notes : List Note) (answer : Option Answer) (t : ℕ) (same : notes ≡ ns) (now : t ≡ b.clock) where
+    compared_checks : (i : ℕ) → Reached plan (put_row b line (with_state (row_at b line) (Checking 0 notes answer t i)))
+        → Checks plan (put_row b line (with_state (row_at b line) (Checking 0 notes answer t i))) line ns × (left_of (row_at (put_row b line (with_state (row_at b line) (Checking 0 notes answer t i))) line).state ≡ length notes - i)
+    compared_checks i reached =
         let r : Row = with_state (row_at b line) (Checking 0 notes answer t i) in
-        let clean : (k : Key) (e : Shown) → entry r k ≡ Some e → e.suspect ≡ false = λ k e h. goes_now.stands.clean line k e h in
-        let state : (row_at (put_row b line r) line).state ≡ Checking 0 notes answer t i = with_row_state plan b line 1 1 goes_now.stands goes_now.there r b.takes b.clock clean goes_now.stands.takes in (
+        let state : (row_at (put_row b line r) line).state ≡ Checking 0 notes answer t i = with_row_state plan b line checks.stands checks.there r b.takes b.clock b.failed in (
           record {
-            notes = notes;
-            goes = with_row_goes plan b line 1 1 goes_now.stands goes_now.there r b.takes b.clock clean goes_now.stands.takes notes reached refl goes_now.next (each_now notes same);
-            state = subst (λ s. IsChecked s notes b.clock) (sym state) (refl, refl, now);
+            stands = with_row_stands plan b line checks.stands checks.there r b.takes b.clock b.failed reached;
+            there = with_row_there plan b line checks.stands checks.there r b.takes b.clock b.failed;
+            state = subst (λ s. IsChecked s ns b.clock) (sym state) (refl, same, now);
           },
           ap left_of state,
         )
 
-    pub checked_holds : Reached plan (put_row b line (with_state (row_at b line) (Done notes answer (Some t)))) → Holds plan (put_row b line (with_state (row_at b line) (Done notes answer (Some t)))) line
+    checked_holds : Reached plan (put_row b line (with_state (row_at b line) (Done notes answer (Some t)))) → Holds plan (put_row b line (with_state (row_at b line) (Done notes answer (Some t)))) line
     checked_holds reached =
         let r : Row = with_state (row_at b line) (Done notes answer (Some t)) in
-        let clean : (k : Key) (e : Shown) → entry r k ≡ Some e → e.suspect ≡ false = λ k e h. goes_now.stands.clean line k e h in
         record {
-          stands = with_row_stands plan b line 1 1 goes_now.stands goes_now.there r b.takes b.clock clean goes_now.stands.takes reached;
-          there = with_row_there plan b line 1 1 goes_now.stands goes_now.there r b.takes b.clock clean goes_now.stands.takes;
+          stands = with_row_stands plan b line checks.stands checks.there r b.takes b.clock b.failed reached;
+          there = with_row_there plan b line checks.stands checks.there r b.takes b.clock b.failed;
           notes = notes;
           answer = answer;
-          state = with_row_state plan b line 1 1 goes_now.stands goes_now.there r b.takes b.clock clean goes_now.stands.takes ∙ ap (λ u. Done notes answer (Some u)) now;
+          state = with_row_state plan b line checks.stands checks.there r b.takes b.clock b.failed ∙ ap (λ u. Done notes answer (Some u)) now;
         }
 
-  pub same_goes : (new : Board) → Step plan b (Check 0 line) Same new → Proves plan new line × (left_of (row_at new line).state < left_of (row_at b line).state)
-  same_goes new (notes, answer, t, i, compares, x, at, is_now, e) =
+  pub same_checks : (new : Board) → Step plan b (Check 0 line) Same new
+      → Checks plan new line ns × (left_of (row_at new line).state < left_of (row_at b line).state) × ((m : ℕ) → m ≢ line → row_at new m ≡ row_at b m)
+  same_checks new (notes, answer, t, i, compares, x, at, is_now, e) =
       let c = compared_notes notes answer t i compares in
-      let reached = step_reached plan b new (Check 0 line) Same goes_now.stands.reached tt (notes, answer, t, i, compares, x, at, is_now, e) in
-      let p = compared_proves notes answer t c.0 c.1 (i + 1) (subst (λ y. Reached plan y) e reached) in
-      let less = left_less notes answer t i x compares at in
-      (subst (λ y. Proves plan y line) (sym e) p.0, subst (λ (y : Board). left_of (row_at y line).state < left_of (row_at b line).state) (sym e) (omega (arith, p.1, less)))
+      let reached = step_reached plan b new (Check 0 line) Same checks.stands.reached tt (notes, answer, t, i, compares, x, at, is_now, e) in
+      let p = compared_checks notes answer t c.0 c.1 (i + 1) (subst (λ y. Reached plan y) e reached) in
+      let less = left_less notes answer t i x compares at in (
+        subst (λ y. Checks plan y line ns) (sym e) p.0,
+        subst (λ (y : Board). left_of (row_at y line).state < left_of (row_at b line).state) (sym e) (omega (arith, p.1, less)),
+        λ m ne. ap (λ (y : Board). row_at y m) e ∙ row_put_off b line (with_state (row_at b line) (Checking 0 notes answer t (i + 1))) m ne,
+      )
 
   pub checked_goes : (new : Board) → Step plan b (Check 0 line) Whole new → Holds plan new line
   checked_goes new (notes, answer, t, i, compares, all, e) =
       let c = compared_notes notes answer t i compares in
-      let reached = step_reached plan b new (Check 0 line) Whole goes_now.stands.reached tt (notes, answer, t, i, compares, all, e) in
+      let reached = step_reached plan b new (Check 0 line) Whole checks.stands.reached tt (notes, answer, t, i, compares, all, e) in
       subst (λ y. Holds plan y line) (sym e) (checked_holds notes answer t c.0 c.1 (subst (λ y. Reached plan y) e reached))
-
-  never_differs : (notes : List Note) (answer : Option Answer) (t i : ℕ) (key : Key) (noted : Name) (now : Found) → Compares b 0 line notes answer t i → Differs b line notes i key noted now → ⊥
-  never_differs notes answer t i key noted now compares d =
-      d.other (d.now_is ∙ each_now notes (compared_notes notes answer t i compares).0 i (record { key = key; name = noted; found = d.value }) d.note)
-
-  pub check_never_changes : (key : Key) (noted : Name) (now : Found) (new : Board) → Step plan b (Check 0 line) (Changed key noted now) new → ⊥
-  check_never_changes key noted now new (notes, answer, t, i, compares, d, rest) = never_differs notes answer t i key noted now compares d
-
-  pub check_never_spent : (new : Board) → Step plan b (Check 0 line) ClockSpent new → ⊥
-  check_never_spent new (notes, answer, t, i, compares, (key, noted, now, d), some, room, rest) = never_differs notes answer t i key noted now compares d
 
   free_if : (s : State) → (row_at b line).state ≡ s → holder s ≡ None → IsFree b 0
   free_if s is none = (
-    goes_now.stands.worker,
+    checks.stands.worker,
     λ m. elim (cases_eq m line) [
-      | inl e ↦ (λ h. (let z : None ≡ Some 0 = sym none ∙ sym (ap holder is) ∙ sym (ap (λ q. holder (row_at b q).state) e) ∙ h in cc))
-      | inr ne ↦ others_free plan b line 1 goes_now.stands m 0 ne
+      | inl e ↦ (λ h. none-some 0 (sym none ∙ sym (ap holder is) ∙ sym (ap (λ q. holder (row_at b q).state) e) ∙ h))
+      | inr ne ↦ checks.stands.others m 0 ne
     ],
   )
 
-  compares_so : (s : State) → (row_at b line).state ≡ s → IsChecked s proves.notes b.clock → (notes : List Note) × (answer : Option Answer) × (t : ℕ) × (i : ℕ) × Compares b 0 line notes answer t i
+  compares_so : (s : State) → (row_at b line).state ≡ s → IsChecked s ns b.clock → (notes : List Note) × (answer : Option Answer) × (t : ℕ) × (i : ℕ) × Compares b 0 line notes answer t i
   compares_so (Done notes answer stamp) is h = (notes, answer, b.clock, 0, inl (free_if (Done notes answer stamp) is refl, (stamp, is), refl, refl))
   compares_so (Checking w notes answer t i) is h = (notes, answer, t, i, inr (is ∙ ap (λ x. Checking x notes answer t i) h.0))
   compares_so Waiting is h = absurd h
@@ -433,51 +399,81 @@ module _ (plan : Planned) (b : Board) (line : ℕ) (proves : Proves plan b line)
   compares_so (Committed answer) is h = absurd h
 
   pub check_never_idle : (new : Board) → Step plan b (Check 0 line) Idle new → ⊥
-  check_never_idle new h = let (notes, answer, t, i, c) = compares_so (row_at b line).state refl proves.state in h.0 notes answer t i c
+  check_never_idle new h = let (notes, answer, t, i, c) = compares_so (row_at b line).state refl checks.state in h.0 notes answer t i c
+
+  -- a check that fails sends the line back
+  back_waits : (r : Row) (clock : ℕ) (new : Board) → r.state ≡ Waiting → new ≡ record (put_row b line r) { clock = clock; failed = b.failed + 1 } → Reached plan new
+      → Waits plan new line × IsLine new line × ((row_at new line).state ≡ Waiting)
+  back_waits r clock new is e reached =
+      let stands = with_row_stands plan b line checks.stands checks.there r b.takes clock (b.failed + 1) (subst (λ y. Reached plan y) e reached) in
+      let there = with_row_there plan b line checks.stands checks.there r b.takes clock (b.failed + 1) in
+      let state : (row_at new line).state ≡ Waiting = ap (λ (y : Board). (row_at y line).state) e ∙ with_row_state plan b line checks.stands checks.there r b.takes clock (b.failed + 1) ∙ is in (
+        record { stands = subst (λ y. Stands plan y line) (sym e) stands; own = λ w h. none-some w (sym (ap holder state) ∙ h) },
+        subst (λ y. IsLine y line) (sym e) there,
+        state,
+      )
+
+  pub changed_waits : (key : Key) (noted : Name) (now : Found) (new : Board) → Step plan b (Check 0 line) (Changed key noted now) new
+      → Waits plan new line × IsLine new line × ((row_at new line).state ≡ Waiting)
+  changed_waits key noted now new h =
+      let reached = step_reached plan b new (Check 0 line) (Changed key noted now) checks.stands.reached tt h in
+      elim h.6 [
+        | inl g ↦ back_waits (with_state (row_at b line) Waiting) b.clock new refl g.1 reached
+        | inr g ↦ back_waits (record (row_at b line) { state = Waiting; entries = suspected (row_at b line).entries; changed = b.clock + 1 }) (b.clock + 1) new refl g.2 reached
+      ]
+
+-- its names are so now
+module _ (plan : Planned) (b : Board) (line : ℕ) (proves : Proves plan b line) where
+  pub same_goes : (new : Board) → Step plan b (Check 0 line) Same new → Proves plan new line × (left_of (row_at new line).state < left_of (row_at b line).state)
+  same_goes new h =
+      let s = same_checks plan b line proves.notes proves.checks new h in
+      (record { notes = proves.notes; checks = s.0; now = seen_stays plan b line proves.checks.stands new proves.notes s.2 proves.now }, s.1)
+
+  never_differs : (notes : List Note) (answer : Option Answer) (t i : ℕ) (key : Key) (noted : Name) (now : Found) → Compares b 0 line notes answer t i → Differs b line notes i key noted now → ⊥
+  never_differs notes answer t i key noted now compares d =
+      let same : notes ≡ proves.notes = (compared_notes plan b line proves.notes proves.checks notes answer t i compares).0 in
+      let each : EachNote notes (IsNow (row_at b) line) = subst (λ ns. EachNote ns (IsNow (row_at b) line)) (sym same) proves.now in
+      d.other (d.now_is ∙ each i (record { key = key; name = noted; found = d.value }) d.note)
+
+  pub check_never_changes : (key : Key) (noted : Name) (now : Found) (new : Board) → Step plan b (Check 0 line) (Changed key noted now) new → ⊥
+  check_never_changes key noted now new (notes, answer, t, i, compares, d, rest) = never_differs notes answer t i key noted now compares d
+
+  pub check_never_spent : (new : Board) → Step plan b (Check 0 line) ClockSpent new → ⊥
+  check_never_spent new (notes, answer, t, i, compares, (key, noted, now, d), some, room, rest) = never_differs notes answer t i key noted now compares d
 
 -- ---- commit
 module _ (plan : Planned) (b : Board) (line : ℕ) (holds : Holds plan b line) where
   may_commit : MayCommit b line holds.notes holds.answer b.clock
   may_commit = record {
-    below = λ m from lt. holds.stands.below m (omega (arith, from, holds.stands.reached.first)) lt;
+    below = λ m from lt. holds.stands.reached.rows.first m (omega (arith, from, holds.stands.reached.first)) (omega (arith, lt, holds.stands.commits));
     done = holds.state;
-    unchanged = λ m lt. unchanged plan b line 1 holds.stands m;
+    unchanged = λ m lt. unchanged plan b line holds.stands m;
   }
+
+  -- no line is in hand
+  none_held : (m w : ℕ) → holder (row_at b m).state ≢ Some w
+  none_held m w h = elim (cases_eq m line) [
+    | inl e ↦ none-some w (sym (ap (λ q. holder (row_at b q).state) e ∙ ap holder holds.state) ∙ h)
+    | inr ne ↦ holds.stands.others m w ne h
+  ]
 
   committed_waits : (answer : Option Answer) (new : Board) → new ≡ record (put_row b line (with_state (row_at b line) (Committed answer))) { committed = b.committed + 1 } → Reached plan new → Waits plan new (line + 1)
   committed_waits answer new e reached =
-      let at : row_at new line ≡ with_state (row_at b line) (Committed answer) = ap (λ (x : Board). row_at x line) e ∙ row_put b line (with_state (row_at b line) (Committed answer)) holds.there in
-      let off : (m : ℕ) → m ≢ line → row_at new m ≡ row_at b m = λ m ne. ap (λ (x : Board). row_at x m) e ∙ row_put_off b line (with_state (row_at b line) (Committed answer)) m ne in
-      let above : (m : ℕ) → line < m → row_at new m ≡ opening_row 0 = λ m lt. off m (λ q. omega (arith, q, lt)) ∙ holds.stands.above m lt in
+      let r : Row = with_state (row_at b line) (Committed answer) in
+      let at : row_at new line ≡ r = ap (λ (x : Board). row_at x line) e ∙ row_put b line r holds.there in
+      let free : (m w : ℕ) → holder (row_at new m).state ≢ Some w = λ m w h. elim (cases_eq m line) [
+        | inl q ↦ none-some w (sym (ap (λ j. holder (row_at new j).state) q ∙ ap (λ (x : Row). holder x.state) at) ∙ h)
+        | inr ne ↦ none_held m w (sym (ap (λ (x : Board). holder (row_at x m).state) e ∙ ap (λ (x : Row). holder x.state) (row_put_off b line r m ne)) ∙ h)
+      ] in
       record {
         stands = record {
           reached = reached;
-          from = omega (arith, holds.stands.from);
           worker = omega (arith, holds.stands.worker, ap (λ (x : Board). x.workers) e);
-          below = λ m from lt. elim (cases_eq m line) [
-            | inl q ↦ subst (λ (x : Row). IsCommitted x.state) (sym (ap (λ j. row_at new j) q ∙ at)) tt
-            | inr ne ↦ subst (λ (x : Row). IsCommitted x.state) (sym (off m ne)) (holds.stands.below m from (omega (arith, lt, ne)))
-          ];
-          above = λ m lt. above m (omega (arith, lt));
-          clean = λ m k x h. elim (cases_eq m line) [
-            | inl q ↦ holds.stands.clean line k x (subst (λ (y : Row). entry y k ≡ Some x) (ap (λ j. row_at new j) q ∙ at) h)
-            | inr ne ↦ holds.stands.clean m k x (subst (λ (y : Row). entry y k ≡ Some x) (off m ne) h)
-          ];
           commits = omega (arith, holds.stands.commits, ap (λ (x : Board). x.committed) e);
-          takes = omega (arith, holds.stands.takes, ap (λ (x : Board). x.takes) e);
-          failed = ap (λ (x : Board). x.failed) e ∙ holds.stands.failed;
-          stops = ap (λ (x : Board). x.stops) e ∙ holds.stands.stops;
+          others = λ m w ne. free m w;
         };
-        row = above (line + 1) (omega arith);
+        own = λ w. free (line + 1) w;
       }
-
-  done_open : (s : State) → (row_at b line).state ≡ s → IsCommitted s → s ≡ Done holds.notes holds.answer (Some b.clock) → ⊥
-  done_open (Committed answer) is h e = cc
-  done_open Waiting is h e = h
-  done_open (Running w notes) is h e = h
-  done_open (Placing w notes last) is h e = h
-  done_open (Done notes answer stamp) is h e = h
-  done_open (Checking w notes answer t i) is h e = h
 
   pub commit_goes : (new : Board) → Step plan b (Commit line) Commits new → Waits plan new (line + 1)
   commit_goes new (notes, answer, t, may, e) =
@@ -489,5 +485,75 @@ module _ (plan : Planned) (b : Board) (line : ℕ) (holds : Holds plan b line) w
   pub commit_never_idle : (new : Board) → Step plan b (Commit line) Idle new → ⊥
   commit_never_idle new h = elim h.0 [
     | inl not ↦ not holds.there
-    | inr is ↦ done_open (row_at b line).state refl is holds.state
+    | inr is ↦ is_open plan b line holds.stands is
   ]
+
+-- ---- what no step for the line moves
+-- the step is one for this line
+abbrev pub IsFor : Board → ℕ → Call → Type 0
+IsFor b line (Take w n) = n ≡ line
+IsFor b line (Look w k) = (n : ℕ) (notes : List Note) → MayLook b w k n notes → n ≡ line
+IsFor b line (Publish w v) = (n : ℕ) (notes : List Note) → MayPublish b w n notes → n ≡ line
+IsFor b line (Check w n) = n ≡ line
+IsFor b line (Commit n) = n ≡ line
+
+-- neither a stop nor a failed check
+abbrev pub IsKept : Reply → Type 0
+IsKept (Stopped m) = ⊥
+IsKept (Changed key noted now) = ⊥
+IsKept _ = Unit {0}
+
+module _ (plan : Planned) (old new : Board) (line : ℕ) where
+  pub spares_same : new ≡ old → Spares old new line
+  spares_same e = record { off = λ m ne. ap (λ (x : Board). row_at x m) e; failed = ap (λ (x : Board). x.failed) e; stops = ap (λ (x : Board). x.stops) e }
+
+  spares_put : (n : ℕ) (r : Row) → n ≡ line → ((m : ℕ) → row_at new m ≡ row_at (put_row old n r) m) → new.failed ≡ old.failed → new.stops ≡ old.stops → Spares old new line
+  spares_put n r e same failed stops = record { off = λ m ne. same m ∙ row_put_off old n r m (λ q. ne (q ∙ e)); failed = failed; stops = stops }
+
+  pub step_spares : (call : Call) (reply : Reply) → IsFor old line call → IsKept reply → Step plan old call reply new → Spares old new line
+  step_spares (Take w n) (Taken a) at kept h = spares_put n _ at (λ m. ap (λ (x : Board). row_at x m) h.3) (ap (λ (x : Board). x.failed) h.3) (ap (λ (x : Board). x.stops) h.3)
+  step_spares (Take w n) (Attempts m) at kept h = spares_same h.3
+  step_spares (Take w n) Idle at kept h = spares_same h.1
+  step_spares (Take w n) _ at kept h = absurd h
+  step_spares (Look w k) (Seen name value) at kept h = spares_put h.0 _ (at h.0 h.1 h.2) (λ m. ap (λ (x : Board). row_at x m) h.5) (ap (λ (x : Board). x.failed) h.5) (ap (λ (x : Board). x.stops) h.5)
+  step_spares (Look w k) (Stopped m) at kept h = absurd kept
+  step_spares (Look w k) Idle at kept h = spares_same h.1
+  step_spares (Look w k) _ at kept h = absurd h
+  step_spares (Publish w v) Placed at kept h = spares_put h.0 _ (at h.0 h.1 h.2) (λ m. ap (λ (x : Board). row_at x m) h.8) (ap (λ (x : Board). x.failed) h.8) (ap (λ (x : Board). x.stops) h.8)
+  step_spares (Publish w v) Lifted at kept h = spares_put h.0 _ (at h.0 h.1 h.2) (λ m. ap (λ (x : Board). row_at x m) h.8) (ap (λ (x : Board). x.failed) h.8) (ap (λ (x : Board). x.stops) h.8)
+  step_spares (Publish w v) Whole at kept h = spares_put h.0 _ (at h.0 h.1 h.2) (λ m. ap (λ (x : Board). row_at x m) h.6) (ap (λ (x : Board). x.failed) h.6) (ap (λ (x : Board). x.stops) h.6)
+  step_spares (Publish w v) Stranger at kept h = spares_same h.4
+  step_spares (Publish w v) ClockSpent at kept h = spares_same h.6
+  step_spares (Publish w v) Idle at kept h = spares_same h.1
+  step_spares (Publish w v) _ at kept h = absurd h
+  step_spares (Check w n) Same at kept h = spares_put n _ at (λ m. ap (λ (x : Board). row_at x m) h.8) (ap (λ (x : Board). x.failed) h.8) (ap (λ (x : Board). x.stops) h.8)
+  step_spares (Check w n) (Changed key noted now) at kept h = absurd kept
+  step_spares (Check w n) Whole at kept h = spares_put n _ at (λ m. ap (λ (x : Board). row_at x m) h.6) (ap (λ (x : Board). x.failed) h.6) (ap (λ (x : Board). x.stops) h.6)
+  step_spares (Check w n) ClockSpent at kept h = spares_same h.8
+  step_spares (Check w n) Idle at kept h = spares_same h.1
+  step_spares (Check w n) _ at kept h = absurd h
+  step_spares (Commit n) Commits at kept h = spares_put n _ at (λ m. ap (λ (x : Board). row_at x m) h.4) (ap (λ (x : Board). x.failed) h.4) (ap (λ (x : Board). x.stops) h.4)
+  step_spares (Commit n) Later at kept h = spares_same h.3
+  step_spares (Commit n) Idle at kept h = spares_same h.1
+  step_spares (Commit n) _ at kept h = absurd h
+
+-- which steps worker 0 makes for the line
+pub look_for : (plan : Planned) (b : Board) (line : ℕ) → Stands plan b line → (k : Key) → IsFor b line (Look 0 k)
+look_for plan b line stands k = λ n notes may. held_is plan b line stands n 0 (ap holder may.running)
+
+pub publish_for : (plan : Planned) (b : Board) (line : ℕ) → Stands plan b line → (v : Contents) → IsFor b line (Publish 0 v)
+publish_for plan b line stands v = λ n notes may. held_is plan b line stands n 0 (publish_held b 0 n notes may).0
+
+pub spares_none : (b : Board) (line : ℕ) → Spares b b line
+spares_none b line = record { off = λ m ne. refl; failed = refl; stops = refl }
+
+pub spares_on : (a b c : Board) (line : ℕ) → Spares a b line → Spares b c line → Spares a c line
+spares_on a b c line x y = record { off = λ m ne. y.off m ne ∙ x.off m ne; failed = y.failed ∙ x.failed; stops = y.stops ∙ x.stops }
+
+-- the next line, and those above it, are as they were
+pub fresh_on : (old new : Board) (line : ℕ) → AreFresh old line → Spares old new line → AreFresh new (line + 1)
+fresh_on old new line fresh spares = record {
+  above = λ m le. spares.off m (λ e. omega (arith, e, le)) ∙ fresh.above m (omega (arith, le));
+  failed = spares.failed ∙ fresh.failed;
+  stops = spares.stops ∙ fresh.stops;
+}

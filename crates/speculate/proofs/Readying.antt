@@ -80,18 +80,20 @@ pub record Turns (b b' : Board) (n : ℕ) (row : Row) : Type 0 where
   pub there : IsLine b n
   pub first : b'.first ≡ b.first
   pub rows : length b'.rows ≡ length b.rows
+  pub workers : b'.workers ≡ b.workers
   pub at : row_at b' n ≡ row
   pub off : (m : ℕ) → m ≢ n → row_at b' m ≡ row_at b m
 
 -- a board that has just the rows of another with one row put
-pub turns_put : (b b' : Board) (n : ℕ) (row : Row) → IsLine b n → b'.first ≡ b.first → b'.rows ≡ (put_row b n row).rows → Turns b b' n row
-turns_put b b' n row there first rows =
+pub turns_put : (b b' : Board) (n : ℕ) (row : Row) → IsLine b n → b'.first ≡ b.first → b'.rows ≡ (put_row b n row).rows → b'.workers ≡ b.workers → Turns b b' n row
+turns_put b b' n row there first rows workers =
     let same : (m : ℕ) → row_at b' m ≡ row_at (put_row b n row) m =
     λ m. ap₂ (λ (f : ℕ) (x : List Row). row_at (record b { first = f; rows = x }) m) first rows in
     record {
       there = there;
       first = first;
       rows = ap (λ (x : List Row). length x) rows ∙ length_put b n row;
+      workers = workers;
       at = same n ∙ row_put b n row there;
       off = λ m ne. same m ∙ row_put_off b n row m ne;
     }
@@ -129,6 +131,7 @@ module _ (b b' : Board) (n : ℕ) (row : Row) (turns : Turns b b' n row) where
       record {
         positions = subst (λ x. HasPositions x r') (sym turns.rows) (long_positions r r' (length b.rows) puts.same ready.positions);
         few = omega (arith, ready.few, turns.rows);
+        workers = (omega (arith, ready.workers.0, turns.workers), omega (arith, ready.workers.1, turns.workers));
         each = λ m l. elim (cases_eq m n) [
           | inl e ↦ subst (λ x. (mark : Mark) × Fits (row_at b') x (row_at b' x).state mark × IsMarked r' (x - b'.first) mark) (sym e)
               (mark, state_here mark (own_below mark fits), mark_at r' n mark puts.here)
@@ -148,6 +151,7 @@ module _ (b b' : Board) (n : ℕ) (row : Row) (turns : Turns b b' n row) where
       record {
         positions = subst (λ x. HasPositions x r') (sym turns.rows) (long_positions mid r' (length b.rows) loses.same (long_positions r mid (length b.rows) puts.same ready.positions));
         few = omega (arith, ready.few, turns.rows);
+        workers = (omega (arith, ready.workers.0, turns.workers), omega (arith, ready.workers.1, turns.workers));
         each = λ m l. elim (cases_eq m n) [
           | inl e ↦ subst (λ x. (mark : Mark) × Fits (row_at b') x (row_at b' x).state mark × IsMarked r' (x - b'.first) mark) (sym e)
               (mark, state_here mark (own_below mark fits), mark_at r' n mark (loses.rest (n - b.first) mark (omega arith) puts.here))
@@ -201,8 +205,8 @@ module _ (plan P : Planned) (b : Board) (p n : ℕ) (e : p ≡ n - P.first) (nam
   from_first there = omega (arith, there.0, ap (λ (x : Planned). x.first) named, ok.first)
 
 -- at the beginning all lines wait
-pub opening_ready : (plan : Planned) (workers attempt clock count : ℕ) → count ≡ length plan.readings → count ≤ 1000000 → IsReady (opening plan workers attempt clock) (all_waiting count)
-opening_ready plan workers attempt clock count e few =
+pub opening_ready : (plan : Planned) (workers attempt clock count : ℕ) → (1 ≤ workers) × (workers ≤ 64) → count ≡ length plan.readings → count ≤ 1000000 → IsReady (opening plan workers attempt clock) (all_waiting count)
+opening_ready plan workers attempt clock count some e few =
     let rows : List Row = replicate (length plan.readings) (opening_row attempt) in
     let long : length rows ≡ length plan.readings = length-replicate (length plan.readings) (opening_row attempt) in
     record {
@@ -213,6 +217,7 @@ opening_ready plan workers attempt clock count e few =
         of_checking = length-replicate count false ∙ e ∙ sym long;
       };
       few = omega (arith, long, e, few);
+      workers = some;
       each = λ n l.
           let p = n - plan.first in
           let lt : p < count = omega (arith, l.0, l.1, long, e) in

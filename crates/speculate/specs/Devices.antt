@@ -1,2 +1,3 @@
 -- Devices of proofs: how things are kept or counted. No promise is read here.
 pub mod Phases
+pub mod Draining

@@ -3,9 +3,9 @@ use Rattle.std.specs.Prelude.{◌≡◌, ℕ, ◌<◌, ◌⊎◌, List, length}
 use Rattle.read_set.specs.Plans.{Planned}
 use Rattle.read_set.specs.Settling.{Contents}
 use Rattle.board_steps.specs.Board.{Board, IsCommitted, IsLine, row_at}
-use Rattle.board_steps.specs.Steps.{Call, IsVersion, Reply, Run, Step, opening}
-use Rattle.board_steps.specs.Steps.Call.{Publish}
-use Rattle.board_steps.specs.Steps.Reply.{ClockSpent}
+use Rattle.board_steps.specs.Steps.{ByVersion, Call, IsVersion, Reply, Run, Step, opening}
+use Rattle.board_steps.specs.Steps.Call.{Publish, Take}
+use Rattle.board_steps.specs.Steps.Reply.{Attempts, ClockSpent}
 use Rattle.speculate.specs.Playing.{HasRunning, WouldPlace}
 use Rattle.speculate.specs.declared.steps.BoardFault.{BoardFault}
 use Rattle.speculate.specs.declared.steps.BoardFault.TheVariants as faults
@@ -33,3 +33,10 @@ abbrev pub MayStop : Planned → Board → BoardFault → Type 0
 MayStop plan b (faults.Attempts line) = ⊥
 MayStop plan b faults.ClockSpent = (v : Contents) × IsVersion plan v × Step plan b (Publish 0 v) ClockSpent b
 MayStop plan b faults.Memory = HasRunning b 0 ⊎ WouldPlace plan b 0
+
+-- What may stop it on any board: a line has had all its attempts, or the clock is at its end, just where the board's reply to the
+-- next step says so; or want of memory, where a worker's line runs, or where a publication that is to go on would place an entry.
+abbrev pub MayHalt : Planned → Board → BoardFault → Type 0
+MayHalt plan b (faults.Attempts line) = (w : ℕ) × Step plan b (Take w line) (Attempts line) b
+MayHalt plan b faults.ClockSpent = (call : Call) × ByVersion plan call × Step plan b call ClockSpent b
+MayHalt plan b faults.Memory = (w : ℕ) × (HasRunning b w ⊎ WouldPlace plan b w)

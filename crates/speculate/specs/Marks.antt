@@ -3,6 +3,7 @@
 use Rattle.std.specs.Prelude.{◌≡◌, ◌≢◌, ℕ, ◌-◌, ◌<◌, ◌≤◌, ◌⊎◌, Bool, true, false, ◌||◌, List, length, replicate, slice_index_or, Some, None}
 use Rattle.board_steps.specs.Board.{State, Row, Board, IsLine, row_at}
 use Rattle.board_steps.specs.Board.State.{Waiting, Running, Placing, Done, Checking, Committed}
+use Rattle.board_steps.specs.declared.TheConstants.{WORKERS_MAX}
 use Rattle.journal_table.specs.declared.TheConstants.{LINE_LIMIT}
 use Rattle.speculate.specs.declared.ready.Mark.{Mark}
 use Rattle.speculate.specs.declared.ready.Mark.TheVariants as marks
@@ -89,10 +90,11 @@ Fits rows n (Done notes answer (Some t)) mark = ((mark ≡ marks.Checked) × IsS
 Fits rows n (Checking worker notes answer t i) mark = ((mark ≡ marks.Checking) × IsStill rows n t) ⊎ ((mark ≡ marks.Nowhere) × HasTurned rows n t)
 Fits rows n (Committed answer) mark = mark ≡ marks.Nowhere
 
--- The sets say of each line what its state and the changes below it say.
+-- The sets say of each line what its state and the changes below it say; and there are 1 to 64 workers.
 pub record IsReady (b : Board) (ready : Ready) : Type 0 where
   pub positions : HasPositions (length b.rows) ready
   pub few : length b.rows ≤ LINE_LIMIT
+  pub workers : (1 ≤ b.workers) × (b.workers ≤ WORKERS_MAX)
   pub each : (n : ℕ) → IsLine b n → (mark : Mark) × Fits (row_at b) n (row_at b n).state mark × IsMarked ready (n - b.first) mark
 
 -- all positions wait

@@ -9,7 +9,7 @@ ghost use Rattle.board_steps.specs.Steps.Call.{Check, Commit, Look, Publish, Tak
 ghost use Rattle.journal_table.specs.declared.TheConstants.{LINE_LIMIT};
 ghost use Rattle.speculate.specs.Choices.{Begins, chosen};
 ghost use Rattle.board_lines.specs.Courses.{PublishesMore};
-ghost use Rattle.board_lines.specs.Hands.{AreCounts, AreNotesOf, IsHand};
+ghost use Rattle.board_lines.specs.Hands.{AreCounts, AreNotesOf, AreWorkers, IsHand};
 ghost use Rattle.board_lines.specs.Acts.{IsPlacing, IsToPublish};
 ghost use Rattle.board_lines.specs.Notes.{contents_at};
 ghost use Rattle.board_lines.specs.Replies.{Answers};
@@ -252,9 +252,11 @@ impl<'p, 't, J: PlanName> Board<'p, 't, J> {
         self.lines.counts()
     }
 
-    /// How many workers the board was made for: they count from 0.
+    /// How many workers the board was made for: they count from 0. Whoever has a line in hand is one of them.
     pub fn workers(&self) -> usize
-        ensures { result ≡ self.now.workers }
+        ensures count { result ≡ self.now.workers }
+        ensures some { (1 ≤ result) × (result ≤ WORKERS_MAX) }
+        ensures hands { AreWorkers self.now }
     {
         self.lines.workers()
     }

@@ -1,16 +1,19 @@
 //! The lines of a board, one after another in the order of the journal.
 
-ghost use Rattle.std.specs.Prelude.{◌≡◌, ◌+◌, ◌++◌, ◌∷◌, [], None, suc, IfErr, IfOk, OnOk, length, map};
-ghost use Rattle.board_steps.specs.Board.{IsLine};
+ghost use Rattle.std.specs.Prelude.{◌≡◌, ◌+◌, ◌<◌, ◌++◌, ◌∷◌, [], None, suc, IfErr, IfOk, OnErr, OnOk, length, map};
+ghost use Rattle.board_steps.specs.Board.{IsLine, row_at};
 ghost use Rattle.board_steps.specs.Steps.Call.{Publish};
 ghost use Rattle.read_set.specs.Notes.{noted, IsOnceEach};
-ghost use Rattle.speculate.specs.Driving.{IsDriven, IsNew, MayStop, RunsTo};
+ghost use Rattle.speculate.specs.ComingOn.{NoneInHand};
+ghost use Rattle.speculate.specs.Driving.{IsDriven, IsNew, MayHalt, MayStop, RunsTo};
+ghost use Rattle.speculate.specs.Finishing.{IsWhole};
 ghost use Rattle.speculate.specs.Playing.{HasRunning};
 ghost use Rattle.board_lines.specs.Notes.{contents_at};
 ghost use Rattle.board_lines.specs.Replies.{Answers};
-ghost use Rattle.speculate.specs.Devices.Phases.{Appears, Holds, Proves, Reads, Waits};
+ghost use Rattle.speculate.specs.Devices.Phases.{Appears, AreFresh, Drives, Holds, IsBegun, IsDone, IsFresh, IsRechecked, IsTaken, Proves, Reads, Spares, Waits};
 
 use crate::board::{Board, lines_of};
+use crate::draining::drain;
 use crate::playing::{put, settled_if_done};
 use crate::steps::BoardFault;
 use board_lines::{Reply, copied, record_seen};
@@ -21,28 +24,49 @@ use std::alloc::{AllocError, Global};
 use std::sync::Wait;
 use version_store::{Place, VersionTable};
 
-/// Runs each line of a new board once, in the order of the journal, and commits it before the next begins. Worker 0 does it.
+/// Commits each line that isn't committed, in the order of the journal, and each before the next begins. Worker 0 does it, once what
+/// the workers have in hand is brought to its end. Of a new board it runs each line once.
 pub fn drive_in_order<'t, J: PlanName + 'static, R: Wait>(
     rt: &R,
     alloc: Global,
     table: &'t VersionTable<J>,
     board: &mut Board<'_, 't, J>,
 ) -> Result<(), BoardFault>
-    requires { IsNew J.plan board.old }
-    ensures all { OnOk result (IsDriven J.plan board.new) }
+    ensures whole { OnOk result (IsWhole board.new) }
+    ensures all { IsNew J.plan board.old → OnOk result (IsDriven J.plan board.new) }
     ensures led { RunsTo J.plan board.old board.new }
-    ensures fault { IfErr result (MayStop J.plan board.new) }
+    ensures fault { IfErr result (MayHalt J.plan board.new) }
+    ensures stop { IsNew J.plan board.old → IfErr result (MayStop J.plan board.new) }
+{
+    drain(rt, alloc, table, board)?;
+    drive_lines(rt, alloc, table, board)
+}
+
+/// Commits each line that isn't committed, where no worker has a line in hand.
+fn drive_lines<'t, J: PlanName + 'static, R: Wait>(
+    rt: &R,
+    alloc: Global,
+    table: &'t VersionTable<J>,
+    board: &mut Board<'_, 't, J>,
+) -> Result<(), BoardFault>
+    requires free { NoneInHand board.old }
+    requires worker { 0 < board.old.workers }
+    ensures all { OnOk result (Waits J.plan board.new (J.plan.first + length J.plan.readings)) }
+    ensures fresh { AreFresh board.old (J.plan.first + board.old.committed) → OnOk result (AreFresh board.new (J.plan.first + length J.plan.readings)) }
+    ensures led { RunsTo J.plan board.old board.new }
+    ensures fault { IfErr result (MayHalt J.plan board.new) }
+    ensures stop { AreFresh board.old (J.plan.first + board.old.committed) → IfErr result (MayStop J.plan board.new) }
 {
     let plan = board.plan();
     let first = plan.first();
     let lines = lines_of(plan) as u64;
-    for position in 0..lines {
+    for position in board.committed()..lines {
         drive_line(rt, alloc, table, board, first + position)?;
     }
     Ok(())
 }
 
-/// Runs the next line, and commits it.
+/// Runs the next line, or checks it where it is done, and commits it.
 fn drive_line<'t, J: PlanName + 'static, R: Wait>(
     rt: &R,
     alloc: Global,
@@ -54,27 +78,137 @@ fn drive_line<'t, J: PlanName + 'static, R: Wait>(
     requires there { IsLine board.old line }
     ensures next { OnOk result (Waits J.plan board.new (line + 1)) }
     ensures led { RunsTo J.plan board.old board.new }
-    ensures fault { IfErr result (MayStop J.plan board.new) }
+    ensures fault { IfErr result (MayHalt J.plan board.new) }
+    ensures fresh { IsFresh board.old line → Spares board.old board.new line }
+    ensures stop { IsFresh board.old line → IfErr result (MayStop J.plan board.new) }
 {
-    take_line(board, line);
-    let version = read_line(alloc, board, line)?;
-    let place = put(rt, table, version)?;
-    publish_line(board, line, place)?;
-    check_line(board, line);
+    hold_line(rt, alloc, table, board, line)?;
     commit_line(board, line);
     Ok(())
 }
 
-/// Takes the next line.
-fn take_line<J: PlanName>(board: &mut Board<'_, '_, J>, line: u64)
+/// Brings the next line to where it may be committed: it is done and checked.
+fn hold_line<'t, J: PlanName + 'static, R: Wait>(
+    rt: &R,
+    alloc: Global,
+    table: &'t VersionTable<J>,
+    board: &mut Board<'_, 't, J>,
+    line: u64,
+) -> Result<(), BoardFault>
     requires waits { Waits J.plan board.old line }
     requires there { IsLine board.old line }
-    ensures reads { Reads J.plan board.new line [] }
+    ensures holds { OnOk result (Holds J.plan board.new line) }
     ensures led { RunsTo J.plan board.old board.new }
+    ensures fault { IfErr result (MayHalt J.plan board.new) }
+    ensures fresh { IsFresh board.old line → Spares board.old board.new line }
+    ensures stop { IsFresh board.old line → IfErr result (MayStop J.plan board.new) }
 {
-    let Reply::Taken { .. } = board.take(0, line) else {
-        unreachable!()
-    };
+    let begun = begin_line(board, line)?;
+    match begun {
+        Some(attempt) => run_line(rt, alloc, table, board, line, attempt),
+        None => Ok(()),
+    }
+}
+
+/// Takes the next line, in an attempt of this number. None where the line is done, and all that it has read is as it was.
+fn begin_line<J: PlanName>(
+    board: &mut Board<'_, '_, J>,
+    line: u64,
+) -> Result<Option<u32>, BoardFault>
+    requires waits { Waits J.plan board.old line }
+    requires there { IsLine board.old line }
+    ensures begun { IfOk result (IsBegun J.plan board.new line) }
+    ensures led { RunsTo J.plan board.old board.new }
+    ensures fault { IfErr result (MayHalt J.plan board.new) }
+    ensures fresh { IsFresh board.old line → Spares board.old board.new line }
+    ensures stop { IsFresh board.old line → OnErr result ⊥ }
+{
+    let taken = take_line(board, line)?;
+    match taken {
+        Some(attempt) => Ok(Some(attempt)),
+        None => retake_line(board, line),
+    }
+}
+
+/// Checks the next line, which is done. Where not all that it has read is as it was, the line is taken again.
+fn retake_line<J: PlanName>(
+    board: &mut Board<'_, '_, J>,
+    line: u64,
+) -> Result<Option<u32>, BoardFault>
+    requires waits { Waits J.plan board.old line }
+    requires there { IsLine board.old line }
+    requires done { IsDone (row_at board.old line).state }
+    ensures begun { IfOk result (IsBegun J.plan board.new line) }
+    ensures led { RunsTo J.plan board.old board.new }
+    ensures fault { IfErr result (MayHalt J.plan board.new) }
+{
+    let holds = recheck_line(board, line)?;
+    if holds {
+        return Ok(None);
+    }
+    take_line(board, line)
+}
+
+/// Takes the next line, in an attempt of this number. None, and no change, where it is done.
+fn take_line<J: PlanName>(
+    board: &mut Board<'_, '_, J>,
+    line: u64,
+) -> Result<Option<u32>, BoardFault>
+    requires waits { Waits J.plan board.old line }
+    requires there { IsLine board.old line }
+    ensures taken { IfOk result (IsTaken J.plan board.old board.new line) }
+    ensures led { Drives J.plan board.old board.new line }
+    ensures fault { IfErr result (MayHalt J.plan board.new) }
+    ensures stop { IsFresh board.old line → OnErr result ⊥ }
+{
+    match board.take(0, line) {
+        Reply::Taken { attempt } => Ok(Some(attempt)),
+        Reply::Idle => Ok(None),
+        Reply::Attempts { line } => Err(BoardFault::Attempts { line }),
+        _ => unreachable!(),
+    }
+}
+
+/// Checks a line that is done: whether all that it has read is as it was. If not, it waits again.
+fn recheck_line<J: PlanName>(board: &mut Board<'_, '_, J>, line: u64) -> Result<bool, BoardFault>
+    requires waits { Waits J.plan board.old line }
+    requires there { IsLine board.old line }
+    requires done { IsDone (row_at board.old line).state }
+    ensures checked { IfOk result (IsRechecked J.plan board.new line) }
+    ensures led { RunsTo J.plan board.old board.new }
+    ensures fault { IfErr result (MayHalt J.plan board.new) }
+{
+    'notes: loop {
+        match board.check(0, line) {
+            Reply::Same => {}
+            Reply::Whole => return Ok(true),
+            Reply::Changed { .. } => return Ok(false),
+            Reply::ClockSpent => return Err(BoardFault::ClockSpent),
+            _ => unreachable!(),
+        }
+    }
+}
+
+/// Runs a line that is taken, in an attempt of this number, and checks it.
+fn run_line<'t, J: PlanName + 'static, R: Wait>(
+    rt: &R,
+    alloc: Global,
+    table: &'t VersionTable<J>,
+    board: &mut Board<'_, 't, J>,
+    line: u64,
+    attempt: u32,
+) -> Result<(), BoardFault>
+    requires reads { Reads J.plan board.old line [] }
+    requires attempt { suc attempt ≡ (row_at board.old line).next }
+    ensures holds { OnOk result (Holds J.plan board.new line) }
+    ensures led { Drives J.plan board.old board.new line }
+    ensures fault { IfErr result (MayStop J.plan board.new) }
+{
+    let version = read_line(alloc, board, line, attempt)?;
+    let place = put(rt, table, version)?;
+    publish_line(board, line, place)?;
+    check_line(board, line);
+    Ok(())
 }
 
 /// Looks at all that a line wants: its version. What the rule will ask for is foreseen, so the rule is followed twice, and not
@@ -83,11 +217,13 @@ fn read_line<J: PlanName + 'static>(
     alloc: Global,
     board: &mut Board<'_, '_, J>,
     line: u64,
+    attempt: u32,
 ) -> Result<Version<J>, BoardFault>
-    requires { Reads J.plan board.old line [] }
+    requires reads { Reads J.plan board.old line [] }
+    requires attempt { suc attempt ≡ (row_at board.old line).next }
     ensures ready { IfOk result (Appears J.plan board.new line) }
     ensures runs { OnOk result (HasRunning board.new 0) }
-    ensures led { RunsTo J.plan board.old board.new }
+    ensures led { Drives J.plan board.old board.new line }
     ensures fault { IfErr result (MayStop J.plan board.new) }
 {
     let plan = board.plan();
@@ -96,7 +232,7 @@ fn read_line<J: PlanName + 'static>(
     'keys: loop {
         // A usize counts them, so this ends.
         let _count = notes.as_slice().len();
-        let next = need(alloc, plan, line, 0, &notes)?;
+        let next = need(alloc, plan, line, attempt, &notes)?;
         settled_if_done(&next);
         match next {
             Need::Done(version) => return Ok(version),
@@ -150,7 +286,8 @@ fn look_at_each<J: PlanName>(
     requires reads { Reads J.plan board.old line [] }
     requires once { IsOnceEach asked.now }
     ensures reads { IfOk result (λ notes. Reads J.plan board.new line notes) }
-    ensures led { RunsTo J.plan board.old board.new }
+    ensures next { OnOk result ((row_at board.new line).next ≡ (row_at board.old line).next) }
+    ensures led { Drives J.plan board.old board.new line }
     ensures fault { IfErr result (MayStop J.plan board.new) }
 {
     let mut notes = Notes::new(alloc);
@@ -171,9 +308,10 @@ fn look_at<J: PlanName>(
     requires reads { Reads J.plan board.old line notes.old }
     requires fresh { noted notes.old key.now ≡ None }
     ensures reads { OnOk result (Reads J.plan board.new line notes.new) }
+    ensures next { OnOk result ((row_at board.new line).next ≡ (row_at board.old line).next) }
     ensures more { OnOk result (length notes.new ≡ suc (length notes.old)) }
     ensures keys { OnOk result (map (λ n. n.key) notes.new ≡ map (λ n. n.key) notes.old ++ key.now ∷ []) }
-    ensures led { RunsTo J.plan board.old board.new }
+    ensures led { Drives J.plan board.old board.new line }
     ensures fault { IfErr result (MayStop J.plan board.new) }
 {
     let plan = board.plan();
@@ -200,7 +338,7 @@ fn publish_line<'t, J: PlanName>(
 ) -> Result<(), BoardFault>
     requires { Appears J.plan board.old line (contents_at place) }
     ensures whole { OnOk result (Proves J.plan board.new line) }
-    ensures led { RunsTo J.plan board.old board.new }
+    ensures led { Drives J.plan board.old board.new line }
     ensures fault { IfErr result (MayStop J.plan board.new) }
 {
     'acts: loop {
@@ -235,7 +373,7 @@ fn act<'t, J: PlanName>(
 fn check_line<J: PlanName>(board: &mut Board<'_, '_, J>, line: u64)
     requires { Proves J.plan board.old line }
     ensures whole { Holds J.plan board.new line }
-    ensures led { RunsTo J.plan board.old board.new }
+    ensures led { Drives J.plan board.old board.new line }
 {
     'names: loop {
         match board.check(0, line) {
@@ -250,7 +388,7 @@ fn check_line<J: PlanName>(board: &mut Board<'_, '_, J>, line: u64)
 fn commit_line<J: PlanName>(board: &mut Board<'_, '_, J>, line: u64)
     requires { Holds J.plan board.old line }
     ensures next { Waits J.plan board.new (line + 1) }
-    ensures led { RunsTo J.plan board.old board.new }
+    ensures led { Drives J.plan board.old board.new line }
 {
     let Reply::Committed = board.commit(line) else {
         unreachable!()

@@ -1,7 +1,7 @@
 //! A board on which all lines are committed, as the end of a run.
 
 use crate::finished::Finished;
-use circ_records::{KeptKey, Key, Record};
+use circ_records::{KeptKey, Key, Record, Records};
 use read_set::{Plan, PlanName};
 use result_report::End;
 use sip_answer::Answer;
@@ -46,5 +46,10 @@ impl<'t, J: PlanName> End<'t> for Finished<'_, 't, J> {
 
     fn final_of(&self, key: &Key) -> Option<&Record> {
         Finished::final_of(self, key)
+    }
+
+    /// It has no list of them.
+    fn records(&self) -> Option<&'t Records> {
+        None
     }
 }

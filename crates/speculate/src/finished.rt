@@ -1,6 +1,6 @@
 //! A board on which all lines are committed.
 
-ghost use Rattle.std.specs.Prelude.{◌≡◌, ◌^◌, ◌<◌, suc, IfErr, IfOk, length, option_copied, slice_get};
+ghost use Rattle.std.specs.Prelude.{◌≡◌, ◌^◌, ◌<◌, suc, IfErr, IfOk, OnErr, length, option_copied, slice_get};
 ghost use Rattle.std.specs.FinMap as fin;
 ghost use Rattle.board_steps.specs.Board.{IsLine, row_at};
 ghost use Rattle.board_steps.specs.Reached.{Reached};
@@ -56,11 +56,25 @@ impl<J: PlanName> Drop for Open<'_, '_, J> {
     }
 }
 
+impl<'p, 't, J: PlanName> Open<'p, 't, J> {
+    /// The board.
+    pub fn into_board(self) -> Board<'p, 't, J>
+        ensures { result ≡ self.entry.board }
+    {
+        let Open {
+            board,
+            committed: _,
+        } = self;
+        board
+    }
+}
+
 impl<'p, 't, J: PlanName> Board<'p, 't, J> {
     /// What the replay has come to, where all lines are committed; else the board as it was, with the number of those
     /// that are.
     pub fn finish(self) -> Result<Finished<'p, 't, J>, Open<'p, 't, J>>
         ensures finished { IfOk result (λ finished. (finished ≡ self.entry) × IsWhole self.entry) }
+        ensures all { IsWhole self.entry → OnErr result ⊥ }
         ensures still { IfErr result (λ rest. (rest.board ≡ self.entry) × (rest.committed ≡ self.entry.committed) × (rest.committed < length J.plan.readings)) }
     {
         let committed = self.committed();

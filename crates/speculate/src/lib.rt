@@ -8,6 +8,7 @@
 mod board;
 mod choice;
 mod committed;
+mod draining;
 mod driving;
 mod end;
 mod ending;

@@ -60,7 +60,7 @@ pub(crate) fn output_of<J: PlanName + 'static, R: Abort>(
         panic!(rt; "all lines committed");
     };
     let collected = collect(alloc, &finished)?;
-    let tables = write_records(alloc, &collected.records)?;
+    let tables = write_records(alloc, collected.records.as_records())?;
     let outcome = Outcome {
         answers: answers_of(rt, alloc, plan, collected.answers.as_slice())?,
         records: collected.records,

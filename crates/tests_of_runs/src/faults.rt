@@ -20,7 +20,7 @@ use std::test::Fail;
 use std::thread;
 use std::thread::Threads;
 use version_store::VersionTable;
-use worker_pool::{Closed, Left, SharedBoard, run_workers};
+use worker_pool::{Left, SharedBoard, run_workers};
 
 /// Other words for an item, and then its loan.
 const STATUS_AND_LOAN: &str = "\
@@ -74,8 +74,8 @@ fn leave_two<J: PlanName + Send + Sync + 'static, R: Threads + Wait + Sync + All
     let run = run_workers(rt, alloc, &shared, &NoGate);
     assert!(rt; matches!(run, Err(BoardFault::Memory)), "run_workers");
     match shared.close() {
-        Closed::Finished(_) => panic!(rt; "no line is committed"),
-        Closed::Open { committed } => assert_eq!(rt; committed, 0),
+        Ok(_) => panic!(rt; "no line is committed"),
+        Err(open) => assert_eq!(rt; open.committed, 0),
     }
     Ok(())
 }

@@ -1,5 +1,5 @@
 //! Tests of whole runs: worked examples, told in books of texts; runs by workers in threads, whose gate is told of each step; what the steps of
-//! a shared board give; faults that were left; inputs that are cut; and runs of which one growth of the heap is refused, by `.ci/growths`. What a run of the built program shows
+//! a shared board give; boards that are driven to their end from wherever steps leave them; faults that were left; inputs that are cut; and runs of which one growth of the heap is refused, by `.ci/growths`. What a run of the built program shows
 //! stands in `books` and `cases`.
 //!
 //! A book is a text. A row begins with `#` and its title; each line behind it says one thing:
@@ -49,6 +49,8 @@
 
 #[cfg(test)]
 mod again;
+#[cfg(test)]
+mod any_board;
 #[cfg(test)]
 mod books;
 #[cfg(test)]

@@ -54,7 +54,7 @@ fn tell<R: Abort + Print>(rt: &R, one: bool, other: bool) {
 }
 
 /// The text between the first `#` of a book and the second.
-fn first_of(book: &str) -> &str {
+pub(crate) fn first_of(book: &str) -> &str {
     let (_, rows) = book.split_once('#').unwrap_or(("", book));
     let (row, _) = rows.split_once('#').unwrap_or((rows, ""));
     let (_, lines) = row.split_once('\n').unwrap_or(("", row));

@@ -25,10 +25,12 @@ impl Drop for Shelf {
 }
 
 impl Source for Shelf {
-    ghost use Rattle.std.specs.Prelude.{Some};
+    ghost use Rattle.std.specs.Prelude.{Some, ⊤};
     ghost use Rattle.circ_records.specs.Records.{record_at};
 
     ghost has = { λ shelf k. Some (record_at shelf.records.entries k) };
+
+    ghost one_by_one = { ⊤ };
 
     #[tactic(auto, using(read_set::proofs::Gaining::gains_none))]
     fn read(&mut self, _alloc: Global, key: &Key) -> Result<Option<Record>, Stop> {

@@ -13,5 +13,5 @@ mod workers;
 
 pub use calls::{Begun, Left};
 pub use gate::{Gate, Moment, NoGate};
-pub use shared::{Closed, SharedBoard};
+pub use shared::SharedBoard;
 pub use workers::run_workers;

@@ -1,13 +1,13 @@
 //! A board that threads share.
 
-ghost use Rattle.std.specs.Prelude.{◌≡◌};
+ghost use Rattle.std.specs.Prelude.{◌≡◌, ◌<◌, IfErr, length};
 
 use crate::calls::{Begun, Left};
 use crate::held::Held;
 use board_lines::Reply;
 use circ_records::Key;
 use read_set::{Plan, PlanName};
-use speculate::{Board, BoardFault, Finished};
+use speculate::{Board, BoardFault, Finished, Open};
 use std::hint::spin_loop;
 use std::sync::atomic::{AtomicU64, Ordering};
 use std::sync::{Mutex, MutexGuard, Wait};
@@ -36,15 +36,6 @@ pub struct SharedBoard<'p, 't, J: PlanName> {
     ended: AtomicU64,
     held: Mutex<Held<'p, 't, J>>,
     ghost named: { plan.now ≡ J.plan },
-}
-
-/// What the workers have come to.
-#[derive(Drop)]
-pub enum Closed<'p, 't, J: PlanName> {
-    /// All lines are committed.
-    Finished(Finished<'p, 't, J>),
-    /// So many lines are committed, and there are more.
-    Open { committed: u64 },
 }
 
 impl<'p, 't, J: PlanName + 'static> SharedBoard<'p, 't, J> {
@@ -171,8 +162,11 @@ impl<'p, 't, J: PlanName + 'static> SharedBoard<'p, 't, J> {
         self.ended.wake_all();
     }
 
-    /// What the workers have come to.
-    pub fn close(self) -> Closed<'p, 't, J> {
+    /// What the workers have come to: the end of the replay, where all lines are committed; else the board, on which there are more
+    /// lines than are committed.
+    pub fn close(self) -> Result<Finished<'p, 't, J>, Open<'p, 't, J>>
+        ensures { IfErr result (λ rest. (rest.committed ≡ rest.board.committed) × (rest.committed < length J.plan.readings)) }
+    {
         let SharedBoard {
             plan: _,
             table: _,
@@ -182,11 +176,6 @@ impl<'p, 't, J: PlanName + 'static> SharedBoard<'p, 't, J> {
             held,
         } = self;
         let Held { board, left: _ } = held.into_inner();
-        match board.finish() {
-            Ok(finished) => Closed::Finished(finished),
-            Err(open) => Closed::Open {
-                committed: open.committed,
-            },
-        }
+        board.finish()
     }
 }

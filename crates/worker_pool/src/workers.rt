@@ -10,7 +10,7 @@ use crate::gate::{Gate, Moment};
 use crate::looking::OnBoard;
 use crate::shared::SharedBoard;
 use board_lines::Reply;
-use message_meaning::perform;
+use message_meaning::perform_one_by_one;
 use read_set::{Effect, Notes, Noting, PlanName, Stop, Version};
 use speculate::{BoardFault, Choice};
 use std::alloc::Global;
@@ -315,7 +315,7 @@ fn read_line<'t, J: PlanName + 'static, R: Wait>(
             left: None,
         },
     };
-    match perform(alloc, shared.plan(), task.line, &mut source) {
+    match perform_one_by_one(alloc, shared.plan(), task.line, &mut source) {
         Ok(effect) => {
             let version = version_of(task, source.notes, effect);
             match shared.table().put(rt, version) {

@@ -1,39 +1,35 @@
 -- A device of proofs: a board whose lines are run in the order of the journal, while one of them is run.
-use Rattle.std.specs.Prelude.{◌≡◌, ℕ, suc, ◌+◌, ◌-◌, ◌<◌, ◌≤◌, ◌⊎◌, false, List, length, Option, Some}
-use Rattle.circ_records.specs.declared.key.Key.{Key}
+use Rattle.std.specs.Prelude.{◌≡◌, ◌≢◌, ℕ, suc, ◌+◌, ◌-◌, ◌<◌, ◌≤◌, ◌⊎◌, Bool, true, false, List, [], length, Option, Some, None}
 use Rattle.sip_answer.specs.declared.answer.Answer.{Answer}
 use Rattle.read_set.specs.Plans.{Planned}
 use Rattle.read_set.specs.Settling.{Contents}
 use Rattle.read_set.specs.declared.notes.Note.{Note}
-use Rattle.version_store.specs.Entries.{Shown}
-use Rattle.board_steps.specs.Board.{Board, EachNote, IsCommitted, IsLine, State, entry, row_at}
+use Rattle.board_steps.specs.Board.{Board, EachNote, IsLine, State, holder, row_at}
 use Rattle.board_steps.specs.Board.State.{Waiting, Running, Placing, Done, Checking, Committed}
 use Rattle.board_steps.specs.Reached.{IsNow, Reached}
 use Rattle.board_steps.specs.Steps.{IsVersion, opening_row}
+use Rattle.speculate.specs.Driving.{RunsTo}
 
--- the lines below this one are committed, those above wait as at first, and so many more takes than commits were made
-pub record Stands (plan : Planned) (b : Board) (line more : ℕ) : Type 0 where
+-- the lines below this one are committed, and no other is in hand
+pub record Stands (plan : Planned) (b : Board) (line : ℕ) : Type 0 where
   pub reached : Reached plan b
-  pub from : plan.first ≤ line
   pub worker : 0 < b.workers
-  pub below : (m : ℕ) → plan.first ≤ m → m < line → IsCommitted (row_at b m).state
-  pub above : (m : ℕ) → line < m → row_at b m ≡ opening_row 0
-  pub clean : (m : ℕ) (k : Key) (e : Shown) → entry (row_at b m) k ≡ Some e → e.suspect ≡ false
   pub commits : plan.first + b.committed ≡ line
-  pub takes : plan.first + b.takes ≡ line + more
-  pub failed : b.failed ≡ 0
-  pub stops : b.stops ≡ 0
+  pub others : (m w : ℕ) → m ≢ line → holder (row_at b m).state ≢ Some w
 
--- it waits
+-- nor is this one
 pub record Waits (plan : Planned) (b : Board) (line : ℕ) : Type 0 where
-  pub stands : Stands plan b line 0
-  pub row : row_at b line ≡ opening_row 0
+  pub stands : Stands plan b line
+  pub own : (w : ℕ) → holder (row_at b line).state ≢ Some w
 
--- its first attempt goes on, and what it has noted is so now
+-- it is done
+abbrev pub IsDone : State → Type 0
+IsDone s = (notes : List Note) × (answer : Option Answer) × (stamp : Option ℕ) × (s ≡ Done notes answer stamp)
+
+-- an attempt of it goes on, and what it has noted is so now
 pub record GoesOn (plan : Planned) (b : Board) (line : ℕ) (notes : List Note) : Type 0 where
-  pub stands : Stands plan b line 1
+  pub stands : Stands plan b line
   pub there : IsLine b line
-  pub next : (row_at b line).next ≡ 1
   pub now : EachNote notes (IsNow (row_at b) line)
 
 -- it reads
@@ -50,7 +46,7 @@ pub record Appears (plan : Planned) (b : Board) (line : ℕ) (v : Contents) : Ty
   pub goes : GoesOn plan b line v.reads
   pub state : IsAppearing (row_at b line).state v
   pub of_line : v.line ≡ line
-  pub first : v.attempt ≡ 0
+  pub attempt : suc v.attempt ≡ (row_at b line).next
   pub settles : IsVersion plan v
 
 -- it is to be checked, or is being checked
@@ -62,18 +58,60 @@ IsChecked (Running worker notes) ns clock = ⊥
 IsChecked (Placing worker notes last) ns clock = ⊥
 IsChecked (Committed answer) ns clock = ⊥
 
+pub record Checks (plan : Planned) (b : Board) (line : ℕ) (notes : List Note) : Type 0 where
+  pub stands : Stands plan b line
+  pub there : IsLine b line
+  pub state : IsChecked (row_at b line).state notes b.clock
+
+-- what it has noted is so now
 pub record Proves (plan : Planned) (b : Board) (line : ℕ) : Type 0 where
   pub notes : List Note
-  pub goes : GoesOn plan b line notes
-  pub state : IsChecked (row_at b line).state notes b.clock
+  pub checks : Checks plan b line notes
+  pub now : EachNote notes (IsNow (row_at b) line)
 
 -- it is checked
 pub record Holds (plan : Planned) (b : Board) (line : ℕ) : Type 0 where
-  pub stands : Stands plan b line 1
+  pub stands : Stands plan b line
   pub there : IsLine b line
   pub notes : List Note
   pub answer : Option Answer
   pub state : (row_at b line).state ≡ Done notes answer (Some b.clock)
+
+-- no other line moves, and nothing is sent back
+pub record Spares (old new : Board) (line : ℕ) : Type 0 where
+  pub off : (m : ℕ) → m ≢ line → row_at new m ≡ row_at old m
+  pub failed : new.failed ≡ old.failed
+  pub stops : new.stops ≡ old.stops
+
+-- steps for the line lead from a board to another
+pub record Drives (plan : Planned) (old new : Board) (line : ℕ) : Type 0 where
+  pub led : RunsTo plan old new
+  pub spares : Spares old new line
+
+-- the next line is taken, in an attempt of this number; or it is done, and nothing changes
+abbrev pub IsTaken : Planned → Board → Board → ℕ → Option ℕ → Type 0
+IsTaken plan old new line (Some attempt) = Reads plan new line [] × (suc attempt ≡ (row_at new line).next)
+IsTaken plan old new line None = IsDone (row_at old line).state × (new ≡ old)
+
+-- it is taken, or checked
+abbrev pub IsBegun : Planned → Board → ℕ → Option ℕ → Type 0
+IsBegun plan b line (Some attempt) = Reads plan b line [] × (suc attempt ≡ (row_at b line).next)
+IsBegun plan b line None = Holds plan b line
+
+-- whether a line that is done holds; else it waits again
+abbrev pub IsRechecked : Planned → Board → ℕ → Bool → Type 0
+IsRechecked plan b line true = Holds plan b line
+IsRechecked plan b line false = Waits plan b line × IsLine b line × ((row_at b line).state ≡ Waiting)
+
+-- a line that waits for its first attempt
+abbrev pub IsFresh : Board → ℕ → Type 0
+IsFresh b line = row_at b line ≡ opening_row 0
+
+-- nothing was sent back, and the lines from this one on wait for their first attempt
+pub record AreFresh (b : Board) (line : ℕ) : Type 0 where
+  pub above : (m : ℕ) → line ≤ m → IsFresh b m
+  pub failed : b.failed ≡ 0
+  pub stops : b.stops ≡ 0
 
 -- how many notes a check has left, with its end
 abbrev pub left_of : State → ℕ

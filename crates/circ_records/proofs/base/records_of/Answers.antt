@@ -2,7 +2,7 @@ use Rattle.std.proofs.Common.{◌∙◌, ap}
 use Rattle.circ_records.specs.Read.{rows_in}
 use Rattle.circ_records.specs.Records.{Entries, record_at}
 use Rattle.circ_records.proofs.Entering.{same-entries}
-use Rattle.circ_records.proofs.CoherentBase.{coherent-rows}
+use Rattle.circ_records.proofs.CoherentBase.{coherent-rows, told-kinds}
 use Rattle.circ_records.proofs.FirstBroken.{none-broken}
 use Rattle.circ_records.proofs.Stopped.{in-closed, in-fees, in-holds, in-items, in-loans, in-patrons, still-stops}
 use Rattle.circ_records.proofs.base.records_of.Goals as goal
@@ -42,4 +42,9 @@ pub returns-clause-coherent : goal.returns-clause-coherent
 returns-clause-coherent c =
     coherent-rows c.args.policy.now c.args.first (rows_in c.args.tables.now) (record_at c.in_ok-records.records.items)
     c.in_ok-add_patrons.ensures.ok c.in_ok-add_items.ensures.ok c.in_ok-add_loans.ensures.ok c.in_ok-add_fees.ensures.ok c.in_ok-add_closed.ensures.ok c.in_ok-add_holds.ensures.ok
+    (λ k. ap (λ (es : Entries). record_at es k) c.in_ok-records.ensures.same ∙ c.in_ok-add_holds.ensures.told k)
+
+pub returns-clause-kinds : goal.returns-clause-kinds
+returns-clause-kinds c =
+    told-kinds (rows_in c.args.tables.now) (record_at c.in_ok-records.records.items)
     (λ k. ap (λ (es : Entries). record_at es k) c.in_ok-records.ensures.same ∙ c.in_ok-add_holds.ensures.told k)

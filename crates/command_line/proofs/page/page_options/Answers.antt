@@ -22,6 +22,7 @@ returns-clause-given g c =
       journal = of_rows f _ rows (codes "journal") _ c.in_ok-journal.ensures;
       base = of_rows f _ rows (codes "base") _ c.in_ok-base.ensures;
       out = of_rows f _ rows (codes "out") _ c.in_ok-out.ensures;
+      why = of_rows f _ rows (codes "why") _ c.in_ok-why.ensures;
       limit = subst (λ o. Counts 1000 o c.unwrap_or-limit.result) (one_text-rows f (codes "limit") ∙ ap (one_of (codes "limit")) rows)
           (rw c.unwrap_or-limit.ensures read);
     }

@@ -10,7 +10,7 @@ abbrev pub invariant-loop-id : goal.invariant-loop-id
 invariant-loop-id g l =
     let has = g.S.Source.has in
     record {
-      keeps : Gains (has l.fn.source) (has l.source) (owed_from l.writes 0 l.fees);
+      keeps : Gains g.S.Source.one_by_one (has l.fn.source) (has l.source) (owed_from l.writes 0 l.fees);
       small : l.sum ≤ l.id-index * (2 ^ 64);
       same : (more : Part) → Grows (has l.source) more → follow more (owed_from l.writes l.sum (drop l.id-index l.fees)) ≡ follow more (owed_from l.writes 0 l.fees);
       asks : (more : Part) (k : Key) → Grows (has l.source) more → IsAsked more (owed_from l.writes l.sum (drop l.id-index l.fees)) k → IsAsked more (owed_from l.writes 0 l.fees) k;

@@ -19,7 +19,7 @@ returns g c =
     ap₂ (λ (m : Option Member) (a : Option Article). renew_rule_known q.policy.now q.number q.request q.date m a) c.in-Some.is c.in-Some-article.is in
     record {
       gives = subst (λ (rule : Asks Effect). Follows c.renew_one.result (follow has rule)) (sym is) c.renew_one.ensures.gives;
-      keeps = subst (λ (rule : Asks Effect). Gains had has rule) (sym is) c.renew_one.ensures.keeps;
+      keeps = subst (λ (rule : Asks Effect). Gains g.S.Source.one_by_one had has rule) (sym is) c.renew_one.ensures.keeps;
     }
 
 pub returns-in_default : goal.returns-in_default

@@ -10,7 +10,7 @@ abbrev pub invariant-loop-id : goal.invariant-loop-id
 invariant-loop-id g l =
     let has = g.S.Source.has in
     record {
-      keeps : Gains (has l.fn.source) (has l.source) (pay_rule_each l.ids (record { left = l.amount; writes = []; closed = [] }));
+      keeps : Gains g.S.Source.one_by_one (has l.fn.source) (has l.source) (pay_rule_each l.ids (record { left = l.amount; writes = []; closed = [] }));
       same : (more : Part) → Grows (has l.source) more
           → follow more (pay_rule_each (drop l.id-index l.ids) l.done) ≡ follow more (pay_rule_each l.ids (record { left = l.amount; writes = []; closed = [] }));
       asks : (more : Part) (k : Key) → Grows (has l.source) more → IsAsked more (pay_rule_each (drop l.id-index l.ids) l.done) k → IsAsked more (pay_rule_each l.ids (record { left = l.amount; writes = []; closed = [] })) k;

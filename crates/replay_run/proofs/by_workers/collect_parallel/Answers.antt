@@ -8,6 +8,7 @@ use Rattle.replay_run.specs.Answers.{answers_of}
 use Rattle.replay_run.specs.Entries.{AreEntries}
 use Rattle.replay_run.specs.OneThread.{IsOutputBy}
 use Rattle.replay_run.proofs.Ended.{answers_by_number, records_named}
+use Rattle.replay_run.proofs.Stepping.{all-once}
 use Rattle.replay_run.proofs.by_workers.collect_parallel.Goals as goal
 
 pub output_parallel-requires-clause-answers : goal.output_parallel-requires-clause-answers
@@ -19,10 +20,16 @@ output_parallel-requires-clause-records g c κs within =
     subst (λ (plan : Planned). AreEntries (last plan) c.in_ok-outcome.outcome.records) (sym c.requires.named)
     (records_named g.J.PlanName.plan c.args.finished c.plan-plan.ensures.reached c.plan-plan.ensures.whole _ c.in_ok-outcome.ensures.records)
 
-pub returns : goal.returns
-returns g c =
+pub returns-clause-output : goal.returns-clause-output
+returns-clause-output g c =
     subst (λ attempts. IfOk c.output_parallel.result (IsOutputBy c.args.plan.now c.args.journal.now attempts))
     (c.in_ok-outcome.ensures.attempts ∙ ap (λ (plan : Planned). map (attempt_on c.args.finished) (numbers_of plan)) (sym c.requires.named)) c.output_parallel.ensures
+
+pub returns-clause-attempts : goal.returns-clause-attempts
+returns-clause-attempts g c =
+    all-once c.args.plan.now c.args.journal.now c.args.finished c.output_parallel.result c.requires.fits (
+    subst (λ attempts. IfOk c.output_parallel.result (IsOutputBy c.args.plan.now c.args.journal.now attempts))
+    (c.in_ok-outcome.ensures.attempts ∙ ap (λ (plan : Planned). map (attempt_on c.args.finished) (numbers_of plan)) (sym c.requires.named)) c.output_parallel.ensures)
 
 pub collect-requires-lives-E-End : goal.collect-requires-lives-E-End
 collect-requires-lives-E-End g c κs within = λ a m. absurd (not-mem-nil (c.type_bounds.static-J a m))

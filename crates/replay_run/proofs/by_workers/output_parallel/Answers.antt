@@ -4,8 +4,8 @@ use Rattle.result_report.specs.Report.{is_answered}
 use Rattle.replay_run.proofs.Answered.{answered}
 use Rattle.replay_run.proofs.by_workers.output_parallel.Goals as goal
 
-pub write_parallel-requires-clause-answered : goal.write_parallel-requires-clause-answered
-write_parallel-requires-clause-answered g c κs within =
+pub report_parallel-requires-clause-answered : goal.report_parallel-requires-clause-answered
+report_parallel-requires-clause-answered g c κs within =
     ap (map is_some) c.requires.answers
     ∙ answered c.args.plan.now
     ∙ ap (map is_answered) c.requires.fits

@@ -1,16 +1,39 @@
-use Rattle.std.proofs.Common.{◌≡◌, ◌∙◌, IfOk, ap, refl, subst}
-use Rattle.read_set.specs.Plans.{Planned, plan_over}
-use Rattle.read_set.specs.Replay.{last}
-use Rattle.replay_run.specs.Answers.{answers_of}
-use Rattle.replay_run.specs.Entries.{AreEntries}
+use Rattle.std.proofs.Common.{◌≡◌, ◌∙◌, ◌+◌, ◌++◌, ◌∷◌, [], ap, sym, subst, length, refl, arith}
+use Rattle.std.proofs.lemmas.Grind.{common_steps}
+use Rattle.read_set.specs.Plans.{Planned}
+use Rattle.read_set.specs.Replay.{after, one_at}
+use Rattle.replay_run.proofs.Replayed.{SoFar, next}
+use Rattle.replay_run.specs.Live.{standing}
+use Rattle.replay_run.specs.ReplayEnd.{ChangeThere}
+use Rattle.replay_run.specs.Answers.{first_answers}
 use Rattle.replay_run.proofs.replay.replay.Goals as goal
 
-pub returns-clause-answers : goal.returns-clause-answers
-returns-clause-answers c =
-    let same : plan_over c.take_base-base.new.self c.take_base-base.result ≡ c.args.plan.now = rw (c.take_base-base.ensures.left, c.take_base-base.ensures.records) refl in
-    subst (λ (p : Planned). IfOk c.replay_over.result (λ o. o.answers.items ≡ answers_of p)) same c.replay_over.ensures.answers
+pub loop-i-preserved : goal.loop-i-preserved
+loop-i-preserved c =
+    let so = c.loop-i.invariant.0 in
+    let plan : Planned = c.args.plan.now in
+    let before = after plan c.loop-i.i in
+    let line = ap (λ first. first + c.loop-i.i) c.first-first.ensures in
+    let answer = (one_at plan (c.first-first.result + c.loop-i.i) before).1 in
+    let wrote = c.in_ok-take_line.ensures.written in (
+      subst (λ answers. SoFar plan (c.loop-i.i + 1) (standing c.take_line.new.live) answers c.take_line.new.written) (sym (c.in_ok-take_line.ensures.answer before so.records))
+          (subst (λ written. SoFar plan (c.loop-i.i + 1) (standing c.take_line.new.live) (c.loop-i.answers.items ++ answer ∷ []) written) (sym wrote.1)
+          (next plan c.loop-i.i _ (standing c.loop-i.live) (standing c.take_line.new.live) c.loop-i.answers.items answer c.loop-i.written wrote.0 line so refl
+          (c.in_ok-take_line.ensures.records before so.records) wrote.2)),
+      c.in_ok-take_line.ensures.len ∙ ap (λ n. n + 1) c.loop-i.invariant.1,
+      c.in_ok-take_line.ensures.capacity ∙ c.loop-i.invariant.2,
+    )
 
-pub returns-clause-records : goal.returns-clause-records
-returns-clause-records c =
-    let same : plan_over c.take_base-base.new.self c.take_base-base.result ≡ c.args.plan.now = rw (c.take_base-base.ensures.left, c.take_base-base.ensures.records) refl in
-    subst (λ (p : Planned). IfOk c.replay_over.result (λ o. AreEntries (last p) o.records)) same c.replay_over.ensures.records
+pub returns : goal.returns
+returns c =
+    let so = c.loop-i.invariant.0 in
+    let plan : Planned = c.args.plan.now in
+    let all : c.loop-i.i ≡ length plan.readings = grind (arith, common_steps) in
+    record {
+      records = record {
+        rising = c.in_ok-into_records.ensures.rising;
+        same = λ k. c.in_ok-into_records.ensures.same k ∙ so.records k ∙ ap (λ n. after plan n k) all;
+      };
+      answers = so.answers ∙ ap (first_answers plan) all;
+      written = subst (λ n. ChangeThere plan n c.loop-i.written) all so.changes;
+    }

@@ -1,11 +1,15 @@
-use Rattle.std.proofs.Common.{◌∙◌, ap, map}
-use Rattle.std.specs.Option.{is_some}
-use Rattle.result_report.specs.Report.{is_answered}
-use Rattle.replay_run.proofs.Answered.{answered}
+use Rattle.std.proofs.Common.{◌∙◌, length, subst}
+use Rattle.replay_run.specs.OneThread.{IsOutputBy}
+use Rattle.replay_run.proofs.Ended.{all_zero, answers_by_number, collected_alone}
 use Rattle.replay_run.proofs.run.output.Goals as goal
 
-pub write_outcome-requires-clause-answered : goal.write_outcome-requires-clause-answered
-write_outcome-requires-clause-answered c =
-    ap (map is_some) (c.in_ok-references_to.ensures ∙ c.as_slice.ensures.value ∙ c.in_ok-records.ensures.answers)
-    ∙ answered c.args.plan
-    ∙ ap (map is_answered) c.requires
+pub output_of-requires-clause-answers : goal.output_of-requires-clause-answers
+output_of-requires-clause-answers c = c.in_ok-outcome.ensures.answers ∙ answers_by_number c.args.plan.now
+
+pub output_of-requires-clause-records : goal.output_of-requires-clause-records
+output_of-requires-clause-records c = collected_alone c.args.plan.now c.in_ok-replayed.replayed.written c.in_ok-replayed.ensures.written _ c.in_ok-outcome.ensures.records
+
+pub returns : goal.returns
+returns c =
+    subst (λ tried. IsOutputBy c.args.plan.now c.args.journal.now tried c.in_ok-output.output)
+    (c.in_ok-outcome.ensures.attempts ∙ all_zero c.args.plan.now.first (length c.args.plan.now.readings)) c.in_ok-output.ensures

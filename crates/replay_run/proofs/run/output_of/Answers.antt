@@ -4,8 +4,8 @@ use Rattle.result_report.specs.Report.{is_answered}
 use Rattle.replay_run.proofs.Answered.{answered}
 use Rattle.replay_run.proofs.run.output_of.Goals as goal
 
-pub write_outcome-requires-clause-answered : goal.write_outcome-requires-clause-answered
-write_outcome-requires-clause-answered c =
+pub report-requires-clause-answered : goal.report-requires-clause-answered
+report-requires-clause-answered c =
     ap (map is_some) c.requires.answers
     ∙ answered c.args.plan.now
     ∙ ap (map is_answered) c.requires.fits

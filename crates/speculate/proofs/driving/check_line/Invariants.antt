@@ -1,12 +1,11 @@
 use Rattle.board_steps.specs.Board.{row_at}
-use Rattle.speculate.specs.Driving.{RunsTo}
-use Rattle.speculate.specs.Devices.Phases.{Proves, left_of}
+use Rattle.speculate.specs.Devices.Phases.{Drives, Proves, left_of}
 use Rattle.speculate.proofs.driving.check_line.Given as goal
 
 abbrev pub invariant-names : goal.invariant-names
 invariant-names g l = record {
   proves : Proves g.J.PlanName.plan l.board l.line;
-  led : RunsTo g.J.PlanName.plan l.fn.board l.board;
+  led : Drives g.J.PlanName.plan l.fn.board l.board l.line;
 }
 
 -- the notes that are left

@@ -1,51 +1,23 @@
-use Rattle.std.proofs.Common.{◌≡◌, ◌<◌, ◌+◌, ap, arith, length, subst, sym, ◌∙◌}
-use Rattle.read_set.specs.Plans.{Planned}
-use Rattle.board_steps.specs.Board.{IsLine}
-use Rattle.speculate.specs.Devices.Phases.{Waits}
-use Rattle.speculate.proofs.Drives.{driven, line_there, new_waits, runs_none, runs_on}
+use Rattle.speculate.proofs.Drives.{all_driven, all_whole_ok, fresh_after, new_free, runs_on}
+use Rattle.std.proofs.lemmas.Result.{err_from_is_err_and}
 use Rattle.speculate.proofs.driving.drive_in_order.Goals as goal
 
-pub loop-position-init : goal.loop-position-init
-loop-position-init g c = record {
-  waits = new_waits g.J.PlanName.plan c.args.board.now c.requires;
-  led = runs_none g.J.PlanName.plan c.args.board.now;
-}
+pub returns-in_err-drain-clause-all : goal.returns-in_err-drain-clause-all
+returns-in_err-drain-clause-all g c = λ new. let p = err_from_is_err_and c.from_residual.result c.from_residual.ensures.1 in rw p.1 tt
 
-pub drive_line-requires : goal.drive_line-requires
-drive_line-requires g c =
-    let plan = g.J.PlanName.plan in
-    let b = c.loop-position.board in
-    let position = c.loop-position.position in
-    let is : c.first-first.result + position ≡ plan.first + position = ap (λ x. x + position) (c.first-first.ensures ∙ ap (λ (p : Planned). p.first) c.plan-plan.ensures.plan) in
-    let count = ap (λ (p : Planned). length p.readings) c.plan-plan.ensures.plan in
-    let within : position < length plan.readings = omega (arith, count) in (
-      c.type_bounds.static-J,
-      (
-        subst (λ n. Waits plan b n) (sym is) c.loop-position.invariant.waits,
-        subst (λ n. IsLine b n) (sym is) (line_there plan b position c.loop-position.invariant.waits.stands.reached within),
-      ),
-    )
+pub returns-in_err-drain-clause-stop : goal.returns-in_err-drain-clause-stop
+returns-in_err-drain-clause-stop g c = λ new. absurd (c.in_err-drain.ensures.ends (new_free g.J.PlanName.plan c.args.board.now new))
 
-pub loop-position-preserved : goal.loop-position-preserved
-loop-position-preserved g c =
+pub returns : goal.returns
+returns g c =
     let plan = g.J.PlanName.plan in
-    let new = c.drive_line.new.board in
-    let position = c.loop-position.position in
-    let first : c.first-first.result ≡ plan.first = c.first-first.ensures ∙ ap (λ (p : Planned). p.first) c.plan-plan.ensures.plan in
-    let is : c.first-first.result + position + 1 ≡ plan.first + (position + 1) = omega arith in
+    let old = c.args.board.now in
+    let mid = c.drain.new.board in
+    let new = c.drive_lines.new.board in
     record {
-      waits = subst (λ n. Waits plan new n) is c.in_ok-drive_line.ensures.next;
-      led = runs_on plan c.args.board.now c.loop-position.board new c.loop-position.invariant.led c.drive_line.ensures.led;
+      whole = all_whole_ok plan new c.drive_lines.result c.drive_lines.ensures.all;
+      all = λ is. all_driven plan new c.drive_lines.result c.drive_lines.ensures.all (c.drive_lines.ensures.fresh (fresh_after plan old mid is (c.drain.ensures.still (new_free plan old is))));
+      led = runs_on plan old mid new c.drain.ensures.led c.drive_lines.ensures.led;
+      fault = c.drive_lines.ensures.fault;
+      stop = λ is. c.drive_lines.ensures.stop (fresh_after plan old mid is (c.drain.ensures.still (new_free plan old is)));
     }
-
-pub returns-in_err-drive_line-clause-led : goal.returns-in_err-drive_line-clause-led
-returns-in_err-drive_line-clause-led g c =
-    runs_on g.J.PlanName.plan c.args.board.now c.loop-position.board c.drive_line.new.board c.loop-position.invariant.led c.drive_line.ensures.led
-
-pub returns-clause-all : goal.returns-clause-all
-returns-clause-all g c =
-    let plan = g.J.PlanName.plan in
-    let b = c.loop-position.board in
-    let count = ap (λ (p : Planned). length p.readings) c.plan-plan.ensures.plan in
-    let is : plan.first + c.loop-position.position ≡ plan.first + length plan.readings = omega (arith, count) in
-    driven plan b (subst (λ n. Waits plan b n) is c.loop-position.invariant.waits)

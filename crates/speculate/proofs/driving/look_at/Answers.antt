@@ -7,7 +7,9 @@ use Rattle.read_set.specs.declared.notes.Note.{Note}
 use Rattle.board_steps.specs.Steps.Call.{Look}
 use Rattle.board_lines.specs.Notes.{found_by, contents_at}
 use Rattle.speculate.specs.Devices.Phases.{Reads}
-use Rattle.speculate.proofs.Drives.{keys_more, led, look_only, look_seen, seen_stops}
+use Rattle.speculate.proofs.Drives.{drives, keys_more, look_only, look_seen, seen_stops}
+use Rattle.speculate.proofs.Phases.{look_for}
+use Rattle.board_lines.specs.declared.reply.Reply.TheVariants as replies
 use Rattle.speculate.proofs.driving.look_at.Goals as goal
 
 pub unreachable-requires : goal.unreachable-requires
@@ -31,13 +33,19 @@ returns-in_err-new-clause-fault g c =
     rw (p.1, p.2) (seen_stops g.J.PlanName.plan c.args.board.now c.look.new.self c.args.line c.args.notes.now c.args.key.now c.in-Seen.name c.in-Seen.place c.requires.reads c.in-Seen.ensures)
 
 pub returns-in_err-new-clause-led : goal.returns-in_err-new-clause-led
-returns-in_err-new-clause-led g c = led g.J.PlanName.plan c.args.board.now c.look.new.self (Look 0 c.args.key.now) c.look.result tt c.look.ensures
+returns-in_err-new-clause-led g c =
+    drives {J = g.row.J.Denot} g.J.PlanName.plan c.args.line c.args.board.now c.look.new.self (Look 0 c.args.key.now) (replies.Seen c.in-Seen.name c.in-Seen.place) tt
+    (look_for g.J.PlanName.plan c.args.board.now c.args.line c.requires.reads.goes.stands c.args.key.now) tt c.in-Seen.ensures
 
 pub returns-in_err-found-clause-led : goal.returns-in_err-found-clause-led
-returns-in_err-found-clause-led g c = led g.J.PlanName.plan c.args.board.now c.look.new.self (Look 0 c.args.key.now) c.look.result tt c.look.ensures
+returns-in_err-found-clause-led g c =
+    drives {J = g.row.J.Denot} g.J.PlanName.plan c.args.line c.args.board.now c.look.new.self (Look 0 c.args.key.now) (replies.Seen c.in-Seen.name c.in-Seen.place) tt
+    (look_for g.J.PlanName.plan c.args.board.now c.args.line c.requires.reads.goes.stands c.args.key.now) tt c.in-Seen.ensures
 
 pub returns-in_err-add-clause-led : goal.returns-in_err-add-clause-led
-returns-in_err-add-clause-led g c = led g.J.PlanName.plan c.args.board.now c.look.new.self (Look 0 c.args.key.now) c.look.result tt c.look.ensures
+returns-in_err-add-clause-led g c =
+    drives {J = g.row.J.Denot} g.J.PlanName.plan c.args.line c.args.board.now c.look.new.self (Look 0 c.args.key.now) (replies.Seen c.in-Seen.name c.in-Seen.place) tt
+    (look_for g.J.PlanName.plan c.args.board.now c.args.line c.requires.reads.goes.stands c.args.key.now) tt c.in-Seen.ensures
 
 pub returns-clause-reads : goal.returns-clause-reads
 returns-clause-reads g c =
@@ -51,13 +59,19 @@ returns-clause-reads g c =
     let noted : c.add.new.self ≡ notes ++ record { key = k; name = name; found = found_by plan.base k (option_map contents_at place) } ∷ [] =
     c.in_ok-add.ensures.ok ∙ ap₂ (λ (q : Key) (f : Option Record). notes ++ record { key = q; name = name; found = f } ∷ []) c.in_ok-new.ensures is in
     subst (λ (ns : List Note). Reads plan c.look.new.self c.args.line ns) (sym noted)
-    (look_seen plan c.args.board.now c.look.new.self c.args.line notes k name place c.requires.reads c.in-Seen.ensures)
+    (look_seen plan c.args.board.now c.look.new.self c.args.line notes k name place c.requires.reads c.in-Seen.ensures).0
 
 pub returns-clause-led : goal.returns-clause-led
-returns-clause-led g c = led g.J.PlanName.plan c.args.board.now c.look.new.self (Look 0 c.args.key.now) c.look.result tt c.look.ensures
+returns-clause-led g c =
+    drives {J = g.row.J.Denot} g.J.PlanName.plan c.args.line c.args.board.now c.look.new.self (Look 0 c.args.key.now) (replies.Seen c.in-Seen.name c.in-Seen.place) tt
+    (look_for g.J.PlanName.plan c.args.board.now c.args.line c.requires.reads.goes.stands c.args.key.now) tt c.in-Seen.ensures
 
 pub returns-clause-keys : goal.returns-clause-keys
 returns-clause-keys g c =
     ap (λ (ns : List Note). map (λ (n : Note). n.key) ns) c.in_ok-add.ensures.ok
     ∙ keys_more c.args.notes.now (record { key = c.in_ok-new.field-0; name = c.in-Seen.name; found = c.new-found.result })
     ∙ ap (λ (q : Key). map (λ (n : Note). n.key) c.args.notes.now ++ q ∷ []) c.in_ok-new.ensures
+
+pub returns-clause-next : goal.returns-clause-next
+returns-clause-next g c =
+    (look_seen g.J.PlanName.plan c.args.board.now c.look.new.self c.args.line c.args.notes.now c.args.key.now c.in-Seen.name c.in-Seen.place c.requires.reads c.in-Seen.ensures).1

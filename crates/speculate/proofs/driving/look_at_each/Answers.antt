@@ -1,7 +1,7 @@
 use Rattle.std.proofs.Common.{◌++◌, ◌∷◌, ◌∙◌, [], List, ap, map, sym}
 use Rattle.circ_records.specs.declared.key.Key.{Key}
 use Rattle.read_set.specs.declared.notes.Note.{Note}
-use Rattle.speculate.proofs.Drives.{next_keys, next_unnoted, runs_on}
+use Rattle.speculate.proofs.Drives.{drives_on, next_keys, next_unnoted}
 use Rattle.speculate.proofs.driving.look_at_each.Goals as goal
 
 pub look_at-requires-clause-fresh : goal.look_at-requires-clause-fresh
@@ -12,7 +12,8 @@ look_at-requires-clause-fresh g c =
 pub loop-note-preserved : goal.loop-note-preserved
 loop-note-preserved g c = record {
   reads = c.in_ok-look_at.ensures.reads;
-  led = runs_on g.J.PlanName.plan c.args.board.now c.loop-note.board c.look_at.new.board c.loop-note.invariant.led c.look_at.ensures.led;
+  next = c.in_ok-look_at.ensures.next ∙ c.loop-note.invariant.next;
+  led = drives_on g.J.PlanName.plan c.args.line c.args.board.now c.loop-note.board c.look_at.new.board c.loop-note.invariant.led c.look_at.ensures.led;
   keys =
       c.in_ok-look_at.ensures.keys
       ∙ ap (λ (q : Key). map (λ (n : Note). n.key) c.loop-note.notes ++ q ∷ []) c.key.ensures
@@ -22,4 +23,4 @@ loop-note-preserved g c = record {
 
 pub returns-in_err-look_at-clause-led : goal.returns-in_err-look_at-clause-led
 returns-in_err-look_at-clause-led g c =
-    runs_on g.J.PlanName.plan c.args.board.now c.loop-note.board c.look_at.new.board c.loop-note.invariant.led c.look_at.ensures.led
+    drives_on g.J.PlanName.plan c.args.line c.args.board.now c.loop-note.board c.look_at.new.board c.loop-note.invariant.led c.look_at.ensures.led

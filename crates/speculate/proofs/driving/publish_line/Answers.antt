@@ -1,8 +1,9 @@
 use Rattle.std.proofs.Common.{arith}
 use Rattle.board_steps.specs.Steps.Call.{Publish}
 use Rattle.board_lines.specs.Notes.{contents_at}
-use Rattle.speculate.proofs.Drives.{act_stops, led, publish_other, runs_on, spent_stops}
-use Rattle.speculate.proofs.Phases.{lifted_goes, placed_goes, whole_goes}
+use Rattle.board_lines.specs.declared.reply.Reply.TheVariants as replies
+use Rattle.speculate.proofs.Drives.{act_stops, drives, drives_on, publish_other, spent_stops}
+use Rattle.speculate.proofs.Phases.{lifted_goes, placed_goes, publish_for, whole_goes}
 use Rattle.speculate.proofs.driving.publish_line.Goals as goal
 
 pub acts-preserved-in-Placed : goal.acts-preserved-in-Placed
@@ -13,7 +14,7 @@ acts-preserved-in-Placed g c =
     let v = contents_at c.args.place in
     record {
       appears = (placed_goes plan b c.args.line v c.acts.invariant.appears new c.in-Placed.ensures).0;
-      led = runs_on plan c.args.board.now b new c.acts.invariant.led (led plan b new (Publish 0 v) c.act.result c.acts.invariant.appears.settles c.act.ensures);
+      led = drives_on plan c.args.line c.args.board.now b new c.acts.invariant.led (drives {J = g.row.J.Denot} plan c.args.line b new (Publish 0 v) replies.Placed c.acts.invariant.appears.settles (publish_for plan b c.args.line c.acts.invariant.appears.goes.stands v) tt c.in-Placed.ensures);
     }
 
 pub acts-preserved : goal.acts-preserved
@@ -24,7 +25,7 @@ acts-preserved g c =
     let v = contents_at c.args.place in
     record {
       appears = (lifted_goes plan b c.args.line v c.acts.invariant.appears new c.in-Lifted.ensures).0;
-      led = runs_on plan c.args.board.now b new c.acts.invariant.led (led plan b new (Publish 0 v) c.act.result c.acts.invariant.appears.settles c.act.ensures);
+      led = drives_on plan c.args.line c.args.board.now b new c.acts.invariant.led (drives {J = g.row.J.Denot} plan c.args.line b new (Publish 0 v) replies.Lifted c.acts.invariant.appears.settles (publish_for plan b c.args.line c.acts.invariant.appears.goes.stands v) tt c.in-Lifted.ensures);
     }
 
 pub acts-smaller-in-Placed : goal.acts-smaller-in-Placed
@@ -46,14 +47,14 @@ returns-in-Whole-clause-led g c =
     let plan = g.J.PlanName.plan in
     let b = c.acts.board in
     let new = c.act.new.board in
-    runs_on plan c.args.board.now b new c.acts.invariant.led (led plan b new (Publish 0 (contents_at c.args.place)) c.act.result c.acts.invariant.appears.settles c.act.ensures)
+    drives_on plan c.args.line c.args.board.now b new c.acts.invariant.led (drives {J = g.row.J.Denot} plan c.args.line b new (Publish 0 (contents_at c.args.place)) replies.Whole c.acts.invariant.appears.settles (publish_for plan b c.args.line c.acts.invariant.appears.goes.stands (contents_at c.args.place)) tt c.in-Whole.ensures)
 
 pub returns-in-ClockSpent-clause-led : goal.returns-in-ClockSpent-clause-led
 returns-in-ClockSpent-clause-led g c =
     let plan = g.J.PlanName.plan in
     let b = c.acts.board in
     let new = c.act.new.board in
-    runs_on plan c.args.board.now b new c.acts.invariant.led (led plan b new (Publish 0 (contents_at c.args.place)) c.act.result c.acts.invariant.appears.settles c.act.ensures)
+    drives_on plan c.args.line c.args.board.now b new c.acts.invariant.led (drives {J = g.row.J.Denot} plan c.args.line b new (Publish 0 (contents_at c.args.place)) replies.ClockSpent c.acts.invariant.appears.settles (publish_for plan b c.args.line c.acts.invariant.appears.goes.stands (contents_at c.args.place)) tt c.in-ClockSpent.ensures)
 
 pub returns-in-ClockSpent-clause-fault : goal.returns-in-ClockSpent-clause-fault
 returns-in-ClockSpent-clause-fault g c = spent_stops g.J.PlanName.plan c.acts.board c.act.new.board (contents_at c.args.place) c.acts.invariant.appears.settles c.in-ClockSpent.ensures
@@ -63,7 +64,7 @@ returns-in-Memory-clause-led g c =
     let plan = g.J.PlanName.plan in
     let b = c.acts.board in
     let new = c.act.new.board in
-    runs_on plan c.args.board.now b new c.acts.invariant.led (led plan b new (Publish 0 (contents_at c.args.place)) c.act.result c.acts.invariant.appears.settles c.act.ensures)
+    drives_on plan c.args.line c.args.board.now b new c.acts.invariant.led (drives {J = g.row.J.Denot} plan c.args.line b new (Publish 0 (contents_at c.args.place)) replies.Memory c.acts.invariant.appears.settles (publish_for plan b c.args.line c.acts.invariant.appears.goes.stands (contents_at c.args.place)) tt c.in-Memory.ensures)
 
 pub returns-in-Memory-clause-fault : goal.returns-in-Memory-clause-fault
 returns-in-Memory-clause-fault g c =

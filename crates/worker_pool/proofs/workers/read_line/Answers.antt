@@ -2,4 +2,4 @@ use Rattle.read_set.proofs.Keeping.{true-agrees}
 use Rattle.worker_pool.proofs.workers.read_line.Goals as goal
 
 pub version_of-version-requires : goal.version_of-version-requires
-version_of-version-requires g c = λ M true. rw (← c.plan.ensures) (c.in-Ok.ensures.gives M (true-agrees c.perform.new.source.notes M true))
+version_of-version-requires g c = λ M true. rw (← c.plan.ensures) (c.in-Ok.ensures.gives M (true-agrees c.perform_one_by_one.new.source.notes M true))

@@ -21,8 +21,8 @@ invariant_of-self c =
     let same : c.index_mut.result.now.0 ≡ c.args.kept = ap (λ (e : Key × Record). e.0) c.index_mut.ensures.value ∙ (held es c.args.kept c.in-Some.position at).1 c.index_mut.result.now in
     (put-at es c.self.inside.placed.entries c.args.kept c.index_mut.result.now.0 c.args.told c.in-Some.position c.self.invariant at same).rising
 
-pub returns-in-Some : goal.returns-in-Some
-returns-in-Some c =
+pub returns-in-Some-clause-put : goal.returns-in-Some-clause-put
+returns-in-Some-clause-put c =
     let es = c.self.inside.listed.items in
     let at : position_from 0 c.args.kept es ≡ Ok c.in-Some.position = ap (position_from 0 c.args.kept) (sym c.as_slice.ensures.value) ∙ c.in-Some.ensures in
     let same : c.index_mut.result.now.0 ≡ c.args.kept = ap (λ (e : Key × Record). e.0) c.index_mut.ensures.value ∙ (held es c.args.kept c.in-Some.position at).1 c.index_mut.result.now in

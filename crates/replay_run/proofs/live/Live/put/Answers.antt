@@ -15,7 +15,7 @@ loop-kept-preserved c =
     let last : Key × Record = (c.in-Some.kept, c.in-Some.written) in
     let all : c.loop-kept.left.items ≡ c.pop.new.self.items ++ (c.in-Some.kept, c.in-Some.written) ∷ [] = search rules in
     let updates : (k : Key) → record_at c.put_over.new.self k ≡ cond (eq_by_cmp key_cmp c.in-Some.kept k) (Some c.in-Some.written) (record_at c.loop-kept.self.records k) =
-    c.in_ok-put_over.ensures in
+    c.in_ok-put_over.ensures.put in
     let wrote : (k : Key) → record_at c.put_over.new.self k ≡ put (last ∷ []) (standing c.loop-kept.self) k =
     put-alone c.loop-kept.self.records c.put_over.new.self c.in-Some.kept c.in-Some.written updates in
     λ k. ap (λ found. option_or (record_at c.pop.new.self.items k) found) (wrote k)

@@ -12,4 +12,4 @@ invariant_of-result g c =
     let start : Board = opening g.J.PlanName.plan c.args.workers c.args.attempt c.args.clock in
     subst (λ (b : Board). IsReady b c.in_ok-new-2.field-0) (sym c.in_ok-new.ensures)
     (subst (λ (r : Ready). IsReady start r) (sym c.in_ok-new-2.ensures)
-    (opening_ready g.J.PlanName.plan c.args.workers c.args.attempt c.args.clock c.lines_of.result (c.lines_of.ensures.lines ∙ ap (λ (x : Planned). length x.readings) c.requires.named) c.lines_of.ensures.few))
+    (opening_ready g.J.PlanName.plan c.args.workers c.args.attempt c.args.clock c.lines_of.result c.requires.workers (c.lines_of.ensures.lines ∙ ap (λ (x : Planned). length x.readings) c.requires.named) c.lines_of.ensures.few))

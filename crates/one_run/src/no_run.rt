@@ -1,0 +1,48 @@
+//! Why tables aren't of one run.
+
+use csv_table::TableError;
+use std::alloc::{AllocError, AllocFailed, Global};
+
+/// Why a journal and the tables of an output aren't of one run.
+#[derive(Drop)]
+pub enum NoRun {
+    /// Memory ran out.
+    Memory,
+    /// The file of this name isn't the table that it should be.
+    Table(&'static str),
+    /// What this line, as it is numbered, has against it.
+    Line(String, &'static str),
+}
+
+impl From<AllocError> for NoRun {
+    fn from(_error: AllocError) -> NoRun {
+        NoRun::Memory
+    }
+}
+
+impl<T: Drop> From<AllocFailed<T>> for NoRun {
+    fn from(_error: AllocFailed<T>) -> NoRun {
+        NoRun::Memory
+    }
+}
+
+impl NoRun {
+    /// What a table that can't be read comes to.
+    pub(crate) fn of_table(error: TableError, file: &'static str) -> NoRun {
+        match error {
+            TableError::Table => NoRun::Table(file),
+            TableError::Memory => NoRun::Memory,
+        }
+    }
+
+    /// What is said against the line whose number stands in a field.
+    pub(crate) fn of_line(alloc: Global, number: &[u8], says: &'static str) -> NoRun {
+        match String::from_utf8_lossy(alloc, number) {
+            Ok(text) => match String::from_str(alloc, text.as_str()) {
+                Ok(line) => NoRun::Line(line, says),
+                Err(_) => NoRun::Memory,
+            },
+            Err(_) => NoRun::Memory,
+        }
+    }
+}

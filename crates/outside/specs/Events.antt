@@ -1,0 +1,41 @@
+-- What is asked of the outside, and what it answers.
+use Rattle.std.specs.Prelude.{◌≡◌, ◌++◌, ◌∷◌, ℕ, [], ⊤, Bool, Err, List, None, Ok, Option, Result, Some}
+use Rattle.std.specs.declared.alloc.Global.{Global}
+use Rattle.std.specs.declared.vec.Vec.{Vec}
+use Rattle.outside.specs.declared.failure.Failure.{Failure}
+use Rattle.outside.specs.declared.file_id.FileId.{FileId}
+
+pub data Event : Type 0 where
+  -- a path was looked up: the file that it leads to, or none
+  Find : List ℕ → Option FileId → Event
+  -- a file was read: its bytes, or why not
+  Read : List ℕ → Result (List ℕ) Failure → Event
+  -- a file was made of these bytes, or why not
+  Create : List ℕ → List ℕ → Result ⊤ Failure → Event
+  -- a file was given another path, or why not
+  Rename : List ℕ → List ℕ → Result ⊤ Failure → Event
+  -- a file was taken away, if that could be done
+  Remove : List ℕ → Event
+  -- standard output took this text, or not
+  Print : List ℕ → Bool → Event
+  -- standard error took this text, or not
+  Tell : List ℕ → Bool → Event
+
+-- a log with one event more
+unfoldable pub noted : Event → Option (List Event) → Option (List Event)
+noted event None = None
+noted event (Some log) = Some (log ++ event ∷ [])
+
+-- a log with these events more, the first of them first
+abbrev pub after : List Event → Option (List Event) → Option (List Event)
+after [] log = log
+after (event ∷ events) log = after events (noted event log)
+
+-- the bytes that were read, or why not
+abbrev pub answer_of : Result (Vec ℕ Global) Failure → Result (List ℕ) Failure
+answer_of (Ok bytes) = Ok bytes.items
+answer_of (Err failure) = Err failure
+
+-- from the old log to the new one these events came, of which P says more
+abbrev pub Did : (List Event → Type 0) → Option (List Event) → Option (List Event) → Type 0
+Did P old new = (events : List Event) × (new ≡ after events old) × P events

@@ -1,0 +1,4 @@
+pub mod Events
+pub mod Files
+pub mod Places
+pub mod Reasons

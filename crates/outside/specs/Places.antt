@@ -1,0 +1,7 @@
+-- A file that isn't written yet, as a place.
+use Rattle.std.specs.Prelude.{string_bytes}
+use Rattle.outside.specs.Files.{Place}
+use Rattle.outside.specs.declared.writing.Unwritten.{Unwritten}
+
+abbrev pub place_of : Unwritten → Place
+place_of f = record { path = string_bytes f.path; part = string_bytes f.part; text = f.text.now }

@@ -1,0 +1,17 @@
+//! The outside: all that a program asks of files and of its two streams, as one trait, so that a contract can say what was asked, in which
+//! order, and what was answered. `System` asks the system itself.
+//!
+//! A file is written beside its place, and gets its name when it is whole.
+#![tactic(auto)]
+
+mod failure;
+mod file_id;
+mod outside;
+mod system;
+mod writing;
+
+pub use failure::Failure;
+pub use file_id::FileId;
+pub use outside::Outside;
+pub use system::System;
+pub use writing::{Unplaced, Unwritten, file_in_folder, write_files};

@@ -1,0 +1,47 @@
+//! What a program asks of the outside.
+
+ghost use Rattle.std.specs.Prelude.{◌≡◌, IfSome, List, Option};
+ghost use Rattle.outside.specs.Events.{Event, Create, Find, Print, Read, Remove, Rename, Tell, answer_of, noted};
+
+use crate::failure::Failure;
+use crate::file_id::FileId;
+use std::alloc::Global;
+use std::fmt::Display;
+
+/// The outside of a program: files, standard output and standard error. What is asked of it, and what it answers, is noted in a log, which
+/// stands in contracts alone.
+pub trait Outside {
+    /// What was asked so far, and what was answered, where that is known.
+    ghost log: { Self → Option (List Event) };
+
+    /// Which file this path leads to, links followed, or none.
+    fn find(&mut self, path: &str) -> Option<FileId>
+        ensures { log self.new ≡ noted (Find path.now result) (log self.old) };
+
+    /// All bytes of the file of this path; of `-` those of standard input.
+    fn read(&mut self, alloc: Global, path: &str) -> Result<Vec<u8>, Failure>
+        ensures { log self.new ≡ noted (Read path.now (answer_of result)) (log self.old) };
+
+    /// Makes a file of these bytes, or puts them in the place of what the file had.
+    fn create(&mut self, path: &str, text: &[u8]) -> Result<(), Failure>
+        ensures { log self.new ≡ noted (Create path.now text.now result) (log self.old) };
+
+    /// Gives a file another path, in the place of what stood there.
+    fn rename(&mut self, from: &str, to: &str) -> Result<(), Failure>
+        ensures { log self.new ≡ noted (Rename from.now to.now result) (log self.old) };
+
+    /// Takes a file away, if that can be done.
+    fn remove(&mut self, path: &str)
+        ensures { log self.new ≡ noted (Remove path.now) (log self.old) };
+
+    /// Prints to standard output. Says whether all of it was taken.
+    fn print<D: Display>(&mut self, text: &D) -> bool
+        ensures { IfSome (D.output text.now) (λ text. log self.new ≡ noted (Print text result) (log self.old)) };
+
+    /// Prints to standard error. Says whether all of it was taken.
+    fn tell<D: Display>(&mut self, text: &D) -> bool
+        ensures { IfSome (D.output text.now) (λ text. log self.new ≡ noted (Tell text result) (log self.old)) };
+
+    /// Whether standard error is a terminal.
+    fn is_terminal(&self) -> bool;
+}

@@ -1,0 +1,181 @@
+//! Why a response was wrong: the record by which the rules decided, and since when it was so.
+
+use crate::case::Names;
+use crate::days::put_day;
+use crate::lists::cut;
+use crate::sayings::{put_item, put_patron};
+use std::alloc::AllocError;
+
+/// A record that a line read, as `sip_why` tells of it.
+#[derive(Clone, Copy)]
+pub struct Origin<'w> {
+    /// `patron`, `item` or `fee`; nothing where the line read no record.
+    pub kind: &'w [u8],
+    pub id: &'w [u8],
+    /// What of it mattered: words with their values, with `; ` between them.
+    pub said: &'w [u8],
+    /// Since when it was so, in words.
+    pub since: &'w [u8],
+}
+
+/// What is said of why a response was wrong: the word of the report, the reason of the answer, what is said of the record, the kind of the record, and
+/// the saying; `*` fits any. The first line that fits counts. A place in braces is the record's id, or what is said of it.
+const BECAUSES: &str = "\
+*|unknown_patron|*|patron|no table has {id}
+*|unknown_item|*|item|no table has {id}
+fee|*|rental|item|its rental is {rental}
+due|*|due day given|item|the request gives that day
+due|*|closed|item|its {days} days end on a closed day: {closed}
+due|*|days|item|it is lent for {days} days
+alert|*|first|item|{first} waits for it first, of {holds}{since}
+alert|*|*|item|nobody waits for it{since}
+available|*|borrower none|item|nobody has it{since}
+available|*|borrower|item|{borrower} has it until {due}{since}
+status|*|blocked Y|patron|{id} is blocked{since}
+valid|*|class|patron|{id} is in the tables{since}
+accepted|*|owed|patron|{id} owed {owed}{since}
+*|own_loan|borrower|item|{borrower} has it until {due}{since}
+*|lent|borrower|item|{borrower} has it until {due}{since}
+*|third_party|borrower|item|{borrower} has it until {due}{since}
+*|not_lent|*|item|nobody has it{since}
+*|queue|first|item|{first} waits for it first, of {holds}{since}
+*|waited_for|first|item|{first} waits for it, of {holds}{since}
+*|blocked|*|patron|{id} is blocked{since}
+*|max_loans|*|patron|{id} has {loans} loans{since}
+*|max_fees|*|patron|{id} owes {owed}{since}
+*|max_renewals|*|item|it was renewed {renewals} times{since}
+*|rental|*|item|nobody agreed to its rental of {rental}
+*|has_entry|*|item|{first} waits for it first, of {holds}{since}
+*|queue_full|*|item|{holds} wait for it{since}
+*|no_entry|*|item|{holds} wait for it, and the patron isn't among them{since}
+*|returned_late|borrower|item|{borrower} had it until {due}{since}, and it came back on {back}
+*|returned|borrower|item|{borrower} had it until {due}{since}
+*|made|borrower none|item|nobody had it{since}
+*|made|borrower|item|{borrower} had it until {due}{since}
+*|renewed|borrower|item|{borrower} had it until {due}{since}
+*|done|class|patron|{id} is in the tables{since}
+*|done|borrower|item|{id} is in the tables{since}
+";
+
+/// Writes why a response is wrong in a word of the report, where that is known. Returns whether it is.
+pub fn put_because(
+    out: &mut Vec<u8>,
+    word: &[u8],
+    reason: &[u8],
+    origins: &[Origin<'_>],
+    names: &Names,
+) -> Result<bool, AllocError> {
+    let mut rest = BECAUSES.as_bytes();
+    for _ in 0..BECAUSES.len() {
+        if rest.is_empty() {
+            break;
+        }
+        let (line, behind) = cut(rest, b'\n');
+        let (about, line) = cut(line, b'|');
+        let (why, line) = cut(line, b'|');
+        if fits(about, word) && fits(why, reason) && put_of(out, line, origins, names)? {
+            return Ok(true);
+        }
+        rest = behind;
+    }
+    Ok(false)
+}
+
+/// Whether a part of a line fits.
+fn fits(part: &[u8], text: &[u8]) -> bool {
+    part.starts_with(b"*") || part == text
+}
+
+/// Writes what the rest of a line says of the first record that it fits. Returns whether there is one.
+fn put_of(
+    out: &mut Vec<u8>,
+    line: &'static [u8],
+    origins: &[Origin<'_>],
+    names: &Names,
+) -> Result<bool, AllocError> {
+    let (has, line) = cut(line, b'|');
+    let (kind, saying) = cut(line, b'|');
+    for origin in origins {
+        if origin.kind == kind && (has.starts_with(b"*") || said_of(origin.said, has).is_some()) {
+            put_saying(out, saying, origin, names)?;
+            return Ok(true);
+        }
+    }
+    Ok(false)
+}
+
+/// What is said of a word of a record: `due` in `borrower P1; due 20260316`.
+fn said_of<'w>(said: &'w [u8], word: &[u8]) -> Option<&'w [u8]> {
+    let mut rest = said;
+    for _ in 0..said.len() {
+        if rest.is_empty() {
+            break;
+        }
+        let (part, behind) = cut(rest, b';');
+        if let Some(value) = part.trim_ascii_start().strip_prefix(word) {
+            if value.is_empty() || value.starts_with(b" ") {
+                return Some(value.trim_ascii_start());
+            }
+        }
+        rest = behind;
+    }
+    None
+}
+
+/// Writes a saying, and in each place in braces what stands for it.
+fn put_saying(
+    out: &mut Vec<u8>,
+    saying: &[u8],
+    origin: &Origin<'_>,
+    names: &Names,
+) -> Result<(), AllocError> {
+    let mut rest = saying;
+    for _ in 0..saying.len() {
+        if rest.is_empty() {
+            break;
+        }
+        let (before, behind) = cut(rest, b'{');
+        out.extend_from_slice(before)?;
+        let (place, behind) = cut(behind, b'}');
+        put_place(out, place, origin, names)?;
+        rest = behind;
+    }
+    Ok(())
+}
+
+/// Writes what stands for a place.
+fn put_place(
+    out: &mut Vec<u8>,
+    place: &[u8],
+    origin: &Origin<'_>,
+    names: &Names,
+) -> Result<(), AllocError> {
+    let value = said_of(origin.said, place).unwrap_or(b"");
+    match place {
+        b"" => Ok(()),
+        b"since" => out.extend_from_slice(origin.since),
+        b"id" if origin.kind == b"item".as_slice() => put_item(out, origin.id, names),
+        b"id" => put_patron(out, origin.id, names),
+        b"borrower" | b"first" => put_patron(out, value, names),
+        b"due" | b"back" => put_day(out, value),
+        b"closed" => put_days(out, value),
+        _ => out.extend_from_slice(value),
+    }
+}
+
+/// Writes days that are separated by blanks.
+fn put_days(out: &mut Vec<u8>, days: &[u8]) -> Result<(), AllocError> {
+    let mut rest = days;
+    for _ in 0..days.len() {
+        if rest.is_empty() {
+            break;
+        }
+        let (day, behind) = cut(rest, b' ');
+        put_day(out, day)?;
+        if !behind.is_empty() {
+            out.extend_from_slice(b", ")?;
+        }
+        rest = behind;
+    }
+    Ok(())
+}

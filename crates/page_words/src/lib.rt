@@ -1,0 +1,21 @@
+//! What a page says of a run, in words: what messages and fields are called, what was wrong with a response, what was told and what
+//! is right, and why. Here are lists of words and how they are filled in; what is shown where stands in `sip_page`.
+#![tactic(auto)]
+
+mod because;
+mod case;
+mod days;
+mod fields;
+mod lists;
+mod sayings;
+mod sides;
+
+pub use because::{Origin, put_because};
+pub use case::{Case, Names, Texts};
+pub use days::{put_day, put_moment, put_time};
+pub use fields::{Field, fields_of, name_of, other_of, value_in, values_in};
+pub use lists::{
+    ANSWERED, BLOCKED, FEE_TYPES, FIELDS, PLURALS, REASONS, SECRETS, WEIGHTS, WORDS, cut, known,
+};
+pub use sayings::{Saying, fill, group_saying, put_item, put_patron, say};
+pub use sides::{put_recorded, put_right};

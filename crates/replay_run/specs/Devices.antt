@@ -1,0 +1,2 @@
+-- Devices of proofs: how things are kept. No promise is read here.
+pub mod Spans

@@ -1,0 +1,342 @@
+//! The groups of wrong responses.
+
+use crate::facts::{items_of, patrons_of};
+use crate::findings::{Findings, message_at};
+use crate::groups::{Finding, Group};
+use crate::messages::add_messages;
+use crate::sheet::Sheet;
+use crate::subjects::{ITEMS, Kind, PATRONS, Subjects, add_link};
+use crate::tally::counted;
+use crate::whys::Whys;
+use page_words::{
+    Case, Names, PLURALS, Texts, cut, known, put_moment, put_recorded, put_right, put_time, say,
+    value_in,
+};
+use std::alloc::{AllocError, Global};
+
+const ROWS: &str =
+    "<div class=\"t\"><table class=\"r\"><thead><tr><th scope=\"col\">Line</th><th scope=\"col\">Time</th><th scope=\"col\">Patron</th><th scope=\"col\">Item</th><th scope=\"col\">Told</th><th scope=\"col\">Right</th></tr></thead><tbody>";
+
+/// The heads of the three weights.
+static HEADS: [(u8, &str); 3] = [
+    (b'1', "<h3 id=\"w1\">Records that may be wrong</h3>\n"),
+    (b'2', "<h3 id=\"w2\">Told wrong</h3>\n"),
+    (b'3', "<h3 id=\"w3\">Not readable</h3>\n"),
+];
+
+/// What is shown, and by what names.
+#[derive(Drop)]
+pub struct View<'f> {
+    pub alloc: Global,
+    pub names: &'f Names,
+    pub findings: &'f Findings,
+    pub whys: &'f Whys,
+}
+
+/// Adds each group, those of a weight under its head.
+pub fn add_groups(sheet: &mut Sheet, view: &View<'_>) -> Result<(), AllocError> {
+    let mut before = 0;
+    for group in view.findings.groups.values() {
+        if group.facts.weight != before {
+            before = group.facts.weight;
+            add_weight(sheet, before);
+        }
+        add_group(sheet, view, group)?;
+    }
+    Ok(())
+}
+
+/// Adds the head of a weight.
+fn add_weight(sheet: &mut Sheet, weight: u8) {
+    for (which, head) in &HEADS {
+        if *which == weight {
+            sheet.add(head, b"");
+        }
+    }
+}
+
+/// The markup before the number of a group of a weight.
+fn place_of(weight: u8) -> &'static str {
+    match weight {
+        b'1' => "<details class=\"g w1\" id=\"g",
+        b'2' => "<details class=\"g w2\" id=\"g",
+        _ => "<details class=\"g w3\" id=\"g",
+    }
+}
+
+/// Adds a group: one sentence for all its lines, then its lines.
+fn add_group(sheet: &mut Sheet, view: &View<'_>, group: &Group) -> Result<(), AllocError> {
+    sheet.add_number(place_of(group.facts.weight), group.number);
+    let mut sentence = Vec::new(view.alloc);
+    match group.findings.first() {
+        Some(finding) if group.count == 1 => put_sentence(&mut sentence, view, finding)?,
+        _ => put_group_sentence(&mut sentence, view, group)?,
+    }
+    sheet.add("\" open><summary><h4>", &sentence);
+    sheet.add(".</h4></summary>\n", b"");
+    if group.count == 1 {
+        for finding in &group.findings {
+            add_single(sheet, view, finding)?;
+        }
+    } else {
+        add_hours(sheet, view, group)?;
+        add_rows(sheet, view, group)?;
+    }
+    let left_out = group.count.saturating_sub(group.findings.len() as u64);
+    if left_out > 0 {
+        sheet.add_number("<p>Left out here: ", left_out);
+        sheet.add(" more. The option --limit shows more of them.</p>\n", b"");
+    }
+    sheet.add("</details>\n", b"");
+    Ok(())
+}
+
+/// Writes when and where it was, and what each word of the report says.
+fn put_sentence(out: &mut Vec<u8>, view: &View<'_>, finding: &Finding) -> Result<(), AllocError> {
+    let case = finding.line.case(view.alloc)?;
+    put_moment(
+        out,
+        value_in(&case.asked, b"date"),
+        view.findings.is_dated(),
+    )?;
+    out.extend_from_slice(b", ")?;
+    out.extend_from_slice(finding.line.connection())?;
+    let line = format!(in view.alloc; ", line {}: ", finding.number)?;
+    out.extend_from_slice(line.as_bytes())?;
+    put_said(out, view, finding.line.words(), &case)?;
+    put_because(out, view, finding, &case)
+}
+
+/// Writes why it was wrong, after a colon, where that is known.
+fn put_because(
+    out: &mut Vec<u8>,
+    view: &View<'_>,
+    finding: &Finding,
+    case: &Case<'_>,
+) -> Result<(), AllocError> {
+    let date = value_in(&case.asked, b"date");
+    view.whys.put(out, finding.number, finding.line.words(), date, view.names)
+}
+
+/// Writes what each word of the report says.
+fn put_said(
+    out: &mut Vec<u8>,
+    view: &View<'_>,
+    words: &[u8],
+    case: &Case<'_>,
+) -> Result<(), AllocError> {
+    let mut rest = words;
+    let mut before = b"".as_slice();
+    for _ in 0..words.len() {
+        let (word, behind) = cut(rest, b' ');
+        if word.is_empty() {
+            break;
+        }
+        out.extend_from_slice(before)?;
+        say(out, word, case, view.names)?;
+        before = b"; ";
+        rest = behind;
+    }
+    Ok(())
+}
+
+/// Writes one sentence for all lines of a group, as: 9 checkouts at SELF3, 12:18 to 16:25: due 14 March told, 16 March is right.
+fn put_group_sentence(out: &mut Vec<u8>, view: &View<'_>, group: &Group) -> Result<(), AllocError> {
+    let count = format!(in view.alloc; "{} ", group.count)?;
+    out.extend_from_slice(count.as_bytes())?;
+    out.extend_from_slice(plural_of(&group.facts.kind))?;
+    out.extend_from_slice(b" at ")?;
+    out.extend_from_slice(&group.facts.connection)?;
+    out.extend_from_slice(b", ")?;
+    put_moment(out, &group.facts.date, view.findings.is_dated())?;
+    out.extend_from_slice(b" to ")?;
+    put_moment(out, &group.last, !is_one_day(group))?;
+    out.extend_from_slice(b": ")?;
+    out.extend_from_slice(if group.is_same {
+        &group.facts.same
+    } else {
+        &group.facts.other
+    })
+}
+
+/// What several requests of a kind are called.
+pub fn plural_of(kind: &[u8]) -> &'static [u8] {
+    let name = known(PLURALS, kind);
+    if name.is_empty() { b"requests" } else { name }
+}
+
+/// Whether all lines of a group are of one day.
+fn is_one_day(group: &Group) -> bool {
+    group.facts.date.get(..8) == group.last.get(..8)
+}
+
+/// Says of a group that began and ended on one day how many such responses were right before, between and after its lines.
+fn add_hours(sheet: &mut Sheet, view: &View<'_>, group: &Group) -> Result<(), AllocError> {
+    let name = message_at(view.alloc, &group.facts.kind, &group.facts.connection)?;
+    let after = counted(&view.findings.right, &name).saturating_sub(group.right_at_last);
+    if !is_one_day(group) || group.right_at_first == 0 || after == 0 {
+        return Ok(());
+    }
+    let mut first = Vec::new(view.alloc);
+    put_time(&mut first, &group.facts.date)?;
+    let mut last = Vec::new(view.alloc);
+    put_time(&mut last, &group.last)?;
+    sheet.add(
+        "<p>It began and ended within hours: of the ",
+        plural_of(&group.facts.kind),
+    );
+    sheet.add(" at ", &group.facts.connection);
+    sheet.add_number(", ", group.right_at_first);
+    sheet.add(" before ", &first);
+    sheet.add_number(" and ", after);
+    sheet.add(" after ", &last);
+    sheet.add_number(
+        " were right, and ",
+        group.right_at_last.saturating_sub(group.right_at_first),
+    );
+    sheet.add(" between.</p>\n", b"");
+    Ok(())
+}
+
+/// Adds the only line of a group: whom and what it is about, and its messages.
+fn add_single(sheet: &mut Sheet, view: &View<'_>, finding: &Finding) -> Result<(), AllocError> {
+    let case = finding.line.case(view.alloc)?;
+    sheet.add_number("<p id=\"l", finding.number);
+    sheet.add("\">", b"");
+    let patrons = patrons_of(view.alloc, &case)?;
+    add_links(
+        sheet,
+        &PATRONS,
+        &view.findings.patrons,
+        &view.names.patrons,
+        &patrons,
+    );
+    let items = items_of(view.alloc, &case)?;
+    if !patrons.is_empty() && !items.is_empty() {
+        sheet.add(" &middot; ", b"");
+    }
+    add_links(
+        sheet,
+        &ITEMS,
+        &view.findings.items,
+        &view.names.titles,
+        &items,
+    );
+    sheet.add("</p><details><summary>Messages</summary>", b"");
+    add_messages(sheet, finding, &case);
+    sheet.add("</details>\n", b"");
+    Ok(())
+}
+
+/// Adds links to patrons or items.
+fn add_links(sheet: &mut Sheet, kind: &Kind, subjects: &Subjects, texts: &Texts, ids: &[Vec<u8>]) {
+    let mut before = "";
+    for id in ids {
+        sheet.add(before, b"");
+        add_link(sheet, kind, subjects, texts, id);
+        before = "; ";
+    }
+}
+
+/// Adds the lines of a group as a table of one row each, and its messages after each.
+fn add_rows(sheet: &mut Sheet, view: &View<'_>, group: &Group) -> Result<(), AllocError> {
+    sheet.add(ROWS, b"");
+    for finding in &group.findings {
+        let case = finding.line.case(view.alloc)?;
+        add_row(sheet, view, finding, &case)?;
+        sheet.add_number(
+            "<tr class=\"m\"><td colspan=\"6\"><details><summary>Messages of line ",
+            finding.number,
+        );
+        sheet.add("</summary>", b"");
+        if !group.is_same {
+            add_because(sheet, view, finding, &case)?;
+        }
+        add_messages(sheet, finding, &case);
+        sheet.add("</details></td></tr>", b"");
+    }
+    sheet.add("</tbody></table></div>\n", b"");
+    Ok(())
+}
+
+/// Adds why a line of a group was wrong, where that is known.
+fn add_because(
+    sheet: &mut Sheet,
+    view: &View<'_>,
+    finding: &Finding,
+    case: &Case<'_>,
+) -> Result<(), AllocError> {
+    let mut because = Vec::new(view.alloc);
+    put_because(&mut because, view, finding, case)?;
+    if !because.is_empty() {
+        sheet.add("<p>Because", &because);
+        sheet.add(".</p>\n", b"");
+    }
+    Ok(())
+}
+
+/// Adds the row of a line: when, who, what, told, right.
+fn add_row(
+    sheet: &mut Sheet,
+    view: &View<'_>,
+    finding: &Finding,
+    case: &Case<'_>,
+) -> Result<(), AllocError> {
+    let mut moment = Vec::new(view.alloc);
+    put_moment(
+        &mut moment,
+        value_in(&case.asked, b"date"),
+        view.findings.is_dated(),
+    )?;
+    sheet.add_number("<tr id=\"l", finding.number);
+    sheet.add_number("\"><th scope=\"row\">", finding.number);
+    sheet.add("</th><td>", &moment);
+    sheet.add("</td><td>", b"");
+    add_links(
+        sheet,
+        &PATRONS,
+        &view.findings.patrons,
+        &view.names.patrons,
+        &patrons_of(view.alloc, case)?,
+    );
+    sheet.add("</td><td>", b"");
+    add_links(
+        sheet,
+        &ITEMS,
+        &view.findings.items,
+        &view.names.titles,
+        &items_of(view.alloc, case)?,
+    );
+    let mut told = Vec::new(view.alloc);
+    let mut right = Vec::new(view.alloc);
+    put_sides(&mut told, &mut right, view, finding.line.words(), case)?;
+    sheet.add("</td><td>", &told);
+    sheet.add("</td><td>", &right);
+    sheet.add("</td></tr>", b"");
+    Ok(())
+}
+
+/// Writes what was told and what is right, word by word.
+fn put_sides(
+    told: &mut Vec<u8>,
+    right: &mut Vec<u8>,
+    view: &View<'_>,
+    words: &[u8],
+    case: &Case<'_>,
+) -> Result<(), AllocError> {
+    let mut rest = words;
+    for _ in 0..words.len() {
+        let (word, behind) = cut(rest, b' ');
+        if word.is_empty() {
+            break;
+        }
+        if !told.is_empty() {
+            told.extend_from_slice(b"; ")?;
+            right.extend_from_slice(b"; ")?;
+        }
+        put_recorded(told, word, case, view.names)?;
+        put_right(right, word, case, view.names)?;
+        rest = behind;
+    }
+    Ok(())
+}

@@ -1,0 +1,4 @@
+pub mod Devices
+pub mod Differences
+pub mod Rows
+pub mod Same

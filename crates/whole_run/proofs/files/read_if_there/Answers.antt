@@ -1,0 +1,13 @@
+use Rattle.std.proofs.Common.{◌∷◌, ◌∙◌, Err, [], inl, refl, sym}
+use Rattle.outside.specs.Events.{Read}
+use Rattle.whole_run.proofs.files.read_if_there.Goals as goal
+
+pub returns : goal.returns
+returns g c = record {
+  given = tt;
+  stops = (
+    Read c.as_str.result.now (Err c.in-Err.failure) ∷ [],
+    c.in-Err.ensures,
+    (c.as_str.ensures.value ∙ c.in_ok-path.ensures, inl (refl, rw (c.as_str.ensures.value ∙ sym c.as_str-in-Err.ensures.value) c.of_file.ensures)),
+  );
+}

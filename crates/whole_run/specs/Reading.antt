@@ -1,0 +1,52 @@
+-- What a run reads: which files, in which order, and what they give it.
+use Rattle.std.specs.Prelude.{◌≡◌, ◌++◌, ◌∷◌, ◌⊎◌, ℕ, [], Bool, Err, List, Ok, Result, codes, string_bytes, true}
+use Rattle.outside.specs.Events.{Event, Read}
+use Rattle.outside.specs.Files.{in_folder}
+use Rattle.outside.specs.declared.failure.Failure.{Failure}
+use Rattle.outside.specs.declared.failure.Failure.TheVariants.{Missing}
+use Rattle.command_line.specs.declared.chosen.Options.{Options}
+use Rattle.replay_run.specs.declared.fault.Fault.TheVariants as faults
+use Rattle.replay_run.specs.declared.inputs.Inputs.{Inputs}
+use Rattle.whole_run.specs.Looking.{AreApart, StopsLooking}
+use Rattle.whole_run.specs.Sources.{files_of}
+use Rattle.whole_run.specs.declared.stop.Stop.{Stop}
+use Rattle.whole_run.specs.declared.stop.Stop.TheVariants as stops
+
+-- what a file that may be missing answers, and what is taken for its bytes
+abbrev pub IsAbsent : Result (List ℕ) Failure → List ℕ → Type 0
+IsAbsent answer text = (answer ≡ Ok text) ⊎ ((answer ≡ Err Missing) × (text ≡ []))
+
+-- The inputs are what these files answer, read once each, in this order.
+abbrev pub AreRead : Options → Inputs → List Event → Type 0
+AreRead o i events = (holds : Result (List ℕ) Failure) × IsAbsent holds i.tables.holds.items × (events ≡
+    Read (string_bytes o.policy) (Ok i.policy.items)
+    ∷ Read (in_folder (string_bytes o.base) (codes "patrons.csv")) (Ok i.tables.patrons.items)
+    ∷ Read (in_folder (string_bytes o.base) (codes "items.csv")) (Ok i.tables.items.items)
+    ∷ Read (in_folder (string_bytes o.base) (codes "loans.csv")) (Ok i.tables.loans.items)
+    ∷ Read (in_folder (string_bytes o.base) (codes "fees.csv")) (Ok i.tables.fees.items)
+    ∷ Read (in_folder (string_bytes o.base) (codes "closed.csv")) (Ok i.tables.closed.items)
+    ∷ Read (in_folder (string_bytes o.base) (codes "holds.csv")) holds
+    ∷ Read (string_bytes o.journal) (Ok i.journal.items) ∷ [])
+
+-- The same, after no file of the output was found to be one of them.
+abbrev pub AreGiven : Options → Inputs → List Event → Type 0
+AreGiven o i events = (looks : List Event) × (reads : List Event) × AreApart o looks × AreRead o i reads × (events ≡ looks ++ reads)
+
+-- A file that fails is told by its path, with the reason that it gave, or memory ran out.
+abbrev pub MayTell : List ℕ → Failure → Stop → Type 0
+MayTell path failure (stops.File told why) = (string_bytes told ≡ path) × (why ≡ failure)
+MayTell path failure (stops.Fault faults.Memory) = Unit {0}
+MayTell path failure stop = ⊥
+
+-- Of these files some are read, in this order; then one fails, or memory runs out.
+abbrev pub StopsReading : List (List ℕ × Bool) → List Event → Stop → Type 0
+StopsReading files [] stop = stop ≡ stops.Fault faults.Memory
+StopsReading (file ∷ files) (Read path (Ok bytes) ∷ events) stop = (path ≡ file.0) × StopsReading files events stop
+StopsReading (file ∷ files) (Read path (Err failure) ∷ events) stop = (path ≡ file.0)
+    × (((events ≡ []) × MayTell path failure stop) ⊎ ((file.1 ≡ true) × (failure ≡ Missing) × StopsReading files events stop))
+StopsReading files events stop = ⊥
+
+-- A run that stops before anything is judged: an output is an input, or a file can't be read.
+abbrev pub StopsBefore : Options → Stop → List Event → Type 0
+StopsBefore o stop events = StopsLooking o stop events
+    ⊎ ((looks : List Event) × (reads : List Event) × AreApart o looks × StopsReading (files_of o) reads stop × (events ≡ looks ++ reads))

@@ -1,0 +1,82 @@
+-- A whole run: what it asks of the outside, in this order, and the status that it ends with.
+use Rattle.std.specs.Prelude.{◌≡◌, ◌++◌, ◌+◌, ◌∷◌, ◌⊎◌, ℕ, [], Bool, Err, List, None, Ok, Option, Result, Some, codes, decimal, false, string_bytes, true}
+use Rattle.outside.specs.Events.{Event, Print, Tell}
+use Rattle.outside.specs.Files.{StopsWriting, all_written}
+use Rattle.outside.specs.declared.failure.Failure.{Failure}
+use Rattle.command_line.specs.declared.chosen.Options.{Options}
+use Rattle.replay_run.specs.ByWorkers.{IsByWorkers}
+use Rattle.replay_run.specs.declared.fault.Fault.{Fault}
+use Rattle.replay_run.specs.declared.fault.Fault.TheVariants as faults
+use Rattle.replay_run.specs.declared.inputs.Inputs.{Inputs}
+use Rattle.replay_run.specs.declared.inputs.Output.{Output}
+use Rattle.result_report.specs.declared.texts.Sizes.{Sizes}
+use Rattle.whole_run.specs.Reading.{AreGiven, MayTell, StopsBefore}
+use Rattle.whole_run.specs.Sources.{places_of}
+use Rattle.whole_run.specs.Statuses.{ended_status, status_of}
+use Rattle.whole_run.specs.Telling.{stop_text}
+use Rattle.whole_run.specs.declared.stop.Stop.{Stop}
+use Rattle.whole_run.specs.declared.stop.Stop.TheVariants as stops
+
+-- All files are read, and the replay of exactly these bytes gives this.
+abbrev pub IsReplayed : Options → Result Output Fault → List Event → Type 0
+IsReplayed o run reads = (i : Inputs) × AreGiven o i reads × IsByWorkers i o.workers run
+
+-- the files of an output, written into the folder that the words name
+abbrev pub writes_of : Options → Output → List Event
+writes_of o output = all_written (places_of (string_bytes o.out) output)
+
+-- the line that is printed at the end
+abbrev pub sizes_line : Sizes → List ℕ
+sizes_line s = codes "lines " ++ (decimal (s.answered + s.passed) ++ (codes " answered " ++ (decimal s.answered
+    ++ (codes " passed " ++ (decimal s.passed ++ (codes " differences " ++ (decimal s.differences ++ codes "\n")))))))
+
+-- The run comes to its end: it reads, writes all files of the output, and prints its sizes.
+abbrev pub HasEnded : Options → Sizes → List Event → Type 0
+HasEnded o sizes events = (output : Output) × (reads : List Event) × IsReplayed o (Ok output) reads × (sizes ≡ output.sizes)
+    × (events ≡ reads ++ (writes_of o output ++ Print (sizes_line sizes) true ∷ []))
+
+-- a text is no table
+abbrev pub IsTableFault : Fault → Type 0
+IsTableFault (faults.BaseTable table) = Unit {0}
+IsTableFault faults.JournalTable = Unit {0}
+IsTableFault fault = ⊥
+
+-- a stop of this fault; where a text is no table it may tell a row
+abbrev pub IsOf : Fault → Stop → Type 0
+IsOf fault (stops.Fault told) = told ≡ fault
+IsOf fault (stops.Uneven told row) = (told ≡ fault) × IsTableFault fault
+IsOf fault stop = ⊥
+
+-- The replay of what was read gives a fault; nothing is written.
+abbrev pub IsRefused : Options → Stop → List Event → Type 0
+IsRefused o stop events = (fault : Fault) × IsReplayed o (Err fault) events × IsOf fault stop
+
+-- It gives an output, of which a file can't be written.
+abbrev pub StopsAt : List ℕ → Output → Stop → List Event → Type 0
+StopsAt folder output stop events = (path : List ℕ) × (failure : Failure) × StopsWriting (places_of folder output) path failure events × MayTell path failure stop
+
+-- It gives an output, of which not all files can be written: memory runs out before the first one is touched, or one fails.
+abbrev pub IsCutShort : Options → Stop → List Event → Type 0
+IsCutShort o stop events = (output : Output) × (reads : List Event) × (writes : List Event) × IsReplayed o (Ok output) reads
+    × (((writes ≡ []) × (stop ≡ stops.Fault faults.Memory)) ⊎ StopsAt (string_bytes o.out) output stop writes) × (events ≡ reads ++ writes)
+
+-- All are written, and standard output doesn't take the line.
+abbrev pub IsUnprinted : Options → Stop → List Event → Type 0
+IsUnprinted o stop events = (output : Output) × (reads : List Event) × IsReplayed o (Ok output) reads × (stop ≡ stops.Output)
+    × (events ≡ reads ++ (writes_of o output ++ Print (sizes_line output.sizes) false ∷ []))
+
+-- The run is stopped: before anything is judged, by the replay, in writing or in printing.
+abbrev pub HasStopped : Options → Stop → List Event → Type 0
+HasStopped o stop events = StopsBefore o stop events ⊎ (IsRefused o stop events ⊎ (IsCutShort o stop events ⊎ IsUnprinted o stop events))
+
+-- what to do is told where the words ask for it, and may be told where they don't
+abbrev pub IsAsked : Options → Option Options → Type 0
+IsAsked o None = o.explain ≡ false
+IsAsked o (Some told) = told ≡ o
+
+-- A run that ends has the status of its differences. One that is stopped tells why, and has the status of that; nothing else is asked of the outside.
+abbrev pub IsRun : Options → ℕ → List Event → Type 0
+IsRun o status events =
+    ((sizes : Sizes) × HasEnded o sizes events × (status ≡ ended_status sizes.differences))
+    ⊎ ((stop : Stop) × (before : List Event) × (asked : Option Options) × (taken : Bool) × HasStopped o stop before × IsAsked o asked
+    × (events ≡ before ++ Tell (stop_text stop asked) taken ∷ []) × (status ≡ status_of stop))

@@ -1,0 +1,142 @@
+//! The files of a run: what it reads before anything is judged, and what it writes at its end.
+
+ghost use Rattle.std.specs.Prelude.{◌≡◌, ◌∷◌, ◌⊎◌, [], IfErr, IfOk, Ok, List, OnOk, map, true, false};
+ghost use Rattle.outside.specs.Events.{Did, Event, Read, after, noted};
+ghost use Rattle.outside.specs.Files.{all_written, in_folder};
+ghost use Rattle.outside.specs.Places.{place_of};
+ghost use Rattle.replay_run.specs.declared.fault.Fault.TheVariants as faults;
+ghost use Rattle.whole_run.specs.Reading.{AreGiven, AreRead, IsAbsent, StopsBefore, StopsReading};
+ghost use Rattle.whole_run.specs.Run.{StopsAt};
+ghost use Rattle.whole_run.specs.Sources.{files_of, places_of};
+ghost use Rattle.whole_run.specs.declared.stop.Stop.TheVariants as stops;
+
+use crate::looking::refuse_loss;
+use crate::stop::Stop;
+use command_line::Options;
+use outside::{Failure, Outside, Unwritten, file_in_folder, write_files};
+use replay_run::{Inputs, Output, Tables};
+use std::alloc::{AllocError, Global};
+
+/// Reads all inputs, after it has seen that no file of the output is one of them.
+pub fn read_inputs<O: Outside>(
+    outside: &mut O,
+    alloc: Global,
+    options: &Options,
+) -> Result<Inputs, Stop>
+    ensures given { IfOk result (λ inputs. Did (AreGiven options.now inputs) (O.log outside.old) (O.log outside.new)) }
+    ensures stops { IfErr result (λ stop. Did (StopsBefore options.now stop) (O.log outside.old) (O.log outside.new)) }
+{
+    refuse_loss(outside, alloc, options)?;
+    read_all(outside, alloc, options)
+}
+
+/// Reads the policy, the tables of the base and the journal, in this order.
+fn read_all<O: Outside>(outside: &mut O, alloc: Global, options: &Options) -> Result<Inputs, Stop>
+    ensures given { IfOk result (λ inputs. Did (AreRead options.now inputs) (O.log outside.old) (O.log outside.new)) }
+    ensures stops { IfErr result (λ stop. (events : List Event) × (O.log outside.new ≡ after events (O.log outside.old)) × StopsReading (files_of options.now) events stop) }
+{
+    let base = options.base.as_str();
+    let policy = read_file(outside, alloc, options.policy.as_str())?;
+    let patrons = read_in(outside, alloc, base, "patrons.csv")?;
+    let items = read_in(outside, alloc, base, "items.csv")?;
+    let loans = read_in(outside, alloc, base, "loans.csv")?;
+    let fees = read_in(outside, alloc, base, "fees.csv")?;
+    let closed = read_in(outside, alloc, base, "closed.csv")?;
+    let holds = read_if_there(outside, alloc, base, "holds.csv")?;
+    let journal = read_file(outside, alloc, options.journal.as_str())?;
+    let tables = Tables {
+        patrons,
+        items,
+        loans,
+        fees,
+        closed,
+        holds,
+    };
+    Ok(Inputs {
+        policy,
+        tables,
+        journal,
+    })
+}
+
+fn read_file<O: Outside>(outside: &mut O, alloc: Global, path: &str) -> Result<Vec<u8>, Stop>
+    ensures given { IfOk result (λ text. O.log outside.new ≡ noted (Read path.now (Ok text.items)) (O.log outside.old)) }
+    ensures stops { IfErr result (λ stop. (events : List Event) × (O.log outside.new ≡ after events (O.log outside.old)) × StopsReading ((path.now, false) ∷ []) events stop) }
+{
+    match outside.read(alloc, path) {
+        Ok(text) => Ok(text),
+        Err(failure) => Err(Stop::of_file(alloc, failure, path)),
+    }
+}
+
+fn read_in<O: Outside>(
+    outside: &mut O,
+    alloc: Global,
+    folder: &str,
+    name: &str,
+) -> Result<Vec<u8>, Stop>
+    ensures given { IfOk result (λ text. O.log outside.new ≡ noted (Read (in_folder folder.now name.now) (Ok text.items)) (O.log outside.old)) }
+    ensures stops { IfErr result (λ stop. (events : List Event) × (O.log outside.new ≡ after events (O.log outside.old)) × StopsReading ((in_folder folder.now name.now, false) ∷ []) events stop) }
+{
+    let path = file_in_folder(alloc, folder, name)?;
+    read_file(outside, alloc, path.as_str())
+}
+
+/// The bytes of a file, none where there is no such file. One that is there and can't be read is a stop.
+fn read_if_there<O: Outside>(
+    outside: &mut O,
+    alloc: Global,
+    folder: &str,
+    name: &str,
+) -> Result<Vec<u8>, Stop>
+    ensures given { IfOk result (λ text. (answer : _) × IsAbsent answer text.items × (O.log outside.new ≡ noted (Read (in_folder folder.now name.now) answer) (O.log outside.old))) }
+    ensures stops { IfErr result (λ stop. (events : List Event) × (O.log outside.new ≡ after events (O.log outside.old)) × StopsReading ((in_folder folder.now name.now, true) ∷ []) events stop) }
+{
+    let path = file_in_folder(alloc, folder, name)?;
+    match outside.read(alloc, path.as_str()) {
+        Ok(text) => Ok(text),
+        Err(Failure::Missing) => Ok(Vec::new(alloc)),
+        Err(failure) => Err(Stop::of_file(alloc, failure, path.as_str())),
+    }
+}
+
+/// Writes the tables, then the answers, the report and the passed lines. Each stands under its name only when it is whole;
+/// files written before one that fails stay. All memory is taken before the first file is touched.
+pub fn write_output<O: Outside>(
+    outside: &mut O,
+    alloc: Global,
+    folder: &str,
+    output: &Output,
+) -> Result<(), Stop>
+    ensures written { OnOk result (O.log outside.new ≡ after (all_written (places_of folder.now output.now)) (O.log outside.old)) }
+    ensures stops { IfErr result (λ stop. Did (λ events. ((events ≡ []) × (stop ≡ stops.Fault faults.Memory)) ⊎ StopsAt folder.now output.now stop events) (O.log outside.old) (O.log outside.new)) }
+{
+    let files = files_of_output(alloc, folder, output)?;
+    match write_files(outside, files.as_slice()) {
+        Ok(()) => Ok(()),
+        Err(unplaced) => Err(Stop::of_file(alloc, unplaced.failure, unplaced.path)),
+    }
+}
+
+/// The files of an output, in the order in which they are written.
+fn files_of_output<'a>(
+    alloc: Global,
+    folder: &str,
+    output: &'a Output,
+) -> Result<Vec<Unwritten<'a>>, AllocError>
+    ensures { IfOk result (λ files. map place_of files.items ≡ places_of folder.entry.now output.entry.now) }
+{
+    let tables = &output.tables;
+    let patrons = Unwritten::new(alloc, folder, "patrons.csv", tables.patrons.as_slice())?;
+    let items = Unwritten::new(alloc, folder, "items.csv", tables.items.as_slice())?;
+    let loans = Unwritten::new(alloc, folder, "loans.csv", tables.loans.as_slice())?;
+    let fees = Unwritten::new(alloc, folder, "fees.csv", tables.fees.as_slice())?;
+    let closed = Unwritten::new(alloc, folder, "closed.csv", tables.closed.as_slice())?;
+    let holds = Unwritten::new(alloc, folder, "holds.csv", tables.holds.as_slice())?;
+    let answers = Unwritten::new(alloc, folder, "answers.csv", output.answers.as_slice())?;
+    let report = Unwritten::new(alloc, folder, "report.csv", output.report.as_slice())?;
+    let passed = Unwritten::new(alloc, folder, "passed.csv", output.passed.as_slice())?;
+    Ok(vec![in alloc;
+        patrons, items, loans, fees, closed, holds, answers, report, passed,
+    ]?)
+}

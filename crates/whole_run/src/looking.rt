@@ -1,0 +1,160 @@
+//! No input is lost: where a file of the output would replace one that is read, the run ends before it begins.
+
+ghost use Rattle.std.specs.Prelude.{◌≡◌, IfErr, IfOk, OnErr, OnOk, map, option_map, string_bytes};
+ghost use Rattle.std.specs.List.{list_any, position};
+ghost use Rattle.outside.specs.Events.{Did};
+ghost use Rattle.whole_run.specs.Looking.{AreApart, AreFound, AreLooks, StopsLooking, input_at, is_among, is_found};
+ghost use Rattle.outside.specs.Files.{in_folder};
+ghost use Rattle.whole_run.specs.Sources.{files_of, paths_in};
+
+use crate::stop::{InputName, Stop};
+use command_line::Options;
+use outside::{FileId, Outside, file_in_folder};
+use std::alloc::{AllocError, Global};
+
+/// Looks up each file that is read and each that is to be written. One file that is both stops the run.
+pub fn refuse_loss<O: Outside>(
+    outside: &mut O,
+    alloc: Global,
+    options: &Options,
+) -> Result<(), Stop>
+    ensures apart { OnOk result (Did (AreApart options.now) (O.log outside.old) (O.log outside.new)) }
+    ensures stops { IfErr result (λ stop. Did (StopsLooking options.now stop) (O.log outside.old) (O.log outside.new)) }
+{
+    let inputs = paths_read(alloc, options)?;
+    let outputs = paths_written(alloc, options.out.as_str())?;
+    let read = find_all(outside, alloc, inputs.as_slice())?;
+    let written = find_all(outside, alloc, outputs.as_slice())?;
+    match lost(read.as_slice(), written.as_slice()) {
+        Some(input) => Err(Stop::of_loss(alloc, options, input)),
+        None => Ok(()),
+    }
+}
+
+/// The paths of the files that are read, in the order of reading.
+fn paths_read(alloc: Global, options: &Options) -> Result<Vec<String>, AllocError>
+    ensures { IfOk result (λ paths. map string_bytes paths.items ≡ map (λ f. f.0) (files_of options.now)) }
+{
+    let base = options.base.as_str();
+    let policy = String::from_str(alloc, options.policy.as_str())?;
+    let patrons = file_in_folder(alloc, base, "patrons.csv")?;
+    let items = file_in_folder(alloc, base, "items.csv")?;
+    let loans = file_in_folder(alloc, base, "loans.csv")?;
+    let fees = file_in_folder(alloc, base, "fees.csv")?;
+    let closed = file_in_folder(alloc, base, "closed.csv")?;
+    let holds = file_in_folder(alloc, base, "holds.csv")?;
+    let journal = String::from_str(alloc, options.journal.as_str())?;
+    Ok(vec![in alloc; policy, patrons, items, loans, fees, closed, holds, journal]?)
+}
+
+/// The paths that are written to in a folder: each file's, and the one beside it.
+fn paths_written(alloc: Global, folder: &str) -> Result<Vec<String>, AllocError>
+    ensures { IfOk result (λ paths. map string_bytes paths.items ≡ paths_in folder.now) }
+{
+    let names = [
+        "patrons.csv",
+        "patrons.csv.part",
+        "items.csv",
+        "items.csv.part",
+        "loans.csv",
+        "loans.csv.part",
+        "fees.csv",
+        "fees.csv.part",
+        "closed.csv",
+        "closed.csv.part",
+        "holds.csv",
+        "holds.csv.part",
+        "answers.csv",
+        "answers.csv.part",
+        "report.csv",
+        "report.csv.part",
+        "passed.csv",
+        "passed.csv.part",
+    ];
+    files_in_folder(alloc, folder, &names)
+}
+
+/// The paths of these files of a folder.
+fn files_in_folder(alloc: Global, folder: &str, names: &[&str]) -> Result<Vec<String>, AllocError>
+    ensures { IfOk result (λ paths. map string_bytes paths.items ≡ map (λ name. in_folder folder.now name.now) names.now) }
+{
+    let mut paths = Vec::with_capacity(alloc, names.len())?;
+    for name in names {
+        paths.push(file_in_folder(alloc, folder, *name)?)?;
+    }
+    Ok(paths)
+}
+
+/// Looks all these paths up.
+fn find_all<O: Outside>(
+    outside: &mut O,
+    alloc: Global,
+    paths: &[String],
+) -> Result<Vec<Option<FileId>>, AllocError>
+    ensures found { IfOk result (λ files. Did (AreFound (map string_bytes paths.now) files.items) (O.log outside.old) (O.log outside.new)) }
+    ensures stops { OnErr result (Did AreLooks (O.log outside.old) (O.log outside.new)) }
+{
+    let mut files = Vec::with_capacity(alloc, paths.len())?;
+    for path in paths {
+        let file = outside.find(path.as_str());
+        files.push(file)?;
+    }
+    Ok(files)
+}
+
+/// The first of the files that are read that is among those that are to be written, as the words call it.
+fn lost(read: &[Option<FileId>], written: &[Option<FileId>]) -> Option<InputName>
+    ensures { result ≡ option_map input_at (position (is_among written.now) read.now) }
+{
+    match first_among(read, written) {
+        Some(place) => Some(input_at(place)),
+        None => None,
+    }
+}
+
+/// The place of the first of some files that is among others.
+fn first_among(files: &[Option<FileId>], others: &[Option<FileId>]) -> Option<usize>
+    ensures { result ≡ position (is_among others.now) files.now }
+{
+    files.iter().position(|file| is_among(others, file))
+}
+
+/// What the words call the input of this place in the order of reading.
+fn input_at(place: usize) -> InputName
+    ensures { result ≡ input_at place }
+{
+    if place == 0 {
+        InputName::Policy
+    } else if place == 7 {
+        InputName::Journal
+    } else {
+        InputName::Base
+    }
+}
+
+/// Whether a file is among these, where it was found.
+fn is_among(files: &[Option<FileId>], file: &Option<FileId>) -> bool
+    ensures { result ≡ is_among files.now file.now }
+{
+    match file {
+        Some(file) => is_one_of(files, file),
+        None => false,
+    }
+}
+
+/// Whether a file is among these.
+fn is_one_of(files: &[Option<FileId>], file: &FileId) -> bool
+    ensures { result ≡ list_any (is_found file.now) files.now }
+{
+    files.iter().any(|other| is_found(file, other))
+}
+
+/// Whether it is this file that was found.
+fn is_found(file: &FileId, other: &Option<FileId>) -> bool
+    ensures { result ≡ is_found file.now other.now }
+{
+    match other {
+        Some(other) => file.device == other.device && file.number == other.number,
+        None => false,
+    }
+}

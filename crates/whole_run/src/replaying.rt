@@ -1,0 +1,167 @@
+//! The whole run: words, files, the replay, one line and the status.
+
+ghost use Rattle.std.specs.Prelude.{◌≡◌, ◌++◌, IfErr, IfOk, List, Ok, Some, map, option_map};
+ghost use Rattle.outside.specs.Events.{Did, Event};
+ghost use Rattle.replay_run.specs.declared.inputs.Output.{Output};
+ghost use Rattle.whole_run.specs.Run.{HasEnded, HasStopped, IsAsked, IsReplayed, IsRun, sizes_line, writes_of};
+ghost use Rattle.whole_run.specs.Statuses.{ended_status};
+ghost use Rattle.whole_run.specs.Words.{IsSession, TellsRefusal};
+
+use crate::files::{read_inputs, write_output};
+use crate::place::placed;
+use crate::progress::Progress;
+use crate::stop::{FAILED, REFUSED, Stop};
+use command_line::{Options, Refusal, options};
+use outside::Outside;
+use replay_run::{Fault, Sizes, rebuild};
+use std::convert::AsStr;
+use std::rt::Clock;
+use std::sync::Wait;
+use std::thread::Threads;
+use std::{fmt, io};
+
+/// The status of a run whose recorded responses all agree.
+const SAME: u8 = 0;
+
+/// The status of a run in which some recorded response differs.
+const DIFFERENT: u8 = 1;
+
+/// Reads the words, of which the first is the program's name, then the files, replays the journal, writes the
+/// files and prints one line. Gives the status of the program:
+///
+/// - 0 where no recorded response differs, and for help, whose text goes to standard output;
+/// - 1 where some recorded response differs;
+/// - 2 where the command line, the workers, the policy, a table or the journal is refused;
+/// - 3 where a file can't be read or written, standard output takes no text, or memory ran out.
+///
+/// What stopped the run is told on standard error, and what to do too where that is a terminal or the words ask for it.
+pub fn run<R: AllocGlobal + Threads + Wait + Sync + Clock + Eprint, S: AsStr, O: Outside>(
+    rt: &R,
+    outside: &mut O,
+    words: &[S],
+) -> u8
+    ensures { Did (IsSession (map S.text words.now) result) (O.log outside.old) (O.log outside.new) }
+{
+    match options(rt.alloc(), words) {
+        Ok(options) => run_with(rt, outside, &options),
+        Err(refusal) => refuse(&refusal, outside),
+    }
+}
+
+/// Tells that the system gave no words, or none that are text, and gives the status.
+pub fn refuse_words<O: Outside>(outside: &mut O, error: &io::Error) -> u8 {
+    if error.kind() == io::ErrorKind::OutOfMemory {
+        return Stop::Fault(Fault::Memory).tell(None, outside);
+    }
+    let _taken = outside.tell(&"error: a word of the command line isn't text\n");
+    REFUSED
+}
+
+/// The same, of what the words ask for.
+fn run_with<R: AllocGlobal + Threads + Wait + Sync + Clock + Eprint, O: Outside>(
+    rt: &R,
+    outside: &mut O,
+    options: &Options,
+) -> u8
+    ensures { Did (IsRun options.now result) (O.log outside.old) (O.log outside.new) }
+{
+    match replay(rt, outside, options) {
+        Ok(sizes) => status_of_end(sizes.differences),
+        Err(stop) => stop.tell(asked_of(options, outside.is_terminal()), outside),
+    }
+}
+
+/// What the run was asked for, where what to do about a stop is to be told too.
+fn asked_of(options: &Options, is_terminal: bool) -> Option<&Options>
+    ensures { IsAsked options.entry.now (option_map (λ o. o.now) result) }
+{
+    if options.explain || is_terminal {
+        Some(options)
+    } else {
+        None
+    }
+}
+
+fn status_of_end(differences: u64) -> u8
+    ensures { result ≡ ended_status differences }
+{
+    if differences == 0 { SAME } else { DIFFERENT }
+}
+
+/// Tells what stands against the words: prints help, tells a refusal.
+fn refuse<O: Outside>(refusal: &Refusal, outside: &mut O) -> u8
+    ensures { Did (TellsRefusal refusal.now result) (O.log outside.old) (O.log outside.new) }
+{
+    match refusal {
+        Refusal::Help(text) => { if outside.print(text) { SAME } else { FAILED } }
+        Refusal::Words(text) => {
+            let _taken = outside.tell(text);
+            REFUSED
+        }
+        Refusal::Memory => Stop::Fault(Fault::Memory).tell(None, outside),
+    }
+}
+
+/// Does the run, shows meanwhile how far it has come where that is to be seen, and prints the line.
+fn replay<R: AllocGlobal + Threads + Wait + Sync + Clock + Eprint, O: Outside>(
+    rt: &R,
+    outside: &mut O,
+    options: &Options,
+) -> Result<Sizes, Stop>
+    ensures ended { IfOk result (λ sizes. Did (HasEnded options.now sizes) (O.log outside.old) (O.log outside.new)) }
+    ensures stops { IfErr result (λ stop. Did (HasStopped options.now stop) (O.log outside.old) (O.log outside.new)) }
+{
+    let progress = Progress::new(rt, outside.is_terminal());
+    let ended = rewrite(rt, outside, options, &progress);
+    progress.clear();
+    let sizes = ended?;
+    if outside.print(&SizesLine { sizes }) {
+        Ok(sizes)
+    } else {
+        Err(Stop::Output)
+    }
+}
+
+/// Reads all files before any of them is judged, replays the journal by the workers, and writes all files.
+fn rewrite<R: AllocGlobal + Threads + Wait + Sync + Clock + Eprint, O: Outside>(
+    rt: &R,
+    outside: &mut O,
+    options: &Options,
+    progress: &Progress<'_, R>,
+) -> Result<Sizes, Stop>
+    ensures written { IfOk result (λ sizes. Did (λ events. (output : Output) × (reads : List Event) × IsReplayed options.now (Ok output) reads × (sizes ≡ output.sizes)
+        × (events ≡ reads ++ writes_of options.now output)) (O.log outside.old) (O.log outside.new)) }
+    ensures stops { IfErr result (λ stop. Did (HasStopped options.now stop) (O.log outside.old) (O.log outside.new)) }
+{
+    let inputs = read_inputs(outside, rt.alloc(), options)?;
+    progress.expect(inputs.journal.as_slice());
+    let output = match rebuild(rt, rt.alloc(), &inputs, options.workers, progress) {
+        Ok(output) => output,
+        Err(fault) => return Err(placed(rt.alloc(), fault, &inputs)),
+    };
+    write_output(outside, rt.alloc(), options.out.as_str(), &output)?;
+    Ok(output.sizes)
+}
+
+/// The line that is printed at the end.
+#[derive(Clone, Copy)]
+struct SizesLine {
+    sizes: Sizes,
+}
+
+impl fmt::Display for SizesLine {
+    ghost output = { λ line. Some (sizes_line line.sizes) };
+
+    fn fmt<W: fmt::Write>(&self, f: &mut fmt::Formatter<W>) -> fmt::Result {
+        let Sizes {
+            answered,
+            passed,
+            differences,
+        } = self.sizes;
+        let lines = u128::from(answered) + u128::from(passed);
+        write!(
+            f,
+            "lines {lines} answered {answered} passed {passed} differences {differences}\n"
+        )
+    }
+}

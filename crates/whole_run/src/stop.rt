@@ -1,0 +1,135 @@
+//! What ends a run before its last line is printed, and the status that tells it.
+
+ghost use Rattle.std.specs.Prelude.{◌≡◌, Bool, Some, option_map};
+ghost use Rattle.outside.specs.Events.{Tell, noted};
+ghost use Rattle.replay_run.specs.declared.fault.Fault.TheVariants as faults;
+ghost use Rattle.whole_run.specs.Reading.{MayTell};
+ghost use Rattle.whole_run.specs.Looking.{TellsLoss};
+ghost use Rattle.whole_run.specs.Statuses.{status_of};
+ghost use Rattle.whole_run.specs.Telling.{line_of, loss_of, stop_text};
+ghost use Rattle.whole_run.specs.declared.stop.Stop.TheVariants as stops;
+
+use crate::remedy::StopText;
+use command_line::Options;
+use outside::{Failure, Outside};
+use replay_run::Fault;
+use std::alloc::{AllocError, Global};
+use std::fmt;
+
+/// The status of a command line, a policy, a table or a journal that is refused.
+pub const REFUSED: u8 = 2;
+
+/// The status of a run that a file, memory or a counter's end stopped.
+pub const FAILED: u8 = 3;
+
+/// The last fault that names something in the inputs.
+const LAST_REFUSAL: u8 = 7;
+
+/// An input, by the option that names it.
+#[derive(Clone, Copy)]
+pub enum InputName {
+    Policy,
+    Base,
+    Journal,
+}
+
+/// Which files of the output would replace it.
+impl fmt::Display for InputName {
+    ghost output = { λ input. Some (loss_of input) };
+
+    fn fmt<W: fmt::Write>(&self, f: &mut fmt::Formatter<W>) -> fmt::Result {
+        match self {
+            InputName::Policy => f.write_str("files would replace that of --policy"),
+            InputName::Base => f.write_str("tables would replace those of --base"),
+            InputName::Journal => f.write_str("files would replace that of --journal"),
+        }
+    }
+}
+
+/// Why a run ends before its last line is printed.
+#[derive(Drop)]
+pub enum Stop {
+    /// The replay gave no output.
+    Fault(Fault),
+    /// A text is no table, which is this fault, since a row has another number of fields than the first one. So many rows
+    /// stand before it.
+    Uneven { fault: Fault, row: u64 },
+    /// A file of the folder for the output is one that is read.
+    Replaces { out: String, input: InputName },
+    /// The file of this path can't be read or written.
+    File { path: String, failure: Failure },
+    /// Standard output takes nothing more.
+    Output,
+}
+
+/// The line that is told of a stop; nothing of standard output that fails.
+impl fmt::Display for Stop {
+    ghost output = { λ stop. Some (line_of stop) };
+
+    fn fmt<W: fmt::Write>(&self, f: &mut fmt::Formatter<W>) -> fmt::Result {
+        match self {
+            Stop::Fault(fault) => write!(f, "fault {}: {fault}\n", fault.number()),
+            Stop::Uneven { fault, .. } => write!(f, "fault {}: {fault}\n", fault.number()),
+            Stop::Replaces { out, input } => write!(
+                f,
+                "error: invalid value '{out}' for '--out <DIR>': its {input}\n\nFor more information, try '--help'.\n"
+            ),
+            Stop::File { path, .. } => write!(f, "file: {path}\n"),
+            Stop::Output => f.write_str(""),
+        }
+    }
+}
+
+impl From<AllocError> for Stop {
+    ghost from_gives = { λ _ stop. stop ≡ stops.Fault faults.Memory };
+
+    fn from(_error: AllocError) -> Stop {
+        Stop::Fault(Fault::Memory)
+    }
+}
+
+impl Stop {
+    /// The stop of a file that failed. Where memory is what it lacked, the file isn't to blame.
+    pub fn of_file(alloc: Global, failure: Failure, path: &str) -> Stop
+        ensures { MayTell path.now failure result }
+    {
+        if let Failure::Memory = failure {
+            return Stop::Fault(Fault::Memory);
+        }
+        match String::from_str(alloc, path) {
+            Ok(path) => Stop::File { path, failure },
+            Err(error) => Stop::from(error),
+        }
+    }
+
+    /// The stop of a run whose output would replace an input.
+    pub fn of_loss(alloc: Global, options: &Options, input: InputName) -> Stop
+        ensures { TellsLoss options.now input result }
+    {
+        match String::from_str(alloc, options.out.as_str()) {
+            Ok(out) => Stop::Replaces { out, input },
+            Err(error) => Stop::from(error),
+        }
+    }
+
+    /// Tells what stopped the run, and gives its status. Where what was asked for is given, what to do is told too.
+    /// That it can't be told changes no status.
+    pub fn tell<O: Outside>(&self, asked: Option<&Options>, outside: &mut O) -> u8
+        ensures status { result ≡ status_of self.now }
+        ensures told { (taken : Bool) × (O.log outside.new ≡ noted (Tell (stop_text self.now (option_map (λ o. o.now) asked.entry)) taken) (O.log outside.old)) }
+    {
+        let _taken = outside.tell(&StopText { stop: self, asked });
+        self.status()
+    }
+
+    fn status(&self) -> u8
+        ensures { result ≡ status_of self.now }
+    {
+        match self {
+            Stop::Fault(fault) if fault.number() <= LAST_REFUSAL => REFUSED,
+            Stop::Uneven { .. } => REFUSED,
+            Stop::Replaces { .. } => REFUSED,
+            _ => FAILED,
+        }
+    }
+}

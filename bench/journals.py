@@ -10,7 +10,7 @@ import sys
 sys.dont_write_bytecode = True
 here = os.path.dirname(os.path.abspath(__file__))
 example = os.path.join(here, '..', 'examples', 'library-day')
-home = os.path.join(here, '..', 'model')
+home = os.path.join(here, '..', 'tests', 'model')
 sys.path.insert(0, home)
 
 import day

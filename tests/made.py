@@ -1,0 +1,60 @@
+"""For cases too long to be kept: a case's `make` writes its inputs, and what tests/model/model.py makes of them."""
+import os
+import sys
+
+sys.dont_write_bytecode = True
+sys.path.insert(0, os.path.join(os.path.dirname(os.path.abspath(__file__)), 'model'))
+
+import model
+
+POLICY = '''institution = "L1"
+currency = "USD"
+due_form = "sip"
+closed_weekdays = ["sunday"]
+[class.A]
+max_loans = 2
+max_fees = 1000
+max_renewals = 1
+[media.001]
+days = 14
+rental = 0
+late = 25
+cap = 500
+'''
+PATRON = ('P1', 'Ann', 'A', 'N')
+ITEM = ('I1', 'One', '001', 'Main', '')
+JOURNAL = 'line,connection,request,response\n'
+
+
+def write_inputs(journal, **rows):
+    """Writes the policy, the tables with these rows, and the journal's text."""
+    model.write('policy.toml', POLICY)
+    os.mkdir('base')
+    for table in model.TABLES:
+        model.write(f'base/{table}.csv', model.text_of(table, rows.get(table, [])))
+    model.write('journal.csv', journal)
+
+
+def write_told(status, stdout='', stderr=''):
+    for name, text in (('status', f'{status}\n'), ('stdout', stdout), ('stderr', stderr)):
+        model.write(name, text)
+
+
+def answers(requests, **rows):
+    """What each request, counted from 1, is answered over these rows."""
+    records = records_of(rows)
+    return [model.answer_of(records, line, request)[0] for line, request in enumerate(requests, 1)]
+
+
+def records_of(rows):
+    return model.Records(model.Policy(POLICY), {table: rows.get(table, []) for table in model.TABLES})
+
+
+def write_replayed(journal, **rows):
+    """Writes the inputs with these rows of the journal, and what a replay gives."""
+    write_inputs(model.text_of('journal', journal), **rows)
+    files, line = model.replay(records_of(rows), journal)
+    os.mkdir('expected')
+    for name, text in files.items():
+        model.write(f'expected/{name}', text)
+    write_told(0 if line.endswith('differences 0\n') else 1, line)

@@ -88,7 +88,7 @@ def folders_and_files(told):
     kinds = {"folder": [], "file": [], "other": []}
     for words, value, _ in told.options:
         if value and words:
-            kinds["folder" if "DIR" in value else "file" if value == "<F>" else "other"].append(words[-1])
+            kinds["folder" if "DIR" in value else "file" if value.rstrip(".") == "<F>" else "other"].append(words[-1])
     return kinds
 
 

@@ -1,10 +1,10 @@
 -- What the text of a message in a log spells, by how the log spells bytes.
-use Rattle.std.specs.Prelude.{◌+◌, ◌-◌, ◌*◌, ◌&&◌, ℕ, suc, zero, Bool, nat_le, List, [], ◌∷◌, Option, Some, None, option_map, slice_get, codes, if◌then◌else◌, nat_eq}
+use Rattle.std.specs.Prelude.{◌+◌, ◌-◌, ◌*◌, ◌&&◌, ℕ, suc, zero, Bool, nat_le, nat_lt, List, [], ◌∷◌, Option, Some, None, option_map, slice_get, codes, if◌then◌else◌, nat_eq}
 use Rattle.std.specs.List.{starts_with}
 use Rattle.std.specs.Option.{option_and_then}
 use Rattle.sip_reader.specs.Bytes as byte
 use Rattle.log_pairs.specs.declared.escapes.Escapes.{Escapes}
-use Rattle.log_pairs.specs.declared.escapes.Escapes.TheVariants.{Bare, Backslash, Angle, Hexadecimal}
+use Rattle.log_pairs.specs.declared.escapes.Escapes.TheVariants.{Bare, Backslash, Angle, Hexadecimal, Octal}
 
 -- a byte, and how many bytes behind the first its spelling has
 abbrev pub Spelling : Type 0
@@ -62,11 +62,34 @@ angle text =
     else if has_front text (codes "<LF>") then Some (byte.LF, 3)
     else bare text
 
+-- an octal digit: 0 to 7
+abbrev pub octal_digit : ℕ → Option ℕ
+octal_digit b = if in_range byte.zero (byte.zero + 7) b then Some (b - byte.zero) else None
+
+abbrev pub octal_at : Option ℕ → Option ℕ
+octal_at None = None
+octal_at (Some b) = octal_digit b
+
+abbrev pub of_octal : Option ℕ → Option ℕ → Option ℕ → Option Spelling
+of_octal None middle low = None
+of_octal (Some high) None low = None
+of_octal (Some high) (Some middle) None = None
+of_octal (Some high) (Some middle) (Some low) = if nat_lt high 4 then Some (64 * high + 8 * middle + low, 3) else None
+
+-- three octal digits of a byte, behind the first byte
+abbrev pub triple : List ℕ → Option Spelling
+triple text = of_octal (octal_at (slice_get text 1)) (octal_at (slice_get text 2)) (octal_at (slice_get text 3))
+
+-- # with three octal digits, as rsyslog writes control characters
+abbrev pub octal : List ℕ → Option Spelling
+octal text = if has_front text (codes "#") then else_bare text (triple text) else bare text
+
 abbrev pub spelled : Escapes → List ℕ → Option Spelling
 spelled Bare text = bare text
 spelled Backslash text = backslash text
 spelled Angle text = angle text
 spelled Hexadecimal text = pair text 0
+spelled Octal text = octal text
 
 -- what a text spells behind so many bytes that are spelled already
 abbrev pub message_from : Escapes → ℕ → List ℕ → Option (List ℕ)

@@ -1,4 +1,5 @@
 pub mod Devices
 pub mod Escapes
+pub mod Odd
 pub mod Pairs
 pub mod Rows

@@ -16,6 +16,8 @@ pub enum Escapes {
     Angle,
     /// Two hexadecimal digits for each byte, and nothing else.
     Hexadecimal,
+    /// `#` with three octal digits, as rsyslog writes control characters; another `#` stands for itself.
+    Octal,
 }
 
 /// The message that a text spells; none where that is no spelling of one.
@@ -51,6 +53,7 @@ fn spelled(escapes: Escapes, text: &[u8]) -> Option<(u8, usize)>
         Escapes::Backslash => backslash(text),
         Escapes::Angle => angle(text),
         Escapes::Hexadecimal => pair(text, 0),
+        Escapes::Octal => octal(text),
     }
 }
 
@@ -93,6 +96,44 @@ fn angle(text: &[u8]) -> Option<(u8, usize)>
         Some((b'\n', 3))
     } else {
         bare(text)
+    }
+}
+
+fn octal(text: &[u8]) -> Option<(u8, usize)>
+    ensures { result ≡ Spec.octal text.now }
+{
+    if text.starts_with(b"#") {
+        match triple(text) {
+            Some(found) => Some(found),
+            None => bare(text),
+        }
+    } else {
+        bare(text)
+    }
+}
+
+/// The byte of the three octal digits after the first byte; none of a number above 255.
+fn triple(text: &[u8]) -> Option<(u8, usize)>
+    ensures { result ≡ Spec.triple text.now }
+{
+    let high = octal_digit(*text.get(1)?)?;
+    let middle = octal_digit(*text.get(2)?)?;
+    let low = octal_digit(*text.get(3)?)?;
+    if high < 4 {
+        Some((64 * high + 8 * middle + low, 3))
+    } else {
+        None
+    }
+}
+
+/// The value of an octal digit.
+fn octal_digit(byte: u8) -> Option<u8>
+    ensures value { result ≡ Spec.octal_digit byte }
+    ensures small { IfSome result (λ d. d < 8) }
+{
+    match byte {
+        b'0'..=b'7' => Some(byte - b'0'),
+        _ => None,
     }
 }
 

@@ -4,10 +4,12 @@
 
 mod escapes;
 mod exchange;
+mod odd;
 mod pairing;
 mod rows;
 
 pub use escapes::{Escapes, unescaped};
 pub use exchange::Exchange;
+pub use odd::{Odd, Side, odd_of};
 pub use pairing::Pairing;
 pub use rows::{head_text, joins, reads_back, rows_text};

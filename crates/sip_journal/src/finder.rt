@@ -1,6 +1,6 @@
 //! What a line of a log says, by the expressions of the command line.
 
-use crate::chosen::Options;
+use crate::chosen::{Form, Layout};
 use crate::stop::Stop;
 use log_pairs::{Escapes, unescaped};
 use regex::RegexBuilder;
@@ -8,59 +8,66 @@ use regex::bytes::{Matcher, Regex};
 use std::alloc::{AllocError, Global};
 
 /// The expressions of a run. `.` and the classes stand for bytes, whatever text they are of.
+#[derive(Drop)]
 pub struct Expressions {
     request: Regex,
     response: Regex,
     connection: Option<Regex>,
+    mark: Option<Regex>,
+    layout: Layout,
     escapes: Escapes,
 }
 
-impl Drop for Expressions {
-    fn drop(self) {
-        let Expressions {
-            request: _,
-            response: _,
-            connection: _,
-            escapes: _,
-        } = self;
-    }
-}
-
 impl Expressions {
-    /// Compiles what the options give; each expression has one group.
-    pub fn new(alloc: Global, options: &Options) -> Result<Expressions, Stop> {
-        let connection = match &options.connection {
-            Some(text) => Some(compiled(alloc, "--connection", text.as_str())?),
+    /// Compiles those of a form; each has one group, but for a mark's.
+    pub fn new(alloc: Global, form: &Form) -> Result<Expressions, Stop> {
+        let connection = match &form.connection {
+            Some(text) => Some(with_group(alloc, "--connection", text.as_str())?),
+            None => None,
+        };
+        let mark = match &form.mark {
+            Some(text) => Some(compiled(alloc, "--mark", text.as_str())?),
             None => None,
         };
         Ok(Expressions {
-            request: compiled(alloc, "--request", options.request.as_str())?,
-            response: compiled(alloc, "--response", options.response.as_str())?,
+            request: with_group(alloc, "--request", form.request.as_str())?,
+            response: with_group(alloc, "--response", form.response.as_str())?,
             connection,
-            escapes: options.escapes,
+            mark,
+            layout: form.layout,
+            escapes: form.escapes,
         })
     }
 
     /// What searches lines for them.
     pub fn finder(&self, alloc: Global) -> Result<Finder<'_>, AllocError> {
-        let connection = match &self.connection {
-            Some(regex) => Some(regex.matcher(alloc)?),
-            None => None,
-        };
         Ok(Finder {
             request: self.request.matcher(alloc)?,
             response: self.response.matcher(alloc)?,
-            connection,
+            connection: matcher_of(alloc, &self.connection)?,
+            mark: matcher_of(alloc, &self.mark)?,
+            layout: self.layout,
             escapes: self.escapes,
         })
     }
 }
 
+fn matcher_of(alloc: Global, regex: &Option<Regex>) -> Result<Option<Matcher<'_>>, AllocError> {
+    match regex {
+        Some(regex) => Ok(Some(regex.matcher(alloc)?)),
+        None => Ok(None),
+    }
+}
+
 fn compiled(alloc: Global, option: &str, text: &str) -> Result<Regex, Stop> {
-    let regex = match RegexBuilder::new(text).unicode(false).build_bytes(alloc) {
-        Ok(regex) => regex,
-        Err(error) => return Err(Stop::of_expression(alloc, option, &error)),
-    };
+    match RegexBuilder::new(text).unicode(false).build_bytes(alloc) {
+        Ok(regex) => Ok(regex),
+        Err(error) => Err(Stop::of_expression(alloc, option, &error)),
+    }
+}
+
+fn with_group(alloc: Global, option: &str, text: &str) -> Result<Regex, Stop> {
+    let regex = compiled(alloc, option, text)?;
     if regex.captures_len() != 2 {
         return Err(Stop::refused(
             alloc,
@@ -71,28 +78,21 @@ fn compiled(alloc: Global, option: &str, text: &str) -> Result<Regex, Stop> {
     Ok(regex)
 }
 
-/// Which side a message is of.
-#[derive(Clone, Copy)]
-pub enum Side {
-    Request,
-    Response,
-}
-
-/// What a line says.
+/// What a line says: of which connection, and a request, a response, or both.
 pub struct Said<'l> {
-    pub side: Side,
     /// The name of the connection, as the line has it.
     pub connection: &'l [u8],
-    /// The message, without the log's spelling of bytes.
-    pub message: Vec<u8>,
+    /// The messages, without the log's spelling of bytes.
+    pub request: Option<Vec<u8>>,
+    pub response: Option<Vec<u8>>,
 }
 
 impl Drop for Said<'_> {
     fn drop(self) {
         let Said {
-            side: _,
             connection: _,
-            message: _,
+            request: _,
+            response: _,
         } = self;
     }
 }
@@ -102,6 +102,8 @@ pub struct Finder<'r> {
     request: Matcher<'r>,
     response: Matcher<'r>,
     connection: Option<Matcher<'r>>,
+    mark: Option<Matcher<'r>>,
+    layout: Layout,
     escapes: Escapes,
 }
 
@@ -111,21 +113,40 @@ impl Drop for Finder<'_> {
             request: _,
             response: _,
             connection: _,
+            mark: _,
+            layout: _,
             escapes: _,
         } = self;
     }
 }
 
 impl<'r> Finder<'r> {
-    /// What a line says; nothing where it has no message, no name of a connection, or a message that isn't spelled rightly.
+    /// Whether a line is read as one with the next.
+    pub fn is_mark(&mut self, line: &[u8]) -> bool {
+        match &mut self.mark {
+            Some(matcher) => matcher.is_match(line),
+            None => false,
+        }
+    }
+
+    /// Whether lines are JSON objects.
+    pub fn reads_json(&self) -> bool {
+        match self.layout {
+            Layout::Json => true,
+            _ => false,
+        }
+    }
+
+    /// What a line says; nothing where it has no message, no name of a connection, or no message that is spelled rightly.
     pub fn find<'l>(
         &mut self,
         alloc: Global,
         line: &'l [u8],
     ) -> Result<Option<Said<'l>>, AllocError> {
-        let Some((side, text)) = self.message(line) else {
+        let (request, response) = self.texts(line);
+        if request.is_none() && response.is_none() {
             return Ok(None);
-        };
+        }
         let connection: &[u8] = match &mut self.connection {
             Some(matcher) => match group(matcher, line) {
                 Some(name) => name,
@@ -133,21 +154,41 @@ impl<'r> Finder<'r> {
             },
             None => &[],
         };
-        match unescaped(alloc, self.escapes, text)? {
-            Some(message) => Ok(Some(Said {
-                side,
-                connection,
-                message,
-            })),
-            None => Ok(None),
+        let request = spelled(alloc, self.escapes, request)?;
+        let response = spelled(alloc, self.escapes, response)?;
+        if request.is_none() && response.is_none() {
+            return Ok(None);
         }
+        Ok(Some(Said {
+            connection,
+            request,
+            response,
+        }))
     }
 
-    fn message<'l>(&mut self, line: &'l [u8]) -> Option<(Side, &'l [u8])> {
-        match group(&mut self.request, line) {
-            Some(text) => Some((Side::Request, text)),
-            None => Some((Side::Response, group(&mut self.response, line)?)),
+    /// The texts of a request and a response in a line. One that has a request has a response where that is the log's form.
+    fn texts<'l>(&mut self, line: &'l [u8]) -> (Option<&'l [u8]>, Option<&'l [u8]>) {
+        let request = group(&mut self.request, line);
+        match self.layout {
+            Layout::Pair => (
+                request,
+                group(&mut self.response, line).filter(|text| !text.is_empty()),
+            ),
+            _ if request.is_some() => (request, None),
+            _ => (None, group(&mut self.response, line)),
         }
+    }
+}
+
+/// The message that a text spells, if there is one.
+fn spelled(
+    alloc: Global,
+    escapes: Escapes,
+    text: Option<&[u8]>,
+) -> Result<Option<Vec<u8>>, AllocError> {
+    match text {
+        Some(text) => unescaped(alloc, escapes, text),
+        None => Ok(None),
     }
 }
 

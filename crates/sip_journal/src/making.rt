@@ -1,28 +1,14 @@
 //! A journal while it is made: exchanges leave it as soon as they are whole.
 
-use crate::finder::{Said, Side};
 use crate::stop::Stop;
 use journal_table::{CONNECTION_LIMIT, LINE_LIMIT};
-use log_pairs::{Exchange, Pairing, head_text, rows_text};
+use log_pairs::{Exchange, Pairing, Side, head_text, rows_text};
 use sip_reader::LINE_NUMBER_END;
 use std::alloc::Global;
 use std::io::Write;
 
 /// How many exchanges are written at once.
 const ROWS: usize = 4096;
-
-/// What a run counts.
-#[derive(Clone, Copy)]
-pub struct Counts {
-    pub lines: u64,
-    pub exchanges: u64,
-    /// Requests without a response.
-    pub unanswered: u64,
-    /// Responses without a request.
-    pub unasked: u64,
-    /// Lines that say nothing.
-    pub skipped: u64,
-}
 
 /// The journal that is made. What isn't written yet is kept.
 pub struct Making {
@@ -32,7 +18,13 @@ pub struct Making {
     ready: Vec<Exchange>,
     /// The number of the first of them.
     number: u64,
-    pub counts: Counts,
+    /// Whether the header was written.
+    begun: bool,
+    exchanges: u64,
+    /// Requests without a response.
+    unanswered: u64,
+    /// Responses without a request.
+    unasked: u64,
 }
 
 impl Drop for Making {
@@ -42,7 +34,10 @@ impl Drop for Making {
             pairing: _,
             ready: _,
             number: _,
-            counts: _,
+            begun: _,
+            exchanges: _,
+            unanswered: _,
+            unasked: _,
         } = self;
     }
 }
@@ -55,68 +50,73 @@ impl Making {
             pairing: Pairing::new(alloc),
             ready: Vec::new(alloc),
             number: first,
-            counts: Counts {
-                lines: 0,
-                exchanges: 0,
-                unanswered: 0,
-                unasked: 0,
-                skipped: 0,
-            },
+            begun: false,
+            exchanges: 0,
+            unanswered: 0,
+            unasked: 0,
         }
     }
 
-    /// Writes the header.
-    pub fn begin<W: Write>(&self, out: &mut W) -> Result<(), Stop> {
-        write_to(out, head_text(self.alloc)?.as_slice())
+    /// How many exchanges are whole, written or not.
+    pub fn exchanges(&self) -> u64 {
+        self.exchanges
     }
 
-    /// Takes what the next line says. Gives why the line is refused, if it is, and whether it is a response without a request.
-    pub fn take<W: Write>(&mut self, said: &Said<'_>, out: &mut W) -> Result<Taken, Stop> {
-        if said.connection.len() > CONNECTION_LIMIT {
+    /// How many of them lack a response.
+    pub fn unanswered(&self) -> u64 {
+        self.unanswered
+    }
+
+    /// How many responses had no request.
+    pub fn unasked(&self) -> u64 {
+        self.unasked
+    }
+
+    /// Whether so many exchanges are whole that they should be written.
+    pub fn is_full(&self) -> bool {
+        self.ready.len() >= ROWS
+    }
+
+    /// Takes the next message.
+    pub fn take(&mut self, connection: &[u8], side: Side, message: &[u8]) -> Result<Taken, Stop> {
+        if connection.len() > CONNECTION_LIMIT {
             return Ok(Taken::Refused("the name of the connection has more than 64 bytes"));
         }
-        match said.side {
+        match side {
             Side::Request => {
                 if self.pairing.asked() >= LINE_LIMIT {
                     return Ok(Taken::Refused(
                         "more than 1,000,000 requests: a journal has no more lines",
                     ));
                 }
-                self.pairing
-                    .ask(self.alloc, said.connection, &said.message)?;
+                self.pairing.ask(self.alloc, connection, message)?;
             }
             Side::Response => {
-                if !self
-                    .pairing
-                    .answer(self.alloc, said.connection, &said.message)?
-                {
-                    self.counts.unasked = self.counts.unasked.saturating_add(1);
+                if !self.pairing.answer(self.alloc, connection, message)? {
+                    self.unasked = self.unasked.saturating_add(1);
                     return Ok(Taken::Unasked);
                 }
             }
         }
         self.collect()?;
-        if self.ready.len() >= ROWS {
-            self.write(out)?;
-        }
         Ok(Taken::Paired)
     }
 
-    /// The logs are at their end: writes what is left.
-    pub fn end<W: Write>(&mut self, out: &mut W) -> Result<(), Stop> {
+    /// No message comes any more: requests that are open stay without a response.
+    pub fn close(&mut self) -> Result<(), Stop> {
         self.pairing.close();
-        self.collect()?;
-        self.write(out)
+        self.collect()
     }
 
-    /// Takes out the exchanges that are whole.
+    /// Takes what can't change any more from what waits.
     fn collect(&mut self) -> Result<(), Stop> {
         for _ in 0..self.pairing.waiting() {
             let Some(exchange) = self.pairing.next() else {
                 break;
             };
+            self.exchanges = self.exchanges.saturating_add(1);
             if exchange.response().is_none() {
-                self.counts.unanswered = self.counts.unanswered.saturating_add(1);
+                self.unanswered = self.unanswered.saturating_add(1);
             }
             if self.ready.push(exchange).is_err() {
                 return Err(Stop::Memory);
@@ -125,8 +125,12 @@ impl Making {
         Ok(())
     }
 
-    /// Writes the exchanges that are whole.
-    fn write<W: Write>(&mut self, out: &mut W) -> Result<(), Stop> {
+    /// Writes the exchanges that are whole, under the header where nothing was written yet.
+    pub fn write<W: Write>(&mut self, out: &mut W) -> Result<(), Stop> {
+        if !self.begun {
+            write_to(out, head_text(self.alloc)?.as_slice())?;
+            self.begun = true;
+        }
         let count = self.ready.len() as u64;
         let after = self.number.saturating_add(count);
         if after > LINE_NUMBER_END {
@@ -140,12 +144,11 @@ impl Making {
         write_to(out, text.as_slice())?;
         self.ready.clear();
         self.number = after;
-        self.counts.exchanges = self.counts.exchanges.saturating_add(count);
         Ok(())
     }
 }
 
-/// What became of a line with a message.
+/// What became of a message.
 #[derive(Clone, Copy)]
 pub enum Taken {
     Paired,

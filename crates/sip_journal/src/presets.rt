@@ -1,7 +1,9 @@
 //! Forms of lines that logs have, by a name. They are written from memory of such logs: docs/MAKE-A-JOURNAL.md.
 //! Each expression begins at the line's head, so that no text of a message is taken for the mark of a side.
 
+use crate::chosen::{Form, Layout};
 use log_pairs::Escapes;
+use std::alloc::{AllocError, Global};
 
 /// How a log writes messages.
 #[derive(Clone, Copy)]
@@ -10,16 +12,101 @@ pub struct Preset {
     pub request: &'static str,
     pub response: &'static str,
     pub connection: &'static str,
+    pub mark: Option<&'static str>,
+    pub layout: Layout,
     pub escapes: Escapes,
 }
 
-static PRESETS: [Preset; 3] = [
+/// All presets. Of two that fit a log alike the first is named first.
+pub static PRESETS: [Preset; 11] = [
+    // [2026/03/07 09:02:10] [DEBUG] desk2@10.0.0.7: INPUT MSG: '2300120260307    090210AO..|AA..|'
+    Preset {
+        name: "koha-log4perl",
+        request: r"^\[[^\]]*\] \[[^\]]*\] \S+: INPUT MSG: '(.*)'",
+        response: r"^\[[^\]]*\] \[[^\]]*\] \S+: OUTPUT MSG: '(.*)'",
+        connection: r"^\[[^\]]*\] \[[^\]]*\] (\S+): ",
+        mark: None,
+        layout: Layout::Single,
+        escapes: Escapes::Bare,
+    },
+    // Mar  7 09:02:10 host koha_sip[1234]: INPUT MSG: '2300120260307    090210AO..|AA..|'
+    Preset {
+        name: "koha-syslog",
+        request: r"^\w+ +\d+ [0-9:]+ \S+ \S+\[\d+\]: INPUT MSG: '(.*)'",
+        response: r"^\w+ +\d+ [0-9:]+ \S+ \S+\[\d+\]: OUTPUT MSG: '(.*)'",
+        connection: r"^[^\[]*\[(\d+)\]:",
+        mark: None,
+        layout: Layout::Single,
+        escapes: Escapes::Bare,
+    },
+    // 2026-03-07T09:02:10-05:00 brick1 SIPServer[1234]: [INFO] INPUT MSG: '2300120260307    090210AO..|AA..|'
+    Preset {
+        name: "evergreen",
+        request: r"^\d+-\d+-\d+T\S+ \S+ \S+\[\d+\]: (?:\[\w+\] )?INPUT MSG: '(.*)'",
+        response: r"^\d+-\d+-\d+T\S+ \S+ \S+\[\d+\]: (?:\[\w+\] )?OUTPUT MSG: '(.*)'",
+        connection: r"^[^\[]*\[(\d+)\]:",
+        mark: None,
+        layout: Layout::Single,
+        escapes: Escapes::Bare,
+    },
+    // Mar  7 09:02:10 host sipserver[1234]: recv: 2300120260307    090210AO..|AA..|#015
+    Preset {
+        name: "rsyslog",
+        request: r"^[^\[]*\[\d+\]: (?i:recv|received|read|in|<-|<<|<):? ?(.*?)(?:#01[25])*$",
+        response: r"^[^\[]*\[\d+\]: (?i:send|sent|write|out|->|>>|>):? ?(.*?)(?:#01[25])*$",
+        connection: r"^[^\[]*\[(\d+)\]:",
+        mark: None,
+        layout: Layout::Single,
+        escapes: Escapes::Octal,
+    },
+    // 2026-03-07 09:02:10,120 INFO mediator: 10.0.0.7:49152 >>> 2300120260307    090210AO..|AA..|<CR>
+    Preset {
+        name: "mediator",
+        request: r"^\S+ \S+ \w+ [^:]*: \S+ (?:>>>|(?i:read|received)):? ?(.*?)(?:<CR>|<LF>)*$",
+        response: r"^\S+ \S+ \w+ [^:]*: \S+ (?:<<<|(?i:sent|wrote)):? ?(.*?)(?:<CR>|<LF>)*$",
+        connection: r"^\S+ \S+ \w+ [^:]*: (\S+) ",
+        mark: None,
+        layout: Layout::Single,
+        escapes: Escapes::Angle,
+    },
+    // {"__REALTIME_TIMESTAMP":"1772874130120000","_HOSTNAME":"host","_PID":"1234","MESSAGE":"INPUT MSG: '23001..|AA..|'"}
+    Preset {
+        name: "journald",
+        request: r"^\S+ \S+ \S+\[\d+\]: INPUT MSG: '(.*)'",
+        response: r"^\S+ \S+ \S+\[\d+\]: OUTPUT MSG: '(.*)'",
+        connection: r"^[^\[]*\[(\d+)\]:",
+        mark: None,
+        layout: Layout::Json,
+        escapes: Escapes::Bare,
+    },
+    // 2026-03-07T09:02:10.120 DESK2 received, and the message on the next line
+    Preset {
+        name: "two-line",
+        request: r"^\S+ \S+ (?i:received|request)[^\n]*\n(.*)$",
+        response: r"^\S+ \S+ (?i:sent|response)[^\n]*\n(.*)$",
+        connection: r"^\S+ (\S+) ",
+        mark: Some(r"^\S+ \S+ (?i:received|request|sent|response)[: ]*$"),
+        layout: Layout::Single,
+        escapes: Escapes::Bare,
+    },
+    // 2026-03-07T09:02:10.120 DESK2 [2300120260307    090210AO..|AA..|] => [24..]
+    Preset {
+        name: "pair",
+        request: r"^\S+ \S+ \[(.*?)\] => \[",
+        response: r"\] => \[(.*)\]$",
+        connection: r"^\S+ (\S+) ",
+        mark: None,
+        layout: Layout::Pair,
+        escapes: Escapes::Bare,
+    },
     // 2026-03-07T09:02:10.120 DESK2 <- 2300120260307    090210AO..|AA..|
     Preset {
         name: "arrows",
         request: r"^\S+ \S+ <- (.*)$",
         response: r"^\S+ \S+ -> (.*)$",
         connection: r"^\S+ (\S+) ",
+        mark: None,
+        layout: Layout::Single,
         escapes: Escapes::Backslash,
     },
     // Mar  7 09:02:10 host sip[1234]: INPUT MSG: '2300120260307    090210AO..|AA..|'
@@ -28,6 +115,8 @@ static PRESETS: [Preset; 3] = [
         request: "^[^']*INPUT MSG: '(.*)'",
         response: "^[^']*OUTPUT MSG: '(.*)'",
         connection: r"^[^']*?\[([0-9]+)\]:",
+        mark: None,
+        layout: Layout::Single,
         escapes: Escapes::Bare,
     },
     // 09:02:10 [10.0.0.7:49152] received: 2300120260307    090210AO..|AA..|<CR>
@@ -36,6 +125,8 @@ static PRESETS: [Preset; 3] = [
         request: r"(?i)^[^\]]*\] (?:received|recv): ?(.*)$",
         response: r"(?i)^[^\]]*\] sent: ?(.*)$",
         connection: r"^[^\[]*\[([^\]]+)\]",
+        mark: None,
+        layout: Layout::Single,
         escapes: Escapes::Angle,
     },
 ];
@@ -43,4 +134,22 @@ static PRESETS: [Preset; 3] = [
 /// The preset of this name.
 pub fn preset_named(name: &str) -> Option<&'static Preset> {
     PRESETS.iter().find(|preset| preset.name == name)
+}
+
+impl Preset {
+    /// The form of its lines.
+    pub fn form(&self, alloc: Global) -> Result<Form, AllocError> {
+        let mark = match self.mark {
+            Some(text) => Some(String::from_str(alloc, text)?),
+            None => None,
+        };
+        Ok(Form {
+            request: String::from_str(alloc, self.request)?,
+            response: String::from_str(alloc, self.response)?,
+            connection: Some(String::from_str(alloc, self.connection)?),
+            mark,
+            layout: self.layout,
+            escapes: self.escapes,
+        })
+    }
 }

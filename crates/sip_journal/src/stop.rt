@@ -21,6 +21,8 @@ pub enum Stop {
     NoText,
     /// What is refused, and why.
     Refused(String),
+    /// The journal would be of no use.
+    Useless(&'static str),
     /// The file of this path can't be read.
     File(String),
     /// Standard output takes nothing more.
@@ -88,6 +90,7 @@ impl Stop {
             Stop::Words(error) => write!(err, "{error}"),
             Stop::NoText => writeln!(err, "error: a word of the command line isn't text"),
             Stop::Refused(text) => writeln!(err, "error: {text}"),
+            Stop::Useless(text) => writeln!(err, "error: {text}"),
             Stop::File(text) => writeln!(err, "file: {text}"),
             Stop::Output => writeln!(err, "error: standard output takes nothing more"),
         };
@@ -96,7 +99,7 @@ impl Stop {
 
     fn status(&self) -> u8 {
         match self {
-            Stop::Words(_) | Stop::NoText | Stop::Refused(_) => REFUSED,
+            Stop::Words(_) | Stop::NoText | Stop::Refused(_) | Stop::Useless(_) => REFUSED,
             _ => FAILED,
         }
     }

@@ -1,6 +1,8 @@
+pub mod Doubting
 pub mod Looking
 pub mod Reading
 pub mod Run
+pub mod Seeing
 pub mod Showing
 pub mod Sources
 pub mod Statuses

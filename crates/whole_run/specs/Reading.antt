@@ -1,9 +1,10 @@
 -- What a run reads: which files, in which order, and what they give it.
-use Rattle.std.specs.Prelude.{◌≡◌, ◌++◌, ◌∷◌, ◌⊎◌, ℕ, [], Bool, Err, List, Ok, Result, codes, string_bytes, true}
-use Rattle.outside.specs.Events.{Event, Read}
+use Rattle.std.specs.Prelude.{◌≡◌, ◌++◌, ◌∷◌, ◌⊎◌, ℕ, [], Bool, Err, List, None, Ok, Option, Result, Some, codes, false, string_bytes, true}
+use Rattle.outside.specs.Events.{Event, Find, Read}
 use Rattle.outside.specs.Files.{in_folder}
 use Rattle.outside.specs.declared.failure.Failure.{Failure}
 use Rattle.outside.specs.declared.failure.Failure.TheVariants.{Missing}
+use Rattle.outside.specs.declared.file_id.FileId.{FileId}
 use Rattle.command_line.specs.declared.chosen.Options.{Options}
 use Rattle.replay_run.specs.declared.fault.Fault.TheVariants as faults
 use Rattle.replay_run.specs.declared.inputs.Inputs.{Inputs}
@@ -38,12 +39,38 @@ MayTell path failure (stops.File told why) = (string_bytes told ≡ path) × (wh
 MayTell path failure (stops.Fault faults.Memory) = Unit {0}
 MayTell path failure stop = ⊥
 
+-- A folder that isn't there is told by its path, with that of the file that was looked for in it, or memory ran out.
+abbrev pub MayTellFolder : List ℕ → List ℕ → Stop → Type 0
+MayTellFolder folder path (stops.NoFolder told within) = (string_bytes told ≡ path) × (string_bytes within ≡ folder)
+MayTellFolder folder path (stops.Fault faults.Memory) = Unit {0}
+MayTellFolder folder path stop = ⊥
+
+-- what is told of a file that is missing, by what its folder is found to be
+abbrev pub TellsMissing : List ℕ → List ℕ → Option FileId → Stop → Type 0
+TellsMissing folder path None stop = MayTellFolder folder path stop
+TellsMissing folder path (Some found) stop = MayTell path Missing stop
+
+abbrev pub is_missing : Failure → Bool
+is_missing Missing = true
+is_missing failure = false
+
+-- A file of a folder fails, and it is told. Of one that is missing the folder is looked up first: it may be what is missing.
+abbrev pub TellsIn : List ℕ → List ℕ → Failure → Stop → List Event → Type 0
+TellsIn folder path failure stop events =
+    ((is_missing failure ≡ true) × ((found : Option FileId) × (events ≡ Find folder found ∷ []) × TellsMissing folder path found stop))
+    ⊎ ((is_missing failure ≡ false) × (events ≡ []) × MayTell path failure stop)
+
+-- A file fails, and it is told; of a folder's file as said above.
+abbrev pub TellsFile : List ℕ → Failure → Stop → List Event → Type 0
+TellsFile path failure stop events = ((events ≡ []) × MayTell path failure stop)
+    ⊎ ((folder : List ℕ) × (name : List ℕ) × (path ≡ in_folder folder name) × TellsIn folder path failure stop events)
+
 -- Of these files some are read, in this order; then one fails, or memory runs out.
 abbrev pub StopsReading : List (List ℕ × Bool) → List Event → Stop → Type 0
 StopsReading files [] stop = stop ≡ stops.Fault faults.Memory
 StopsReading (file ∷ files) (Read path (Ok bytes) ∷ events) stop = (path ≡ file.0) × StopsReading files events stop
 StopsReading (file ∷ files) (Read path (Err failure) ∷ events) stop = (path ≡ file.0)
-    × (((events ≡ []) × MayTell path failure stop) ⊎ ((file.1 ≡ true) × (failure ≡ Missing) × StopsReading files events stop))
+    × (TellsFile path failure stop events ⊎ ((file.1 ≡ true) × (failure ≡ Missing) × StopsReading files events stop))
 StopsReading files events stop = ⊥
 
 -- A run that stops before anything is judged: an output is an input, or a file can't be read.

@@ -10,7 +10,9 @@ use Rattle.replay_run.specs.declared.fault.Fault.TheVariants as faults
 use Rattle.replay_run.specs.declared.inputs.Inputs.{Inputs}
 use Rattle.replay_run.specs.declared.inputs.Output.{Output}
 use Rattle.result_report.specs.declared.texts.Sizes.{Sizes}
-use Rattle.whole_run.specs.Reading.{AreGiven, MayTell, StopsBefore}
+use Rattle.whole_run.specs.Doubting.{TellsDoubt}
+use Rattle.whole_run.specs.Reading.{AreGiven, StopsBefore, TellsIn}
+use Rattle.whole_run.specs.Seeing.{IsOf}
 use Rattle.whole_run.specs.Sources.{places_of}
 use Rattle.whole_run.specs.Statuses.{ended_status, status_of}
 use Rattle.whole_run.specs.Telling.{stop_text}
@@ -35,25 +37,14 @@ abbrev pub HasEnded : Options → Sizes → List Event → Type 0
 HasEnded o sizes events = (output : Output) × (reads : List Event) × IsReplayed o (Ok output) reads × (sizes ≡ output.sizes)
     × (events ≡ reads ++ (writes_of o output ++ Print (sizes_line sizes) true ∷ []))
 
--- a text is no table
-abbrev pub IsTableFault : Fault → Type 0
-IsTableFault (faults.BaseTable table) = Unit {0}
-IsTableFault faults.JournalTable = Unit {0}
-IsTableFault fault = ⊥
-
--- a stop of this fault; where a text is no table it may tell a row
-abbrev pub IsOf : Fault → Stop → Type 0
-IsOf fault (stops.Fault told) = told ≡ fault
-IsOf fault (stops.Uneven told row) = (told ≡ fault) × IsTableFault fault
-IsOf fault stop = ⊥
-
 -- The replay of what was read gives a fault; nothing is written.
 abbrev pub IsRefused : Options → Stop → List Event → Type 0
 IsRefused o stop events = (fault : Fault) × IsReplayed o (Err fault) events × IsOf fault stop
 
 -- It gives an output, of which a file can't be written.
 abbrev pub StopsAt : List ℕ → Output → Stop → List Event → Type 0
-StopsAt folder output stop events = (path : List ℕ) × (failure : Failure) × StopsWriting (places_of folder output) path failure events × MayTell path failure stop
+StopsAt folder output stop events = (path : List ℕ) × (failure : Failure) × (writes : List Event) × (looks : List Event)
+    × StopsWriting (places_of folder output) path failure writes × TellsIn folder path failure stop looks × (events ≡ writes ++ looks)
 
 -- It gives an output, of which not all files can be written: memory runs out before the first one is touched, or one fails.
 abbrev pub IsCutShort : Options → Stop → List Event → Type 0
@@ -74,9 +65,11 @@ abbrev pub IsAsked : Options → Option Options → Type 0
 IsAsked o None = o.explain ≡ false
 IsAsked o (Some told) = told ≡ o
 
--- A run that ends has the status of its differences. One that is stopped tells why, and has the status of that; nothing else is asked of the outside.
+-- A run that ends has the status of its differences, and tells why its result can't be meant, where it can't. One that is stopped tells why, and has
+-- the status of that; nothing else is asked of the outside.
 abbrev pub IsRun : Options → ℕ → List Event → Type 0
 IsRun o status events =
-    ((sizes : Sizes) × HasEnded o sizes events × (status ≡ ended_status sizes.differences))
+    ((sizes : Sizes) × (ended : List Event) × (told : List Event) × HasEnded o sizes ended × TellsDoubt o sizes told × (events ≡ ended ++ told)
+    × (status ≡ ended_status sizes.differences))
     ⊎ ((stop : Stop) × (before : List Event) × (asked : Option Options) × (taken : Bool) × HasStopped o stop before × IsAsked o asked
     × (events ≡ before ++ Tell (stop_text stop asked) taken ∷ []) × (status ≡ status_of stop))

@@ -7,9 +7,10 @@ use Rattle.whole_run.specs.declared.stop.Stop.TheVariants as stops
 -- a run that was stopped: 2 where the command line or an input is refused (faults 1 to 7), else 3
 abbrev pub status_of : Stop → ℕ
 status_of (stops.Fault fault) = if nat_lt (fault_number fault) 8 then 2 else 3
-status_of (stops.Uneven fault row) = 2
+status_of (stops.Seen fault what) = 2
 status_of (stops.Replaces out input) = 2
 status_of (stops.File path failure) = 3
+status_of (stops.NoFolder path folder) = 3
 status_of stops.Output = 3
 
 -- a run that came to its end: 1 where some recorded responses differ, else 0

@@ -12,6 +12,10 @@ use Rattle.replay_run.specs.Faults.{fault_number, fault_text}
 use Rattle.replay_run.specs.declared.fault.Fault.{Fault}
 use Rattle.replay_run.specs.declared.fault.Fault.TheVariants as faults
 use Rattle.outside.specs.Reasons.{reason_of}
+use Rattle.whole_run.specs.declared.values.Form.{Form}
+use Rattle.whole_run.specs.declared.values.Form.TheVariants as form
+use Rattle.whole_run.specs.declared.seen.Seen.{Seen}
+use Rattle.whole_run.specs.declared.seen.Seen.TheVariants as seen
 use Rattle.whole_run.specs.declared.stop.InputName.{InputName}
 use Rattle.whole_run.specs.declared.stop.InputName.TheVariants as inputs
 use Rattle.whole_run.specs.declared.stop.Stop.{Stop}
@@ -26,10 +30,11 @@ loss_of inputs.Journal = codes "files would replace that of --journal"
 -- the line of a stop, where an output is an input as clap's own refusals are told; of standard output that fails nothing is told
 abbrev pub line_of : Stop → List ℕ
 line_of (stops.Fault fault) = codes "fault " ++ decimal (fault_number fault) ++ codes ": " ++ fault_text fault ++ codes "\n"
-line_of (stops.Uneven fault row) = codes "fault " ++ decimal (fault_number fault) ++ codes ": " ++ fault_text fault ++ codes "\n"
+line_of (stops.Seen fault what) = codes "fault " ++ decimal (fault_number fault) ++ codes ": " ++ fault_text fault ++ codes "\n"
 line_of (stops.Replaces out input) = codes "error: invalid value '" ++ (string_bytes out ++ (codes "' for '--out <DIR>': its " ++ (loss_of input
     ++ codes "\n\nFor more information, try '--help'.\n")))
 line_of (stops.File path failure) = codes "file: " ++ string_bytes path ++ codes "\n"
+line_of (stops.NoFolder path folder) = codes "file: " ++ string_bytes path ++ codes "\n"
 line_of stops.Output = []
 
 -- what to do about a row of a table, by the rule that it breaks
@@ -64,32 +69,63 @@ key_remedy key =
     else (if pointwise ◌==◌ key (codes "closed_dates") then codes "give a list in [ ] of at most 400 days, each in double quotes, as 2026-12-25, and in the calendar."
     else codes "it is missing, it is no key of a policy, or its value is of another kind or too large. FORMATS.md, section 4, lists all keys and values."))))
 
--- what to do about a fault, in words; each names the file, and the row where it has one
+-- what a fault is about: the file, and the row or the line where it has one; of a policy the key; of a wrong number of workers the option
+abbrev pub place_of : Options → Fault → List ℕ
+place_of o faults.BadWorkers = codes "--workers"
+place_of o faults.PolicyText = string_bytes o.policy
+place_of o (faults.PolicyRule key) = string_bytes o.policy ++ (codes ": " ++ string_bytes key)
+place_of o (faults.BaseTable table) = string_bytes o.base ++ (codes "/" ++ (table_word table ++ codes ".csv"))
+place_of o (faults.BaseRule table row rule) = string_bytes o.base ++ (codes "/" ++ (table_word table ++ (codes ".csv, row " ++ (decimal row ++ codes " below the header"))))
+place_of o faults.JournalTable = string_bytes o.journal
+place_of o (faults.JournalRule row rule) = string_bytes o.journal ++ (codes ", row " ++ (decimal row ++ codes " below the header"))
+place_of o (faults.Attempts line) = string_bytes o.journal ++ (codes ", line " ++ decimal line)
+place_of o faults.ClockSpent = string_bytes o.journal
+place_of o faults.Memory = string_bytes o.journal
+
+-- what to do about a fault
+abbrev pub words_of : Fault → List ℕ
+words_of faults.BadWorkers = codes "give a number from 1 to 64, or leave it out; what comes out is the same with any number."
+words_of faults.PolicyText = codes "this is no TOML. Each line is a key, = and a value; texts stand in double quotes. FORMATS.md, section 4, has an example."
+words_of (faults.PolicyRule key) = key_remedy (string_bytes key)
+words_of (faults.BaseTable table) = codes "the first row must be the header that FORMATS.md, section 5, gives, and each row must have as many fields. Quote a field that holds a comma."
+words_of (faults.BaseRule table row rule) = row_remedy rule
+words_of faults.JournalTable = codes "the first row must be line,connection,request,response, and each row must have four fields. Quote a field that holds a comma."
+words_of (faults.JournalRule row rule) = line_remedy rule
+words_of (faults.Attempts line) = codes "this line was tried too often. Run again with --workers 1."
+words_of faults.ClockSpent = codes "its lines were tried too often. Run again with --workers 1."
+words_of faults.Memory = codes "there is too little memory. Cut the journal, and give each part the tables that the part before it wrote."
+
+-- the form that a value should have
+abbrev pub form_words : Form → List ℕ
+form_words form.Flag = codes "blocked is Y or N"
+form_words form.Day = codes "a due day is eight digits of a day of the calendar, as 20260316"
+form_words form.Number = codes "renewals are a whole number, in digits without leading zeros"
+form_words form.FeeType = codes "a fee type is 01 to 09"
+form_words form.Amount = codes "an amount is up to nine digits, with up to two after a point, as 1.50"
+
+-- the same in a line, and with what was seen in the text
 abbrev pub fault_remedy : Options → Fault → List ℕ
-fault_remedy o faults.BadWorkers = codes "--workers: give a number from 1 to 64, or leave it out; what comes out is the same with any number.\n"
-fault_remedy o faults.PolicyText = string_bytes o.policy ++ codes ": this is no TOML. Each line is a key, = and a value; texts stand in double quotes. FORMATS.md, section 4, has an example.\n"
-fault_remedy o (faults.PolicyRule key) = string_bytes o.policy ++ (codes ": " ++ (string_bytes key ++ (codes ": " ++ (key_remedy (string_bytes key) ++ codes "\n"))))
-fault_remedy o (faults.BaseTable table) = string_bytes o.base ++ (codes "/" ++ (table_word table
-    ++ codes ".csv: the first row must be the header that FORMATS.md, section 5, gives, and each row must have as many fields. Quote a field that holds a comma.\n"))
-fault_remedy o (faults.BaseRule table row rule) = string_bytes o.base ++ (codes "/" ++ (table_word table ++ (codes ".csv, row " ++ (decimal row
-    ++ (codes " below the header: " ++ (row_remedy rule ++ codes "\n"))))))
-fault_remedy o faults.JournalTable = string_bytes o.journal
-    ++ codes ": the first row must be line,connection,request,response, and each row must have four fields. Quote a field that holds a comma.\n"
-fault_remedy o (faults.JournalRule row rule) = string_bytes o.journal ++ (codes ", row " ++ (decimal row ++ (codes " below the header: " ++ (line_remedy rule ++ codes "\n"))))
-fault_remedy o (faults.Attempts line) = string_bytes o.journal ++ (codes ", line " ++ (decimal line ++ codes ": this line was tried too often. Run again with --workers 1.\n"))
-fault_remedy o faults.ClockSpent = string_bytes o.journal ++ codes ": its lines were tried too often. Run again with --workers 1.\n"
-fault_remedy o faults.Memory = string_bytes o.journal ++ codes ": there is too little memory. Cut the journal, and give each part the tables that the part before it wrote.\n"
+fault_remedy o fault = place_of o fault ++ (codes ": " ++ (words_of fault ++ codes "\n"))
+
+abbrev pub seen_remedy : Options → Fault → Seen → List ℕ
+seen_remedy o fault (seen.Uneven row) = codes "Row " ++ (decimal row ++ (codes " below the first one has another number of fields. " ++ fault_remedy o fault))
+seen_remedy o fault (seen.Line line) = place_of o fault ++ (codes ", line " ++ (decimal line ++ (codes ": " ++ (words_of fault ++ codes "\n"))))
+seen_remedy o fault (seen.Form text form) = place_of o fault ++ (codes ": " ++ (string_bytes text ++ (codes ": " ++ (form_words form ++ codes ".\n"))))
+seen_remedy o fault (seen.Values text) = place_of o fault ++ (codes ": " ++ (string_bytes text ++ (codes ": " ++ (words_of fault ++ codes "\n"))))
+seen_remedy o fault seen.Packed = place_of o fault ++ codes ": this is compressed. Unpack it with gunzip, and name what comes out.\n"
+seen_remedy o fault seen.Wide = place_of o fault ++ codes ": this is UTF-16. Save it as UTF-8.\n"
 
 -- what to do about a stop, in words
 abbrev pub remedy_of : Options → Stop → List ℕ
 remedy_of o (stops.Fault fault) = fault_remedy o fault
-remedy_of o (stops.Uneven fault row) = codes "Row " ++ (decimal row ++ (codes " below the first one has another number of fields. " ++ fault_remedy o fault))
+remedy_of o (stops.Seen fault what) = seen_remedy o fault what
 remedy_of o (stops.Replaces out input) = []
 remedy_of o (stops.File path failure) = string_bytes path ++ (codes ": " ++ (reason_of failure
     ++ codes ". See that it is there, that you may read or write it, and that the disk has room.\n"))
+remedy_of o (stops.NoFolder path folder) = codes "no folder '" ++ (string_bytes folder ++ codes "'. Make it, or name the one that is meant.\n")
 remedy_of o stops.Output = []
 
--- what is told: the line, and behind it what to do just where that is asked for
+-- what is told: the line, and after it what to do just where that is asked for
 abbrev pub stop_text : Stop → Option Options → List ℕ
 stop_text stop None = line_of stop
 stop_text stop (Some options) = line_of stop ++ remedy_of options stop

@@ -1,11 +1,12 @@
 //! The files of a run: what it reads before anything is judged, and what it writes at its end.
 
-ghost use Rattle.std.specs.Prelude.{◌≡◌, ◌∷◌, ◌⊎◌, [], IfErr, IfOk, Ok, List, OnOk, map, true, false};
-ghost use Rattle.outside.specs.Events.{Did, Event, Read, after, noted};
+ghost use Rattle.std.specs.Prelude.{◌≡◌, ◌∷◌, ◌⊎◌, [], IfErr, IfOk, Ok, List, OnOk, Option, map, true, false};
+ghost use Rattle.outside.specs.Events.{Did, Event, Find, Read, after, noted};
 ghost use Rattle.outside.specs.Files.{all_written, in_folder};
 ghost use Rattle.outside.specs.Places.{place_of};
+ghost use Rattle.outside.specs.declared.file_id.FileId.{FileId};
 ghost use Rattle.replay_run.specs.declared.fault.Fault.TheVariants as faults;
-ghost use Rattle.whole_run.specs.Reading.{AreGiven, AreRead, IsAbsent, StopsBefore, StopsReading};
+ghost use Rattle.whole_run.specs.Reading.{AreGiven, AreRead, IsAbsent, StopsBefore, StopsReading, TellsIn, TellsMissing, is_missing};
 ghost use Rattle.whole_run.specs.Run.{StopsAt};
 ghost use Rattle.whole_run.specs.Sources.{files_of, places_of};
 ghost use Rattle.whole_run.specs.declared.stop.Stop.TheVariants as stops;
@@ -78,8 +79,46 @@ fn read_in<O: Outside>(
     ensures given { IfOk result (λ text. O.log outside.new ≡ noted (Read (in_folder folder.now name.now) (Ok text.items)) (O.log outside.old)) }
     ensures stops { IfErr result (λ stop. (events : List Event) × (O.log outside.new ≡ after events (O.log outside.old)) × StopsReading ((in_folder folder.now name.now, false) ∷ []) events stop) }
 {
-    let path = file_in_folder(alloc, folder, name)?;
-    read_file(outside, alloc, path.as_str())
+    let place = file_in_folder(alloc, folder, name)?;
+    let path = place.as_str();
+    match outside.read(alloc, path) {
+        Ok(text) => Ok(text),
+        Err(failure) => Err(stop_in(outside, alloc, folder, path, failure)),
+    }
+}
+
+/// The stop of a file of a folder that failed. Of one that is missing the folder is looked up: it may be what is missing.
+fn stop_in<O: Outside>(
+    outside: &mut O,
+    alloc: Global,
+    folder: &str,
+    path: &str,
+    failure: Failure,
+) -> Stop
+    ensures { Did (TellsIn folder.now path.now failure result) (O.log outside.old) (O.log outside.new) }
+{
+    if is_missing(failure) {
+        stop_of_missing(outside, alloc, folder, path)
+    } else {
+        Stop::of_file(alloc, failure, path)
+    }
+}
+
+/// The stop of a file that is missing, or of its folder.
+fn stop_of_missing<O: Outside>(outside: &mut O, alloc: Global, folder: &str, path: &str) -> Stop
+    ensures { (found : Option FileId) × (O.log outside.new ≡ noted (Find folder.now found) (O.log outside.old)) × TellsMissing folder.now path.now found result }
+{
+    match outside.find(folder) {
+        Some(_) => Stop::of_file(alloc, Failure::Missing, path),
+        None => Stop::of_folder(alloc, folder, path),
+    }
+}
+
+/// Whether a file fails since it isn't there.
+fn is_missing(failure: Failure) -> bool
+    ensures { result ≡ is_missing failure }
+{
+    matches!(failure, Failure::Missing)
 }
 
 /// The bytes of a file, none where there is no such file. One that is there and can't be read is a stop.
@@ -114,7 +153,7 @@ pub fn write_output<O: Outside>(
     let files = files_of_output(alloc, folder, output)?;
     match write_files(outside, files.as_slice()) {
         Ok(()) => Ok(()),
-        Err(unplaced) => Err(Stop::of_file(alloc, unplaced.failure, unplaced.path)),
+        Err(unplaced) => Err(stop_in(outside, alloc, folder, unplaced.path, unplaced.failure)),
     }
 }
 

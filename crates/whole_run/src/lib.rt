@@ -2,12 +2,14 @@
 //! the status. What is computed stands in `replay_run` and below; all that is asked of files and streams goes through an `Outside`.
 #![tactic(auto)]
 
+mod doubt;
 mod files;
 mod looking;
-mod place;
 mod progress;
 mod remedy;
 mod replaying;
+mod seen;
 mod stop;
+mod values;
 
 pub use replaying::{refuse_words, run};

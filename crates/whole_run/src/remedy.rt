@@ -1,8 +1,9 @@
 //! What to do about what stopped a run, in words that need no knowledge of this program.
 
 ghost use Rattle.std.specs.Prelude.{◌≡◌, Some, option_map};
-ghost use Rattle.whole_run.specs.Telling.{fault_remedy, key_remedy, line_remedy, remedy_of, row_remedy, stop_text};
+ghost use Rattle.whole_run.specs.Telling.{fault_remedy, key_remedy, line_remedy, place_of, remedy_of, row_remedy, seen_remedy, stop_text, words_of};
 
+use crate::seen::Seen;
 use crate::stop::Stop;
 use circ_records::BaseRule;
 use command_line::Options;
@@ -10,7 +11,7 @@ use journal_table::JournalRule;
 use replay_run::Fault;
 use std::fmt;
 
-/// What is told of a stop: its line, and behind it, where that is asked for, what to do.
+/// What is told of a stop: its line, and after it, where that is asked for, what to do.
 #[derive(Clone, Copy)]
 pub struct StopText<'a> {
     pub stop: &'a Stop,
@@ -44,17 +45,62 @@ impl fmt::Display for Remedy<'_> {
         let options = self.options;
         match self.stop {
             Stop::Fault(fault) => write!(f, "{}", FaultRemedy { fault, options }),
-            Stop::Uneven { fault, row } => write!(
+            Stop::Seen { fault, seen } => write!(
                 f,
-                "Row {row} below the first one has another number of fields. {}",
-                FaultRemedy { fault, options }
+                "{}",
+                SeenRemedy {
+                    fault,
+                    seen,
+                    options
+                }
             ),
             Stop::Replaces { .. } => f.write_str(""),
             Stop::File { path, failure } => write!(
                 f,
                 "{path}: {failure}. See that it is there, that you may read or write it, and that the disk has room.\n"
             ),
+            Stop::NoFolder { folder, .. } => write!(
+                f,
+                "no folder '{folder}'. Make it, or name the one that is meant.\n"
+            ),
             Stop::Output => f.write_str(""),
+        }
+    }
+}
+
+/// What to do about a fault in whose text something is seen, as a line of its own.
+#[derive(Clone, Copy)]
+struct SeenRemedy<'a> {
+    fault: &'a Fault,
+    seen: &'a Seen,
+    options: &'a Options,
+}
+
+impl fmt::Display for SeenRemedy<'_> {
+    ghost output = { λ remedy. Some (seen_remedy remedy.options.now remedy.fault.now remedy.seen.now) };
+
+    fn fmt<W: fmt::Write>(&self, f: &mut fmt::Formatter<W>) -> fmt::Result {
+        let SeenRemedy {
+            fault,
+            seen,
+            options,
+        } = *self;
+        let place = Place { fault, options };
+        let words = Words { fault };
+        match seen {
+            Seen::Uneven { row } => write!(
+                f,
+                "Row {row} below the first one has another number of fields. {}",
+                FaultRemedy { fault, options }
+            ),
+            Seen::Line { line } => write!(f, "{place}, line {line}: {words}\n"),
+            Seen::Values { text } => write!(f, "{place}: {text}: {words}\n"),
+            Seen::Form { text, form } => write!(f, "{place}: {text}: {form}.\n"),
+            Seen::Packed => write!(
+                f,
+                "{place}: this is compressed. Unpack it with gunzip, and name what comes out.\n"
+            ),
+            Seen::Wide => write!(f, "{place}: this is UTF-16. Save it as UTF-8.\n"),
         }
     }
 }
@@ -70,6 +116,22 @@ impl fmt::Display for FaultRemedy<'_> {
     ghost output = { λ remedy. Some (fault_remedy remedy.options.now remedy.fault.now) };
 
     fn fmt<W: fmt::Write>(&self, f: &mut fmt::Formatter<W>) -> fmt::Result {
+        let FaultRemedy { fault, options } = *self;
+        write!(f, "{}: {}\n", Place { fault, options }, Words { fault })
+    }
+}
+
+/// What a fault is about.
+#[derive(Clone, Copy)]
+struct Place<'a> {
+    fault: &'a Fault,
+    options: &'a Options,
+}
+
+impl fmt::Display for Place<'_> {
+    ghost output = { λ place. Some (place_of place.options.now place.fault.now) };
+
+    fn fmt<W: fmt::Write>(&self, f: &mut fmt::Formatter<W>) -> fmt::Result {
         let Options {
             policy,
             base,
@@ -77,50 +139,56 @@ impl fmt::Display for FaultRemedy<'_> {
             ..
         } = self.options;
         match self.fault {
-            Fault::BadWorkers => write!(
-                f,
-                "--workers: give a number from 1 to 64, or leave it out; what comes out is the same with any number.\n"
-            ),
-            Fault::PolicyText => write!(
-                f,
-                "{policy}: this is no TOML. Each line is a key, = and a value; texts stand in double quotes. FORMATS.md, section 4, has an example.\n"
-            ),
-            Fault::PolicyRule { key } => {
-                write!(f, "{policy}: {key}: {}\n", KeyRemedy { key: key.as_str() })
+            Fault::BadWorkers => f.write_str("--workers"),
+            Fault::PolicyText => write!(f, "{policy}"),
+            Fault::PolicyRule { key } => write!(f, "{policy}: {key}"),
+            Fault::BaseTable { table } => write!(f, "{base}/{table}.csv"),
+            Fault::BaseRule { table, row, .. } => {
+                write!(f, "{base}/{table}.csv, row {row} below the header")
             }
-            Fault::BaseTable { table } => write!(
-                f,
-                "{base}/{table}.csv: the first row must be the header that FORMATS.md, section 5, gives, and each row must have as many fields. Quote a field that holds a comma.\n"
+            Fault::JournalTable => write!(f, "{journal}"),
+            Fault::JournalRule { row, .. } => write!(f, "{journal}, row {row} below the header"),
+            Fault::Attempts { line } => write!(f, "{journal}, line {line}"),
+            Fault::ClockSpent => write!(f, "{journal}"),
+            Fault::Memory => write!(f, "{journal}"),
+        }
+    }
+}
+
+/// What to do about a fault.
+#[derive(Clone, Copy)]
+struct Words<'a> {
+    fault: &'a Fault,
+}
+
+impl fmt::Display for Words<'_> {
+    ghost output = { λ words. Some (words_of words.fault.now) };
+
+    fn fmt<W: fmt::Write>(&self, f: &mut fmt::Formatter<W>) -> fmt::Result {
+        match self.fault {
+            Fault::BadWorkers => f.write_str(
+                "give a number from 1 to 64, or leave it out; what comes out is the same with any number.",
             ),
-            Fault::BaseRule { table, row, rule } => write!(
-                f,
-                "{base}/{table}.csv, row {row} below the header: {}\n",
-                RowRemedy { rule: *rule }
+            Fault::PolicyText => f.write_str(
+                "this is no TOML. Each line is a key, = and a value; texts stand in double quotes. FORMATS.md, section 4, has an example.",
             ),
-            Fault::JournalTable => write!(
-                f,
-                "{journal}: the first row must be line,connection,request,response, and each row must have four fields. Quote a field that holds a comma.\n"
+            Fault::PolicyRule { key } => write!(f, "{}", KeyRemedy { key: key.as_str() }),
+            Fault::BaseTable { .. } => f.write_str(
+                "the first row must be the header that FORMATS.md, section 5, gives, and each row must have as many fields. Quote a field that holds a comma.",
             ),
-            Fault::JournalRule { row, rule } => {
-                write!(
-                    f,
-                    "{journal}, row {row} below the header: {}\n",
-                    LineRemedy { rule: *rule }
-                )
+            Fault::BaseRule { rule, .. } => write!(f, "{}", RowRemedy { rule: *rule }),
+            Fault::JournalTable => f.write_str(
+                "the first row must be line,connection,request,response, and each row must have four fields. Quote a field that holds a comma.",
+            ),
+            Fault::JournalRule { rule, .. } => write!(f, "{}", LineRemedy { rule: *rule }),
+            Fault::Attempts { .. } => {
+                f.write_str("this line was tried too often. Run again with --workers 1.")
             }
-            Fault::Attempts { line } => write!(
-                f,
-                "{journal}, line {line}: this line was tried too often. Run again with --workers 1.\n"
-            ),
             Fault::ClockSpent => {
-                write!(
-                    f,
-                    "{journal}: its lines were tried too often. Run again with --workers 1.\n"
-                )
+                f.write_str("its lines were tried too often. Run again with --workers 1.")
             }
-            Fault::Memory => write!(
-                f,
-                "{journal}: there is too little memory. Cut the journal, and give each part the tables that the part before it wrote.\n"
+            Fault::Memory => f.write_str(
+                "there is too little memory. Cut the journal, and give each part the tables that the part before it wrote.",
             ),
         }
     }

@@ -1,19 +1,22 @@
 //! The whole run: words, files, the replay, one line and the status.
 
-ghost use Rattle.std.specs.Prelude.{◌≡◌, ◌++◌, IfErr, IfOk, List, Ok, Some, map, option_map};
-ghost use Rattle.outside.specs.Events.{Did, Event};
+ghost use Rattle.std.specs.Prelude.{◌≡◌, ◌++◌, Bool, IfErr, IfOk, List, Ok, Some, map, option_map};
+ghost use Rattle.outside.specs.Events.{Did, Event, after};
 ghost use Rattle.replay_run.specs.declared.inputs.Output.{Output};
+ghost use Rattle.whole_run.specs.Doubting.{IsToldDoubt, doubt_events};
 ghost use Rattle.whole_run.specs.Run.{HasEnded, HasStopped, IsAsked, IsReplayed, IsRun, sizes_line, writes_of};
 ghost use Rattle.whole_run.specs.Statuses.{ended_status};
 ghost use Rattle.whole_run.specs.Words.{IsSession, TellsRefusal};
 
+use crate::doubt::{Doubt, doubt_of};
 use crate::files::{read_inputs, write_output};
-use crate::place::placed;
 use crate::progress::Progress;
+use crate::seen::stop_of;
 use crate::stop::{FAILED, REFUSED, Stop};
 use command_line::{Options, Refusal, options};
 use outside::Outside;
-use replay_run::{Fault, Sizes, rebuild};
+use replay_run::{Fault, Inputs, Sizes, rebuild};
+use std::alloc::Global;
 use std::convert::AsStr;
 use std::rt::Clock;
 use std::sync::Wait;
@@ -66,8 +69,20 @@ fn run_with<R: AllocGlobal + Threads + Wait + Sync + Clock + Eprint, O: Outside>
     ensures { Did (IsRun options.now result) (O.log outside.old) (O.log outside.new) }
 {
     match replay(rt, outside, options) {
-        Ok(sizes) => status_of_end(sizes.differences),
+        Ok(ended) => {
+            tell_doubt(outside, &ended.doubt);
+            ended.status()
+        }
         Err(stop) => stop.tell(asked_of(options, outside.is_terminal()), outside),
+    }
+}
+
+/// Tells why the result can't be meant, where it can't.
+fn tell_doubt<O: Outside>(outside: &mut O, doubt: &Option<Doubt>)
+    ensures { (taken : Bool) × (O.log outside.new ≡ after (doubt_events doubt.now taken) (O.log outside.old)) }
+{
+    if let Some(doubt) = doubt {
+        let _taken = outside.tell(doubt);
     }
 }
 
@@ -80,12 +95,6 @@ fn asked_of(options: &Options, is_terminal: bool) -> Option<&Options>
     } else {
         None
     }
-}
-
-fn status_of_end(differences: u64) -> u8
-    ensures { result ≡ ended_status differences }
-{
-    if differences == 0 { SAME } else { DIFFERENT }
 }
 
 /// Tells what stands against the words: prints help, tells a refusal.
@@ -102,21 +111,42 @@ fn refuse<O: Outside>(refusal: &Refusal, outside: &mut O) -> u8
     }
 }
 
+/// What a run comes to that isn't stopped.
+#[derive(Drop)]
+struct Ended {
+    sizes: Sizes,
+    /// Why its result can't be meant, where that is to be told.
+    doubt: Option<Doubt>,
+}
+
+impl Ended {
+    fn status(&self) -> u8
+        ensures { result ≡ ended_status self.now.sizes.differences }
+    {
+        if self.sizes.differences == 0 {
+            SAME
+        } else {
+            DIFFERENT
+        }
+    }
+}
+
 /// Does the run, shows meanwhile how far it has come where that is to be seen, and prints the line.
 fn replay<R: AllocGlobal + Threads + Wait + Sync + Clock + Eprint, O: Outside>(
     rt: &R,
     outside: &mut O,
     options: &Options,
-) -> Result<Sizes, Stop>
-    ensures ended { IfOk result (λ sizes. Did (HasEnded options.now sizes) (O.log outside.old) (O.log outside.new)) }
+) -> Result<Ended, Stop>
+    ensures ended { IfOk result (λ e. Did (HasEnded options.now e.sizes) (O.log outside.old) (O.log outside.new)) }
+    ensures doubt { IfOk result (λ e. IsToldDoubt options.now e.sizes e.doubt) }
     ensures stops { IfErr result (λ stop. Did (HasStopped options.now stop) (O.log outside.old) (O.log outside.new)) }
 {
     let progress = Progress::new(rt, outside.is_terminal());
-    let ended = rewrite(rt, outside, options, &progress);
+    let outcome = rewrite(rt, outside, options, &progress);
     progress.clear();
-    let sizes = ended?;
-    if outside.print(&SizesLine { sizes }) {
-        Ok(sizes)
+    let ended = outcome?;
+    if outside.print(&SizesLine { sizes: ended.sizes }) {
+        Ok(ended)
     } else {
         Err(Stop::Output)
     }
@@ -128,8 +158,9 @@ fn rewrite<R: AllocGlobal + Threads + Wait + Sync + Clock + Eprint, O: Outside>(
     outside: &mut O,
     options: &Options,
     progress: &Progress<'_, R>,
-) -> Result<Sizes, Stop>
-    ensures written { IfOk result (λ sizes. Did (λ events. (output : Output) × (reads : List Event) × IsReplayed options.now (Ok output) reads × (sizes ≡ output.sizes)
+) -> Result<Ended, Stop>
+    ensures doubt { IfOk result (λ e. IsToldDoubt options.now e.sizes e.doubt) }
+    ensures written { IfOk result (λ e. Did (λ events. (output : Output) × (reads : List Event) × IsReplayed options.now (Ok output) reads × (e.sizes ≡ output.sizes)
         × (events ≡ reads ++ writes_of options.now output)) (O.log outside.old) (O.log outside.new)) }
     ensures stops { IfErr result (λ stop. Did (HasStopped options.now stop) (O.log outside.old) (O.log outside.new)) }
 {
@@ -137,10 +168,29 @@ fn rewrite<R: AllocGlobal + Threads + Wait + Sync + Clock + Eprint, O: Outside>(
     progress.expect(inputs.journal.as_slice());
     let output = match rebuild(rt, rt.alloc(), &inputs, options.workers, progress) {
         Ok(output) => output,
-        Err(fault) => return Err(placed(rt.alloc(), fault, &inputs)),
+        Err(fault) => return Err(stop_of(rt.alloc(), fault, &inputs)),
     };
     write_output(outside, rt.alloc(), options.out.as_str(), &output)?;
-    Ok(output.sizes)
+    let sizes = output.sizes;
+    let doubt = doubt_where_asked(options, outside.is_terminal(), rt.alloc(), &inputs, sizes);
+    Ok(Ended { sizes, doubt })
+}
+
+/// Why the result can't be meant, where that is to be told.
+fn doubt_where_asked(
+    options: &Options,
+    is_terminal: bool,
+    alloc: Global,
+    inputs: &Inputs,
+    sizes: Sizes,
+) -> Option<Doubt>
+    ensures { IsToldDoubt options.now sizes result }
+{
+    if options.explain || is_terminal {
+        doubt_of(alloc, inputs, sizes)
+    } else {
+        None
+    }
 }
 
 /// The line that is printed at the end.

@@ -3,13 +3,14 @@
 ghost use Rattle.std.specs.Prelude.{◌≡◌, Bool, Some, option_map};
 ghost use Rattle.outside.specs.Events.{Tell, noted};
 ghost use Rattle.replay_run.specs.declared.fault.Fault.TheVariants as faults;
-ghost use Rattle.whole_run.specs.Reading.{MayTell};
+ghost use Rattle.whole_run.specs.Reading.{MayTell, MayTellFolder};
 ghost use Rattle.whole_run.specs.Looking.{TellsLoss};
 ghost use Rattle.whole_run.specs.Statuses.{status_of};
 ghost use Rattle.whole_run.specs.Telling.{line_of, loss_of, stop_text};
 ghost use Rattle.whole_run.specs.declared.stop.Stop.TheVariants as stops;
 
 use crate::remedy::StopText;
+use crate::seen::Seen;
 use command_line::Options;
 use outside::{Failure, Outside};
 use replay_run::Fault;
@@ -51,13 +52,14 @@ impl fmt::Display for InputName {
 pub enum Stop {
     /// The replay gave no output.
     Fault(Fault),
-    /// A text is no table, which is this fault, since a row has another number of fields than the first one. So many rows
-    /// stand before it.
-    Uneven { fault: Fault, row: u64 },
+    /// The same, and what is seen in the text that this fault is about.
+    Seen { fault: Fault, seen: Seen },
     /// A file of the folder for the output is one that is read.
     Replaces { out: String, input: InputName },
     /// The file of this path can't be read or written.
     File { path: String, failure: Failure },
+    /// The file of this path can't be read or written, since its folder isn't there.
+    NoFolder { path: String, folder: String },
     /// Standard output takes nothing more.
     Output,
 }
@@ -69,12 +71,13 @@ impl fmt::Display for Stop {
     fn fmt<W: fmt::Write>(&self, f: &mut fmt::Formatter<W>) -> fmt::Result {
         match self {
             Stop::Fault(fault) => write!(f, "fault {}: {fault}\n", fault.number()),
-            Stop::Uneven { fault, .. } => write!(f, "fault {}: {fault}\n", fault.number()),
+            Stop::Seen { fault, .. } => write!(f, "fault {}: {fault}\n", fault.number()),
             Stop::Replaces { out, input } => write!(
                 f,
                 "error: invalid value '{out}' for '--out <DIR>': its {input}\n\nFor more information, try '--help'.\n"
             ),
             Stop::File { path, .. } => write!(f, "file: {path}\n"),
+            Stop::NoFolder { path, .. } => write!(f, "file: {path}\n"),
             Stop::Output => f.write_str(""),
         }
     }
@@ -99,6 +102,19 @@ impl Stop {
         match String::from_str(alloc, path) {
             Ok(path) => Stop::File { path, failure },
             Err(error) => Stop::from(error),
+        }
+    }
+
+    /// The stop of a file in a folder that isn't there.
+    pub fn of_folder(alloc: Global, folder: &str, path: &str) -> Stop
+        ensures { MayTellFolder folder.now path.now result }
+    {
+        match (
+            String::from_str(alloc, folder),
+            String::from_str(alloc, path),
+        ) {
+            (Ok(folder), Ok(path)) => Stop::NoFolder { path, folder },
+            _ => Stop::Fault(Fault::Memory),
         }
     }
 
@@ -127,7 +143,7 @@ impl Stop {
     {
         match self {
             Stop::Fault(fault) if fault.number() <= LAST_REFUSAL => REFUSED,
-            Stop::Uneven { .. } => REFUSED,
+            Stop::Seen { .. } => REFUSED,
             Stop::Replaces { .. } => REFUSED,
             _ => FAILED,
         }

@@ -8,6 +8,6 @@ returns g c = record {
   stops = (
     Read c.as_str.result.now (Err c.in-Err.failure) ∷ [],
     c.in-Err.ensures,
-    (c.as_str.ensures.value ∙ c.in_ok-path.ensures, inl (refl, rw (c.as_str.ensures.value ∙ sym c.as_str-in-Err.ensures.value) c.of_file.ensures)),
+    (c.as_str.ensures.value ∙ c.in_ok-path.ensures, inl (inl (refl, rw (c.as_str.ensures.value ∙ sym c.as_str-in-Err.ensures.value) c.of_file.ensures))),
   );
 }

@@ -1,4 +1,5 @@
-use Rattle.std.proofs.Common.{◌∙◌, ap, inr, map}
+use Rattle.std.proofs.Common.{◌++◌, ◌∙◌, ap, inr, map, refl}
+use Rattle.outside.proofs.Steps.{both}
 use Rattle.outside.specs.Events.{after}
 use Rattle.outside.specs.Files.{all_written}
 use Rattle.outside.specs.Places.{place_of}
@@ -11,4 +12,5 @@ returns-in-Ok-clause-written g c =
 pub returns-clause-stops : goal.returns-clause-stops
 returns-clause-stops g c =
     let s = rw (c.as_slice.ensures.value, c.in_ok-files.ensures) at c.in-Err.ensures.stops in
-    (s.0, s.1, inr (c.in-Err.unplaced.path.now, c.in-Err.unplaced.failure, s.2, c.of_file.ensures))
+    let t = c.stop_in.ensures in
+    (s.0 ++ t.0, both s.0 t.0 _ _ _ s.1 t.1, inr (c.in-Err.unplaced.path.now, c.in-Err.unplaced.failure, s.0, t.0, s.2, t.2, refl))

@@ -12,7 +12,7 @@ returns-in_err-inputs-clause-stops g c =
 pub returns-in-Err-clause-stops : goal.returns-in-Err-clause-stops
 returns-in-Err-clause-stops g c =
     let r = c.in_ok-inputs.ensures.given in
-    (r.0, r.1, inr (inl (c.in-Err.fault, (c.in_ok-inputs.inputs, r.2, c.in-Err.ensures.output), c.placed.ensures)))
+    (r.0, r.1, inr (inl (c.in-Err.fault, (c.in_ok-inputs.inputs, r.2, c.in-Err.ensures.output), c.stop_of.ensures)))
 
 pub returns-in_err-write_output-clause-stops : goal.returns-in_err-write_output-clause-stops
 returns-in_err-write_output-clause-stops g c =

@@ -1,0 +1,5 @@
+pub mod Copying
+pub mod Marking
+pub mod Passing
+pub mod Puts
+pub mod Seeing

@@ -1,0 +1,22 @@
+use Rattle.std.proofs.Common.{◌∙◌, ◌-◌, sym}
+use Rattle.read_set.specs.Plans.{Planned}
+use Rattle.read_set.specs.Replay.{before}
+use Rattle.line_origins.specs.Origins.{IsShelf}
+use Rattle.line_origins.proofs.Seeing.{agrees_seen}
+use Rattle.line_origins.proofs.tracer.Tracer.see.Goals as goal
+
+pub returns : goal.returns
+returns c =
+    let plan : Planned = c.args.self.now.plan.now in
+    let line = c.args.self.now.next in
+    let stands : IsShelf plan (line - plan.first) c.args.self.now.shelf = c.args.self.now.stands in
+    record {
+      holds = λ k note e. sym (stands.records k) ∙ (c.in_ok-looked.ensures.seen k note e).0;
+      names = λ k note e. (c.in_ok-looked.ensures.seen k note e).1 ∙ stands.writers k;
+      asked = c.in_ok-looked.ensures.asked;
+      all = c.in_ok-looked.ensures.all;
+      answer =
+          c.in_ok-looked.ensures.answer (before plan line)
+          (agrees_seen c.args.self.now.shelf.standing.records c.args.self.now.shelf.writers.entries _ (before plan line) c.in_ok-looked.ensures.seen stands.records);
+      reason = c.in_ok-reason.ensures (before plan line) stands.records;
+    }

@@ -1,0 +1,8 @@
+//! A law of the definitions: a function without code, whose contract is proved of every value.
+
+ghost use Rattle.line_origins.specs.Origins.{LastWritersAreGreatest};
+
+/// Whoever is named as the last writer of a record wrote it, and no line after it and before the one in hand did.
+pub fn last_writers_are_greatest()
+    ensures { LastWritersAreGreatest }
+{}

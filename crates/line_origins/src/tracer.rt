@@ -1,0 +1,189 @@
+//! A replay that stops before wanted lines.
+
+ghost use Rattle.std.specs.Prelude.{◌≡◌, ◌≤◌, ◌<◌, ◌+◌, ◌-◌, ◌^◌, ◌⊎◌, IfOk, None};
+ghost use Rattle.std.specs.BTreeMap.{is_at};
+ghost use Rattle.std.specs.Map.{lookup};
+ghost use Rattle.circ_records.specs.Keys.{key_cmp};
+ghost use Rattle.circ_records.specs.Records.{record_at};
+ghost use Rattle.circ_records.specs.declared.key.Key.{Key};
+ghost use Rattle.line_origins.specs.Origins.{AreSeen, IsEnd, IsSeen, IsShelf};
+ghost use Rattle.line_reasons.specs.Lines.{reason_at};
+ghost use Rattle.message_meaning.specs.Rules.{rule_at};
+ghost use Rattle.read_set.specs.Asks.{follow, Done, IsAsked};
+ghost use Rattle.read_set.specs.Maps.{Map, Agrees};
+ghost use Rattle.read_set.specs.Notes.{noted};
+ghost use Rattle.read_set.specs.Replay.{one_at};
+ghost use Rattle.read_set.specs.declared.effect.Effect.{Effect};
+
+use crate::looking::{Looking, ShelfName};
+use crate::shelf::Shelf;
+use circ_records::{Key, Records};
+use line_reasons::{Reason, reason};
+use message_meaning::perform_one_by_one;
+use read_set::{Effect, Notes, Plan};
+use sip_answer::Answer;
+use std::alloc::{AllocError, Global};
+use std::collections::BTreeMap;
+use std::marker::Brand;
+
+/// The replay of a plan by one thread, before one of its lines.
+#[derive(Drop)]
+pub struct Tracer<'p> {
+    plan: &'p Plan,
+    next: u64,
+    shelf: Shelf,
+    ghost behind: { plan.now.first ≤ next },
+    ghost stands: { IsShelf plan.now (next - plan.now.first) shelf },
+}
+
+/// What a line read and answered.
+#[derive(Drop)]
+pub struct Seen {
+    /// Why it is answered as it is, where it has an answer.
+    pub reason: Option<Reason>,
+    /// What it read, in the order of reading: each record with the last line below that wrote it, or the base.
+    pub notes: Notes,
+    pub answer: Option<Answer>,
+}
+
+/// Where a replay stopped: the records, and of each key that was written the number of the line that wrote it last.
+#[derive(Drop)]
+pub struct End {
+    pub records: Records,
+    writers: BTreeMap<Key, u64>,
+}
+
+impl End {
+    /// The line that wrote the record at a key last, where one did.
+    pub fn writer(&self, key: &Key) -> Option<u64>
+        ensures { result ≡ lookup (is_at (key_cmp key.now)) self.now.writers.entries }
+    {
+        self.writers.get(key).copied()
+    }
+}
+
+impl<'p> Tracer<'p> {
+    /// Before the first line.
+    pub fn new(alloc: Global, plan: &'p Plan) -> Result<Tracer<'p>, AllocError>
+        ensures plan { IfOk result (λ t. t.plan.now ≡ plan.now) }
+        ensures next { IfOk result (λ t. t.next ≡ plan.now.first) }
+    {
+        Ok(Tracer {
+            shelf: Shelf::over(alloc, plan)?,
+            plan,
+            next: plan.first(),
+        })
+    }
+
+    /// The plan that is replayed.
+    pub fn plan(&self) -> &'p Plan
+        ensures { result.now ≡ self.now.plan.now }
+    {
+        self.plan
+    }
+
+    /// The number of the line before which it stands.
+    pub fn next(&self) -> u64
+        ensures { result ≡ self.now.next }
+    {
+        self.next
+    }
+
+    /// The same before a later line. Without memory the replay is lost.
+    pub fn pass_to(self, alloc: Global, line: u64) -> Result<Tracer<'p>, AllocError>
+        requires { self.next ≤ line }
+        ensures plan { IfOk result (λ t. t.plan.now ≡ self.entry.plan.now) }
+        ensures next { IfOk result (λ t. t.next ≡ line) }
+    {
+        let next = self.next;
+        let mut tracer = self;
+        for _n in next..line {
+            tracer = tracer.pass(alloc)?;
+        }
+        Ok(tracer)
+    }
+
+    /// The same before the next line.
+    fn pass(self, alloc: Global) -> Result<Tracer<'p>, AllocError>
+        requires { self.next + 1 < 2 ^ 64 }
+        ensures plan { IfOk result (λ t. t.plan.now ≡ self.entry.plan.now) }
+        ensures next { IfOk result (λ t. t.next ≡ self.entry.next + 1) }
+    {
+        let Tracer { plan, next, shelf } = self;
+        let shelf = shelf.pass(alloc, plan, next)?;
+        Ok(Tracer {
+            plan,
+            next: next + 1,
+            shelf,
+        })
+    }
+
+    /// The records before the line, and who wrote them.
+    pub fn into_end(self, alloc: Global) -> Result<End, AllocError>
+        ensures { IfOk result (IsEnd self.entry.plan.now self.entry.next) }
+    {
+        let Tracer {
+            plan: _,
+            next: _,
+            shelf,
+        } = self;
+        let Shelf { standing, writers } = shelf;
+        Ok(End {
+            records: standing.into_records(alloc)?,
+            writers,
+        })
+    }
+
+    /// What the line reads and answers.
+    pub fn see(&self, alloc: Global) -> Result<Seen, AllocError>
+        ensures { IfOk result (IsSeen self.now.plan.now self.now.next) }
+    {
+        let looked = look::<Brand>(alloc, self.plan, self.next, &self.shelf)?;
+        let reason = tell::<Brand>(alloc, self.plan, self.next, &self.shelf)?;
+        let (notes, answer) = looked;
+        Ok(Seen {
+            reason,
+            notes,
+            answer,
+        })
+    }
+}
+
+/// What a line reads on a shelf, and its answer. The source has all records, so it stops only where memory runs out.
+fn look<N: ShelfName>(
+    alloc: Global,
+    plan: &Plan,
+    line: u64,
+    shelf: &Shelf,
+) -> Result<(Notes, Option<Answer>), AllocError>
+    requires records { shelf.now.standing.records ≡ N.records }
+    requires writers { shelf.now.writers.entries ≡ N.writers }
+    ensures seen { IfOk result (λ r. AreSeen N.records N.writers r.0) }
+    ensures asked { IfOk result (λ r. (k : Key) → (noted r.0 k ≡ None) ⊎ IsAsked (noted r.0) (rule_at plan.now line) k) }
+    ensures all { IfOk result (λ r. (e : Effect) × (follow (noted r.0) (rule_at plan.now line) ≡ Done e)) }
+    ensures answer { IfOk result (λ r. (M : Map) → Agrees (noted r.0) M → r.1 ≡ (one_at plan.now line M).1) }
+{
+    let mut source: Looking<N> = Looking::new(alloc, shelf);
+    match perform_one_by_one(alloc, plan, line, &mut source) {
+        Ok(Effect { writes: _, answer }) => Ok((source.into_notes(), answer)),
+        Err(_) => Err(AllocError),
+    }
+}
+
+/// Why a line is answered as it is on a shelf.
+fn tell<N: ShelfName>(
+    alloc: Global,
+    plan: &Plan,
+    line: u64,
+    shelf: &Shelf,
+) -> Result<Option<Reason>, AllocError>
+    requires records { shelf.now.standing.records ≡ N.records }
+    requires writers { shelf.now.writers.entries ≡ N.writers }
+    ensures { IfOk result (λ r. (M : Map) → ((k : Key) → record_at N.records k ≡ M k) → r ≡ reason_at plan.now line M) }
+{
+    let mut source: Looking<N> = Looking::new(alloc, shelf);
+    match reason(alloc, plan, line, &mut source) {
+        Ok(why) => Ok(why),
+        Err(_) => Err(AllocError),
+    }
+}

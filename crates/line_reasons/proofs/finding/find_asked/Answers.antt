@@ -1,0 +1,17 @@
+use Rattle.line_reasons.proofs.Found.{agrees_before, asked_is}
+use Rattle.line_reasons.proofs.finding.find_asked.Goals as goal
+
+pub returns-clause-means : goal.returns-clause-means
+returns-clause-means g c = λ M h.
+    let later = agrees_before _ _ M c.in_ok-owes.ensures.keeps h in
+    let first = agrees_before _ _ M c.in_ok-article.ensures.keeps later in
+    asked_is c.args.policy.now c.args.patron.now c.args.item.now M _ _ _ (c.in_ok-member.ensures.means M first) (c.in_ok-article.ensures.means M later) (c.in_ok-owes.ensures.means M h)
+
+pub returns-clause-keeps : goal.returns-clause-keeps
+returns-clause-keeps g c = λ k r e. c.in_ok-owes.ensures.keeps k r (c.in_ok-article.ensures.keeps k r (c.in_ok-member.ensures.keeps k r e))
+
+pub returns-in_err-article-clause-keeps : goal.returns-in_err-article-clause-keeps
+returns-in_err-article-clause-keeps g c = λ k r e. c.in_err-article.ensures.keeps k r (c.in_ok-member.ensures.keeps k r e)
+
+pub returns-in_err-owes-clause-keeps : goal.returns-in_err-owes-clause-keeps
+returns-in_err-owes-clause-keeps g c = λ k r e. c.in_err-owes.ensures.keeps k r (c.in_ok-article.ensures.keeps k r (c.in_ok-member.ensures.keeps k r e))

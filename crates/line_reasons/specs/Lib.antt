@@ -1,0 +1,6 @@
+pub mod Found
+pub mod Laws
+pub mod Lines
+pub mod Reasons
+pub mod Verdicts
+pub mod Words

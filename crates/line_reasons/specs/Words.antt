@@ -1,0 +1,36 @@
+-- The words of reasons in tables. A renewal and a checkin of what isn't on loan have the same.
+use Rattle.std.specs.Prelude.{ℕ, List, codes}
+use Rattle.line_reasons.specs.declared.names.Reason.{Reason}
+use Rattle.line_reasons.specs.declared.names.Reason.TheVariants as reasons
+
+abbrev pub reason_word : Reason → List ℕ
+reason_word reasons.UnknownPatron = codes "unknown_patron"
+reason_word reasons.UnknownItem = codes "unknown_item"
+reason_word reasons.OwnLoan = codes "own_loan"
+reason_word reasons.Lent = codes "lent"
+reason_word reasons.Queue = codes "queue"
+reason_word reasons.Blocked = codes "blocked"
+reason_word reasons.MaxLoans = codes "max_loans"
+reason_word reasons.MaxFees = codes "max_fees"
+reason_word reasons.Rental = codes "rental"
+reason_word reasons.Made = codes "made"
+reason_word reasons.NotLent = codes "not_lent"
+reason_word reasons.ThirdParty = codes "third_party"
+reason_word reasons.WaitedFor = codes "waited_for"
+reason_word reasons.MaxRenewals = codes "max_renewals"
+reason_word reasons.Renewed = codes "renewed"
+reason_word reasons.WasIn = codes "not_lent"
+reason_word reasons.Returned = codes "returned"
+reason_word reasons.ReturnedLate = codes "returned_late"
+reason_word reasons.HasEntry = codes "has_entry"
+reason_word reasons.QueueFull = codes "queue_full"
+reason_word reasons.Added = codes "added"
+reason_word reasons.NoEntry = codes "no_entry"
+reason_word reasons.Deleted = codes "deleted"
+reason_word reasons.Changed = codes "changed"
+reason_word reasons.Currency = codes "currency"
+reason_word reasons.NoAmount = codes "no_amount"
+reason_word reasons.NothingOwed = codes "nothing_owed"
+reason_word reasons.Paid = codes "paid"
+reason_word reasons.Done = codes "done"
+reason_word reasons.Checksum = codes "checksum"

@@ -1,0 +1,154 @@
+//! Why a checkout or a renewal is made or refused.
+
+ghost use Rattle.std.specs.Prelude.{◌≡◌, ◌&&◌, ◌||◌, nat_lt};
+ghost use Rattle.line_reasons.specs.Reasons.{checkout_reason, lending_reason, owing_reason, renew_reason, renewal_reason};
+ghost use Rattle.read_set.specs.Loans.{lent_to};
+ghost use Rattle.read_set.specs.Renewals.{renewals_of};
+
+use crate::asking::{ask_checkout, ask_renew};
+use crate::finding::Asked;
+use crate::names::Reason;
+use circ_records::KeptLoan;
+use loan_meaning::{has_lent_to, has_loan, has_queue, is_first_another};
+use read_set::{Article, LoanRequest, Member};
+use sip_reader::{Amount, Checkout, Renew};
+
+/// Whether an amount is above 0.
+pub fn has_amount(amount: Amount) -> bool
+    ensures { result ≡ nat_lt 0 amount }
+{
+    amount.hundredths() > 0
+}
+
+/// The last tests, on what is owed and on the rental; where none of them holds it is done.
+#[tactic(auto, unfolding(crate::specs::Reasons::owing_reason))]
+fn reason_of_owing(
+    owes: u128,
+    agreed: bool,
+    member: &Member,
+    article: &Article,
+    done: Reason,
+) -> Reason
+    ensures { result ≡ owing_reason owes agreed member.now article.now done }
+{
+    if owes > u128::from(member.class.max_fees.hundredths()) {
+        Reason::MaxFees
+    } else if has_amount(article.media.rental) && !agreed {
+        Reason::Rental
+    } else {
+        done
+    }
+}
+
+/// The loan of an item.
+fn loan_in(article: &Article) -> &Option<KeptLoan>
+    ensures { result.now ≡ article.now.item.loan }
+{
+    &article.item.get().loan
+}
+
+/// Why a loan is made or refused to a patron who owes so much.
+#[tactic(auto, unfolding(crate::specs::Reasons::lending_reason))]
+fn reason_of_lending(owes: u128, a: &LoanRequest, member: &Member, article: &Article) -> Reason
+    ensures { result ≡ lending_reason owes a.now member.now article.now }
+{
+    if a.forced {
+        return Reason::Made;
+    }
+    if has_lent_to(&a.patron, loan_in(article)) {
+        return Reason::OwnLoan;
+    }
+    if has_loan(loan_in(article)) {
+        return Reason::Lent;
+    }
+    if is_first_another(article.item.get().holds.as_slice(), &a.patron) {
+        return Reason::Queue;
+    }
+    if member.patron.get().blocked {
+        return Reason::Blocked;
+    }
+    if member.class.max_loans as usize <= member.patron.get().loans.len() {
+        return Reason::MaxLoans;
+    }
+    reason_of_owing(owes, a.agreed, member, article, Reason::Made)
+}
+
+fn renewals(loan: &Option<KeptLoan>) -> u32
+    ensures { result ≡ renewals_of loan.now }
+{
+    match loan {
+        Some(loan) => loan.renewals(),
+        None => 0,
+    }
+}
+
+/// Whether a loan is the asker's, or a third party is allowed.
+fn is_renewable(a: &LoanRequest, loan: &Option<KeptLoan>) -> bool
+    ensures { result ≡ (lent_to a.now.patron loan.now || a.now.third_party) }
+{
+    has_lent_to(&a.patron, loan) || a.third_party
+}
+
+/// Why a renewal is made or refused to a patron who owes so much, in hundredths.
+#[tactic(auto, unfolding(crate::specs::Reasons::renewal_reason))]
+pub fn reason_of_renewal(owes: u128, a: &LoanRequest, member: &Member, article: &Article) -> Reason
+    ensures { result ≡ renewal_reason owes a.now member.now article.now }
+{
+    if !has_loan(loan_in(article)) {
+        return Reason::NotLent;
+    }
+    if !is_renewable(a, loan_in(article)) {
+        return Reason::ThirdParty;
+    }
+    if a.forced {
+        return Reason::Renewed;
+    }
+    if member.patron.get().blocked {
+        return Reason::Blocked;
+    }
+    if has_queue(article.item.get().holds.as_slice()) {
+        return Reason::WaitedFor;
+    }
+    if member.class.max_renewals <= renewals(loan_in(article)) {
+        return Reason::MaxRenewals;
+    }
+    reason_of_owing(owes, a.agreed, member, article, Reason::Renewed)
+}
+
+/// Whether the item is renewed: it is on loan to the same patron, and the terminal allows it.
+fn is_renewal(request: &Checkout, article: &Article) -> bool
+    ensures { result ≡ (request.now.renewal && lent_to request.now.patron article.now.item.loan) }
+{
+    request.renewal && has_lent_to(&request.patron.id(), loan_in(article))
+}
+
+/// Why a checkout (message 11) is made or refused.
+pub fn reason_of_checkout(request: &Checkout, asked: &Asked) -> Reason
+    ensures { result ≡ checkout_reason request.now asked.now }
+{
+    match (&asked.member, &asked.article) {
+        (None, _) => Reason::UnknownPatron,
+        (Some(_), None) => Reason::UnknownItem,
+        (Some(member), Some(article)) => {
+            let a = ask_checkout(request);
+            if is_renewal(request, article) {
+                reason_of_renewal(asked.owes, &a, member, article)
+            } else {
+                reason_of_lending(asked.owes, &a, member, article)
+            }
+        }
+    }
+}
+
+/// Why a renewal (message 29) is made or refused.
+pub fn reason_of_renew(request: &Renew, asked: &Asked) -> Reason
+    ensures { result ≡ renew_reason request.now asked.now }
+{
+    match (&asked.member, &asked.article) {
+        (None, _) => Reason::UnknownPatron,
+        (Some(_), None) => Reason::UnknownItem,
+        (Some(member), Some(article)) => {
+            reason_of_renewal(asked.owes, &ask_renew(request), member, article)
+        }
+    }
+}

@@ -1,0 +1,59 @@
+-- Which messages are odd: what a log damaged, or what is no message and was taken for one. The identifiers, and error detection at
+-- the end of a message, are those of SIP 2.00 (messages; error detection).
+use Rattle.std.specs.Prelude.{◌+◌, ◌-◌, ◌*◌, ◌&&◌, ◌||◌, ◌==◌, not, ℕ, suc, zero, Bool, true, false, nat_le, List, length, take, Option, Some, None, slice_index, codes, nat_eq, if◌then◌else◌}
+use Rattle.std.specs.Char.{is_ascii_digit}
+use Rattle.std.specs.List.{starts_with}
+use Rattle.sip_reader.specs.Bytes as byte
+use Rattle.sip_reader.specs.Reading.{reading, trimmed}
+use Rattle.sip_reader.specs.Sum.{has_trailer}
+use Rattle.sip_reader.specs.declared.request.Reading.{Reading}
+use Rattle.sip_reader.specs.declared.request.Reading.TheVariants.{BadSum, Unread}
+use Rattle.sip_reader.specs.declared.request.Why.TheVariants.{UnknownKind}
+use Rattle.log_pairs.specs.declared.odd.Odd.{Odd}
+use Rattle.log_pairs.specs.declared.odd.Odd.TheVariants.{UnknownIdentifier, WrongSum, NoSum}
+use Rattle.log_pairs.specs.declared.odd.Side.{Side}
+use Rattle.log_pairs.specs.declared.odd.Side.TheVariants.{Request, Response}
+
+abbrev pub is_bad_sum : Reading → Bool
+is_bad_sum BadSum = true
+is_bad_sum _ = false
+
+abbrev pub is_unknown : Reading → Bool
+is_unknown (Unread UnknownKind) = true
+is_unknown _ = false
+
+-- the numbers of responses
+abbrev pub is_response : ℕ → Bool
+is_response n =
+    (n == 10) || ((n == 12) || ((n == 16) || ((n == 18) || ((n == 20) || ((n == 24) || ((n == 26) || ((n == 30) || ((n == 36) || ((n == 38)
+    || ((n == 64) || ((n == 66) || ((n == 94) || ((n == 96) || (n == 98))))))))))))))
+
+abbrev pub is_response_at : ℕ → ℕ → Bool
+is_response_at a b = (is_ascii_digit a && is_ascii_digit b) && is_response ((a - byte.zero) * 10 + (b - byte.zero))
+
+-- whether a message of two bytes or more has an identifier of its side: of a request, one that is read
+abbrev pub has_identifier : Side → List ℕ → Bool
+has_identifier Request m = nat_le 2 (length m) && not (is_unknown (reading (take 2 m)))
+has_identifier Response m = nat_le 2 (length m) && is_response_at (slice_index m 0) (slice_index m 1)
+
+-- whether error detection ends behind fewer bytes than these
+abbrev pub has_sum_within : ℕ → List ℕ → Bool
+has_sum_within zero m = false
+has_sum_within (suc n) m = has_trailer (take n m) || has_sum_within n m
+
+-- whether error detection stands before the end: bytes were left behind it, or two messages are in one
+abbrev pub has_sum_inside : List ℕ → Bool
+has_sum_inside m = has_sum_within (length m) m
+
+-- a request without error detection, but for a resend, which has none by the standard
+abbrev pub lacks_sum : Side → List ℕ → Bool
+lacks_sum Request m = not (has_trailer m) && not (starts_with nat_eq m (codes "97"))
+lacks_sum Response m = false
+
+-- what is odd about a message, if anything is
+abbrev pub odd_of : Side → List ℕ → Option Odd
+odd_of side message =
+    if not (has_identifier side message) then Some UnknownIdentifier
+    else if is_bad_sum (reading message) || has_sum_inside (trimmed message) then Some WrongSum
+    else if lacks_sum side (trimmed message) then Some NoSum
+    else None

@@ -1,0 +1,112 @@
+//! Messages that are odd: what a log damaged, or what is no message and was taken for one.
+
+ghost use Rattle.std.specs.Prelude.{◌≡◌, ◌≤◌, IfOk, length};
+ghost use Rattle.log_pairs.specs.Odd as Spec;
+
+use sip_reader::{Reading, Why, read_request, unsummed, without_line_end};
+use std::alloc::{AllocError, Global};
+
+/// Which side a message is of.
+#[derive(Clone, Copy)]
+pub enum Side {
+    Request,
+    Response,
+}
+
+/// What is odd about a message.
+#[derive(Clone, Copy)]
+pub enum Odd {
+    /// Its first two bytes are no identifier of its side.
+    UnknownIdentifier,
+    /// Its error detection is wrong, or isn't its end.
+    WrongSum,
+    /// It is a request without error detection. That is odd only where most requests have some.
+    NoSum,
+}
+
+/// What is odd about a message, if anything is.
+pub fn odd_of(alloc: Global, side: Side, message: &[u8]) -> Result<Option<Odd>, AllocError>
+    ensures { IfOk result (λ odd. odd ≡ Spec.odd_of side message.now) }
+{
+    if !has_identifier(alloc, side, message)? {
+        return Ok(Some(Odd::UnknownIdentifier));
+    }
+    let has_bad_sum = is_bad_sum(&read_request(alloc, message)?);
+    let trimmed = without_line_end(message);
+    if has_bad_sum || has_sum_inside(trimmed) {
+        Ok(Some(Odd::WrongSum))
+    } else if lacks_sum(side, trimmed) {
+        Ok(Some(Odd::NoSum))
+    } else {
+        Ok(None)
+    }
+}
+
+/// Whether a message begins with an identifier of its side.
+fn has_identifier(alloc: Global, side: Side, message: &[u8]) -> Result<bool, AllocError>
+    ensures { IfOk result (λ known. known ≡ Spec.has_identifier side message.now) }
+{
+    if message.len() < 2 {
+        return Ok(false);
+    }
+    match side {
+        Side::Request => Ok(!is_unknown(&read_request(alloc, &message[..2])?)),
+        Side::Response => Ok(is_response_at(message[0], message[1])),
+    }
+}
+
+fn is_bad_sum(reading: &Reading) -> bool
+    ensures { result ≡ Spec.is_bad_sum reading.now }
+{
+    match reading {
+        Reading::BadSum => true,
+        _ => false,
+    }
+}
+
+fn is_unknown(reading: &Reading) -> bool
+    ensures { result ≡ Spec.is_unknown reading.now }
+{
+    match reading {
+        Reading::Unread(Why::UnknownKind) => true,
+        _ => false,
+    }
+}
+
+/// Whether two bytes are the identifier of a response.
+fn is_response_at(a: u8, b: u8) -> bool
+    ensures { result ≡ Spec.is_response_at a b }
+{
+    a.is_ascii_digit() && b.is_ascii_digit() && is_response((a - b'0') * 10 + (b - b'0'))
+}
+
+fn is_response(number: u8) -> bool
+    ensures { result ≡ Spec.is_response number }
+{
+    match number {
+        10 | 12 | 16 | 18 | 20 | 24 | 26 | 30 | 36 | 38 | 64 | 66 | 94 | 96 | 98 => true,
+        _ => false,
+    }
+}
+
+/// Whether error detection stands before the end of a message.
+fn has_sum_inside(message: &[u8]) -> bool
+    ensures { result ≡ Spec.has_sum_inside message.now }
+{
+    for end in 0..message.len() {
+        if unsummed(&message[..end]).1.is_some() {
+            return true;
+        }
+    }
+    false
+}
+
+/// Whether a message is a request without error detection, which a resend never has.
+fn lacks_sum(side: Side, message: &[u8]) -> bool
+    ensures { result ≡ Spec.lacks_sum side message.now }
+{
+    match side {
+        Side::Request => unsummed(message).1.is_none() && !message.starts_with(b"97"),
+        Side::Response => false,
+    }
+}

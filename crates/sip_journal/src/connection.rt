@@ -1,0 +1,214 @@
+//! A captured connection: two streams, each cut into pieces.
+
+use crate::headers::TcpSegment;
+use capture_streams::{Cutter, Piece, Stream, position_near};
+use std::alloc::{AllocError, Global};
+
+/// A segment or an acknowledgement that lies further ahead than this many bytes is damaged, and passed.
+const FAR: u64 = 1024 * 1024;
+
+/// How many segments may wait for one that is missing.
+const MOST: usize = 1024;
+
+/// How many bytes may wait for their end. No message has as many.
+const LONGEST: usize = 64 * 1024;
+
+/// What is heard of one end of a connection.
+pub enum Heard {
+    Piece(Piece),
+    /// So many bytes are missing.
+    Missing(u64),
+}
+
+impl Drop for Heard {
+    fn drop(self) {
+        match self {
+            Heard::Piece(_) => {}
+            Heard::Missing(_) => {}
+        }
+    }
+}
+
+/// What one end of a connection sends.
+pub struct Half {
+    alloc: Global,
+    /// The number of the begin, where that was captured.
+    begun_at: Option<u32>,
+    stream: Option<Stream>,
+    cutter: Cutter,
+    /// The position behind the last byte, once it is known.
+    end: Option<u64>,
+    /// The position behind the last byte that came.
+    last: u64,
+}
+
+impl Drop for Half {
+    fn drop(self) {
+        let Half {
+            alloc: _,
+            begun_at: _,
+            stream: _,
+            cutter: _,
+            end: _,
+            last: _,
+        } = self;
+    }
+}
+
+impl Half {
+    /// Before the first segment.
+    pub fn new(alloc: Global) -> Half {
+        Half {
+            alloc,
+            begun_at: None,
+            stream: None,
+            cutter: Cutter::new(alloc, true),
+            end: None,
+            last: 0,
+        }
+    }
+
+    /// Whether all that was sent was heard.
+    pub fn is_over(&self) -> bool {
+        match (&self.stream, self.end) {
+            (Some(stream), Some(end)) => stream.position() >= end,
+            _ => false,
+        }
+    }
+
+    /// Takes a segment of this end.
+    pub fn take(
+        &mut self,
+        segment: &TcpSegment<'_>,
+        heard: &mut Vec<Heard>,
+    ) -> Result<(), AllocError> {
+        let first = if segment.begins {
+            self.begin(segment.number, heard)?;
+            segment.number.wrapping_add(1)
+        } else {
+            segment.number
+        };
+        if self.stream.is_none() && !segment.payload.is_empty() {
+            self.stream = Some(Stream::new(self.alloc, first));
+        }
+        let Some(stream) = &mut self.stream else {
+            return Ok(());
+        };
+        let Some(at) = position_near(stream.position(), first) else {
+            return Ok(());
+        };
+        let Some(after) = at.checked_add(segment.payload.len() as u64) else {
+            return Ok(());
+        };
+        if after.saturating_sub(stream.position()) > FAR {
+            return Ok(());
+        }
+        if !segment.payload.is_empty() {
+            stream.put(self.alloc, at, segment.payload)?;
+        }
+        if segment.ends {
+            self.end = Some(after);
+        }
+        self.last = self.last.max(after);
+        let full = stream.waiting() > MOST;
+        self.drain(heard)?;
+        if full {
+            self.lose(after, heard)?;
+        }
+        Ok(())
+    }
+
+    /// The stream begins with the byte behind this number; what came before belongs to another connection.
+    fn begin(&mut self, number: u32, heard: &mut Vec<Heard>) -> Result<(), AllocError> {
+        if self.begun_at == Some(number) {
+            return Ok(());
+        }
+        self.close(heard)?;
+        self.begun_at = Some(number);
+        self.stream = Some(Stream::new(self.alloc, number.wrapping_add(1)));
+        self.cutter = Cutter::new(self.alloc, false);
+        self.end = None;
+        self.last = 0;
+        Ok(())
+    }
+
+    /// The other end has all bytes before this number: those that weren't captured by now are missing.
+    pub fn acknowledge(&mut self, number: u32, heard: &mut Vec<Heard>) -> Result<(), AllocError> {
+        let Some(stream) = &self.stream else {
+            return Ok(());
+        };
+        let position = stream.position();
+        let Some(near) = position_near(position, number) else {
+            return Ok(());
+        };
+        let upto = match self.end {
+            Some(end) => near.min(end),
+            None => near,
+        };
+        if upto.saturating_sub(position) <= FAR {
+            self.lose(upto, heard)?;
+        }
+        Ok(())
+    }
+
+    /// Gives up on the bytes before a position that didn't come.
+    fn lose(&mut self, upto: u64, heard: &mut Vec<Heard>) -> Result<(), AllocError> {
+        for _ in 0..FAR {
+            let missing = self.missing(upto);
+            if missing == 0 {
+                break;
+            }
+            heard.push(Heard::Missing(missing))?;
+            heard.push(Heard::Piece(self.cutter.gap()))?;
+            self.drain(heard)?;
+        }
+        Ok(())
+    }
+
+    /// Passes the bytes that are missing before a position, up to the first that came; gives how many these are.
+    fn missing(&mut self, upto: u64) -> u64 {
+        let Some(stream) = &mut self.stream else {
+            return 0;
+        };
+        let mut missing: u64 = 0;
+        for _ in stream.position()..upto {
+            if !stream.skip() {
+                break;
+            }
+            missing = missing.saturating_add(1);
+        }
+        missing
+    }
+
+    /// Cuts the bytes that came, in their order.
+    fn drain(&mut self, heard: &mut Vec<Heard>) -> Result<(), AllocError> {
+        let Some(stream) = &mut self.stream else {
+            return Ok(());
+        };
+        for _ in 0..u64::MAX {
+            let Some(byte) = stream.next() else {
+                break;
+            };
+            if let Some(piece) = self.cutter.take(byte)? {
+                heard.push(Heard::Piece(piece))?;
+            } else if self.cutter.len() >= LONGEST {
+                heard.push(Heard::Piece(self.cutter.gap()))?;
+            }
+        }
+        Ok(())
+    }
+
+    /// No more comes: gives what waits, and what is open as a piece whose end is missing.
+    pub fn close(&mut self, heard: &mut Vec<Heard>) -> Result<(), AllocError> {
+        // (the end of a stream has a number, too, but no byte)
+        let last = match self.end {
+            Some(end) => self.last.min(end),
+            None => self.last,
+        };
+        self.lose(last, heard)?;
+        if self.cutter.len() > 0 {
+            heard.push(Heard::Piece(self.cutter.gap()))?;
+        }
+        Ok(())
+    }
+}

@@ -1,0 +1,157 @@
+//! The TCP segment of a packet: behind the header of its link and that of IPv4 or IPv6.
+
+use std::net::{IpAddr, Ipv4Addr, Ipv6Addr, SocketAddr};
+
+const TCP: u8 = 6;
+
+/// A TCP segment.
+pub struct TcpSegment<'p> {
+    pub from: SocketAddr,
+    pub to: SocketAddr,
+    /// The number of its first byte, or of the connection's begin.
+    pub number: u32,
+    /// The number of the byte that its sender waits for.
+    pub acknowledged: Option<u32>,
+    /// Whether it begins the stream of its sender, ends it, or ends the connection.
+    pub begins: bool,
+    pub ends: bool,
+    pub resets: bool,
+    pub payload: &'p [u8],
+}
+
+impl Drop for TcpSegment<'_> {
+    fn drop(self) {
+        let TcpSegment {
+            from: _,
+            to: _,
+            number: _,
+            acknowledged: _,
+            begins: _,
+            ends: _,
+            resets: _,
+            payload: _,
+        } = self;
+    }
+}
+
+/// The TCP segment of a packet of a link: Ethernet, Linux cooked, loopback, or bare IP. Nothing where it has none, or a part of one.
+pub fn segment_of(link: u32, packet: &[u8]) -> Option<TcpSegment<'_>> {
+    let internet = match link {
+        0 | 108 => packet.get(4..)?,
+        1 => behind_ethernet(packet)?,
+        12 | 14 | 101 | 228 | 229 => packet,
+        113 => packet.get(16..)?,
+        276 => packet.get(20..)?,
+        _ => return None,
+    };
+    match *internet.first()? / 16 {
+        4 => of_version_4(internet),
+        6 => of_version_6(internet),
+        _ => None,
+    }
+}
+
+/// What an Ethernet frame carries, where that is IP; the tags of networks within networks are passed.
+fn behind_ethernet(frame: &[u8]) -> Option<&[u8]> {
+    let mut rest = frame.get(12..)?;
+    for _ in 0..3 {
+        match rest.get(..2)? {
+            [0x81, 0x00] | [0x88, 0xa8] => rest = rest.get(4..)?,
+            [0x08, 0x00] | [0x86, 0xdd] => return rest.get(2..),
+            _ => return None,
+        }
+    }
+    None
+}
+
+fn of_version_4(packet: &[u8]) -> Option<TcpSegment<'_>> {
+    let header = usize::from(*packet.first()? % 16) * 4;
+    let fragment = number(packet, 6)? % 0x4000;
+    if *packet.get(9)? != TCP || fragment != 0 {
+        return None;
+    }
+    let from = IpAddr::V4(version_4(packet.get(12..16)?)?);
+    let to = IpAddr::V4(version_4(packet.get(16..20)?)?);
+    // (a card that cuts long segments itself is handed packets without a length)
+    let whole = match usize::from(number(packet, 2)?) {
+        0 => packet.len(),
+        len => len.min(packet.len()),
+    };
+    of_tcp(from, to, packet.get(header..whole)?)
+}
+
+fn version_4(bytes: &[u8]) -> Option<Ipv4Addr> {
+    match bytes {
+        [a, b, c, d] => Some(Ipv4Addr::new(*a, *b, *c, *d)),
+        _ => None,
+    }
+}
+
+fn of_version_6(packet: &[u8]) -> Option<TcpSegment<'_>> {
+    let from = IpAddr::V6(version_6(packet.get(8..24)?)?);
+    let to = IpAddr::V6(version_6(packet.get(24..40)?)?);
+    let whole = match usize::from(number(packet, 4)?) {
+        0 => packet.len(),
+        len => (len + 40).min(packet.len()),
+    };
+    let mut kind = *packet.get(6)?;
+    let mut rest = packet.get(40..whole)?;
+    for _ in 0..8 {
+        match kind {
+            TCP => return of_tcp(from, to, rest),
+            // options for each hop, a route, options for the end: each says how long it is
+            0 | 43 | 60 => {
+                let len = usize::from(*rest.get(1)?) * 8 + 8;
+                kind = *rest.first()?;
+                rest = rest.get(len..)?;
+            }
+            _ => return None,
+        }
+    }
+    None
+}
+
+fn version_6(bytes: &[u8]) -> Option<Ipv6Addr> {
+    let mut octets = [0u8; 16];
+    if bytes.len() != octets.len() {
+        return None;
+    }
+    octets.copy_from_slice(bytes);
+    Some(Ipv6Addr::from(octets))
+}
+
+fn of_tcp(from: IpAddr, to: IpAddr, segment: &[u8]) -> Option<TcpSegment<'_>> {
+    let header = usize::from(*segment.get(12)? / 16) * 4;
+    if header < 20 {
+        return None;
+    }
+    let flags = *segment.get(13)?;
+    let has = |flag: u8| flags & flag != 0;
+    let waited_for = long(segment, 8)?;
+    Some(TcpSegment {
+        from: SocketAddr::new(from, number(segment, 0)?),
+        to: SocketAddr::new(to, number(segment, 2)?),
+        number: long(segment, 4)?,
+        acknowledged: if has(16) { Some(waited_for) } else { None },
+        begins: has(2),
+        ends: has(1),
+        resets: has(4),
+        payload: segment.get(header..)?,
+    })
+}
+
+/// The number of two bytes.
+fn number(bytes: &[u8], at: usize) -> Option<u16> {
+    match bytes.get(at..at.checked_add(2)?)? {
+        [a, b] => Some(u16::from_be_bytes([*a, *b])),
+        _ => None,
+    }
+}
+
+/// The number of four bytes.
+fn long(bytes: &[u8], at: usize) -> Option<u32> {
+    match bytes.get(at..at.checked_add(4)?)? {
+        [a, b, c, d] => Some(u32::from_be_bytes([*a, *b, *c, *d])),
+        _ => None,
+    }
+}

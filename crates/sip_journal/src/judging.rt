@@ -1,0 +1,318 @@
+//! What is told of lines and messages that are none, or that a log has damaged.
+
+use log_pairs::{Odd, Side, odd_of};
+use std::alloc::{AllocError, Global};
+use std::collections::BTreeMap;
+
+/// How many skipped lines, and how many odd messages, are told.
+const TOLD: usize = 3;
+
+/// How many bytes of a line are shown.
+const WIDTH: usize = 80;
+
+/// More than one odd message in so many is too much.
+const TOLERATED: u64 = 10;
+
+/// How many clients are told apart.
+const CLIENTS: usize = 65_536;
+
+/// Where a line stands: its log, and its number there, from 1 on.
+#[derive(Clone, Copy)]
+pub struct Place<'a> {
+    pub log: &'a str,
+    pub line: u64,
+}
+
+/// A line that is told, with the number that it has in all logs together.
+#[derive(Drop)]
+struct Shown {
+    number: u64,
+    text: String,
+}
+
+/// What was odd in the logs so far.
+pub struct Judge {
+    alloc: Global,
+    /// Messages that were judged.
+    messages: u64,
+    /// Messages whose first two bytes are no identifier of their side.
+    unknown: u64,
+    /// Messages whose checksum is wrong, or isn't their end.
+    wrong: u64,
+    /// What each client does, by the name of its connection.
+    clients: BTreeMap<Vec<u8>, Sums>,
+    skipped: Vec<Shown>,
+    damaged: Vec<Shown>,
+}
+
+/// The requests of a client: those with a checksum, right or wrong, and those without one, with the first of these.
+struct Sums {
+    summed: u64,
+    bare: u64,
+    first: Option<Shown>,
+}
+
+impl Drop for Sums {
+    fn drop(self) {
+        let Sums {
+            summed: _,
+            bare: _,
+            first: _,
+        } = self;
+    }
+}
+
+impl Sums {
+    /// The requests that lack a checksum: those without one, where at least one in ten of the client's has one.
+    fn lacking(&self) -> u64 {
+        if self.summed >= self.bare / (TOLERATED - 1) && self.summed > 0 {
+            self.bare
+        } else {
+            0
+        }
+    }
+}
+
+impl Drop for Judge {
+    fn drop(self) {
+        let Judge {
+            alloc: _,
+            messages: _,
+            unknown: _,
+            wrong: _,
+            clients: _,
+            skipped: _,
+            damaged: _,
+        } = self;
+    }
+}
+
+impl Judge {
+    pub fn new(alloc: Global) -> Judge {
+        Judge {
+            alloc,
+            messages: 0,
+            unknown: 0,
+            wrong: 0,
+            clients: BTreeMap::new(alloc),
+            skipped: Vec::new(alloc),
+            damaged: Vec::new(alloc),
+        }
+    }
+
+    /// Messages with an unknown identifier.
+    pub fn unknown(&self) -> u64 {
+        self.unknown
+    }
+
+    /// Messages with a wrong checksum.
+    pub fn wrong(&self) -> u64 {
+        self.wrong
+    }
+
+    /// Requests without a checksum, of clients that send some with one.
+    pub fn lacking(&self) -> u64 {
+        let mut all: u64 = 0;
+        for (_, sums) in &self.clients {
+            all = all.saturating_add(sums.lacking());
+        }
+        all
+    }
+
+    /// All messages that are odd.
+    pub fn odd(&self) -> u64 {
+        self.unknown
+            .saturating_add(self.wrong)
+            .saturating_add(self.lacking())
+    }
+
+    /// All messages that aren't.
+    pub fn good(&self) -> u64 {
+        self.messages.saturating_sub(self.odd())
+    }
+
+    /// Whether more than one message in ten is odd.
+    pub fn is_too_odd(&self) -> bool {
+        self.odd() > self.messages / TOLERATED
+    }
+
+    /// Notes a line that says nothing.
+    pub fn skip(&mut self, number: u64, place: Place<'_>, line: &[u8]) -> Result<(), AllocError> {
+        note(
+            self.alloc,
+            &mut self.skipped,
+            number,
+            place,
+            "skipped",
+            line,
+        )
+    }
+
+    /// Judges a message of a connection.
+    pub fn judge(
+        &mut self,
+        number: u64,
+        place: Place<'_>,
+        connection: &[u8],
+        side: Side,
+        message: &[u8],
+    ) -> Result<(), AllocError> {
+        self.messages = self.messages.saturating_add(1);
+        let odd = odd_of(self.alloc, side, message)?;
+        match (side, odd) {
+            (_, Some(Odd::UnknownIdentifier)) => {
+                self.unknown = self.unknown.saturating_add(1);
+                note(
+                    self.alloc,
+                    &mut self.damaged,
+                    number,
+                    place,
+                    "unknown identifier",
+                    message,
+                )?;
+            }
+            (_, Some(Odd::WrongSum)) => {
+                self.wrong = self.wrong.saturating_add(1);
+                note(
+                    self.alloc,
+                    &mut self.damaged,
+                    number,
+                    place,
+                    "wrong checksum",
+                    message,
+                )?;
+                if matches!(side, Side::Request) {
+                    self.count_sum(connection, None)?;
+                }
+            }
+            (_, Some(Odd::NoSum)) => {
+                let text = shown_text(self.alloc, place, "no checksum", message)?;
+                self.count_sum(connection, Some(Shown { number, text }))?;
+            }
+            (Side::Request, None) => self.count_sum(connection, None)?,
+            (Side::Response, None) => {}
+        }
+        Ok(())
+    }
+
+    /// Counts a request of a client: one with a checksum, or this one without.
+    fn count_sum(&mut self, connection: &[u8], bare: Option<Shown>) -> Result<(), AllocError> {
+        // (of more clients than these the last ones count as one)
+        let name = if self.clients.len() < CLIENTS {
+            connection
+        } else {
+            &[]
+        };
+        let mut sums = match self.clients.remove(name) {
+            Some(sums) => sums,
+            None => Sums {
+                summed: 0,
+                bare: 0,
+                first: None,
+            },
+        };
+        match bare {
+            Some(shown) => {
+                sums.bare = sums.bare.saturating_add(1);
+                if sums.first.is_none() {
+                    sums.first = Some(shown);
+                }
+            }
+            None => sums.summed = sums.summed.saturating_add(1),
+        }
+        let key = Vec::from_slice(self.alloc, name)?;
+        self.clients.insert(key, sums)?;
+        Ok(())
+    }
+
+    /// Tells the first skipped lines, and the first odd messages.
+    pub fn tell(&self, told: &mut String) -> Result<(), AllocError> {
+        for shown in &self.skipped {
+            tell_line(shown, told)?;
+        }
+        let mut after = 0;
+        for _ in 0..TOLD {
+            let Some(shown) = self.first_odd(after) else {
+                break;
+            };
+            tell_line(shown, told)?;
+            after = shown.number.saturating_add(1);
+        }
+        Ok(())
+    }
+
+    /// The first odd message from a line on, counted over all logs.
+    fn first_odd(&self, from: u64) -> Option<&Shown> {
+        let mut first: Option<&Shown> = None;
+        for shown in &self.damaged {
+            first = earlier(first, shown, from);
+        }
+        for (_, sums) in &self.clients {
+            if let Some(shown) = &sums.first {
+                if sums.lacking() > 0 {
+                    first = earlier(first, shown, from);
+                }
+            }
+        }
+        first
+    }
+}
+
+/// The earlier of two lines, of which the second counts only from a line on.
+fn earlier<'s>(first: Option<&'s Shown>, other: &'s Shown, from: u64) -> Option<&'s Shown> {
+    match first {
+        _ if other.number < from => first,
+        Some(shown) if shown.number <= other.number => first,
+        _ => Some(other),
+    }
+}
+
+fn tell_line(shown: &Shown, told: &mut String) -> Result<(), AllocError> {
+    told.push_str(shown.text.as_str())?;
+    told.push('\n')
+}
+
+/// Notes a line among those that are told, where these are too few.
+fn note(
+    alloc: Global,
+    told: &mut Vec<Shown>,
+    number: u64,
+    place: Place<'_>,
+    what: &str,
+    line: &[u8],
+) -> Result<(), AllocError> {
+    if told.len() >= TOLD {
+        return Ok(());
+    }
+    let text = shown_text(alloc, place, what, line)?;
+    told.push(Shown { number, text })?;
+    Ok(())
+}
+
+/// A line as it is told: its place, what it is, and its first bytes.
+fn shown_text(
+    alloc: Global,
+    place: Place<'_>,
+    what: &str,
+    line: &[u8],
+) -> Result<String, AllocError> {
+    let Place { log, line: number } = place;
+    let mut text = format!(in alloc; "{log}:{number}: {what}: ")?;
+    push_cut(&mut text, line)?;
+    Ok(text)
+}
+
+/// Adds the first bytes of a line to a text; those that don't print are spelled.
+pub fn push_cut(text: &mut String, line: &[u8]) -> Result<(), AllocError> {
+    for byte in &line[..line.len().min(WIDTH)] {
+        if byte.is_ascii_graphic() || *byte == b' ' {
+            text.push(char::from(*byte))?;
+        } else {
+            write!(text, "\\x{byte:02x}")?;
+        }
+    }
+    if line.len() > WIDTH {
+        text.push_str("..")?;
+    }
+    Ok(())
+}

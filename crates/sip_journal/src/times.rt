@@ -1,0 +1,231 @@
+//! The times of lines, as logs write them.
+
+use sip_reader::Day;
+
+/// A minute, in microseconds.
+pub const MINUTE: u64 = 60 * SECOND;
+
+/// A second, in microseconds.
+pub const SECOND: u64 = 1_000_000;
+
+const DAY: u64 = 24 * 60 * MINUTE;
+
+/// How far into a line its time begins, at most.
+const HEAD: usize = 64;
+
+/// Which parts of a date a log writes.
+#[derive(Clone, Copy)]
+pub enum Dates {
+    /// Year, month and day.
+    Whole,
+    /// Month and day.
+    Yearless,
+    /// None: times begin again at midnight.
+    None,
+}
+
+/// The time of a line, in microseconds, without regard to leap seconds.
+#[derive(Clone, Copy)]
+pub struct Time {
+    pub dates: Dates,
+    pub micros: u64,
+}
+
+/// The time at the head of a line: hours, minutes and seconds with two digits each, behind a date if there is one, with a
+/// fraction and a zone if they follow; or the microseconds since 1970 in 16 digits.
+pub fn time_of(line: &[u8]) -> Option<Time> {
+    let head = &line[..line.len().min(HEAD)];
+    if let Some(micros) = epoch(head) {
+        return Some(Time {
+            dates: Dates::Whole,
+            micros,
+        });
+    }
+    for at in 0..head.len() {
+        if let Some(seconds) = clock(&head[at..]) {
+            let after = head.get(at.saturating_add(8)..).unwrap_or(&[]);
+            return Some(dated(&head[..at], seconds, after));
+        }
+    }
+    None
+}
+
+/// The time of a clock, in seconds, with what stands before it and behind it.
+fn dated(before: &[u8], seconds: u64, after: &[u8]) -> Time {
+    let (fraction, rest) = fraction(after);
+    let of_day = seconds.saturating_mul(SECOND).saturating_add(fraction);
+    let (dates, days) = match whole_date(before) {
+        Some(days) => (Dates::Whole, days),
+        None => match yearless_date(before) {
+            Some(days) => (Dates::Yearless, days),
+            None => (Dates::None, 1),
+        },
+    };
+    let local = days.saturating_mul(DAY).saturating_add(of_day);
+    Time {
+        dates,
+        micros: without_zone(local, rest),
+    }
+}
+
+/// Sixteen digits at the head of a line, as a number.
+fn epoch(head: &[u8]) -> Option<u64> {
+    if digits(head.get(..17)?) == 16 {
+        number(head.get(..16)?)
+    } else {
+        None
+    }
+}
+
+/// How many digits a text begins with.
+fn digits(text: &[u8]) -> usize {
+    text.iter()
+        .position(|byte| !byte.is_ascii_digit())
+        .unwrap_or(text.len())
+}
+
+/// The number that digits spell.
+fn number(text: &[u8]) -> Option<u64> {
+    if digits(text) < text.len() {
+        return None;
+    }
+    str::from_utf8(text).ok()?.parse::<u64>().ok()
+}
+
+/// The seconds of a clock that a text begins with.
+fn clock(text: &[u8]) -> Option<u64> {
+    if *text.get(2)? != b':' || *text.get(5)? != b':' {
+        return None;
+    }
+    let hours = number(text.get(..2)?)?;
+    let minutes = number(text.get(3..5)?)?;
+    let seconds = number(text.get(6..8)?)?;
+    if hours < 24 && minutes < 60 && seconds < 61 {
+        Some(
+            hours
+                .saturating_mul(3600)
+                .saturating_add(minutes.saturating_mul(60))
+                .saturating_add(seconds),
+        )
+    } else {
+        None
+    }
+}
+
+/// The number of the day whose date a text ends with, with a space or a T behind it: year, month and day.
+fn whole_date(text: &[u8]) -> Option<u64> {
+    let date = text.get(text.len().checked_sub(11)?..)?;
+    let year = number(date.get(..4)?)?;
+    let month = number(date.get(5..7)?)?;
+    let day = number(date.get(8..10)?)?;
+    day_number(year, month, day)
+}
+
+/// The same of the name of a month, and a day. The year is taken to be a leap year.
+fn yearless_date(text: &[u8]) -> Option<u64> {
+    let date = text.get(text.len().checked_sub(7)?..)?;
+    let month = month_named(date.get(..3)?)?;
+    let day = match *date.get(4)? {
+        b' ' => number(date.get(5..6)?)?,
+        _ => number(date.get(4..6)?)?,
+    };
+    day_number(2000, month, day)
+}
+
+fn day_number(year: u64, month: u64, day: u64) -> Option<u64> {
+    let day = Day::of(
+        u16::try_from(year).ok()?,
+        u8::try_from(month).ok()?,
+        u8::try_from(day).ok()?,
+    )?;
+    Some(u64::from(day.number()))
+}
+
+fn month_named(name: &[u8]) -> Option<u64> {
+    Some(match name {
+        b"Jan" => 1,
+        b"Feb" => 2,
+        b"Mar" => 3,
+        b"Apr" => 4,
+        b"May" => 5,
+        b"Jun" => 6,
+        b"Jul" => 7,
+        b"Aug" => 8,
+        b"Sep" => 9,
+        b"Oct" => 10,
+        b"Nov" => 11,
+        b"Dec" => 12,
+        _ => return None,
+    })
+}
+
+/// The microseconds of a fraction that a text begins with, behind a point or a comma, and what follows it.
+fn fraction(text: &[u8]) -> (u64, &[u8]) {
+    match text.split_first() {
+        Some((b'.' | b',', rest)) => {
+            let count = digits(rest);
+            let given = rest.get(..count).unwrap_or(rest);
+            let behind = rest.get(count..).unwrap_or(&[]);
+            let mut micros: u64 = 0;
+            for place in 0..6 {
+                let digit = match given.get(place) {
+                    Some(byte) => u64::from(byte.saturating_sub(b'0')),
+                    None => 0,
+                };
+                micros = micros.saturating_mul(10).saturating_add(digit);
+            }
+            (micros, behind)
+        }
+        _ => (0, text),
+    }
+}
+
+/// A time without the zone that a text begins with: a sign, hours, and minutes with or without a colon.
+fn without_zone(local: u64, text: &[u8]) -> u64 {
+    match text.split_first() {
+        Some((b'+', rest)) => local.saturating_sub(zone(rest)),
+        Some((b'-', rest)) => local.saturating_add(zone(rest)),
+        _ => local,
+    }
+}
+
+fn zone(text: &[u8]) -> u64 {
+    hours_and_minutes(text).unwrap_or(0).saturating_mul(MINUTE)
+}
+
+fn hours_and_minutes(text: &[u8]) -> Option<u64> {
+    let hours = number(text.get(..2)?)?;
+    let minutes = match *text.get(2)? {
+        b':' => number(text.get(3..5)?)?,
+        _ => number(text.get(2..4)?)?,
+    };
+    Some(hours.saturating_mul(60).saturating_add(minutes))
+}
+
+/// A clock that goes on where the times of a log begin again, at midnight or at the new year.
+#[derive(Clone, Copy)]
+pub struct Onward {
+    last: u64,
+    added: u64,
+}
+
+impl Onward {
+    pub fn new() -> Onward {
+        Onward { last: 0, added: 0 }
+    }
+
+    /// The time of the next line, as microseconds that don't begin again.
+    pub fn next(&mut self, time: Time) -> u64 {
+        let round = match time.dates {
+            Dates::Whole => 0,
+            Dates::Yearless => DAY.saturating_mul(366),
+            Dates::None => DAY,
+        };
+        let fall = self.last.saturating_sub(time.micros);
+        if round > 0 && fall > round / 2 {
+            self.added = self.added.saturating_add(round);
+        }
+        self.last = time.micros;
+        time.micros.saturating_add(self.added)
+    }
+}

@@ -1,0 +1,31 @@
+//! The program `sip_why`: why the answers of a journal are what they are, since when each record stood so, and what to do about it. What is
+//! computed stands in `line_origins` and below; here are the words of the command line and the files.
+#![tactic(auto)]
+
+mod changes;
+mod chosen;
+mod command_line;
+mod files;
+mod prepared;
+mod run;
+mod stop;
+mod wanted;
+
+use crate::stop::Stop;
+use std::env::Env;
+use std::process::ExitCode;
+use std::{env, io};
+
+fn main(rt: HostRuntime) -> ExitCode {
+    let mut out = rt.stdout();
+    let mut err = rt.stderr();
+    match words(&rt) {
+        Ok(words) => ExitCode::from(run::run(&rt, words.as_slice(), &mut out, &mut err)),
+        Err(error) => ExitCode::from(Stop::of_words(&error).tell(&mut err)),
+    }
+}
+
+/// The words of the command line; a word that isn't text is an error.
+fn words<R: Env + AllocGlobal>(rt: &R) -> io::Result<Vec<String>> {
+    Ok(env::args(rt)?.collect(rt.alloc())?)
+}

@@ -1,0 +1,11 @@
+//! Tests of whole runs of `sip_replay`, from the words of the command line on: over an outside in memory of which each call fails in turn, and
+//! on files that a test writes.
+#![tactic(auto)]
+
+mod asked;
+#[cfg(test)]
+mod memory;
+#[cfg(test)]
+mod whole;
+
+pub use asked::Call;

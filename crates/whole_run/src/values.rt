@@ -1,0 +1,263 @@
+//! The values of a row that breaks a rule, by the names of their columns.
+
+ghost use Rattle.std.specs.Prelude.{IfSome, Some};
+ghost use Rattle.circ_records.specs.declared.fault.BaseRule.TheVariants as base;
+ghost use Rattle.whole_run.specs.Seeing.{AreValues};
+ghost use Rattle.whole_run.specs.Telling.{form_words};
+
+use crate::seen::Seen;
+use circ_records::{BaseRule, TableName};
+use csv::ByteRecord;
+use journal_table::JournalRule;
+use sip_reader::{Amount, Day, Id, is_text};
+use std::alloc::Global;
+use std::fmt;
+
+/// How much of a value is told, in characters.
+const TOLD: usize = 60;
+
+/// The form that a value should have.
+#[derive(Clone, Copy)]
+pub enum Form {
+    /// Y or N.
+    Flag,
+    /// A day, as 20260316.
+    Day,
+    /// A whole number.
+    Number,
+    /// A fee type, 01 to 09.
+    FeeType,
+    Amount,
+}
+
+impl fmt::Display for Form {
+    ghost output = { λ form. Some (form_words form) };
+
+    fn fmt<W: fmt::Write>(&self, f: &mut fmt::Formatter<W>) -> fmt::Result {
+        f.write_str(match self {
+            Form::Flag => "blocked is Y or N",
+            Form::Day => "a due day is eight digits of a day of the calendar, as 20260316",
+            Form::Number => "renewals are a whole number, in digits without leading zeros",
+            Form::FeeType => "a fee type is 01 to 09",
+            Form::Amount => "an amount is up to nine digits, with up to two after a point, as 1.50",
+        })
+    }
+}
+
+/// What a column has.
+#[derive(Clone, Copy)]
+enum Kind {
+    /// An id: 1 to 64 bytes.
+    Id,
+    /// A text.
+    Text,
+    Value(Form),
+}
+
+/// A column: its name in the header, and what it has.
+type Column = (&'static str, Kind);
+
+const PATRONS: &[Column] = &[
+    ("id", Kind::Id),
+    ("name", Kind::Text),
+    ("class", Kind::Text),
+    ("blocked", Kind::Value(Form::Flag)),
+];
+
+const ITEMS: &[Column] = &[
+    ("id", Kind::Id),
+    ("title", Kind::Text),
+    ("media", Kind::Text),
+    ("location", Kind::Text),
+    ("properties", Kind::Text),
+];
+
+const LOANS: &[Column] = &[
+    ("patron", Kind::Id),
+    ("item", Kind::Id),
+    ("due", Kind::Value(Form::Day)),
+    ("renewals", Kind::Value(Form::Number)),
+];
+
+const FEES: &[Column] = &[
+    ("id", Kind::Id),
+    ("patron", Kind::Id),
+    ("type", Kind::Value(Form::FeeType)),
+    ("amount", Kind::Value(Form::Amount)),
+    ("paid", Kind::Value(Form::Amount)),
+];
+
+const HOLDS: &[Column] = &[
+    ("item", Kind::Id),
+    ("patron", Kind::Id),
+    ("pickup", Kind::Text),
+];
+
+/// The columns of a table. Those of closed fees are the first four of the open ones.
+fn columns_of(table: TableName) -> &'static [Column] {
+    match table {
+        TableName::Patrons => PATRONS,
+        TableName::Items => ITEMS,
+        TableName::Loans => LOANS,
+        TableName::Fees | TableName::Closed => FEES,
+        TableName::Holds => HOLDS,
+    }
+}
+
+/// What is told of a row of a table that breaks a rule: the value that names the row, and those that break the rule. Nothing where memory runs out.
+pub fn seen_in_row(
+    alloc: Global,
+    table: TableName,
+    rule: BaseRule,
+    row: &ByteRecord,
+) -> Option<Seen>
+    ensures { IfSome result (AreValues rule) }
+{
+    match rule {
+        BaseRule::Value => seen_in_values(alloc, table, row),
+        _ => {
+            let text = row_values(alloc, table, rule, row)?;
+            Some(Seen::Values { text })
+        }
+    }
+}
+
+/// The first value of a row that has another form than it should, after the one that names the row.
+fn seen_in_values(alloc: Global, table: TableName, row: &ByteRecord) -> Option<Seen>
+    ensures { IfSome result (AreValues base.Value) }
+{
+    let (place, form) = wrong_form(table, row)?;
+    let columns = columns_of(table);
+    let mut text = String::new(alloc);
+    tell_value(alloc, &mut text, columns.first()?.0, row.get(0)?)?;
+    tell_value(alloc, &mut text, columns.get(place)?.0, row.get(place)?)?;
+    Some(Seen::Form { text, form })
+}
+
+/// Where the first value of a row stands that has another form than it should, and the right one.
+fn wrong_form(table: TableName, row: &ByteRecord) -> Option<(usize, Form)> {
+    for (place, ((_, kind), value)) in columns_of(table).iter().zip(row.iter()).enumerate() {
+        if let Kind::Value(form) = kind {
+            if !has_form(*form, value) {
+                return Some((place, *form));
+            }
+        }
+    }
+    None
+}
+
+/// The value that names a row of a table, and those that break its rule: `patron "P1", due "2026-03-16"`.
+fn row_values(alloc: Global, table: TableName, rule: BaseRule, row: &ByteRecord) -> Option<String> {
+    let mut told = String::new(alloc);
+    for (place, (column, value)) in columns_of(table).iter().zip(row.iter()).enumerate() {
+        if place == 0 || is_about(rule, column, value) {
+            tell_value(alloc, &mut told, column.0, value)?;
+        }
+    }
+    Some(told)
+}
+
+/// The same of a row of the journal. Its messages aren't told: they may have passwords.
+pub fn journal_values(alloc: Global, rule: JournalRule, row: &ByteRecord) -> Option<String> {
+    let mut told = String::new(alloc);
+    tell_value(alloc, &mut told, "line", row.get(0)?)?;
+    if rule == JournalRule::Connection {
+        tell_value(alloc, &mut told, "connection", row.get(1)?)?;
+    }
+    Some(told)
+}
+
+/// Whether a rule that is broken is about a column with this value.
+fn is_about(rule: BaseRule, column: &Column, value: &[u8]) -> bool {
+    let (name, kind) = *column;
+    match rule {
+        BaseRule::Text => !is_spelt(kind, value),
+        BaseRule::Class => name == "class",
+        BaseRule::Media => name == "media",
+        BaseRule::Double | BaseRule::Patron | BaseRule::Borrower | BaseRule::Queue => name
+            == "patron",
+        BaseRule::Item | BaseRule::Lent => name == "item",
+        BaseRule::Paid => name == "amount" || name == "paid",
+        BaseRule::Value | BaseRule::Number => false,
+    }
+}
+
+/// Whether an id or a text is one.
+fn is_spelt(kind: Kind, value: &[u8]) -> bool {
+    match kind {
+        Kind::Id => Id::new(value).is_some(),
+        Kind::Text => is_text(value),
+        Kind::Value(_) => true,
+    }
+}
+
+/// Whether a value has its form.
+fn has_form(form: Form, value: &[u8]) -> bool {
+    match form {
+        Form::Flag => value == b"Y".as_slice() || value == b"N".as_slice(),
+        Form::Day => is_day(value),
+        Form::Number => is_number(value),
+        Form::FeeType => matches!(value, [b'0', b'1'..=b'9']),
+        Form::Amount => Amount::read(value).is_some(),
+    }
+}
+
+/// Whether a text is a day, in eight digits.
+fn is_day(value: &[u8]) -> bool {
+    let Ok(text) = str::from_utf8(value) else {
+        return false;
+    };
+    if text.len() != 8 || !value.iter().all(|byte| byte.is_ascii_digit()) {
+        return false;
+    }
+    let number = text.parse::<u32>().unwrap_or(0);
+    let year = u16::try_from(number / 10_000).unwrap_or(0);
+    let month = u8::try_from(number / 100 % 100).unwrap_or(0);
+    let day = u8::try_from(number % 100).unwrap_or(0);
+    Day::of(year, month, day).is_some()
+}
+
+/// Whether a text is a number from 0 to 4,294,967,295 in digits, without leading zeros.
+fn is_number(value: &[u8]) -> bool {
+    let Ok(text) = str::from_utf8(value) else {
+        return false;
+    };
+    (text == "0" || !text.starts_with('0'))
+        && value.iter().all(|byte| byte.is_ascii_digit())
+        && text.parse::<u32>().is_ok()
+}
+
+/// Puts a value after others, in double quotes. Of a long one the beginning is told.
+fn tell_value(alloc: Global, told: &mut String, name: &str, value: &[u8]) -> Option<()> {
+    let before = if told.is_empty() { "" } else { ", " };
+    let value = shown(alloc, value)?;
+    let more = format!(in alloc; "{before}{name} \"{value}\"").ok()?;
+    told.push_str(more.as_str()).ok()
+}
+
+/// The characters of a value, as many as are told. Line ends and others that aren't printed are told by their escapes.
+fn shown(alloc: Global, value: &[u8]) -> Option<String> {
+    let Ok(text) = str::from_utf8(value) else {
+        return String::from_str(alloc, "bytes that are no UTF-8").ok();
+    };
+    let mut shown = String::new(alloc);
+    for char in text.chars().take(TOLD) {
+        if char == '\'' {
+            shown.push(char).ok()?;
+        } else {
+            push_escaped(&mut shown, char)?;
+        }
+    }
+    if text.chars().count() > TOLD {
+        shown.push_str("..").ok()?;
+    }
+    Some(shown)
+}
+
+/// A character, or its escape where it isn't printed.
+fn push_escaped(shown: &mut String, char: char) -> Option<()> {
+    for escaped in char.escape_debug() {
+        shown.push(escaped).ok()?;
+    }
+    Some(())
+}

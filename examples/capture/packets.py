@@ -1,0 +1,102 @@
+"""Writes captures: the segments of connections as packets of several links, in pcap and pcapng."""
+import struct
+
+SYN, FIN, RST, ACK, PSH = 2, 1, 4, 16, 8
+
+
+def tcp(source, target, number, waited, flags, payload):
+    return struct.pack('>HHIIBBHHH', source, target, number % 2 ** 32, waited % 2 ** 32, 8 << 4, flags, 512, 0, 0) + bytes(12) + payload
+
+
+def version_4(source, target, segment):
+    return struct.pack('>BBHHHBBH', 0x45, 0, 20 + len(segment), 7, 0x4000, 64, 6, 0) + bytes(source) + bytes(target) + segment
+
+
+def version_6(source, target, segment):
+    # (with options for each hop before the segment)
+    return (struct.pack('>IHBB', 6 << 28, 8 + len(segment), 0, 64) + bytes(10) + b'\xff\xff' + bytes(source) + bytes(10) + b'\xff\xff' + bytes(target)
+            + bytes([6, 0, 1, 4, 0, 0, 0, 0]) + segment)
+
+
+def ethertype(version):
+    return b'\x86\xdd' if version == 6 else b'\x08\x00'
+
+
+# Each link's number, and what it writes before a packet of IP of a version.
+LINKS = {
+    'ethernet': (1, lambda version: bytes(12) + ethertype(version)),
+    'vlan': (1, lambda version: bytes(12) + b'\x81\x00\x00\x07' + ethertype(version)),
+    'cooked': (113, lambda version: bytes(14) + ethertype(version)),
+    'cooked-2': (276, lambda version: ethertype(version) + bytes(18)),
+    'loopback': (0, lambda version: struct.pack('<I', 30 if version == 6 else 2)),
+    'bare': (101, lambda version: b''),
+}
+
+
+class Conversation:
+    """A connection of a client with a server: what it sends becomes packets of IP, in a list."""
+
+    def __init__(self, packets, version, client, port, first=(1000, 5000)):
+        self.packets, self.version, self.client, self.port, self.first = packets, version, client, port, first
+        self.sent = [first[0], first[1]]
+
+    def packet(self, of_server, number, flags, payload=b''):
+        ends = [((10, 0, 0, self.client % 200 + 7), 40000 + self.client), ((10, 0, 0, 1), self.port)]
+        (source, source_port), (target, target_port) = ends[::-1] if of_server else ends
+        waited = self.sent[0 if of_server else 1]
+        segment = tcp(source_port, target_port, number, waited if flags & ACK else 0, flags, payload)
+        self.packets.append((version_6 if self.version == 6 else version_4)(source, target, segment))
+
+    def begin(self):
+        self.packet(False, self.sent[0], SYN)
+        self.sent[0] += 1
+        self.packet(True, self.sent[1], SYN | ACK)
+        self.sent[1] += 1
+        self.packet(False, self.sent[0], ACK)
+
+    def say(self, of_server, *parts):
+        """Sends bytes, a segment for each part; the other end acknowledges the last."""
+        side = 1 if of_server else 0
+        for part in parts:
+            self.packet(of_server, self.sent[side], ACK | PSH, part)
+            self.sent[side] += len(part)
+        self.packet(not of_server, self.sent[1 - side], ACK)
+
+    def end(self):
+        for side in (0, 1):
+            self.packet(side == 1, self.sent[side], FIN | ACK)
+            self.sent[side] += 1
+        self.packet(False, self.sent[0], ACK)
+
+    def name(self):
+        address = f'10.0.0.{self.client % 200 + 7}'
+        return f'[::ffff:{address}]:{40000 + self.client}' if self.version == 6 else f'{address}:{40000 + self.client}'
+
+
+def framed(packets, link):
+    return [LINKS[link][1](packet[0] >> 4) + packet for packet in packets]
+
+
+def pcap(packets, link, order='<', magic=0xa1b2c3d4):
+    out = struct.pack(order + 'IHHiIII', magic, 2, 4, 0, 0, 262144, LINKS[link][0])
+    for at, packet in enumerate(framed(packets, link)):
+        out += struct.pack(order + 'IIII', 1772874000 + at // 100, at % 100 * 10000, len(packet), len(packet)) + packet
+    return out
+
+
+def block(order, kind, body):
+    body += bytes(-len(body) % 4)
+    return struct.pack(order + 'II', kind, len(body) + 12) + body + struct.pack(order + 'I', len(body) + 12)
+
+
+def pcapng(packets, link, order='<', simple=False):
+    out = block(order, 0x0a0d0d0a, struct.pack(order + 'IHHq', 0x1a2b3c4d, 1, 0, -1))
+    out += block(order, 1, struct.pack(order + 'HHI', LINKS[link][0], 0, 262144))
+    for at, packet in enumerate(framed(packets, link)):
+        if at % 50 == 7:
+            out += block(order, 5, struct.pack(order + 'III', 0, 0, at))
+        if simple:
+            out += block(order, 3, struct.pack(order + 'I', len(packet)) + packet)
+        else:
+            out += block(order, 6, struct.pack(order + 'IIIII', 0, 0, at, len(packet), len(packet)) + packet)
+    return out

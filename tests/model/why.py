@@ -1,0 +1,295 @@
+"""Why each line is answered as it is, and since when each record that it read stood so: reasons and origins once more, in plain Python.
+
+It was written from docs/RULES.md, and says what ./sip_why has to print for a journal.
+"""
+import model
+
+HEADER = ('line', 'reason', 'kind', 'id', 'since', 'said')
+
+
+class Tracing:
+    """Records with the number of the line that wrote each last, and what the line in hand reads and writes."""
+
+    def __init__(self, records):
+        self.records, self.policy, self.writers = records, records.policy, {}
+        self.read, self.written = {}, []
+
+    def has(self, kind, id):
+        return id in {'patron': self.records.patrons, 'item': self.records.items, 'fee': self.records.fees}[kind]
+
+    def look(self, kind, id):
+        """Reads a record, once in a line, unless the line wrote it before."""
+        if (kind, id) not in self.read and (kind, id) not in self.written:
+            self.read[kind, id] = None
+
+    def patron(self, id):
+        self.look('patron', id)
+        return self.records.patrons.get(id)
+
+    def item(self, id):
+        self.look('item', id)
+        return self.records.items.get(id)
+
+    def owed(self, patron):
+        for id in patron.fees:
+            self.look('fee', id)
+        return self.records.owed(patron)
+
+    # ------------------------------------------------------------ the tests; each gives the word of the first that holds
+
+    def owing(self, patron, item, agreed, done):
+        if self.owed(patron) > self.records.limits(patron)['max_fees']:
+            return 'max_fees'
+        if self.policy.media[item.media]['rental'] > 0 and not agreed:
+            return 'rental'
+        return done
+
+    def renewal(self, asker, patron, item, third, forced, agreed):
+        if item.borrower is None:
+            return 'not_lent'
+        if item.borrower != asker and not third:
+            return 'third_party'
+        if forced:
+            return 'renewed'
+        if patron.blocked:
+            return 'blocked'
+        if item.holds:
+            return 'waited_for'
+        if item.renewals >= self.records.limits(patron)['max_renewals']:
+            return 'max_renewals'
+        return self.owing(patron, item, agreed, 'renewed')
+
+    def lending(self, id, patron, item, forced, agreed):
+        if forced:
+            return 'made'
+        if item.borrower == id:
+            return 'own_loan'
+        if item.borrower is not None:
+            return 'lent'
+        if item.holds and item.holds[0][0] != id:
+            return 'queue'
+        if patron.blocked:
+            return 'blocked'
+        if len(patron.loans) >= self.records.limits(patron)['max_loans']:
+            return 'max_loans'
+        return self.owing(patron, item, agreed, 'made')
+
+    # ------------------------------------------------------------ the messages: the word, and what is written
+
+    def note_rental(self, line, request, item, made, charged):
+        """Of a rental that is charged the patron and its fee are written."""
+        if self.policy.media[item.media]['rental'] > 0 and charged:
+            self.written += [('patron', request.patron), ('fee', f'R{line}-{made}')]
+            return made + 1
+        return made
+
+    def why_11(self, line, request):
+        patron, item = self.patron(request.patron), self.item(request.item)
+        if patron is None or item is None:
+            return 'unknown_patron' if patron is None else 'unknown_item'
+        cancel = request.says('BI')
+        forced, agreed = request.fixed[1] == 'Y' or cancel, request.says('BO')
+        if item.borrower == request.patron and request.fixed[0] == 'Y':
+            word = self.renewal(request.patron, patron, item, False, forced, agreed)
+        else:
+            word = self.lending(request.patron, patron, item, forced, agreed)
+        if word == 'made':
+            self.written += [('patron', request.patron), ('item', request.item)]
+            if item.borrower not in (None, request.patron):
+                self.patron(item.borrower)
+                self.written.append(('patron', item.borrower))
+        if word == 'renewed':
+            self.written.append(('item', request.item))
+        if word in ('made', 'renewed'):
+            self.note_rental(line, request, item, 0, not cancel)
+        return word
+
+    def why_29(self, line, request):
+        patron, item = self.patron(request.patron), self.item(request.item)
+        if patron is None or item is None:
+            return 'unknown_patron' if patron is None else 'unknown_item'
+        word = self.renewal(request.patron, patron, item, request.fixed[0] == 'Y', request.fixed[1] == 'Y', request.says('BO'))
+        if word == 'renewed':
+            self.written.append(('item', request.item))
+            self.note_rental(line, request, item, 0, True)
+        return word
+
+    def why_65(self, line, request):
+        """Takes the words of the items on records of their own, since each rental counts in what is owed at the next."""
+        patron = self.patron(request.patron)
+        self.items = {}
+        if patron is None:
+            return 'unknown_patron'
+        made, owes = 0, None
+        for id in patron.loans:
+            item = self.item(id)
+            rental = self.policy.media[item.media]['rental']
+            word = self.renewal(request.patron, patron, item, False, False, True)
+            if word == 'renewed':
+                # (the fees were read by now)
+                owes = self.records.owed(patron) if owes is None else owes
+                if owes > self.records.limits(patron)['max_fees']:
+                    word = 'max_fees'
+                elif rental > 0 and not request.says('BO'):
+                    word = 'rental'
+            if word == 'renewed':
+                self.written.append(('item', id))
+                made, owes = self.note_rental(line, request, item, made, True), owes + rental
+            self.items[id] = word
+        return 'done'
+
+    def why_09(self, line, request):
+        item = self.item(request.item)
+        if item is None:
+            return 'unknown_item'
+        if item.borrower is None:
+            return 'not_lent'
+        self.patron(item.borrower)
+        self.written += [('patron', item.borrower), ('item', request.item)]
+        if self.late_fee(request, item) > 0:
+            self.written.append(('fee', f'R{line}-0'))
+            return 'returned_late'
+        return 'returned'
+
+    def back(self, request):
+        back = request.other_day(19)
+        return request.day if back is None else back
+
+    def late_fee(self, request, item):
+        return 0 if request.says('BI') else self.policy.late_fee(item.due, self.back(request), item.media)
+
+    def why_15(self, line, request):
+        patron, item, mode = self.patron(request.patron), self.item(request.item), request.fixed[0]
+        if patron is None or item is None:
+            return 'unknown_patron' if patron is None else 'unknown_item'
+        waits = any(hold[0] == request.patron for hold in item.holds)
+        if mode == '+':
+            word = ('blocked' if patron.blocked else 'has_entry' if waits else 'own_loan' if item.borrower == request.patron
+                    else 'queue_full' if len(item.holds) >= 9999 else 'added')
+        else:
+            word = 'no_entry' if not waits else 'deleted' if mode == '-' else 'changed'
+        if word in ('added', 'deleted', 'changed'):
+            self.written.append(('item', request.item))
+        return word
+
+    def why_37(self, line, request):
+        patron, left = self.patron(request.patron), model.amount_of(request.fields['BV'])
+        if patron is None:
+            return 'unknown_patron'
+        if request.fixed[22:25] != self.policy.currency:
+            return 'currency'
+        if left == 0:
+            return 'no_amount'
+        named, closed, paid = request.fields.get('CG', ''), False, False
+        for id in [named] if named in patron.fees else patron.fees:
+            if left == 0:
+                break
+            self.look('fee', id)
+            rest = self.records.fees[id].amount - self.records.fees[id].paid
+            if min(left, rest) > 0:
+                self.written.append(('fee', id))
+                paid, closed, left = True, closed or rest <= left, left - min(left, rest)
+        if closed:
+            self.written.append(('patron', request.patron))
+        return 'paid' if paid else 'nothing_owed'
+
+    def why_01(self, line, request):
+        patron = self.patron(request.patron)
+        if patron is None:
+            return 'unknown_patron'
+        self.owed(patron)
+        self.written.append(('patron', request.patron))
+        return 'done'
+
+    why_25 = why_01
+
+    def why_19(self, line, request):
+        if self.item(request.item) is None:
+            return 'unknown_item'
+        if 'CH' in request.fields:
+            self.written.append(('item', request.item))
+        return 'done'
+
+    # ------------------------------------------------------------ what of a record mattered
+
+    def said(self, request, word, kind, id):
+        if not self.has(kind, id):
+            return 'none'
+        return '; '.join(getattr(self, 'said_' + kind)(request, word, id))
+
+    def said_patron(self, request, word, id):
+        patron = self.records.patrons[id]
+        limits = self.records.limits(patron)
+        yield f'class {patron.group}'
+        yield f'blocked {"NY"[patron.blocked]}'
+        yield f'loans {len(patron.loans)} of {limits["max_loans"]}'
+        if all(('fee', fee) in self.read for fee in patron.fees):
+            yield f'owed {model.amount_text(self.records.owed(patron))} of {model.amount_text(limits["max_fees"])}'
+
+    def said_item(self, request, word, id):
+        item = self.records.items[id]
+        terms = self.policy.media[item.media]
+        if item.borrower is None:
+            yield 'borrower none'
+        else:
+            yield f'borrower {item.borrower}'
+            yield f'due {model.day_text(item.due)}'
+            yield f'renewals {item.renewals}'
+        yield f'holds {len(item.holds)}'
+        if item.holds:
+            yield f'first {item.holds[0][0]}'
+        if terms['rental'] > 0:
+            yield f'rental {model.amount_text(terms["rental"])}'
+        if word in ('made', 'renewed'):
+            yield from self.said_due(request, item, terms)
+        if word == 'returned_late':
+            yield f'back {model.day_text(self.back(request))}'
+            yield f'late fee {model.amount_text(self.late_fee(request, item))}'
+
+    def said_due(self, request, item, terms):
+        forced = request.kind != '65' and (request.fixed[1] == 'Y' or (request.kind == '11' and request.says('BI')))
+        given = request.other_day(20) if forced else None
+        if given is not None:
+            yield f'due day given {model.day_text(given)}'
+            return
+        first, due = request.day + terms['days'], self.policy.due(request.day, item.media)
+        yield f'due day {model.day_text(due)}'
+        yield f'days {terms["days"]}'
+        if first < due:
+            yield 'closed ' + ' '.join(map(model.day_text, range(first, due)))
+
+    def said_fee(self, request, word, id):
+        fee = self.records.fees[id]
+        yield f'patron {fee.patron}'
+        yield f'type {fee.kind}'
+        yield f'amount {model.amount_text(fee.amount)}'
+        yield f'paid {model.amount_text(fee.paid)}'
+
+    # ------------------------------------------------------------ a line
+
+    def rows(self, line, request):
+        """The rows of a line that is a request, on the records before it; then the line is done."""
+        self.read, self.written, self.items = {}, [], {}
+        word = getattr(self, 'why_' + request.kind)(line, request)
+        rows = []
+        for kind, id in self.read:
+            own = self.items.get(id, word) if kind == 'item' else word
+            since = str(self.writers.get((kind, id), 'base')) if self.has(kind, id) else ''
+            rows.append((str(line), own, kind, id, since, self.said(request, own, kind, id)))
+        self.records.answer(line, request)
+        self.writers.update(dict.fromkeys(self.written, line))
+        return rows or [(str(line), word, '', '', '', '')]
+
+
+def why(records, journal, wanted=None):
+    """The text of why.csv for a journal's rows: of the lines that are wanted, else of each answered one."""
+    tracing, rows = Tracing(records), []
+    for number, _, text, _ in journal:
+        request = model.read_request(text)
+        if isinstance(request, model.Request):
+            told = tracing.rows(int(number), request)
+        else:
+            told = [(number, 'checksum', '', '', '', '')] if request[0] == 'resend' else []
+        if wanted is None or int(number) in wanted:
+            rows += told
+    return ''.join(','.join(map(model.quoted, row)) + '\n' for row in [HEADER, *rows])

@@ -23,7 +23,7 @@ row_there : (o : Option Row) (s : LineState) → option_map (λ r. r.state) o �
 row_there None s h = absurd (none-some s h)
 row_there (Some r) s h = (r, refl, same_Some r.state s h)
 
--- the row of a line whose state is told
+-- the row of a line whose state is given
 pub there : (t : States) (line : ℕ) (s : LineState) → state_at t line ≡ Some s → (r : Row) × (slice_get t.rows (line - t.first) ≡ Some r) × (r.state ≡ s)
 there t line s h =
     let x = row_there (row_at t line) s h in
@@ -60,7 +60,7 @@ waiting_row t u line row same h is =
     let e = row_read u.rows (line - u.first) r.0 row r.1 is in
     (r.1 ∙ ap (λ x. Some x) e, ap (λ (x : Row). x.state) (sym e) ∙ r.2)
 
--- the row of a line whose state is told, as it is read and as the line's
+-- the row of a line whose state is given, as it is read and as the line's
 pub told_row : (t u : States) (line : ℕ) (s : LineState) (row : Row) → u ≡ t → state_at t line ≡ Some s → row ≡ get_or u.rows (line - u.first) row
     → (next_at t line ≡ Some row.next) × (row_of u line ≡ row)
 told_row t u line s row same h is =

@@ -1,4 +1,4 @@
--- The lines of a journal while they are run: where each stands, and the counts (the board; the counts balance).
+-- The lines of a journal while they are run: the state of each, and the counts (the board; the counts balance).
 use Rattle.std.specs.Prelude.{◌≡◌, ℕ, ◌+◌, ◌-◌, ◌≤◌, ◌^◌, Bool, true, false, List, Option, Some, None, length, replicate, slice_get, option_map, nat_lt, if◌then◌else◌}
 use Rattle.std.specs.List.{sum_by, All}
 use Rattle.std.specs.Option.{option_and_then}
@@ -72,7 +72,7 @@ pub record IsCounted (rows : List Row) (c : Counts) : Type 0 where
 abbrev pub row_at : States → ℕ → Option Row
 row_at t line = if nat_lt line t.first then None else slice_get t.rows (line - t.first)
 
--- where the line of a number stands
+-- the state of the line of a number
 abbrev pub state_at : States → ℕ → Option LineState
 state_at t line = option_map (λ r. r.state) (row_at t line)
 
@@ -90,6 +90,6 @@ newest_at t line = option_and_then newest_of (row_at t line)
 abbrev pub no_counts : Counts
 no_counts = record { takes = 0; failed = 0; stops = 0; commits = 0; live = 0 }
 
--- so many lines, all waiting, the next attempt of each being this one
+-- a number of lines, all waiting, the next attempt of each being this one
 abbrev pub all_waiting : ℕ → ℕ → ℕ → States
 all_waiting first lines attempt = record { first = first; rows = replicate lines (record { state = Waiting; next = attempt }); counts = no_counts }

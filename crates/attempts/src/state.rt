@@ -1,7 +1,7 @@
 ghost use Rattle.std.specs.Prelude.{◌≡◌};
 ghost use Rattle.attempts.specs.States.{is_live};
 
-/// Where a line stands.
+/// The state of a line.
 #[derive(Clone, Copy, PartialEq, Eq)]
 pub enum LineState {
     /// It waits for its first attempt, or for the next one.
@@ -18,13 +18,13 @@ pub enum LineState {
     Done {
         stamp: Option<u64>,
     },
-    /// A worker compares the names that it noted, and has compared so many since the check began at the stamp.
+    /// A worker compares the names that it noted, and has compared this many since the check began at the stamp.
     Checking {
         worker: u32,
         stamp: u64,
         compared: u64,
     },
-    /// Its answer and its records stand.
+    /// Its answer and its records are final.
     Committed,
 }
 

@@ -13,14 +13,14 @@ use std::marker::Model;
 /// How many attempts a line can have: their numbers are those of a u32.
 const ATTEMPTS: u64 = 1 << 32;
 
-/// A line: where it stands, and the number of its next attempt.
+/// A line: its state, and the number of its next attempt.
 #[derive(Clone, Copy)]
 pub struct Row {
     pub state: LineState,
     pub next: u64,
 }
 
-/// Where each line of a journal stands, and the counts. Lines go by their numbers.
+/// The state of each line of a journal, and the counts. Lines go by their numbers.
 pub struct AttemptTable {
     first: u64,
     rows: Vec<Row>,
@@ -74,7 +74,7 @@ impl AttemptTable {
         })
     }
 
-    /// Where the line of a number stands; None where there is no such line.
+    /// The state of the line of a number; None where there is no such line.
     pub fn state(&self, line: u64) -> Option<LineState>
         ensures { result ≡ state_at self.now line }
     {
@@ -133,7 +133,7 @@ impl AttemptTable {
         Some(row.next as u32)
     }
 
-    /// A line of which an attempt goes on comes to another state of the same attempt.
+    /// A line of which an attempt goes on enters another state of the same attempt.
     pub fn go_on(&mut self, line: u64, state: LineState)
         requires old { IsSomeAnd (state_at self.old line) (λ s. is_live s ≡ true) }
         requires new { is_live state ≡ true }
@@ -165,7 +165,7 @@ impl AttemptTable {
         self.counts.live -= 1;
     }
 
-    /// The line's answer and its records stand.
+    /// The line's answer and its records are final.
     pub fn commit(&mut self, line: u64)
         requires { IsSomeAnd (state_at self.old line) (λ s. is_live s ≡ true) }
         ensures { self.new ≡ committed self.old line }

@@ -23,7 +23,7 @@ key_same k q h = key_cmp-IsAntisymmetric k q (is_eq_true (key_cmp k q) h)
 pub same_tie : (k q : Key) → k ≡ q → eq_by_cmp key_cmp k q ≡ true
 same_tie k q e = ap (eq_by_cmp key_cmp k) (sym e) ∙ (eq_by_cmp_equiv key_cmp_total).refl k
 
--- ---- a note of a line, from its key, its name and what its place tells
+-- ---- a note of a line, from its key, its name and the version at its place
 module _ (base : Entries) (ns : List Noted) (i : ℕ) where
   from_parts : (o : Option Noted) (k : Key) (p : Name × Option Contents) → Some k ≡ option_map (λ (x : Noted). x.key) o → Some p ≡ option_map named_in o
       → option_map (note_by base) o ≡ Some (record { key = k; name = p.0; found = found_by base k p.1 })

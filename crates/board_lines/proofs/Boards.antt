@@ -1,6 +1,7 @@
 -- The board that the fields are, after a change of one line.
-use Rattle.std.proofs.Common.{◌≡◌, ◌≢◌, ℕ, ◌+◌, ◌-◌, ◌<◌, ◌≤◌, max, get_or, List, Option, length, sym, ap, ap₂, subst, ◌∙◌, inl, inr, arith}
+use Rattle.std.proofs.Common.{◌≡◌, ◌≢◌, ℕ, ◌+◌, ◌-◌, ◌<◌, ◌≤◌, max, get_or, map, set, List, Option, length, sym, ap, ap₂, subst, ◌∙◌, inl, inr, arith}
 use Rattle.std.proofs.lemmas.Bool.{cases_eq, cases_lt}
+use Rattle.std.proofs.lemmas.List.{get_or-map, length-map, map-set}
 use Rattle.std.proofs.lemmas.Option.{none-some}
 use Rattle.circ_records.specs.Records.{Entries}
 use Rattle.read_set.specs.Plans.{Planned}
@@ -12,8 +13,14 @@ use Rattle.board_steps.specs.Reached.{Reached}
 use Rattle.board_steps.specs.Steps.{put_row}
 use Rattle.board_steps.proofs.Lines.{row_from, rows_put, row_put, row_put_off, within_board}
 use Rattle.board_lines.specs.Courses.{IsUnderWay}
-use Rattle.board_lines.specs.Parts.{Kept, Parts, no_notes, row_by, first_of, board_of, kept_at, HandsHold, IsKept}
+use Rattle.board_lines.specs.Parts.{Kept, Parts, no_notes, row_by, row_shown, first_of, board_of, kept_at, HandsHold, IsKept}
+use Rattle.board_lines.specs.declared.lines.Lines.TheInside.{Inside}
+use Rattle.board_lines.specs.declared.row.Row as code
 use Rattle.board_lines.proofs.Firsts.{length_first, nth_first, set_first}
+
+-- the fields of the code, as data
+abbrev pub parts_of : {J : Type 0} → Inside J → Parts
+parts_of a = record { states = a.attempts; store = a.entries; rows = map row_shown a.rows.items; hands = a.hands.items; clock = a.clock; latest = a.latest }
 
 -- a line is there where its place is among the rows
 pub is_there : (base : Entries) (a : Parts) (n : ℕ) → a.states.first ≤ n → n - a.states.first < length a.rows → IsLine (board_of base a) n
@@ -25,6 +32,15 @@ place_of base a n there = let e = length_first (row_by base a) (length a.rows) i
 pub row_there : (base : Entries) (a : Parts) (n : ℕ) → IsLine (board_of base a) n → row_at (board_of base a) n ≡ row_by base a (n - a.states.first)
 row_there base a n there =
     row_from (board_of base a) n there.0 ∙ nth_first (row_by base a) (length a.rows) (n - a.states.first) _ (place_of base a n there)
+
+-- the row of a line, in code and as data
+pub row_read : {J : Type 0} (rows : List (code.Row J)) (n x first : ℕ) (spot : code.Row J) → x ≡ first → n - first < length (map row_shown rows) → spot ≡ get_or rows (n - x) spot
+    → get_or (map row_shown rows) (n - first) no_notes ≡ row_shown spot
+row_read rows n x first spot f l is =
+    get_or-map row_shown rows (n - first) spot no_notes (omega (arith, l, length-map rows row_shown)) ∙ ap row_shown (sym (is ∙ ap (λ y. get_or rows (n - y) spot) f))
+
+pub row_set : {J : Type 0} (rows : List (code.Row J)) (n x first : ℕ) (row : code.Row J) → x ≡ first → map row_shown (set rows (n - x) row) ≡ set (map row_shown rows) (n - first) (row_shown row)
+row_set rows n x first row f = map-set row_shown rows (n - x) row ∙ ap (λ y. set (map row_shown rows) (n - y) (row_shown row)) f
 
 -- only line n is another
 pub record Puts (base : Entries) (a q : Parts) (n : ℕ) (r : Row) : Type 0 where
@@ -71,7 +87,7 @@ row_new base a q n r there puts = ap (λ (b : Board). row_at b n) (board_is base
 pub row_old : (base : Entries) (a q : Parts) (n : ℕ) (r : Row) → IsLine (board_of base a) n → Puts base a q n r → (m : ℕ) → m ≢ n → row_at (board_of base q) m ≡ row_at (board_of base a) m
 row_old base a q n r there puts m ne = ap (λ (b : Board). row_at b m) (board_is base a q n r there puts) ∙ row_put_off (board_of base a) n r m ne
 
--- what is kept of another line is as it was
+-- the row of another line is as it was
 kept_old : (base : Entries) (a q : Parts) (n : ℕ) (r : Row) → IsLine (board_of base a) n → Puts base a q n r → (m : ℕ) → m ≢ n → a.states.first ≤ m → kept_at q m ≡ kept_at a m
 kept_old base a q n r there puts m ne from =
     ap (λ x. get_or q.rows (m - x) no_notes) puts.first ∙ puts.kept_off (m - a.states.first) (λ e. ne (omega (arith, e, from, there.0)))

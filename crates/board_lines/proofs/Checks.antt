@@ -4,8 +4,9 @@ use Rattle.std.proofs.Common.{◌≡◌, ◌≢◌, ℕ, zero, suc, ◌+◌, ◌
 use Rattle.std.specs.Prelude.{option_map, is_some}
 use Rattle.std.proofs.lemmas.Bool.{le-ltb}
 use Rattle.std.proofs.lemmas.List.{set-get_or}
-use Rattle.std.proofs.lemmas.Option.{none-some, same_Some, slice_get_within, slice_get-get_or}
+use Rattle.std.proofs.lemmas.Option.{none-some, same_Some, slice_get_within, slice_get-get_or, slice_get-map}
 use Rattle.std.specs.FinMap.{entries}
+use Rattle.circ_records.specs.Records.{Entries}
 use Rattle.circ_records.specs.declared.key.Key.{Key}
 use Rattle.sip_answer.specs.declared.answer.Answer.{Answer}
 use Rattle.read_set.specs.Plans.{Planned}
@@ -25,11 +26,11 @@ use Rattle.version_store.specs.declared.entry.Found.TheVariants.{Named}
 use Rattle.board_steps.specs.Board.{State, Row, Board, IsLine, IsCommitted, row_at, holder, live_of, found}
 use Rattle.board_steps.specs.Board.State.{Waiting, Placing, Done, Checking}
 use Rattle.board_steps.specs.Reached.{Reached, IsNow}
-use Rattle.board_steps.specs.Steps.{IsFree, Compares, Differs, CheckStep, HasNone, HasRoom, put_row, with_state, marked}
+use Rattle.board_steps.specs.Steps.{IsFree, Compares, Differs, CheckStep, HasNone, HasRoom, put_row, with_state, failing, marked}
 use Rattle.board_steps.specs.Steps.Reply.{Whole, Same, Changed}
 use Rattle.board_steps.proofs.Steps.{check_step}
 use Rattle.board_lines.specs.Hands.{HasNoLine, notes_of}
-use Rattle.board_lines.specs.Notes.{notes_by, key_and_name}
+use Rattle.board_lines.specs.Notes.{Noted, note_by, notes_by, key_and_name}
 use Rattle.board_lines.specs.Parts.{Kept, Parts, no_notes, row_with, row_by, state_of, answer_by, board_of, HandsHold, IsKept}
 use Rattle.board_lines.specs.Sights.{IsCheck, IsOther, IsSame, names_now}
 use Rattle.board_lines.proofs.Boards.{Puts, place_of, row_there, board_is, row_new, row_old, kept_put}
@@ -82,6 +83,10 @@ note_past [] i h = omega arith
 note_past (x ∷ notes) zero h = absurd (none-some (key_and_name x) h)
 note_past (x ∷ notes) (suc i) h = (let e = note_past notes i h in omega (arith, e))
 
+key_of_note : (base : Entries) (o : Option Noted) → option_map (λ (x : Note). x.key) (option_map (note_by base) o) ≡ option_map (λ (x : Noted). x.key) o
+key_of_note base None = refl
+key_of_note base (Some x) = refl
+
 -- ---- the names that are compared
 pub names_there : (b : Board) (n : ℕ) (o : Option (Key × Name)) (noted : Name) (now : Found) → Some (noted, now) ≡ option_map (names_now b n) o
     → (key : Key) × (Some (key, noted) ≡ o) × (now ≡ found (row_at b) n key)
@@ -93,13 +98,6 @@ pub names_past : (b : Board) (n : ℕ) (o : Option (Key × Name)) → None ≡ o
 names_past b n None h = refl
 names_past b n (Some p) h = absurd (none-some (names_now b n p) h)
 
--- they are those of the note that is there
-pub names_here : (b : Board) (n : ℕ) (o : Option (Key × Name)) (noted : Name) (now : Found) (key : Key) (name : Name)
-    → Some (noted, now) ≡ option_map (names_now b n) o → Some (key, name) ≡ o → (noted ≡ name) × (now ≡ found (row_at b) n key)
-names_here b n o noted now key name h e =
-    let q : (noted, now) ≡ names_now b n (key, name) = same_Some (noted, now) (names_now b n (key, name)) (h ∙ ap (option_map (names_now b n)) (sym e)) in
-    (ap (λ (x : Name × Found). x.0) q, ap (λ (x : Name × Found). x.1) q)
-
 -- the names are one
 pub is_same : (b : Board) (w n : ℕ) (notes : List Note) (answer : Option Answer) (t i : ℕ) (key : Key) (noted : Name) → Compares b w n notes answer t i
     → Some (key, noted) ≡ option_map key_and_name (slice_get (notes_of (row_at b n).state) i) → found (row_at b) n key ≡ Named noted → IsSame b w n t i
@@ -109,14 +107,14 @@ is_same b w n notes answer t i key noted c e f =
 
 -- they are two
 pub is_other : (b : Board) (w n : ℕ) (notes : List Note) (answer : Option Answer) (t i : ℕ) (key : Key) (noted : Name) (now : Found) → Compares b w n notes answer t i
-    → Some (key, noted) ≡ option_map key_and_name (slice_get (notes_of (row_at b n).state) i) → now ≡ found (row_at b) n key → now ≢ Named noted → IsOther b w n key noted now
+    → Some (key, noted) ≡ option_map key_and_name (slice_get (notes_of (row_at b n).state) i) → now ≡ found (row_at b) n key → now ≢ Named noted → IsOther b w n i noted now
 is_other b w n notes answer t i key noted now c e f ne =
     let x = note_there notes i key noted (e ∙ ap (λ (y : List Note). option_map key_and_name (slice_get y i)) (check_notes b w n notes answer t i c)) in (
       notes,
       answer,
       t,
-      i,
       c,
+      key,
       record {
         value = x.0.found;
         note = x.1 ∙ ap₂ (λ (k : Key) (m : Name). Some (record { key = k; name = m; found = x.0.found })) x.2 x.3;
@@ -383,107 +381,90 @@ module _ (plan : Planned) (a : Parts) (kept : IsKept plan a) (w n : ℕ) where
           moved_kept (states.Checking w t (i + 1)) further (Some n) further_is further_hand further_placed q (ap (λ (y : States). y.first) states_is) (ap (λ (y : States). y.rows) states_is) store_is rows_is hands_is latest_is (ap (λ (y : States). y.counts.commits) states_is)
           (check_step plan (board_of plan.base a) w n Same (board_of plan.base q) kept.reached same_returns)
 
-    -- ---- the line waits again; it has no entry
-    module _ (key : Key) (noted : Name) (now : Found) (differs : Differs (board_of plan.base a) n notes i key noted now) (none : HasNone (row_at (board_of plan.base a) n))
-        (q : Parts) (states_is : q.states ≡ moves.failed a.states n) (store_is : q.store ≡ a.store) (rows_is : q.rows ≡ a.rows)
-        (hands_is : q.hands ≡ set a.hands w None) (clock_is : q.clock ≡ a.clock) (latest_is : q.latest ≡ a.latest) where
-      back : State
-      back = Waiting
+    -- ---- the line waits again, and its entries are l
+    -- the key of the note that is compared
+    pub key_there : (key : Key) (noted : Name) (now : Found) → Differs (board_of plan.base a) n notes i key noted now
+        → option_map (λ (x : Noted). x.key) (slice_get (get_or a.rows (n - a.states.first) no_notes).notes i) ≡ Some key
+    key_there key noted now differs =
+        let ns = (get_or a.rows (n - a.states.first) no_notes).notes in
+        sym (key_of_note plan.base (slice_get ns i))
+        ∙ ap (option_map (λ (x : Note). x.key)) (sym (slice_get-map (note_by plan.base) ns i) ∙ ap (λ (l : List Note). slice_get l i) same_notes ∙ differs.note)
 
-      back_is : state_of states.Waiting notes (get_or a.rows (n - a.states.first) no_notes).contents ≡ back
-      unfolding back
-      back_is = refl
-
-      back_hand : ((◌≡◌ {A = Option ℕ} None (Some n)) × (holder back ≡ Some w)) ⊎ ((◌≡◌ {A = Option ℕ} None None) × (holder back ≡ None))
-      unfolding back
-      back_hand = inr (refl, refl)
-
-      back_placed : (v : ℕ) (ns : List Note) (last : Option Contents) → back ≡ Placing v ns last → ⊥
-      unfolding back
-      back_placed v ns last h = cc
-
-      pub back_returns : CheckStep (board_of plan.base a) w n (Changed key noted now) (board_of plan.base q)
-      unfolding back
-      back_returns = (
-        notes,
-        answer,
-        t,
-        i,
-        c,
-        differs,
-        inl (
-          none,
-          board_eq _ _
-              (moved_first states.Waiting back None back_is back_hand back_placed q (ap (λ (y : States). y.first) states_is) (ap (λ (y : States). y.rows) states_is) store_is rows_is hands_is latest_is (ap (λ (y : States). y.counts.commits) states_is))
-              (moved_rows states.Waiting back None back_is back_hand back_placed q (ap (λ (y : States). y.first) states_is) (ap (λ (y : States). y.rows) states_is) store_is rows_is hands_is latest_is (ap (λ (y : States). y.counts.commits) states_is))
-              (moved_workers states.Waiting back None back_is back_hand back_placed q (ap (λ (y : States). y.first) states_is) (ap (λ (y : States). y.rows) states_is) store_is rows_is hands_is latest_is (ap (λ (y : States). y.counts.commits) states_is))
-              clock_is
-              (ap (λ (y : States). y.counts.commits) states_is)
-              (ap (λ (y : States). y.counts.takes) states_is)
-              (ap (λ (y : States). y.counts.failed) states_is)
-              (ap (λ (y : States). y.counts.stops) states_is),
-        ),
-      )
-
-      pub back_kept : IsKept plan q
-      back_kept =
-          moved_kept states.Waiting back None back_is back_hand back_placed q (ap (λ (y : States). y.first) states_is) (ap (λ (y : States). y.rows) states_is) store_is rows_is hands_is latest_is (ap (λ (y : States). y.counts.commits) states_is)
-          (check_step plan (board_of plan.base a) w n (Changed key noted now) (board_of plan.base q) kept.reached back_returns)
-
-    -- ---- the line waits again, and its entries are suspect
-    module _ (key : Key) (noted : Name) (now : Found) (differs : Differs (board_of plan.base a) n notes i key noted now) (some : HasNone (row_at (board_of plan.base a) n) → ⊥) (room : HasRoom (board_of plan.base a))
-        (q : Parts) (k : Kept) (states_is : q.states ≡ moves.failed a.states n) (store_is : q.store ≡ store.with_line a.store n (store.suspected (store.line_at a.store n)))
-        (rows_is : q.rows ≡ set a.rows (n - a.states.first) k)
-        (k_is : k ≡ record { notes = (get_or a.rows (n - a.states.first) no_notes).notes; contents = (get_or a.rows (n - a.states.first) no_notes).contents; course = (get_or a.rows (n - a.states.first) no_notes).course; changed = a.clock + 1 })
-        (hands_is : q.hands ≡ set a.hands w None) (clock_is : q.clock ≡ a.clock + 1) (latest_is : q.latest ≡ a.latest) where
+    module _ (q : Parts) (k : Kept) (l : store.Line) (states_is : q.states ≡ moves.failed a.states n)
+        (store_first : q.store.first ≡ a.store.first) (lines_is : q.store.lines ≡ set a.store.lines (n - a.states.first) l)
+        (rows_is : q.rows ≡ set a.rows (n - a.states.first) k) (hands_is : q.hands ≡ set a.hands w None) (latest_is : q.latest ≡ a.latest) where
       gone : attempt.Row
       gone = record { state = states.Waiting; next = (get_or a.states.rows (n - a.states.first) no_row).next }
 
       m : Row
-      m = row_with plan.base gone k (store.suspected (store.line_at a.store n))
+      m = row_with plan.base gone k l
 
-      lines_with : (from : a.store.first ≤ n) → (store.with_line a.store n (store.suspected (store.line_at a.store n))).lines ≡ set a.store.lines (n - a.store.first) (store.suspected (store.line_at a.store n))
-      lines_with from = rw (le-ltb n a.store.first from) refl
-
-      mark_puts : Puts plan.base a q n m
+      back_puts : Puts plan.base a q n m
       unfolding gone m
-      mark_puts = puts_of plan.base a q n gone k (store.suspected (store.line_at a.store n)) kept.all_states kept.all_entries check_place
-          (ap (λ (y : States). y.first) states_is)
-          (ap (λ (y : States). y.rows) states_is)
-          (ap (λ (y : store.Store). y.first) store_is)
-          (ap (λ (y : store.Store). y.lines) store_is ∙ lines_with (omega (arith, check_line.0, kept.same_first))
-          ∙ ap (λ y. set a.store.lines (n - y) (store.suspected (store.line_at a.store n))) kept.same_first)
-          rows_is
+      back_puts = puts_of plan.base a q n gone k l kept.all_states kept.all_entries check_place
+          (ap (λ (y : States). y.first) states_is) (ap (λ (y : States). y.rows) states_is) store_first lines_is rows_is
 
-      m_is : m ≡ record (row_at (board_of plan.base a) n) { state = Waiting; entries = store.suspected (row_at (board_of plan.base a) n).entries; changed = a.clock + 1 }
+      m_is : m ≡ record (row_at (board_of plan.base a) n) { state = Waiting; entries = l; changed = k.changed }
       unfolding gone m
-      m_is =
-          ap (λ (y : Kept). row_with plan.base gone y (store.suspected (store.line_at a.store n))) k_is
-          ∙ ap (λ (y : store.Line). record (row_by plan.base a (n - a.states.first)) { state = Waiting; entries = store.suspected y; changed = a.clock + 1 }) (sym (entries_at plan a kept n))
-          ∙ ap (λ (y : Row). record y { state = Waiting; entries = store.suspected (row_at (board_of plan.base a) n).entries; changed = a.clock + 1 }) (sym at)
+      m_is = ap (λ (y : Row). record y { state = Waiting; entries = l; changed = k.changed }) (sym at)
 
-      mark_board : board_of plan.base q ≡ marked (board_of plan.base a) n
-      mark_board = board_eq _ _
-          (ap (λ (y : Board). y.first) (board_is plan.base a q n m check_line mark_puts))
-          (ap (λ (y : Board). y.rows) (board_is plan.base a q n m check_line mark_puts) ∙ ap (λ (y : Row). (put_row (board_of plan.base a) n y).rows) m_is)
+      back_board : board_of plan.base q
+          ≡ record (failing (put_row (board_of plan.base a) n (record (row_at (board_of plan.base a) n) { state = Waiting; entries = l; changed = k.changed }))) { clock = q.clock }
+      back_board = board_eq _ _
+          (ap (λ (y : Board). y.first) (board_is plan.base a q n m check_line back_puts))
+          (ap (λ (y : Board). y.rows) (board_is plan.base a q n m check_line back_puts) ∙ ap (λ (y : Row). (put_row (board_of plan.base a) n y).rows) m_is)
           (ap (λ (y : List (Option ℕ)). length y) hands_is ∙ length-set a.hands w None)
-          clock_is
+          refl
           (ap (λ (y : States). y.counts.commits) states_is)
           (ap (λ (y : States). y.counts.takes) states_is)
           (ap (λ (y : States). y.counts.failed) states_is)
           (ap (λ (y : States). y.counts.stops) states_is)
 
-      pub mark_returns : CheckStep (board_of plan.base a) w n (Changed key noted now) (board_of plan.base q)
-      mark_returns = (notes, answer, t, i, c, differs, inr (some, room, mark_board))
-
-      pub mark_kept : IsKept plan q
+      pub back_kept : Reached plan (board_of plan.base q) → IsKept plan q
       unfolding gone m
-      mark_kept = kept_put plan a q n m kept check_line mark_puts
-          (check_step plan (board_of plan.base a) w n (Changed key noted now) (board_of plan.base q) kept.reached mark_returns)
+      back_kept reached = kept_put plan a q n m kept check_line back_puts reached
           (subst (λ y. HandsHold y (row_at (board_of plan.base q))) (sym hands_is)
-          (hand_put a.hands (row_at (board_of plan.base a)) (row_at (board_of plan.base q)) n m (row_new plan.base a q n m check_line mark_puts) (row_old plan.base a q n m check_line mark_puts) kept.hand
+          (hand_put a.hands (row_at (board_of plan.base a)) (row_at (board_of plan.base q)) n m (row_new plan.base a q n m check_line back_puts) (row_old plan.base a q n m check_line back_puts) kept.hand
           w None check_within was (inr (refl, refl))))
           bar
           (ap (λ (y : States). y.counts.commits) states_is)
           latest_is
           (λ v ns last h. (let z : Waiting ≡ Placing v ns last = h in absurd (cc)))
+
+    module _ (key : Key) (noted : Name) (now : Found) (differs : Differs (board_of plan.base a) n notes i key noted now) (q : Parts) (k : Kept) (states_is : q.states ≡ moves.failed a.states n)
+        (rows_is : q.rows ≡ set a.rows (n - a.states.first) k) (hands_is : q.hands ≡ set a.hands w None) (latest_is : q.latest ≡ a.latest) where
+      -- it has no entry
+      pub none_back : HasNone (row_at (board_of plan.base a) n) → q.store ≡ a.store → k.changed ≡ (get_or a.rows (n - a.states.first) no_notes).changed → q.clock ≡ a.clock
+          → CheckStep (board_of plan.base a) w n (Changed key noted now) (board_of plan.base q) × IsKept plan q
+      none_back none store_is changed_is clock_is =
+          let old = board_of plan.base a in
+          let row = row_at old n in
+          let l = get_or a.store.lines (n - a.states.first) store.no_entries in
+          let first_is = ap (λ (y : store.Store). y.first) store_is in
+          let lines_is = ap (λ (y : store.Store). y.lines) store_is ∙ sym (set-get_or a.store.lines (n - a.states.first) store.no_entries) in
+          let board : board_of plan.base q ≡ failing (put_row old n (with_state row Waiting)) =
+          back_board q k l states_is first_is lines_is rows_is hands_is latest_is
+          ∙ ap (λ (y : store.Line). record (failing (put_row old n (record row { state = Waiting; entries = y; changed = k.changed }))) { clock = q.clock }) (sym (ap (λ (y : Row). y.entries) at))
+          ∙ ap₂ (λ (x y : ℕ). record (failing (put_row old n (record row { state = Waiting; changed = x }))) { clock = y }) (changed_is ∙ sym (ap (λ (y : Row). y.changed) at)) clock_is in
+          let step : CheckStep old w n (Changed key noted now) (board_of plan.base q) = (notes, answer, t, i, c, differs, inl (none, board)) in
+          (step, back_kept q k l states_is first_is lines_is rows_is hands_is latest_is (check_step plan old w n (Changed key noted now) (board_of plan.base q) kept.reached step))
+
+      -- its entries are suspect
+      pub some_back : (HasNone (row_at (board_of plan.base a) n) → ⊥) → HasRoom (board_of plan.base a) → q.store ≡ store.with_line a.store n (store.suspected (store.line_at a.store n))
+          → k.changed ≡ a.clock + 1 → q.clock ≡ a.clock + 1
+          → CheckStep (board_of plan.base a) w n (Changed key noted now) (board_of plan.base q) × IsKept plan q
+      some_back some room store_is changed_is clock_is =
+          let old = board_of plan.base a in
+          let row = row_at old n in
+          let l = store.suspected (store.line_at a.store n) in
+          let first_is = ap (λ (y : store.Store). y.first) store_is in
+          let lines_is = ap (λ (y : store.Store). y.lines) store_is ∙ lines_with (omega (arith, check_line.0, kept.same_first)) ∙ ap (λ y. set a.store.lines (n - y) l) kept.same_first in
+          let board : board_of plan.base q ≡ marked old n =
+          back_board q k l states_is first_is lines_is rows_is hands_is latest_is
+          ∙ ap (λ (y : store.Line). record (failing (put_row old n (record row { state = Waiting; entries = store.suspected y; changed = k.changed }))) { clock = q.clock }) (sym (entries_at plan a kept n))
+          ∙ ap₂ (λ (x y : ℕ). record (failing (put_row old n (record row { state = Waiting; entries = store.suspected row.entries; changed = x }))) { clock = y }) changed_is clock_is in
+          let step : CheckStep old w n (Changed key noted now) (board_of plan.base q) = (notes, answer, t, i, c, differs, inr (some, room, board)) in
+          (step, back_kept q k l states_is first_is lines_is rows_is hands_is latest_is (check_step plan old w n (Changed key noted now) (board_of plan.base q) kept.reached step))
+        where
+          lines_with : (from : a.store.first ≤ n) → (store.with_line a.store n (store.suspected (store.line_at a.store n))).lines ≡ set a.store.lines (n - a.store.first) (store.suspected (store.line_at a.store n))
+          lines_with from = rw (le-ltb n a.store.first from) refl

@@ -114,7 +114,7 @@ module _ (plan : Planned) (a : Parts) (kept : IsKept plan a) (n : ℕ) (state : 
       unchanged = λ m lt. (let h = kept.below m (omega (arith, lt, next)) in omega (arith, h, still));
     }
 
-    -- its notes are given up
+    -- its notes are removed
     module _ (q : Parts) (k : Kept) (states_is : q.states ≡ committed a.states n) (store_is : q.store ≡ a.store) (rows_is : q.rows ≡ set a.rows (n - a.states.first) k)
         (k_is : k ≡ record { notes = []; contents = (get_or a.rows (n - a.states.first) no_notes).contents; course = (get_or a.rows (n - a.states.first) no_notes).course; changed = (get_or a.rows (n - a.states.first) no_notes).changed })
         (hands_is : q.hands ≡ a.hands) (clock_is : q.clock ≡ a.clock)

@@ -1,5 +1,5 @@
 -- Notes: one more, and the i-th.
-use Rattle.std.proofs.Common.{◌≡◌, ℕ, zero, suc, ◌-◌, ◌<◌, ◌≤◌, Bool, true, false, cond, List, [], ◌∷◌, ◌++◌, length, slice_get, refl, sym, ap, ◌∙◌, arith, None, map, subst}
+use Rattle.std.proofs.Common.{◌≡◌, ℕ, zero, suc, ◌-◌, ◌<◌, ◌≤◌, Bool, true, false, cond, List, [], ◌∷◌, ◌++◌, length, slice_get, refl, sym, ap, ◌∙◌, arith, Some, None, map, subst}
 use Rattle.std.specs.Prelude.{Option, option_map, ◌||◌}
 use Rattle.std.specs.BTreeMap.{is_at}
 use Rattle.std.specs.Global.{Box}
@@ -8,7 +8,7 @@ use Rattle.std.specs.List.{list_any, IsDistinct}
 use Rattle.std.specs.Ordering.{eq_by_cmp}
 use Rattle.std.proofs.Common.{length-append, take, take_all}
 use Rattle.std.proofs.lemmas.List.{take-append-le}
-use Rattle.std.proofs.lemmas.Option.{none-some, same_Some}
+use Rattle.std.proofs.lemmas.Option.{none-some, same_Some, slice_get-map}
 use Rattle.std.proofs.lemmas.Cmp.{eq_by_cmp_equiv}
 use Rattle.std.proofs.lemmas.Map.Keys.{IsDistinct-push}
 use Rattle.circ_records.specs.Keys.{key_cmp, key_cmp_total}
@@ -77,7 +77,7 @@ placed_more [] x each here (suc i) n e = absurd (none-some n e)
 placed_more (m ∷ notes) x each here zero n e = each zero n e
 placed_more (m ∷ notes) x each here (suc i) n e = placed_more notes x (λ j y g. each (suc j) y g) here i n e
 
--- a key is among the notes that are so many at most, or it is that of the new one
+-- a key is among the first notes, or it is that of the new one
 few_more : {J : Type 0} (ns : List (PlaceNote J)) (n : PlaceNote J) (q : Key) → length ns < 8 → is_key_in (few (ns ++ n ∷ [])) q ≡ cond (eq_by_cmp key_cmp q n.key) true (is_key_in (few ns) q)
 few_more ns n q short =
     ap (λ ms. is_key_in ms q) (take_all 8 (ns ++ n ∷ []) (omega (arith, length-append ns (n ∷ []))))
@@ -106,7 +106,7 @@ noted_few ns index n kept fresh here short = record {
   placed = subst ArePlaced (sym (noted_push ns n)) (placed_more (map noted ns) (noted n) kept.placed here);
 }
 
--- one more note behind them, whose key is found
+-- one more note after them, whose key is found
 pub noted_more : {J : Type 0} (ns : List (PlaceNote J)) (old new : Index) (n : PlaceNote J)
     → AreNoted ns old
     → is_noted (map noted ns) n.key ≡ false
@@ -168,3 +168,15 @@ first_fresh ns k no_notes = ap (λ ms. is_noted (map noted ms) k) no_notes
 -- the first note
 pub noted_first : {J : Type 0} (ns : List (PlaceNote J)) (n : PlaceNote J) → ns ≡ n ∷ [] → IsPlaced (noted n) → AreNoted ns None
 noted_first ns n first here = subst (λ ms. AreNoted ms None) (sym first) (noted_few [] None n none_kept refl here (omega arith))
+
+-- the key of a note in a box
+key_of : {J : Type 0} (o : Option (PlaceNote J)) → option_map (λ (n : Noted). n.key) (option_map noted o) ≡ option_map (λ (n : PlaceNote J). n.key) o
+key_of None = refl
+key_of (Some n) = refl
+
+pub held_key : {J : Type 0} (o : Option (Box (Held J))) (b : Box (Held J)) (h : Held J) (i : ℕ) → Some b ≡ o → h ≡ b.value
+    → option_map (λ (n : PlaceNote J). n.key) (slice_get h.notes.items i) ≡ option_map (λ (n : Noted). n.key) (slice_get (map noted (notes_in o)) i)
+held_key o b h i is at =
+    ap (λ (x : Held _). option_map (λ (n : PlaceNote _). n.key) (slice_get x.notes.items i)) at
+    ∙ sym (ap (option_map (λ (n : Noted). n.key)) (slice_get-map noted b.value.notes.items i) ∙ key_of (slice_get b.value.notes.items i))
+    ∙ ap (λ (x : Option (Box (Held _))). option_map (λ (n : Noted). n.key) (slice_get (map noted (notes_in x)) i)) is

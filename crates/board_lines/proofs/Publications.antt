@@ -140,7 +140,7 @@ module _ (plan : Planned) (a : Parts) (kept : IsKept plan a) (n : ℕ) (there : 
   pub row_is : row_at (board_of plan.base a) n ≡ row_by plan.base a (n - a.states.first)
   row_is = row_there plan.base a n there
 
-  -- where it stands
+  -- its place
   pub state_there : state_at a.states n ≡ Some (get_or a.states.rows (n - a.states.first) no_row).state
   state_there =
       rw (le-ltb n a.states.first there.0)
@@ -264,7 +264,7 @@ module _ (plan : Planned) (a : Parts) (kept : IsKept plan a) (w n : ℕ) (notes 
         (ap (λ (x : States). x.counts.failed) states_is)
         (ap (λ (x : States). x.counts.stops) states_is)
 
-    -- what is kept of the line says how far it has come
+    -- the row of the line says how far it has come
     come_is : (kept_at q n).course ≡ come
     come_is =
         ap (λ x. (get_or q.rows (n - x) no_notes).course) (ap (λ (x : States). x.first) states_is)

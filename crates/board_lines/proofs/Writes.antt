@@ -22,7 +22,7 @@ use Rattle.board_steps.proofs.Entries.{cases_key, get_insert_same, get_insert_ot
 use Rattle.board_lines.specs.Acts.{IsPlacedAt, IsFirstApart}
 use Rattle.board_lines.specs.Courses.{FirstPlaced, FirstPlacedBut}
 
--- the record at a key stands at some place
+-- the record at a key is at some index
 pub stands : (ws : Entries) (q : Key) (u : Record) → record_at ws q ≡ Some u → (j : ℕ) × (slice_get ws j ≡ Some (q, u))
 stands [] q u h = absurd (none-some u h)
 stands (w ∷ ws) q u h = elim (head_or_tail q w.0 w.1 u ws h) [
@@ -41,7 +41,7 @@ is_at_key (w ∷ ws) up (suc j) x h =
       | inr e ↦ ap (λ b. cond b (Some w.1) (record_at ws x.0)) e ∙ tail
     ]
 
--- a lesser key stands before
+-- a lesser key is before
 pub stands_before : (ws : Entries) → Rising ws → (i j : ℕ) (x y : Key × Record) → slice_get ws i ≡ Some x → slice_get ws j ≡ Some y → key_cmp y.0 x.0 ≡ Less → j < i
 stands_before [] up i j x y hi hj lt = absurd (none-some x hi)
 stands_before (w ∷ ws) up zero zero x y hi hj lt = absurd (not_below y.0 x.0 lt (ap (λ (p : Key × Record). p.0) (sym (same_Some w y hj) ∙ same_Some w x hi)))
@@ -102,7 +102,7 @@ next_apart l a ws placed x up first few here own =
     ]) in
     omega (arith, all, few)
 
--- ---- an entry of the attempt, as the store tells its attempt
+-- ---- an entry of the attempt, by the attempt that the store returns
 pub placed_if : (o : Option Shown) (own a : ℕ) → Some own ≡ option_map (λ (e : Shown). e.attempt) o → own ≡ a → (e : Shown) × (o ≡ Some e) × (e.attempt ≡ a)
 placed_if None own a h e = absurd (none-some own (sym h))
 placed_if (Some x) own a h e = (x, refl, sym (same_Some own x.attempt h) ∙ e)
@@ -144,7 +144,7 @@ module _ (r : Row) (l : Line) (is : r.entries ≡ l) (v : Contents) (up : Rising
   pub none_is : AllOf l v.attempt → NoneLeft r v
   none_is h q e g = h q e (ap (λ (x : Line). get x q) (sym is) ∙ g)
 
--- ---- so many first writes are placed
+-- ---- the first writes are placed
 -- the next write is placed: it is one more
 pub comes_to : (l : Line) (a : ℕ) (ws : Entries) (i count : ℕ) (x : Key × Record) → slice_get ws i ≡ Some x → count ≡ i + 1 → IsFirstApart l a ws (Some i) → FirstPlacedBut l a ws x.0 count
 comes_to l a ws i count x at more first j y lt h = elim (cases_eq j i) [

@@ -17,15 +17,15 @@ use Rattle.board_lines.specs.declared.publishing.Act.TheVariants as acts
 use Rattle.board_lines.specs.declared.reply.Reply.{Reply}
 use Rattle.board_lines.specs.declared.row.Course.{Course}
 
--- so many first writes have their entries, of this attempt
+-- the first `count` writes have their entries, of this attempt
 abbrev pub FirstPlaced : Line → ℕ → Entries → ℕ → Type 0
 FirstPlaced l a writes count = (j : ℕ) (x : Key × Record) → j < count → slice_get writes j ≡ Some x → IsPlacedAt l a x.0
 
--- so many first writes have them, once the one at this key has its own
+-- the first `count` writes have them, once the one at this key has its own
 abbrev pub FirstPlacedBut : Line → ℕ → Entries → Key → ℕ → Type 0
 FirstPlacedBut l a writes k count = (j : ℕ) (x : Key × Record) → j < count → slice_get writes j ≡ Some x → (x.0 ≡ k) ⊎ IsPlacedAt l a x.0
 
--- so many writes are placed once the act is done
+-- how many writes are placed once the act is done
 abbrev pub ComesTo : Line → Contents → Act → Type 0
 ComesTo l v (acts.Write k count) = FirstPlacedBut l v.attempt v.writes k.now count
 ComesTo l v (acts.Lift k) = Unit {0}

@@ -20,7 +20,7 @@ use Rattle.board_lines.specs.Courses.{IsUnderWay}
 use Rattle.board_lines.specs.declared.row.Course.{Course}
 use Rattle.board_lines.specs.declared.row.Row.{Row}
 
--- what the board keeps of a line beside its state and its entries
+-- what the board has of a line beside its state and its entries
 pub record Kept : Type 0 where
   pub notes : List Noted
   pub contents : Option Contents
@@ -46,7 +46,7 @@ abbrev pub answer_by : Option Contents → Option Answer
 answer_by None = None
 answer_by (Some contents) = contents.answer
 
--- the state, with the notes and the version that stand beside it
+-- the state, with the notes and the version of its row
 abbrev pub state_of : LineState → List Note → Option Contents → State
 state_of states.Waiting notes contents = Waiting
 state_of (states.Running w) notes contents = Running w notes
@@ -63,7 +63,7 @@ row_with base s k l = record { state = state_of s.state (notes_by base k.notes) 
 abbrev pub row_by : Entries → Parts → ℕ → steps.Row
 row_by base a p = row_with base (slice_index_or a.states.rows p no_row) (slice_index_or a.rows p no_notes) (slice_index_or a.store.lines p store.no_entries)
 
--- so many values of a function, from 0 on
+-- the first values of a function, from 0 on
 abbrev pub first_of : {A : Type 0} → (ℕ → A) → ℕ → List A
 first_of f zero = []
 first_of f (suc n) = f zero ∷ first_of (λ i. f (suc i)) n
@@ -80,7 +80,7 @@ board_of base a = record {
   stops = a.states.counts.stops;
 }
 
--- what is kept of a line
+-- the row of a line
 abbrev pub kept_at : Parts → ℕ → Kept
 kept_at a n = slice_index_or a.rows (n - a.states.first) no_notes
 
@@ -88,7 +88,7 @@ kept_at a n = slice_index_or a.rows (n - a.states.first) no_notes
 abbrev pub HandsHold : List (Option ℕ) → (ℕ → steps.Row) → Type 0
 HandsHold hands rows = (w n : ℕ) → (slice_get hands w ≡ Some (Some n)) ↔ (holder (rows n).state ≡ Some w)
 
--- what the fields keep
+-- what holds of the fields
 pub record IsKept (plan : Planned) (a : Parts) : Type 0 where
   pub reached : Reached plan (board_of plan.base a)
   pub same_first : a.store.first ≡ a.states.first

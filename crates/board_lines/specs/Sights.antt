@@ -1,4 +1,4 @@
--- What the pieces of look and check answer: which line may look, what is to be noted, and what a check compares.
+-- What the parts of look and check return: which line may look, what is to be noted, and what a check compares.
 use Rattle.std.specs.Prelude.{◌≡◌, ℕ, ◌≤◌, List, Option, Some, None, option_map, slice_get, length}
 use Rattle.circ_records.specs.declared.key.Key.{Key}
 use Rattle.sip_answer.specs.declared.answer.Answer.{Answer}
@@ -39,10 +39,10 @@ IsSame b w n t i =
     (notes : List Note) × (answer : Option Answer) × Compares b w n notes answer t i
     × (x : Note) × (slice_get notes i ≡ Some x) × IsNow (row_at b) n x
 
--- the note that is compared has another name than the visible entry
-abbrev pub IsOther : Board → ℕ → ℕ → Key → Name → Found → Type 0
-IsOther b w n key noted now =
-    (notes : List Note) × (answer : Option Answer) × (t i : ℕ) × Compares b w n notes answer t i × Differs b n notes i key noted now
+-- the i-th note is compared, and its name isn't that of the visible entry
+abbrev pub IsOther : Board → ℕ → ℕ → ℕ → Name → Found → Type 0
+IsOther b w n i noted now =
+    (notes : List Note) × (answer : Option Answer) × (t : ℕ) × Compares b w n notes answer t i × (key : Key) × Differs b n notes i key noted now
 
 -- the name of a note, and the name that a line sees at its key now
 abbrev pub names_now : Board → ℕ → Key × Name → Name × Found

@@ -12,7 +12,7 @@ ghost use Rattle.version_store.specs.Entries.{IsNamedAt};
 use crate::lines::Lines;
 use crate::reading::written;
 use attempts::LineState;
-use circ_records::{KeptKey, Key, Record};
+use circ_records::{Key, Record};
 use read_set::PlanName;
 use sip_answer::Answer;
 use version_store::Place;
@@ -43,7 +43,7 @@ impl<'p, 't, J: PlanName> Lines<'p, 't, J> {
     }
 
     /// The i-th key, from 0 and rising, at which a line has an entry, and the attempt of that entry; None past the last.
-    pub fn keys_of(&self, line: u64, i: usize) -> Option<(&KeptKey, u32)>
+    pub fn keys_of(&self, line: u64, i: usize) -> Option<(&Key, u32)>
         ensures value { IsNamedAt (slice_get (fin.entries (row_at self.now line).entries) i) result }
         ensures few { length (fin.entries (row_at self.now line).entries) < 2 ^ 64 }
     {

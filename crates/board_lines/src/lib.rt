@@ -1,9 +1,9 @@
 //! The lines of the board: which attempt each is at, what each has noted and published, and who has it in hand, as some list
 //! of steps leaves them.
 //!
-//! `Lines` has the five calls `take`, `look`, `publish`, `check` and `commit`; each is one step of `board_steps`. It stands on
-//! the versions and entries of `version_store` and on the states of `attempts`; it knows no message and no table. `speculate`
-//! holds the lines beside what a free worker chooses from.
+//! `Lines` has the five calls `take`, `look`, `publish`, `check` and `commit`; each is one step of `board_steps`. It uses the
+//! versions and entries of `version_store` and the states of `attempts`; it knows no message and no table. `speculate` has the
+//! lines, and beside them what a free worker chooses from.
 #![tactic(auto)]
 
 mod committed;

@@ -29,7 +29,7 @@ use crate::reply::Reply;
 use crate::row::{Course, Row};
 use crate::same::same_notes;
 use attempts::{AttemptTable, Counts, LineState};
-use circ_records::{KeptKey, Key};
+use circ_records::Key;
 use read_set::{Name, Plan, PlanName};
 use std::alloc::{AllocError, Global};
 use std::marker::Model;
@@ -41,7 +41,7 @@ pub struct Lines<'p, 't, J: PlanName> {
     pub(crate) attempts: AttemptTable,
     pub(crate) entries: EntryStore<'t, J>,
     pub(crate) rows: Vec<Row<'t, J>>,
-    /// Memory for the notes of a line that is run.
+    /// Memory for the notes of the next line that is run.
     spare: Spare<'t, J>,
     /// The line that each worker has in hand.
     hands: Vec<Option<u64>>,
@@ -215,10 +215,7 @@ impl<'p, 't, J: PlanName> Lines<'p, 't, J> {
             self.go_on(worker, line, stamp, compared);
             return Reply::Same;
         }
-        let Some((key, noted)) = self.note_at(line, compared) else {
-            unreachable!()
-        };
-        self.send_back(worker, line, key, noted, found)
+        self.send_back(worker, line, compared, noted, found)
     }
 
     /// The stamp of the worker's check of a line, and how many notes it has compared: a check that goes on, or one that a
@@ -253,7 +250,7 @@ impl<'p, 't, J: PlanName> Lines<'p, 't, J> {
     }
 
     /// The name of the i-th note, from 0, of a line of which an attempt goes on, and the name that the line sees at its key now; None past
-    /// the last. The key isn't copied.
+    /// the last.
     fn names_at(&self, line: u64, i: u64) -> Option<(Name, Found)>
         requires { live_of (row_at self.now line).state ≡ 1 }
         ensures names { result ≡ option_map (names_now self.now line) (option_map key_and_name (slice_get (notes_of (row_at self.now line).state) i)) }
@@ -263,19 +260,10 @@ impl<'p, 't, J: PlanName> Lines<'p, 't, J> {
         if i >= row.notes.len() as u64 {
             return None;
         }
-        let Some((key, noted)) = row.notes.lent(i as usize) else {
+        let Some((key, noted)) = row.notes.named(i as usize) else {
             return None;
         };
         Some((noted, self.entries.name(key, line)))
-    }
-
-    /// The key and the name of the i-th note, from 0, of a line of which an attempt goes on; None past the last.
-    fn note_at(&self, line: u64, i: u64) -> Option<(Key, Name)>
-        requires { live_of (row_at self.now line).state ≡ 1 }
-        ensures { result ≡ option_map key_and_name (slice_get (notes_of (row_at self.now line).state) i) }
-    {
-        let row = &self.rows[(line - self.plan.first()) as usize];
-        row.notes.named(i as usize)
     }
 
     /// All names were those of the visible entries: the line is done again, with the stamp of this check.
@@ -303,19 +291,24 @@ impl<'p, 't, J: PlanName> Lines<'p, 't, J> {
         self.hands[worker as usize] = Some(line);
     }
 
-    /// A noted name isn't that of the visible entry: the line waits again, and its entries become suspect.
+    /// The name of the i-th note isn't that of the visible entry: the line waits again, and its entries become suspect. The reply
+    /// gets the note's key.
     fn send_back(
         &mut self,
         worker: u32,
         line: u64,
-        key: Key,
+        i: u64,
         noted: Name,
         found: Found,
     ) -> Reply<'t, J>
-        requires { IsOther self.old worker line key noted found }
+        requires { IsOther self.old worker line i noted found }
         ensures { Answers J.plan self.old (Check worker line) result self.new }
     {
         if self.entries.keys_of(line, 0).is_none() {
+            let row = &mut self.rows[(line - self.plan.first()) as usize];
+            let Some(key) = row.notes.take_key(&mut self.spare, i as usize) else {
+                unreachable!()
+            };
             self.attempts.fail(line);
             self.hands[worker as usize] = None;
             return Reply::Changed { key, noted, found };
@@ -327,6 +320,9 @@ impl<'p, 't, J: PlanName> Lines<'p, 't, J> {
         self.clock += 1;
         let row = &mut self.rows[(line - self.plan.first()) as usize];
         row.changed = self.clock;
+        let Some(key) = row.notes.take_key(&mut self.spare, i as usize) else {
+            unreachable!()
+        };
         self.attempts.fail(line);
         self.hands[worker as usize] = None;
         Reply::Changed { key, noted, found }
@@ -392,8 +388,8 @@ impl<'p, 't, J: PlanName> Lines<'p, 't, J> {
         self.clock
     }
 
-    /// The lines of a plan, all waiting, for so many workers. The first attempt of each line has this number, and the clock begins
-    /// here.
+    /// The lines of a plan, all waiting, for this many workers. The first attempt of each line has the number `attempt`, and the clock
+    /// begins at `clock`.
     pub fn new(
         alloc: Global,
         plan: &'p Plan,
@@ -432,8 +428,8 @@ impl<'p, 't, J: PlanName> Lines<'p, 't, J> {
         self.next_act(worker, hand.line, place, 0)
     }
 
-    /// Goes on with the publication that the worker's line in hand is in: does the next act of the version of the last act. It
-    /// compares no note again, and looks at no write that it has placed. None, and no change, where that line is in none.
+    /// Goes on with the publication of the worker's line in hand: does the next act of the version of the last act. It
+    /// compares no note again, and looks at no write that it has placed. None, and no change, where that line isn't being published.
     pub fn publish_more(&mut self, worker: u32) -> Option<Reply<'t, J>>
         ensures { PublishesMore J.plan self.old worker result self.new }
     {
@@ -448,7 +444,7 @@ impl<'p, 't, J: PlanName> Lines<'p, 't, J> {
         Some(self.next_act(worker, line, place, course.placed))
     }
 
-    /// How far the publication that the worker's line in hand is in has come, if it is in one.
+    /// How far the publication of the worker's line in hand has come, if it is being published.
     fn course(&self, worker: u32, line: u64) -> Course
         requires { holder (row_at self.now line).state ≡ Some worker }
         ensures { (n : ℕ) (notes : List Note) (v : Contents) → (row_at self.now n).state ≡ Placing worker notes (Some v) → (n ≡ line) × UnderWay line (row_at self.now line) notes v result }
@@ -456,7 +452,7 @@ impl<'p, 't, J: PlanName> Lines<'p, 't, J> {
         self.rows[(line - self.plan.first()) as usize].course
     }
 
-    /// Does the next act of the publication of the version at a place, which fits, and so many of whose first writes are placed.
+    /// Does the next act of the publication of the version at a place, which fits. Its first `count` writes are placed.
     fn next_act(
         &mut self,
         worker: u32,
@@ -479,7 +475,7 @@ impl<'p, 't, J: PlanName> Lines<'p, 't, J> {
             return Reply::ClockSpent;
         }
         if let Act::Lift(key) = act {
-            self.lift(worker, line, &key.key(), place);
+            self.lift(worker, line, key, place);
             return Reply::Lifted;
         }
         let Act::Write(key, count) = act else {
@@ -554,7 +550,7 @@ impl<'p, 't, J: PlanName> Lines<'p, 't, J> {
         &self.rows[(line - self.plan.first()) as usize].notes
     }
 
-    /// The next act of the publication of the version at a place, so many of whose first writes are placed.
+    /// The next act of the publication of the version at a place. Its first `count` writes are placed.
     fn act(&self, line: u64, place: Place<'t, J>, count: usize) -> Act<'t>
         requires there { IsLine self.now line }
         requires placed { FirstPlaced (row_at self.now line).entries (contents_at place).attempt (contents_at place).writes count }
@@ -571,12 +567,12 @@ impl<'p, 't, J: PlanName> Lines<'p, 't, J> {
         self.clock < u64::MAX
     }
 
-    /// Places the next write, after which so many of the first are placed. Without memory nothing changes.
+    /// Places the next write, after which the first `count` are placed. Out of memory, nothing changes.
     fn place(
         &mut self,
         worker: u32,
         line: u64,
-        key: &'t KeptKey,
+        key: &'t Key,
         place: Place<'t, J>,
         count: usize,
     ) -> Result<(), AllocError>
@@ -604,7 +600,7 @@ impl<'p, 't, J: PlanName> Lines<'p, 't, J> {
         Ok(())
     }
 
-    /// Takes away the entry at the next key that an earlier attempt left.
+    /// Removes the entry at the next key that an earlier attempt left.
     fn lift(&mut self, worker: u32, line: u64, key: &Key, place: Place<'t, J>)
         requires may { MayPublish self.old worker line (notes_at self.old line) }
         requires fits { Fits self.old line (notes_at self.old line) (contents_at place) }

@@ -46,12 +46,20 @@ impl<J: PlanName> Drop for PlaceNote<'_, J> {
     }
 }
 
-/// Among so many notes a key is looked for one by one: most lines have no more, and an index of them would take more memory
-/// than they do.
-const FEW: usize = 8;
+impl<J: PlanName> PlaceNote<'_, J> {
+    fn into_key(self) -> Key
+        ensures { result ≡ self.entry.key }
+    {
+        let PlaceNote { key, seen: _ } = self;
+        key
+    }
+}
 
-/// Room for so many notes is made first: most lines have two.
-const USUAL: usize = 2;
+/// Up to this many notes are searched one by one: most lines have no more, and an index of them would take more memory.
+const SCANNED_MAX: usize = 8;
+
+/// The first room is for this many notes: most lines have two.
+const FIRST_ROOM: usize = 2;
 
 /// The notes of a line that has some, in the order of looking.
 struct Held<'t, J: PlanName> {
@@ -66,8 +74,8 @@ impl<J: PlanName> Drop for Held<'_, J> {
     }
 }
 
-/// Memory that the notes of a line took, for those of another: mostly one is committed just before the next is run, and to take and
-/// give back memory costs more than the notes do.
+/// Memory of one line's notes, to be used for another's: mostly a line is committed just before the next is run, and to allocate and
+/// free memory costs more than the notes do.
 pub(crate) struct Spare<'t, J: PlanName> {
     held: Option<Box<Held<'t, J>>>,
 }
@@ -79,19 +87,19 @@ impl<J: PlanName> Drop for Spare<'_, J> {
 }
 
 impl<'t, J: PlanName> Spare<'t, J> {
-    /// None.
+    /// No memory.
     pub(crate) fn new() -> Spare<'t, J> {
         Spare { held: None }
     }
 
     /// Keeps the memory of notes that are few.
     fn keep(&mut self, held: Box<Held<'t, J>>) {
-        if held.notes.len() <= FEW {
+        if held.notes.len() <= SCANNED_MAX {
             self.held = Some(held);
         }
     }
 
-    /// Room for the notes of a line that has none: what is spare, or new, for as many as most lines have.
+    /// Room for the notes of a line that has none: the spare memory, or new memory for as many as most lines have.
     fn take(&mut self, alloc: Global) -> Result<Box<Held<'t, J>>, AllocError>
         ensures notes { IfOk result (λ held. held.value.notes.items ≡ []) }
         ensures index { IfOk result (λ held. held.value.index ≡ None) }
@@ -100,7 +108,7 @@ impl<'t, J: PlanName> Spare<'t, J> {
             held.empty();
             return Ok(held);
         }
-        let notes = Vec::with_capacity(alloc, USUAL)?;
+        let notes = Vec::with_capacity(alloc, FIRST_ROOM)?;
         match Box::new(alloc, Held { notes, index: None }) {
             Ok(held) => Ok(held),
             Err(_) => Err(AllocError),
@@ -108,9 +116,9 @@ impl<'t, J: PlanName> Spare<'t, J> {
     }
 }
 
-/// What a line has noted, in the order of looking: keys, names and places. It holds no record. The board has this of each
-/// line until the run ends, and a line has notes only while it is on its way: so they stand behind a box, made with the first
-/// of them, and without notes this takes two words.
+/// What a line has noted, in the order of looking: keys, names and places, but no record. The board has this of each line until
+/// the run ends, and a line has notes only until it is committed: so they are in a box, made with the first of them, and without
+/// notes this takes two words.
 pub struct PlaceNotes<'t, J: PlanName> {
     held: Option<Box<Held<'t, J>>>,
 }
@@ -153,8 +161,8 @@ impl<'t, J: PlanName> PlaceNotes<'t, J> {
         }
     }
 
-    /// One more note, of a key that isn't noted; it has no place just where its name is the base's. The first takes memory that
-    /// is spare. Without memory nothing changes.
+    /// One more note, of a key that isn't noted; it has no place just where its name is the base's. The first uses the spare
+    /// memory. Out of memory, nothing changes.
     pub(crate) fn add(
         &mut self,
         alloc: Global,
@@ -174,13 +182,26 @@ impl<'t, J: PlanName> PlaceNotes<'t, J> {
         Ok(())
     }
 
-    /// No notes any more. Their memory is spare, where they are few, and else given back.
+    /// No notes any more. Their memory is spare, where they are few, and else freed.
     pub(crate) fn clear(&mut self, spare: &mut Spare<'t, J>)
         ensures { self.new ≡ [] }
     {
         if let Some(held) = self.held.take() {
             spare.keep(held);
         }
+    }
+
+    /// The same, with the key of the i-th note, from 0, moved out: nobody reads the notes after that.
+    pub(crate) fn take_key(&mut self, spare: &mut Spare<'t, J>, i: usize) -> Option<Key>
+        ensures key { result ≡ option_map (λ n. n.key) (slice_get self.old i) }
+        ensures none { self.new ≡ [] }
+    {
+        let Some(mut held) = self.held.take() else {
+            return None;
+        };
+        let key = held.take_key(i);
+        spare.keep(held);
+        key
     }
 
     /// How many there are. No key is noted twice, and a note has no place just where its name is the base's.
@@ -206,17 +227,7 @@ impl<'t, J: PlanName> PlaceNotes<'t, J> {
     }
 
     /// The key and the name of the i-th note, from 0.
-    pub fn named(&self, i: usize) -> Option<(Key, Name)>
-        ensures { result ≡ option_map key_and_name_of (slice_get self.now i) }
-    {
-        match self.lent(i) {
-            Some((key, name)) => Some((*key, name)),
-            None => None,
-        }
-    }
-
-    /// The same, with the key as it stands here: a check looks at each, and a key has room for the longest id.
-    pub(crate) fn lent(&self, i: usize) -> Option<(&Key, Name)>
+    pub fn named(&self, i: usize) -> Option<(&Key, Name)>
         ensures { option_map lent result ≡ option_map key_and_name_of (slice_get self.now i) }
     {
         match nth(&self.held, i) {
@@ -237,7 +248,7 @@ impl<'t, J: PlanName> PlaceNotes<'t, J> {
 }
 
 impl<'t, J: PlanName> Held<'t, J> {
-    /// No notes any more. Their memory stays.
+    /// No notes any more, but their memory.
     fn empty(&mut self)
         ensures notes { self.new.notes.items ≡ [] }
         ensures index { self.new.index ≡ None }
@@ -246,7 +257,17 @@ impl<'t, J: PlanName> Held<'t, J> {
         self.index = None;
     }
 
-    /// One more note, of a key that isn't noted. Without memory the notes stay as they are.
+    /// The key of the i-th note, from 0, moved out.
+    fn take_key(&mut self, i: usize) -> Option<Key>
+        ensures { result ≡ option_map (λ n. n.key) (slice_get self.old.notes.items i) }
+    {
+        if i >= self.notes.len() {
+            return None;
+        }
+        Some(self.notes.swap_remove(i).into_key())
+    }
+
+    /// One more note, of a key that isn't noted. Out of memory, the notes stay as they are.
     fn add(&mut self, alloc: Global, key: &Key, seen: PlacedName<'t, J>) -> Result<(), AllocError>
         requires noted { AreNoted self.old.notes.items self.old.index }
         requires fresh { is_noted (map noted self.old.notes.items) key.now ≡ false }
@@ -256,10 +277,15 @@ impl<'t, J: PlanName> Held<'t, J> {
         ensures err { OnErr result (map noted self.new.notes.items ≡ map noted self.old.notes.items) }
     {
         let position = self.notes.len();
-        let Ok(()) = self.notes.push(PlaceNote { key: *key, seen }) else {
+        let key_of_note = key.clone()?;
+        let Ok(()) = self.notes.push(PlaceNote {
+            key: key_of_note,
+            seen,
+        })
+        else {
             return Err(AllocError);
         };
-        if position < FEW {
+        if position < SCANNED_MAX {
             return Ok(());
         }
         match enter(alloc, &mut self.index, key) {
@@ -294,10 +320,10 @@ fn first_held<'t, J: PlanName>(
 fn first_few<'n, 't, J: PlanName>(notes: &'n [PlaceNote<'t, J>]) -> &'n [PlaceNote<'t, J>]
     ensures { result.now ≡ few notes.now }
 {
-    if notes.len() <= FEW {
+    if notes.len() <= SCANNED_MAX {
         notes
     } else {
-        &notes[..FEW]
+        &notes[..SCANNED_MAX]
     }
 }
 
@@ -318,19 +344,20 @@ fn is_indexed(index: &Option<Box<BTreeSet<Key>>>, key: &Key) -> bool
     }
 }
 
-/// One more key in the index, which the first key makes. Without memory it has the keys that it had.
+/// One more key in the index, which the first key makes. Out of memory, it has the keys that it had.
 fn enter(alloc: Global, index: &mut Option<Box<BTreeSet<Key>>>, key: &Key) -> Result<(), AllocError>
     ensures put { OnOk result ((q : Key) → is_indexed index.new q ≡ cond (eq_by_cmp key_cmp key.now q) true (is_indexed index.old q)) }
     ensures same { OnErr result ((q : Key) → is_indexed index.new q ≡ is_indexed index.old q) }
 {
+    let own = key.clone()?;
     if let Some(keys) = index {
-        return match keys.insert(*key) {
+        return match keys.insert(own) {
             Ok(_) => Ok(()),
             Err(_) => Err(AllocError),
         };
     }
     let mut keys = BTreeSet::new(alloc);
-    keys.insert(*key)?;
+    keys.insert(own)?;
     *index = Some(Box::new(alloc, keys)?);
     Ok(())
 }

@@ -14,17 +14,17 @@ ghost use Rattle.board_lines.specs.Notes.{contents_at};
 
 use crate::hand::Hand;
 use attempts::LineState;
-use circ_records::{KeptKey, Record};
+use circ_records::{Key, Record};
 use read_set::{PlanName, Version};
 use version_store::{EntryStore, Place};
 
 /// What a publication does next.
 #[derive(Clone, Copy)]
 pub(crate) enum Act<'t> {
-    /// It places the write at this key, which stands in the version. After it so many of the first writes are placed.
-    Write(&'t KeptKey, usize),
-    /// It takes away the entry at this key, which an earlier attempt left.
-    Lift(&'t KeptKey),
+    /// It places the write at this key, borrowed from the version. After it this many of the first writes are placed.
+    Write(&'t Key, usize),
+    /// It removes the entry at this key, which an earlier attempt left.
+    Lift(&'t Key),
     /// Nothing: all is published.
     Finish,
 }
@@ -66,8 +66,7 @@ pub(crate) fn settled<J: PlanName>(place: Place<'_, J>)
     let _reads = place.show().reads();
 }
 
-/// The next act of the publication of a version of a line, so many of whose first writes are placed. It looks at none of
-/// these again.
+/// The next act of the publication of a version of a line. The first `placed` writes are placed: it looks at none of these again.
 pub(crate) fn act_of<'t, J: PlanName>(
     entries: &EntryStore<'t, J>,
     line: u64,
@@ -89,12 +88,12 @@ pub(crate) fn act_of<'t, J: PlanName>(
     }
 }
 
-/// The place of the first write whose entry isn't of the attempt, where so many of the first are of it.
+/// The index of the first write whose entry isn't of the attempt. Those of the first `placed` writes are of it.
 fn next_write<J: PlanName>(
     entries: &EntryStore<'_, J>,
     line: u64,
     attempt: u32,
-    writes: &[(KeptKey, Record)],
+    writes: &[(Key, Record)],
     placed: usize,
 ) -> Option<usize>
     requires rising { IsStrictlySortedBy key_cmp (map (λ e. e.0) writes.now) }
@@ -114,15 +113,10 @@ fn next_write<J: PlanName>(
 }
 
 /// Whether a line's entry at a key is of an attempt.
-fn is_placed<J: PlanName>(
-    entries: &EntryStore<'_, J>,
-    line: u64,
-    attempt: u32,
-    key: &KeptKey,
-) -> bool
+fn is_placed<J: PlanName>(entries: &EntryStore<'_, J>, line: u64, attempt: u32, key: &Key) -> bool
     ensures { Decides result (IsPlacedAt (line_at entries.now line) attempt key.now) }
 {
-    match entries.attempt_at(line, &key.key()) {
+    match entries.attempt_at(line, key) {
         Some(own) => own == attempt,
         None => false,
     }

@@ -9,23 +9,23 @@ ghost use Rattle.board_steps.specs.Steps.{IsVersion};
 ghost use Rattle.board_lines.specs.Notes.{found_by, notes_by, contents_at};
 
 use crate::notes::{PlaceNotes, PlacedName};
-use circ_records::{KeptKey, Key, Record};
+use circ_records::{Key, Record};
 use read_set::{Note, NotedRecord, Notes, Plan, PlanName, found_in};
 use std::alloc::{AllocError, Global};
 use version_store::Place;
 
-/// Among so many writes a key is looked for one by one: to tell whether a key is the same costs less than how it stands to another.
-const FEW: usize = 4;
+/// Up to this many writes are searched one by one: whether two keys are the same costs less than their order.
+const SCANNED_MAX: usize = 4;
 
 /// The record that is written at a key.
-pub fn written<'w>(writes: &'w [(KeptKey, Record)], key: &Key) -> Option<&'w Record>
+pub fn written<'w>(writes: &'w [(Key, Record)], key: &Key) -> Option<&'w Record>
     requires { IsStrictlySortedBy key_cmp (map (λ e. e.0) writes.now) }
     ensures { option_copied result ≡ record_at writes.now key.now }
 {
-    if writes.len() <= FEW {
+    if writes.len() <= SCANNED_MAX {
         return found_in(writes, key);
     }
-    let Ok(place) = writes.binary_search_by(|write| write.0.order(key)) else {
+    let Ok(place) = writes.binary_search_by(|write| write.0.cmp(key)) else {
         return None;
     };
     Some(&writes[place].1)
@@ -55,14 +55,13 @@ pub fn read_notes<J: PlanName>(
 {
     let mut notes = Notes::new(alloc);
     for i in 0..noted.len() {
-        notes.add(read_note(alloc, plan, noted, i)?)?;
+        notes.add(read_note(plan, noted, i)?)?;
     }
     Ok(notes)
 }
 
 /// The i-th note with its record.
 fn read_note<J: PlanName>(
-    alloc: Global,
     plan: &Plan,
     noted: &PlaceNotes<'_, J>,
     i: usize,
@@ -78,7 +77,7 @@ fn read_note<J: PlanName>(
     };
     let found = NotedRecord::new(copied(record_seen(plan, key, seen.place))?);
     Ok(Note {
-        key: KeptKey::new(alloc, key)?,
+        key: key.clone()?,
         name: seen.name,
         found,
     })

@@ -26,7 +26,7 @@ pub enum Reply<'t, J: PlanName> {
     Stranger,
     /// The next write was placed.
     Placed,
-    /// An entry that an earlier attempt left was taken away.
+    /// An entry that an earlier attempt left was removed.
     Lifted,
     /// All is published, or all was compared.
     Whole,
@@ -46,8 +46,8 @@ pub enum Reply<'t, J: PlanName> {
     Attempts {
         line: u64,
     },
-    /// The clock has come to its end.
+    /// The clock can't be raised any more.
     ClockSpent,
-    /// There was no memory; nothing changed.
+    /// Out of memory; nothing changed.
     Memory,
 }

@@ -1,4 +1,4 @@
-//! What the board keeps of a line beside its state and its entries.
+//! What the board has of a line beside its state and its entries.
 
 use crate::notes::PlaceNotes;
 use read_set::PlanName;
@@ -7,7 +7,7 @@ use version_store::Place;
 /// How far the publication of a version has come.
 #[derive(Clone, Copy)]
 pub struct Course {
-    /// So many of its first writes are placed.
+    /// How many of its first writes are placed.
     pub placed: usize,
 }
 

@@ -6,7 +6,7 @@ ghost use Rattle.board_lines.specs.Notes.{found_by, notes_by, contents_at};
 
 use crate::notes::PlaceNotes;
 use crate::reading::record_seen;
-use circ_records::{KeptKey, Key};
+use circ_records::Key;
 use read_set::{Name, Note, NotedRecord, Plan, PlanName};
 use version_store::Place;
 
@@ -87,9 +87,8 @@ fn same_numbers(line: u64, theirs: u64, attempt: u32, newest: u32) -> bool
     attempt == newest
 }
 
-/// Whether a key is the kept one.
-fn same_key(key: &Key, kept: &KeptKey) -> bool
-    ensures { Decides result (kept.now ≡ key.now) }
+fn same_key(a: &Key, b: &Key) -> bool
+    ensures { Decides result (b.now ≡ a.now) }
 {
-    kept.is(key)
+    *b == *a
 }

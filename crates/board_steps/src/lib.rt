@@ -1,8 +1,8 @@
-//! The room of the board's steps: what a step is, which boards steps lead to, and what holds of them. Nothing here runs: the
-//! definitions are to be read, and the laws say that every list of steps gives the replay by one thread.
+//! The steps of workers: what a step is, which boards steps lead to, and what holds of them. Nothing here runs: the definitions
+//! are to be read, and the laws say that every list of steps gives the replay by one thread.
 //!
-//! A board is a value: for each line where it stands, what it has read, and its entries. It stands on the meaning of a line
-//! (`read_set`) and on the visible entry (`version_store`); the board in code stands on it.
+//! A board is a value: each line's state, what it has read, and its entries. It uses the meaning of a line (`read_set`) and the
+//! visible entry (`version_store`).
 #![tactic(auto)]
 
 ghost use Rattle.std.specs.Prelude.{◌≡◌, ◌≢◌, ℕ, suc, ◌+◌, ◌<◌, ◌≤◌, length, List, Option, Some};
@@ -26,7 +26,7 @@ pub fn opening_is_reached()
     ensures { (plan : Planned) (workers attempt clock : ℕ) → Reached plan (opening plan workers attempt clock) }
 {}
 
-/// Each of the five calls keeps a reached board, whatever it answers: with what holds of each line, also that what was held since a stamp is held.
+/// After each of the five calls on a reached board, whatever it answers, the board is reached.
 pub fn calls_keep()
     ensures take { (plan : Planned) (old : Board) (w n : ℕ) (reply : Reply) (new : Board) → Reached plan old → TakeStep old w n reply new → Reached plan new }
     ensures look { (plan : Planned) (old : Board) (w : ℕ) (k : Key) (reply : Reply) (new : Board) → Reached plan old → LookStep plan old w k reply new → Reached plan new }
@@ -44,7 +44,7 @@ pub fn calls_hold()
     ensures commit { (plan : Planned) (old : Board) (n : ℕ) (reply : Reply) (new : Board) → Reached plan old → CommitStep old n reply new → EachHeld new }
 {}
 
-/// Each step keeps a reached board.
+/// After each step on a reached board, the board is reached.
 pub fn steps_keep()
     ensures { (plan : Planned) (old new : Board) (call : Call) (reply : Reply) → Reached plan old → ByVersion plan call → Step plan old call reply new → Reached plan new }
 {}

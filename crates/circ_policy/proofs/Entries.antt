@@ -13,7 +13,7 @@ use Rattle.circ_policy.specs.Reading.{◌>>=◌, Refusal, class_in, entries, lim
 use Rattle.circ_policy.specs.declared.class.Class.{Class}
 use Rattle.sip_reader.specs.Texts.{is_id}
 
--- what was read stands before what is left
+-- what was read comes before what is left
 abbrev pub with_front : {X : Type 0} → List X → Result (List X) Refusal → Result (List X) Refusal
 with_front done (Ok xs) = Ok (done ++ xs)
 with_front done (Err e) = Err e
@@ -26,7 +26,7 @@ then_more : {X : Type 0} (done : List X) (x : X) (r : Result (List X) Refusal) �
 then_more done x (Ok xs) = ap Ok (one_more done x xs)
 then_more done x (Err e) = refl
 
--- an entry that was read goes behind the earlier ones
+-- an entry that was read comes after the earlier ones
 pub entries-more : {X : Type 0} (read : List ℕ → Data → Result X Refusal) (done : List X) (e : Entry) (es : List Entry) (x : X) → read (string_bytes e.0) (view e.1) ≡ Ok x
     → with_front done (entries read (members_view (e ∷ es))) ≡ with_front (done ++ x ∷ []) (entries read (members_view es))
 entries-more read done e es x said = rw said (then_more done x (entries read (members_view es)))
@@ -84,7 +84,7 @@ with_id : (b : Bool) (key name id : List ℕ) (class : Class) (read : Members �
 with_id true key name id class read o e = with_table key name id class read o e
 with_id false key name id class read o e = cc
 
--- a class goes by the name of its entry
+-- a class has the name of its entry
 pub class_in-name : (name : List ℕ) (d : Data) (id : List ℕ) (class : Class) → class_in name d ≡ Ok (id, class) → id ≡ name
 unfolding class_in
 class_in-name name d id class e = with_id (is_id name) (within (codes "class") name) name id class (limits (within (codes "class") name)) (as_table d) e

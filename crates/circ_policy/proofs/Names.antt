@@ -1,11 +1,10 @@
 -- Entries that rise by their names: what a search by halves finds there.
-use Rattle.std.proofs.Common.{Bool, true, false, ◌≡◌, ◌∙◌, ◌<◌, ◌≤◌, ℕ, zero, suc, cond, List, [], ◌∷◌, length, get_or, Some, None, Err, HoldsAt, nat_cmp, arith, refl, sym, ap, subst}
+use Rattle.std.proofs.Common.{◌≡◌, ◌∙◌, ◌<◌, ◌≤◌, ℕ, zero, suc, cond, List, [], ◌∷◌, length, get_or, Some, None, Err, HoldsAt, nat_cmp, arith, refl, sym, ap, subst}
 use Rattle.std.proofs.lemmas.Cmp.{nat_list_cmp_total}
 use Rattle.std.specs.BTreeMap.{is_at}
 use Rattle.std.specs.Cmp.Lexicographic.{slice_cmp}
 use Rattle.std.specs.FinMap.{nat_cmp-IsAntisymmetric, slice_cmp-IsAntisymmetric}
-use Rattle.std.specs.List.{AllByRecursion, AllWithin, find}
-use Rattle.std.specs.Option.{option_map}
+use Rattle.std.specs.List.{AllByRecursion, AllWithin}
 use Rattle.std.specs.List.Sorted.{IsBinarySearchResult, IsNonDecreasingBy, IsStrictlySortedBy}
 use Rattle.std.specs.Map.{keys_of, lookup}
 use Rattle.std.specs.Ordering.{is_eq, ordering_index, ordering_reverse}
@@ -58,17 +57,7 @@ non-falling (e ∷ es) k s (suc i) (suc j) d le n = non-falling es k s.1 i j d (
 looked : (es : List Named) (e : Named) (k : List ℕ) (o : Ordering) → bytes_cmp e.0 k ≡ o → lookup (is_at (bytes_cmp k)) (e ∷ es) ≡ cond (is_eq (ordering_reverse o)) (Some e.1) (lookup (is_at (bytes_cmp k)) es)
 looked es e k o is = ap (λ (p : Ordering). cond (is_eq p) (Some e.1) (lookup (is_at (bytes_cmp k)) es)) (flipped e.0 k o is)
 
--- what is looked for from the first entry on
-pub from_first : (k : List ℕ) (es : List (List ℕ × Class)) → lookup (is_at (slice_cmp nat_cmp k)) es ≡ option_map (λ (e : List ℕ × Class). e.1) (find (λ (e : List ℕ × Class). is_at (slice_cmp nat_cmp k) e.0) es)
-from_first k [] = refl
-from_first k (e ∷ es) = by (is_eq (slice_cmp nat_cmp k e.0)) (from_first k es)
-  where
-    by : (b : Bool) → lookup (is_at (slice_cmp nat_cmp k)) es ≡ option_map (λ (d : List ℕ × Class). d.1) (find (λ (d : List ℕ × Class). is_at (slice_cmp nat_cmp k) d.0) es)
-        → cond b (Some e.1) (lookup (is_at (slice_cmp nat_cmp k)) es) ≡ option_map (λ (d : List ℕ × Class). d.1) (cond b (Some e) (find (λ (d : List ℕ × Class). is_at (slice_cmp nat_cmp k) d.0) es))
-    by true rest = refl
-    by false rest = rest
-
--- what stands at the place of a name goes by it
+-- the entry at the place of a name has that name
 pub found : (es : List Named) (k : List ℕ) (n : ℕ) (d : Named) → HaveRisingNames es → n < length es → HoldsAt (λ (e : Named). bytes_cmp e.0 k ≡ Equal) es n → lookup (is_at (bytes_cmp k)) es ≡ Some (get_or es n d).1
 unfolding IsStrictlySortedBy
 found [] k n d s lt at = absurd (omega (arith, lt))

@@ -9,7 +9,7 @@ use Rattle.circ_policy.specs.Terms.{Closed}
 use Rattle.circ_policy.specs.Due.{is_open}
 use Rattle.circ_policy.proofs.Weekdays.{weekday-lem}
 
--- whether a number stands in a list
+-- whether a number is in a list
 abbrev has : ℕ → List ℕ → Bool
 has n ks = list_any (is_at (nat_cmp n)) ks
 

@@ -1,4 +1,4 @@
--- The types of media, and the digits that stand for them.
+-- The types of media, and their codes of three digits.
 use Rattle.std.specs.Prelude.{ℕ, List, [], ◌∷◌, Option, codes, ◌==◌}
 use Rattle.std.specs.Cmp.Lexicographic.{pointwise}
 use Rattle.std.specs.List.{find}

@@ -164,7 +164,7 @@ policy_of_document (Some ms) = policy_in ms
 abbrev pub policy_of : List ℕ → Result Terms Refusal
 policy_of bytes = policy_of_document (document_of bytes)
 
--- an error is right for what was to be read: want of memory always may be
+-- an error is right for what was to be read: `Memory` always may be
 abbrev pub Fails : {X : Type 0} → PolicyError → Result X Refusal → Type 0
 Fails error.Memory read = Unit {0}
 Fails error.Text read = read ≡ Err not_toml

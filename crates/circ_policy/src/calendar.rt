@@ -39,7 +39,7 @@ impl Calendar {
         !self.closed_weekdays[(number % 7) as usize] && !self.closed_dates.contains(&number)
     }
 
-    /// The first open day so many days after a day, or later.
+    /// The first open day that is `days` days after a day, or later.
     pub fn due(&self, day: Day, days: LoanDays) -> Day
         requires { day ≤ LAST_STAMP_DAY }
         ensures least { IsLeastOpen (closed_of self.now) (day + days) result }

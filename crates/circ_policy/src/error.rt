@@ -15,7 +15,7 @@ pub enum PolicyError {
     /// The first rule that the policy breaks, by the key that it is about: `currency`, `class.A`, `media.001.days`.
     #[error("the policy breaks the rule of `{key}`")]
     Rule { key: String },
-    /// There was no memory.
+    /// Memory ran out.
     #[error("no memory for the policy")]
     Memory,
 }

@@ -1,7 +1,7 @@
-//! The room of the library's rules: the policy file, the days on which the library is open, and late fees.
+//! The layer of the library's rules: the policy file, the days on which the library is open, and late fees.
 //!
-//! `Policy::read` makes a policy of the bytes of a TOML file, or names the first rule that the file breaks. What a
-//! policy says of a class of patrons or of a type of media is given by `class` and `media`. `Policy::due` and
+//! `Policy::read` makes a policy of the bytes of a TOML file, or names the first rule that the file breaks. `class` and
+//! `media` return what a policy says of a class of patrons or of a type of media. `Policy::due` and
 //! `late_fee` work out days and money. Money is in hundredths, days are `sip_reader`'s.
 #![tactic(auto)]
 

@@ -25,7 +25,7 @@ impl Model for LoanDays {
 }
 
 impl LoanDays {
-    /// So many days, where a loan can last so long.
+    /// This number of days, where a loan can last as long.
     pub fn new(days: u64) -> Option<LoanDays>
         ensures { result ≡ (if nat_le 1 days && nat_le days 3650 then Some days else None) }
     {

@@ -20,7 +20,7 @@ pub enum MediaType {
 }
 
 impl MediaType {
-    /// The three digits that stand for the type in messages, tables and policies.
+    /// The three ASCII digits of the type in messages, tables and policies.
     pub fn code(self) -> [u8; 3]
         ensures { result ≡ media_code self }
     {
@@ -39,7 +39,7 @@ impl MediaType {
         }
     }
 
-    /// The type for which these bytes stand.
+    /// The type that has these bytes as its code.
     #[tactic(auto, unfolding(crate::specs::Medias::media_of_code))]
     pub fn of_code(code: &[u8]) -> Option<MediaType>
         ensures { result ≡ media_of_code code.now }

@@ -1,9 +1,6 @@
 //! The policy of a library.
 
 ghost use Rattle.std.specs.Prelude.{◌≡◌, ◌≤◌, ◌<◌, ◌+◌};
-ghost use Rattle.std.specs.BTreeMap.{is_at};
-ghost use Rattle.std.specs.Cmp.Lexicographic.{slice_cmp};
-ghost use Rattle.std.specs.Ordering.{nat_cmp};
 ghost use Rattle.sip_reader.specs.Days.{LAST_STAMP_DAY};
 ghost use Rattle.circ_policy.specs.Due.{FIRST_DAY_OF_9999};
 
@@ -12,20 +9,17 @@ use crate::class::Class;
 use crate::due_form::DueForm;
 use crate::media::Media;
 use crate::media_type::MediaType;
-use sip_reader::{Day, Id, KeptId};
+use sip_reader::{Day, Id};
 use std::marker::Model;
-
-/// Up to so many classes are looked through one by one.
-const FEW: usize = 8;
 
 /// What a library grants its patrons, and what it asks for it.
 pub struct Policy {
-    pub(crate) institution: KeptId,
+    pub(crate) institution: Id,
     pub(crate) currency: [u8; 3],
     pub(crate) due_form: DueForm,
     pub(crate) calendar: Calendar,
-    /// They rise by their names.
-    pub(crate) classes: Vec<(KeptId, Class)>,
+    /// In byte order of their names.
+    pub(crate) classes: Vec<(Id, Class)>,
     pub(crate) media: Vec<(MediaType, Media)>,
 }
 
@@ -61,14 +55,7 @@ impl Policy {
     ghost use Rattle.circ_policy.specs.Ranges.{FitsPolicy};
 
     /// The library's id.
-    pub fn institution(&self) -> Id
-        ensures { result ≡ self.now.institution }
-    {
-        self.institution.id()
-    }
-
-    /// The same, as answers keep it.
-    pub fn kept_institution(&self) -> &KeptId
+    pub fn institution(&self) -> &Id
         ensures { result.now ≡ self.now.institution }
     {
         &self.institution
@@ -95,39 +82,9 @@ impl Policy {
         ensures { result ≡ class_of self.now name.now }
     {
         let classes = self.classes.as_slice();
-        match classes.binary_search_by(|class| class.0.order(name)) {
+        match classes.binary_search_by(|class| class.0.cmp(name)) {
             Ok(position) => Some(classes[position].1),
             Err(_) => None,
-        }
-    }
-
-    /// The same, by a kept name. A policy mostly has few classes: they are looked through, since each name is compared as it is
-    /// kept.
-    pub fn kept_class(&self, name: &KeptId) -> Option<Class>
-        ensures { result ≡ class_of self.now name.now }
-    {
-        if self.classes.len() > FEW {
-            self.class_of_many(name)
-        } else {
-            self.class_of_few(name)
-        }
-    }
-
-    /// The same, looked for by halves. It stands by itself, so that few classes need no room for a whole id.
-    #[inline(never)]
-    fn class_of_many(&self, name: &KeptId) -> Option<Class>
-        ensures { result ≡ class_of self.now name.now }
-    {
-        self.class(&name.id())
-    }
-
-    /// The same, looked for from the first class on.
-    fn class_of_few(&self, name: &KeptId) -> Option<Class>
-        ensures { result ≡ class_of self.now name.now }
-    {
-        match self.classes.iter().find(|class| is_named(class, name)) {
-            Some(class) => Some(class.1),
-            None => None,
         }
     }
 
@@ -152,11 +109,4 @@ impl Policy {
     {
         self.calendar.due(day, media.days)
     }
-}
-
-/// Whether a class has this name.
-fn is_named(class: &(KeptId, Class), name: &KeptId) -> bool
-    ensures { result ≡ is_at (slice_cmp nat_cmp name.now) class.now.0 }
-{
-    *name == class.0
 }

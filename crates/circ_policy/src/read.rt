@@ -13,7 +13,7 @@ use crate::policy::Policy;
 use crate::sections::{read_classes, read_media_types};
 use crate::unknown::least_unknown;
 use crate::values::{currency_of, due_form_of};
-use sip_reader::KeptId;
+use sip_reader::Id;
 use std::alloc::Global;
 use toml::Table;
 
@@ -21,7 +21,7 @@ impl Policy {
     /// The policy that the bytes of a file say. They are TOML, with the keys `institution`, `currency`, `due_form`,
     /// `class` and `media` and, where it is wanted, `closed_weekdays` and `closed_dates`; money is in hundredths.
     ///
-    /// An error names the first rule that is broken, in this order: no unknown key, the keys as they stand above with
+    /// An error names the first rule that is broken, in this order: no unknown key, the keys in the order above with
     /// the closed days before the classes, each class and each type of media in byte order of their names.
     pub fn read(alloc: Global, bytes: &[u8]) -> Result<Policy, PolicyError>
         ensures { Gives (λ p. p) result (policy_of bytes.now) }
@@ -82,11 +82,11 @@ fn has_only(alloc: Global, table: &Table, known: &[&str]) -> Result<(), PolicyEr
 }
 
 #[tactic(auto, unfolding(crate::specs::Reading::institution_in))]
-fn read_institution(alloc: Global, table: &Table) -> Result<KeptId, PolicyError>
+fn read_institution(alloc: Global, table: &Table) -> Result<Id, PolicyError>
     ensures { Gives (λ i. i) result (institution_in (table_view table.now)) }
 {
     match text_at(table, "institution") {
-        Some(text) => match KeptId::read(alloc, text.as_bytes())? {
+        Some(text) => match Id::read(alloc, text.as_bytes())? {
             Some(institution) => Ok(institution),
             None => Err(broken(alloc, "institution")),
         },

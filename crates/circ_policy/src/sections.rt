@@ -12,16 +12,13 @@ use crate::error::PolicyError;
 use crate::loan_days::LoanDays;
 use crate::media::Media;
 use crate::media_type::MediaType;
-use sip_reader::KeptId;
+use sip_reader::Id;
 use std::alloc::Global;
 use toml::{Table, Value};
 
 /// The classes of patrons, rising by their names.
 #[tactic(auto, unfolding(crate::specs::Reading::section))]
-pub(crate) fn read_classes(
-    alloc: Global,
-    policy: &Table,
-) -> Result<Vec<(KeptId, Class)>, PolicyError>
+pub(crate) fn read_classes(alloc: Global, policy: &Table) -> Result<Vec<(Id, Class)>, PolicyError>
     ensures value { Gives (λ m. m.items) result (section (codes "class") class_in (table_view policy.now)) }
     ensures rising { IfOk result (λ m. HaveRisingNames m.items) }
 {
@@ -32,7 +29,7 @@ pub(crate) fn read_classes(
 }
 
 /// The classes of the table, in byte order of their names, as the table gives them.
-fn class_entries(alloc: Global, table: &Table) -> Result<Vec<(KeptId, Class)>, PolicyError>
+fn class_entries(alloc: Global, table: &Table) -> Result<Vec<(Id, Class)>, PolicyError>
     ensures value { Gives (λ m. m.items) result (entries class_in (in_byte_order (table_view table.now))) }
     ensures rising { IfOk result (λ m. HaveRisingNames m.items) }
 {
@@ -46,10 +43,10 @@ fn class_entries(alloc: Global, table: &Table) -> Result<Vec<(KeptId, Class)>, P
 
 /// A class, with its name.
 #[tactic(auto, unfolding(crate::specs::Reading::class_in))]
-fn read_class(alloc: Global, name: &str, value: &Value) -> Result<(KeptId, Class), PolicyError>
+fn read_class(alloc: Global, name: &str, value: &Value) -> Result<(Id, Class), PolicyError>
     ensures { Gives (λ c. c) result (class_in name.now (view value.now)) }
 {
-    let Some(id) = KeptId::read(alloc, name.as_bytes())? else {
+    let Some(id) = Id::read(alloc, name.as_bytes())? else {
         return Err(broken_within(alloc, "class", name));
     };
     let Some(table) = value.as_table() else {

@@ -1,4 +1,4 @@
--- A key behind rising entries.
+-- A key after rising entries.
 use Rattle.std.proofs.Common.{◌≡◌, ℕ, zero, suc, arith, [], ◌∷◌, ◌++◌, Bool, Option, Some, length, ◌-◌, refl, sym, ap, ◌∙◌}
 use Rattle.std.specs.Prelude.{IsTrue, slice_get}
 use Rattle.std.specs.Map.{keys_of}
@@ -25,7 +25,7 @@ lesser Greater b e h = cc (sym h ∙ e)
 same-entry : (e last : Key × Record) → Some e ≡ Some last → e ≡ last
 same-entry e last is = ap (λ (o : Option (Key × Record)). unwrap_or o e) is
 
--- a key behind the last of rising entries is behind all of them
+-- a key after the last of rising entries is after all of them
 behind-last : (es : Entries) (i : ℕ) (k : Key) (last : Key × Record) → AreRising es → length es ≡ suc i → slice_get es i ≡ Some last → key_cmp last.0 k ≡ Less → IsBehind k es
 behind-last [] i k last r n is less = tt
 behind-last (e ∷ []) zero k last r n is less = (ap (λ (x : Key × Record). key_cmp x.0 k) (same-entry e last is) ∙ less, tt)
@@ -35,7 +35,7 @@ behind-last (e ∷ f ∷ es) (suc i) k last r n is less =
     let rest = behind-last (f ∷ es) i k last (sorted_tail key_cmp e.0 (keys_of (f ∷ es)) r) (omega (arith, n)) is less in
     (key_cmp_total.trans e.0 f.0 k (sorted_head key_cmp e.0 (keys_of (f ∷ es)) r).0 rest.0, rest)
 
--- the same where others stand before some
+-- the same where others come before some
 behind-both : (es : Entries) (f : Key × Record) (fs : Entries) (i : ℕ) (k : Key) (last : Key × Record) → AreRising (es ++ f ∷ fs)
     → length (f ∷ fs) ≡ suc i → slice_get (f ∷ fs) i ≡ Some last → key_cmp last.0 k ≡ Less → IsBehind k (es ++ f ∷ fs)
 behind-both [] f fs i k last r n is less = behind-last (f ∷ fs) i k last r n is less
@@ -46,7 +46,7 @@ behind-both (e ∷ d ∷ es) f fs i k last r n is less =
     let rest = behind-both (d ∷ es) f fs i k last (sorted_tail key_cmp e.0 (keys_of (d ∷ es ++ f ∷ fs)) r) n is less in
     (key_cmp_total.trans e.0 d.0 k (sorted_head key_cmp e.0 (keys_of (d ∷ es ++ f ∷ fs)) r).0 rest.0, rest)
 
--- the last of a list that stands behind a map
+-- the last of a list that comes after a map
 pub behind-list : (es fs : Entries) (k : Key) (last : Key × Record) → AreRising (es ++ fs) → Some last ≡ slice_get fs (length fs - 1) → key_cmp last.0 k ≡ Less → IsBehind k (es ++ fs)
 behind-list es [] k last r is less = cc
 behind-list es (f ∷ fs) k last r is less = behind-both es f fs (length (f ∷ fs) - 1) k last r (omega arith) (sym is) less

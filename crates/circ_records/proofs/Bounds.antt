@@ -115,7 +115,7 @@ decimal-bound text n e = by (nat_le 1 (length text)) (nat_le (length text) 10) r
     by true false few d digits z e = cc e
     by false b few d digits z e = cc e
 
--- behind the last number that a line can have none makes a fee
+-- after the last number that a line can have none makes a fee
 pub none-made : (id : List ℕ) → may_be_made 10000000000 id ≡ false
 unfolding line_of line_before
 none-made id = by (nat_le 1 (length id) && (slice_index id 0 == 82)) (MadeFees.is_count (drop (whole_len (drop 1 id)) (drop 1 id))) (decimal_of 10 (take (whole_len (drop 1 id)) (drop 1 id))) refl

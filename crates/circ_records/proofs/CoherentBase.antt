@@ -1,4 +1,4 @@
--- The records that rows tell, where no row breaks a rule, are coherent.
+-- The records that rows give, where no row breaks a rule, are coherent.
 use Rattle.std.proofs.Common.{◌≡◌, ◌≤◌, ◌<◌, ℕ, List, [], Bool, true, false, Option, Some, None, length, map, refl, subst, sym, ap, ◌∙◌, arith}
 use Rattle.std.specs.Prelude.{is_some, ◌&&◌, nat_lt, option_map, option_and_then, unwrap_or}
 use Rattle.std.specs.List.{list_all}
@@ -310,6 +310,6 @@ coherent-rows policy first rows m p i l f c h tells =
       fees = λ id x e. coherent-fee policy first rows m kept tells id x (ap as_fee (sym (tells (key.Fee id))) ∙ e);
     }
 
--- what rows tell is of the keys' kinds
+-- what rows give is of the keys' kinds
 pub told-kinds : (rows : Rows) (m : Map) → ((k : Key) → m k ≡ told rows k) → AreOfKind m
 told-kinds rows m tells k r e = kinds rows k r (sym (tells k) ∙ e)

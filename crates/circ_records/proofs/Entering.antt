@@ -1,4 +1,4 @@
--- A map that has the records that rows tell has their entries.
+-- A map that has the records that rows give has their entries.
 use Rattle.std.proofs.Common.{◌≡◌, ℕ, List, [], ◌∷◌, ◌++◌, Bool, true, false, cond, Option, Some, None, map, refl, sym, ap, ◌∙◌}
 use Rattle.std.specs.Prelude.{option_map, ◌&&◌}
 use lib.Dec.{T}
@@ -96,14 +96,14 @@ listed-told rows (key.Fee q) =
     (find-row fee_entry (key.Fee q) q (λ id. fee_told) rows.fees (λ row. is_eq-slice_cmp q (field 0 row)) (λ row. refl))
     (find-row closed_entry (key.Fee q) q (λ id. closed_told) rows.closed (λ row. is_eq-slice_cmp q (field 0 row)) (λ row. refl))
 
--- the entries that rows tell have these records
+-- the entries that rows give have these records
 pub entries-tell : (rows : Rows) → Tells rows (record_at (entries_told rows))
 unfolding entries_told
 entries-tell rows k =
     let m = from_entries {R = key_cmp} (listed rows) in
     sym (sym (get-entries m k) ∙ get-from_entries key_cmp_total (listed rows) k ∙ listed-told rows k)
 
--- rising entries that have the records that rows tell are theirs
+-- rising entries that have the records that rows give are theirs
 pub same-entries : (rows : Rows) (es : Entries) → IsStrictlySortedBy key_cmp (keys_of es) → ((k : Key) → record_at es k ≡ told rows k) → es ≡ entries_told rows
 unfolding entries_told
 same-entries rows es rising tells =

@@ -134,7 +134,7 @@ fee-twice first r row said old mid double says tells none put was is =
     (option_or (broken_by (change.Owes said.id) (record_at mid (key.Patron said.fee.patron))) (cond (not (nat_lt said.fee.paid said.fee.amount)) (Some rule.Paid) (cond (is_taken first said.id) (Some rule.Number) None)))) (sym is ∙ was)
     ∙ fee-by first r row said old mid says tells none put
 
--- behind that, the rule of the patron, and else the fee's own
+-- after that, the rule of the patron, and else the fee's own
 fee-behind : (first : Option ℕ) (r : Rows) (row : Row) (said : FeeRow) (old mid : Entries) (double : Bool) (patron : Option BaseRule) → SaysFee said row → AreTold r old → r.closed ≡ []
     → IsPut (key.Fee said.id) (record_of.Fee said.fee) old mid → double ≡ is_some (record_at old (key.Fee said.id)) → double ≡ false
     → patron ≡ broken_by (change.Owes said.id) (record_at mid (key.Patron said.fee.patron))

@@ -1,4 +1,4 @@
--- What a row that breaks no rule keeps.
+-- What holds of a row that breaks no rule.
 use Rattle.std.proofs.Common.{◌≡◌, ℕ, List, Option, Some, None, Bool, true, false, cond, not, refl}
 use Rattle.std.specs.Prelude.{is_some, ◌||◌}
 use Rattle.circ_policy.specs.Terms.{Terms}
@@ -18,7 +18,7 @@ met : (b : Bool) → not b ≡ false → b ≡ true
 met true e = refl
 met false e = cc e
 
--- several, one behind the other
+-- several, one after the other
 three : (a b c : Bool) (p q r : BaseRule) → cond a (Some p) (cond b (Some q) (cond c (Some r) None)) ≡ None → (a ≡ false) × (b ≡ false) × (c ≡ false)
 three a b c p q r e =
     let s = step a p (cond b (Some q) (cond c (Some r) None)) e in

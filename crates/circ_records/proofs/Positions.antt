@@ -1,4 +1,4 @@
--- Entries that rise by key: where a key stands or goes, and what is left of the order with one more.
+-- Entries that rise by key: where a key is or goes, and what is left of the order with one more.
 use Rattle.std.proofs.Common.{◌≡◌, ◌∙◌, ◌++◌, ◌+◌, ◌<◌, ◌≤◌, ℕ, zero, suc, Bool, true, false, cond, List, [], ◌∷◌, length, map, take, drop, get_or, Option, Some, None, Result, Ok, Err, HoldsAt, arith, refl, sym, ap, subst, append-nil, append_assoc, rules, take_all, drop_of_length-le}
 use Rattle.std.specs.BTreeMap.{insert_entry}
 use Rattle.std.specs.Cmp.{eq_by_cmp_equiv}
@@ -21,7 +21,7 @@ use Rattle.circ_records.proofs.Lookups.{tie}
 abbrev keys_in : Entries → List Key
 keys_in es = map (λ e. e.0) es
 
--- a key and all keys behind it
+-- a key and all keys after it
 abbrev IsBelow : Key → Entries → Type 0
 IsBelow k es = AllByRecursion (λ y. key_cmp k y ≡ Less) (keys_in es)
 
@@ -69,7 +69,13 @@ first-of k r (e ∷ es) s = rw s.0.0 refl
 pub goes-first : (front : Entries) (k : Key) (r : Record) (es : Entries) → AreRising (front ++ (k, r) ∷ es) → insert_entry key_cmp es k r ≡ (k, r) ∷ es
 goes-first front k r es s = first-of k r es (rises-behind front ((k, r) ∷ es) s)
 
--- What goes to the position of a key that stands in the list, counted from a number on
+-- the last of a list moves to the front of the entries after it
+pub moved : (front so_far whole left new : Entries) (k : Key) (r : Record) → AreRising whole → left ≡ front ++ (k, r) ∷ [] → left ++ so_far ≡ whole → new ≡ insert_entry key_cmp so_far k r → front ++ new ≡ whole
+moved front so_far whole left new k r rising last same put =
+    let all : front ++ (k, r) ∷ so_far ≡ whole = sym (append_assoc front ((k, r) ∷ []) so_far) ∙ ap (λ (es : Entries). es ++ so_far) (sym last) ∙ same in
+    ap (λ (es : Entries). front ++ es) (put ∙ goes-first front k r so_far (subst AreRising (sym all) rising)) ∙ all
+
+-- What goes to the position of a key that is in the list, counted from a number on
 record Takes (i : ℕ) (es : Entries) (k : Key) (r : Record) (position : ℕ) : Type 0 where
   n : ℕ
   at : position ≡ i + n
@@ -180,7 +186,7 @@ got [] n e d h = cc h
 got (x ∷ es) zero e d h = ap (λ (o : Option (Key × Record)). unwrap_or o x) h
 got (x ∷ es) (suc n) e d h = got es n e d h
 
--- a key that is found at a position stands there
+-- a key that is found at a position is there
 pub stands-at : (es : Entries) (k : Key) (n : ℕ) (e : Key × Record) → AreRising es → slice_get es n ≡ Some e → eq_by_cmp key_cmp k e.0 ≡ true → position_from 0 k es ≡ Ok n
 stands-at es k n e s there is =
     let same : key_cmp e.0 k ≡ Equal = flipped k e.0 Equal (tie _ is) in
@@ -207,11 +213,11 @@ at-end [] i k h = ap Err (omega arith)
 at-end (e ∷ es) i k h =
     match-at (key_cmp k e.0) Greater (Err i) (Ok i) (position_from (i + 1) k es) (flipped e.0 k Less h.0) ∙ at-end es (i + 1) k h.1 ∙ ap Err (omega arith)
 
--- a key behind all others goes to the end
+-- a key after all others goes to the end
 pub ends : (es : Entries) (k : Key) → IsBehind k es → position_from 0 k es ≡ Err (length es)
 ends es k h = at-end es 0 k h ∙ ap Err (omega arith)
 
--- ---- what stands at a position
+-- ---- what is at a position
 
 record Holds (i : ℕ) (es : Entries) (k : Key) (position : ℕ) : Type 0 where
   n : ℕ
@@ -233,7 +239,7 @@ holds i (e ∷ es) k position h =
     let t = holds-step (key_cmp k e.0) i e es k position refl h (holds (i + 1) es k position) in
     record { n = t.0; at = t.1; within = t.2; key = t.3; same = t.4 }
 
--- the record of a key stands at its position
+-- the record of a key is at its position
 pub held : (es : Entries) (k : Key) (position : ℕ) → position_from 0 k es ≡ Ok position
     → (position < length es) × ((d : Key × Record) → (get_or es position d).0 ≡ k) × ((d : Key × Record) → record_at es k ≡ Some (get_or es position d).1)
 held es k position h = let t = holds 0 es k position h in
@@ -257,7 +263,7 @@ unfolding IsStrictlySortedBy
 missing i [] k position s h = refl
 missing i (e ∷ es) k position s h = missing-step (key_cmp k e.0) i e es k position refl s.0 h (missing (i + 1) es k position s.1)
 
--- ---- one more among two lists, one behind the other
+-- ---- one more among two lists, one after the other
 
 within-step : (o : Ordering) (i : ℕ) (e : Key × Record) (es fs : Entries) (k : Key) (r : Record) (position : ℕ)
     → match_ordering o (Err i) (Ok i) (position_from (i + 1) k es) ≡ Ok position
@@ -267,7 +273,7 @@ within-step Less i e es fs k r position h more = cc
 within-step Equal i e es fs k r position h more = refl
 within-step Greater i e es fs k r position h more = ap (λ (l : Entries). e ∷ l) (more h)
 
--- the key stands in the first
+-- the key is in the first
 pub within : (i : ℕ) (es fs : Entries) (k : Key) (r : Record) (position : ℕ) → position_from i k es ≡ Ok position → insert_entry key_cmp (es ++ fs) k r ≡ insert_entry key_cmp es k r ++ fs
 within i [] fs k r position h = cc
 within i (e ∷ es) fs k r position h = within-step (key_cmp k e.0) i e es fs k r position h (within (i + 1) es fs k r position)
@@ -294,7 +300,7 @@ passes i (e ∷ es) fs k r position h =
     let t = passes-step (key_cmp k e.0) i e es fs k r position refl h (passes (i + 1) es fs k r position) in
     record { n = t.0; at = t.1; within = t.2; same = t.3 }
 
--- it doesn't: it goes behind those that stand before its position
+-- it isn't: it goes after those before its position
 pub past : (es fs : Entries) (k : Key) (r : Record) (position : ℕ) → position_from 0 k es ≡ Err position
     → (position ≤ length es) × (insert_entry key_cmp (es ++ fs) k r ≡ take position es ++ insert_entry key_cmp (drop position es ++ fs) k r)
 past es fs k r position h = let t = passes 0 es fs k r position h in
@@ -327,7 +333,7 @@ pub entered : (es : Entries) (k : Key) (r : Record) (q : Key) → record_at (ins
 entered [] k r q = ap (λ b. cond b (Some r) None) ((eq_by_cmp_equiv key_cmp_total).symm q k)
 entered (e ∷ es) k r q = entered-step (key_cmp k e.0) e es k r q refl (entered es k r q)
 
--- ---- a record of two lists, one behind the other
+-- ---- a record of two lists, one after the other
 
 or-either : (b : Bool) (r : Record) (o p : Option Record) → cond b (Some r) (option_or o p) ≡ option_or (cond b (Some r) o) p
 or-either true r o p = refl
@@ -337,7 +343,7 @@ pub in-either : (es fs : Entries) (q : Key) → record_at (es ++ fs) q ≡ optio
 in-either [] fs q = refl
 in-either (e ∷ es) fs q = ap (cond (eq_by_cmp key_cmp q e.0) (Some e.1)) (in-either es fs q) ∙ or-either (eq_by_cmp key_cmp q e.0) e.1 (record_at es q) (record_at fs q)
 
--- it stands in the first, or else in the second
+-- it is in the first, or else in the second
 pub in-first : (es fs : Entries) (q : Key) (r : Record) → record_at es q ≡ Some r → record_at (es ++ fs) q ≡ Some r
 in-first es fs q r h = in-either es fs q ∙ ap (λ (o : Option Record). option_or o (record_at fs q)) h
 
@@ -388,7 +394,7 @@ pub empty-of : (es : Entries) → length es ≡ 0 → es ≡ []
 empty-of [] n = refl
 empty-of (e ∷ es) n = absurd (omega (arith, n))
 
--- ---- a record that is put among two lists, one behind the other
+-- ---- a record that is put among two lists, one after the other
 
 -- the lists rise, and have that record at its key
 pub record HasPut (old new : Entries) (k : Key) (r : Record) : Type 0 where
@@ -407,7 +413,7 @@ put-at es fs k x r position s at same =
     has-put (es ++ fs) (slice_set es position (x, r) ++ fs) k r s
     (ap (λ (y : Key). slice_set es position (y, r) ++ fs) same ∙ ap (λ (l : Entries). l ++ fs) (replaced es k r position at).1 ∙ sym (within 0 es fs k r position at))
 
--- behind all of the first, where the second is empty
+-- after all of the first, where the second is empty
 pub put-last : (es fs gs : Entries) (k : Key) (r : Record) → AreRising (es ++ fs) → position_from 0 k es ≡ Err (length es) → fs ≡ [] → gs ≡ es ++ (k, r) ∷ [] → HasPut (es ++ fs) (gs ++ fs) k r
 put-last es fs gs k r s at none is =
     let p = past es fs k r (length es) at in
@@ -417,12 +423,12 @@ put-last es fs gs k r s at none is =
     has-put (es ++ fs) (gs ++ fs) k r s
     (ap (λ (l : Entries). gs ++ l) none ∙ append-nil gs ∙ is ∙ ap (λ (l : Entries). es ++ insert_entry key_cmp l k r) (sym none) ∙ sym all ∙ sym p.1)
 
--- behind what stands in the first before its position, among the others
+-- after the first ones up to its position, among the others
 pub put-between : (es fs zs : Entries) (k : Key) (r : Record) (position : ℕ) → AreRising (es ++ fs) → position_from 0 k es ≡ Err position
     → zs ≡ take position es ++ insert_entry key_cmp (drop position es ++ fs) k r → HasPut (es ++ fs) zs k r
 put-between es fs zs k r position s at is = has-put (es ++ fs) zs k r s (is ∙ sym (past es fs k r position at).1)
 
--- what stands there before
+-- what is there before
 pub there-before : (es fs : Entries) (k : Key) (position : ℕ) (d : Key × Record) → position_from 0 k es ≡ Ok position → record_at (es ++ fs) k ≡ Some (get_or es position d).1
 there-before es fs k position d at = in-first es fs k (get_or es position d).1 ((held es k position at).2 d)
 
@@ -431,7 +437,7 @@ none-before es fs k position s at =
     let none : record_at es k ≡ None = missing 0 es k position (rises-first es fs s) at in
     in-second (drop position es) fs k (none-dropped position es k none) ∙ sym (in-second es fs k none)
 
--- ---- among the first of those behind a list
+-- ---- among the first of those after a list
 
 pub less-of : (o : Ordering) → is_lt o ≡ true → o ≡ Less
 less-of Less h = refl
@@ -453,7 +459,7 @@ none-least (Some r) x k least less =
     let not : is_gt (key_cmp x k) ≡ false = search (rules, least) in
     cc
 
--- one that is not below it: the first can stand behind the list
+-- one that is not below it: the first can go to the end of the list
 pub followed : (es fs gs zs : Entries) (e : Key × Record) (k : Key) (r : Record) → fs ≡ e ∷ gs → key_cmp k e.0 ≡ Greater → zs ≡ es ++ e ∷ []
     → zs ++ insert_entry key_cmp gs k r ≡ es ++ insert_entry key_cmp fs k r
 followed es fs gs zs e k r split above more =

@@ -34,7 +34,7 @@ first-left : (xs : List Row) (new : Option (List Row)) (row : Row) (n : ℕ) →
 first-left xs None row n e = cc e
 first-left xs (Some rest) row n e = (rest, refl, some-same _ _ e)
 
--- behind a row that was read
+-- after a row that was read
 pub step-at : (all left new : Option (List Row)) (row : Row) (n m : ℕ) → IsAt all left n → left ≡ option_map (λ rest. row ∷ rest) new → m ≡ n + 1 → IsAt all new m
 step-at None left None row n m at e more = refl
 step-at None left (Some rest) row n m at e more = cc (at, e)

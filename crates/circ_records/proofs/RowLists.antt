@@ -1,4 +1,4 @@
--- The lists that are told from rows with an id.
+-- The lists that are made from rows with an id.
 use Rattle.std.proofs.Common.{◌≡◌, ◌≤◌, ◌<◌, ℕ, suc, List, [], ◌∷◌, ◌++◌, Bool, true, false, cond, not, Option, Some, None, length, map, refl, subst, sym, ap, ◌∙◌, append-nil, append_assoc, arith}
 use Rattle.std.specs.Prelude.{is_some, ◌&&◌, ◌||◌, nat_le}
 use Rattle.std.specs.List.{AllByRecursion, list_all}
@@ -34,7 +34,7 @@ abbrev pub is_at : ℕ → List ℕ → Option Row → Bool
 is_at column id None = false
 is_at column id (Some row) = is_same id (field column row)
 
--- what doesn't stand in a column isn't listed from it
+-- what isn't in a column isn't listed from it
 not-listed : (c d : ℕ) (id q : List ℕ) (rows : List Row) → has_row d q rows ≡ false → has_id q (map (field d) (rows_with c id rows)) ≡ false
 not-listed c d id q [] e = refl
 not-listed c d id q (row ∷ rows) e = by (is_same id (field c row)) (is_same q (field d row)) refl e (λ f. not-listed c d id q rows f)
@@ -46,7 +46,7 @@ not-listed c d id q (row ∷ rows) e = by (is_same id (field c row)) (is_same q 
     by true false s f rest = ap (λ x. x || has_id q (map (field d) (rows_with c id rows))) s ∙ rest f
     by false false s f rest = rest f
 
--- what stands once in a column is listed from the one row that has it
+-- what is once in a column is listed from the one row that has it
 pub listed-once : (c d : ℕ) (id q : List ℕ) (rows : List Row) → Once d rows → has_id q (map (field d) (rows_with c id rows)) ≡ is_at c id (row_with d q rows)
 listed-once c d id q [] o = refl
 listed-once c d id q (row ∷ rows) o = by (is_same id (field c row)) refl (is_same q (field d row)) refl (listed-once c d id q rows o.1)

@@ -14,7 +14,7 @@ use Rattle.circ_records.specs.declared.fault.BaseRule.{BaseRule}
 use Rattle.circ_records.specs.declared.tables.TableName.{TableName}
 use Rattle.circ_records.proofs.Lookups.{same-text}
 
--- a fact of each row behind the rows before it
+-- a fact of each row after the rows before it
 abbrev pub KeptFrom : (List Row → Row → Type 0) → List Row → List Row → Type 0
 KeptFrom P before [] = Unit {0}
 KeptFrom P before (row ∷ rows) = P before row × KeptFrom P (before ++ row ∷ []) rows
@@ -53,11 +53,11 @@ same-itself a = nat_list_eq_equiv.refl a
 
 -- IDS THAT STAND ONCE IN A COLUMN
 
--- a row's text didn't stand in the column before
+-- a row's text wasn't in the column before
 abbrev pub Fresh : ℕ → List Row → Row → Type 0
 Fresh column before row = has_row column (field column row) before ≡ false
 
--- nor does it stand there later
+-- nor is it there later
 abbrev pub Once : ℕ → List Row → Type 0
 Once column [] = Unit {0}
 Once column (row ∷ rows) = (has_row column (field column row) rows ≡ false) × Once column rows

@@ -1,4 +1,4 @@
--- The tables, read one behind the other.
+-- The tables, read one after the other.
 use Rattle.std.proofs.Common.{◌≡◌, ℕ, List, Option, Some, None, Result, Ok, Err, ap, refl, ◌∙◌}
 use Rattle.std.specs.Prelude.{IsSome, IfErr}
 use Rattle.std.specs.Result.{IsErrAnd}
@@ -32,7 +32,7 @@ six-rows : (t : Tables) → rows_of (texts_of t)
 unfolding rows_of
 six-rows t = refl
 
--- behind tables that were read
+-- after tables that were read
 six-patrons : (p i l f c h : Option (List Row)) (e : BaseError) → table_rows table.Patrons p ≡ Err e → six p i l f c h ≡ Err e
 six-patrons None i l f c h e t = cc t
 six-patrons (Some p) i l f c h e t = cc t

@@ -1,4 +1,4 @@
--- A map that has the records that rows tell, as a row more is put into it.
+-- A map that has the records that rows give, as a row more is put into it.
 use Rattle.std.proofs.Common.{◌≡◌, ℕ, List, [], ◌∷◌, ◌++◌, Bool, true, false, cond, Option, Some, None, refl, subst, sym, ap, ◌∙◌}
 use Rattle.std.specs.Prelude.{option_map, ◌||◌}
 use Rattle.std.specs.Option.{option_or}
@@ -34,7 +34,7 @@ put f q row before x o was fresh is =
     by true e = ap Some (is ∙ ap (λ t. f t row) (sym (same-text q (field 0 row) e)))
     by false e = was
 
--- a part of a record that is told from rows changes with them
+-- a part of a record that is made from rows changes with them
 part : {X : Type 0} (g : X → Row → Record) (c : Change) (b : Bool) (x y z : X) (o : Option Row) (r : Option Record)
     → r ≡ option_map (g x) o → ((row : Row) → changed c (g x row) ≡ g y row) → z ≡ cond b y x
     → cond b (option_map (changed c) r) r ≡ option_map (g z) o
@@ -62,7 +62,7 @@ tells-item r before row old new x tells fresh is updates (key.Item q) =
     updates (key.Item q) ∙ put (item_told no_rows) q row before x (record_at old (key.Item q)) (tells (key.Item q)) fresh is
 tells-item r before row old new x tells fresh is updates (key.Fee q) = updates (key.Fee q) ∙ tells (key.Fee q)
 
--- a row of loans more, whose item stands in none before
+-- a row of loans more, whose item is in none before
 pub tells-loan : (r : Rows) (before : List Row) (row : Row) (old mid new : Entries)
     → AreTold (to_loans r before) old → has_row 1 (field 1 row) before ≡ false
     → IsChanged (key.Patron (field 0 row)) (change.Borrows (field 1 row)) old mid → IsChanged (key.Item (field 1 row)) (change.Lent (loan_in row)) mid new

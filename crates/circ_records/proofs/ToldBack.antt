@@ -1,4 +1,4 @@
--- What is written of coherent records tells these records.
+-- What is written of coherent records gives these records.
 use Rattle.std.proofs.Common.{◌≡◌, ◌∙◌, ℕ, List, [], ◌∷◌, Bool, true, false, cond, Option, Some, None, map, refl, sym, ap, arith}
 use Rattle.std.proofs.lemmas.Bool.{ltb-false}
 use Rattle.std.specs.List.{cons_option, filter_map, flat_map}

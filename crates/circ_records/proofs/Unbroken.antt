@@ -48,7 +48,7 @@ passes-from name rule P all n before [] is h each = refl
 passes-from name rule P all n before (row ∷ rows) is h each =
     rw (h before rows row is each.0) (passes-from name rule P all (suc n) (before ++ row ∷ []) rows (is ∙ sym (append_assoc before (row ∷ []) rows)) h each.1)
 
--- rows that each pass behind those in front of it break nothing
+-- rows that each pass after those in front of it break nothing
 pub passes : (name : TableName) (rule : List Row → Row → Option BaseRule) (P : Row → Type 0) (rows : List Row)
     → ((front back : List Row) (row : Row) → rows ≡ front ++ row ∷ back → P row → rule front row ≡ None) → AllByRecursion P rows → broken name rule rows ≡ None
 passes name rule P rows h each = passes-from name rule P rows 1 [] rows refl h each
@@ -57,7 +57,7 @@ no-front : {A : Type 0} (xs : List A) (y : A) (ys : List A) (z : A) → xs ++ y 
 no-front [] y ys z e = refl
 no-front (x ∷ xs) y ys z e = let n = ap length e in absurd (omega (arith, n, length-append xs (y ∷ ys)))
 
--- a row's text in a column, among the rows in front of it and behind it
+-- a row's text in a column, among the rows in front of it and after it
 split : (column : ℕ) (front back : List Row) (row : Row) → rows_with column (field column row) (front ++ row ∷ back) ≡ rows_with column (field column row) front ++ row ∷ rows_with column (field column row) back
 split column front back row =
     filter-append (λ (r : Row). is_same (field column row) (field column r)) front (row ∷ back)
@@ -158,7 +158,7 @@ both : (a b : Bool) → (not a && b) ≡ true → (a ≡ false) × (b ≡ true)
 both true b e = cc
 both false b e = (refl, e)
 
--- in a list that has each once, none stands in front of itself
+-- in a list that has each once, none is in front of itself
 front-new : (xs : List (List ℕ)) (y : List ℕ) (ys : List (List ℕ)) → are_distinct (xs ++ y ∷ ys) ≡ true → has_id y xs ≡ false
 front-new [] y ys distinct = refl
 front-new (x ∷ xs) y ys distinct =
@@ -449,7 +449,7 @@ module _ (policy : Terms) (n : ℕ) (es : Entries) (rising : AreRising es) (co :
       let parts = and_parts (is_known (record_at es) h.patron) (is_text h.pickup) good in
       rw ((co.items x i (ap as_item at)).id_text, known-id h.patron parts.0, parts.1) refl
 
-  -- a place in a queue, with the places in front of it and behind it
+  -- a place in a queue, with the places in front of it and after it
   queue-split : (x : List ℕ) (i : Item) (h : Hold) (front back : List Row) → record_at es (key.Item x) ≡ Some (record_of.Item i) → flat_map hold_rows es ≡ front ++ hold_row x h ∷ back
       → rows_with 0 x front ++ hold_row x h ∷ rows_with 0 x back ≡ queued x i.holds
   queue-split x i h front back at is = sym (split 0 front back (hold_row x h)) ∙ ap (rows_with 0 x) (sym is) ∙ queue-rows x es rising ∙ ap (given hold_rows (key.Item x)) at

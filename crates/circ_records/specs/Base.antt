@@ -1,4 +1,4 @@
--- The base that tables tell, or why they tell none.
+-- The base that tables give, or why they give none.
 use Rattle.std.specs.Prelude.{◌≡◌, ℕ, List, [], ◌∷◌, Option, Some, None, Result, Ok, Err}
 use Rattle.std.specs.Option.{option_or}
 use Rattle.csv_table.specs.Rows.{rows_under}
@@ -71,7 +71,7 @@ abbrev pub unless_broken : Option BaseError → Entries → Result Entries BaseE
 unless_broken (Some e) entries = Err e
 unless_broken None entries = Ok entries
 
--- the base that the tables tell under a policy and before a journal that begins with a number
+-- the base that the tables give under a policy and before a journal that begins with a number
 unfoldable pub base_of : Terms → Texts → Option ℕ → Result Entries BaseError
 base_of policy texts first = do
   rows ← rows_of texts

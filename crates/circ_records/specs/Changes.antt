@@ -14,7 +14,7 @@ use Rattle.circ_records.specs.declared.record.Item.{Item}
 use Rattle.circ_records.specs.declared.record.Record.{Record}
 use Rattle.circ_records.specs.declared.record.Record.TheVariants as record_of
 
--- a record behind a change: a row of loans or fees stands last in its patron's list, a hold last in its item's queue
+-- a record after a change: a row of loans or fees is last in its patron's list, a hold last in its item's queue
 abbrev pub changed : Change → Record → Record
 changed (change.Borrows item) (record_of.Patron p) = record_of.Patron (record p { loans = p.loans ++ item ∷ [] })
 changed (change.Owes fee) (record_of.Patron p) = record_of.Patron (record p { fees = p.fees ++ fee ∷ [] })

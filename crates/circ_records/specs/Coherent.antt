@@ -53,7 +53,7 @@ AreOfKind m = (k : Key) (r : Record) → m k ≡ Some r → is_of_kind k r ≡ t
 abbrev pub is_known : Map → List ℕ → Bool
 is_known m id = is_some (as_patron (m (key.Patron id)))
 
--- whether an id stands in a list, and whether none stands there twice
+-- whether an id is in a list, and whether none is there twice
 abbrev pub has_id : List ℕ → List (List ℕ) → Bool
 has_id id ids = list_any (is_same id) ids
 
@@ -116,13 +116,13 @@ pub record IsCoherentFee (n : ℕ) (m : Map) (id : List ℕ) (f : Fee) : Type 0 
   pub amount : f.amount ≤ AMOUNT_MAX
   pub number : may_be_made n id ≡ false
 
--- a map of coherent records. What stands at a key of another kind counts as none: it is no patron, item or fee, and nothing is asked of it
+-- a map of coherent records. A record at a key of another kind counts as none: it is no patron, item or fee, and nothing is asked of it
 pub record IsCoherentMap (policy : Terms) (n : ℕ) (m : Map) : Type 0 where
   pub patrons : (id : List ℕ) (p : Patron) → as_patron (m (key.Patron id)) ≡ Some p → IsCoherentPatron policy m id p
   pub items : (id : List ℕ) (i : Item) → as_item (m (key.Item id)) ≡ Some i → IsCoherentItem policy m id i
   pub fees : (id : List ℕ) (f : Fee) → as_fee (m (key.Fee id)) ≡ Some f → IsCoherentFee n m id f
 
--- the number before which a base is coherent: that of the journal's first line, and behind all numbers where it has none
+-- the number before which a base is coherent: that of the journal's first line, and after all numbers where it has none
 abbrev pub number_before : Option ℕ → ℕ
 number_before None = line_number_end
 number_before (Some first) = first

@@ -1,6 +1,6 @@
--- Devices of proofs: how things are kept or counted. No promise is read here.
+-- Devices of proofs: how things are stored or counted. No promise is read here.
 pub mod Behind
 pub mod IdLists
-pub mod KeptKeys
+pub mod KeyRefs
 pub mod Positions
 pub mod Sharing

@@ -14,11 +14,11 @@ use Rattle.circ_records.specs.Written.{rows_telling, tables_of}
 abbrev pub AreRising : Entries → Type 0
 AreRising entries = IsStrictlySortedBy key_cmp (map (λ e. e.0) entries)
 
--- the base that is read of rows has the entries that they tell: rows tell just these
+-- the base that is read of rows has the entries that they give: rows give just these
 abbrev pub EntriesAreTold : Type 0
 EntriesAreTold = (rows : Rows) → Tells rows (record_at (entries_told rows))
 
--- what is written of a coherent map tells it, where each record is of its key's kind
+-- what is written of a coherent map gives it, where each record is of its key's kind
 abbrev pub WrittenIsTold : Type 0
 WrittenIsTold = (policy : Terms) (n : ℕ) (entries : Entries) → AreRising entries → Coherent policy n entries → AreOfKind (record_at entries) → Tells (rows_telling entries) (record_at entries)
 

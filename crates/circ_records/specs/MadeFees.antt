@@ -8,7 +8,7 @@ use Rattle.circ_records.specs.Values.{decimal_of, is_decimal}
 unfoldable pub is_count : List ℕ → Bool
 is_count text = nat_le 1 (length text) && ((slice_index text 0 == byte.hyphen) && is_decimal 20 (drop 1 text))
 
--- the number that stands before such a count: 1 to 10 digits, without leading zeros
+-- the number before such a count: 1 to 10 digits, without leading zeros
 unfoldable pub line_before : List ℕ → Option ℕ
 line_before text = if is_count (drop (whole_len text) text) then decimal_of 10 (take (whole_len text) text) else None
 

@@ -54,14 +54,14 @@ pub record AreTables (t : Tables) : Type 0 where
   pub closed : IsSome (rows_under closed_header t.closed.items)
   pub holds : IsSome (holds_rows_of t.holds.items)
 
--- why a table was read no further, unless memory ran out: it is none, or a row breaks a rule. What is behind that row wasn't
+-- why a table was read no further, unless memory ran out: it is none, or a row breaks a rule. What is after that row wasn't
 -- read, so the rule is the fault that is due where all of it is a table
 abbrev pub Stops : BaseError → TableName → Option (List Row) → Option BaseError → Type 0
 Stops error.Memory name rows fault = Unit {0}
 Stops (error.Table t) name rows fault = table_rows name rows ≡ Err (error.Table t)
 Stops (error.Rule t row rule) name rows fault = IsSome rows → fault ≡ Some (error.Rule t row rule)
 
--- the same of all tables, one behind the other
+-- the same of all tables, one after the other
 abbrev pub StopsAll : BaseError → Tables → Option BaseError → Type 0
 StopsAll error.Memory tables fault = Unit {0}
 StopsAll (error.Table t) tables fault = rows_of (texts_of tables) ≡ Err (error.Table t)
@@ -89,11 +89,11 @@ to_closed rows closed = record { patrons = rows.patrons; items = rows.items; loa
 abbrev pub to_holds : Rows → List Row → Rows
 to_holds rows holds = record { patrons = rows.patrons; items = rows.items; loans = rows.loans; fees = rows.fees; closed = rows.closed; holds = holds }
 
--- entries have the records that rows tell
+-- entries have the records that rows give
 abbrev pub AreTold : Rows → Entries → Type 0
 AreTold rows entries = (k : Key) → record_at entries k ≡ told rows k
 
--- a row breaks no rule by itself, and this is what it says
+-- a row breaks no rule whatever the records are, and this is what it says
 abbrev pub SaysLoan : LoanRow → Row → Type 0
 SaysLoan said row = (has_loan_texts row ≡ true) × (has_loan_values row ≡ true) × (said.item ≡ field 1 row) × (said.loan ≡ loan_in row)
 

@@ -1,5 +1,5 @@
--- The rules of a base: the first that a row breaks, and the first row that breaks one. A row stands behind the rows before it in its table
--- and behind the tables before its own.
+-- The rules of a base: the first that a row breaks, and the first row that breaks one. A row comes after the rows before it in its table
+-- and after the tables before its own.
 use Rattle.std.specs.Prelude.{ℕ, suc, Bool, false, List, [], ◌∷◌, ◌++◌, length, Option, Some, None, is_some, not, option_map, option_and_then, ◌&&◌, ◌||◌, nat_le, nat_lt, if◌then◌else◌}
 use Rattle.std.specs.List.{list_any}
 use Rattle.std.specs.Option.{option_or}
@@ -148,7 +148,7 @@ hold_rule patrons items loans before row =
     else if is_full (field 0 row) before then Some rule.Queue
     else None
 
--- the first row of a table, from row n on, that breaks a rule behind the rows before it
+-- the first row of a table, from row n on, that breaks a rule after the rows before it
 abbrev pub broken_from : TableName → (List Row → Row → Option BaseRule) → ℕ → List Row → List Row → Option BaseError
 broken_from table rule n before [] = None
 broken_from table rule n before (row ∷ rows) =

@@ -1,4 +1,4 @@
--- The records that the rows of the tables tell (the profile of this project: the columns of the tables).
+-- The records that the rows of the tables give (the profile of this project: the columns of the tables).
 use Rattle.std.specs.Prelude.{◌≡◌, ℕ, false, List, ◌++◌, Option, map, option_map, unwrap_or}
 use Rattle.std.specs.FinMap.{entries, from_entries}
 use Rattle.std.specs.List.{filter, find}
@@ -88,17 +88,17 @@ closed_told row = record_of.Fee (record {
   paid = hundredths (field 3 row);
 })
 
--- the record that the rows tell at a key: that of the row with the key's id
+-- the record that the rows give at a key: that of the row with the key's id
 abbrev pub told : Rows → Key → Option Record
 told rows (key.Patron id) = option_map (patron_told rows id) (row_with 0 id rows.patrons)
 told rows (key.Item id) = option_map (item_told rows id) (row_with 0 id rows.items)
 told rows (key.Fee id) = option_or (option_map fee_told (row_with 0 id rows.fees)) (option_map closed_told (row_with 0 id rows.closed))
 
--- rows tell a map that has at each key the record that they tell there
+-- rows give a map that has at each key the record that they give there
 abbrev pub Tells : Rows → (Key → Option Record) → Type 0
 Tells rows m = (k : Key) → told rows k ≡ m k
 
--- each row that tells a record, under its key
+-- each row that gives a record, under its key
 abbrev pub patron_entry : Rows → Row → Key × Record
 patron_entry rows row = (key.Patron (field 0 row), patron_told rows (field 0 row) row)
 
@@ -115,6 +115,6 @@ closed_entry row = (key.Fee (field 0 row), closed_told row)
 abbrev pub listed : Rows → Entries
 listed rows = map (patron_entry rows) rows.patrons ++ (map (item_entry rows) rows.items ++ (map fee_entry rows.fees ++ map closed_entry rows.closed))
 
--- the map that the rows tell, its keys rising
+-- the map that the rows give, its keys rising
 unfoldable pub entries_told : Rows → Entries
 entries_told rows = entries (from_entries {R = key_cmp} (listed rows))

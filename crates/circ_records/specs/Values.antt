@@ -1,4 +1,4 @@
--- How values stand in rows (the profile of this project). An amount stands there as in a message.
+-- How values are written in rows (the profile of this project). An amount is written as in a message.
 use Rattle.std.specs.Prelude.{ℕ, Bool, true, false, not, ◌&&◌, ◌==◌, ◌+◌, nat_le, List, [], ◌∷◌, length, slice_index, Option, Some, None, codes, unwrap_or, if◌then◌else◌}
 use Rattle.std.specs.Char.{is_ascii_digit}
 use Rattle.std.specs.Cmp.Lexicographic.{pointwise}
@@ -23,7 +23,7 @@ flag_of text = if is_same text (codes "Y") then Some true else if is_same text (
 abbrev pub has_leading_zero : List ℕ → Bool
 has_leading_zero text = nat_le 2 (length text) && (slice_index text 0 == byte.zero)
 
--- at least one digit and at most so many, without leading zeros
+-- at least one digit and at most the given number of them, without leading zeros
 unfoldable pub is_decimal : ℕ → List ℕ → Bool
 is_decimal most text =
     nat_le 1 (length text) && (nat_le (length text) most && (list_all is_ascii_digit text && not (has_leading_zero text)))
@@ -40,7 +40,7 @@ within greatest (Some n) = if nat_le n greatest then Some n else None
 unfoldable pub renewals_of : List ℕ → Option ℕ
 renewals_of text = within 4294967295 (decimal_of 10 text)
 
--- two digits stand there
+-- two digits are there
 abbrev pub are_digits : ℕ → List ℕ → Bool
 are_digits i text = is_ascii_digit (slice_index text i) && is_ascii_digit (slice_index text (i + 1))
 

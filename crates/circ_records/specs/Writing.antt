@@ -9,7 +9,7 @@ use Rattle.circ_records.specs.declared.key.Key.{Key}
 use Rattle.circ_records.specs.declared.record.Record.{Record}
 use Rattle.circ_records.specs.declared.table_texts.TableTexts.{TableTexts}
 
--- a text that has its header has so many columns
+-- a text that has its header has this many columns
 abbrev pub HasWidth : ℕ → Option Written → Type 0
 HasWidth n text = IfSome text (λ t. t.width ≡ n)
 
@@ -27,7 +27,7 @@ pub record HasWidths (t : TableTexts) : Type 0 where
   pub closed : HasWidth 4 t.closed
   pub holds : HasWidth 3 t.holds
 
--- each table has what an entry of a map has in it, behind what it had
+-- each table has what an entry of a map has in it, after what it had
 pub record Gains (map : Entries) (entry : Key × Record) (old new : TableTexts) : Type 0 where
   pub patrons : new.patrons ≡ with_rows (patron_rows entry) old.patrons
   pub items : new.items ≡ with_rows (item_rows entry) old.items

@@ -1,5 +1,5 @@
--- The tables that tell a map, as they are written (the profile of this project, base and final tables). The keys of a map
--- rise: patrons, then items, then fees, each by id. So rows that stand entry by entry are in the written order.
+-- The tables of a map, as they are written (the profile of this project, base and final tables). The keys of a map
+-- rise: patrons, then items, then fees, each by id. So rows entry by entry are in the written order.
 use Rattle.std.specs.Prelude.{ℕ, Bool, List, [], ◌∷◌, Option, Some, None, map, option_map, decimal, nat_lt, if◌then◌else◌}
 use Rattle.std.specs.List.{filter_map, flat_map}
 use Rattle.csv_table.specs.Text.{table_text}
@@ -47,7 +47,7 @@ closed_row id fee = id ∷ fee.patron ∷ fee_type_code fee.kind ∷ amount_text
 abbrev pub hold_row : List ℕ → Hold → Row
 hold_row item hold = item ∷ hold.patron ∷ hold.pickup ∷ []
 
--- the loan of what stands at an item's key: a record of another kind than its key's counts as none
+-- the loan of the record at an item's key: a record of another kind than its key's counts as none
 abbrev pub loan_in : Option Record → Option Loan
 loan_in (Some (record_of.Item item)) = item.loan
 loan_in (Some (record_of.Patron patron)) = None
@@ -58,7 +58,7 @@ loan_in None = None
 abbrev pub open_alone : Fee → Option Fee
 open_alone fee = if is_open fee then Some fee else None
 
--- the fee of what stands at a fee's key, where it is open
+-- the fee of the record at a fee's key, where it is open
 abbrev pub open_fee_in : Option Record → Option Fee
 open_fee_in (Some (record_of.Fee fee)) = open_alone fee
 open_fee_in (Some (record_of.Patron patron)) = None
@@ -113,7 +113,7 @@ abbrev pub hold_rows : Key × Record → List Row
 hold_rows (key.Item id, record_of.Item item) = queued id item.holds
 hold_rows (k, r) = []
 
--- the rows that tell a map, in the order in which they are written
+-- the rows of a map, in the order in which they are written
 unfoldable pub rows_telling : Entries → Rows
 rows_telling entries = record {
   patrons = flat_map patron_rows entries;
@@ -135,6 +135,6 @@ printed rows = record {
   holds = table_text (holds_header ∷ rows.holds);
 }
 
--- the tables that tell a map
+-- the tables of a map
 abbrev pub tables_of : Entries → Texts
 tables_of entries = printed (rows_telling entries)

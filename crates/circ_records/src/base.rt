@@ -13,14 +13,12 @@ use crate::closed::add_closed;
 use crate::fault::BaseError;
 use crate::fees::add_fees;
 use crate::items::add_items;
-use crate::kept_key::KeptKey;
 use crate::key::Key;
-use crate::listed::found_likely;
 use crate::loans::add_loans;
 use crate::patrons::add_patrons;
-use crate::places::Places;
 use crate::queues::add_holds;
 use crate::record::Record;
+use crate::record_list::RecordList;
 use crate::record_map::RecordMap;
 use crate::rows::check_tables;
 use crate::tables::Tables;
@@ -32,35 +30,28 @@ use std::mem::replace;
 /// The records that a run begins with, by their keys.
 pub struct Base {
     /// By rising keys.
-    records: Vec<(KeptKey, Record)>,
-    /// Where each likely stands.
-    places: Places,
+    records: RecordList,
 }
 
 impl Drop for Base {
     fn drop(self) {
-        let Base {
-            records: _,
-            places: _,
-        } = self;
+        let Base { records: _ } = self;
     }
 }
 
 impl Model for Base {
-    ghost use Rattle.std.specs.Prelude.{List};
     ghost use Rattle.circ_records.specs.Laws.{AreRising};
-    ghost use Rattle.circ_records.specs.declared.key.Key.{Key};
-    ghost use Rattle.circ_records.specs.declared.record.Record.{Record};
+    ghost use Rattle.circ_records.specs.Records.{Entries};
 
-    ghost Value = { List (Key × Record) };
+    ghost Value = { Entries };
 
-    ghost view = { λ b. b.records.items };
+    ghost view = { λ b. b.records.entries.items };
 
-    ghost invariant = { λ b. AreRising b.records.items };
+    ghost invariant = { λ b. AreRising b.records.entries.items };
 }
 
 impl Base {
-    /// The base that the tables tell. `first` is the number of the journal's first line: no fee of the base has an id
+    /// The base of the tables. `first` is the number of the journal's first line: no fee of the base has an id
     /// that this line or a later one may make.
     pub fn read(
         alloc: Global,
@@ -87,16 +78,16 @@ impl Base {
     pub fn get(&self, key: &Key) -> Option<&Record>
         ensures { option_copied result ≡ record_at self.now key.now }
     {
-        found_likely(self.records.as_slice(), &self.places, key)
+        self.records.get(&key.as_ref())
     }
 
     /// The records with their keys, rising.
-    pub fn as_slice(&self) -> &[(KeptKey, Record)]
+    pub fn as_slice(&self) -> &[(Key, Record)]
         ensures records { result.now ≡ self.now }
         ensures rising { AreRising self.now }
         ensures few { length self.now < 2 ^ 64 }
     {
-        self.records.as_slice()
+        self.records.entries.as_slice()
     }
 
     /// The records by their keys, taken out: the base has none left.
@@ -104,25 +95,23 @@ impl Base {
         ensures taken { result ≡ self.old }
         ensures left { self.new ≡ [] }
     {
-        let places = replace(&mut self.places, Places::none(alloc));
-        let records = replace(&mut self.records, Vec::new(alloc));
-        RecordMap::from_list(alloc, records, places)
+        let records = replace(&mut self.records, RecordList::new(alloc));
+        RecordMap::from_list(alloc, records)
     }
 
     /// No records. In this map those of the base's keys are found as fast as here, once all of them were put there in their order.
     pub fn empty_map(&self, alloc: Global) -> Result<RecordMap, AllocError>
         ensures { IfOk result (λ m. m ≡ []) }
     {
-        let places = self.places.copy()?;
-        let listed = Vec::with_capacity(alloc, places.count())?;
-        Ok(RecordMap::from_list(alloc, listed, places))
+        let listed = self.records.emptied_copy(alloc)?;
+        Ok(RecordMap::from_list(alloc, listed))
     }
 }
 
-/// So many bytes has a row at least, but for a few.
+/// Few rows have fewer bytes.
 const ROW_BYTES: usize = 16;
 
-/// How many records the tables tell at most, likely. Where they tell more, the list grows.
+/// A guess at how many records the tables have. Where they have more, the list grows.
 fn likely_rows(tables: &Tables) -> usize {
     let bytes = tables
         .patrons
@@ -133,8 +122,8 @@ fn likely_rows(tables: &Tables) -> usize {
     bytes / ROW_BYTES
 }
 
-/// The base that the rows of the tables tell, table by table, or the first rule that a row breaks. What the tables
-/// before a fault have put there is dropped with it: so the `add_` of each table says nothing of the records behind one.
+/// The base of the rows of the tables, table by table, or the first rule that a row breaks. The records of the tables before a
+/// fault are dropped: so the `add_` of each table says nothing of the records after a fault.
 fn records_of(
     alloc: Global,
     policy: &Policy,
@@ -148,15 +137,16 @@ fn records_of(
     ensures kinds { IfOk result (λ b. AreOfKind (record_at b)) }
     ensures err { IfErr result (λ e. StopsAll e tables.now (first_broken policy.now first (rows_in tables.now))) }
 {
-    let mut listed = RecordMap::with_room(alloc, likely_rows(tables))?;
+    let listed = RecordList::with_capacity(alloc, likely_rows(tables))?;
+    let mut listed = RecordMap::from_list(alloc, listed);
     add_patrons(alloc, policy, tables, &mut listed)?;
     add_items(alloc, policy, tables, &mut listed)?;
-    // what follows looks for each patron and item that it names
-    let mut found = listed.found_fast(alloc)?;
-    add_loans(alloc, tables, &mut found)?;
-    add_fees(alloc, first, tables, &mut found)?;
-    add_closed(alloc, first, tables, &mut found)?;
-    add_holds(alloc, tables, &mut found)?;
-    let (records, places) = found.into_list(alloc)?;
-    Ok(Base { records, places })
+    // each patron and item that the other tables name is looked for
+    let mut hinted = listed.with_hints(alloc)?;
+    add_loans(alloc, tables, &mut hinted)?;
+    add_fees(alloc, first, tables, &mut hinted)?;
+    add_closed(alloc, first, tables, &mut hinted)?;
+    add_holds(alloc, tables, &mut hinted)?;
+    let records = hinted.into_list(alloc)?;
+    Ok(Base { records })
 }

@@ -1,4 +1,4 @@
-//! Records changed in place: what a row changes of a record that an earlier table told, and a fee that is listed.
+//! Records changed in place: what a row changes of a record of an earlier table, and a fee that is listed.
 
 ghost use Rattle.std.specs.Prelude.{◌≡◌, ◌++◌, ◌∷◌, [], OnOk, OnErr, IfOk, Some, None, is_some};
 ghost use Rattle.circ_records.specs.Changes.{broken_by, broken_hold, changed};
@@ -7,7 +7,7 @@ ghost use Rattle.circ_records.specs.declared.changes.Change.TheVariants as chang
 use crate::fault::BaseRule;
 use crate::holds::{Hold, QUEUE_MAX};
 use crate::known::is_loan_of;
-use crate::record::{Item, KeptLoan, Loan, Patron, Record};
+use crate::record::{Item, Loan, Patron, Record};
 use crate::shared::Shared;
 use sip_reader::Id;
 use std::alloc::{AllocError, Global};
@@ -15,13 +15,13 @@ use std::alloc::{AllocError, Global};
 /// What a row of loans, fees or holds changes of a patron or an item.
 #[derive(Drop)]
 pub(crate) enum Change {
-    /// The item goes last in the patron's loans.
+    /// The item is appended to the patron's loans.
     Borrows(Id),
-    /// The fee goes last in the patron's open fees.
+    /// The fee is appended to the patron's open fees.
     Owes(Id),
     /// The item is on loan.
     Lent(Loan),
-    /// The hold goes last in the item's queue.
+    /// The hold is appended to the item's queue.
     Awaited(Hold),
 }
 
@@ -37,7 +37,7 @@ impl Change {
     }
 }
 
-/// Changes a record, or tells the rule that the change breaks there. Without memory nothing changes.
+/// Changes a record, or returns the rule that the change breaks there. Out of memory, nothing changes.
 pub(crate) fn apply(
     alloc: Global,
     target: &mut Record,
@@ -50,8 +50,8 @@ pub(crate) fn apply(
     match what {
         Change::Borrows(item) => borrow(alloc, target, item),
         Change::Owes(fee) => owe(alloc, target, fee),
-        Change::Lent(loan) => lend(alloc, target, loan),
-        Change::Awaited(hold) => wait(alloc, target, hold),
+        Change::Lent(loan) => lend(target, loan),
+        Change::Awaited(hold) => wait(target, hold),
     }
 }
 
@@ -83,7 +83,7 @@ fn owe(alloc: Global, target: &mut Record, fee: Id) -> Result<Option<BaseRule>, 
     }
 }
 
-fn lend(alloc: Global, target: &mut Record, loan: Loan) -> Result<Option<BaseRule>, AllocError>
+fn lend(target: &mut Record, loan: Loan) -> Result<Option<BaseRule>, AllocError>
     ensures rule { IfOk result (λ broken. broken ≡ broken_by (change.Lent loan) (Some target.old)) }
     ensures ok { IfOk result (λ broken. broken ≡ None → target.new ≡ changed (change.Lent loan) target.old) }
     ensures err { OnErr result (target.new ≡ target.old) }
@@ -93,24 +93,24 @@ fn lend(alloc: Global, target: &mut Record, loan: Loan) -> Result<Option<BaseRul
             if is_lent(item) {
                 return Ok(Some(BaseRule::Lent));
             }
-            set_loan(alloc, item, loan)?;
+            set_loan(item, loan)?;
             Ok(None)
         }
         _ => Ok(Some(BaseRule::Item)),
     }
 }
 
-fn wait(alloc: Global, target: &mut Record, hold: Hold) -> Result<Option<BaseRule>, AllocError>
+fn wait(target: &mut Record, hold: Hold) -> Result<Option<BaseRule>, AllocError>
     ensures rule { IfOk result (λ broken. broken ≡ broken_by (change.Awaited hold) (Some target.old)) }
     ensures ok { IfOk result (λ broken. broken ≡ None → target.new ≡ changed (change.Awaited hold) target.old) }
     ensures err { OnErr result (target.new ≡ target.old) }
 {
     match target {
         Record::Item(item) => {
-            if let Some(rule) = rule_of_hold(item, hold.patron) {
+            if let Some(rule) = rule_of_hold(item, &hold.patron) {
                 return Ok(Some(rule));
             }
-            put_hold(alloc, item, hold)?;
+            put_hold(item, hold)?;
             Ok(None)
         }
         _ => Ok(Some(BaseRule::Item)),
@@ -125,11 +125,11 @@ fn is_lent(item: &Shared<Item>) -> bool
 }
 
 /// The rule that a hold of a patron on an item breaks.
-fn rule_of_hold(item: &Shared<Item>, patron: Id) -> Option<BaseRule>
-    ensures { result ≡ broken_hold patron item.now }
+fn rule_of_hold(item: &Shared<Item>, patron: &Id) -> Option<BaseRule>
+    ensures { result ≡ broken_hold patron.now item.now }
 {
     let item = item.get();
-    if is_loan_of(patron, item.loan()) {
+    if is_loan_of(patron, &item.loan) {
         Some(BaseRule::Borrower)
     } else if item.holds.len() >= QUEUE_MAX {
         Some(BaseRule::Queue)
@@ -138,68 +138,35 @@ fn rule_of_hold(item: &Shared<Item>, patron: Id) -> Option<BaseRule>
     }
 }
 
-/// An item goes last in a patron's loans. The patron is changed in place, where no copy has it.
+/// Appends an item to a patron's loans.
 fn put_loan(alloc: Global, patron: &mut Shared<Patron>, item: Id) -> Result<(), AllocError>
     ensures ok { OnOk result (patron.new ≡ record patron.old { loans = patron.old.loans ++ item ∷ [] }) }
     ensures err { OnErr result (patron.new ≡ patron.old) }
 {
-    match patron.sole() {
-        Some(patron) => patron.loans.push(alloc, item),
-        None => {
-            let mut other = patron.get().copy()?;
-            other.loans.push(alloc, item)?;
-            *patron = Shared::new(alloc, other)?;
-            Ok(())
-        }
-    }
+    patron.make_mut()?.loans.push(alloc, item)
 }
 
-/// A fee goes last in a patron's open fees. The patron is changed in place, where no copy has it. Without memory nothing
-/// changes.
+/// Appends a fee to a patron's open fees. The patron is changed in place where no copy shares it. Out of memory, nothing changes.
 pub fn put_fee(alloc: Global, patron: &mut Shared<Patron>, fee: Id) -> Result<(), AllocError>
     ensures ok { OnOk result (patron.new ≡ record patron.old { fees = patron.old.fees ++ fee ∷ [] }) }
     ensures err { OnErr result (patron.new ≡ patron.old) }
 {
-    match patron.sole() {
-        Some(patron) => patron.fees.push(alloc, fee),
-        None => {
-            let mut other = patron.get().copy()?;
-            other.fees.push(alloc, fee)?;
-            *patron = Shared::new(alloc, other)?;
-            Ok(())
-        }
-    }
+    patron.make_mut()?.fees.push(alloc, fee)
 }
 
-/// An item is on loan. The item is changed in place, where no copy has it.
-fn set_loan(alloc: Global, item: &mut Shared<Item>, loan: Loan) -> Result<(), AllocError>
+/// Puts an item on loan.
+fn set_loan(item: &mut Shared<Item>, loan: Loan) -> Result<(), AllocError>
     ensures ok { OnOk result (item.new ≡ record item.old { loan = Some loan }) }
     ensures err { OnErr result (item.new ≡ item.old) }
 {
-    let kept = KeptLoan::new(alloc, &loan)?;
-    match item.sole() {
-        Some(item) => item.loan = Some(kept),
-        None => {
-            let mut other = item.get().copy(alloc)?;
-            other.loan = Some(kept);
-            *item = Shared::new(alloc, other)?;
-        }
-    }
+    item.make_mut()?.loan = Some(loan);
     Ok(())
 }
 
-/// A hold goes last in an item's queue. The item is changed in place, where no copy has it.
-fn put_hold(alloc: Global, item: &mut Shared<Item>, hold: Hold) -> Result<(), AllocError>
+/// Appends a hold to an item's queue.
+fn put_hold(item: &mut Shared<Item>, hold: Hold) -> Result<(), AllocError>
     ensures ok { OnOk result (item.new ≡ record item.old { holds = item.old.holds ++ hold ∷ [] }) }
     ensures err { OnErr result (item.new ≡ item.old) }
 {
-    match item.sole() {
-        Some(item) => item.holds.push(hold),
-        None => {
-            let mut other = item.get().copy(alloc)?;
-            other.holds.push(hold)?;
-            *item = Shared::new(alloc, other)?;
-            Ok(())
-        }
-    }
+    item.make_mut()?.holds.push(hold)
 }

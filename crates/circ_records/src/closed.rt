@@ -19,7 +19,7 @@ use crate::tables::{TableName, Tables};
 use csv::ByteRecord;
 use std::alloc::{AllocError, Global};
 
-/// Puts the closed fees of the table among the records, or tells the first rule that a row breaks. `first` is the number
+/// Adds the closed fees of the table to the records, or returns the first rule that a row breaks. `first` is the number
 /// of the journal's first line.
 pub(crate) fn add_closed(
     alloc: Global,
@@ -44,8 +44,8 @@ pub(crate) fn add_closed(
     Ok(())
 }
 
-/// Puts the closed fee of a row among the records, or tells the first rule that the row breaks behind those whose records these
-/// are. A row that breaks one may leave its fee there.
+/// Adds the closed fee of a row to the records of the rows before it, or returns the first rule that the row breaks. A row that
+/// breaks one may leave its fee there.
 #[tactic(auto, unfolding(crate::specs::Rules::closed_rule))]
 fn add_fee(
     alloc: Global,
@@ -56,13 +56,13 @@ fn add_fee(
     ensures rule { IfOk result (λ broken. (r : Rows) → AreTold r records.old → broken ≡ Rules.closed_rule first r.patrons r.fees r.closed (fields_of row.now)) }
     ensures told { IfOk result (λ broken. broken ≡ None → (r : Rows) (before : List Row) → AreTold (to_closed r before) records.old → (Rules.has_row 0 (field 0 (fields_of row.now)) r.fees || Rules.has_row 0 (field 0 (fields_of row.now)) before) ≡ false → AreTold (to_closed r (before ++ fields_of row.now ∷ [])) records.new) }
 {
-    match read_closed(row) {
+    match read_closed(alloc, row)? {
         Ok(said) => put_closed(alloc, first, &said, records),
         Err(rule) => Ok(Some(rule)),
     }
 }
 
-/// Puts a closed fee among the records, or tells the first rule that it breaks there.
+/// Adds a closed fee to the records, or returns the first rule that it breaks there.
 fn put_closed(
     alloc: Global,
     first: Option<u64>,
@@ -74,7 +74,7 @@ fn put_closed(
 {
     if insert_fee(alloc, said, records)? {
         Ok(Some(BaseRule::Double))
-    } else if !has_patron(records, said.fee.patron) {
+    } else if !has_patron(records, &said.fee.patron) {
         Ok(Some(BaseRule::Patron))
     } else if is_taken(first, said.id.as_bytes()) {
         Ok(Some(BaseRule::Number))

@@ -24,7 +24,7 @@ pub enum BaseRule {
     Patron,
     /// There is no such item.
     Item,
-    /// The item stands in an earlier loan.
+    /// The item is in an earlier loan.
     Lent,
     /// What is paid isn't below the amount of an open fee.
     Paid,
@@ -74,7 +74,7 @@ pub enum BaseError {
     Table {
         table: TableName,
     },
-    /// A row of a table, counted from 1 behind the header, breaks a rule.
+    /// A row of a table, counted from 1 after the header, breaks a rule.
     #[error("table {table}, row {row}: {rule}")]
     Rule {
         table: TableName,

@@ -1,16 +1,15 @@
 //! The rows of fees.
 
-ghost use Rattle.std.specs.Prelude.{◌≡◌, ◌∷◌, [], OnOk, option_map};
+ghost use Rattle.std.specs.Prelude.{◌≡◌, ◌∷◌, [], OnOk, option_copied, option_map};
 ghost use Rattle.std.specs.List.{cons_option};
 ghost use Rattle.circ_records.specs.Writing.{HasWidth, with_rows};
 ghost use Rattle.circ_records.specs.Written as Written;
 
-use crate::key::Key;
 use crate::record::{Fee, Record};
 use crate::records::Records;
 use crate::row_texts::amount_text;
 use csv_table::TableText;
-use sip_reader::{Id, KeptId};
+use sip_reader::Id;
 use std::alloc::{AllocError, Global};
 
 /// The open fees of a patron, in the order of the patron's list.
@@ -19,13 +18,13 @@ pub(crate) fn write_fees(
     text: &mut TableText,
     records: &Records,
     patron: &[u8],
-    fees: &[KeptId],
+    fees: &[Id],
 ) -> Result<(), AllocError>
     requires { HasWidth 5 text.old }
     ensures { OnOk result (text.new ≡ with_rows (Written.listed_fees records.now patron.now fees.now) text.old) }
 {
     for fee in fees {
-        write_open_fee(alloc, text, records, patron, &fee.id())?;
+        write_open_fee(alloc, text, records, patron, fee)?;
     }
     Ok(())
 }
@@ -54,10 +53,10 @@ fn write_open_fee(
 }
 
 /// The fee with an id, where it is open.
-fn open_fee_of(records: &Records, id: &Id) -> Option<Fee>
-    ensures { result ≡ Written.open_fee_at records.now id.now }
+fn open_fee_of<'r>(records: &'r Records, id: &Id) -> Option<&'r Fee>
+    ensures { option_copied result ≡ Written.open_fee_at records.now id.now }
 {
-    match records.get(&Key::Fee(*id)) {
+    match records.fee(id) {
         Some(record) => match record {
             Record::Fee(fee) => open_alone(fee.get()),
             Record::Patron(_) | Record::Item(_) => None,
@@ -67,10 +66,10 @@ fn open_fee_of(records: &Records, id: &Id) -> Option<Fee>
 }
 
 /// A fee, where it is open.
-fn open_alone(fee: &Fee) -> Option<Fee>
-    ensures { result ≡ Written.open_alone fee.now }
+fn open_alone(fee: &Fee) -> Option<&Fee>
+    ensures { option_copied result ≡ Written.open_alone fee.now }
 {
-    if is_open(fee) { Some(*fee) } else { None }
+    if is_open(fee) { Some(fee) } else { None }
 }
 
 /// Whether something is still to be paid.

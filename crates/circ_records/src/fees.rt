@@ -32,7 +32,7 @@ use csv_table::column;
 use sip_reader::{Amount, Id};
 use std::alloc::{AllocError, Global};
 
-/// Puts the open fees of the table among the records, or tells the first rule that a row breaks. `first` is the number of
+/// Adds the open fees of the table to the records, or returns the first rule that a row breaks. `first` is the number of
 /// the journal's first line.
 pub(crate) fn add_fees(
     alloc: Global,
@@ -57,8 +57,8 @@ pub(crate) fn add_fees(
     Ok(())
 }
 
-/// Puts the open fee of a row among the records and into its patron's list, or tells the first rule that the row breaks behind
-/// those whose records these are. A row that breaks one may leave its fee there.
+/// Adds the open fee of a row to the records of the rows before it and to its patron's list, or returns the first rule that the
+/// row breaks. A row that breaks one may leave its fee there.
 #[tactic(auto, unfolding(crate::specs::Rules::fee_rule))]
 fn add_fee(
     alloc: Global,
@@ -69,13 +69,13 @@ fn add_fee(
     ensures rule { IfOk result (λ broken. (r : Rows) → AreTold r records.old → r.closed ≡ [] → broken ≡ Rules.fee_rule first r.patrons r.fees (fields_of row.now)) }
     ensures told { IfOk result (λ broken. broken ≡ None → (r : Rows) (before : List Row) → AreTold (to_fees r before) records.old → Rules.has_row 0 (field 0 (fields_of row.now)) before ≡ false → AreTold (to_fees r (before ++ fields_of row.now ∷ [])) records.new) }
 {
-    match read_fee(row) {
+    match read_fee(alloc, row)? {
         Ok(said) => put_open(alloc, first, &said, records),
         Err(rule) => Ok(Some(rule)),
     }
 }
 
-/// Puts an open fee among the records and into its patron's list, or tells the first rule that it breaks there.
+/// Adds an open fee to the records and to its patron's list, or returns the first rule that it breaks there.
 fn put_open(
     alloc: Global,
     first: Option<u64>,
@@ -88,15 +88,15 @@ fn put_open(
     if insert_fee(alloc, said, records)? {
         return Ok(Some(BaseRule::Double));
     }
-    let key = Key::Patron(said.fee.patron);
-    let broken = records.change(alloc, key, Change::Owes(said.id))?;
+    let key = Key::Patron(said.fee.patron.clone()?);
+    let broken = records.change(alloc, key, Change::Owes(said.id.clone()?))?;
     if broken.is_some() {
         return Ok(broken);
     }
     Ok(rule_of_fee(first, said))
 }
 
-/// Puts a fee among the records, and says whether there was one with its id.
+/// Adds a fee to the records, and returns whether there was one with its id.
 pub(crate) fn insert_fee(
     alloc: Global,
     said: &FeeRow,
@@ -105,11 +105,11 @@ pub(crate) fn insert_fee(
     ensures double { IfOk result (λ double. double ≡ is_some (record_at records.old (key.Fee said.now.id))) }
     ensures put { OnOk result ((q : Key) → record_at records.new q ≡ cond (eq_by_cmp key_cmp (key.Fee said.now.id) q) (Some (record_of.Fee said.now.fee)) (record_at records.old q)) }
 {
-    let told = Record::fee(alloc, said.fee)?;
-    records.put(alloc, Key::Fee(said.id), told)
+    let told = Record::fee(alloc, said.fee.clone()?)?;
+    records.put(alloc, Key::Fee(said.id.clone()?), told)
 }
 
-/// The rule that an open fee breaks by itself: something of it is still to be paid, and no line makes one of its id.
+/// The rule that an open fee breaks whatever the records are: something of it is still to be paid, and no line makes one of its id.
 fn rule_of_fee(first: Option<u64>, said: &FeeRow) -> Option<BaseRule>
     ensures { result ≡ (if not (nat_lt said.now.fee.paid said.now.fee.amount) then Some rule.Paid else if MadeFees.is_taken first said.now.id then Some rule.Number else None) }
 {
@@ -123,55 +123,51 @@ fn rule_of_fee(first: Option<u64>, said: &FeeRow) -> Option<BaseRule>
 }
 
 /// What a row says: a fee and its id.
-#[derive(Clone, Copy)]
+#[derive(Drop)]
 pub(crate) struct FeeRow {
     pub(crate) id: Id,
     pub(crate) fee: Fee,
 }
 
-/// What a row of open fees says, or the rule that it breaks by itself.
+/// The fee of a row of open fees, or the rule that the row breaks whatever the records are.
 #[tactic(auto, unfolding(crate::specs::Rules::has_fee_values))]
-fn read_fee(row: &ByteRecord) -> Result<FeeRow, BaseRule>
-    ensures ok { IfOk result (λ said. SaysFee said (fields_of row.now)) }
-    ensures err { IfErr result (λ e. (rest : Option BaseRule) → (if not (Rules.has_fee_texts (fields_of row.now)) then Some rule.Text else if not (Rules.has_fee_values (fields_of row.now)) then Some rule.Value else rest) ≡ Some e) }
+fn read_fee(alloc: Global, row: &ByteRecord) -> Result<Result<FeeRow, BaseRule>, AllocError>
+    ensures ok { IfOk result (λ read. IfOk read (λ said. SaysFee said (fields_of row.now))) }
+    ensures err { IfOk result (λ read. IfErr read (λ e. (rest : Option BaseRule) → (if not (Rules.has_fee_texts (fields_of row.now)) then Some rule.Text else if not (Rules.has_fee_values (fields_of row.now)) then Some rule.Value else rest) ≡ Some e)) }
 {
-    let closed = match read_closed(row) {
-        Ok(closed) => closed,
-        Err(rule) => return Err(rule),
+    let mut said = match read_closed(alloc, row)? {
+        Ok(said) => said,
+        Err(rule) => return Ok(Err(rule)),
     };
     let Some(paid) = Amount::read(column(row, 4)) else {
-        return Err(BaseRule::Value);
+        return Ok(Err(BaseRule::Value));
     };
-    Ok(FeeRow {
-        id: closed.id,
-        fee: Fee {
-            patron: closed.fee.patron,
-            kind: closed.fee.kind,
-            amount: closed.fee.amount,
-            paid,
-        },
-    })
+    said.fee.paid = paid;
+    Ok(Ok(said))
 }
 
-/// What a row of closed fees says, or the rule that it breaks by itself. All of such a fee is paid.
+/// The fee of a row of closed fees, or the rule that the row breaks whatever the records are. All of such a fee is paid.
 #[tactic(auto, unfolding(crate::specs::Rules::has_fee_texts, crate::specs::Rules::has_closed_values))]
-pub(crate) fn read_closed(row: &ByteRecord) -> Result<FeeRow, BaseRule>
-    ensures ok { IfOk result (λ said. SaysClosed said (fields_of row.now)) }
-    ensures err { IfErr result (λ e. (rest : Option BaseRule) → (if not (Rules.has_fee_texts (fields_of row.now)) then Some rule.Text else if not (Rules.has_closed_values (fields_of row.now)) then Some rule.Value else rest) ≡ Some e) }
+pub(crate) fn read_closed(
+    alloc: Global,
+    row: &ByteRecord,
+) -> Result<Result<FeeRow, BaseRule>, AllocError>
+    ensures ok { IfOk result (λ read. IfOk read (λ said. SaysClosed said (fields_of row.now))) }
+    ensures err { IfOk result (λ read. IfErr read (λ e. (rest : Option BaseRule) → (if not (Rules.has_fee_texts (fields_of row.now)) then Some rule.Text else if not (Rules.has_closed_values (fields_of row.now)) then Some rule.Value else rest) ≡ Some e)) }
 {
-    let Some(id) = Id::new(column(row, 0)) else {
-        return Err(BaseRule::Text);
+    let Some(id) = Id::read(alloc, column(row, 0))? else {
+        return Ok(Err(BaseRule::Text));
     };
-    let Some(patron) = Id::new(column(row, 1)) else {
-        return Err(BaseRule::Text);
+    let Some(patron) = Id::read(alloc, column(row, 1))? else {
+        return Ok(Err(BaseRule::Text));
     };
     let Some(kind) = FeeType::of_code(column(row, 2)) else {
-        return Err(BaseRule::Value);
+        return Ok(Err(BaseRule::Value));
     };
     let Some(amount) = Amount::read(column(row, 3)) else {
-        return Err(BaseRule::Value);
+        return Ok(Err(BaseRule::Value));
     };
-    Ok(FeeRow {
+    Ok(Ok(FeeRow {
         id,
         fee: Fee {
             patron,
@@ -179,5 +175,5 @@ pub(crate) fn read_closed(row: &ByteRecord) -> Result<FeeRow, BaseRule>
             amount,
             paid: amount,
         },
-    })
+    }))
 }

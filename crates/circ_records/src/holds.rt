@@ -27,11 +27,9 @@ impl Clone for Hold {
     ghost is_clone = { λ x y. y ≡ x };
 
     fn clone(&self) -> Result<Hold, AllocError> {
+        let patron = self.patron.clone()?;
         let pickup = self.pickup.clone()?;
-        Ok(Hold {
-            patron: self.patron,
-            pickup,
-        })
+        Ok(Hold { patron, pickup })
     }
 }
 
@@ -94,6 +92,10 @@ impl Holds {
         }
         let holds = copy_holds(alloc, self.holds.as_slice())?;
         Ok(Holds { holds })
+    }
+
+    pub(crate) fn allocator(&self) -> Global {
+        *self.holds.allocator()
     }
 
     pub fn len(&self) -> usize

@@ -2,15 +2,15 @@ ghost use Rattle.std.specs.Prelude.{◌≡◌, ◌++◌, ◌∷◌, [], IfOk, On
 ghost use Rattle.circ_records.specs.Devices.IdLists.{ids_held};
 
 use crate::shared::Shared;
-use sip_reader::{Id, KeptId};
+use sip_reader::Id;
 use std::alloc::{AllocError, Global};
 use std::marker::Model;
 
-/// Lists of up to so many ids stand in one block of memory: most have no more, and a run keeps each list that a line writes.
+/// The longest list that is in one block of memory. Most lists have no more ids, and a run stores each list that a line writes.
 const FEW: usize = 6;
 
-/// A list of ids, as a patron's loans or open fees, the oldest first. The empty one takes no memory, and another has its memory
-/// together with its copies.
+/// A list of ids, as a patron's loans or open fees, the oldest first. The empty list takes no memory, and another shares its memory
+/// with its copies.
 pub struct Ids {
     held: Held,
 }
@@ -21,17 +21,17 @@ impl Drop for Ids {
     }
 }
 
-/// Where the ids of a list stand: those of a short one in one block of memory, of as many as they are. Those of a longer one have a
-/// block that may have room for more, beside another that knows how many they are.
+/// The ids of a list: those of a short one in one block of memory of just their number, those of a longer one in the block of a
+/// `Vec`, which is in another block.
 enum Held {
     None,
-    One(Shared<[KeptId; 1]>),
-    Two(Shared<[KeptId; 2]>),
-    Three(Shared<[KeptId; 3]>),
-    Four(Shared<[KeptId; 4]>),
-    Five(Shared<[KeptId; 5]>),
-    Six(Shared<[KeptId; 6]>),
-    Many(Shared<Vec<KeptId>>),
+    One(Shared<[Id; 1]>),
+    Two(Shared<[Id; 2]>),
+    Three(Shared<[Id; 3]>),
+    Four(Shared<[Id; 4]>),
+    Five(Shared<[Id; 5]>),
+    Six(Shared<[Id; 6]>),
+    Many(Shared<Vec<Id>>),
 }
 
 impl Drop for Held {
@@ -68,7 +68,7 @@ impl Ids {
     }
 
     /// The list of one id.
-    pub fn one(alloc: Global, id: KeptId) -> Result<Ids, AllocError>
+    pub fn one(alloc: Global, id: Id) -> Result<Ids, AllocError>
         ensures { IfOk result (λ l. l ≡ id ∷ []) }
     {
         let held = Held::One(Shared::new(alloc, [id])?);
@@ -76,7 +76,7 @@ impl Ids {
     }
 
     /// The list of these ids.
-    pub fn from_vec(alloc: Global, ids: Vec<KeptId>) -> Result<Ids, AllocError>
+    pub fn from_vec(alloc: Global, ids: Vec<Id>) -> Result<Ids, AllocError>
         ensures { IfOk result (λ l. l ≡ ids.items) }
     {
         let mut ids = ids;
@@ -93,14 +93,13 @@ impl Ids {
         }
     }
 
-    /// One more id at the end. Without memory the list stays.
+    /// Appends an id. Out of memory, the list stays as it is.
     pub fn push(&mut self, alloc: Global, id: Id) -> Result<(), AllocError>
         ensures ok { OnOk result (self.new ≡ self.old ++ id ∷ []) }
         ensures err { OnErr result (self.new ≡ self.old) }
     {
-        let id = KeptId::new(alloc, &id)?;
         match &mut self.held {
-            Held::Many(ids) => put_behind(alloc, ids, id),
+            Held::Many(ids) => push_to_many(ids, id),
             few => {
                 *few = Held::longer(alloc, few.as_slice(), id)?;
                 Ok(())
@@ -108,7 +107,7 @@ impl Ids {
         }
     }
 
-    /// The same list. It takes no memory.
+    /// The same list, in the same memory.
     pub fn copy(&self) -> Result<Ids, AllocError>
         ensures { IfOk result (λ ids. ids ≡ self.now) }
     {
@@ -128,7 +127,7 @@ impl Ids {
         self.as_slice().is_empty()
     }
 
-    pub fn as_slice(&self) -> &[KeptId]
+    pub fn as_slice(&self) -> &[Id]
         ensures { result.now ≡ self.now }
     {
         self.held.as_slice()
@@ -136,9 +135,9 @@ impl Ids {
 }
 
 impl Held {
-    /// The ids, and one more behind them.
+    /// These ids and one more at the end.
     #[inline(always)]
-    fn longer(alloc: Global, ids: &[KeptId], last: KeptId) -> Result<Held, AllocError>
+    fn longer(alloc: Global, ids: &[Id], last: Id) -> Result<Held, AllocError>
         ensures { IfOk result (λ held. ids_held held ≡ ids.now ++ last ∷ []) }
     {
         match ids {
@@ -148,9 +147,9 @@ impl Held {
         }
     }
 
-    /// The same, where it comes to three or more. It is by itself, since a call makes room for the longest list of its own first.
+    /// The same for a list of three or more. A call reserves stack for the longest of its lists first, so this is a function of its own.
     #[inline(never)]
-    fn of_three_or_more(alloc: Global, ids: &[KeptId], last: KeptId) -> Result<Held, AllocError>
+    fn of_three_or_more(alloc: Global, ids: &[Id], last: Id) -> Result<Held, AllocError>
         ensures { IfOk result (λ held. ids_held held ≡ ids.now ++ last ∷ []) }
     {
         Ok(match ids {
@@ -193,7 +192,7 @@ impl Held {
         })
     }
 
-    fn as_slice(&self) -> &[KeptId]
+    fn as_slice(&self) -> &[Id]
         ensures { result.now ≡ ids_held self.now }
     {
         match self {
@@ -209,23 +208,17 @@ impl Held {
     }
 }
 
-/// One more id behind the others, in their place where no copy has them. Without memory nothing changes.
-fn put_behind(alloc: Global, ids: &mut Shared<Vec<KeptId>>, id: KeptId) -> Result<(), AllocError>
+/// One more id at the end. Out of memory, nothing changes.
+fn push_to_many(ids: &mut Shared<Vec<Id>>, id: Id) -> Result<(), AllocError>
     ensures ok { OnOk result (ids.new.items ≡ ids.old.items ++ id ∷ []) }
     ensures err { OnErr result (ids.new.items ≡ ids.old.items) }
 {
-    match ids.sole() {
-        Some(own) => own.push(id)?,
-        None => {
-            let longer = with_last(alloc, ids.get().as_slice(), id)?;
-            *ids = Shared::new(alloc, longer)?;
-        }
-    }
+    ids.make_mut()?.push(id)?;
     Ok(())
 }
 
-/// The ids, and one more behind them.
-fn with_last(alloc: Global, ids: &[KeptId], last: KeptId) -> Result<Vec<KeptId>, AllocError>
+/// These ids and one more at the end.
+fn with_last(alloc: Global, ids: &[Id], last: Id) -> Result<Vec<Id>, AllocError>
     ensures { IfOk result (λ v. v.items ≡ ids.now ++ last ∷ []) }
 {
     let mut longer = Vec::with_capacity(alloc, ids.len().saturating_add(1))?;

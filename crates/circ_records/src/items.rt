@@ -1,6 +1,6 @@
 //! The table of items.
 
-ghost use Rattle.std.specs.Prelude.{◌≡◌, ℕ, ◌++◌, ◌∷◌, [], List, true, false, Some, None, is_some, IsSome, IfSome, IfOk, IfErr, OnOk};
+ghost use Rattle.std.specs.Prelude.{◌≡◌, ◌++◌, ◌∷◌, [], List, true, false, Some, None, is_some, IsSome, IfSome, IfOk, IfErr, OnOk};
 ghost use Rattle.csv.specs.Records.{fields_of};
 ghost use Rattle.csv_table.specs.Rows.{rows_under};
 ghost use Rattle.circ_policy.specs.Medias.{media_of_code};
@@ -9,13 +9,12 @@ ghost use Rattle.circ_records.specs.Read.{AreTold, Stops, no_rows, rows_in, to_i
 ghost use Rattle.circ_records.specs.Rules as Rules;
 ghost use Rattle.circ_records.specs.Tables.{Row, Rows, field, items_header};
 ghost use Rattle.circ_records.specs.Told.{item_told};
-ghost use Rattle.circ_records.specs.declared.key.Key.TheVariants as keys;
 ghost use Rattle.circ_records.specs.declared.record.Record.TheVariants as record_of;
 ghost use Rattle.circ_records.specs.declared.tables.TableName.TheVariants as table;
 
 use crate::fault::{BaseError, BaseRule};
 use crate::holds::Holds;
-use crate::kept_key::KeptKey;
+use crate::key::Key;
 use crate::record::{Item, Record};
 use crate::record_map::RecordMap;
 use crate::rows::{ITEMS, TableRows};
@@ -23,10 +22,10 @@ use crate::tables::{TableName, Tables};
 use circ_policy::{MediaType, Policy};
 use csv::ByteRecord;
 use csv_table::column;
-use sip_reader::{Text, is_text};
+use sip_reader::{Id, Text, is_text};
 use std::alloc::{AllocError, Global};
 
-/// Puts the items of the table among the records, or tells the first rule that a row breaks.
+/// Adds the items of the table to the records, or returns the first rule that a row breaks.
 pub(crate) fn add_items(
     alloc: Global,
     policy: &Policy,
@@ -50,8 +49,8 @@ pub(crate) fn add_items(
     Ok(())
 }
 
-/// Puts the item of a row among the records, or tells the first rule that the row breaks behind those whose records
-/// these are. A row that breaks one may leave its item there.
+/// Adds the item of a row to the records of the rows before it, or returns the first rule that the row breaks. A row that breaks
+/// one may leave its item there.
 #[tactic(auto, unfolding(crate::specs::Rules::item_rule))]
 fn put_item(
     alloc: Global,
@@ -62,35 +61,35 @@ fn put_item(
     ensures rule { IfOk result (λ broken. (r : Rows) → AreTold r records.old → broken ≡ Rules.item_rule policy.now r.items (fields_of row.now)) }
     ensures told { IfOk result (λ broken. broken ≡ None → (r : Rows) (before : List Row) → AreTold (to_items r before) records.old → Rules.has_row 0 (field 0 (fields_of row.now)) before ≡ false → AreTold (to_items r (before ++ fields_of row.now ∷ [])) records.new) }
 {
-    let Some(kept) = key_of(alloc, row)? else {
+    let Some(id) = id_of(alloc, row)? else {
         return Ok(Some(BaseRule::Text));
     };
     let Some(media) = media_of(policy, row) else {
-        return Ok(Some(if is_double(records, &kept) {
+        return Ok(Some(if is_double(records, &id) {
             BaseRule::Double
         } else {
             BaseRule::Media
         }));
     };
-    if add_item(alloc, kept, media, row, records)? {
+    if add_item(alloc, id, media, row, records)? {
         Ok(Some(BaseRule::Double))
     } else {
         Ok(None)
     }
 }
 
-/// The key of a row's item, where all its texts are such.
+/// The id of a row's item, where all texts of the row are valid.
 #[tactic(auto, unfolding(crate::specs::Rules::has_item_texts))]
-fn key_of(alloc: Global, row: &ByteRecord) -> Result<Option<KeptKey>, AllocError>
-    ensures texts { IfOk result (λ kept. is_some kept ≡ Rules.has_item_texts (fields_of row.now)) }
-    ensures key { IfOk result (λ kept. IfSome kept (λ key. key ≡ keys.Item (field 0 (fields_of row.now)))) }
+fn id_of(alloc: Global, row: &ByteRecord) -> Result<Option<Id>, AllocError>
+    ensures texts { IfOk result (λ id. is_some id ≡ Rules.has_item_texts (fields_of row.now)) }
+    ensures id { IfOk result (λ id. IfSome id (λ it. it ≡ field 0 (fields_of row.now))) }
 {
     if is_text(column(row, 1))
         && is_text(column(row, 2))
         && is_text(column(row, 3))
         && is_text(column(row, 4))
     {
-        KeptKey::of_item(alloc, column(row, 0))
+        Id::read(alloc, column(row, 0))
     } else {
         Ok(None)
     }
@@ -112,22 +111,22 @@ fn media_of(policy: &Policy, row: &ByteRecord) -> Option<MediaType>
     }
 }
 
-/// Whether there is an item at this key.
-fn is_double(records: &RecordMap, kept: &KeptKey) -> bool
-    ensures { (id : List ℕ) → kept.now ≡ keys.Item id → (r : Rows) → AreTold r records.now → result ≡ Rules.has_row 0 id r.items }
+/// Whether there is an item with this id.
+fn is_double(records: &RecordMap, id: &Id) -> bool
+    ensures { (r : Rows) → AreTold r records.now → result ≡ Rules.has_row 0 id.now r.items }
 {
-    records.get(&kept.key()).is_some()
+    records.item(id).is_some()
 }
 
-/// Puts the item of a row among the records under its id, and says whether there was one.
+/// Adds the item of a row to the records under its id, and returns whether there was one.
 fn add_item(
     alloc: Global,
-    kept: KeptKey,
+    id: Id,
     media: MediaType,
     row: &ByteRecord,
     records: &mut RecordMap,
 ) -> Result<bool, AllocError>
-    requires key { kept ≡ keys.Item (field 0 (fields_of row.now)) }
+    requires id { id ≡ field 0 (fields_of row.now) }
     requires texts { Rules.has_item_texts (fields_of row.now) ≡ true }
     requires media { Some media ≡ media_of_code (field 2 (fields_of row.now)) }
     ensures double { IfOk result (λ double. (r : Rows) → AreTold r records.old → double ≡ Rules.has_row 0 (field 0 (fields_of row.now)) r.items) }
@@ -135,7 +134,7 @@ fn add_item(
 {
     let item = item_of(alloc, media, row)?;
     let told = Record::item(alloc, item)?;
-    records.put_rising(alloc, kept, told)
+    records.put_rising(alloc, Key::Item(id), told)
 }
 
 /// The item of a row, which nobody has and nobody waits for.

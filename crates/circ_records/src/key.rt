@@ -1,38 +1,54 @@
-ghost use Rattle.std.specs.Prelude.{◌≡◌, ℕ};
+ghost use Rattle.std.specs.Prelude.{◌≡◌, IfOk};
 ghost use Rattle.std.proofs.Common.{rules};
 ghost use Rattle.std.specs.Cmp.{partial_order_from_own_ties};
 ghost use Rattle.std.specs.Cmp.Rules.{comparing};
 ghost use Rattle.std.specs.Ordering.{as_partial_cmp, eq_by_cmp};
-ghost use Rattle.sip_reader.specs.Devices.Numbers.{id_number};
+ghost use Rattle.sip_reader.specs.Devices.Hashes.{id_hash};
+ghost use Rattle.circ_records.specs.Devices.KeyRefs.{key_of};
 ghost use Rattle.circ_records.specs.Keys.{key_cmp, key_cmp_total, kind, id_of};
 
 use sip_reader::Id;
+use std::alloc::AllocError;
 use std::cmp::Ordering;
 
 /// What names a record.
-#[derive(Clone, Copy)]
 pub enum Key {
     Patron(Id),
     Item(Id),
     Fee(Id),
 }
 
+impl Drop for Key {
+    #[inline(always)]
+    fn drop(self) {
+        match self {
+            Key::Patron(_) => {}
+            Key::Item(_) => {}
+            Key::Fee(_) => {}
+        }
+    }
+}
+
+/// A key that borrows its id, to look for a record.
+#[derive(Clone, Copy)]
+pub(crate) enum KeyRef<'k> {
+    Patron(&'k Id),
+    Item(&'k Id),
+    Fee(&'k Id),
+}
+
 impl Key {
     pub(crate) fn kind(&self) -> u8
         ensures { result ≡ kind self.now }
     {
-        match self {
-            Key::Patron(_) => 0,
-            Key::Item(_) => 1,
-            Key::Fee(_) => 2,
-        }
+        self.as_ref().kind()
     }
 
-    /// The number of its id.
-    pub fn number(&self) -> u64
-        ensures { result ≡ id_number (id_of self.now) }
+    /// The hash of its id.
+    pub fn hash(&self) -> u64
+        ensures { result ≡ id_hash (id_of self.now) }
     {
-        self.id().number()
+        self.id().hash()
     }
 
     /// The id of the record.
@@ -42,6 +58,80 @@ impl Key {
         match self {
             Key::Patron(id) | Key::Item(id) | Key::Fee(id) => id,
         }
+    }
+
+    /// The same key, its id borrowed.
+    pub(crate) fn as_ref(&self) -> KeyRef<'_>
+        ensures { key_of result ≡ self.now }
+    {
+        match self {
+            Key::Patron(id) => KeyRef::Patron(id),
+            Key::Item(id) => KeyRef::Item(id),
+            Key::Fee(id) => KeyRef::Fee(id),
+        }
+    }
+}
+
+impl KeyRef<'_> {
+    /// The place of its kind in the order of keys.
+    pub(crate) fn kind(&self) -> u8
+        ensures { result ≡ kind (key_of self.now) }
+    {
+        match self {
+            KeyRef::Patron(_) => 0,
+            KeyRef::Item(_) => 1,
+            KeyRef::Fee(_) => 2,
+        }
+    }
+
+    /// The id of the record.
+    pub(crate) fn id(&self) -> &Id
+        ensures { result.now ≡ id_of (key_of self.now) }
+    {
+        match self {
+            KeyRef::Patron(id) | KeyRef::Item(id) | KeyRef::Fee(id) => id,
+        }
+    }
+
+    /// The same key, its id owned. It takes no memory.
+    pub(crate) fn to_key(&self) -> Result<Key, AllocError>
+        ensures { IfOk result (λ key. key ≡ key_of self.now) }
+    {
+        match *self {
+            KeyRef::Patron(id) => Ok(Key::Patron(id.clone()?)),
+            KeyRef::Item(id) => Ok(Key::Item(id.clone()?)),
+            KeyRef::Fee(id) => Ok(Key::Fee(id.clone()?)),
+        }
+    }
+
+    /// How another key is ordered against it.
+    pub(crate) fn order(&self, key: &Key) -> Ordering
+        ensures { result ≡ key_cmp key.now (key_of self.now) }
+    {
+        let (kind, own) = (key.kind(), self.kind());
+        if kind == own {
+            key.id().cmp(self.id())
+        } else {
+            kind.cmp(&own)
+        }
+    }
+
+    /// Whether another key is the same.
+    pub(crate) fn is(&self, key: &Key) -> bool
+        ensures { result ≡ eq_by_cmp key_cmp (key_of self.now) key.now }
+    {
+        self.kind() == key.kind() && self.id() == key.id()
+    }
+}
+
+/// A clone is the same key. It takes no memory.
+impl Clone for Key {
+    ghost use Rattle.std.specs.Prelude.{◌≡◌};
+
+    ghost is_clone = { λ x y. y ≡ x };
+
+    fn clone(&self) -> Result<Key, AllocError> {
+        self.as_ref().to_key()
     }
 }
 

@@ -2,12 +2,12 @@
 
 ghost use Rattle.circ_records.specs.Laws.{EntriesAreTold, WrittenIsTold, WrittenReadsBack};
 
-/// A base has at each key the record that the rows of its tables tell there.
+/// A base has at each key the record that the rows of its tables give.
 pub fn entries_are_told()
     ensures { EntriesAreTold }
 {}
 
-/// What is written of coherent records tells these records: at each key the rows have the record that is there.
+/// The rows that are written for coherent records give these records: at each key the record that is there.
 pub fn written_is_told()
     ensures { WrittenIsTold }
 {}

@@ -1,8 +1,7 @@
-//! The room of the library's records: the patrons, items and fees that a run begins with.
+//! The library's records: the patrons, items and fees that a run begins and ends with.
 //!
 //! `Base::read` makes a base of six tables, or names the first rule that they break. `Records` are
-//! what a run ends with, and `write_records` writes the tables that tell them. A record goes by its
-//! `Key`.
+//! what a run ends with, and `write_records` writes their tables. A `Key` names a record.
 #![tactic(auto)]
 
 mod base;
@@ -15,25 +14,23 @@ mod holds;
 mod ids;
 mod item_rows;
 mod items;
-mod kept_key;
 mod key;
 mod known;
 mod laws;
-mod listed;
 mod loans;
 mod made_fees;
 mod patron_rows;
 mod patrons;
-mod places;
+mod position_hints;
 mod queues;
 mod record;
+mod record_list;
 mod record_map;
 mod records;
 mod row_texts;
 mod rows;
 mod same;
 mod shared;
-mod sought;
 mod table_texts;
 mod tables;
 mod values;
@@ -44,10 +41,9 @@ pub use changes::put_fee;
 pub use fault::{BaseError, BaseRule};
 pub use holds::{Hold, Holds, QUEUE_MAX};
 pub use ids::Ids;
-pub use kept_key::KeptKey;
 pub use key::Key;
 pub use laws::{entries_are_told, written_is_told, written_reads_back};
-pub use record::{Fee, FeeType, Item, KeptLoan, Loan, Patron, Record};
+pub use record::{Fee, FeeType, Item, Loan, Patron, Record};
 pub use record_map::RecordMap;
 pub use records::Records;
 pub use shared::Shared;

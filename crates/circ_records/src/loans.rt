@@ -22,7 +22,7 @@ use csv_table::column;
 use sip_reader::Id;
 use std::alloc::{AllocError, Global};
 
-/// Puts the loans of the table among the records, or tells the first rule that a row breaks.
+/// Adds the loans of the table to the records, or returns the first rule that a row breaks.
 pub(crate) fn add_loans(
     alloc: Global,
     tables: &Tables,
@@ -45,8 +45,8 @@ pub(crate) fn add_loans(
     Ok(())
 }
 
-/// Puts the loan of a row into its patron's list and its item, or tells the first rule that the row breaks behind those whose
-/// records these are. A row that breaks one may leave the loan in the list.
+/// Adds the loan of a row to its patron's list and its item, or returns the first rule that the row breaks, where these are the
+/// records of the rows before it. A row that breaks one may leave the loan in the list.
 fn add_loan(
     alloc: Global,
     row: &ByteRecord,
@@ -55,62 +55,62 @@ fn add_loan(
     ensures rule { IfOk result (λ broken. (r : Rows) → AreTold r records.old → broken ≡ Rules.loan_rule r.patrons r.items r.loans (fields_of row.now)) }
     ensures told { IfOk result (λ broken. broken ≡ None → (r : Rows) (before : List Row) → AreTold (to_loans r before) records.old → Rules.has_row 1 (field 1 (fields_of row.now)) before ≡ false → AreTold (to_loans r (before ++ fields_of row.now ∷ [])) records.new) }
 {
-    match read_loan(row) {
-        Ok(said) => put_loan(alloc, &said, records),
+    match read_loan(alloc, row)? {
+        Ok(said) => put_loan(alloc, said, records),
         Err(rule) => Ok(Some(rule)),
     }
 }
 
-/// Puts a loan into its patron's list and its item, or tells the first rule that it breaks there.
+/// Adds a loan to its patron's list and its item, or returns the first rule that it breaks there.
 fn put_loan(
     alloc: Global,
-    said: &LoanRow,
+    said: LoanRow,
     records: &mut RecordMap,
 ) -> Result<Option<BaseRule>, AllocError>
-    ensures rule { IfOk result (λ broken. (r : Rows) (row : Row) → SaysLoan said.now row → AreTold r records.old → broken ≡ Rules.loan_rule r.patrons r.items r.loans row) }
-    ensures told { IfOk result (λ broken. broken ≡ None → (r : Rows) (before : List Row) (row : Row) → SaysLoan said.now row → AreTold (to_loans r before) records.old → Rules.has_row 1 (field 1 row) before ≡ false → AreTold (to_loans r (before ++ row ∷ [])) records.new) }
+    ensures rule { IfOk result (λ broken. (r : Rows) (row : Row) → SaysLoan said row → AreTold r records.old → broken ≡ Rules.loan_rule r.patrons r.items r.loans row) }
+    ensures told { IfOk result (λ broken. broken ≡ None → (r : Rows) (before : List Row) (row : Row) → SaysLoan said row → AreTold (to_loans r before) records.old → Rules.has_row 1 (field 1 row) before ≡ false → AreTold (to_loans r (before ++ row ∷ [])) records.new) }
 {
-    let key = Key::Patron(said.loan.patron);
-    let broken = records.change(alloc, key, Change::Borrows(said.item))?;
+    let LoanRow { item, loan } = said;
+    let key = Key::Patron(loan.patron.clone()?);
+    let broken = records.change(alloc, key, Change::Borrows(item.clone()?))?;
     if broken.is_some() {
         return Ok(broken);
     }
-    let key = Key::Item(said.item);
-    let broken = records.change(alloc, key, Change::Lent(said.loan))?;
+    let broken = records.change(alloc, Key::Item(item), Change::Lent(loan))?;
     Ok(broken)
 }
 
-/// What a row says: the loan of an item.
-#[derive(Clone, Copy)]
+/// The loan of an item, as a row has it.
+#[derive(Drop)]
 pub(crate) struct LoanRow {
     pub(crate) item: Id,
     pub(crate) loan: Loan,
 }
 
-/// What a row says, or the first rule that it breaks by itself.
+/// The loan of a row, or the first rule that the row breaks whatever the records are.
 #[tactic(auto, unfolding(crate::specs::Rules::loan_rule, crate::specs::Rules::has_loan_texts, crate::specs::Rules::has_loan_values))]
-fn read_loan(row: &ByteRecord) -> Result<LoanRow, BaseRule>
-    ensures ok { IfOk result (λ said. SaysLoan said (fields_of row.now)) }
-    ensures err { IfErr result (λ rule. (patrons items before : List Row) → Rules.loan_rule patrons items before (fields_of row.now) ≡ Some rule) }
+fn read_loan(alloc: Global, row: &ByteRecord) -> Result<Result<LoanRow, BaseRule>, AllocError>
+    ensures ok { IfOk result (λ read. IfOk read (λ said. SaysLoan said (fields_of row.now))) }
+    ensures err { IfOk result (λ read. IfErr read (λ rule. (patrons items before : List Row) → Rules.loan_rule patrons items before (fields_of row.now) ≡ Some rule)) }
 {
-    let Some(patron) = Id::new(column(row, 0)) else {
-        return Err(BaseRule::Text);
+    let Some(patron) = Id::read(alloc, column(row, 0))? else {
+        return Ok(Err(BaseRule::Text));
     };
-    let Some(item) = Id::new(column(row, 1)) else {
-        return Err(BaseRule::Text);
+    let Some(item) = Id::read(alloc, column(row, 1))? else {
+        return Ok(Err(BaseRule::Text));
     };
     let Some(due) = due_of(column(row, 2)) else {
-        return Err(BaseRule::Value);
+        return Ok(Err(BaseRule::Value));
     };
     let Some(renewals) = renewals_of(column(row, 3)) else {
-        return Err(BaseRule::Value);
+        return Ok(Err(BaseRule::Value));
     };
-    Ok(LoanRow {
+    Ok(Ok(LoanRow {
         item,
         loan: Loan {
             patron,
             due,
             renewals,
         },
-    })
+    }))
 }

@@ -38,7 +38,7 @@ fn line_of(id: &[u8]) -> Option<u64>
     }
 }
 
-/// The number that stands before a dash and a count.
+/// The number before a dash and a count.
 #[tactic(auto, unfolding(crate::specs::MadeFees::line_before))]
 fn line_before(text: &[u8]) -> Option<u64>
     ensures { result ≡ MadeFees.line_before text.now }

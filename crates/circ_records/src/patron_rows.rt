@@ -5,12 +5,12 @@ ghost use Rattle.std.specs.List.{cons_option};
 ghost use Rattle.circ_records.specs.Writing.{HasWidth, with_rows};
 ghost use Rattle.circ_records.specs.Written.{listed_loans, loan_at, loan_row, patron_row};
 
-use crate::record::{KeptLoan, Patron, Record};
+use crate::record::{Loan, Patron, Record};
 use crate::records::Records;
 use crate::row_texts::{day_text, flag_text};
 use csv_table::TableText;
 use itoa::Buffer;
-use sip_reader::KeptId;
+use sip_reader::Id;
 use std::alloc::AllocError;
 
 /// A patron.
@@ -35,7 +35,7 @@ pub(crate) fn write_loans(
     text: &mut TableText,
     records: &Records,
     patron: &[u8],
-    items: &[KeptId],
+    items: &[Id],
 ) -> Result<(), AllocError>
     requires { HasWidth 4 text.old }
     ensures { OnOk result (text.new ≡ with_rows (listed_loans records.now patron.now items.now) text.old) }
@@ -51,7 +51,7 @@ fn write_loan(
     text: &mut TableText,
     records: &Records,
     patron: &[u8],
-    item: &KeptId,
+    item: &Id,
 ) -> Result<(), AllocError>
     requires { HasWidth 4 text.old }
     ensures { OnOk result (text.new ≡ with_rows (cons_option (option_map (loan_row patron.now item.now) (loan_at records.now item.now)) []) text.old) }
@@ -60,15 +60,15 @@ fn write_loan(
         Some(loan) => text.row(&[
             patron,
             item.as_bytes(),
-            day_text(loan.due()).as_slice(),
-            Buffer::new().format(loan.renewals()).as_bytes(),
+            day_text(loan.due).as_slice(),
+            Buffer::new().format(loan.renewals).as_bytes(),
         ]),
         None => Ok(()),
     }
 }
 
 /// The loan of an item.
-fn loan_of<'r>(records: &'r Records, item: &KeptId) -> Option<&'r KeptLoan>
+fn loan_of<'r>(records: &'r Records, item: &Id) -> Option<&'r Loan>
     ensures { option_copied result ≡ loan_at records.now item.now }
 {
     match records.item(item) {

@@ -22,7 +22,7 @@ use sip_reader::{Id, Text};
 use std::alloc::{AllocError, Global};
 use std::collections::BTreeSet;
 
-/// Puts the holds of the table into the queues of their items, or tells the first rule that a row breaks.
+/// Adds the holds of the table to the queues of their items, or returns the first rule that a row breaks.
 pub(crate) fn add_holds(
     alloc: Global,
     tables: &Tables,
@@ -49,9 +49,9 @@ pub(crate) fn add_holds(
     Ok(())
 }
 
-/// Puts the hold of a row into the queue of its item, and its patron among those who wait, or tells the first rule that the row
-/// breaks behind those whose records these are and whose patrons wait for their items. A row that breaks one may leave its patron
-/// among them.
+/// Adds the hold of a row to the queue of its item, and its patron to those who wait, or returns the first rule that the row breaks,
+/// where these are the records and the waiting patrons of the rows before it. A row that breaks one may leave its patron among
+/// those who wait.
 #[tactic(auto, unfolding(crate::specs::Rules::hold_rule))]
 fn add_hold(
     alloc: Global,
@@ -69,7 +69,7 @@ fn add_hold(
     }
 }
 
-/// Puts a hold into the queue of its item, and its patron among those who wait, or tells the first rule that it breaks there.
+/// Adds a hold to the queue of its item, and its patron to those who wait, or returns the first rule that it breaks there.
 fn queue_hold(
     alloc: Global,
     item: Id,
@@ -81,26 +81,26 @@ fn queue_hold(
     ensures told { IfOk result (λ broken. broken ≡ None → (r : Rows) (before : List Row) (row : Row) → SaysHold item hold row → AreTold (to_holds r before) records.old → AreTold (to_holds r (before ++ row ∷ [])) records.new) }
     ensures waiting { IfOk result (λ broken. broken ≡ None → (holds : List Row) (row : Row) → SaysHold item hold row → AreWaiting holds waiting.old → AreWaiting (holds ++ row ∷ []) waiting.new) }
 {
-    if !waiting.insert((item, hold.patron))? {
+    if !waiting.insert((item.clone()?, hold.patron.clone()?))? {
         return Ok(Some(BaseRule::Double));
     }
-    if !has_patron(records, hold.patron) {
+    if !has_patron(records, &hold.patron) {
         return Ok(Some(BaseRule::Patron));
     }
     let broken = records.change(alloc, Key::Item(item), Change::Awaited(hold))?;
     Ok(broken)
 }
 
-/// What a row says, where its texts are such: an item, and a hold on it.
+/// The item of a row and the hold on it, where all texts of the row are valid.
 #[tactic(auto, unfolding(crate::specs::Rules::has_hold_texts))]
 fn read_hold(alloc: Global, row: &ByteRecord) -> Result<Option<(Id, Hold)>, AllocError>
     ensures texts { IfOk result (λ said. is_some said ≡ Rules.has_hold_texts (fields_of row.now)) }
     ensures says { IfOk result (λ said. IfSome said (λ s. SaysHold s.0 s.1 (fields_of row.now))) }
 {
-    let Some(item) = Id::new(column(row, 0)) else {
+    let Some(item) = Id::read(alloc, column(row, 0))? else {
         return Ok(None);
     };
-    let Some(patron) = Id::new(column(row, 1)) else {
+    let Some(patron) = Id::read(alloc, column(row, 1))? else {
         return Ok(None);
     };
     let pickup = Text::read(alloc, column(row, 2))?;

@@ -7,11 +7,10 @@ use crate::holds::Holds;
 use crate::ids::Ids;
 use crate::shared::Shared;
 use circ_policy::MediaType;
-use sip_reader::{Amount, Day, Id, KeptId, Text};
+use sip_reader::{Amount, Day, Id, Text};
 use std::alloc::{AllocError, Global};
-use std::marker::Model;
 
-/// What stands under a key. It stands in memory once, for itself and for its copies.
+/// A patron, an item or a fee. It is in memory once, for itself and for its copies.
 #[derive(Drop)]
 pub enum Record {
     Patron(Shared<Patron>),
@@ -22,7 +21,7 @@ pub enum Record {
 /// A member of the library.
 pub struct Patron {
     pub name: Text,
-    pub class: KeptId,
+    pub class: Id,
     pub blocked: bool,
     /// The items that the patron has on loan, the oldest loan first.
     pub loans: Ids,
@@ -46,10 +45,10 @@ impl Drop for Patron {
 pub struct Item {
     pub title: Text,
     pub media: MediaType,
-    /// Where it stands when nobody has it.
+    /// Its place when nobody has it.
     pub location: Text,
     pub properties: Text,
-    pub loan: Option<KeptLoan>,
+    pub loan: Option<Loan>,
     /// Who waits for it, in order.
     pub holds: Holds,
 }
@@ -68,7 +67,6 @@ impl Drop for Item {
 }
 
 /// Who has an item, and until when.
-#[derive(Clone, Copy)]
 pub struct Loan {
     pub patron: Id,
     pub due: Day,
@@ -76,16 +74,9 @@ pub struct Loan {
     pub renewals: u32,
 }
 
-/// A loan as an item's record keeps it: with its patron in the room of a kept id.
-pub struct KeptLoan {
-    pub(crate) patron: KeptId,
-    pub(crate) due: Day,
-    pub(crate) renewals: u32,
-}
-
-impl Drop for KeptLoan {
+impl Drop for Loan {
     fn drop(self) {
-        let KeptLoan {
+        let Loan {
             patron: _,
             due: _,
             renewals: _,
@@ -93,68 +84,17 @@ impl Drop for KeptLoan {
     }
 }
 
-impl Model for KeptLoan {
-    ghost use Rattle.circ_records.specs.declared.record.Loan.{Loan};
-
-    ghost Value = { Loan };
-
-    ghost view = { λ k. record { patron = k.patron; due = k.due; renewals = k.renewals } };
-}
-
-impl KeptLoan {
-    /// The same loan, kept.
-    pub fn new(alloc: Global, loan: &Loan) -> Result<KeptLoan, AllocError>
-        ensures { IfOk result (λ kept. kept ≡ loan.now) }
-    {
-        Ok(KeptLoan {
-            patron: KeptId::new(alloc, &loan.patron)?,
-            due: loan.due,
-            renewals: loan.renewals,
-        })
-    }
-
-    /// The loan.
-    pub fn loan(&self) -> Loan
-        ensures { result ≡ self.now }
-    {
-        Loan {
-            patron: self.patron.id(),
-            due: self.due,
-            renewals: self.renewals,
-        }
-    }
-
-    /// Who has the item.
-    pub fn patron(&self) -> &KeptId
-        ensures { result.now ≡ self.now.patron }
-    {
-        &self.patron
-    }
-
-    /// The day until which the patron has it.
-    pub fn due(&self) -> Day
-        ensures { result ≡ self.now.due }
-    {
-        self.due
-    }
-
-    /// How often it was renewed.
-    pub fn renewals(&self) -> u32
-        ensures { result ≡ self.now.renewals }
-    {
-        self.renewals
-    }
-
-    /// The same patron's loan until another day, renewed so often.
-    pub fn with_due(self, due: Day, renewals: u32) -> KeptLoan
+impl Loan {
+    /// The same patron's loan with another due day and another number of renewals.
+    pub fn with_due(self, due: Day, renewals: u32) -> Loan
         ensures { result ≡ record self { due = due; renewals = renewals } }
     {
-        let KeptLoan {
+        let Loan {
             patron,
             due: _,
             renewals: _,
         } = self;
-        KeptLoan {
+        Loan {
             patron,
             due,
             renewals,
@@ -163,14 +103,14 @@ impl KeptLoan {
 }
 
 /// A clone is the same loan.
-impl Clone for KeptLoan {
+impl Clone for Loan {
     ghost use Rattle.std.specs.Prelude.{◌≡◌};
 
     ghost is_clone = { λ x y. y ≡ x };
 
-    fn clone(&self) -> Result<KeptLoan, AllocError> {
+    fn clone(&self) -> Result<Loan, AllocError> {
         let patron = self.patron.clone()?;
-        Ok(KeptLoan {
+        Ok(Loan {
             patron,
             due: self.due,
             renewals: self.renewals,
@@ -179,12 +119,39 @@ impl Clone for KeptLoan {
 }
 
 /// What a patron was charged, in hundredths.
-#[derive(Clone, Copy)]
 pub struct Fee {
     pub patron: Id,
     pub kind: FeeType,
     pub amount: Amount,
     pub paid: Amount,
+}
+
+impl Drop for Fee {
+    fn drop(self) {
+        let Fee {
+            patron: _,
+            kind: _,
+            amount: _,
+            paid: _,
+        } = self;
+    }
+}
+
+/// A clone is the same fee.
+impl Clone for Fee {
+    ghost use Rattle.std.specs.Prelude.{◌≡◌};
+
+    ghost is_clone = { λ x y. y ≡ x };
+
+    fn clone(&self) -> Result<Fee, AllocError> {
+        let patron = self.patron.clone()?;
+        Ok(Fee {
+            patron,
+            kind: self.kind,
+            amount: self.amount,
+            paid: self.paid,
+        })
+    }
 }
 
 /// What a fee is for: the fee types of SIP2, 01 to 09.
@@ -267,7 +234,7 @@ impl Record {
         Ok(Record::Fee(Shared::new(alloc, fee)?))
     }
 
-    /// The same record. It takes no memory.
+    /// The same record, in the same memory.
     pub fn copy(&self) -> Result<Record, AllocError>
         ensures { IfOk result (λ r. r ≡ self.now) }
     {
@@ -305,11 +272,33 @@ impl Patron {
         })
     }
 
-    /// A patron on its own, to be changed. The record from which it comes mostly has copies, so this is a copy of its fields.
+    /// A copy of a shared patron, to be changed.
     pub fn of(shared: Shared<Patron>) -> Result<Patron, AllocError>
         ensures { IfOk result (λ p. p ≡ shared) }
     {
         shared.get().copy()
+    }
+}
+
+/// A clone is the same patron.
+impl Clone for Patron {
+    ghost use Rattle.std.specs.Prelude.{◌≡◌};
+
+    ghost is_clone = { λ x y. y ≡ x };
+
+    fn clone(&self) -> Result<Patron, AllocError> {
+        self.copy()
+    }
+}
+
+/// A clone is the same item.
+impl Clone for Item {
+    ghost use Rattle.std.specs.Prelude.{◌≡◌};
+
+    ghost is_clone = { λ x y. y ≡ x };
+
+    fn clone(&self) -> Result<Item, AllocError> {
+        self.copy(self.holds.allocator())
     }
 }
 
@@ -318,12 +307,12 @@ impl Item {
     pub fn copy(&self, alloc: Global) -> Result<Item, AllocError>
         ensures { IfOk result (λ i. i ≡ self.now) }
     {
-        self.with(self.kept_loan()?, self.holds.copy(alloc)?)
+        self.with(self.loan.clone()?, self.holds.copy(alloc)?)
     }
 
     /// The same item with another loan, or none, and another queue.
     #[inline(always)]
-    pub fn with(&self, loan: Option<KeptLoan>, holds: Holds) -> Result<Item, AllocError>
+    pub fn with(&self, loan: Option<Loan>, holds: Holds) -> Result<Item, AllocError>
         ensures { IfOk result (λ i. i ≡ record self.now { loan = loan; holds = holds }) }
     {
         Ok(Item {
@@ -336,27 +325,7 @@ impl Item {
         })
     }
 
-    /// The loan of the item.
-    pub fn loan(&self) -> Option<Loan>
-        ensures { result ≡ self.now.loan }
-    {
-        match &self.loan {
-            Some(loan) => Some(loan.loan()),
-            None => None,
-        }
-    }
-
-    /// The loan of the item, kept once more.
-    fn kept_loan(&self) -> Result<Option<KeptLoan>, AllocError>
-        ensures { IfOk result (λ loan. loan ≡ self.now.loan) }
-    {
-        match &self.loan {
-            Some(loan) => Ok(Some(loan.clone()?)),
-            None => Ok(None),
-        }
-    }
-
-    /// An item on its own, to be changed, in the same way.
+    /// A copy of a shared item, to be changed.
     pub fn of(alloc: Global, shared: Shared<Item>) -> Result<Item, AllocError>
         ensures { IfOk result (λ i. i ≡ shared) }
     {

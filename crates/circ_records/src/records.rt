@@ -5,45 +5,35 @@ ghost use Rattle.circ_records.specs.Laws.{AreRising};
 ghost use Rattle.circ_records.specs.Records.{record_at};
 ghost use Rattle.circ_records.specs.declared.key.Key.TheVariants as keys;
 
-use crate::kept_key::KeptKey;
-use crate::key::Key;
-use crate::listed::found_likely;
-use crate::places::Places;
+use crate::key::{Key, KeyRef};
 use crate::record::Record;
+use crate::record_list::RecordList;
 use crate::record_map::RecordMap;
-use crate::sought::ItemKey;
-use sip_reader::KeptId;
+use sip_reader::Id;
 use std::alloc::{AllocError, Global};
 use std::marker::Model;
 
 /// Records by their keys, as a run leaves them.
 pub struct Records {
     /// By rising keys.
-    records: Vec<(KeptKey, Record)>,
-    /// Where each likely stands.
-    places: Places,
+    records: RecordList,
 }
 
 impl Drop for Records {
     fn drop(self) {
-        let Records {
-            records: _,
-            places: _,
-        } = self;
+        let Records { records: _ } = self;
     }
 }
 
 impl Model for Records {
-    ghost use Rattle.std.specs.Prelude.{List};
     ghost use Rattle.circ_records.specs.Laws.{AreRising};
-    ghost use Rattle.circ_records.specs.declared.key.Key.{Key};
-    ghost use Rattle.circ_records.specs.declared.record.Record.{Record};
+    ghost use Rattle.circ_records.specs.Records.{Entries};
 
-    ghost Value = { List (Key × Record) };
+    ghost Value = { Entries };
 
-    ghost view = { λ r. r.records.items };
+    ghost view = { λ r. r.records.entries.items };
 
-    ghost invariant = { λ r. AreRising r.records.items };
+    ghost invariant = { λ r. AreRising r.records.entries.items };
 }
 
 impl Records {
@@ -52,43 +42,36 @@ impl Records {
         ensures same { IfOk result (λ r. r ≡ records) }
         ensures rising { IfOk result (λ r. AreRising r) }
     {
-        let (records, places) = records.into_list(alloc)?;
-        Ok(Records { records, places })
+        let records = records.into_list(alloc)?;
+        Ok(Records { records })
     }
 
     /// The record at a key.
     pub fn get(&self, key: &Key) -> Option<&Record>
         ensures { option_copied result ≡ record_at self.now key.now }
     {
-        found_likely(self.records.as_slice(), &self.places, key)
+        self.records.get(&key.as_ref())
     }
 
-    /// The record at the key of an item, by its id as it is kept: where it likely stands, no key is made of it.
-    pub(crate) fn item(&self, id: &KeptId) -> Option<&Record>
+    /// The record of an item.
+    pub(crate) fn item(&self, id: &Id) -> Option<&Record>
         ensures { option_copied result ≡ record_at self.now (keys.Item id.now) }
     {
-        match self
-            .places
-            .position(self.records.as_slice(), &ItemKey { id })
-        {
-            Some(position) => Some(&self.records[position].1),
-            None => self.item_by_key(id),
-        }
+        self.records.get(&KeyRef::Item(id))
     }
 
-    /// The same, by its key. It is by itself, since a call makes room for the key first.
-    #[inline(never)]
-    fn item_by_key(&self, id: &KeptId) -> Option<&Record>
-        ensures { option_copied result ≡ record_at self.now (keys.Item id.now) }
+    /// The record of a fee.
+    pub(crate) fn fee(&self, id: &Id) -> Option<&Record>
+        ensures { option_copied result ≡ record_at self.now (keys.Fee id.now) }
     {
-        self.get(&Key::Item(id.id()))
+        self.records.get(&KeyRef::Fee(id))
     }
 
     /// The records with their keys, rising.
-    pub fn as_slice(&self) -> &[(KeptKey, Record)]
+    pub fn as_slice(&self) -> &[(Key, Record)]
         ensures records { result.now ≡ self.now }
         ensures rising { AreRising self.now }
     {
-        self.records.as_slice()
+        self.records.entries.as_slice()
     }
 }

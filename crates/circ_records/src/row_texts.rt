@@ -42,7 +42,7 @@ fn date_text(year: u16, month: u8, day: u8) -> [u8; 8]
     ]
 }
 
-/// An amount with its point and two digits behind it.
+/// An amount with its point and two digits after it.
 pub(crate) fn amount_text(alloc: Global, amount: Amount) -> Result<Vec<u8>, AllocError>
     ensures { IfOk result (λ text. text.items ≡ Amounts.amount_text amount) }
 {

@@ -28,7 +28,7 @@ pub(crate) const CLOSED: [&str; 4] = ["id", "patron", "type", "amount"];
 
 pub(crate) const HOLDS: [&str; 3] = ["item", "patron", "pickup"];
 
-/// The rows of a table under its header. None is kept: each is judged, and told, before the next one is read.
+/// The rows of a table under its header. None is stored: each is judged, and its record added, before the next one is read.
 pub(crate) struct TableRows<'t> {
     table: TableName,
     reader: RowReader<'t>,
@@ -122,7 +122,7 @@ fn refusal(table: TableName, e: TableError) -> BaseError
     }
 }
 
-/// Tells the first text that is no table. A row that breaks a rule stops the reading, and what is behind it may be none.
+/// Returns the first text that is no table: a row that breaks a rule stops the reading, and the rest may be no table.
 #[tactic(auto, unfolding(crate::specs::Base::rows_of))]
 pub(crate) fn check_tables(alloc: Global, tables: &Tables) -> Result<(), BaseError>
     ensures ok { OnOk result (AreTables tables.now) }

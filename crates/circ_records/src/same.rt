@@ -5,9 +5,9 @@ ghost use Rattle.std.specs.Bool.{Decides};
 
 use crate::holds::{Hold, Holds};
 use crate::ids::Ids;
-use crate::record::{Fee, FeeType, Item, KeptLoan, Patron};
+use crate::record::{Fee, FeeType, Item, Loan, Patron};
 use circ_policy::MediaType;
-use sip_reader::{Amount, Day, Id, KeptId, Text};
+use sip_reader::{Amount, Day, Id, Text};
 
 impl Patron {
     /// Whether two patrons are the same: alike in each field.
@@ -17,7 +17,7 @@ impl Patron {
         if !same_text(&self.name, &other.name) {
             return false;
         }
-        if !same_kept_id(&self.class, &other.class) {
+        if !same_id(&self.class, &other.class) {
             return false;
         }
         if self.blocked != other.blocked {
@@ -72,7 +72,7 @@ impl Fee {
     }
 }
 
-fn same_lending(a: &Option<KeptLoan>, b: &Option<KeptLoan>) -> bool
+fn same_lending(a: &Option<Loan>, b: &Option<Loan>) -> bool
     ensures { Decides result (a.now ≡ b.now) }
 {
     match a {
@@ -87,10 +87,10 @@ fn same_lending(a: &Option<KeptLoan>, b: &Option<KeptLoan>) -> bool
     }
 }
 
-fn same_loan(a: &KeptLoan, b: &KeptLoan) -> bool
+fn same_loan(a: &Loan, b: &Loan) -> bool
     ensures { Decides result (a.now ≡ b.now) }
 {
-    if !same_kept_id(&a.patron, &b.patron) {
+    if !same_id(&a.patron, &b.patron) {
         return false;
     }
     if !same_day(a.due, b.due) {
@@ -134,14 +134,14 @@ fn same_ids(a: &Ids, b: &Ids) -> bool
     same_id_slices(a.as_slice(), b.as_slice())
 }
 
-fn same_id_slices(a: &[KeptId], b: &[KeptId]) -> bool
+fn same_id_slices(a: &[Id], b: &[Id]) -> bool
     ensures { Decides result (a.now ≡ b.now) }
 {
     if a.len() != b.len() {
         return false;
     }
     for i in 0..a.len() {
-        if !same_kept_id(&a[i], &b[i]) {
+        if !same_id(&a[i], &b[i]) {
             return false;
         }
     }
@@ -149,12 +149,6 @@ fn same_id_slices(a: &[KeptId], b: &[KeptId]) -> bool
 }
 
 fn same_id(a: &Id, b: &Id) -> bool
-    ensures { Decides result (a.now ≡ b.now) }
-{
-    a == b
-}
-
-fn same_kept_id(a: &KeptId, b: &KeptId) -> bool
     ensures { Decides result (a.now ≡ b.now) }
 {
     a == b

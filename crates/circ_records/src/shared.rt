@@ -1,15 +1,15 @@
-//! Values that their copies have together with them.
+//! Values that share their memory with their copies.
 
 ghost use Rattle.std.specs.Borrow.{sem};
-ghost use Rattle.std.specs.Prelude.{◌≡◌, IfOk, IfSome};
-ghost use Rattle.circ_records.specs.Devices.Sharing.{LendsSole};
+ghost use Rattle.std.specs.Prelude.{◌≡◌, ◌⊎◌, IfOk};
+ghost use Rattle.circ_records.specs.Devices.Sharing.{LendsMade};
 
 use std::alloc::{AllocError, Global};
 use std::marker::Model;
 use std::ops::Deref;
 use std::sync::Arc;
 
-/// A value that stands in memory once, for itself and for its copies.
+/// A value that is in memory once, for itself and for its copies.
 pub struct Shared<T> {
     held: Arc<T>,
 }
@@ -31,7 +31,7 @@ impl<T> Model for Shared<T> {
 }
 
 impl<T: Drop> Shared<T> {
-    /// A value, from now on in memory that copies may have together with it.
+    /// A value, moved to memory that its copies may share.
     pub fn new(alloc: Global, value: T) -> Result<Shared<T>, AllocError>
         ensures { IfOk result (λ s. s ≡ value) }
     {
@@ -48,7 +48,7 @@ impl<T: Drop> Shared<T> {
         Deref::deref(&self.held)
     }
 
-    /// The same value, in the same memory. It takes none.
+    /// The same value, in the same memory.
     pub fn copy(&self) -> Result<Shared<T>, AllocError>
         ensures { IfOk result (λ s. s ≡ self.now) }
     {
@@ -56,11 +56,13 @@ impl<T: Drop> Shared<T> {
         Ok(Shared { held })
     }
 
-    /// The value to be changed, where no copy has it.
-    pub(crate) fn sole(&mut self) -> Option<&mut T>
-        ensures* writes_back { sem 𝓛 (LendsSole T.row self.entry result) }
-        ensures value { IfSome result (λ x. x.now ≡ self.old) }
+    /// The value, to be changed: in place where no copy shares it, and else in a clone of it, which only this owner has.
+    pub(crate) fn make_mut(&mut self) -> Result<&mut T, AllocError>
+    where
+        T: Clone,
+        ensures* writes_back { sem 𝓛 (LendsMade T.row T.is_clone self.entry result) }
+        ensures value { IfOk result (λ x. (x.now ≡ self.old) ⊎ T.is_clone self.old x.now) }
     {
-        Arc::get_mut(&mut self.held)
+        Arc::make_mut(&mut self.held)
     }
 }

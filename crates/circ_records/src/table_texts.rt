@@ -9,7 +9,7 @@ ghost use Rattle.circ_records.specs.declared.record.Record.TheVariants as record
 
 use crate::fee_rows::{write_closed, write_fees};
 use crate::item_rows::{write_holds, write_item};
-use crate::kept_key::{KeptKey, LentKey};
+use crate::key::Key;
 use crate::patron_rows::{write_loans, write_patron};
 use crate::record::{Fee, Item, Patron, Record};
 use crate::records::Records;
@@ -64,23 +64,23 @@ impl TableTexts {
         &mut self,
         alloc: Global,
         records: &Records,
-        key: &KeptKey,
+        key: &Key,
         record: &Record,
     ) -> Result<(), AllocError>
         requires { HasWidths self.old }
         ensures { OnOk result (Gains records.now (key.now, «record».now) self.old self.new) }
     {
-        match key.lent() {
-            LentKey::Patron(id) => match record {
-                Record::Patron(patron) => self.patron(alloc, records, id, patron.get()),
+        match key {
+            Key::Patron(id) => match record {
+                Record::Patron(patron) => self.patron(alloc, records, id.as_bytes(), patron.get()),
                 Record::Item(_) | Record::Fee(_) => Ok(()),
             },
-            LentKey::Item(id) => match record {
-                Record::Item(item) => self.item(id, item.get()),
+            Key::Item(id) => match record {
+                Record::Item(item) => self.item(id.as_bytes(), item.get()),
                 Record::Patron(_) | Record::Fee(_) => Ok(()),
             },
-            LentKey::Fee(id) => match record {
-                Record::Fee(fee) => self.fee(alloc, id, fee.get()),
+            Key::Fee(id) => match record {
+                Record::Fee(fee) => self.fee(alloc, id.as_bytes(), fee.get()),
                 Record::Patron(_) | Record::Item(_) => Ok(()),
             },
         }

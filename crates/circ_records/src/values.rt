@@ -35,7 +35,7 @@ pub(crate) fn decimal_of(text: &[u8]) -> Option<u64>
     }
 }
 
-/// Whether a text has at least one digit and at most so many, without leading zeros.
+/// Whether a text has at least one digit and at most `most`, without leading zeros.
 #[tactic(auto, unfolding(crate::specs::Values::is_decimal))]
 pub(crate) fn is_decimal(text: &[u8], most: usize) -> bool
     ensures value { result ≡ Values.is_decimal most text.now }
@@ -100,7 +100,7 @@ fn day_of(text: &[u8]) -> Option<Day>
     Day::of(year, two_at(4, text), two_at(6, text))
 }
 
-/// Whether two digits stand there.
+/// Whether there are two digits.
 fn are_digits(i: usize, text: &[u8]) -> bool
     requires { i + 2 ≤ length text.now }
     ensures { result ≡ Values.are_digits i text.now }

@@ -12,7 +12,7 @@ use crate::table_texts::TableTexts;
 use crate::tables::Tables;
 use std::alloc::{AllocError, Global};
 
-/// The tables that tell the records.
+/// The tables of the records.
 #[tactic(auto, unfolding(crate::specs::Written::rows_telling))]
 pub fn write_records(alloc: Global, records: &Records) -> Result<Tables, AllocError>
     ensures { IfOk result (λ tables. texts_of tables ≡ tables_of records.now) }

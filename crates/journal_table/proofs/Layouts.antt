@@ -1,4 +1,4 @@
--- The texts of a line, taken out of where they stand one behind the other.
+-- The texts of a line, taken out of where they are one after the other.
 use Rattle.std.proofs.Common.{◌≡◌, ℕ, suc, ◌+◌, ◌++◌, ◌∷◌, [], List, length, take, drop, refl, arith}
 use Rattle.std.proofs.lemmas.Grind.{common_steps}
 use Rattle.journal_table.specs.Entry.{Entry}
@@ -7,12 +7,12 @@ use Rattle.journal_table.specs.Layout.{comma, joined}
 first : (c r s : List ℕ) → take (length c) (joined c r s) ≡ c
 first c r s = grind (arith, common_steps)
 
--- behind a text and a comma
+-- after a text and a comma
 behind : (c : List ℕ) (x : ℕ) (rest : List ℕ) → drop (length c + 1) (c ++ x ∷ rest) ≡ rest
 behind [] x rest = refl
 behind (y ∷ c) x rest = let is : length (y ∷ c) + 1 ≡ suc (length c + 1) = omega arith in rw is (behind c x rest)
 
--- so many bytes further
+-- n bytes further
 further : (c : List ℕ) (x : ℕ) (rest : List ℕ) (n : ℕ) → drop (length c + 1 + n) (c ++ x ∷ rest) ≡ drop n rest
 further [] x rest n = let is : length {A = ℕ} [] + 1 + n ≡ suc n = omega arith in rw is refl
 further (y ∷ c) x rest n = let is : length (y ∷ c) + 1 + n ≡ suc (length c + 1 + n) = omega arith in rw is (further c x rest n)

@@ -166,7 +166,7 @@ few-from (fields ∷ rows) row before lines start h =
     let so_many = few-from rows (suc row) (Some line.number) rest (omega arith) below in
     rw (← whole) (omega arith)
 
--- a journal has at most so many lines
+-- a journal has at most LINE_LIMIT lines
 pub few-lines : (rows : Option (List (List (List ℕ)))) (lines : List Entry) → lines_of rows ≡ Ok lines → length lines ≤ LINE_LIMIT
 few-lines None lines h = cc h
 few-lines (Some rows) lines h = let all = few-from rows 1 None lines (omega arith) h in omega arith

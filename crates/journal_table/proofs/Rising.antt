@@ -13,7 +13,7 @@ pub numbered-readings : (n : ℕ) (rs : List Reading) → rs ≡ map reading_at 
 numbered-readings n [] = refl
 numbered-readings n (r ∷ rs) = ap (λ (rest : List Reading). r ∷ rest) (numbered-readings (n + 1) rs)
 
--- what is kept of readings is kept of them numbered
+-- what holds of readings holds of them numbered
 pub numbered-read : (n : ℕ) (rs : List Reading) → AllByRecursion IsRead rs → AllByRecursion IsRead (map reading_at (numbered_from n rs))
 numbered-read n rs h = subst (λ (l : List Reading). AllByRecursion IsRead l) (numbered-readings n rs) h
 
@@ -46,7 +46,7 @@ pub numbered-within : (n : ℕ) (rs : List Reading) → n + length rs ≤ 100000
 numbered-within n [] h = omega arith
 numbered-within n (r ∷ rs) h = rw (length-numbered (n + 1) rs) (omega arith)
 
--- readings that rise are their readings, numbered from the first: what a caller gets back who keeps only both
+-- readings that rise are their readings, numbered from the first: what a caller gets back who stores only both
 pub rises-numbered : (n : ℕ) (rs : List NumberedReading) → RisesFrom n rs → numbered_from n (map reading_at rs) ≡ rs
 rises-numbered n [] h = refl
 rises-numbered n (r ∷ rs) h = rw (sym h.0) (ap (λ (rest : List NumberedReading). r ∷ rest) (rw h.0 (rises-numbered (n + 1) rs h.1)))
@@ -65,7 +65,7 @@ number_at n [] (suc i) e h s = cc
 number_at n (l ∷ more) zero e h s = let same : l ≡ e = cc in let at : l.number ≡ e.number = ap (λ (x : Entry). x.number) same in let first : l.number ≡ n = h.0 in omega arith
 number_at n (l ∷ more) (suc i) e h s = let at : e.number ≡ (n + 1) + i = number_at (n + 1) more i e h.1 s in omega arith
 
--- the last line's number is so many behind the first as there are other lines
+-- the last line's number is the first one plus the number of other lines
 pub last_number : (lines : List Entry) (e : Entry) → Numbered lines → slice_get lines (length lines - 1) ≡ Some e → e.number ≡ unwrap_or (first_number lines) 0 + (length lines - 1)
 last_number [] e h s = cc
 last_number (l ∷ more) e h s = number_at l.number (l ∷ more) (length (l ∷ more) - 1) e (refl, h) s

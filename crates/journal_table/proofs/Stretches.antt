@@ -1,4 +1,4 @@
--- Stretches of readings: the i-th of all readings stands in one of them.
+-- Stretches of readings: the i-th of all readings is in one of them.
 use Rattle.std.proofs.Common.{◌≡◌, ◌+◌, ◌*◌, ◌<◌, ◌≤◌, ℕ, zero, suc, List, [], ◌∷◌, ◌++◌, length, map, take, drop, Option, Some, None, min, append_assoc, refl, sym, ap, ◌∙◌, arith, inl, inr}
 use Rattle.std.specs.Prelude.{flat_map, option_copied, slice_get, Vec}
 use Rattle.std.specs.Borrow.{Bor}
@@ -82,7 +82,7 @@ module _ {A : Type 0} (first : ℕ) (stretches : List (Vec Reading A)) where
       → slice_get s.items r ≡ slice_get (map reading_at (numbered_from first (joined (stretches_of stretches)))) place
   found size q r place s full h e some = sym (by_place size q r place full h e ∙ rw (← some) refl)
 
--- chunks of lines, read each by itself, are the readings in stretches
+-- chunks of lines, each read separately, are the readings in stretches
 module _ {X Y : Type 0} (f : X → Y) (size : ℕ) (pos : 0 < size) where
   full-from : (n : ℕ) (xs : List X) → length xs ≤ n → AreFull size (map (map f) (chunks_from n size xs))
   full-from zero xs h = tt

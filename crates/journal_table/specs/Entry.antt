@@ -1,4 +1,4 @@
--- The lines of a journal, without where they lie in memory.
+-- The lines of a journal, without where they are in memory.
 use Rattle.std.specs.Prelude.{◌≡◌, ◌≤◌, ◌+◌, ℕ, List, [], ◌∷◌, length, Option, Some, None, unwrap_or}
 use Rattle.sip_reader.specs.Texts.{line_number_end}
 use Rattle.journal_table.specs.declared.TheConstants.{LINE_LIMIT}

@@ -25,7 +25,7 @@ numbered_line row before fields (Some number) =
     else if nat_lt CONNECTION_LIMIT (length (get_or fields 1 [])) then Err (error.Rule row rule.Connection)
     else Ok (record { number = number; connection = get_or fields 1 []; request = get_or fields 2 []; response = get_or fields 3 [] })
 
--- The line of a data row behind the line numbered before, or the first rule that the row breaks: rule lines comes before the others.
+-- The line of a data row after the line numbered before, or the first rule that the row breaks: rule lines comes before the others.
 abbrev pub line_at : ℕ → Option ℕ → List (List ℕ) → Result Entry JournalError
 line_at row before fields =
     if nat_lt LINE_LIMIT row then Err (error.Rule row rule.Lines)
@@ -53,7 +53,7 @@ lines_of (Some rows) = lines_from 1 None rows
 abbrev pub journal_of : List ℕ → Result (List Entry) JournalError
 journal_of bytes = lines_of (rows_under header bytes)
 
--- Want of memory says nothing of the text, any other error is what reading gives.
+-- That memory ran out says nothing of the text; any other error is what reading gives.
 abbrev pub Fails : {Y : Type 0} → JournalError → Result Y JournalError → Type 0
 Fails error.Memory read = Unit {0}
 Fails error.Table read = read ≡ Err error.Table

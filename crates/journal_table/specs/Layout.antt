@@ -1,4 +1,4 @@
--- How a line lies in memory: its three texts one behind the other, with a comma between.
+-- How a line is in memory: its three texts one after the other, with a comma between.
 use Rattle.std.specs.Prelude.{◌≡◌, ◌≤◌, ◌+◌, ◌++◌, ◌∷◌, ℕ, List, length, take, drop}
 use Rattle.std.specs.Int.{IsInRange}
 use Rattle.sip_reader.specs.Texts.{line_number_max}
@@ -11,7 +11,7 @@ use Rattle.journal_table.specs.declared.line.Texts.TheVariants.{Lent, Own}
 abbrev pub comma : ℕ
 comma = 44
 
--- three texts, as they stand in a row without quotes
+-- three texts, as a row without quotes has them
 abbrev pub joined : List ℕ → List ℕ → List ℕ → List ℕ
 joined connection request response = connection ++ comma ∷ (request ++ comma ∷ response)
 
@@ -28,7 +28,7 @@ abbrev pub request_len : Texts → ℕ
 request_len (Lent connection request bytes) = request
 request_len (Own own) = own.value.request_len
 
--- where these three texts stand
+-- where these three texts are
 pub record AreTexts (texts : Texts) (connection request response : List ℕ) : Type 0 where
   pub joins : text_of texts ≡ joined connection request response
   pub first : connection_len texts ≡ length connection
@@ -42,7 +42,7 @@ entry_of l = record {
   response = drop (connection_len l.texts + 1 + request_len l.texts + 1) (text_of l.texts);
 }
 
--- the texts lie one behind the other; rules number and connection: a number from 1 to 9,999,999,999, a connection of at most 64 bytes
+-- the texts come one after the other; rules number and connection: a number from 1 to 9,999,999,999, a connection of at most 64 bytes
 abbrev pub IsLaidOut : Inside → Type 0
 IsLaidOut l =
     (connection_len l.texts + 1 + request_len l.texts + 1 ≤ length (text_of l.texts)) × IsInRange 1 line_number_max l.number × (connection_len l.texts ≤ CONNECTION_LIMIT)

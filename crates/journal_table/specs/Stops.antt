@@ -5,12 +5,12 @@ use Rattle.journal_table.specs.Journal.{lines_of}
 use Rattle.journal_table.specs.declared.error.JournalError.{JournalError}
 use Rattle.journal_table.specs.declared.error.JournalError.TheVariants as error
 
--- a broken rule is told where the rows behind it are a table
+-- a broken rule is the error where the rows after it are a table
 abbrev pub unless_no_table : JournalError → Option (List (List (List ℕ))) → Result (List Entry) JournalError
 unless_no_table fault None = Err error.Table
 unless_no_table fault (Some rest) = Err fault
 
--- what an error says of the rows that were to be read and of those behind it
+-- what an error says of the rows that were to be read and of those after it
 abbrev pub Stops : JournalError → Option (List (List (List ℕ))) → Option (List (List (List ℕ))) → Type 0
 Stops error.Memory rows rest = Unit {0}
 Stops error.Table rows rest = lines_of rows ≡ Err error.Table

@@ -1,4 +1,4 @@
--- How readings lie in memory: in stretches of one length, of which the last may be shorter.
+-- How readings are in memory: in stretches of one length, of which the last may be shorter.
 use Rattle.std.specs.Prelude.{◌≡◌, ◌+◌, ◌<◌, ◌≤◌, ℕ, List, [], ◌∷◌, length, flat_map, map, Vec}
 use Rattle.std.specs.List.{AllByRecursion}
 use Rattle.sip_reader.specs.declared.request.Reading.{Reading}
@@ -8,7 +8,7 @@ use Rattle.journal_table.specs.declared.TheConstants.{LINE_LIMIT}
 use Rattle.journal_table.specs.declared.readings.Readings.TheInside.{Inside}
 use Rattle.journal_table.specs.declared.readings.TheConstants.{STRETCH}
 
--- no stretch is longer than size, and each behind which one stands is as long
+-- no stretch is longer than size, and each but the last is as long
 abbrev pub AreFull : {X : Type 0} → ℕ → List (List X) → Type 0
 AreFull size [] = Unit {0}
 AreFull size (s ∷ rest) = (length s ≤ size) × (0 < length rest → length s ≡ size) × AreFull size rest

@@ -17,7 +17,7 @@ use std::marker::Model;
 
 const HEADER: [&str; 4] = ["line", "connection", "request", "response"];
 
-/// Room for the lines is made for rows of so many bytes: most journals have longer ones, and their lines never move.
+/// The bytes of a row for which the capacity of the lines is reckoned: most journals have longer rows, and their lines never move.
 const USUAL_ROW: usize = 128;
 
 /// The lines of a journal, their numbers rising by one, at most 1,000,000; the last number is at most 9,999,999,999. They
@@ -45,8 +45,8 @@ impl<'t> Model for Journal<'t> {
 
 impl<'t> Journal<'t> {
     /// The journal that a text spells, or why it is refused: as no table, by the first rule that
-    /// a row breaks, or for want of memory. Lines are made as rows come, and a broken rule is
-    /// told only after the last row, since a text that is no table comes before any rule.
+    /// a row breaks, or since memory ran out. Lines are made as rows come, and a broken rule is
+    /// returned only after the last row, since a text that is no table comes before any rule.
     pub fn read(alloc: Global, bytes: &'t [u8]) -> Result<Journal<'t>, JournalError>
         ensures { Gives result (journal_of bytes.now) }
     {
@@ -79,7 +79,7 @@ impl<'t> Journal<'t> {
     }
 }
 
-/// The lines of all rows, or the first rule that one breaks, behind which the rows stand still.
+/// The lines of all rows, or the first rule that one breaks: then no row after it was read.
 fn read_lines<'t>(
     alloc: Global,
     rows: &mut RowReader,
@@ -90,7 +90,7 @@ fn read_lines<'t>(
 {
     let mut lines = Vec::with_capacity(alloc, bytes.len() / USUAL_ROW)?;
     let mut before = None;
-    let mut texts = RowTexts::behind_header(bytes);
+    let mut texts = RowTexts::after_header(bytes);
     let mut row = ByteRecord::new(alloc);
     while rows.next(&mut row)? {
         let line = read_line(alloc, lines.len() + 1, before, &row, &mut texts)?;
@@ -100,7 +100,7 @@ fn read_lines<'t>(
     Ok(lines)
 }
 
-/// Reads on to the end of the text, for what is left may be no table. Nobody reads from the rows behind an error.
+/// Reads on to the end of the text, for what is left may be no table. After an error no row is read.
 fn read_to_end(alloc: Global, rows: &mut RowReader) -> Result<(), TableError>
     ensures ok { OnOk result (IsSome rows.old.rows) }
     ensures table { IfErr result (λ e. e ≡ table.Table → rows.old.rows ≡ None) }

@@ -1,4 +1,4 @@
-//! The journal, the room where a recording of a library's SIP2 traffic comes in: numbered lines,
+//! The journal, the layer that reads a recording of a library's SIP2 traffic: numbered lines,
 //! each with the connection that it came over, a request, and the response that was recorded.
 #![tactic(auto)]
 

@@ -18,7 +18,7 @@ use csv_table::column;
 use std::alloc::{AllocError, Global};
 use std::marker::Model;
 
-/// A request, the connection that it came over, and the response that was recorded. Where the row stands in the journal
+/// A request, the connection that it came over, and the response that was recorded. Where the journal has the row
 /// without quotes, a line borrows its texts from there.
 pub struct Line<'t> {
     number: u64,
@@ -34,8 +34,8 @@ impl Drop for Line<'_> {
     }
 }
 
-/// Where the three texts of a line stand, with a comma between, and how long the first two are. Lines stay until the run ends,
-/// and nearly all are lent: so the lengths of these are kept in few bytes.
+/// Where the three texts of a line are, with a comma between, and how long the first two are. Lines are stored until the run ends,
+/// and nearly all are lent: so the lengths of these take five bytes.
 enum Texts<'t> {
     /// In the bytes of the journal.
     Lent {
@@ -90,7 +90,7 @@ impl<'t> Model for Line<'t> {
 }
 
 impl<'t> Texts<'t> {
-    /// The texts of the next row. They are lent where they stand in the journal and are of a usual length.
+    /// The texts of the next row. They are lent where the journal has them without quotes and their lengths fit.
     fn of(
         alloc: Global,
         rows: &mut RowTexts<'t>,
@@ -162,7 +162,7 @@ impl<'t> Texts<'t> {
     }
 }
 
-/// Three texts one behind the other, with a comma between.
+/// Three texts one after the other, with a comma between.
 fn with_commas(
     alloc: Global,
     connection: &[u8],

@@ -15,7 +15,7 @@ use std::alloc::{AllocError, Global};
 use std::marker::Model;
 use std::thread::Threads;
 
-/// How many lines a core takes at a time, where all cores read or tell them: a stretch. The last one may have fewer.
+/// The number of lines that a core takes at a time, where all cores read or report them: a stretch. The last one may have fewer.
 pub const STRETCH: usize = 4096;
 
 /// What the request of each line is. The numbers of the lines rise by one from the first.
@@ -102,7 +102,7 @@ pub fn read_in_turn(alloc: Global, journal: &Journal) -> Result<Readings, AllocE
     Ok(Readings::of(lines, read_stretches(alloc, lines)?))
 }
 
-/// Reads every request of a journal, on as many threads as there are processors. What comes is
+/// Reads every request of a journal, on as many threads as there are processors. The readings are
 /// in the order of the lines, whatever the threads did.
 pub fn read_all(
     rt: &(impl Threads + Sync),
@@ -143,7 +143,7 @@ fn read_stretch(alloc: Global, lines: &[Line]) -> Result<Vec<Reading>, AllocErro
 {
     let mut readings = Vec::with_capacity(alloc, lines.len())?;
     for line in lines {
-        // there is room for it, so it goes there with no test between
+        // the capacity suffices, so this tests for no growth
         readings.push_reserved(read_request(alloc, line.request())?);
     }
     Ok(readings)

@@ -9,23 +9,23 @@ use Rattle.circ_records.specs.Records.{Entries, record_at}
 use Rattle.circ_records.specs.declared.key.Key.{Key}
 use Rattle.circ_records.specs.declared.record.Record.{Record}
 use Rattle.line_origins.specs.Origins.{written_by}
-use Rattle.line_origins.proofs.Puts.{either-way}
+use Rattle.read_set.proofs.Keeping.{either-way}
 
 alone : (b : Bool) (r : Record) (line : ℕ) (w : Option ℕ) → cond b (Some line) w ≡ cond (is_some (cond b (Some r) None)) (Some line) w
 alone true r line w = refl
 alone false r line w = refl
 
-behind : (a b : Bool) (r : Record) (f g : Option Record) (line : ℕ) (w : Option ℕ) → cond b (Some line) (cond (is_some f) (Some line) w) ≡ cond (is_some g) (Some line) w
+past : (a b : Bool) (r : Record) (f g : Option Record) (line : ℕ) (w : Option ℕ) → cond b (Some line) (cond (is_some f) (Some line) w) ≡ cond (is_some g) (Some line) w
     → cond b (Some line) (cond (is_some (cond a (Some r) f)) (Some line) w) ≡ cond (is_some (cond a (Some r) g)) (Some line) w
-behind true true r f g line w h = refl
-behind true false r f g line w h = refl
-behind false b r f g line w h = h
+past true true r f g line w h = refl
+past true false r f g line w h = refl
+past false b r f g line w h = h
 
 -- one write more
 written_more : (writes : Entries) (e : Key × Record) (line : ℕ) (w : Option ℕ) (k : Key) → cond (is_at (key_cmp k) e.0) (Some line) (written_by writes line w k) ≡ written_by (writes ++ e ∷ []) line w k
 written_more [] e line w k = alone (is_at (key_cmp k) e.0) e.1 line w
 written_more (x ∷ writes) e line w k =
-    behind (is_at (key_cmp k) x.0) (is_at (key_cmp k) e.0) x.1 (record_at writes k) (record_at (writes ++ e ∷ []) k) line w (written_more writes e line w k)
+    past (is_at (key_cmp k) x.0) (is_at (key_cmp k) e.0) x.1 (record_at writes k) (record_at (writes ++ e ∷ []) k) line w (written_more writes e line w k)
 
 -- the next write of a list
 pub marked : (writes : Entries) (i : ℕ) (e : Key × Record) (line : ℕ) (w : Option ℕ) (k : Key) → i < length writes → e ≡ get_or writes i e

@@ -63,13 +63,13 @@ last_greatest plan (suc n) k = next_greatest plan n k (last_writer plan n k) (wr
 
 -- the shelf after one line more, by what the line does
 pub passed : (plan : Planned) (n : ℕ) (old new : Shelf) (e : Effect) → IsShelf plan n old → effect_at plan (plan.first + n) (after plan n) ≡ e
-    → ((k : Key) → record_at new.standing.records k ≡ put e.writes (record_at old.standing.records) k)
+    → ((k : Key) → record_at new.live k ≡ put e.writes (record_at old.live) k)
     → ((k : Key) → lookup (is_at (key_cmp k)) new.writers.entries ≡ written_by e.writes (plan.first + n) (lookup (is_at (key_cmp k)) old.writers.entries) k)
     → IsShelf plan (suc n) new
-passed plan n old new e stands is records writers = record {
-  records = λ k. records k ∙ ap (λ found. option_or (record_at e.writes k) found) (stands.records k)
+passed plan n old new e shelf is records writers = record {
+  records = λ k. records k ∙ ap (λ found. option_or (record_at e.writes k) found) (shelf.records k)
       ∙ sym (after_next plan n k ∙ ap (λ (f : Effect). put f.writes (after plan n) k) is);
   writers = λ k. writers k
-      ∙ ap (λ w. cond (is_some (record_at e.writes k)) (Some (plan.first + n)) w) (stands.writers k)
+      ∙ ap (λ w. cond (is_some (record_at e.writes k)) (Some (plan.first + n)) w) (shelf.writers k)
       ∙ ap (λ (f : Effect). cond (is_some (record_at f.writes k)) (Some (plan.first + n)) (last_writer plan n k)) (sym is);
 }

@@ -18,7 +18,7 @@ found : (o : Option Note) (r now : Option Record) → ((note : Note) → o ≡ S
 found None r now h e = cc
 found (Some note) r now h e = let is : note.found ≡ r = cc in h note refl ∙ is
 
--- a map that has what stands on the shelf has what is noted of it
+-- a map that has what is on the shelf has what is noted of it
 pub agrees_seen : (records : Entries) (writers : List (Key × ℕ)) (notes : List Note) (M : Map) → AreSeen records writers notes → ((k : Key) → record_at records k ≡ M k) → Agrees (noted notes) M
 agrees_seen records writers notes M seen same k r e = sym (same k) ∙ found (note_of notes k) r (record_at records k) (λ note is. (seen k note is).0) e
 

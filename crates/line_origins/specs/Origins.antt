@@ -37,7 +37,7 @@ effect_at plan line M = effect_by plan line (reading_at plan line) M
 abbrev pub writes_at : Planned → ℕ → Key → Bool
 writes_at plan n k = is_some (record_at (effect_at plan (plan.first + n) (after plan n)).writes k)
 
--- the last of the first lines, as many as told, that wrote the record at a key, by its number; none where none of them did
+-- the last of the first lines, of this count, that wrote the record at a key, by its number; none where none of them did
 abbrev pub last_writer : Planned → ℕ → Key → Option ℕ
 last_writer plan zero k = None
 last_writer plan (suc n) k = if writes_at plan n k then Some (plan.first + n) else last_writer plan n k
@@ -51,9 +51,9 @@ IsGreatest plan count k (Some line) =
 abbrev pub LastWritersAreGreatest : Type 0
 LastWritersAreGreatest = (plan : Planned) (count : ℕ) (k : Key) → IsGreatest plan count k (last_writer plan count k)
 
--- the records after the first lines, as many as told, and who wrote them
+-- the records after the first lines, of this count, and who wrote them
 pub record IsShelf (plan : Planned) (count : ℕ) (shelf : Shelf) : Type 0 where
-  pub records : (k : Key) → record_at shelf.standing.records k ≡ after plan count k
+  pub records : (k : Key) → record_at shelf.live k ≡ after plan count k
   pub writers : (k : Key) → lookup (is_at (key_cmp k)) shelf.writers.entries ≡ last_writer plan count k
 
 -- who wrote a record last, after a line wrote these
@@ -67,7 +67,7 @@ abbrev pub line_of : Name → Option ℕ
 line_of names.Base = None
 line_of (names.Made attempt line) = Some line
 
--- notes that name what stands on a shelf, and who wrote it
+-- notes that name what is on a shelf, and who wrote it
 abbrev pub AreSeen : Entries → List (Key × ℕ) → List Note → Type 0
 AreSeen records writers notes = (k : Key) (note : Note) → note_of notes k ≡ Some note
     → (record_at records k ≡ note.found) × (line_of note.name ≡ lookup (is_at (key_cmp k)) writers)
@@ -79,7 +79,7 @@ pub record IsEnd (plan : Planned) (line : ℕ) (end : End) : Type 0 where
 
 -- what a line read, and why it is answered as it is
 pub record IsSeen (plan : Planned) (line : ℕ) (s : Seen) : Type 0 where
-  -- what is noted stands so before the line
+  -- what is noted is so before the line
   pub holds : (k : Key) (note : Note) → note_of s.notes k ≡ Some note → before plan line k ≡ note.found
   -- each name is that of the last line below that wrote the record
   pub names : (k : Key) (note : Note) → note_of s.notes k ≡ Some note → line_of note.name ≡ last_writer plan (line - plan.first) k

@@ -6,7 +6,7 @@ ghost use Rattle.read_set.specs.Notes.{note_of, noted};
 ghost use Rattle.read_set.specs.Stops.{Follows};
 
 use crate::shelf::Shelf;
-use circ_records::{KeptKey, Key, Record};
+use circ_records::{Key, Record};
 use read_set::{Note, NotedRecord, Notes, OneByOne, Source, Stop};
 use std::alloc::Global;
 use std::marker::{Brand, PhantomData};
@@ -36,7 +36,7 @@ pub struct Looking<'s, N: ShelfName> {
     shelf: &'s Shelf,
     notes: Notes,
     of: PhantomData<N>,
-    ghost named: { (shelf.now.standing.records ≡ N.records) × (shelf.now.writers.entries ≡ N.writers) },
+    ghost named: { (shelf.now.live ≡ N.records) × (shelf.now.writers.entries ≡ N.writers) },
     ghost seen: { AreSeen N.records N.writers notes },
 }
 
@@ -45,7 +45,7 @@ ghost use Rattle.line_origins.specs.Origins.{AreSeen};
 impl<'s, N: ShelfName> Looking<'s, N> {
     /// Nothing is noted yet.
     pub fn new(alloc: Global, shelf: &'s Shelf) -> Looking<'s, N>
-        requires records { shelf.now.standing.records ≡ N.records }
+        requires records { shelf.now.live ≡ N.records }
         requires writers { shelf.now.writers.entries ≡ N.writers }
         ensures { result.notes ≡ [] }
     {
@@ -81,7 +81,7 @@ impl<'s, N: ShelfName> Looking<'s, N> {
         let found = NotedRecord::new(found);
         let copy = found.record()?;
         self.notes.add(Note {
-            key: KeptKey::new(alloc, key)?,
+            key: key.clone()?,
             name,
             found,
         })?;

@@ -1,4 +1,4 @@
-//! The records as they stand, and which line wrote each last.
+//! The records as they are, and which line wrote each last.
 
 ghost use Rattle.std.specs.Prelude.{◌≡◌, ◌≤◌, ◌-◌, ◌+◌, IfOk};
 ghost use Rattle.std.specs.BTreeMap.{is_at};
@@ -8,17 +8,17 @@ ghost use Rattle.circ_records.specs.Records.{record_at};
 ghost use Rattle.circ_records.specs.declared.key.Key.{Key};
 ghost use Rattle.line_origins.specs.Origins.{IsShelf, line_of, written_by};
 
-use crate::standing::Standing;
-use circ_records::{KeptKey, Key, Record};
+use circ_records::{Key, Record};
+use live_records::Live;
 use message_meaning::perform;
 use read_set::{Effect, Name, Plan, Stop};
 use std::alloc::{AllocError, Global};
 use std::collections::BTreeMap;
 
-/// The records as they stand after the lines so far, and of each key that these wrote the number of the line that wrote it last.
+/// The records after the lines so far, and of each key that these wrote the number of the line that wrote it last.
 #[derive(Drop)]
 pub struct Shelf {
-    pub(crate) standing: Standing,
+    pub(crate) live: Live,
     pub(crate) writers: BTreeMap<Key, u64>,
 }
 
@@ -28,16 +28,16 @@ impl Shelf {
         ensures { IfOk result (IsShelf plan.now 0) }
     {
         Ok(Shelf {
-            standing: Standing::over(alloc, plan)?,
+            live: Live::over(alloc, plan)?,
             writers: BTreeMap::new(alloc),
         })
     }
 
     /// The record at a key, copied.
     pub fn record(&self, key: &Key) -> Result<Option<Record>, AllocError>
-        ensures { IfOk result (λ r. r ≡ record_at self.now.standing.records key.now) }
+        ensures { IfOk result (λ r. r ≡ record_at self.now.live key.now) }
     {
-        match self.standing.at(key) {
+        match self.live.get(key) {
             Some(found) => Ok(Some(found.copy()?)),
             None => Ok(None),
         }
@@ -56,21 +56,18 @@ impl Shelf {
         }
     }
 
-    /// Does the n-th line from 0, by its number. Without memory the records are lost.
+    /// Does the line of a number. Out of memory, the records are lost.
     pub fn pass(self, alloc: Global, plan: &Plan, line: u64) -> Result<Shelf, AllocError>
         requires line { plan.now.first ≤ line }
-        requires stands { IsShelf plan.now (line - plan.now.first) self }
+        requires shelf { IsShelf plan.now (line - plan.now.first) self }
         ensures { IfOk result (IsShelf plan.now (line + 1 - plan.now.first)) }
     {
-        let Shelf {
-            mut standing,
-            writers,
-        } = self;
-        match perform(alloc, plan, line, &mut standing) {
+        let Shelf { mut live, writers } = self;
+        match perform(alloc, plan, line, &mut live) {
             Ok(Effect { writes, answer: _ }) => {
                 let writers = mark(writers, writes.as_slice(), line)?;
-                standing.put(writes)?;
-                Ok(Shelf { standing, writers })
+                live.put(writes)?;
+                Ok(Shelf { live, writers })
             }
             Err(Stop::Unnoted(_)) => unreachable!(),
             Err(Stop::Memory) => Err(AllocError),
@@ -81,14 +78,14 @@ impl Shelf {
 /// Marks each key that a line writes as written by it.
 fn mark(
     writers: BTreeMap<Key, u64>,
-    writes: &[(KeptKey, Record)],
+    writes: &[(Key, Record)],
     line: u64,
 ) -> Result<BTreeMap<Key, u64>, AllocError>
     ensures { IfOk result (λ m. (k : Key) → lookup (is_at (key_cmp k)) m.entries ≡ written_by writes.now line (lookup (is_at (key_cmp k)) writers.entries) k) }
 {
     let mut writers = writers;
     for entry in writes {
-        writers.insert(entry.0.key(), line)?;
+        writers.insert(entry.0.clone()?, line)?;
     }
     Ok(writers)
 }

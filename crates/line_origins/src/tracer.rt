@@ -12,12 +12,12 @@ ghost use Rattle.message_meaning.specs.Rules.{rule_at};
 ghost use Rattle.read_set.specs.Asks.{follow, Done, IsAsked};
 ghost use Rattle.read_set.specs.Maps.{Map, Agrees};
 ghost use Rattle.read_set.specs.Notes.{noted};
-ghost use Rattle.read_set.specs.Replay.{one_at};
+ghost use Rattle.read_set.specs.Replay.{before, one_at};
 ghost use Rattle.read_set.specs.declared.effect.Effect.{Effect};
 
 use crate::looking::{Looking, ShelfName};
 use crate::shelf::Shelf;
-use circ_records::{Key, Records};
+use circ_records::{Key, Record, Records};
 use line_reasons::{Reason, reason};
 use message_meaning::perform_one_by_one;
 use read_set::{Effect, Notes, Plan};
@@ -32,8 +32,8 @@ pub struct Tracer<'p> {
     plan: &'p Plan,
     next: u64,
     shelf: Shelf,
-    ghost behind: { plan.now.first ≤ next },
-    ghost stands: { IsShelf plan.now (next - plan.now.first) shelf },
+    ghost begun: { plan.now.first ≤ next },
+    ghost comes: { IsShelf plan.now (next - plan.now.first) shelf },
 }
 
 /// What a line read and answered.
@@ -82,14 +82,14 @@ impl<'p> Tracer<'p> {
         self.plan
     }
 
-    /// The number of the line before which it stands.
+    /// The number of the line before which it is.
     pub fn next(&self) -> u64
         ensures { result ≡ self.now.next }
     {
         self.next
     }
 
-    /// The same before a later line. Without memory the replay is lost.
+    /// The same before a later line. Out of memory, the replay is lost.
     pub fn pass_to(self, alloc: Global, line: u64) -> Result<Tracer<'p>, AllocError>
         requires { self.next ≤ line }
         ensures plan { IfOk result (λ t. t.plan.now ≡ self.entry.plan.now) }
@@ -127,11 +127,18 @@ impl<'p> Tracer<'p> {
             next: _,
             shelf,
         } = self;
-        let Shelf { standing, writers } = shelf;
+        let Shelf { live, writers } = shelf;
         Ok(End {
-            records: standing.into_records(alloc)?,
+            records: live.into_records(alloc)?,
             writers,
         })
+    }
+
+    /// The record at a key before the line.
+    pub fn record(&self, key: &Key) -> Result<Option<Record>, AllocError>
+        ensures { IfOk result (λ r. r ≡ before self.now.plan.now self.now.next key.now) }
+    {
+        self.shelf.record(key)
     }
 
     /// What the line reads and answers.
@@ -156,7 +163,7 @@ fn look<N: ShelfName>(
     line: u64,
     shelf: &Shelf,
 ) -> Result<(Notes, Option<Answer>), AllocError>
-    requires records { shelf.now.standing.records ≡ N.records }
+    requires records { shelf.now.live ≡ N.records }
     requires writers { shelf.now.writers.entries ≡ N.writers }
     ensures seen { IfOk result (λ r. AreSeen N.records N.writers r.0) }
     ensures asked { IfOk result (λ r. (k : Key) → (noted r.0 k ≡ None) ⊎ IsAsked (noted r.0) (rule_at plan.now line) k) }
@@ -177,7 +184,7 @@ fn tell<N: ShelfName>(
     line: u64,
     shelf: &Shelf,
 ) -> Result<Option<Reason>, AllocError>
-    requires records { shelf.now.standing.records ≡ N.records }
+    requires records { shelf.now.live ≡ N.records }
     requires writers { shelf.now.writers.entries ≡ N.writers }
     ensures { IfOk result (λ r. (M : Map) → ((k : Key) → record_at N.records k ≡ M k) → r ≡ reason_at plan.now line M) }
 {

@@ -1,39 +1,56 @@
--- What is found in a source stands so in each map that has what the source has.
-use Rattle.std.proofs.Common.{◌≡◌, ℕ, List, [], ◌∷◌, Option, Some, None, refl, sym, ◌∙◌, ap, ap₂, arith}
+-- What is found in a source.
+use Rattle.std.proofs.Common.{◌≡◌, ℕ, List, [], Option, Some, None, Result, IfOk, refl, ◌∙◌, ap, ap₂}
 use Rattle.circ_policy.specs.Terms.{Terms}
+use Rattle.circ_records.specs.Records.{Entries}
 use Rattle.circ_records.specs.declared.record.Fee.{Fee}
 use Rattle.circ_records.specs.declared.record.Loan.{Loan}
 use Rattle.sip_reader.specs.declared.request.FeePaid.{FeePaid}
 use Rattle.loan_meaning.specs.Lookups.{patron_at, item_at, fee_at, borrower_at}
-use Rattle.read_set.specs.Asks.{over}
+use Rattle.loan_meaning.specs.Owing.{owed_at}
+use Rattle.loan_meaning.proofs.Whole.{meant, owes}
+use Rattle.read_set.specs.Asks.{Asks, Gains, follow, over}
 use Rattle.read_set.specs.Checkins.{loan_of}
-use Rattle.read_set.specs.Fees.{owed, rest_of}
+use Rattle.read_set.specs.Fees.{owed}
 use Rattle.read_set.specs.Known.{borrower_in, fee_in, item_in, patron_in}
 use Rattle.read_set.specs.Maps.{Map, Part, Agrees, Grows}
-use Rattle.read_set.specs.Payments.{only_known}
+use Rattle.read_set.specs.Stops.{Follows}
 use Rattle.read_set.specs.declared.known.Article.{Article}
 use Rattle.read_set.specs.declared.known.Member.{Member}
+use Rattle.read_set.specs.declared.source.Stop.{Stop}
 use Rattle.line_reasons.specs.Found.{asked_in, owed_by, owing_by, owing_in, returned_in}
 use Rattle.line_reasons.specs.declared.finding.Asked.{Asked}
 use Rattle.line_reasons.specs.declared.finding.Owing.{Owing}
 use Rattle.line_reasons.specs.declared.finding.Returned.{Returned}
 
-pub patron_whole : (M : Map) (p : Terms) (id : List ℕ) → over M (patron_at p id) ≡ patron_in p M id
+-- what is found in a source is what each map has that has what the source has
+
+pub patron_means : (has : Part) (p : Terms) (id : List ℕ) (r : Result (Option Member) Stop) → Follows r (follow has (patron_at p id)) → IfOk r (λ m. (M : Map) → Agrees has M → m ≡ patron_in p M id)
 unfolding patron_at
-patron_whole M p id = refl
+patron_means has p id r = meant has (patron_at p id) (λ M. patron_in p M id) r (λ M. refl)
 
-pub item_whole : (M : Map) (p : Terms) (id : List ℕ) → over M (item_at p id) ≡ item_in p M id
+pub item_means : (has : Part) (p : Terms) (id : List ℕ) (r : Result (Option Article) Stop) → Follows r (follow has (item_at p id)) → IfOk r (λ a. (M : Map) → Agrees has M → a ≡ item_in p M id)
 unfolding item_at
-item_whole M p id = refl
+item_means has p id r = meant has (item_at p id) (λ M. item_in p M id) r (λ M. refl)
 
-pub fee_whole : (M : Map) (id : List ℕ) → over M (fee_at id) ≡ fee_in M id
+pub fee_means : (has : Part) (id : List ℕ) (r : Result (Option Fee) Stop) → Follows r (follow has (fee_at id)) → IfOk r (λ f. (M : Map) → Agrees has M → f ≡ fee_in M id)
 unfolding fee_at
-fee_whole M id = refl
+fee_means has id r = meant has (fee_at id) (λ M. fee_in M id) r (λ M. refl)
 
-pub borrower_whole : (M : Map) (p : Terms) (loan : Option Loan) → over M (borrower_at p loan) ≡ borrower_in p M loan
+borrower_whole : (M : Map) (p : Terms) (loan : Option Loan) → over M (borrower_at p loan) ≡ borrower_in p M loan
 unfolding borrower_at patron_at
 borrower_whole M p None = refl
 borrower_whole M p (Some loan) = refl
+
+pub borrower_means : (has : Part) (p : Terms) (loan : Option Loan) (r : Result (Option Member) Stop) → Follows r (follow has (borrower_at p loan))
+    → IfOk r (λ m. (M : Map) → Agrees has M → m ≡ borrower_in p M loan)
+borrower_means has p loan r = meant has (borrower_at p loan) (λ M. borrower_in p M loan) r (λ M. borrower_whole M p loan)
+
+pub owed_means : (has : Part) (w : Entries) (fees : List (List ℕ)) (r : Result ℕ Stop) → w ≡ [] → Follows r (follow has (owed_at w fees)) → IfOk r (λ o. (M : Map) → Agrees has M → o ≡ owed M fees)
+owed_means has w fees r none h = meant has (owed_at [] fees) (λ M. owed M fees) r (λ M. owes M [] fees) (rw none at h)
+
+-- what was had stays
+pub gains_grow : {A P : Type 0} (old new : Part) (m : Asks A) → Gains P old new m → Grows old new
+gains_grow old new m h = h.grows
 
 -- a map that has what is had later has what was had before
 pub agrees_before : (old new : Part) (M : Map) → Grows old new → Agrees new M → Agrees old M
@@ -62,9 +79,3 @@ owing member owes = record { member = member; owes = owes }
 
 pub owing_is : (p : Terms) (q : FeePaid) (M : Map) (member : Option Member) (owes : ℕ) → member ≡ patron_in p M q.patron → owes ≡ owing_by M q.fee member → owing member owes ≡ owing_in p q M
 owing_is p q M member owes m o = ap (λ n. owing member n) o ∙ ap (λ (x : Option Member). owing x (owing_by M q.fee x)) m
-
--- what is left to pay of the one fee that is meant
-pub named_owed : (M : Map) (id : List ℕ) (fees : List (List ℕ)) (fee : Fee) → Some fee ≡ fee_in M id → rest_of (Some fee) ≡ owed M (only_known id fees (fee_in M id))
-named_owed M id fees fee e =
-    let one : owed M (id ∷ []) ≡ rest_of (fee_in M id) = omega arith in
-    ap rest_of e ∙ sym one ∙ ap (λ (f : Option Fee). owed M (only_known id fees f)) e

@@ -1,4 +1,4 @@
--- What a request is judged by: the records that it names, as they stand in a map.
+-- What a request is judged by: the records of a map that it names.
 use Rattle.std.specs.Prelude.{ℕ, List, Option, Some, None}
 use Rattle.circ_policy.specs.Terms.{Terms}
 use Rattle.sip_reader.specs.declared.request.FeePaid.{FeePaid}

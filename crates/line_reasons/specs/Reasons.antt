@@ -1,4 +1,4 @@
--- Why a request is answered as it is: the name of the first test that holds, of the rules that stand in read_set (docs/RULES.md).
+-- Why a request is answered as it is: the name of the first test that holds, of the rules that read_set has (docs/RULES.md).
 use Rattle.std.specs.Prelude.{ℕ, Bool, not, ◌&&◌, ◌||◌, nat_lt, nat_le, ◌==◌, List, length, Option, Some, None, if◌then◌else◌, is_some}
 use Rattle.circ_policy.specs.Terms.{Terms}
 use Rattle.circ_records.specs.declared.holds.TheConstants.{QUEUE_MAX}
@@ -34,7 +34,7 @@ owing_reason owes agreed member article done =
     else if nat_lt 0 article.media.rental && not agreed then reasons.Rental  -- a rental, not agreed to
     else done
 
--- of a loan, where so much is owed
+-- of a loan, by what is owed in hundredths
 unfoldable pub lending_reason : ℕ → LoanRequest → Member → Article → Reason
 lending_reason owes a member article =
     if a.forced then reasons.Made

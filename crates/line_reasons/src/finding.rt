@@ -1,18 +1,18 @@
-//! Records found in a source, as they stand in each map that has what the source has.
+//! Records found in a source: the same in each map that has what the source has.
 
-ghost use Rattle.std.specs.Prelude.{◌≡◌, IfOk, Some};
+ghost use Rattle.std.specs.Prelude.{◌≡◌, IfOk};
 ghost use Rattle.line_reasons.specs.Found.{asked_in, owed_by, owing_by, owing_in, returned_in};
 ghost use Rattle.read_set.specs.Checkins.{loan_of};
-ghost use Rattle.read_set.specs.Fees.{owed, rest_of};
+ghost use Rattle.read_set.specs.Fees.{owed};
 ghost use Rattle.read_set.specs.Known.{borrower_in, fee_in, item_in, patron_in};
 ghost use Rattle.read_set.specs.Maps.{Map, Agrees, Grows};
 ghost use Rattle.read_set.specs.Payments.{meant, only_known};
 
 use circ_policy::Policy;
-use circ_records::{Fee, KeptLoan};
-use loan_meaning::{borrower_of, fee_of, has_id, item_of, owed_of, patron_of};
+use circ_records::{Fee, Loan, Shared};
+use loan_meaning::{borrower_of, fee_of, has_id, item_of, owed_of, patron_of, rest_of};
 use read_set::{Article, Draft, Member, Source, Stop};
-use sip_reader::{FeePaid, Id, KeptId};
+use sip_reader::{FeePaid, Id};
 use std::alloc::Global;
 
 /// The patron and the item of a request, where they are known, and what the patron owes in hundredths.
@@ -38,11 +38,12 @@ pub struct Owing {
 }
 
 /// The patron of an id, where it is known.
+#[tactic(auto, using(crate::proofs::Found::patron_means, crate::proofs::Found::gains_grow))]
 pub fn find_patron<S: Source>(
     alloc: Global,
     policy: &Policy,
     source: &mut S,
-    id: &KeptId,
+    id: &Id,
 ) -> Result<Option<Member>, Stop>
     ensures means { IfOk result (λ m. (M : Map) → Agrees (S.has source.new) M → m ≡ patron_in policy.now M id.now) }
     ensures keeps { Grows (S.has source.old) (S.has source.new) }
@@ -51,11 +52,12 @@ pub fn find_patron<S: Source>(
 }
 
 /// The item of an id, where it is known.
+#[tactic(auto, using(crate::proofs::Found::item_means, crate::proofs::Found::gains_grow))]
 pub fn find_item<S: Source>(
     alloc: Global,
     policy: &Policy,
     source: &mut S,
-    id: &KeptId,
+    id: &Id,
 ) -> Result<Option<Article>, Stop>
     ensures means { IfOk result (λ a. (M : Map) → Agrees (S.has source.new) M → a ≡ item_in policy.now M id.now) }
     ensures keeps { Grows (S.has source.old) (S.has source.new) }
@@ -64,11 +66,12 @@ pub fn find_item<S: Source>(
 }
 
 /// Whoever has a loan, where the patron is known.
+#[tactic(auto, using(crate::proofs::Found::borrower_means, crate::proofs::Found::gains_grow))]
 fn find_borrower<S: Source>(
     alloc: Global,
     policy: &Policy,
     source: &mut S,
-    loan: &Option<KeptLoan>,
+    loan: &Option<Loan>,
 ) -> Result<Option<Member>, Stop>
     ensures means { IfOk result (λ m. (M : Map) → Agrees (S.has source.new) M → m ≡ borrower_in policy.now M loan.now) }
     ensures keeps { Grows (S.has source.old) (S.has source.new) }
@@ -77,7 +80,8 @@ fn find_borrower<S: Source>(
 }
 
 /// The fee of an id, where it has a record.
-fn find_fee<S: Source>(alloc: Global, source: &mut S, id: &Id) -> Result<Option<Fee>, Stop>
+#[tactic(auto, using(crate::proofs::Found::fee_means, crate::proofs::Found::gains_grow))]
+fn find_fee<S: Source>(alloc: Global, source: &mut S, id: &Id) -> Result<Option<Shared<Fee>>, Stop>
     ensures means { IfOk result (λ f. (M : Map) → Agrees (S.has source.new) M → f ≡ fee_in M id.now) }
     ensures keeps { Grows (S.has source.old) (S.has source.new) }
 {
@@ -85,7 +89,8 @@ fn find_fee<S: Source>(alloc: Global, source: &mut S, id: &Id) -> Result<Option<
 }
 
 /// What is owed over a list of fees, in hundredths.
-fn find_owed<S: Source>(alloc: Global, source: &mut S, fees: &[KeptId]) -> Result<u128, Stop>
+#[tactic(auto, using(crate::proofs::Found::owed_means, crate::proofs::Found::gains_grow))]
+fn find_owed<S: Source>(alloc: Global, source: &mut S, fees: &[Id]) -> Result<u128, Stop>
     ensures means { IfOk result (λ o. (M : Map) → Agrees (S.has source.new) M → o ≡ owed M fees.now) }
     ensures keeps { Grows (S.has source.old) (S.has source.new) }
 {
@@ -115,8 +120,8 @@ fn find_debt<S: Source>(
 pub fn find_asked<S: Source>(
     alloc: Global,
     policy: &Policy,
-    patron: &KeptId,
-    item: &KeptId,
+    patron: &Id,
+    item: &Id,
     source: &mut S,
 ) -> Result<Asked, Stop>
     ensures means { IfOk result (λ f. (M : Map) → Agrees (S.has source.new) M → f ≡ asked_in policy.now patron.now item.now M) }
@@ -155,7 +160,7 @@ fn find_borrower_of<S: Source>(
 pub fn find_returned<S: Source>(
     alloc: Global,
     policy: &Policy,
-    item: &KeptId,
+    item: &Id,
     source: &mut S,
 ) -> Result<Returned, Stop>
     ensures means { IfOk result (λ f. (M : Map) → Agrees (S.has source.new) M → f ≡ returned_in policy.now item.now M) }
@@ -167,39 +172,22 @@ pub fn find_returned<S: Source>(
 }
 
 /// What is left to pay of a fee of a list that is named; where it has no record, of all of them.
-fn find_named<S: Source>(
-    alloc: Global,
-    id: &Id,
-    fees: &[KeptId],
-    source: &mut S,
-) -> Result<u128, Stop>
+fn find_named<S: Source>(alloc: Global, id: &Id, fees: &[Id], source: &mut S) -> Result<u128, Stop>
     ensures means { IfOk result (λ o. (M : Map) → Agrees (S.has source.new) M → o ≡ owed M (only_known id.now fees.now (fee_in M id.now))) }
     ensures keeps { Grows (S.has source.old) (S.has source.new) }
 {
     match find_fee(alloc, source, id) {
-        Ok(Some(fee)) => Ok(rest_of(&fee)),
+        Ok(Some(fee)) => Ok(u128::from(rest_of(Some(fee)))),
         Ok(None) => find_owed(alloc, source, fees),
         Err(stop) => Err(stop),
     }
 }
 
-/// What is left to pay of a fee, in hundredths.
-#[tactic(auto, unfolding(read_set::specs::Fees::rest_of))]
-fn rest_of(fee: &Fee) -> u128
-    ensures { result ≡ rest_of (Some fee.now) }
-{
-    u128::from(
-        fee.amount
-            .hundredths()
-            .saturating_sub(fee.paid.hundredths()),
-    )
-}
-
-/// What is left to pay of the fees that are meant: the one that is named, where it stands in the list and has a record, else all.
+/// What is left to pay of the fees that are meant: the one that is named, where the list has it and it has a record, else all.
 fn find_meant<S: Source>(
     alloc: Global,
-    named: &Option<KeptId>,
-    fees: &[KeptId],
+    named: &Option<Id>,
+    fees: &[Id],
     source: &mut S,
 ) -> Result<u128, Stop>
     ensures means { IfOk result (λ o. (M : Map) → Agrees (S.has source.new) M → o ≡ owed M (meant M named.now fees.now)) }
@@ -207,9 +195,8 @@ fn find_meant<S: Source>(
 {
     match named {
         Some(named) => {
-            let id = named.id();
-            if has_id(fees, &id) {
-                find_named(alloc, &id, fees, source)
+            if has_id(fees, named) {
+                find_named(alloc, named, fees, source)
             } else {
                 find_owed(alloc, source, fees)
             }
@@ -221,7 +208,7 @@ fn find_meant<S: Source>(
 /// What is left to pay of the fees of a patron that are meant.
 fn find_due<S: Source>(
     alloc: Global,
-    named: &Option<KeptId>,
+    named: &Option<Id>,
     member: &Option<Member>,
     source: &mut S,
 ) -> Result<u128, Stop>

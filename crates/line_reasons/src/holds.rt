@@ -57,9 +57,8 @@ pub fn reason_of_hold(request: &HoldRequest, asked: &Asked) -> Reason
         (None, _) => Reason::UnknownPatron,
         (Some(_), None) => Reason::UnknownItem,
         (Some(member), Some(article)) => {
-            let patron = request.patron.id();
             let blocked = member.patron.get().blocked;
-            reason_of_queue(request.mode, &patron, blocked, article.item.get())
+            reason_of_queue(request.mode, &request.patron, blocked, article.item.get())
         }
     }
 }

@@ -14,14 +14,14 @@ use crate::payments::reason_of_payment;
 use crate::returns::reason_of_checkin;
 use circ_policy::Policy;
 use read_set::{Plan, Source, Stop};
-use sip_reader::{Act, KeptId, Reading, Request};
+use sip_reader::{Act, Id, Reading, Request};
 use std::alloc::Global;
 
 /// Why a block, an enable or a renewal of all items is answered as it is.
 fn reason_for_patron<S: Source>(
     alloc: Global,
     policy: &Policy,
-    id: &KeptId,
+    id: &Id,
     source: &mut S,
 ) -> Result<Reason, Stop>
     ensures means { IfOk result (λ r. (M : Map) → Agrees (S.has source.new) M → r ≡ patron_reason (patron_in policy.now M id.now)) }
@@ -50,7 +50,7 @@ fn reason_of_act<S: Source>(
         }
         Act::Checkout(q) => {
             let asked = find_asked(alloc, policy, &q.patron, &q.item, source)?;
-            Ok(reason_of_checkout(q, &asked))
+            Ok(reason_of_checkout(q, &asked)?)
         }
         Act::Hold(q) => {
             let asked = find_asked(alloc, policy, &q.patron, &q.item, source)?;
@@ -62,7 +62,7 @@ fn reason_of_act<S: Source>(
         }
         Act::Renew(q) => {
             let asked = find_asked(alloc, policy, &q.patron, &q.item, source)?;
-            Ok(reason_of_renew(q, &asked))
+            Ok(reason_of_renew(q, &asked)?)
         }
         Act::FeePaid(q) => {
             let owing = find_owing(alloc, policy, q, source)?;

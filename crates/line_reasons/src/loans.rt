@@ -1,24 +1,19 @@
 //! Why a checkout or a renewal is made or refused.
 
-ghost use Rattle.std.specs.Prelude.{◌≡◌, ◌&&◌, ◌||◌, nat_lt};
+ghost use Rattle.std.specs.Prelude.{◌≡◌, ◌&&◌, ◌||◌, IfOk};
 ghost use Rattle.line_reasons.specs.Reasons.{checkout_reason, lending_reason, owing_reason, renew_reason, renewal_reason};
 ghost use Rattle.read_set.specs.Loans.{lent_to};
-ghost use Rattle.read_set.specs.Renewals.{renewals_of};
 
-use crate::asking::{ask_checkout, ask_renew};
 use crate::finding::Asked;
 use crate::names::Reason;
-use circ_records::KeptLoan;
-use loan_meaning::{has_lent_to, has_loan, has_queue, is_first_another};
+use circ_records::Loan;
+use loan_meaning::{
+    ask_checkout, ask_renew, has_amount, has_lent_to, has_loan, has_queue, is_first_another,
+    loan_in, renewals_of,
+};
 use read_set::{Article, LoanRequest, Member};
-use sip_reader::{Amount, Checkout, Renew};
-
-/// Whether an amount is above 0.
-pub fn has_amount(amount: Amount) -> bool
-    ensures { result ≡ nat_lt 0 amount }
-{
-    amount.hundredths() > 0
-}
+use sip_reader::{Checkout, Renew};
+use std::alloc::AllocError;
 
 /// The last tests, on what is owed and on the rental; where none of them holds it is done.
 #[tactic(auto, unfolding(crate::specs::Reasons::owing_reason))]
@@ -40,14 +35,7 @@ fn reason_of_owing(
     }
 }
 
-/// The loan of an item.
-fn loan_in(article: &Article) -> &Option<KeptLoan>
-    ensures { result.now ≡ article.now.item.loan }
-{
-    &article.item.get().loan
-}
-
-/// Why a loan is made or refused to a patron who owes so much.
+/// Why a loan is made or refused to a patron who owes this, in hundredths.
 #[tactic(auto, unfolding(crate::specs::Reasons::lending_reason))]
 fn reason_of_lending(owes: u128, a: &LoanRequest, member: &Member, article: &Article) -> Reason
     ensures { result ≡ lending_reason owes a.now member.now article.now }
@@ -73,23 +61,14 @@ fn reason_of_lending(owes: u128, a: &LoanRequest, member: &Member, article: &Art
     reason_of_owing(owes, a.agreed, member, article, Reason::Made)
 }
 
-fn renewals(loan: &Option<KeptLoan>) -> u32
-    ensures { result ≡ renewals_of loan.now }
-{
-    match loan {
-        Some(loan) => loan.renewals(),
-        None => 0,
-    }
-}
-
 /// Whether a loan is the asker's, or a third party is allowed.
-fn is_renewable(a: &LoanRequest, loan: &Option<KeptLoan>) -> bool
+fn is_renewable(a: &LoanRequest, loan: &Option<Loan>) -> bool
     ensures { result ≡ (lent_to a.now.patron loan.now || a.now.third_party) }
 {
     has_lent_to(&a.patron, loan) || a.third_party
 }
 
-/// Why a renewal is made or refused to a patron who owes so much, in hundredths.
+/// Why a renewal is made or refused to a patron who owes this, in hundredths.
 #[tactic(auto, unfolding(crate::specs::Reasons::renewal_reason))]
 pub fn reason_of_renewal(owes: u128, a: &LoanRequest, member: &Member, article: &Article) -> Reason
     ensures { result ≡ renewal_reason owes a.now member.now article.now }
@@ -109,7 +88,7 @@ pub fn reason_of_renewal(owes: u128, a: &LoanRequest, member: &Member, article: 
     if has_queue(article.item.get().holds.as_slice()) {
         return Reason::WaitedFor;
     }
-    if member.class.max_renewals <= renewals(loan_in(article)) {
+    if member.class.max_renewals <= renewals_of(loan_in(article)) {
         return Reason::MaxRenewals;
     }
     reason_of_owing(owes, a.agreed, member, article, Reason::Renewed)
@@ -119,36 +98,37 @@ pub fn reason_of_renewal(owes: u128, a: &LoanRequest, member: &Member, article: 
 fn is_renewal(request: &Checkout, article: &Article) -> bool
     ensures { result ≡ (request.now.renewal && lent_to request.now.patron article.now.item.loan) }
 {
-    request.renewal && has_lent_to(&request.patron.id(), loan_in(article))
+    request.renewal && has_lent_to(&request.patron, loan_in(article))
 }
 
 /// Why a checkout (message 11) is made or refused.
-pub fn reason_of_checkout(request: &Checkout, asked: &Asked) -> Reason
-    ensures { result ≡ checkout_reason request.now asked.now }
+pub fn reason_of_checkout(request: &Checkout, asked: &Asked) -> Result<Reason, AllocError>
+    ensures { IfOk result (λ r. r ≡ checkout_reason request.now asked.now) }
 {
     match (&asked.member, &asked.article) {
-        (None, _) => Reason::UnknownPatron,
-        (Some(_), None) => Reason::UnknownItem,
+        (None, _) => Ok(Reason::UnknownPatron),
+        (Some(_), None) => Ok(Reason::UnknownItem),
         (Some(member), Some(article)) => {
-            let a = ask_checkout(request);
+            let a = ask_checkout(request)?;
             if is_renewal(request, article) {
-                reason_of_renewal(asked.owes, &a, member, article)
+                Ok(reason_of_renewal(asked.owes, &a, member, article))
             } else {
-                reason_of_lending(asked.owes, &a, member, article)
+                Ok(reason_of_lending(asked.owes, &a, member, article))
             }
         }
     }
 }
 
 /// Why a renewal (message 29) is made or refused.
-pub fn reason_of_renew(request: &Renew, asked: &Asked) -> Reason
-    ensures { result ≡ renew_reason request.now asked.now }
+pub fn reason_of_renew(request: &Renew, asked: &Asked) -> Result<Reason, AllocError>
+    ensures { IfOk result (λ r. r ≡ renew_reason request.now asked.now) }
 {
     match (&asked.member, &asked.article) {
-        (None, _) => Reason::UnknownPatron,
-        (Some(_), None) => Reason::UnknownItem,
+        (None, _) => Ok(Reason::UnknownPatron),
+        (Some(_), None) => Ok(Reason::UnknownItem),
         (Some(member), Some(article)) => {
-            reason_of_renewal(asked.owes, &ask_renew(request), member, article)
+            let a = ask_renew(request)?;
+            Ok(reason_of_renewal(asked.owes, &a, member, article))
         }
     }
 }

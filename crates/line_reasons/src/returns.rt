@@ -5,20 +5,20 @@ ghost use Rattle.line_reasons.specs.Reasons.{checkin_reason};
 ghost use Rattle.read_set.specs.Checkins.{day_back, lateness};
 
 use crate::finding::Returned;
-use crate::loans::has_amount;
 use crate::names::Reason;
 use circ_policy::{Media, late_fee};
-use circ_records::KeptLoan;
+use circ_records::Loan;
+use loan_meaning::has_amount;
 use sip_reader::{Checkin, Day, Stamp};
 
 /// Whether the loan is charged a late fee: it is above 0, and not with BI Y.
-fn is_late(request: &Checkin, date: Stamp, loan: &KeptLoan, media: &Media) -> bool
+fn is_late(request: &Checkin, date: Stamp, loan: &Loan, media: &Media) -> bool
     ensures { result ≡ nat_lt 0 (lateness request.now date loan.now media.now) }
 {
     if request.cancel {
         return false;
     }
-    has_amount(late_fee(loan.due(), day_back(request, date), media))
+    has_amount(late_fee(loan.due, day_back(request, date), media))
 }
 
 fn day_back(request: &Checkin, date: Stamp) -> Day

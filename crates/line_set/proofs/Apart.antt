@@ -1,4 +1,4 @@
--- A set of which one position stands apart from the tree.
+-- A set of which one position is held apart from the tree.
 use Rattle.std.proofs.Common.{◌≡◌, ℕ, Bool, true, false, List, set, Option, Some, None, refl, sym, ap, ◌∙◌, inl, inr}
 use Rattle.std.proofs.lemmas.Bool.{cases_eq}
 use Rattle.std.proofs.lemmas.List.{set_comm, set-get_or, set-set}
@@ -11,7 +11,7 @@ put_beside flags p n = elim (cases_eq n p) [
   | inr other ↦ set_comm flags n p true true other
 ]
 
--- the position that stands apart is taken out
+-- the position held apart is taken out
 pub taken_apart : (flags : List Bool) (n : ℕ) → IsApart flags (Some n) → flags ≡ set (with_apart flags (Some n)) n false
 taken_apart flags n is =
     sym (set-set flags n true false ∙ ap (set flags n) (sym is.1) ∙ set-get_or flags n false)

@@ -258,7 +258,7 @@ pub flag_found : (flags nodes : List Bool) (from i : ℕ) → IsTree flags nodes
 flag_found flags nodes from i tree le h = at_flag flags nodes from i h.rows (power_some (length nodes) tree.power) le h refl
 
 -- ---- on to the next node
--- the node is the last of its row, or there is another behind it
+-- the node is the last of its row, or there is another after it
 module _ (flags nodes : List Bool) (i width first : ℕ) (tree : IsTree flags nodes) (h : IsInRow nodes i width first) where
   pub next_first : first + width ≡ below (i + 1) h.rows
   next_first = omega (arith, h.at, h.wide, below_add i 1 h.rows)

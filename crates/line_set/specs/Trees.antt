@@ -17,7 +17,7 @@ AllBut flags nodes n = (i : ℕ) → 1 ≤ i → i < length nodes → i ≢ n �
 abbrev pub IsPower : ℕ → Type 0
 IsPower n = (h : ℕ) × (n ≡ 2 ^ h)
 
--- the nodes stand over all flags, and each is what those below it make of it
+-- the nodes cover all flags, and each is what those below it make of it
 pub record IsTree (flags nodes : List Bool) : Type 0 where
   pub power : IsPower (length nodes)
   pub covers : length flags ≤ length nodes

@@ -10,7 +10,7 @@ use std::marker::Model;
 /// The most positions of a set: as many as a journal has lines.
 pub const POSITIONS_MAX: usize = 1_000_000;
 
-/// Some of the positions 0 to so many. Over the flags of the positions stands a tree, each node of which says whether there is
+/// Some of the positions from 0 up to a limit. Over the flags of the positions is a tree, each node of which says whether there is
 /// one below it: node 1 is the root, nodes 2 n and 2 n + 1 are below node n, and the flags are the last row.
 pub(crate) struct FlagTree {
     flags: Vec<bool>,

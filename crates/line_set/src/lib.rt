@@ -1,4 +1,4 @@
-//! The room of a set of lines: some of the positions 0 to so many, of which the least from a position on is found without a walk
+//! A set of lines: some of the positions from 0 up to a limit, of which the least from a position on is found without a walk
 //! over all of them. It is made whole at the start: no change of it takes memory.
 #![tactic(auto)]
 

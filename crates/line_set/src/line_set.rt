@@ -8,7 +8,7 @@ use crate::flag_tree::{FlagTree, POSITIONS_MAX};
 use std::alloc::{AllocError, Global};
 use std::marker::Model;
 
-/// Some of the positions 0 to so many. One of them may stand apart from the tree: most sets of lines have one position at a time, and
+/// Some of the positions from 0 up to a limit. One of them may be held apart from the tree: most sets of lines have one position at a time, and
 /// such a set never goes up and down the tree.
 pub struct LineSet {
     tree: FlagTree,
@@ -88,7 +88,7 @@ impl LineSet {
     }
 }
 
-/// Whether a position is the one that stands apart.
+/// Whether a position is the one held apart.
 fn is_one(apart: Option<usize>, position: usize) -> bool
     ensures { IsTrue result ↔ (apart ≡ Some position) }
 {

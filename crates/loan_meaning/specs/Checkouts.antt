@@ -1,5 +1,5 @@
 -- Checkout as a program that asks record by record: the patron, then the item, then the fees where they matter, then the other
--- patron whose loan ends. What it means stands in read_set.
+-- patron whose loan ends. What it means is in read_set.
 use Rattle.std.specs.Prelude.{ℕ, ◌&&◌, nat_le, List, [], length, Option, Some, None, if◌then◌else◌}
 use Rattle.circ_policy.specs.Terms.{Terms}
 use Rattle.circ_records.specs.declared.record.Loan.{Loan}

@@ -22,7 +22,7 @@ item_at p id = Ask (keys.Item id) (λ r. Give (as_article p r))
 unfoldable pub fee_at : List ℕ → Asks (Option Fee)
 fee_at id = Ask (keys.Fee id) (λ r. Give (as_fee r))
 
--- whoever has a loan
+-- the patron who has a loan
 unfoldable pub borrower_at : Terms → Option Loan → Asks (Option Member)
 borrower_at p None = Give None
 borrower_at p (Some loan) = patron_at p loan.patron

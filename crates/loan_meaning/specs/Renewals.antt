@@ -1,5 +1,5 @@
 -- Renewal as a program that asks record by record: the patron, then the item, then the fees where they matter. What it means
--- stands in read_set.
+-- is in read_set.
 use Rattle.std.specs.Prelude.{ℕ, not, nat_le, List, [], Option, Some, if◌then◌else◌}
 use Rattle.circ_policy.specs.Terms.{Terms}
 use Rattle.circ_records.specs.Records.{Entries}

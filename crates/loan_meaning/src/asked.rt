@@ -17,7 +17,7 @@ pub struct Line<'p> {
 }
 
 /// The same, and the loan or renewal for which the line asks.
-#[derive(Clone, Copy)]
+#[derive(Drop)]
 pub struct Asked<'p> {
     pub alloc: Global,
     pub policy: &'p Policy,

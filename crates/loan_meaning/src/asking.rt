@@ -1,46 +1,46 @@
 //! The loan or the renewal for which a request asks, and what the item says of it.
 
-ghost use Rattle.std.specs.Prelude.{◌≡◌};
+ghost use Rattle.std.specs.Prelude.{◌≡◌, IfOk};
 ghost use Rattle.read_set.specs.Loans.{by_checkout, by_renew, due_for, charge_for, is_lent, lent_to};
 
 use crate::asked::Asked;
 use crate::fees::nothing;
-use crate::lists::is_kept;
 use circ_policy::Media;
-use circ_records::KeptLoan;
+use circ_records::Loan;
 use read_set::{Article, LoanRequest};
 use sip_reader::{Amount, Checkout, Day, Id, Renew};
+use std::alloc::AllocError;
 
 /// The loan or the renewal for which a checkout asks: it is forced by no block Y or by BI Y, and BI Y makes it free.
-pub fn ask_checkout(request: &Checkout) -> LoanRequest
-    ensures { result ≡ by_checkout request.now }
+pub fn ask_checkout(request: &Checkout) -> Result<LoanRequest, AllocError>
+    ensures { IfOk result (λ a. a ≡ by_checkout request.now) }
 {
-    LoanRequest {
-        patron: request.patron.id(),
-        item: request.item.id(),
+    Ok(LoanRequest {
+        patron: request.patron.clone()?,
+        item: request.item.clone()?,
         third_party: false,
         forced: request.no_block || request.cancel,
         given: request.due,
         agreed: request.agreed,
         free: request.cancel,
         checkout: true,
-    }
+    })
 }
 
 /// The renewal for which a renewal asks: it is forced by no block Y alone, and never free.
-pub fn ask_renew(request: &Renew) -> LoanRequest
-    ensures { result ≡ by_renew request.now }
+pub fn ask_renew(request: &Renew) -> Result<LoanRequest, AllocError>
+    ensures { IfOk result (λ a. a ≡ by_renew request.now) }
 {
-    LoanRequest {
-        patron: request.patron.id(),
-        item: request.item.id(),
+    Ok(LoanRequest {
+        patron: request.patron.clone()?,
+        item: request.item.clone()?,
         third_party: request.third_party,
         forced: request.no_block,
         given: request.due,
         agreed: request.agreed,
         free: false,
         checkout: false,
-    }
+    })
 }
 
 /// The due day of the loan or renewal.
@@ -64,24 +64,24 @@ pub fn charge_of(a: &LoanRequest, media: &Media) -> Amount
 }
 
 /// Whether there is a loan.
-pub fn has_loan(loan: &Option<KeptLoan>) -> bool
+pub fn has_loan(loan: &Option<Loan>) -> bool
     ensures { result ≡ is_lent loan.now }
 {
     loan.is_some()
 }
 
 /// Whether there is a loan of this patron.
-pub fn has_lent_to(patron: &Id, loan: &Option<KeptLoan>) -> bool
+pub fn has_lent_to(patron: &Id, loan: &Option<Loan>) -> bool
     ensures { result ≡ lent_to patron.now loan.now }
 {
     match loan {
-        Some(loan) => is_kept(loan.patron(), patron),
+        Some(loan) => loan.patron == *patron,
         None => false,
     }
 }
 
 /// The loan of an item.
-pub fn loan_in(article: &Article) -> &Option<KeptLoan>
+pub fn loan_in(article: &Article) -> &Option<Loan>
     ensures { result.now ≡ article.now.item.loan }
 {
     &article.item.get().loan

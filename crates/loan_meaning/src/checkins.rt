@@ -15,10 +15,10 @@ use crate::fees::{Charge, draft_for, list_fee, make_fee, nothing};
 use crate::lists::{has_queue, without};
 use crate::lookup::{borrower_of, item_of};
 use circ_policy::{Media, Policy, late_fee};
-use circ_records::{FeeType, Item, KeptLoan, Key, Patron, Record};
+use circ_records::{FeeType, Item, Key, Loan, Patron, Record};
 use read_set::{Article, Draft, Effect, Member, Source, Stop};
 use sip_answer::{Answer, CheckinAnswer, ReturnedItem};
-use sip_reader::{Amount, Checkin, Day, Id, KeptId, Stamp};
+use sip_reader::{Amount, Checkin, Day, Id, Stamp};
 use std::alloc::{AllocError, Global};
 
 fn tell_unknown(line: &Line<'_>, request: &Checkin) -> Result<Answer, AllocError>
@@ -26,7 +26,7 @@ fn tell_unknown(line: &Line<'_>, request: &Checkin) -> Result<Answer, AllocError
 {
     Ok(Answer::Checkin(CheckinAnswer {
         date: line.date,
-        institution: line.policy.kept_institution().clone()?,
+        institution: line.policy.institution().clone()?,
         item: request.item.clone()?,
         known: None,
         borrower: None,
@@ -45,19 +45,19 @@ fn show(item: &Item) -> Result<ReturnedItem, AllocError>
     })
 }
 
-/// In line, where an effect is made: so its answer stands there at once, and doesn't move.
+/// In line, where an effect is made: so its answer is made in place, and doesn't move.
 #[inline(always)]
 fn tell(
     line: &Line<'_>,
     request: &Checkin,
     article: &Article,
-    borrower: Option<KeptId>,
+    borrower: Option<Id>,
 ) -> Result<Answer, AllocError>
     ensures { IfOk result (λ a. a ≡ checkin_answer line.now.policy.now request.now line.now.date (Some article.now.item) borrower) }
 {
     Ok(Answer::Checkin(CheckinAnswer {
         date: line.date,
-        institution: line.policy.kept_institution().clone()?,
+        institution: line.policy.institution().clone()?,
         item: request.item.clone()?,
         known: Some(show(article.item.get())?),
         borrower,
@@ -74,13 +74,13 @@ fn back(request: &Checkin, date: Stamp) -> Day
     }
 }
 
-fn lateness_of(request: &Checkin, date: Stamp, loan: &KeptLoan, media: &Media) -> Amount
+fn lateness_of(request: &Checkin, date: Stamp, loan: &Loan, media: &Media) -> Amount
     ensures { result ≡ lateness request.now date loan.now media.now }
 {
     if request.cancel {
         nothing()
     } else {
-        late_fee(loan.due(), back(request, date), media)
+        late_fee(loan.due, back(request, date), media)
     }
 }
 
@@ -99,29 +99,32 @@ fn return_from(
     Ok(patron)
 }
 
-/// The borrower's record without the loan and with its late fee, and that fee. Where memory runs out between the two, the
-/// record stands alone: no clause says so, since the caller then drops all that is written.
+/// The borrower's record without the loan and with its late fee, and that fee. Where memory runs out between the two, only the
+/// record is written: no clause says so, since the caller then drops all that is written.
 fn return_by(
     line: &Line<'_>,
     item: &Id,
-    borrower: Id,
+    borrower: &Id,
     fee: Amount,
     member: Option<Member>,
     writes: &mut Draft,
 ) -> Result<(), AllocError>
-    ensures { OnOk result (writes.new ≡ written writes.old (returned_by line.now.number item.now borrower fee member)) }
+    ensures { OnOk result (writes.new ≡ written writes.old (returned_by line.now.number item.now borrower.now fee member)) }
 {
     let Some(member) = member else {
         return Ok(());
     };
     let patron = return_from(line.alloc, line.number, item, fee, member)?;
-    writes.put(&Key::Patron(borrower), Record::patron(line.alloc, patron)?)?;
+    writes.put(
+        Key::Patron(borrower.clone()?),
+        Record::patron(line.alloc, patron)?,
+    )?;
     let charge = Charge {
         patron: borrower,
         kind: FeeType::Overdue,
         amount: fee,
     };
-    make_fee(line.alloc, line.number, 0, charge, writes)
+    make_fee(line.alloc, line.number, 0, &charge, writes)
 }
 
 fn unlent(alloc: Global, article: &Article) -> Result<Item, AllocError>
@@ -137,14 +140,14 @@ fn write_return(
     fee: Amount,
     article: &Article,
     member: Option<Member>,
-    loan: &KeptLoan,
+    loan: &Loan,
 ) -> Result<Draft, AllocError>
     ensures { IfOk result (λ w. w ≡ returned_writes line.now.number item.now fee article.now member loan.now) }
 {
     let mut writes = draft_for(line.alloc, fee)?;
-    return_by(line, item, loan.patron().id(), fee, member, &mut writes)?;
+    return_by(line, item, &loan.patron, fee, member, &mut writes)?;
     let back = unlent(line.alloc, article)?;
-    writes.put(&Key::Item(*item), Record::item(line.alloc, back)?)?;
+    writes.put(Key::Item(item.clone()?), Record::item(line.alloc, back)?)?;
     Ok(writes)
 }
 
@@ -152,15 +155,15 @@ fn end_loan(
     line: &Line<'_>,
     request: &Checkin,
     article: &Article,
-    loan: &KeptLoan,
+    loan: &Loan,
     member: Option<Member>,
 ) -> Result<Effect, Stop>
     ensures { Follows result (Done (returned line.now.policy.now line.now.number request.now line.now.date article.now member (Some loan.now))) }
 {
     let fee = lateness_of(request, line.date, loan, &article.media);
-    let writes = write_return(line, &request.item.id(), fee, article, member, loan)?;
+    let writes = write_return(line, &request.item, fee, article, member, loan)?;
     let writes = writes.finish(line.alloc)?;
-    let borrower = loan.patron().clone()?;
+    let borrower = loan.patron.clone()?;
     let answer = tell(line, request, article, Some(borrower))?;
     Ok(Effect {
         writes,
@@ -168,7 +171,8 @@ fn end_loan(
     })
 }
 
-/// An item that isn't on loan stays as it is. By itself: what an answer is made in is filled with zeros before it is known whether there is one.
+/// An item that isn't on loan stays as it is. It is a function of its own: the memory of an answer is filled with zeros before it is known
+/// whether there is one.
 #[inline(never)]
 fn end_unlent(line: &Line<'_>, request: &Checkin, article: &Article) -> Result<Effect, Stop>
     ensures { Follows result (Done (unwritten (Some (checkin_answer line.now.policy.now request.now line.now.date (Some article.now.item) None)))) }
@@ -177,7 +181,7 @@ fn end_unlent(line: &Line<'_>, request: &Checkin, article: &Article) -> Result<E
     Ok(Effect::unwritten(line.alloc, Some(answer)))
 }
 
-/// An unknown item is refused. By itself, for the same reason.
+/// An unknown item is refused. It is a function of its own for the same reason.
 #[inline(never)]
 fn end_unknown(line: &Line<'_>, request: &Checkin) -> Result<Effect, Stop>
     ensures { Follows result (Done (unwritten (Some (checkin_answer line.now.policy.now request.now line.now.date None None)))) }
@@ -215,7 +219,7 @@ fn end(
     end_any(line, request, &article, member)
 }
 
-/// Whoever has the item, where both are known.
+/// The patron who has the item, where both are known.
 #[tactic(auto, unfolding(crate::specs::Lookups::borrower_at), using(read_set::proofs::Gaining::gains_none))]
 fn any_borrower_of<S: Source>(
     alloc: Global,

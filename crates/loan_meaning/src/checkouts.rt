@@ -17,14 +17,14 @@ ghost use Rattle.read_set.specs.Stops.{Follows};
 use crate::asked::{Asked, Line};
 use crate::asking::{ask_checkout, charge_of, due_of, has_lent_to, has_loan, loan_in, rental_in};
 use crate::fees::{Charge, draft_for, list_fee, make_fee, test_owing};
-use crate::lists::{is_first_another, is_kept, without, without_hold};
+use crate::lists::{is_first_another, without, without_hold};
 use crate::lookup::{item_of, patron_of};
 use crate::renewals::renew_one;
 use crate::telling::{refuse, refuse_for, tell_made};
 use circ_policy::Policy;
-use circ_records::{FeeType, Ids, Item, KeptLoan, Key, Loan, Patron, Record};
+use circ_records::{FeeType, Ids, Item, Key, Loan, Patron, Record};
 use read_set::{Article, Draft, Effect, LoanRequest, Member, Source, Stop, Verdict};
-use sip_reader::{Amount, Checkout, Day, Id, KeptId, Stamp};
+use sip_reader::{Amount, Checkout, Day, Id, Stamp};
 use std::alloc::{AllocError, Global};
 
 #[tactic(auto, unfolding(crate::specs::Checkouts::lending_tests), using(read_set::proofs::Gaining::gains_none, read_set::proofs::Gaining::gains_first))]
@@ -63,7 +63,7 @@ fn test_lending<S: Source>(
 #[tactic(auto, using(read_set::proofs::Gaining::gains_none, read_set::proofs::Gaining::gains_first))]
 fn other_of<S: Source>(
     asked: &Asked<'_>,
-    loan: &Option<KeptLoan>,
+    loan: &Option<Loan>,
     source: &mut S,
 ) -> Result<Option<Member>, Stop>
     ensures gives { Follows result (follow (S.has source.new) (other_at asked.now.policy.now asked.now.request.patron loan.now)) }
@@ -72,18 +72,19 @@ fn other_of<S: Source>(
     let Some(loan) = loan else {
         return Ok(None);
     };
-    if is_kept(loan.patron(), &asked.request.patron) {
+    if loan.patron == asked.request.patron {
         return Ok(None);
     }
-    patron_of(asked.alloc, asked.policy, source, loan.patron())
+    patron_of(asked.alloc, asked.policy, source, &loan.patron)
 }
 
-/// The other borrower's record, without the item among the loans. Without memory nothing is written. By itself, since few loans end another.
+/// The other borrower's record, without the item among the loans. Out of memory, nothing is written. It is a function of its own, since
+/// few loans end another.
 #[inline(never)]
 fn end_other_loan(
     alloc: Global,
     item: &Id,
-    borrower: &KeptId,
+    borrower: &Id,
     other: Option<Member>,
     writes: &mut Draft,
 ) -> Result<(), AllocError>
@@ -94,8 +95,10 @@ fn end_other_loan(
         return Ok(());
     };
     let patron = without_loan(alloc, item, other)?;
-    writes.put(&Key::Patron(borrower.id()), Record::patron(alloc, patron)?)?;
-    Ok(())
+    writes.put(
+        Key::Patron(borrower.clone()?),
+        Record::patron(alloc, patron)?,
+    )
 }
 
 fn without_loan(alloc: Global, item: &Id, other: Member) -> Result<Patron, AllocError>
@@ -109,7 +112,7 @@ fn without_loan(alloc: Global, item: &Id, other: Member) -> Result<Patron, Alloc
 fn end_other_loan_by(
     alloc: Global,
     item: &Id,
-    loan: &Option<KeptLoan>,
+    loan: &Option<Loan>,
     other: Option<Member>,
     writes: &mut Draft,
 ) -> Result<(), AllocError>
@@ -117,7 +120,7 @@ fn end_other_loan_by(
     ensures err { OnErr result (writes.new ≡ writes.old) }
 {
     match loan {
-        Some(loan) => end_other_loan(alloc, item, loan.patron(), other, writes),
+        Some(loan) => end_other_loan(alloc, item, &loan.patron, other, writes),
         None => Ok(()),
     }
 }
@@ -133,28 +136,29 @@ fn lent_item(
     let item = article.item.get();
     let holds = without_hold(alloc, &item.holds, &a.patron)?;
     let loan = Loan {
-        patron: a.patron,
+        patron: a.patron.clone()?,
         due,
         renewals: 0,
     };
-    item.with(Some(KeptLoan::new(alloc, &loan)?), holds)
+    item.with(Some(loan), holds)
 }
 
-/// The item goes last in the patron's list, once. Without memory the list stays.
+/// The item goes last in the patron's list, once. Out of memory, the list stays as it was.
 fn list_loan(
     alloc: Global,
     a: &LoanRequest,
-    loan: &Option<KeptLoan>,
+    loan: &Option<Loan>,
     loans: &mut Ids,
 ) -> Result<(), AllocError>
     ensures ok { OnOk result (loans.new ≡ lent_list a.now loan.now loans.old) }
     ensures err { OnErr result (loans.new ≡ loans.old) }
 {
+    let item = a.item.clone()?;
     if !has_lent_to(&a.patron, loan) {
-        return loans.push(alloc, a.item);
+        return loans.push(alloc, item);
     }
     let mut others = without(alloc, loans, &a.item)?;
-    others.push(alloc, a.item)?;
+    others.push(alloc, item)?;
     *loans = others;
     Ok(())
 }
@@ -176,14 +180,17 @@ fn write_lending(
     let mut writes = draft_for(alloc, charge)?;
     end_other_loan_by(alloc, &a.item, loan_in(article), other, &mut writes)?;
     let item = lent_item(alloc, a, due, article)?;
-    writes.put(&Key::Patron(a.patron), Record::patron(alloc, patron)?)?;
-    writes.put(&Key::Item(a.item), Record::item(alloc, item)?)?;
+    writes.put(
+        Key::Patron(a.patron.clone()?),
+        Record::patron(alloc, patron)?,
+    )?;
+    writes.put(Key::Item(a.item.clone()?), Record::item(alloc, item)?)?;
     let rental = Charge {
-        patron: a.patron,
+        patron: &a.patron,
         kind: FeeType::Rental,
         amount: charge,
     };
-    make_fee(alloc, n, 0, rental, &mut writes)?;
+    make_fee(alloc, n, 0, &rental, &mut writes)?;
     Ok(writes)
 }
 
@@ -227,7 +234,7 @@ fn lend_by<S: Source>(
     ensures keeps { Gains S.one_by_one (S.has source.old) (S.has source.new) (lending_rule_by asked.now.policy.now asked.now.number asked.now.request asked.now.date member article verdict) }
 {
     let rental = rental_in(&article);
-    // each is returned at once: what is done by one of several branches would move once more behind them, and is large
+    // each is returned at once: what is done by one of several branches would move once more after them, and is large
     match verdict {
         Verdict::Refused => return refuse(asked, Some(article)),
         Verdict::Unpaid => return refuse_for(asked, Some(article), rental),
@@ -256,7 +263,7 @@ fn lend<S: Source>(
 fn is_renewal(request: &Checkout, article: &Article) -> bool
     ensures { result ≡ (request.now.renewal && lent_to request.now.patron article.now.item.loan) }
 {
-    request.renewal && has_lent_to(&request.patron.id(), loan_in(article))
+    request.renewal && has_lent_to(&request.patron, loan_in(article))
 }
 
 #[tactic(auto, using(read_set::proofs::Gaining::gains_none, read_set::proofs::Gaining::gains_first))]
@@ -270,13 +277,12 @@ fn lend_both<S: Source>(
     ensures gives { Follows result (follow (S.has source.new) (checkout_rule_known line.now.policy.now line.now.number request.now line.now.date member article)) }
     ensures keeps { Gains S.one_by_one (S.has source.old) (S.has source.new) (checkout_rule_known line.now.policy.now line.now.number request.now line.now.date member article) }
 {
-    let a = ask_checkout(request);
     let asked = Asked {
         alloc: line.alloc,
         policy: line.policy,
         number: line.number,
         date: line.date,
-        request: a,
+        request: ask_checkout(request)?,
     };
     let Some(member) = member else {
         return refuse(&asked, article);

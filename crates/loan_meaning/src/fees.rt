@@ -12,18 +12,21 @@ use crate::asked::Asked;
 use crate::lookup::read_after;
 use circ_records::{Fee, FeeType, Ids, Key, Patron, Record, Shared, put_fee};
 use read_set::{Article, Draft, Member, Source, Stop, Verdict, known_fee};
-use sip_reader::{Amount, Id, KeptId};
+use sip_reader::{Amount, Id};
 use std::alloc::{AllocError, Global};
 
+/// What is left to be paid of a fee, in hundredths; nothing where there is none.
 #[tactic(auto, unfolding(read_set::specs::Fees::rest_of))]
-fn rest(fee: Option<Fee>) -> u64
+pub fn rest_of(fee: Option<Shared<Fee>>) -> u64
     ensures { result ≡ rest_of fee }
 {
     match fee {
-        Some(fee) => fee
-            .amount
-            .hundredths()
-            .saturating_sub(fee.paid.hundredths()),
+        Some(fee) => {
+            let fee = fee.get();
+            fee.amount
+                .hundredths()
+                .saturating_sub(fee.paid.hundredths())
+        }
         None => 0,
     }
 }
@@ -34,27 +37,27 @@ pub fn owed_of<S: Source>(
     alloc: Global,
     source: &mut S,
     writes: &Draft,
-    fees: &[KeptId],
+    fees: &[Id],
 ) -> Result<u128, Stop>
     ensures gives { Follows result (follow (S.has source.new) (owed_at writes.now fees.now)) }
     ensures keeps { Gains S.one_by_one (S.has source.old) (S.has source.new) (owed_at writes.now fees.now) }
 {
     let mut sum: u128 = 0;
     for id in fees {
-        let found = read_after(alloc, source, writes, &Key::Fee(id.id()))?;
-        sum += u128::from(rest(known_fee(&found)));
+        let found = read_after(alloc, source, writes, &Key::Fee(id.clone()?))?;
+        sum += u128::from(rest_of(known_fee(found)));
     }
     Ok(sum)
 }
 
 /// What is owed over a list of fees after the writes so far, where it is known already; else it is summed, and known.
-/// Behind an error nobody asks for the sum again: the rule's run is at its end.
+/// After an error nobody asks for the sum again: the rule's run is at its end.
 #[tactic(auto, using(read_set::proofs::Gaining::gains_none, read_set::proofs::Gaining::gains_first))]
 pub fn owed_once<S: Source>(
     alloc: Global,
     source: &mut S,
     writes: &Draft,
-    fees: &[KeptId],
+    fees: &[Id],
     sum: &mut Option<u128>,
 ) -> Result<u128, Stop>
     requires { IsKnown (S.has source.old) writes.now fees.now sum.old }
@@ -79,21 +82,21 @@ pub fn has_amount(amount: Amount) -> bool
 
 /// What a patron is charged, in hundredths, and for what.
 #[derive(Clone, Copy)]
-pub struct Charge {
-    pub patron: Id,
+pub struct Charge<'c> {
+    pub patron: &'c Id,
     pub kind: FeeType,
     pub amount: Amount,
 }
 
-/// A fee above 0 is written: the k-th of its line, counted from 0. Without memory nothing is.
+/// A fee above 0 is written: the k-th of its line, counted from 0. Out of memory, nothing is written.
 pub fn make_fee(
     alloc: Global,
     line: u64,
     k: u64,
-    charge: Charge,
+    charge: &Charge<'_>,
     writes: &mut Draft,
 ) -> Result<(), AllocError>
-    ensures ok { OnOk result (writes.new ≡ written writes.old (fee_made line k charge.patron charge.kind charge.amount)) }
+    ensures ok { OnOk result (writes.new ≡ written writes.old (fee_made line k charge.now.patron.now charge.now.kind charge.now.amount)) }
     ensures err { OnErr result (writes.new ≡ writes.old) }
 {
     if has_amount(charge.amount) {
@@ -103,26 +106,28 @@ pub fn make_fee(
     }
 }
 
-/// The same of an amount above 0. Most loans and returns cost nothing, and then nothing is made ready for a fee.
+/// The same of an amount above 0. Most loans and returns cost nothing, and then nothing is prepared for a fee.
 fn write_fee(
     alloc: Global,
     line: u64,
     k: u64,
-    charge: Charge,
+    charge: &Charge<'_>,
     writes: &mut Draft,
 ) -> Result<(), AllocError>
-    requires { nat_lt 0 charge.amount ≡ true }
-    ensures ok { OnOk result (writes.new ≡ written writes.old (fee_made line k charge.patron charge.kind charge.amount)) }
+    requires { nat_lt 0 charge.now.amount ≡ true }
+    ensures ok { OnOk result (writes.new ≡ written writes.old (fee_made line k charge.now.patron.now charge.now.kind charge.now.amount)) }
     ensures err { OnErr result (writes.new ≡ writes.old) }
 {
     let fee = Fee {
-        patron: charge.patron,
+        patron: charge.patron.clone()?,
         kind: charge.kind,
         amount: charge.amount,
         paid: nothing(),
     };
-    writes.put(&Key::Fee(Id::of_fee(line, k)), Record::fee(alloc, fee)?)?;
-    Ok(())
+    writes.put(
+        Key::Fee(Id::of_fee(alloc, line, k)?),
+        Record::fee(alloc, fee)?,
+    )
 }
 
 /// No records yet, with room for a patron, an item and the fee of what is charged, where anything is.
@@ -139,7 +144,7 @@ pub fn nothing() -> Amount
     Amount::new(0).unwrap()
 }
 
-/// It goes last in the patron's list. Without memory the list stays.
+/// It goes last in the patron's list. Out of memory, the list stays as it was.
 pub fn list_fee(
     alloc: Global,
     line: u64,
@@ -151,12 +156,12 @@ pub fn list_fee(
     ensures err { OnErr result (fees.new ≡ fees.old) }
 {
     if has_amount(amount) {
-        fees.push(alloc, Id::of_fee(line, k))?;
+        fees.push(alloc, Id::of_fee(alloc, line, k)?)?;
     }
     Ok(())
 }
 
-/// It goes last in the list of a patron's record. Without memory the record stays.
+/// It goes last in the list of a patron's record. Out of memory, the record stays as it was.
 pub fn list_fee_of(
     alloc: Global,
     line: u64,
@@ -168,7 +173,7 @@ pub fn list_fee_of(
     ensures err { OnErr result (patron.new ≡ patron.old) }
 {
     if has_amount(amount) {
-        put_fee(alloc, patron, Id::of_fee(line, k))?;
+        put_fee(alloc, patron, Id::of_fee(alloc, line, k)?)?;
     }
     Ok(())
 }

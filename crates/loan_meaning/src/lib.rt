@@ -1,6 +1,5 @@
 //! What checkin, checkout, renewal and renewal of all items do, worked out over any source of records.
-//! It stands on `read_set`, which says what these messages mean over the whole map of records; `message_meaning`, which
-//! stands on it, puts all kinds together.
+//! `read_set` says what they mean over the whole map of records; `message_meaning` adds the other kinds of messages.
 #![tactic(auto)]
 
 mod asked;
@@ -15,14 +14,14 @@ mod renewals;
 mod running;
 mod telling;
 
-pub use asking::{has_lent_to, has_loan};
+pub use asking::{ask_checkout, ask_renew, has_lent_to, has_loan, loan_in};
 pub use checkins::check_in;
 pub use checkouts::check_out;
-pub use fees::owed_of;
+pub use fees::{has_amount, owed_of, rest_of};
 pub use lists::{
-    has_id, has_queue, is_first_another, is_same, position, waits, with_pickup, without,
-    without_all, without_hold,
+    has_id, has_queue, is_first_another, position, waits, with_pickup, without, without_all,
+    without_hold,
 };
 pub use lookup::{borrower_of, fee_of, item_of, patron_of, read_after};
-pub use renew_alls::renew_all;
-pub use renewals::renew_item;
+pub use renew_alls::{ask_for, renew_all};
+pub use renewals::{renew_item, renewals_of};

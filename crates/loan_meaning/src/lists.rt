@@ -8,23 +8,9 @@ ghost use Rattle.read_set.specs.Ids.{same, has_id, without, without_all};
 ghost use Rattle.read_set.specs.Queues.{position_from, waits, has_queue, first_is_another, without_hold, with_pickup};
 
 use circ_records::{Hold, Holds, Ids};
-use sip_reader::{Id, KeptId, Text};
+use sip_reader::{Id, Text};
 use std::alloc::{AllocError, Global};
 use std::collections::BTreeSet;
-
-/// Whether two ids are one.
-pub fn is_same(a: &Id, b: &Id) -> bool
-    ensures { result ≡ same a.now b.now }
-{
-    a == b
-}
-
-/// Whether a kept id is this id.
-pub fn is_kept(kept: &KeptId, id: &Id) -> bool
-    ensures { result ≡ same kept.now id.now }
-{
-    kept.order(id).is_eq()
-}
 
 /// The list without an id, at each of its positions.
 pub fn without(alloc: Global, ids: &Ids, id: &Id) -> Result<Ids, AllocError>
@@ -41,11 +27,11 @@ pub fn without(alloc: Global, ids: &Ids, id: &Id) -> Result<Ids, AllocError>
 }
 
 /// What is left of a list of one id. Most lists have no more than one or two, so they are made without a vector.
-fn without_of_one(ids: &Ids, only: &KeptId, id: &Id) -> Result<Ids, AllocError>
+fn without_of_one(ids: &Ids, only: &Id, id: &Id) -> Result<Ids, AllocError>
     requires { ids.now ≡ only.now ∷ [] }
     ensures { IfOk result (λ left. left ≡ without id.now ids.now) }
 {
-    if is_kept(only, id) {
+    if only == id {
         Ok(Ids::new())
     } else {
         ids.copy()
@@ -56,62 +42,42 @@ fn without_of_one(ids: &Ids, only: &KeptId, id: &Id) -> Result<Ids, AllocError>
 fn without_of_two(
     alloc: Global,
     ids: &Ids,
-    first: &KeptId,
-    second: &KeptId,
+    first: &Id,
+    second: &Id,
     id: &Id,
 ) -> Result<Ids, AllocError>
     requires { ids.now ≡ first.now ∷ second.now ∷ [] }
     ensures { IfOk result (λ left. left ≡ without id.now ids.now) }
 {
-    if !is_kept(first, id) {
-        without_second(alloc, ids, first, second, id)
-    } else if is_kept(second, id) {
-        Ok(Ids::new())
-    } else {
-        Ids::one(alloc, second.clone()?)
+    match (first == id, second == id) {
+        (true, true) => Ok(Ids::new()),
+        (true, false) => Ids::one(alloc, second.clone()?),
+        (false, true) => Ids::one(alloc, first.clone()?),
+        (false, false) => ids.copy(),
     }
 }
 
-/// The same, where the first is another.
-fn without_second(
-    alloc: Global,
-    ids: &Ids,
-    first: &KeptId,
-    second: &KeptId,
-    id: &Id,
-) -> Result<Ids, AllocError>
-    requires these { ids.now ≡ first.now ∷ second.now ∷ [] }
-    requires stays { same first.now id.now ≡ false }
-    ensures { IfOk result (λ left. left ≡ without id.now ids.now) }
-{
-    if is_kept(second, id) {
-        Ids::one(alloc, first.clone()?)
-    } else {
-        ids.copy()
-    }
-}
-
-fn kept(alloc: Global, ids: &[KeptId], id: &Id) -> Result<Vec<KeptId>, AllocError>
+fn kept(alloc: Global, ids: &[Id], id: &Id) -> Result<Vec<Id>, AllocError>
     ensures { IfOk result (λ v. v.items ≡ without id.now ids.now) }
 {
     let mut kept = Vec::new(alloc);
     for other in ids {
-        if !is_kept(other, id) {
+        if other != id {
             kept.push(other.clone()?)?;
         }
     }
     Ok(kept)
 }
 
-/// Whether an id stands in a list.
-pub fn has_id(ids: &[KeptId], id: &Id) -> bool
+/// Whether an id is in a list.
+pub fn has_id(ids: &[Id], id: &Id) -> bool
     ensures { result ≡ has_id id.now ids.now }
 {
-    ids.iter().any(|other| is_kept(other, id))
+    ids.iter().any(|other| other == id)
 }
 
 /// The list without each id of another.
-pub fn without_all(alloc: Global, ids: &Ids, gone: &[KeptId]) -> Result<Ids, AllocError>
+pub fn without_all(alloc: Global, ids: &Ids, gone: &[Id]) -> Result<Ids, AllocError>
     ensures { IfOk result (λ left. left ≡ without_all gone.now ids.now) }
 {
     let all = set_of(alloc, gone)?;
@@ -119,12 +85,12 @@ pub fn without_all(alloc: Global, ids: &Ids, gone: &[KeptId]) -> Result<Ids, All
     Ids::from_vec(alloc, kept)
 }
 
-fn set_of(alloc: Global, ids: &[KeptId]) -> Result<BTreeSet<Id>, AllocError>
+fn set_of(alloc: Global, ids: &[Id]) -> Result<BTreeSet<Id>, AllocError>
     ensures { IfOk result (λ s. (q : List ℕ) → contains (slice_cmp nat_cmp) s q ≡ has_id q ids.now) }
 {
     let mut set = BTreeSet::new(alloc);
     for id in ids {
-        set.insert(id.id())?;
+        set.insert(id.clone()?)?;
     }
     Ok(set)
 }
@@ -132,16 +98,16 @@ fn set_of(alloc: Global, ids: &[KeptId]) -> Result<BTreeSet<Id>, AllocError>
 /// The ids that aren't gone; the gone ones are as a list and as a set.
 fn kept_all(
     alloc: Global,
-    ids: &[KeptId],
-    _gone: &[KeptId],
+    ids: &[Id],
+    _gone: &[Id],
     all: &BTreeSet<Id>,
-) -> Result<Vec<KeptId>, AllocError>
+) -> Result<Vec<Id>, AllocError>
     requires { (q : List ℕ) → contains (slice_cmp nat_cmp) all.now q ≡ has_id q _gone.now }
     ensures { IfOk result (λ v. v.items ≡ without_all _gone.now ids.now) }
 {
     let mut kept = Vec::new(alloc);
     for other in ids {
-        if !all.contains(&other.id()) {
+        if !all.contains(other) {
             kept.push(other.clone()?)?;
         }
     }
@@ -162,7 +128,7 @@ pub fn is_first_another(holds: &[Hold], patron: &Id) -> bool
     if holds.is_empty() {
         false
     } else {
-        !is_same(&holds[0].patron, patron)
+        holds[0].patron != *patron
     }
 }
 
@@ -170,7 +136,7 @@ pub fn is_first_another(holds: &[Hold], patron: &Id) -> bool
 pub fn waits(holds: &[Hold], patron: &Id) -> bool
     ensures { result ≡ waits patron.now holds.now }
 {
-    holds.iter().any(|hold| is_same(&hold.patron, patron))
+    holds.iter().any(|hold| hold.patron == *patron)
 }
 
 /// A patron's position in the queue, counted from 1.
@@ -178,7 +144,7 @@ pub fn position(holds: &[Hold], patron: &Id) -> Option<usize>
     ensures { result ≡ position_from 1 patron.now holds.now }
 {
     for (i, hold) in holds.iter().enumerate() {
-        if is_same(&hold.patron, patron) {
+        if hold.patron == *patron {
             return Some(i + 1);
         }
     }
@@ -199,7 +165,7 @@ fn holds_without(alloc: Global, holds: &[Hold], patron: &Id) -> Result<Vec<Hold>
     let mut kept = Vec::new(alloc);
     let mut found = false;
     for hold in holds {
-        if !found && is_same(&hold.patron, patron) {
+        if !found && hold.patron == *patron {
             found = true;
         } else {
             kept.push(hold.clone()?)?;
@@ -233,7 +199,7 @@ fn holds_with(
     let mut found = false;
     for hold in holds {
         let mut hold = hold.clone()?;
-        if !found && is_same(&hold.patron, patron) {
+        if !found && hold.patron == *patron {
             found = true;
             hold.pickup = pickup.clone()?;
         }

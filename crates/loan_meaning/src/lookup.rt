@@ -6,9 +6,9 @@ ghost use Rattle.read_set.specs.Asks.{follow, Gains};
 ghost use Rattle.read_set.specs.Stops.{Follows};
 
 use circ_policy::Policy;
-use circ_records::{Fee, KeptLoan, Key, Record};
+use circ_records::{Fee, Key, Loan, Record, Shared};
 use read_set::{Article, Draft, Member, Source, Stop, known_fee, known_item, known_patron};
-use sip_reader::{Id, KeptId};
+use sip_reader::Id;
 use std::alloc::Global;
 
 /// The patron of an id, where it is known.
@@ -18,7 +18,7 @@ pub fn patron_of<S: Source>(
     alloc: Global,
     policy: &Policy,
     source: &mut S,
-    id: &KeptId,
+    id: &Id,
 ) -> Result<Option<Member>, Stop>
     ensures gives { Follows result (follow (S.has source.new) (patron_at policy.now id.now)) }
     ensures keeps { Gains S.one_by_one (S.has source.old) (S.has source.new) (patron_at policy.now id.now) }
@@ -34,7 +34,7 @@ pub fn item_of<S: Source>(
     alloc: Global,
     policy: &Policy,
     source: &mut S,
-    id: &KeptId,
+    id: &Id,
 ) -> Result<Option<Article>, Stop>
     ensures gives { Follows result (follow (S.has source.new) (item_at policy.now id.now)) }
     ensures keeps { Gains S.one_by_one (S.has source.old) (S.has source.new) (item_at policy.now id.now) }
@@ -45,27 +45,31 @@ pub fn item_of<S: Source>(
 
 /// The fee of an id, where it has a record.
 #[tactic(auto, unfolding(crate::specs::Lookups::fee_at), using(read_set::proofs::Gaining::gains_ask))]
-pub fn fee_of<S: Source>(alloc: Global, source: &mut S, id: &Id) -> Result<Option<Fee>, Stop>
+pub fn fee_of<S: Source>(
+    alloc: Global,
+    source: &mut S,
+    id: &Id,
+) -> Result<Option<Shared<Fee>>, Stop>
     ensures gives { Follows result (follow (S.has source.new) (fee_at id.now)) }
     ensures keeps { Gains S.one_by_one (S.has source.old) (S.has source.new) (fee_at id.now) }
 {
-    let found = source.read(alloc, &Key::Fee(*id))?;
-    Ok(known_fee(&found))
+    let found = source.read(alloc, &Key::Fee(id.clone()?))?;
+    Ok(known_fee(found))
 }
 
-/// Whoever has a loan, where the patron is known.
+/// The patron who has a loan, where it is known.
 #[tactic(auto, unfolding(crate::specs::Lookups::borrower_at), using(read_set::proofs::Gaining::gains_none, read_set::proofs::Gaining::gains_first))]
 pub fn borrower_of<S: Source>(
     alloc: Global,
     policy: &Policy,
     source: &mut S,
-    loan: &Option<KeptLoan>,
+    loan: &Option<Loan>,
 ) -> Result<Option<Member>, Stop>
     ensures gives { Follows result (follow (S.has source.new) (borrower_at policy.now loan.now)) }
     ensures keeps { Gains S.one_by_one (S.has source.old) (S.has source.new) (borrower_at policy.now loan.now) }
 {
     match loan {
-        Some(loan) => patron_of(alloc, policy, source, loan.patron()),
+        Some(loan) => patron_of(alloc, policy, source, &loan.patron),
         None => Ok(None),
     }
 }

@@ -26,25 +26,26 @@ use read_set::{
     Article, Draft, Effect, LoanRequest, Member, Renewals, Source, Stop, Verdict, known_item,
 };
 use sip_answer::{Answer, ItemIds, RenewAllAnswer};
-use sip_reader::{Amount, Day, Id, KeptId, RenewAll, Stamp};
+use sip_reader::{Amount, Day, Id, RenewAll, Stamp};
 use std::alloc::{AllocError, Global};
 
-fn ask_for(request: &RenewAll, item: Id) -> LoanRequest
-    ensures { result ≡ by_renew_all request.now item }
+/// The renewal of an item for which a renewal of all items asks: it isn't forced, and asked for by the borrower.
+pub fn ask_for(request: &RenewAll, item: &Id) -> Result<LoanRequest, AllocError>
+    ensures { IfOk result (λ a. a ≡ by_renew_all request.now item.now) }
 {
-    LoanRequest {
-        patron: request.patron.id(),
-        item,
+    Ok(LoanRequest {
+        patron: request.patron.clone()?,
+        item: item.clone()?,
         third_party: false,
         forced: false,
         given: None,
         agreed: request.agreed,
         free: false,
         checkout: false,
-    }
+    })
 }
 
-/// The renewed item and its fee. Where memory runs out between the two, the item stands alone: no clause says so, since the
+/// The renewed item and its fee. Where memory runs out between the two, only the item is written: no clause says so, since the
 /// caller then drops all that is written.
 fn write_turn(
     asked: &Asked<'_>,
@@ -58,13 +59,14 @@ fn write_turn(
 {
     let alloc = asked.alloc;
     let item = renew_loan_of(alloc, due, article)?;
-    writes.put(&Key::Item(asked.request.item), Record::item(alloc, item)?)?;
+    let a = &asked.request;
+    writes.put(Key::Item(a.item.clone()?), Record::item(alloc, item)?)?;
     let charge = Charge {
-        patron: asked.request.patron,
+        patron: &a.patron,
         kind: FeeType::Rental,
         amount: rental,
     };
-    make_fee(alloc, asked.number, k, charge, writes)
+    make_fee(alloc, asked.number, k, &charge, writes)
 }
 
 fn count(made: u64, rental: Amount) -> u64
@@ -87,17 +89,17 @@ fn renew_next(asked: &Asked<'_>, article: Article, done: Renewals) -> Result<Ren
     let mut done = done;
     write_turn(asked, made, due, rental, article, &mut done.writes)?;
     list_fee_of(asked.alloc, n, made, rental, &mut done.member.patron)?;
-    done.renewed.push(asked.request.item)?;
+    done.renewed.push(asked.request.item.clone()?)?;
     done.made = count(made, rental);
     Ok(done)
 }
 
-fn leave(item: Id, done: Renewals) -> Result<Renewals, AllocError>
-    ensures value { IfOk result (λ next. next ≡ one_left item done) }
+fn leave(item: &Id, done: Renewals) -> Result<Renewals, AllocError>
+    ensures value { IfOk result (λ next. next ≡ one_left item.now done) }
     ensures few { IfOk result (λ next. next.made ≤ done.made + 1) }
 {
     let mut done = done;
-    done.others.push(item)?;
+    done.others.push(item.clone()?)?;
     Ok(done)
 }
 
@@ -114,7 +116,7 @@ fn end_turn(
 {
     match verdict {
         Verdict::Made => renew_next(asked, article, done),
-        Verdict::Refused | Verdict::Unpaid => leave(asked.request.item, done),
+        Verdict::Refused | Verdict::Unpaid => leave(&asked.request.item, done),
     }
 }
 
@@ -158,7 +160,7 @@ fn turn_any<S: Source>(
 {
     match article {
         Some(article) => turn_known(asked, done, article, fresh, sum, source),
-        None => Ok(leave(asked.request.item, done)?),
+        None => Ok(leave(&asked.request.item, done)?),
     }
 }
 
@@ -178,7 +180,7 @@ fn take_turn<S: Source>(
     ensures few { IfOk result (λ next. next.made ≤ done.made + 1) }
     ensures runs { IfOk result (λ next. Runs (S.has source.new) asked.now.number fresh next sum.new) }
 {
-    let key = Key::Item(asked.request.item);
+    let key = Key::Item(asked.request.item.clone()?);
     let found = read_after(asked.alloc, source, &done.writes, &key)?;
     let article = known_item(asked.policy, found);
     turn_any(asked, done, article, fresh, sum, source)
@@ -201,24 +203,23 @@ fn begin(alloc: Global, member: Member) -> Renewals
 fn take_turns<S: Source>(
     line: &Line<'_>,
     request: &RenewAll,
-    items: &[KeptId],
+    items: &[Id],
     member: Member,
     source: &mut S,
 ) -> Result<Renewals, Stop>
     ensures gives { Follows result (follow (S.has source.new) (turns_rule line.now.policy.now line.now.number request.now line.now.date items.now (none_renewed member))) }
     ensures keeps { Gains S.one_by_one (S.has source.old) (S.has source.new) (turns_rule line.now.policy.now line.now.number request.now line.now.date items.now (none_renewed member)) }
 {
-    let fresh = are_new(line.number, member.patron.get().fees.as_slice());
+    let fresh = are_new(line.alloc, line.number, member.patron.get().fees.as_slice())?;
     let mut sum = None;
     let mut done = begin(line.alloc, member);
     for item in items {
-        let a = ask_for(request, item.id());
         let asked = Asked {
             alloc: line.alloc,
             policy: line.policy,
             number: line.number,
             date: line.date,
-            request: a,
+            request: ask_for(request, item)?,
         };
         done = take_turn(&asked, done, fresh, &mut sum, source)?;
     }
@@ -235,7 +236,7 @@ fn tell(
 {
     Ok(Answer::RenewAll(RenewAllAnswer {
         date: line.date,
-        institution: line.policy.kept_institution().clone()?,
+        institution: line.policy.institution().clone()?,
         ok,
         renewed,
         unrenewed,
@@ -254,8 +255,8 @@ fn finish(line: &Line<'_>, request: &RenewAll, done: Renewals) -> Result<Effect,
         others,
     } = done;
     if made > 0 {
-        let patron = Record::Patron(member.into_patron());
-        writes.put(&Key::Patron(request.patron.id()), patron)?;
+        let key = Key::Patron(request.patron.clone()?);
+        writes.put(key, Record::Patron(member.into_patron()))?;
     }
     Ok(Effect {
         writes: writes.finish(line.alloc)?,

@@ -16,29 +16,30 @@ ghost use Rattle.read_set.specs.Stops.{Follows};
 use crate::asked::Asked;
 use crate::asking::{ask_renew, charge_of, due_of, loan_in, rental_in};
 use crate::fees::{Charge, draft_for, has_amount, list_fee, make_fee, test_owing};
-use crate::lists::{has_queue, is_kept};
+use crate::lists::has_queue;
 use crate::lookup::{item_of, patron_of};
 use crate::telling::{refuse, refuse_for, tell_made};
 use circ_policy::Policy;
-use circ_records::{FeeType, Item, KeptLoan, Key, Patron, Record};
+use circ_records::{FeeType, Item, Key, Loan, Patron, Record};
 use read_set::{Article, Draft, Effect, LoanRequest, Member, Source, Stop, Verdict};
 use sip_reader::{Amount, Day, Renew, Stamp};
 use std::alloc::{AllocError, Global};
 
-fn is_renewable(a: &LoanRequest, loan: &Option<KeptLoan>) -> bool
+fn is_renewable(a: &LoanRequest, loan: &Option<Loan>) -> bool
     ensures { result ≡ may_renew a.now loan.now }
 {
     match loan {
-        Some(loan) => is_kept(loan.patron(), &a.patron) || a.third_party,
+        Some(loan) => loan.patron == a.patron || a.third_party,
         None => false,
     }
 }
 
-fn renewals(loan: &Option<KeptLoan>) -> u32
+/// How often a loan was renewed; 0 where there is none.
+pub fn renewals_of(loan: &Option<Loan>) -> u32
     ensures { result ≡ renewals_of loan.now }
 {
     match loan {
-        Some(loan) => loan.renewals(),
+        Some(loan) => loan.renewals,
         None => 0,
     }
 }
@@ -70,7 +71,7 @@ pub fn test_renewal<S: Source>(
     if has_queue(article.item.get().holds.as_slice()) {
         return Ok(Verdict::Refused);
     }
-    if member.class.max_renewals <= renewals(loan_in(article)) {
+    if member.class.max_renewals <= renewals_of(loan_in(article)) {
         return Ok(Verdict::Refused);
     }
     test_owing(asked, writes, member, article, sum, source)
@@ -86,12 +87,12 @@ fn one_more(renewals: u32) -> u32
     }
 }
 
-fn renew_loan(due: Day, loan: Option<KeptLoan>) -> Option<KeptLoan>
+fn renew_loan(due: Day, loan: Option<Loan>) -> Option<Loan>
     ensures { result ≡ renewed_loan due loan }
 {
     match loan {
         Some(loan) => {
-            let renewals = one_more(loan.renewals());
+            let renewals = one_more(loan.renewals);
             Some(loan.with_due(due, renewals))
         }
         None => None,
@@ -138,15 +139,18 @@ fn write_renewal(
     let item = renew_loan_of(alloc, due, article)?;
     let mut writes = draft_for(alloc, charge)?;
     if has_amount(charge) {
-        writes.put(&Key::Patron(a.patron), Record::patron(alloc, patron)?)?;
+        writes.put(
+            Key::Patron(a.patron.clone()?),
+            Record::patron(alloc, patron)?,
+        )?;
     }
-    writes.put(&Key::Item(a.item), Record::item(alloc, item)?)?;
+    writes.put(Key::Item(a.item.clone()?), Record::item(alloc, item)?)?;
     let rental = Charge {
-        patron: a.patron,
+        patron: &a.patron,
         kind: FeeType::Rental,
         amount: charge,
     };
-    make_fee(alloc, asked.number, 0, rental, &mut writes)?;
+    make_fee(alloc, asked.number, 0, &rental, &mut writes)?;
     Ok(writes)
 }
 
@@ -215,15 +219,14 @@ pub fn renew_item<S: Source>(
     ensures means { IfOk result (λ e. (M : Map) → Agrees (S.has source.new) M → e ≡ renew policy.now n request.now date M) }
     ensures keeps { Gains S.one_by_one (S.has source.old) (S.has source.new) (renew_rule policy.now n request.now date) }
 {
-    let member = patron_of(alloc, policy, source, &request.patron)?;
-    let article = item_of(alloc, policy, source, &request.item)?;
-    let a = ask_renew(request);
     let asked = Asked {
         alloc,
         policy,
         number: n,
         date,
-        request: a,
+        request: ask_renew(request)?,
     };
+    let member = patron_of(alloc, policy, source, &request.patron)?;
+    let article = item_of(alloc, policy, source, &request.item)?;
     renew_both(&asked, member, article, source)
 }

@@ -10,7 +10,7 @@ use crate::fees::{has_amount, nothing};
 use circ_records::Item;
 use read_set::{Article, Effect, Stop};
 use sip_answer::{Answer, KnownItem, LoanAnswer};
-use sip_reader::{Amount, Day, KeptId};
+use sip_reader::{Amount, Day};
 use std::alloc::AllocError;
 
 fn show(item: &Item) -> Result<KnownItem, AllocError>
@@ -47,9 +47,9 @@ fn tell(
 {
     let answer = LoanAnswer {
         date: asked.date,
-        institution: asked.policy.kept_institution().clone()?,
-        patron: KeptId::new(asked.alloc, &asked.request.patron)?,
-        item: KeptId::new(asked.alloc, &asked.request.item)?,
+        institution: asked.policy.institution().clone()?,
+        patron: asked.request.patron.clone()?,
+        item: asked.request.item.clone()?,
         known,
         due,
         due_form: asked.policy.due_form(),
@@ -79,7 +79,7 @@ pub fn tell_made(
     tell(asked, Some(known), Some(due), renewed, charge)
 }
 
-/// A refusal, which tells a rental where it is for one.
+/// A refusal, with the rental where it is for one.
 #[tactic(auto, unfolding(read_set::specs::Loans::refused))]
 pub fn refuse_for(
     asked: &Asked<'_>,

@@ -103,7 +103,7 @@ tie Greater e = cc
 same_text : (a b : List ℕ) → same a b ≡ true → a ≡ b
 same_text a b e = slice_cmp-IsAntisymmetric nat_cmp-IsAntisymmetric a b (tie (slice_cmp nat_cmp a b) e)
 
--- an id that is found in a list stands there
+-- an id that is found in a list is there
 stands_by : (b : Bool) (id x : List ℕ) (more : List (List ℕ)) → (b ≡ true → x ≡ id) → (has_id id more ≡ true → Contains more id) → (b || has_id id more) ≡ true → Contains (x ∷ more) id
 stands_by true id x more s ih e = subst (λ (y : List ℕ). Contains (y ∷ more) id) (sym (s refl)) (first-of id more)
 stands_by false id x more s ih e = Contains-append_right (x ∷ []) more id (ih e)

@@ -36,7 +36,7 @@ abbrev pub ListsAll : (Key → Type 0) → Option Member → Type 0
 ListsAll near None = Unit {0}
 ListsAll near (Some member) = Lists near member.patron
 
--- whoever has an item is near
+-- the patron who has an item is near
 abbrev pub Lent : (Key → Type 0) → Option Loan → Type 0
 Lent near loan = (k : Key) → IsBorrower loan k → near k
 
@@ -93,7 +93,7 @@ pub ask_reach : (has : Part) (near : Key → Type 0) (w : Entries) (k : Key) →
 unfolding ask_after
 ask_reach has near w k h = after_reach has near (record_at w k) k h
 
--- the first of a list stands in it
+-- the first of a list is in it
 pub first-of : (id : List ℕ) (more : List (List ℕ)) → Contains (id ∷ more) id
 first-of id more = (0, omega arith, refl)
 

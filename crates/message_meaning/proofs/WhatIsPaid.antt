@@ -93,7 +93,7 @@ less f gone (y ∷ list) h = by (ids.has_id y gone) (has-is y gone) (less f gone
     by true e rest = let none : f y ≡ 0 = h y (sym e) in rest ∙ omega arith
     by false e rest = first f y (without_all gone list) ∙ ap (λ s. f y + s) rest
 
--- the front of a list whose ids are distinct, and what stands behind it
+-- the front of a list whose ids are distinct, and what comes after it
 in-back : (front back : List (List ℕ)) (y : List ℕ) → has_id y back ≡ true → has_id y (front ++ back) ≡ true
 in-back [] back y h = h
 in-back (z ∷ front) back y h = or_right (is_same y z) (has_id y (front ++ back)) (in-back front back y h)

@@ -12,7 +12,7 @@ use circ_records::{Key, Patron, Record};
 use loan_meaning::{owed_of, patron_of};
 use read_set::{Draft, Effect, Member, Source, Stop, Writes};
 use sip_answer::{Answer, KnownPatron, Owed, PatronAnswer, PatronStatus};
-use sip_reader::{KeptId, Stamp};
+use sip_reader::{Id, Stamp};
 use std::alloc::{AllocError, Global};
 
 /// What stays the same while a block or an enable is followed.
@@ -22,7 +22,7 @@ struct BlockAsked<'p> {
     policy: &'p Policy,
     /// Whether it blocks.
     blocks: bool,
-    id: &'p KeptId,
+    id: &'p Id,
     /// The moment of its message.
     date: Stamp,
 }
@@ -68,7 +68,7 @@ fn answer(
 {
     let answer = PatronAnswer {
         date: asked.date,
-        institution: asked.policy.kept_institution().clone()?,
+        institution: asked.policy.institution().clone()?,
         patron: asked.id.clone()?,
         status,
         currency: asked.policy.currency(),
@@ -100,7 +100,7 @@ fn block_member(asked: &BlockAsked<'_>, member: Member, owes: u128) -> Result<Ef
     };
     let patron = blocked(asked.blocks, member)?;
     let written = Record::patron(asked.alloc, patron)?;
-    let writes = Writes::one(asked.alloc, Key::Patron(asked.id.id()), written)?;
+    let writes = Writes::one(asked.alloc, Key::Patron(asked.id.clone()?), written)?;
     Ok(Effect {
         writes,
         answer: Some(answer(asked, status, Some(known))?),
@@ -149,7 +149,7 @@ pub fn block<S: Source>(
     alloc: Global,
     policy: &Policy,
     blocks: bool,
-    id: &KeptId,
+    id: &Id,
     date: Stamp,
     source: &mut S,
 ) -> Result<Effect, Stop>

@@ -59,7 +59,7 @@ fn with_hold(alloc: Global, holds: &Holds, patron: &Id, pickup: &Text) -> Result
 {
     let mut queue = holds.copy(alloc)?;
     queue.push(Hold {
-        patron: *patron,
+        patron: patron.clone()?,
         pickup: pickup.clone()?,
     })?;
     Ok(queue)
@@ -71,9 +71,9 @@ fn change_queue(alloc: Global, request: &HoldRequest, holds: &Holds) -> Result<H
     ensures { IfOk result (λ h. h ≡ queue_after request.now holds.now request.now.mode) }
 {
     match request.mode {
-        HoldMode::Add => with_hold(alloc, holds, &request.patron.id(), &request.pickup),
-        HoldMode::Delete => without_hold(alloc, holds, &request.patron.id()),
-        HoldMode::Change => with_pickup(alloc, holds, &request.patron.id(), &request.pickup),
+        HoldMode::Add => with_hold(alloc, holds, &request.patron, &request.pickup),
+        HoldMode::Delete => without_hold(alloc, holds, &request.patron),
+        HoldMode::Change => with_pickup(alloc, holds, &request.patron, &request.pickup),
     }
 }
 
@@ -100,7 +100,7 @@ fn position_in(request: &HoldRequest, holds: &Holds) -> Result<Option<QueuePosit
         HoldMode::Delete => Ok(None),
         HoldMode::Add | HoldMode::Change => numbered(
             request,
-            position(holds.as_slice(), &request.patron.id()),
+            position(holds.as_slice(), &request.patron),
         ),
     }
 }
@@ -113,8 +113,7 @@ fn is_available_to(request: &HoldRequest, item: &Item, holds: &Holds) -> bool
         HoldMode::Delete => false,
         HoldMode::Add | HoldMode::Change => {
             let queue = holds.as_slice();
-            !has_loan(&item.loan)
-                && (has_queue(queue) && !is_first_another(queue, &request.patron.id()))
+            !has_loan(&item.loan) && (has_queue(queue) && !is_first_another(queue, &request.patron))
         }
     }
 }
@@ -130,7 +129,7 @@ fn tell(
 {
     Ok(Answer::Hold(HoldAnswer {
         date: asked.date,
-        institution: asked.policy.kept_institution().clone()?,
+        institution: asked.policy.institution().clone()?,
         patron: asked.request.patron.clone()?,
         item: asked.request.item.clone()?,
         ok,
@@ -152,7 +151,7 @@ fn keep_queue(asked: &HoldAsked<'_>, item: Shared<Item>, holds: Holds) -> Result
     let mut item = Item::of(alloc, item)?;
     item.holds = holds;
     let written = Record::item(alloc, item)?;
-    let writes = Writes::one(alloc, Key::Item(asked.request.item.id()), written)?;
+    let writes = Writes::one(alloc, Key::Item(asked.request.item.clone()?), written)?;
     Ok(Effect {
         writes,
         answer: Some(answer),
@@ -163,7 +162,7 @@ fn hold_item(asked: &HoldAsked<'_>, blocked: bool, item: Shared<Item>) -> Result
     ensures { IfOk result (λ e. e ≡ hold_known asked.now.policy.now asked.now.request.now asked.now.date blocked item) }
 {
     let request = asked.request;
-    if is_refused(request.mode, &request.patron.id(), blocked, item.get()) {
+    if is_refused(request.mode, &request.patron, blocked, item.get()) {
         let title = item.get().title.clone()?;
         let answer = tell(asked, Some(title), false, false, None)?;
         return Ok(Effect::unwritten(asked.alloc, Some(answer)));

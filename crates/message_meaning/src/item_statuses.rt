@@ -53,7 +53,7 @@ fn update_found(
     item.properties = given.clone()?;
     let known = show(&item)?;
     let written = Record::item(alloc, item)?;
-    let writes = Writes::one(alloc, Key::Item(request.item.id()), written)?;
+    let writes = Writes::one(alloc, Key::Item(request.item.clone()?), written)?;
     Ok(Effect {
         writes,
         answer: Some(answer(request, date, known)?),

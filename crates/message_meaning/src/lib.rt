@@ -1,6 +1,5 @@
 //! What each line of a plan does: the meaning of a line, worked out over any source of records.
-//! It stands on `read_set`, which says what a line means over the whole map of records; the replay, by one thread or
-//! by many, stands on it.
+//! `read_set` says what a line means over the whole map of records; the replay, by one thread or by many, asks here.
 #![tactic(auto)]
 
 mod blocks;

@@ -19,7 +19,7 @@ use sip_reader::{Act, Reading, Request};
 use std::alloc::Global;
 
 /// What a line of a plan does, by the records that the source has. It asks for them in the order of the line's rule
-/// (`specs/Rules`), and stops only where the source does, or for want of memory. A line that the plan doesn't have does
+/// (`specs/Rules`), and stops only where the source does, or out of memory. A line that the plan doesn't have does
 /// nothing.
 pub fn perform<S: Source>(
     alloc: Global,
@@ -90,7 +90,7 @@ fn follow_request<S: Source>(
     ensures gives { Follows result (follow (S.has source.new) (rule_of policy.now line request.now.date request.now.act)) }
     ensures keeps { Gains S.one_by_one (S.has source.old) (S.has source.new) (rule_of policy.now line request.now.date request.now.act) }
 {
-    // each is returned at once: what is done by one of several branches would move once more behind them, and is large
+    // each is returned at once: what is done by one of several branches would move once more after them, and is large
     match &request.act {
         Act::BlockPatron(asked) => {
             return block(alloc, policy, true, &asked.patron, request.date, source);

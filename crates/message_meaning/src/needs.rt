@@ -11,7 +11,7 @@ use std::alloc::{AllocError, Global};
 use std::marker::Brand;
 
 /// What a line needs on what it has read: the record for which its rule asks next, or nothing any more, and then the
-/// version that its rule comes to. The rule is followed from its beginning: whoever looks at all that a line wants runs
+/// version that its rule comes to. The rule is followed from its beginning: to see all that a line wants, run
 /// `perform` once over a source that notes what it sees.
 pub fn need<J: PlanName>(
     alloc: Global,
@@ -41,7 +41,7 @@ fn need_on<J: PlanName, N: NotesName>(
     let mut source: NotesSource<N> = NotesSource::new(notes);
     match perform(alloc, plan, line, &mut source) {
         Ok(effect) => end(alloc, line, attempt, notes, effect),
-        Err(Stop::Unnoted(key)) => Ok(Need::Key(key.key())),
+        Err(Stop::Unnoted(key)) => Ok(Need::Key(key)),
         Err(Stop::Memory) => Err(AllocError),
     }
 }

@@ -10,11 +10,11 @@ ghost use Rattle.read_set.specs.Payments.{part_of, part_paid, pay_one, only_know
 ghost use Rattle.read_set.specs.Stops.{Follows};
 
 use circ_policy::Policy;
-use circ_records::{Fee, Ids, Key, Patron, Record};
+use circ_records::{Fee, Ids, Key, Patron, Record, Shared};
 use loan_meaning::{fee_of, has_id, patron_of, read_after, without_all};
 use read_set::{Draft, Effect, Member, Payments, Source, Stop, known_fee};
 use sip_answer::{Answer, FeePaidAnswer};
-use sip_reader::{Amount, FeePaid, Id, KeptId, Stamp};
+use sip_reader::{Amount, FeePaid, Id, Stamp};
 use std::alloc::{AllocError, Global};
 
 fn rest(fee: &Fee) -> u64
@@ -34,18 +34,18 @@ fn part(left: u64, fee: &Fee) -> u64
     left.min(rest(fee))
 }
 
-fn with_paid(fee: &Fee, part: u64) -> Fee
+fn with_paid(fee: &Fee, part: u64) -> Result<Fee, AllocError>
     requires some { 0 < part }
     requires rest { part ≤ fee.now.amount - fee.now.paid }
-    ensures { result ≡ record fee.now { paid = fee.now.paid + part } }
+    ensures { IfOk result (λ f. f ≡ record fee.now { paid = fee.now.paid + part }) }
 {
     let left = rest(fee) - part;
-    Fee {
-        patron: fee.patron,
+    Ok(Fee {
+        patron: fee.patron.clone()?,
         kind: fee.kind,
         amount: fee.amount,
         paid: less(fee.amount, left),
-    }
+    })
 }
 
 /// An amount less some hundredths of it.
@@ -71,22 +71,27 @@ fn pay_part(
         return Ok(done);
     }
     done.left -= part;
-    done.writes
-        .put(&Key::Fee(*id), Record::fee(alloc, with_paid(fee, part))?)?;
+    let written = Record::fee(alloc, with_paid(fee, part)?)?;
+    done.writes.put(Key::Fee(id.clone()?), written)?;
     if part == rest(fee) {
-        done.closed.push(alloc, *id)?;
+        done.closed.push(alloc, id.clone()?)?;
     }
     Ok(done)
 }
 
 #[tactic(auto, unfolding(read_set::specs::Payments::pay_one))]
-fn pay(alloc: Global, id: &Id, done: Payments, fee: Option<Fee>) -> Result<Payments, AllocError>
+fn pay(
+    alloc: Global,
+    id: &Id,
+    done: Payments,
+    fee: Option<Shared<Fee>>,
+) -> Result<Payments, AllocError>
     ensures { IfOk result (λ next. next ≡ pay_one id.now done fee) }
 {
     match fee {
         Some(fee) => {
-            let part = part(done.left, &fee);
-            pay_part(alloc, id, part, &fee, done)
+            let part = part(done.left, fee.get());
+            pay_part(alloc, id, part, fee.get(), done)
         }
         None => Ok(done),
     }
@@ -102,15 +107,11 @@ fn named_ids<S: Source>(alloc: Global, id: &Id, fees: &Ids, source: &mut S) -> R
     Ok(only(alloc, id, fees, fee)?)
 }
 
-fn only(alloc: Global, id: &Id, fees: &Ids, fee: Option<Fee>) -> Result<Ids, AllocError>
+fn only(alloc: Global, id: &Id, fees: &Ids, fee: Option<Shared<Fee>>) -> Result<Ids, AllocError>
     ensures { IfOk result (λ ids. ids ≡ only_known id.now fees.now fee) }
 {
     match fee {
-        Some(_) => {
-            let mut ids = Ids::new();
-            ids.push(alloc, *id)?;
-            Ok(ids)
-        }
+        Some(_) => Ids::one(alloc, id.clone()?),
         None => fees.copy(),
     }
 }
@@ -119,7 +120,7 @@ fn only(alloc: Global, id: &Id, fees: &Ids, fee: Option<Fee>) -> Result<Ids, All
 #[tactic(auto, unfolding(crate::specs::Payments::meant_at), using(read_set::proofs::Gaining::gains_none, read_set::proofs::Gaining::gains_first))]
 fn meant_ids<S: Source>(
     alloc: Global,
-    fee: &Option<KeptId>,
+    fee: &Option<Id>,
     fees: &Ids,
     source: &mut S,
 ) -> Result<Ids, Stop>
@@ -127,10 +128,9 @@ fn meant_ids<S: Source>(
     ensures keeps { Gains S.one_by_one (S.has source.old) (S.has source.new) (meant_at fee.now fees.now) }
 {
     match fee {
-        Some(meant) => {
-            let id = meant.id();
-            if has_id(fees.as_slice(), &id) {
-                named_ids(alloc, &id, fees, source)
+        Some(id) => {
+            if has_id(fees.as_slice(), id) {
+                named_ids(alloc, id, fees, source)
             } else {
                 Ok(fees.copy()?)
             }
@@ -143,7 +143,7 @@ fn meant_ids<S: Source>(
 #[tactic(auto, using(read_set::proofs::Gaining::gains_none, read_set::proofs::Gaining::gains_first))]
 fn pay_all<S: Source>(
     alloc: Global,
-    ids: &[KeptId],
+    ids: &[Id],
     amount: u64,
     source: &mut S,
 ) -> Result<Payments, Stop>
@@ -159,9 +159,8 @@ fn pay_all<S: Source>(
         if done.left == 0 {
             return Ok(done);
         }
-        let id = id.id();
-        let found = read_after(alloc, source, &done.writes, &Key::Fee(id))?;
-        done = pay(alloc, &id, done, known_fee(&found))?;
+        let found = read_after(alloc, source, &done.writes, &Key::Fee(id.clone()?))?;
+        done = pay(alloc, id, done, known_fee(found))?;
     }
     Ok(done)
 }
@@ -176,7 +175,7 @@ fn tell(
 {
     Ok(Answer::FeePaid(FeePaidAnswer {
         date,
-        institution: policy.kept_institution().clone()?,
+        institution: policy.institution().clone()?,
         patron: request.patron.clone()?,
         accepted,
     }))
@@ -202,7 +201,7 @@ fn close(alloc: Global, closed: &Ids, member: Member) -> Result<Patron, AllocErr
     Ok(patron)
 }
 
-fn is_some_id(ids: &[KeptId]) -> bool
+fn is_some_id(ids: &[Id]) -> bool
     ensures { result ≡ is_any ids.now }
 {
     !ids.is_empty()
@@ -226,10 +225,8 @@ fn finish(
     } = done;
     if is_some_id(closed.as_slice()) {
         let patron = close(alloc, &closed, member)?;
-        writes.put(
-            &Key::Patron(request.patron.id()),
-            Record::patron(alloc, patron)?,
-        )?;
+        let key = Key::Patron(request.patron.clone()?);
+        writes.put(key, Record::patron(alloc, patron)?)?;
     }
     Ok(Effect {
         writes: writes.finish(alloc)?,

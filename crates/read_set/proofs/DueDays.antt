@@ -33,7 +33,7 @@ first_day = record {
   number = omega (arith, day_count-early (pos 1900) 11899 1 1 refl (omega arith) (omega arith) (omega arith));
 }
 
--- the day behind the last one of a year
+-- the day after the last one of a year
 last_day : (n y m d : ℕ) → n + 1 ≤ 7_304_483 → IsReal y m d → IsNumberOf n y m d → days_in_month (pos y) m ≤ d → m ≡ 12 → IsDayNumber (n + 1)
 last_day n y m d most real number past twelve =
     let dec : IsNumberOf n y 12 d = subst (λ x. IsNumberOf n y x d) twelve number in
@@ -55,7 +55,7 @@ last_day n y m d most real number past twelve =
       number = omega (arith, more, last, days, dec, long, short);
     }
 
--- the day behind a day
+-- the day after a day
 next_day : (n y m d : ℕ) → n + 1 ≤ 7_304_483 → IsReal y m d → IsNumberOf n y m d → IsDayNumber (n + 1)
 next_day n y m d most real number = elim (cases_lt d (days_in_month (pos y) m)) [
   | inl inside ↦ record {

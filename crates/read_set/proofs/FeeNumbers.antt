@@ -94,7 +94,7 @@ not-later n id = by (line_of id)
       | inr le ↦ lt-leb (n + 1) line (omega (arith, le))
     ]
 
--- a number is told by its digits
+-- a number is known by its digits
 decimal-one : (j k : ℕ) → j < 2 ^ 64 → k < 2 ^ 64 → decimal j ≡ decimal k → j ≡ k
 decimal-one j k a b e = sym (decimal_is_IsNumeral j a).1 ∙ ap (digits_value 10) e ∙ (decimal_is_IsNumeral k b).1
 

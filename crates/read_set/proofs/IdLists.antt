@@ -122,7 +122,7 @@ one-less x (z ∷ list) h = by (ids.same z x) (tie-text z x) h (λ g. one-less x
     by true e h rest = let few : length (ids.without x list) ≤ length list = shorter x list in omega arith
     by false e h rest = let less : length (ids.without x list) < length list = rest (ap (λ b. b || has_id x list) e ∙ h) in omega arith
 
--- ids of a list that are told once each are no more than the list has
+-- distinct ids that are all in a list are no more than the list has
 pub no-more : (list all : List (List ℕ)) → are_distinct list ≡ true → ((x : List ℕ) → has_id x list ≡ true → has_id x all ≡ true) → length list ≤ length all
 no-more [] all d h = omega arith
 no-more (z ∷ list) all d h =

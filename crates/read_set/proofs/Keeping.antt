@@ -1,6 +1,6 @@
 -- Notes, and the positions of their keys.
-use Rattle.std.proofs.Common.{◌≡◌, Global, Result, Ok, Err, Vec, ℕ, zero, suc, ◌+◌, ◌<◌, List, [], ◌∷◌, ◌++◌, Bool, true, false, cond, Option, Some, None, length, get_or, map, take, take_all, arith, refl, sym, ap, ◌∙◌, subst}
-use Rattle.std.specs.Prelude.{OnErr, OnOk, nat_lt, slice_get, ◌||◌}
+use Rattle.std.proofs.Common.{◌≡◌, ℕ, zero, suc, ◌+◌, ◌<◌, List, [], ◌∷◌, ◌++◌, Bool, true, false, cond, Option, Some, None, length, get_or, map, take, take_all, arith, refl, sym, ap, ◌∙◌, subst}
+use Rattle.std.specs.Prelude.{nat_lt, slice_get, ◌||◌}
 use Rattle.std.specs.BTreeMap.{is_at}
 use Rattle.std.specs.Cmp.{eq_by_cmp_equiv}
 use Rattle.std.specs.List.{IsDistinct, AllByRecursion, list_any}
@@ -18,10 +18,8 @@ use Rattle.circ_records.specs.declared.key.Key.{Key}
 use Rattle.circ_records.specs.declared.record.Record.{Record}
 use Rattle.read_set.specs.Maps.{Map, Agrees}
 use Rattle.read_set.specs.Notes.{note_of, noted, IsOnceEach}
-use Rattle.read_set.specs.Devices.Positions.{AreKept, HasRoom, IsPosition, notes_in, positions_in}
+use Rattle.read_set.specs.Devices.Positions.{AreNoted, IsPosition}
 use Rattle.read_set.specs.Settling.{AreTrue}
-use Rattle.read_set.specs.declared.notes.Kept.{Kept}
-use Rattle.read_set.specs.declared.notes.Kept.TheVariants.{Few}
 use Rattle.read_set.specs.declared.notes.Note.{Note}
 
 reversed : (o : Ordering) → is_eq (ordering_reverse o) ≡ is_eq o
@@ -81,27 +79,27 @@ longer : (notes : List Note) (note : Note) → length (notes ++ note ∷ []) ≡
 longer [] note = refl
 longer (n ∷ more) note = let e : length (more ++ note ∷ []) ≡ length more + 1 = longer more note in omega arith
 
--- a note that stands somewhere is one
+-- a key whose note is somewhere in the list is noted
 no-note : (notes : List Note) (note : Note) (i : ℕ) (k : Key) → i < length notes → slice_get notes i ≡ note_of notes k → note_of notes k ≡ None → ⊥
 no-note notes note i k h e none = let some : Some (get_or notes i note) ≡ None = sym (slice_get-get_or notes i note h) ∙ e ∙ none in cc
 
--- a position that a key had, where the new note is one of the first few
-few-step : (notes : List Note) (note : Note) (k : Key) (b : Bool) (position : Option ℕ) → length notes < 8
+-- a position that a key had, where the new note is one of the first
+first-step : (notes : List Note) (note : Note) (k : Key) (b : Bool) (position : Option ℕ) → length notes < 8
     → (b ≡ true → note_of notes k ≡ None) → note_of (notes ++ note ∷ []) k ≡ cond b (Some note) (note_of notes k)
     → IsPosition notes k position → IsPosition (notes ++ note ∷ []) k position
-few-step notes note k b None short fresh found h =
+first-step notes note k b None short fresh found h =
     let more : length (notes ++ note ∷ []) ≡ length notes + 1 = longer notes note in
     ap (λ ns. note_of ns k) (sym (take_all 8 (notes ++ note ∷ []) (omega arith)))
-few-step notes note k true (Some i) short fresh found h = absurd (no-note notes note i k h.0 h.1 (fresh refl))
-few-step notes note k false (Some i) short fresh found h =
+first-step notes note k true (Some i) short fresh found h = absurd (no-note notes note i k h.0 h.1 (fresh refl))
+first-step notes note k false (Some i) short fresh found h =
     let more : length (notes ++ note ∷ []) ≡ length notes + 1 = longer notes note in
     let within : i < length notes = h.0 in
     (omega arith, before-end notes note i within ∙ h.1 ∙ sym found)
 
--- the first few notes stay the first few: all that there are, or those before the new one
-few-more : (notes : List Note) (note : Note) (k : Key) → note_of (notes ++ note ∷ []) k ≡ note_of notes k → note_of notes k ≡ note_of (take 8 notes) k
+-- the first notes stay the first: all that there are, or those before the new one
+first-more : (notes : List Note) (note : Note) (k : Key) → note_of (notes ++ note ∷ []) k ≡ note_of notes k → note_of notes k ≡ note_of (take 8 notes) k
     → note_of (notes ++ note ∷ []) k ≡ note_of (take 8 (notes ++ note ∷ [])) k
-few-more notes note k same h = by (nat_lt (length notes) 8) refl
+first-more notes note k same h = by (nat_lt (length notes) 8) refl
   where
     by : (b : Bool) → nat_lt (length notes) 8 ≡ b → note_of (notes ++ note ∷ []) k ≡ note_of (take 8 (notes ++ note ∷ [])) k
     by true e =
@@ -119,7 +117,7 @@ position-step notes note k true old (Some i) found e h =
     let same : i ≡ length notes = cc in
     let more : length (notes ++ note ∷ []) ≡ length notes + 1 = longer notes note in
     (omega arith, ap (slice_get (notes ++ note ∷ [])) same ∙ at-end notes note ∙ sym found)
-position-step notes note k false None None found e h = few-more notes note k found h
+position-step notes note k false None None found e h = first-more notes note k found h
 position-step notes note k false None (Some i) found e h = cc
 position-step notes note k false (Some j) None found e h = cc
 position-step notes note k false (Some j) (Some i) found e h =
@@ -132,8 +130,8 @@ none-distinct : IsDistinct (eq_by_cmp key_cmp) []
 unfolding IsDistinct
 none-distinct = tt
 
-pub kept-none : AreKept [] []
-kept-none = record { once = none-distinct; kept = λ k. refl }
+pub none-noted : AreNoted [] []
+none-noted = record { once = none-distinct; at = λ k. refl }
 
 once-more : (notes : List Note) (note : Note) → IsOnceEach notes → note_of notes note.key ≡ None → IsOnceEach (notes ++ note ∷ [])
 once-more notes note once fresh =
@@ -142,32 +140,25 @@ once-more notes note once fresh =
 unnoted-there : (notes : List Note) (note : Note) (k : Key) → note_of notes note.key ≡ None → is_at (key_cmp k) note.key ≡ true → note_of notes k ≡ None
 unnoted-there notes note k fresh e = ap (note_of notes) (one-key k note.key e) ∙ fresh
 
--- one more note among the first few
-pub kept-few : (notes : List Note) (note : Note) (positions : List (Key × ℕ)) → AreKept notes positions → note_of notes note.key ≡ None → length notes < 8 → AreKept (notes ++ note ∷ []) positions
-kept-few notes note positions h fresh short = record {
+-- one more note among the first
+pub noted-first : (notes : List Note) (note : Note) (positions : List (Key × ℕ)) → AreNoted notes positions → note_of notes note.key ≡ None → length notes < 8 → AreNoted (notes ++ note ∷ []) positions
+noted-first notes note positions h fresh short = record {
   once = once-more notes note h.once fresh;
-  kept = λ k. few-step notes note k (is_at (key_cmp k) note.key) (lookup (is_at (key_cmp k)) positions) short (unnoted-there notes note k fresh) (found-more notes note k (unnoted-there notes note k fresh)) (h.kept k);
+  at = λ k. first-step notes note k (is_at (key_cmp k) note.key) (lookup (is_at (key_cmp k)) positions) short (unnoted-there notes note k fresh) (found-more notes note k (unnoted-there notes note k fresh)) (h.at k);
 }
 
--- one more note in a list, where there was memory for it
-pub kept-if-added : {A E : Type 0} (r : Result A E) (kept : Kept) (list new : Vec Note Global) (note : Note) → kept ≡ Few list → AreKept (notes_in kept) (positions_in kept) → note_of (notes_in kept) note.key ≡ None
-    → HasRoom kept → OnOk r (new.items ≡ list.items ++ note ∷ []) → OnErr r (new.items ≡ list.items) → AreKept new.items []
-kept-if-added (Ok _) kept list new note is h fresh room ok err =
-    subst (λ (ns : List Note). AreKept ns []) (sym ok)
-    (kept-few list.items note [] (subst (λ (k : Kept). AreKept (notes_in k) (positions_in k)) is h) (subst (λ (k : Kept). note_of (notes_in k) note.key ≡ None) is fresh) (subst HasRoom is room))
-kept-if-added (Err _) kept list new note is h fresh room ok err =
-    subst (λ (ns : List Note). AreKept ns []) (sym err) (subst (λ (k : Kept). AreKept (notes_in k) (positions_in k)) is h)
-
 -- one more note, and its position
-pub kept-more : (notes : List Note) (note : Note) (old new : List (Key × ℕ)) → AreKept notes old → note_of notes note.key ≡ None
-    → ((k : Key) → lookup (is_at (key_cmp k)) new ≡ cond (is_at (key_cmp note.key) k) (Some (length notes)) (lookup (is_at (key_cmp k)) old))
-    → AreKept (notes ++ note ∷ []) new
-kept-more notes note old new h fresh updates = record {
+pub noted-later : (notes : List Note) (note : Note) (old new : List (Key × ℕ)) (key : Key) (position : ℕ) → AreNoted notes old → note_of notes note.key ≡ None → key ≡ note.key → position ≡ length notes
+    → ((k : Key) → lookup (is_at (key_cmp k)) new ≡ cond (is_at (key_cmp key) k) (Some position) (lookup (is_at (key_cmp k)) old))
+    → AreNoted (notes ++ note ∷ []) new
+noted-later notes note old new key position h fresh same end updates = record {
   once = once-more notes note h.once fresh;
-  kept = λ k. position-step notes note k (is_at (key_cmp k) note.key) (lookup (is_at (key_cmp k)) old) (lookup (is_at (key_cmp k)) new)
+  at = λ k.
+      let is-at : is_at (key_cmp key) k ≡ is_at (key_cmp k) note.key = ap (λ (x : Key). is_at (key_cmp x) k) same ∙ either-way note.key k in
+      position-step notes note k (is_at (key_cmp k) note.key) (lookup (is_at (key_cmp k)) old) (lookup (is_at (key_cmp k)) new)
       (found-more notes note k (unnoted-there notes note k fresh))
-      (updates k ∙ ap (λ b. cond b (Some (length notes)) (lookup (is_at (key_cmp k)) old)) (either-way note.key k))
-      (h.kept k);
+      (updates k ∙ ap (λ b. cond b (Some position) (lookup (is_at (key_cmp k)) old)) is-at ∙ ap (λ n. cond (is_at (key_cmp k) note.key) (Some n) (lookup (is_at (key_cmp k)) old)) end)
+      (h.at k);
 }
 
 all-at : (P : Key → Type 0) (notes : List Note) (i : ℕ) (d : Note) → AllByRecursion P (map (λ (n : Note). n.key) notes) → i < length notes → d ≡ get_or notes i d → P d.key

@@ -1,4 +1,4 @@
--- Lists that tell who owns what: loans by the items' borrowers, open fees by the fees' patrons.
+-- Lists that say who owns what: loans by the items' borrowers, open fees by the fees' patrons.
 use Rattle.std.proofs.Common.{◌≡◌, ℕ, List, [], ◌∷◌, ◌++◌, Bool, true, false, cond, not, Option, Some, None, refl, sym, ap, ◌∙◌}
 use Rattle.std.specs.Prelude.{◌&&◌, ◌||◌}
 use Rattle.std.proofs.Math.Path.{fun_ext}

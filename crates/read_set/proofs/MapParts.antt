@@ -1,4 +1,4 @@
--- A map of records by its parts: each record by itself, and who has what in its lists. One record after the other is put.
+-- A map of records by its parts: each record alone, and who has what in its lists. One record after the other is put.
 use Rattle.std.proofs.Common.{◌≡◌, ℕ, List, [], ◌∷◌, Bool, true, false, cond, Option, Some, None, refl, subst, sym, ap, ◌∙◌}
 use Rattle.std.specs.Prelude.{is_some, nat_lt, option_map}
 use Rattle.std.specs.BTreeMap.{insert_entry}
@@ -60,7 +60,7 @@ pub put-single : (k : Key) (r : Record) (M : Map) → put ((k, r) ∷ []) M ≡ 
 unfolding put_one
 put-single k r M = fun_ext (λ x. either_put (is_eq (key_cmp x k)) r None (M x))
 
--- what stands at a key after a record was put
+-- what is at a key after a record was put
 pub at-patron : (a : List ℕ) (r : Record) (M : Map) (x : List ℕ) → put_one (keys.Patron a) r M (keys.Patron x) ≡ cond (is_same x a) (Some r) (M (keys.Patron x))
 unfolding put_one
 at-patron a r M x = ap (λ b. cond b (Some r) (M (keys.Patron x))) (same-is x a)
@@ -176,14 +176,14 @@ pub lent-fee : (a : List ℕ) (r : Record) (M : Map) → lent_by (put_one (keys.
 unfolding lent_by put_one
 lent-fee a r M = fun_ext (λ x. refl)
 
--- EACH RECORD BY ITSELF
+-- EACH RECORD ALONE
 
 pub record IsSoundPatron (policy : Terms) (id : List ℕ) (p : Patron) : Type 0 where
   pub id_text : is_id id ≡ true
   pub name : is_text p.name ≡ true
   pub class : has_class policy p.class ≡ true
 
--- what a record holds by itself is right; one of another kind than its key's counts as none
+-- what a record alone has is right; one of another kind than its key's counts as none
 abbrev pub IsSoundRecord : Terms → ℕ → Map → Key → Record → Type 0
 IsSoundRecord policy n M (keys.Patron id) (records.Patron p) = IsSoundPatron policy id p
 IsSoundRecord policy n M (keys.Item id) (records.Item i) = IsCoherentItem policy M id i

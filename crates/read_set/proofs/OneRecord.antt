@@ -66,7 +66,7 @@ keeps-borrower policy n M h id i j e right same =
 
 -- THE FEE THAT A LINE MAKES
 
--- whose each fee is, behind the fee that a line makes of an amount
+-- whose each fee is, after the fee that a line makes of an amount
 unfoldable pub owed_after : ℕ → ℕ → List ℕ → ℕ → (List ℕ → Option (List ℕ)) → List ℕ → Option (List ℕ)
 owed_after n k patron amount D = cond (nat_lt 0 amount) (set_at (fee_id n k) (Some patron) D) D
 
@@ -96,7 +96,7 @@ put-made {policy} {M} {N} {L} {O} {F} {D} n k patron kind amount low small most 
         (put-fee s (fee_id n k) (record { patron = patron; kind = kind; amount = amount; paid = 0 }) (right-fee n k N (record { patron = patron; kind = kind; amount = amount; paid = 0 }) low small known refl most))
     by false e = s
 
--- and it stands in its patron's list
+-- and it is in its patron's list
 pub listed-made : (n k : ℕ) (patron : List ℕ) (amount : ℕ) (F : List ℕ → Option (List (List ℕ))) (D : List ℕ → Option (List ℕ)) (fees : List (List ℕ)) → IsListed F D → F patron ≡ Some fees → D (fee_id n k) ≡ None
     → IsListed (set_at patron (Some (with_fee n k amount fees)) F) (owed_after n k patron amount D)
 unfolding owed_after

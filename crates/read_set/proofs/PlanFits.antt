@@ -28,7 +28,7 @@ all-fit : (lines : List Entry) → AllByRecursion FitsReading (readings_of lines
 all-fit [] = tt
 all-fit (line ∷ rest) = (reading-fits line.request, all-fit rest)
 
--- so does each of which it is kept that a message is read so
+-- so does each that is known to be read from a message
 read-fits : (rs : List Reading) → AllByRecursion IsRead rs → AllByRecursion FitsReading rs
 read-fits [] h = tt
 read-fits (r ∷ rest) h = (subst FitsReading (sym h.0.1) (reading-fits h.0.0), read-fits rest h.1)

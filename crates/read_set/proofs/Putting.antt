@@ -10,7 +10,7 @@ use Rattle.circ_records.specs.declared.key.Key.{Key}
 use Rattle.circ_records.specs.declared.record.Record.{Record}
 use Rattle.read_set.specs.Effects.{written}
 
--- A record that is put stands at its key, and the others stay: by the order of the key and the first of them
+-- A record that is put is at its key, and the others stay: by the order of the key and the first of them
 put-step : (o : Ordering) (e : Key × Record) (es : Entries) (k : Key) (r : Record) (q : Key) (at : Bool) → at ≡ is_at (key_cmp q) k
     → (o ≡ Equal → k ≡ e.0) → (o ≡ Greater → at ≡ true → is_at (key_cmp q) e.0 ≡ false)
     → record_at (insert_entry key_cmp es k r) q ≡ cond at (Some r) (record_at es q)

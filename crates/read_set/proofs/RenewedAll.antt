@@ -56,7 +56,7 @@ apart n j k less small = by (is_same (fee_id n k) (fee_id n j)) refl
     by true e = let one : k ≡ j = one-count n k j small (omega arith) (same-text (fee_id n k) (fee_id n j) e) in absurd (omega arith)
     by false e = refl
 
--- the ids that are left behind a fee
+-- the ids that are left after a fee
 free-after : (n made rental : ℕ) (id : List ℕ) (D : List ℕ → Option (List ℕ)) → ((k : ℕ) → made ≤ k → k < 2 ^ 64 → D (fee_id n k) ≡ None)
     → (k : ℕ) → cond (nat_lt 0 rental) (made + 1) made ≤ k → k < 2 ^ 64 → owed_after n made id rental D (fee_id n k) ≡ None
 unfolding owed_after

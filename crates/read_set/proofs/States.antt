@@ -19,7 +19,7 @@ use Rattle.read_set.proofs.FeeNumbers.{not-later}
 use Rattle.read_set.proofs.Listing.{IsListed, owned_by, set_at}
 use Rattle.read_set.proofs.MapParts.{AreKnown, IsSound, IsSoundPatron, IsSoundRecord, at-item, debtor, fees-fee, fees-item, fees-patron, fees_of, kinds-put, known-itself, known-put, lent-fee, lent-item, lent-patron, lent_by, lent_item, loans-fee, loans-item, loans-patron, loans_of, borrower_of, owed-fee, owed-item, owed-patron, owed_by, owed_fee, put_one, sound-put}
 
--- A map that others were put over: what it has by itself, and who has what in it.
+-- A map that others were put over: what it has alone, and who has what in it.
 pub record State (policy : Terms) (n : ℕ) (M N : Map) (L : List ℕ → Option (List (List ℕ))) (O : List ℕ → Option (List ℕ)) (F : List ℕ → Option (List (List ℕ))) (D : List ℕ → Option (List ℕ)) : Type 0 where
   pub sound : IsSound policy n N
   pub kinds : AreOfKind M → AreOfKind N

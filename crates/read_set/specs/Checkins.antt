@@ -29,7 +29,7 @@ use Rattle.read_set.specs.declared.known.Member.{Member}
 abbrev pub returned_item : Item → ReturnedItem
 returned_item item = record { location = item.location; title = item.title; media = item.media; properties = item.properties }
 
--- the alert tells that somebody waits for the item, also where it wasn't on loan
+-- the alert says that somebody waits for the item, also where it wasn't on loan
 abbrev pub checkin_answer : Terms → Checkin → List ℕ → Option Item → Option (List ℕ) → Answer
 checkin_answer p q date known borrower = answers.Checkin (record {
   date = date;

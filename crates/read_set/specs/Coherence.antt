@@ -52,7 +52,7 @@ abbrev pub MeaningKeepsCoherence : Type 0
 MeaningKeepsCoherence = (policy : Terms) (n : ℕ) (r : Reading) (M : Map) → FitsPolicy policy → FitsReading r → n ≤ line_number_max
     → HasFewItems M → IsCoherentMap policy n M → IsCoherentMap policy (n + 1) (one policy n r M).0 × HasFewItems (one policy n r M).0 × (AreOfKind M → AreOfKind (one policy n r M).0)
 
--- what a plan's type keeps: it is made of what fits, on a base that is coherent at the number of its first line and that a memory holds, and no line has
+-- what a plan's type promises: it is made of what fits, on a base that is coherent at the number of its first line and that a memory holds, and no line has
 -- a number of more than ten digits
 pub record FitsPlan (plan : Planned) : Type 0 where
   pub policy : FitsPolicy plan.policy
@@ -61,7 +61,7 @@ pub record FitsPlan (plan : Planned) : Type 0 where
   pub few : length plan.base ≤ 2 ^ 64
   pub last : plan.first + length plan.readings ≤ line_number_end
 
--- the records before each line, and behind the last one, are coherent there; the last ones are of their keys' kinds where those of the base are
+-- the records before each line, and after the last one, are coherent there; the last ones are of their keys' kinds where those of the base are
 pub record StaysCoherent (plan : Planned) : Type 0 where
   pub before : (line : ℕ) → plan.first ≤ line → line ≤ plan.first + length plan.readings → IsCoherentMap plan.policy line (before plan line)
   pub kinds : AreOfKind (record_at plan.base) → AreOfKind (last plan)
@@ -76,7 +76,7 @@ abbrev pub ReadPlansStayCoherent : Entries → Type 0
 ReadPlansStayCoherent base = (text bytes : List ℕ) (policy : Terms) (lines : List Entry) → policy_of text ≡ Ok policy → journal_of bytes ≡ Ok lines
     → Coherent policy (number_before (first_number lines)) base → StaysCoherent (plan_of policy base lines)
 
--- and then the six final tables, which tell the records after the last line, are read again as these records, as a base before a journal without lines
+-- and then the six final tables, which state the records after the last line, are read again as these records, as a base before a journal without lines
 abbrev pub FinalTablesReadBack : Entries → Type 0
 FinalTablesReadBack base = (text bytes : List ℕ) (policy : Terms) (lines : List Entry) → policy_of text ≡ Ok policy → journal_of bytes ≡ Ok lines
     → Coherent policy (number_before (first_number lines)) base → AreOfKind (record_at base)

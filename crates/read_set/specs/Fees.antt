@@ -32,7 +32,7 @@ abbrev pub with_fee : ℕ → ℕ → ℕ → List (List ℕ) → List (List ℕ
 with_fee n k amount fees = if nat_lt 0 amount then fees ++ fee_id n k ∷ [] else fees
 
 -- the last tests of a loan and of a renewal: refused where the patron owes more than the class allows; then where there
--- is a rental to which the user didn't agree, and then the refusal tells the rental
+-- is a rental to which the user didn't agree, and then the refusal names the rental
 unfoldable pub owing_verdict : ℕ → Bool → Member → Article → Verdict
 owing_verdict owes agreed member article =
     if nat_lt member.class.max_fees owes then verdicts.Refused

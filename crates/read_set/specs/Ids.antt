@@ -8,7 +8,7 @@ use Rattle.std.specs.Cmp.Lexicographic.{slice_cmp}
 abbrev pub same : List ℕ → List ℕ → Bool
 same a b = eq_by_cmp (slice_cmp nat_cmp) a b
 
--- whether an id stands in a list
+-- whether an id is in a list
 abbrev pub has_id : List ℕ → List (List ℕ) → Bool
 has_id id ids = list_any (λ other. same other id) ids
 

@@ -33,6 +33,6 @@ unfoldable pub updated : ItemStatus → List ℕ → Option Article → Effect
 updated q date None = unwritten (Some (status_answer q date None))
 updated q date (Some article) = relabelled q date article.item q.properties
 
--- over the records as they stand
+-- over the records as they are
 abbrev pub item_status : Terms → ItemStatus → List ℕ → Map → Effect
 item_status p q date M = updated q date (item_in p M q.item)

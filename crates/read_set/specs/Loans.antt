@@ -55,7 +55,7 @@ lent_to patron (Some loan) = same loan.patron patron
 abbrev pub known_item : Item → KnownItem
 known_item item = record { title = item.title; media = item.media; properties = item.properties }
 
--- a rental is told where it is above 0
+-- a rental is named where it is above 0
 abbrev pub rental_in_answer : ℕ → Option ℕ
 rental_in_answer rental = if nat_lt 0 rental then Some rental else None
 
@@ -80,6 +80,6 @@ loan_answer_of p a date known due renewed rental = record {
 abbrev pub loan_answer : Terms → LoanRequest → List ℕ → Option Item → Option ℕ → Bool → ℕ → Answer
 loan_answer p a date item due renewed rental = by_kind a.checkout (loan_answer_of p a date (option_map known_item item) due renewed rental)
 
--- nothing is written; a rental for which the request is refused is told
+-- nothing is written; a rental for which the request is refused is named
 unfoldable pub refused : Terms → LoanRequest → List ℕ → Option Article → ℕ → Effect
 refused p a date article rental = unwritten (Some (loan_answer p a date (option_map (λ x. x.item) article) None false rental))

@@ -1,4 +1,4 @@
--- The records as they stand at a moment, as a whole map.
+-- The records as they are at a moment, as a whole map.
 use Rattle.std.specs.Prelude.{◌≡◌, Option, Some}
 use Rattle.std.specs.Option.{option_or}
 use Rattle.circ_records.specs.Records.{Entries, record_at}

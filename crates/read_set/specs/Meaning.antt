@@ -1,4 +1,4 @@
--- The meaning of a line: what it does to the records, as they stand before it, and its answer.
+-- The meaning of a line: what it does to the records, as they are before it, and its answer.
 use Rattle.std.specs.Prelude.{ℕ, true, false, List, Option, Some, None}
 use Rattle.circ_policy.specs.Terms.{Terms}
 use Rattle.sip_answer.specs.declared.answer.Answer.{Answer}

@@ -40,7 +40,7 @@ abbrev pub pay_each : Map → List (List ℕ) → Payments → Payments
 pay_each M [] done = done
 pay_each M (id ∷ more) done = pay_each M more (pay_one id done (fee_in (put done.writes M) id))
 
--- the fee that is named, where it stands in the patron's list and has a record; else the whole list
+-- the fee that is named, where it is in the patron's list and has a record; else the whole list
 abbrev pub only_known : List ℕ → List (List ℕ) → Option Fee → List (List ℕ)
 only_known id fees None = fees
 only_known id fees (Some fee) = id ∷ []
@@ -52,7 +52,7 @@ meant M (Some id) fees = if has_id id fees then only_known id fees (fee_in M id)
 abbrev pub payment_answer : Terms → FeePaid → List ℕ → Bool → Answer
 payment_answer p q date accepted = answers.FeePaid (record { date = date; institution = p.institution; patron = q.patron; accepted = accepted })
 
--- what isn't spent isn't kept. Closed fees leave the list, their records stay; the patron is written only where one left
+-- what isn't spent isn't stored. Closed fees leave the list, their records stay; the patron is written only where one left
 unfoldable pub all_paid : Terms → FeePaid → List ℕ → Patron → Payments → Effect
 all_paid p q date patron done = record {
   writes = if is_any done.closed then done.writes ⊕ ((keys.Patron q.patron, records.Patron (record patron { fees = without_all done.closed patron.fees })) ∷ []) else done.writes;

@@ -14,7 +14,7 @@ pub record Planned : Type 0 where
   pub first : ℕ
   pub readings : List Reading
 
--- the number of a journal's first line; one without lines begins behind the last number that a line can have
+-- the number of a journal's first line; one without lines begins after the last number that a line can have
 abbrev pub beginning : List Entry → ℕ
 beginning lines = unwrap_or (first_number lines) line_number_end
 

@@ -17,7 +17,7 @@ one_by plan line (Some r) M = one plan.policy line r M
 abbrev pub one_at : Planned → ℕ → Map → Map × Option Answer
 one_at plan line M = one_by plan line (reading_at plan line) M
 
--- the records after the first lines, so many as are told: at first the base
+-- the records after the first lines, whose number is given: at first the base
 abbrev pub after : Planned → ℕ → Map
 after plan zero = record_at plan.base
 after plan (suc n) = (one_at plan (plan.first + n) (after plan n)).0

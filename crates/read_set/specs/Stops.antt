@@ -1,4 +1,4 @@
--- Where a rule stops that is followed over a source: at a key that the source lacks, or for want of memory.
+-- Where a rule stops that is followed over a source: at a key that the source lacks, or where memory runs out.
 use Rattle.std.specs.Prelude.{◌≡◌, None, Result, Ok, Err}
 use Rattle.read_set.specs.Asks.{Reached, Done, Wants}
 use Rattle.read_set.specs.Maps.{Part}

@@ -52,7 +52,7 @@ Names _ k = ⊥
 abbrev pub IsNamed : Part → Key → Type 0
 IsNamed has k = (j : Key) × (r : Option Record) × (has j ≡ Some r) × Names r k
 
--- Wanted: a key that isn't had, and is the patron or the item of the line's request, or stands in a list or a loan of a
+-- Wanted: a key that isn't had, and is the patron or the item of the line's request, or is in a list or a loan of a
 -- record that is had. On notes, what is had is what is noted.
 abbrev pub Wanted : Planned → ℕ → Part → Key → Type 0
 Wanted plan line has k = (has k ≡ None) × (IsOfLine (reading_at plan line) k ⊎ IsNamed has k)

@@ -9,42 +9,41 @@ ghost use Rattle.circ_records.specs.Records.{record_at};
 ghost use Rattle.read_set.specs.Devices.Drafts.{Rise, entries_in};
 ghost use Rattle.read_set.specs.Effects.{unwritten};
 
-use crate::sorted::{copied, found_in, map_of, put_in, put_over};
-use circ_records::{KeptKey, Key, Record};
+use crate::sorted::{found_in, map_of, put_in, put_over};
+use circ_records::{Key, Record};
 use sip_answer::Answer;
 use std::alloc::{AllocError, Global};
 use std::collections::BTreeMap;
 use std::marker::Model;
 
-/// Up to so many records are kept as a list, which costs less than a map.
-const FEW: usize = 8;
+/// Up to this many records are a list, which costs less than a map.
+const LIST_MAX: usize = 8;
 
-/// Room for so many records is made first: most lines that write any write two.
+/// The first allocation has room for this many records: most lines that write any write two.
 const USUAL: usize = 2;
 
 /// The records that a line writes so far. Of several under one key the newest counts.
 pub struct Draft {
-    kept: Kept,
+    records: ListOrMap,
 }
 
 impl Drop for Draft {
     fn drop(self) {
-        let Draft { kept: _ } = self;
+        let Draft { records: _ } = self;
     }
 }
 
-/// A few records are a list, rising by key, with kept keys. More are a map, so that each costs little however many are there
-/// before it.
-enum Kept {
-    Few(Vec<(KeptKey, Record)>),
-    Many(BTreeMap<Key, Record>),
+/// Records by rising keys. In a map one more costs little, however many there are.
+enum ListOrMap {
+    List(Vec<(Key, Record)>),
+    Map(BTreeMap<Key, Record>),
 }
 
-impl Drop for Kept {
+impl Drop for ListOrMap {
     fn drop(self) {
         match self {
-            Kept::Few(_) => {}
-            Kept::Many(_) => {}
+            ListOrMap::List(_) => {}
+            ListOrMap::Map(_) => {}
         }
     }
 }
@@ -56,9 +55,9 @@ impl Model for Draft {
 
     ghost use Rattle.read_set.specs.Devices.Drafts.{Rise, entries_in};
 
-    ghost view = { λ d. entries_in d.kept };
+    ghost view = { λ d. entries_in d.records };
 
-    ghost invariant = { λ d. Rise (entries_in d.kept) };
+    ghost invariant = { λ d. Rise (entries_in d.records) };
 }
 
 impl Draft {
@@ -67,16 +66,16 @@ impl Draft {
         ensures { result ≡ [] }
     {
         Draft {
-            kept: Kept::Few(Vec::new(alloc)),
+            records: ListOrMap::List(Vec::new(alloc)),
         }
     }
 
-    /// No records, with room for so many.
+    /// No records, with room for `count`.
     pub fn with_room(alloc: Global, count: usize) -> Result<Draft, AllocError>
         ensures { IfOk result (λ d. d ≡ []) }
     {
         Ok(Draft {
-            kept: Kept::Few(Vec::with_capacity(alloc, count)?),
+            records: ListOrMap::List(Vec::with_capacity(alloc, count)?),
         })
     }
 
@@ -84,41 +83,40 @@ impl Draft {
     pub fn get(&self, key: &Key) -> Option<&Record>
         ensures { option_copied result ≡ record_at self.now key.now }
     {
-        match &self.kept {
-            Kept::Few(list) => found_in(list.as_slice(), key),
-            Kept::Many(map) => map.get(key),
+        match &self.records {
+            ListOrMap::List(list) => found_in(list.as_slice(), key),
+            ListOrMap::Map(map) => map.get(key),
         }
     }
 
-    /// One more record. Without memory nothing changes.
-    pub fn put(&mut self, key: &Key, written: Record) -> Result<(), AllocError>
-        ensures ok { OnOk result (self.new ≡ insert_entry key_cmp self.old key.now written) }
+    /// One more record. Out of memory, nothing changes.
+    pub fn put(&mut self, key: Key, written: Record) -> Result<(), AllocError>
+        ensures ok { OnOk result (self.new ≡ insert_entry key_cmp self.old key written) }
         ensures err { OnErr result (self.new ≡ self.old) }
     {
         self.make_room()?;
-        match &mut self.kept {
-            Kept::Few(list) => put_in(list, key, written),
-            Kept::Many(map) => put_over(map, *key, written),
+        match &mut self.records {
+            ListOrMap::List(list) => put_in(list, key, written),
+            ListOrMap::Map(map) => put_over(map, key, written),
         }
     }
 
-    /// Makes room for the first records, and a map of the records where they are no longer few. It is made of copies, so that
-    /// the list stands where memory runs out on the way.
+    /// Makes room for the first records, and a map of the records once the list has its most. The map is made of copies, so that
+    /// out of memory the list stays whole.
     fn make_room(&mut self) -> Result<(), AllocError>
         ensures { self.new ≡ self.old }
     {
-        let Kept::Few(list) = &mut self.kept else {
+        let ListOrMap::List(list) = &mut self.records else {
             return Ok(());
         };
         if list.is_empty() {
             list.reserve_exact(USUAL)?;
         }
-        if list.len() < FEW {
+        if list.len() < LIST_MAX {
             return Ok(());
         }
-        let alloc = *list.allocator();
-        let map = map_of(alloc, copied(alloc, list.as_slice())?)?;
-        self.kept = Kept::Many(map);
+        let map = map_of(*list.allocator(), list.as_slice())?;
+        self.records = ListOrMap::Map(map);
         Ok(())
     }
 
@@ -127,20 +125,20 @@ impl Draft {
     pub fn finish(self, alloc: Global) -> Result<Writes, AllocError>
         ensures { IfOk result (λ w. w ≡ self) }
     {
-        let Draft { kept } = self;
-        kept.into_writes(alloc)
+        let Draft { records } = self;
+        records.into_writes(alloc)
     }
 }
 
-impl Kept {
+impl ListOrMap {
     /// The records in the order of keys.
     fn into_writes(self, alloc: Global) -> Result<Writes, AllocError>
         requires { Rise (entries_in self) }
         ensures { IfOk result (λ w. w ≡ entries_in self) }
     {
         match self {
-            Kept::Few(entries) => Ok(Writes { entries }),
-            Kept::Many(map) => listed(alloc, map),
+            ListOrMap::List(entries) => Ok(Writes { entries }),
+            ListOrMap::Map(map) => listed(alloc, map),
         }
     }
 }
@@ -151,15 +149,14 @@ fn listed(alloc: Global, map: BTreeMap<Key, Record>) -> Result<Writes, AllocErro
 {
     let mut entries = Vec::with_capacity(alloc, map.len())?;
     for (key, record) in map {
-        entries.push((KeptKey::new(alloc, &key)?, record))?;
+        entries.push((key, record))?;
     }
     Ok(Writes { entries })
 }
 
-/// The records that a line writes, each under its key, in the order of keys. The keys are kept ones: versions stay until the
-/// run ends.
+/// The records that a line writes, each under its key, in the order of keys.
 pub struct Writes {
-    entries: Vec<(KeptKey, Record)>,
+    entries: Vec<(Key, Record)>,
 }
 
 impl Drop for Writes {
@@ -197,13 +194,12 @@ impl Writes {
         ensures { IfOk result (λ w. w ≡ (key, written) ∷ []) }
     {
         let mut entries = Vec::with_capacity(alloc, 1)?;
-        let kept = KeptKey::new(alloc, &key)?;
-        entries.push((kept, written))?;
+        entries.push((key, written))?;
         Ok(Writes { entries })
     }
 
     /// The records with their keys, rising.
-    pub fn as_slice(&self) -> &[(KeptKey, Record)]
+    pub fn as_slice(&self) -> &[(Key, Record)]
         ensures writes { result.now ≡ self.now }
         ensures rising { IsStrictlySortedBy key_cmp (map (λ e. e.0) self.now) }
     {
@@ -217,8 +213,8 @@ impl Writes {
         self.entries.shrink_to_fit();
     }
 
-    /// The records with their keys, rising, given away.
-    pub fn into_vec(self) -> Vec<(KeptKey, Record)>
+    /// The records with their keys, rising.
+    pub fn into_vec(self) -> Vec<(Key, Record)>
         ensures { result.items ≡ self }
     {
         let Writes { entries } = self;

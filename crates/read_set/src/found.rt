@@ -9,8 +9,7 @@ use circ_records::{Fee, Item, Patron, Record, Shared};
 use std::alloc::AllocError;
 use std::marker::Model;
 
-/// A record, or none, as a note keeps it: versions stay until the run ends, and this takes a word less than an
-/// `Option<Record>`.
+/// A record, or none, in a note: versions stay until the run ends, and this takes a word less than an `Option<Record>`.
 pub struct NotedRecord {
     held: Held,
 }
@@ -51,7 +50,7 @@ impl Model for NotedRecord {
 }
 
 impl NotedRecord {
-    /// A record, or none, to be kept.
+    /// This record, or none.
     pub fn new(found: Option<Record>) -> NotedRecord
         ensures { result ≡ found }
     {

@@ -75,7 +75,7 @@ pub fn known_patron(policy: &Policy, found: Option<Record>) -> Option<Member>
     ensures { result ≡ as_member policy.now found }
 {
     match found {
-        Some(Record::Patron(patron)) => match policy.kept_class(&patron.get().class) {
+        Some(Record::Patron(patron)) => match policy.class(&patron.get().class) {
             Some(class) => Some(Member { patron, class }),
             None => None,
         },
@@ -85,11 +85,11 @@ pub fn known_patron(policy: &Policy, found: Option<Record>) -> Option<Member>
 
 /// The fee that a record is.
 #[tactic(auto, unfolding(crate::specs::Known::as_fee))]
-pub fn known_fee(found: &Option<Record>) -> Option<Fee>
-    ensures { result ≡ as_fee found.now }
+pub fn known_fee(found: Option<Record>) -> Option<Shared<Fee>>
+    ensures { result ≡ as_fee found }
 {
     match found {
-        Some(Record::Fee(fee)) => Some(*fee.get()),
+        Some(Record::Fee(fee)) => Some(fee),
         _ => None,
     }
 }

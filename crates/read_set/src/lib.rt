@@ -1,7 +1,7 @@
 //! The plan of a replay, and what each line of it means: the records before the first line, the reading of each line,
 //! where the meaning of a line reads records, and what it writes and answers.
-//! It stands on the crates that read (messages, policy, records, journal) and on the answers; the meanings of the
-//! kinds of messages stand on it.
+//! It uses the crates that read (messages, policy, records, journal) and the answers; the meanings of the kinds of messages
+//! use it.
 #![tactic(auto)]
 
 mod effect;

@@ -1,17 +1,21 @@
 //! What a line has read.
 
-ghost use Rattle.std.specs.Prelude.{◌≡◌, ◌++◌, ◌∷◌, [], None, IfOk, OnOk, OnErr};
+ghost use Rattle.std.specs.Prelude.{◌≡◌, ◌++◌, ◌∷◌, [], Some, None, cond, IfOk, OnOk, OnErr};
+ghost use Rattle.std.specs.BTreeMap.{is_at};
+ghost use Rattle.std.specs.Map.{lookup};
 ghost use Rattle.std.specs.Option.{option_copied};
+ghost use Rattle.circ_records.specs.Keys.{key_cmp};
+ghost use Rattle.circ_records.specs.declared.key.Key.{Key};
 ghost use Rattle.read_set.specs.Notes.{note_of, IsOnceEach};
-ghost use Rattle.read_set.specs.Devices.Positions.{AreKept, HasRoom, few, notes_in, positions_in};
+ghost use Rattle.read_set.specs.Devices.Positions.{first, positions_in};
 
 use crate::found::NotedRecord;
-use circ_records::{KeptKey, Key};
+use circ_records::Key;
 use std::alloc::{AllocError, Global};
 use std::collections::BTreeMap;
 use std::marker::Model;
 
-/// Whose record it is: the base's, or that of an attempt at a line. The attempt stands first, so that it shares a word with
+/// Whose record it is: the base's, or that of an attempt at a line. The attempt comes first, so that it shares a word with
 /// the tag.
 #[derive(Clone, Copy, PartialEq, Eq)]
 pub enum Name {
@@ -21,7 +25,7 @@ pub enum Name {
 
 /// What was found at a key, a record or none, under its name.
 pub struct Note {
-    pub key: KeptKey,
+    pub key: Key,
     pub name: Name,
     pub found: NotedRecord,
 }
@@ -49,51 +53,23 @@ impl Note {
     }
 }
 
-/// Among so many notes a key is looked for one by one: most lines have no more, and a map of them would take more memory
-/// than they do.
-const FEW: usize = 8;
+/// The keys of this many notes are compared one by one: most lines have no more, and a map takes more memory than they do.
+const LIST_MAX: usize = 8;
 
-/// Room for so many notes is made first: most lines have two, and versions stay until the run ends.
+/// The first allocation has room for this many notes: most lines have two, and versions stay until the run ends.
 const USUAL: usize = 2;
 
 /// What a line has read, in the order of reading. No key is noted twice.
 pub struct Notes {
-    kept: Kept,
+    notes: Vec<Note>,
+    /// Where the note of each key is that isn't among the first `LIST_MAX`.
+    positions: Option<Box<BTreeMap<Key, usize>>>,
 }
 
 impl Drop for Notes {
     fn drop(self) {
-        let Notes { kept: _ } = self;
-    }
-}
-
-/// A few notes are a list. More stand behind a pointer together with their positions: nearly all lines have few, and versions
-/// stay until the run ends.
-enum Kept {
-    Few(Vec<Note>),
-    Many(Box<Many>),
-}
-
-impl Drop for Kept {
-    fn drop(self) {
-        match self {
-            Kept::Few(_) => {}
-            Kept::Many(_) => {}
-        }
-    }
-}
-
-/// Notes that aren't few.
-struct Many {
-    entries: Vec<Note>,
-    /// Where the note of each key stands that isn't among the first few.
-    positions: BTreeMap<Key, usize>,
-}
-
-impl Drop for Many {
-    fn drop(self) {
-        let Many {
-            entries: _,
+        let Notes {
+            notes: _,
             positions: _,
         } = self;
     }
@@ -105,11 +81,11 @@ impl Model for Notes {
 
     ghost Value = { List Note };
 
-    ghost use Rattle.read_set.specs.Devices.Positions.{AreKept, notes_in, positions_in};
+    ghost use Rattle.read_set.specs.Devices.Positions.{AreNoted, positions_in};
 
-    ghost view = { λ n. notes_in n.kept };
+    ghost view = { λ n. n.notes.items };
 
-    ghost invariant = { λ n. AreKept (notes_in n.kept) (positions_in n.kept) };
+    ghost invariant = { λ n. AreNoted n.notes.items (positions_in n.positions) };
 }
 
 impl Notes {
@@ -118,20 +94,39 @@ impl Notes {
         ensures { result ≡ [] }
     {
         Notes {
-            kept: Kept::Few(Vec::new(alloc)),
+            notes: Vec::new(alloc),
+            positions: None,
         }
     }
 
-    /// One more note, of a key that isn't noted. Without memory nothing changes.
+    /// One more note, of a key that isn't noted. Out of memory, nothing changes.
     pub fn add(&mut self, note: Note) -> Result<(), AllocError>
         requires { note_of self.old note.key ≡ None }
         ensures ok { OnOk result (self.new ≡ self.old ++ note ∷ []) }
         ensures err { OnErr result (self.new ≡ self.old) }
     {
-        make_room(&mut self.kept)?;
-        match &mut self.kept {
-            Kept::Few(list) => push_among_few(list, note),
-            Kept::Many(many) => many.add(note),
+        if self.notes.len() >= LIST_MAX {
+            return self.add_later(note);
+        }
+        make_first_room(&mut self.notes)?;
+        self.notes.push(note)?;
+        Ok(())
+    }
+
+    /// One more note that isn't among the first, and its position. Out of memory, nothing changes.
+    fn add_later(&mut self, note: Note) -> Result<(), AllocError>
+        requires { note_of self.old note.key ≡ None }
+        ensures ok { OnOk result (self.new ≡ self.old ++ note ∷ []) }
+        ensures err { OnErr result (self.new ≡ self.old) }
+    {
+        let (key, position) = (note.key.clone()?, self.notes.len());
+        self.notes.push(note)?;
+        match put_position(*self.notes.allocator(), &mut self.positions, key, position) {
+            Ok(()) => Ok(()),
+            Err(_) => {
+                self.notes.pop();
+                Err(AllocError)
+            }
         }
     }
 
@@ -139,9 +134,9 @@ impl Notes {
     pub fn get(&self, key: &Key) -> Option<&Note>
         ensures { option_copied result ≡ note_of self.now key.now }
     {
-        match &self.kept {
-            Kept::Few(list) => note_among(list.as_slice(), key),
-            Kept::Many(many) => many.get(key),
+        match position_in(&self.positions, key) {
+            Some(position) => self.notes.get(position),
+            None => note_among(first(self.notes.as_slice()), key),
         }
     }
 
@@ -149,10 +144,7 @@ impl Notes {
     pub(crate) fn shrink_to_fit(&mut self)
         ensures { self.new ≡ self.old }
     {
-        match &mut self.kept {
-            Kept::Few(list) => list.shrink_to_fit(),
-            Kept::Many(many) => many.entries.shrink_to_fit(),
-        }
+        self.notes.shrink_to_fit();
     }
 
     /// The notes in the order of reading.
@@ -160,10 +152,7 @@ impl Notes {
         ensures notes { result.now ≡ self.now }
         ensures once { IsOnceEach self.now }
     {
-        match &self.kept {
-            Kept::Few(list) => list.as_slice(),
-            Kept::Many(many) => many.entries.as_slice(),
-        }
+        self.notes.as_slice()
     }
 
     /// The same notes.
@@ -174,103 +163,69 @@ impl Notes {
     }
 }
 
-impl Many {
-    /// One more note, and its position. Without memory nothing changes.
-    fn add(&mut self, note: Note) -> Result<(), AllocError>
-        requires kept { AreKept self.old.entries.items self.old.positions.entries }
-        requires fresh { note_of self.old.entries.items note.key ≡ None }
-        ensures kept { AreKept self.new.entries.items self.new.positions.entries }
-        ensures ok { OnOk result (self.new.entries.items ≡ self.old.entries.items ++ note ∷ []) }
-        ensures err { OnErr result (self.new.entries.items ≡ self.old.entries.items) }
-    {
-        let position = self.entries.len();
-        let key = note.key.key();
-        self.entries.push(note)?;
-        match self.positions.insert(key, position) {
-            Ok(_) => Ok(()),
-            Err(_) => {
-                self.entries.pop();
-                Err(AllocError)
-            }
-        }
-    }
-
-    /// The note of a key.
-    fn get(&self, key: &Key) -> Option<&Note>
-        requires { AreKept self.now.entries.items self.now.positions.entries }
-        ensures { option_copied result ≡ note_of self.now.entries.items key.now }
-    {
-        match self.positions.get(key).copied() {
-            Some(position) => self.entries.get(position),
-            None => note_among(first_few(&self.entries), key),
-        }
-    }
-}
-
-/// Moves a few notes behind a pointer, where they are no longer few with one more.
-fn make_room(kept: &mut Kept) -> Result<(), AllocError>
-    ensures notes { notes_in kept.new ≡ notes_in kept.old }
-    ensures positions { positions_in kept.new ≡ positions_in kept.old }
-    ensures room { OnOk result (HasRoom kept.new) }
+/// Makes room for the first notes. Out of memory, nothing changes.
+fn make_first_room(notes: &mut Vec<Note>) -> Result<(), AllocError>
+    ensures { notes.new.items ≡ notes.old.items }
 {
-    let Kept::Few(list) = kept else {
-        return Ok(());
-    };
-    if list.len() < FEW {
-        return Ok(());
+    if notes.is_empty() {
+        notes.reserve_exact(USUAL)?;
     }
-    let alloc = *list.allocator();
-    let mut many = no_notes(alloc)?;
-    std::mem::swap(&mut many.entries, list);
-    *kept = Kept::Many(many);
     Ok(())
 }
 
-/// A place for more notes than a few, without any.
-fn no_notes(alloc: Global) -> Result<Box<Many>, AllocError>
-    ensures notes { IfOk result (λ many. many.value.entries.items ≡ []) }
-    ensures positions { IfOk result (λ many. many.value.positions.entries ≡ []) }
+/// The first notes.
+fn first(notes: &[Note]) -> &[Note]
+    ensures { result.now ≡ first notes.now }
 {
-    let many = Many {
-        entries: Vec::new(alloc),
-        positions: BTreeMap::new(alloc),
-    };
-    Ok(Box::new(alloc, many)?)
-}
-
-/// The first few notes.
-fn first_few(notes: &[Note]) -> &[Note]
-    ensures { result.now ≡ few notes.now }
-{
-    if notes.len() <= FEW {
+    if notes.len() <= LIST_MAX {
         notes
     } else {
-        &notes[..FEW]
+        &notes[..LIST_MAX]
     }
 }
 
-/// One more note. Without memory nothing changes.
-fn push_among_few(entries: &mut Vec<Note>, note: Note) -> Result<(), AllocError>
-    ensures ok { OnOk result (entries.new.items ≡ entries.old.items ++ note ∷ []) }
-    ensures err { OnErr result (entries.new.items ≡ entries.old.items) }
-{
-    if entries.is_empty() {
-        entries.reserve_exact(USUAL)?;
-    }
-    entries.push(note)?;
-    Ok(())
-}
-
-/// The note of a key, looked for one by one.
+/// The note of a key; the keys are compared one by one.
 fn note_among<'n>(notes: &'n [Note], key: &Key) -> Option<&'n Note>
     ensures { option_copied result ≡ note_of notes.now key.now }
 {
     for note in notes {
-        if note.key.is(key) {
+        if *key == note.key {
             return Some(note);
         }
     }
     None
+}
+
+/// The position of a key's note, where the key has one.
+fn position_in(positions: &Option<Box<BTreeMap<Key, usize>>>, key: &Key) -> Option<usize>
+    ensures { result ≡ lookup (is_at (key_cmp key.now)) (positions_in positions.now) }
+{
+    match positions {
+        Some(map) => map.get(key).copied(),
+        None => None,
+    }
+}
+
+/// Puts the position of a key's note. Out of memory, nothing changes.
+fn put_position(
+    alloc: Global,
+    positions: &mut Option<Box<BTreeMap<Key, usize>>>,
+    key: Key,
+    position: usize,
+) -> Result<(), AllocError>
+    ensures ok { OnOk result ((k : Key) → lookup (is_at (key_cmp k)) (positions_in positions.new) ≡ cond (is_at (key_cmp key) k) (Some position) (lookup (is_at (key_cmp k)) (positions_in positions.old))) }
+    ensures err { OnErr result (positions_in positions.new ≡ positions_in positions.old) }
+{
+    let mut map = match positions.take() {
+        Some(map) => map,
+        None => Box::new(alloc, BTreeMap::new(alloc))?,
+    };
+    let put = map.insert(key, position);
+    *positions = Some(map);
+    match put {
+        Ok(_) => Ok(()),
+        Err(_) => Err(AllocError),
+    }
 }
 
 fn copy_notes(alloc: Global, notes: &[Note]) -> Result<Notes, AllocError>

@@ -1,4 +1,4 @@
-//! Notes as sources of records: those that stand, and those that grow by what is looked at.
+//! Notes as sources of records: notes that never change, and notes that grow by what is looked at.
 
 ghost use Rattle.std.specs.Prelude.{◌≡◌, None, ⊤};
 ghost use Rattle.read_set.specs.Asks.{follow, Ask, Give, Gains};
@@ -8,7 +8,7 @@ ghost use Rattle.read_set.specs.Stops.{Follows};
 use crate::found::NotedRecord;
 use crate::notes::{Name, Note, Notes};
 use crate::source::{OneByOne, Source, Stop};
-use circ_records::{KeptKey, Key, Record};
+use circ_records::{Key, Record};
 use std::alloc::{AllocError, Global};
 use std::marker::{Brand, PhantomData};
 
@@ -26,7 +26,7 @@ impl NotesName for Brand {
     ghost notes = { [] };
 }
 
-/// Notes that stand, as a source of records: it stops at a key that isn't noted. Its type names the notes, so it has the
+/// Notes that never change, as a source of records: it stops at a key that isn't noted. Its type names the notes, so it has the
 /// same whatever is read.
 #[derive(Drop)]
 pub struct NotesSource<'n, N: NotesName> {
@@ -58,14 +58,14 @@ impl<N: NotesName> Source for NotesSource<'_, N> {
     fn read(&mut self, alloc: Global, key: &Key) -> Result<Option<Record>, Stop> {
         match self.notes.get(key) {
             Some(note) => Ok(note.found.record()?),
-            None => Err(Stop::Unnoted(KeptKey::new(alloc, key)?)),
+            None => Err(Stop::Unnoted(key.clone()?)),
         }
     }
 }
 
 /// Where one looks for a record that isn't noted yet.
 pub trait Looks {
-    /// What stands at a key now, a record or none, and whose it is; None where there is nothing more to be seen.
+    /// What is at a key now, a record or none, and whose it is; None where there is nothing more to be seen.
     fn look(
         &mut self,
         alloc: Global,
@@ -114,7 +114,7 @@ fn look_for<L: Looks>(
     ensures keeps { Gains ⊤ (noted notes.old) (noted notes.new) (Ask key.now Give) }
 {
     let Some(seen) = looks.look(alloc, key)? else {
-        return Err(Stop::Unnoted(KeptKey::new(alloc, key)?));
+        return Err(Stop::Unnoted(key.clone()?));
     };
     let (name, found) = seen;
     note_found(alloc, notes, key, name, found)
@@ -136,7 +136,7 @@ fn note_found(
     let found = NotedRecord::new(found);
     let copy = found.record()?;
     notes.add(Note {
-        key: KeptKey::new(alloc, key)?,
+        key: key.clone()?,
         name,
         found,
     })?;

@@ -13,7 +13,7 @@ ghost use Rattle.read_set.specs.Coherence.{StaysCoherent};
 ghost use Rattle.read_set.specs.Plans.{plan_over, plan_of, plan_read, reading_at};
 
 use circ_policy::Policy;
-use circ_records::{Base, KeptKey, Key, Record, RecordMap};
+use circ_records::{Base, Key, Record, RecordMap};
 use journal_table::{Journal, Readings, read_in_turn};
 use sip_reader::{LINE_NUMBER_END, Reading};
 use std::alloc::{AllocError, Global};
@@ -76,8 +76,8 @@ impl Plan {
         ensures journal { (lines : List Entry) → readings ≡ all_read lines → result ≡ plan_of policy base lines }
     {
         let first = readings.first().unwrap_or(LINE_NUMBER_END);
-        // Their contracts say that the lines are few and each is read from a message, that the policy's terms lie in
-        // their ranges, and that a count holds the number of the records.
+        // These contracts say that there are at most `LINE_LIMIT` lines and each is read from a message, that the policy's terms
+        // are in their ranges, and that a count holds the number of the records.
         let _lines = readings.len();
         let _currency = policy.currency();
         let _records = base.as_slice();
@@ -103,7 +103,7 @@ impl Plan {
         self.first
     }
 
-    /// The numbers of the lines, rising: from the first line's to the one behind the last's, at most 10,000,000,000. The
+    /// The numbers of the lines, rising: from the first line's to the one after the last's, at most 10,000,000,000. The
     /// records before each of them, and those after the last line, are coherent.
     pub fn numbers(&self) -> Range<u64>
         ensures start { result.start ≡ self.now.first }
@@ -135,7 +135,7 @@ impl Plan {
     }
 
     /// The keys of the records before the first line, rising, each with its record. These records are coherent before it.
-    pub fn keys(&self) -> &[(KeptKey, Record)]
+    pub fn keys(&self) -> &[(Key, Record)]
         ensures keys { result.now ≡ self.now.base }
         ensures rising { IsStrictlySortedBy key_cmp (map (λ e. e.0) self.now.base) }
         ensures coherent { Coherent self.now.policy self.now.first self.now.base }

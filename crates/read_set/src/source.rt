@@ -5,17 +5,16 @@ ghost use Rattle.circ_records.specs.declared.record.Record.{Record};
 ghost use Rattle.read_set.specs.Asks.{follow, Ask, Give, Gains};
 ghost use Rattle.read_set.specs.Stops.{Follows};
 
-use circ_records::{KeptKey, Key, Record};
-use sip_reader::KeptId;
+use circ_records::{Key, Record};
+use sip_reader::Id;
 use std::alloc::{AllocError, Global};
 
-/// Why the meaning of a line stopped before its end. Each record that is read comes with room for a stop, so its key is kept: a `Key` has
-/// room for the longest id.
+/// Why the meaning of a line stopped before its end.
 #[derive(Drop)]
 pub enum Stop {
     /// The source has nothing at this key, neither a record nor that there is none.
-    Unnoted(KeptKey),
-    /// There was no memory.
+    Unnoted(Key),
+    /// Out of memory.
     Memory,
 }
 
@@ -30,7 +29,7 @@ impl From<AllocError> for Stop {
     }
 }
 
-/// Where the meaning of a line reads the records that it asks for. It gives at a key what it has there, and keeps what it has. It may come to
+/// Where the meaning of a line reads the records that it asks for. It gives at a key what it has there, and never loses it. It may come to
 /// have more, also at keys that nobody asked for, as one that fetches a page of records at once.
 pub trait Source {
     /// What it has at each key: nothing, or the record there, or that there is none.
@@ -44,20 +43,20 @@ pub trait Source {
         ensures gives { Follows result (follow (has self.new) (Ask key.now Give)) }
         ensures keeps { Gains one_by_one (has self.old) (has self.new) (Ask key.now Give) };
 
-    /// The same of a patron, by its id as it is kept. A source that finds it so makes no key of it.
-    fn read_patron(&mut self, alloc: Global, id: &KeptId) -> Result<Option<Record>, Stop>
+    /// The same of a patron, by its id. A source that finds it so makes no key of it.
+    fn read_patron(&mut self, alloc: Global, id: &Id) -> Result<Option<Record>, Stop>
         ensures gives { Follows result (follow (has self.new) (Ask (keys.Patron id.now) Give)) }
         ensures keeps { Gains one_by_one (has self.old) (has self.new) (Ask (keys.Patron id.now) Give) }
     {
-        self.read(alloc, &Key::Patron(id.id()))
+        self.read(alloc, &Key::Patron(id.clone()?))
     }
 
     /// The same of an item.
-    fn read_item(&mut self, alloc: Global, id: &KeptId) -> Result<Option<Record>, Stop>
+    fn read_item(&mut self, alloc: Global, id: &Id) -> Result<Option<Record>, Stop>
         ensures gives { Follows result (follow (has self.new) (Ask (keys.Item id.now) Give)) }
         ensures keeps { Gains one_by_one (has self.old) (has self.new) (Ask (keys.Item id.now) Give) }
     {
-        self.read(alloc, &Key::Item(id.id()))
+        self.read(alloc, &Key::Item(id.clone()?))
     }
 }
 

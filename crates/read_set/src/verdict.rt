@@ -3,7 +3,7 @@
 use sip_reader::{Day, Id};
 
 /// A loan or a renewal that is asked for.
-#[derive(Clone, Copy)]
+#[derive(Drop)]
 pub struct LoanRequest {
     pub patron: Id,
     pub item: Id,

@@ -8,7 +8,7 @@ ghost use Rattle.read_set.specs.Settling.{Settles};
 use crate::effect::Writes;
 use crate::notes::Notes;
 use crate::plan::PlanName;
-use circ_records::{KeptKey, Key, Record};
+use circ_records::{Key, Record};
 use sip_answer::Answer;
 use std::marker::{Model, PhantomData};
 
@@ -94,7 +94,7 @@ impl<J: PlanName> Version<J> {
     }
 
     /// The records that it writes with their keys, rising.
-    pub fn writes(&self) -> &[(KeptKey, Record)]
+    pub fn writes(&self) -> &[(Key, Record)]
         ensures writes { result.now ≡ self.now.writes }
         ensures rising { IsStrictlySortedBy key_cmp (map (λ e. e.0) self.now.writes) }
     {

@@ -8,7 +8,7 @@ use Rattle.circ_records.specs.declared.key.Key.{Key}
 use Rattle.circ_records.specs.declared.record.Record.{Record}
 use Rattle.record_changes.specs.declared.change.Change.{Change}
 
--- the records after one change: at its key stands what it says
+-- the records after one change: at its key is the record that it has
 abbrev pub changed : Change → (Key → Option Record) → Key → Option Record
 changed c M k = if eq_by_cmp key_cmp c.key k then c.after else M k
 
@@ -17,7 +17,7 @@ abbrev pub applied : List Change → (Key → Option Record) → Key → Option 
 applied [] M = M
 applied (c ∷ more) M = applied more (changed c M)
 
--- a change says what stood at its key and what stands there now, and these aren't the same
+-- a change has the record that was at its key and the one that is there now, and these differ
 pub record IsReal (old new : Entries) (c : Change) : Type 0 where
   pub before : c.before ≡ record_at old c.key
   pub after : c.after ≡ record_at new c.key
@@ -26,5 +26,5 @@ pub record IsReal (old new : Entries) (c : Change) : Type 0 where
 pub record AreChanges (before after : Entries) (changes : List Change) : Type 0 where
   -- applied to the records before they give those after
   pub give : (k : Key) → applied changes (record_at before) k ≡ record_at after k
-  -- and no record that is the same stands among them
+  -- and none of them is of a record that stayed the same
   pub real : All (IsReal before after) changes

@@ -8,7 +8,7 @@ ghost use Rattle.circ_records.specs.declared.key.Key.{Key};
 ghost use Rattle.record_changes.specs.Changes.{AreChanges};
 ghost use Rattle.record_changes.specs.Devices.Noted.{AreNoted, Each, IsNoted};
 
-use circ_records::{KeptKey, Key, Record, Records};
+use circ_records::{Key, Record, Records};
 use std::alloc::{AllocError, Global};
 
 /// A record that isn't as it was.
@@ -67,14 +67,14 @@ fn note_if_gone(
     changes: &mut Vec<Change>,
     before: &Records,
     after: &Records,
-    key: &KeptKey,
+    key: &Key,
 ) -> Result<(), AllocError>
     requires { AreNoted before.now after.now changes.old.items }
     ensures noted { OnOk result (AreNoted before.now after.now changes.new.items) }
     ensures there { OnOk result (record_at after.now key.now ≡ None → IsNoted before.now after.now changes.new.items key.now) }
     ensures keeps { OnOk result ((k : Key) → IsNoted before.now after.now changes.old.items k → IsNoted before.now after.now changes.new.items k) }
 {
-    match after.get(&key.key()) {
+    match after.get(key) {
         Some(_) => Ok(()),
         None => note(changes, before, after, key),
     }
@@ -85,21 +85,20 @@ fn note(
     changes: &mut Vec<Change>,
     before: &Records,
     after: &Records,
-    key: &KeptKey,
+    key: &Key,
 ) -> Result<(), AllocError>
     requires { AreNoted before.now after.now changes.old.items }
     ensures noted { OnOk result (AreNoted before.now after.now changes.new.items) }
     ensures there { OnOk result (IsNoted before.now after.now changes.new.items key.now) }
     ensures keeps { OnOk result ((k : Key) → IsNoted before.now after.now changes.old.items k → IsNoted before.now after.now changes.new.items k) }
 {
-    let key = key.key();
-    let was = before.get(&key);
-    let is = after.get(&key);
+    let was = before.get(key);
+    let is = after.get(key);
     if is_same(was, is) {
         return Ok(());
     }
     changes.push(Change {
-        key,
+        key: key.clone()?,
         before: copy(was)?,
         after: copy(is)?,
     })?;

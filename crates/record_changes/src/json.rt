@@ -65,9 +65,9 @@ fn patron_value(alloc: Global, patron: &Patron) -> Result<Value, AllocError> {
 fn item_value(alloc: Global, item: &Item) -> Result<Value, AllocError> {
     let loan = match &item.loan {
         Some(loan) => {
-            let patron = text(alloc, loan.patron().as_bytes())?;
-            let due = day(alloc, loan.due())?;
-            json!(in alloc; {"patron": patron, "due": due, "renewals": (loan.renewals())})?
+            let patron = text(alloc, loan.patron.as_bytes())?;
+            let due = day(alloc, loan.due)?;
+            json!(in alloc; {"patron": patron, "due": due, "renewals": (loan.renewals)})?
         }
         None => Value::Null,
     };
@@ -170,10 +170,10 @@ fn done_to_item(
         (None, Some(_)) => say(alloc, words, "loan_made")?,
         (Some(_), None) => say(alloc, words, "loan_ended")?,
         (Some(old), Some(new)) => {
-            if *old.patron() != *new.patron() {
+            if old.patron != new.patron {
                 say(alloc, words, "loan_ended")?;
                 say(alloc, words, "loan_made")?;
-            } else if old.due() != new.due() || old.renewals() != new.renewals() {
+            } else if old.due != new.due || old.renewals != new.renewals {
                 say(alloc, words, "loan_set")?;
             }
         }

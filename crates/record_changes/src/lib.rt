@@ -1,5 +1,4 @@
-//! What changed from the records before a run to those after it: what a live system has to be told. It stands on `circ_records`; the program
-//! `sip_why` stands on it.
+//! What changed from the records before a run to those after it: what to enter in a live system. The program `sip_why` uses it.
 #![tactic(auto)]
 
 mod change;

@@ -107,7 +107,7 @@ module _ (plan : Planned) (entered : ℕ → List (Key × ℕ))
       sym (kept n le k (none_each (is_at (key_cmp k)) (λ line. keys_named (entered line)) plan.first (length plan.readings) none n le))
       ∙ untouched k none base n (omega arith)
 
-  -- no record stands at a key that isn't named
+  -- there is no record at a key that isn't named
   none_last : (k : Key) → list_any (is_at (key_cmp k)) (named_keys plan entered) ≡ false → last plan k ≡ None
   none_last k none =
       let split = sym (list_any-append (is_at (key_cmp k)) (map (λ e. e.0) plan.base) (lines_keys entered (numbers_of plan))) ∙ none in

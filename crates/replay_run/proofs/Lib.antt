@@ -1,8 +1,7 @@
-mod Puts
 mod Replayed
 mod Fitting
 mod Answered
 mod Ended
+mod Outputs
 mod Stepping
 mod Spans
-mod Copying

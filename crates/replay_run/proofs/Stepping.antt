@@ -79,10 +79,6 @@ each-once plan lines b o fits output =
     ∙ ap length fits
     ∙ length-map lines (λ (line : Entry). reading line.request)
 
-pub all-once : {F : Type 0} (plan : Planned) (lines : List Entry) (b : Board) (r : Result Output F) → plan.readings ≡ readings_of lines → IfOk r (IsOutputBy plan lines (attempts_on plan b)) → IfOk r (λ o. length o.attempts.items ≡ length lines)
-all-once plan lines b (Ok o) fits is = each-once plan lines b o fits is
-all-once plan lines b (Err fault) fits is = tt
-
 pub one-each : (j : Accepted) (workers : ℕ) (steps : List Step) (r : Result Run Fault) → j.plan.readings ≡ readings_of j.lines → IsRun j workers steps r → IfOk r (λ run. IfOutput run (λ o. length o.attempts.items ≡ length j.lines))
 one-each j workers steps (Ok (runs.Output o)) fits (after, played, whole, output) = each-once j.plan j.lines after o fits output
 one-each j workers steps (Ok (runs.Unfinished committed)) fits run = tt

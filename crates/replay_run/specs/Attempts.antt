@@ -1,4 +1,4 @@
--- The attempts that an output tells: one for each line of the journal.
+-- The attempts of an output: one for each line of the journal.
 use Rattle.std.specs.Prelude.{◌≡◌, ℕ, List, length, Result, Ok, Err}
 use Rattle.replay_run.specs.Judgements.{Accepted, Refused}
 use Rattle.replay_run.specs.declared.by_steps.Run.{Run}

@@ -40,7 +40,7 @@ CommitAll j workers steps o =
     (after : Board) × Plays j.plan (first_board j.plan workers) steps after × IsWhole after
     × IsOutputBy j.plan j.lines (attempts_on j.plan after) o
 
--- the steps commit so many lines, and there are more
+-- the steps commit this number of lines, and there are more
 abbrev pub CommitSome : Accepted → ℕ → List Step → ℕ → Type 0
 CommitSome j workers steps committed =
     (after : Board) × Plays j.plan (first_board j.plan workers) steps after × (after.committed ≡ committed)

@@ -1,2 +1,2 @@
--- Devices of proofs: how things are kept. No promise is read here.
+-- Devices of proofs: how things are stored. No promise is read here.
 pub mod Spans

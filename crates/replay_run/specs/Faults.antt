@@ -1,4 +1,4 @@
--- The faults of a run: their numbers and their texts, as the program tells them, and those of what is read.
+-- The faults of a run: their numbers and their texts, as the program prints them, and those of what is read.
 use Rattle.std.specs.Prelude.{ℕ, List, ◌++◌, codes, decimal, string_bytes}
 use Rattle.circ_policy.specs.declared.error.PolicyError.{PolicyError}
 use Rattle.circ_policy.specs.declared.error.PolicyError.TheVariants as policy
@@ -37,7 +37,7 @@ fault_text (faults.Attempts line) = codes "attempts spent at line " ++ decimal l
 fault_text faults.ClockSpent = codes "clock spent"
 fault_text faults.Memory = codes "memory"
 
--- what a refused policy, base, journal or step is told as
+-- the fault of a refused policy, base, journal or step
 abbrev pub policy_fault : PolicyError → Fault
 policy_fault policy.Text = faults.PolicyText
 policy_fault (policy.Rule key) = faults.PolicyRule key

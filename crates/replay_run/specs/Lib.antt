@@ -6,7 +6,6 @@ pub mod Devices
 pub mod Entries
 pub mod Faults
 pub mod Judgements
-pub mod Live
 pub mod OneThread
 pub mod Prepared
 pub mod ReplayEnd

@@ -1,5 +1,5 @@
--- The output of one thread: the first fault of the inputs, or what the replay of the lines in the order of the journal
--- comes to.
+-- The output of one thread: the first fault of the inputs, or the outcome of the replay of the lines in the order of
+-- the journal.
 use Rattle.std.specs.Prelude.{◌≡◌, ◌+◌, ℕ, List, length, replicate, Result, Ok, Err}
 use Rattle.circ_records.specs.Records.{Entries}
 use Rattle.circ_records.specs.Tables.{Texts, texts_of}
@@ -18,7 +18,7 @@ use Rattle.replay_run.specs.declared.fault.Fault.{Fault}
 use Rattle.replay_run.specs.declared.inputs.Inputs.{Inputs}
 use Rattle.replay_run.specs.declared.inputs.Output.{Output}
 
--- texts are the tables that tell a map
+-- texts are the tables of the entries of a map
 abbrev pub TellsMap : Map → Texts → Type 0
 TellsMap M texts = (entries : Entries) × AreEntries M entries × (texts ≡ tables_of entries)
 

@@ -21,18 +21,18 @@ use std::marker::Brand;
 use std::sync::Wait;
 use version_store::VersionTable;
 
-/// What a run by a list of steps comes to.
+/// The outcome of a run by a list of steps.
 #[derive(Drop)]
 pub enum Run {
     /// All lines are committed.
     Output(Output),
-    /// So many lines are committed, and there are more.
+    /// This number of lines is committed, and there are more.
     Unfinished { committed: u64 },
 }
 
 /// The output of one thread, where the steps of 1 to 64 workers commit every line of the journal; its attempts are those
 /// that were committed. Else how many lines they commit. The faults: first the number of workers, then those of the inputs,
-/// then the first step that is refused, for want of attempts or of the clock. `Look` takes the key that its line wants
+/// then the first step that is refused, since the attempts or the clock are spent. `Look` takes the key that its line needs
 /// next, `Publish` the version that its notes give.
 pub fn rebuild_by_steps<R: Wait>(
     rt: &R,

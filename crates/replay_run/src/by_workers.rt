@@ -31,11 +31,10 @@ use version_store::VersionTable;
 use worker_pool::{Gate, SharedBoard, run_workers};
 
 /// The output of one thread, made by 1 to 64 workers in threads; its attempts are those that were committed. The faults: first
-/// the number of workers, then those of the inputs, then the first that a worker meets. The gate is told of each worker's
+/// the number of workers, then those of the inputs, then the first that a worker meets. The gate is called after each worker's
 /// steps.
 ///
-/// What an output was made of is not torn down: its memory stays taken until the process ends, which gives all of it back
-/// at once.
+/// What an output was made of isn't dropped: its memory stays taken until the process ends, which frees all of it at once.
 pub fn rebuild<G: Gate + Sync, R: Threads + Wait + Sync>(
     rt: &R,
     alloc: Global,
@@ -63,7 +62,7 @@ pub fn rebuild<G: Gate + Sync, R: Threads + Wait + Sync>(
     }
 }
 
-/// The run of the workers over the plan of a journal. A fault that they hand on ends it, whatever is committed by then. Where they
+/// The run of the workers over the plan of a journal. A fault that they return ends it, whatever is committed by then. Where they
 /// end with lines open and no fault, the calling thread commits these in order.
 #[tactic(auto, using(crate::proofs::Stepping::met))]
 fn run_named<J: PlanName + Send + Sync + 'static, G: Gate + Sync, R: Threads + Wait + Sync>(
@@ -128,31 +127,15 @@ fn collect_parallel<J: PlanName + 'static, R: Threads + Sync>(
 {
     let _plan = finished.plan();
     let outcome = collect(alloc, &finished)?;
-    // its memory is wanted for the texts
+    // its memory is needed for the texts
     drop(finished);
-    output_parallel(rt, alloc, plan, journal, outcome)
-}
-
-/// The output of a run as `output_of` gives it; the result tables are made by all cores.
-fn output_parallel<R: Threads + Sync>(
-    rt: &R,
-    alloc: Global,
-    plan: &Plan,
-    journal: &Journal,
-    outcome: Outcome<'_>,
-) -> Result<Output, AllocError>
-    requires fits { plan.now.readings ≡ readings_of journal.now }
-    requires answers { answers_behind outcome.answers.items ≡ answers_of plan.now }
-    requires records { AreEntries (last plan.now) outcome.records }
-    ensures { IfOk result (IsOutputBy plan.now journal.now outcome.entry.attempts.items) }
-{
     let Outcome {
         records,
         answers,
         attempts,
     } = outcome;
     let tables = write_records(alloc, records.as_records())?;
-    // their memory is wanted for the texts
+    // their memory is needed for the texts
     drop(records);
     let rest = Outcome {
         records: LastRecords::collected(Records::from_map(alloc, RecordMap::new(alloc))?),

@@ -12,7 +12,7 @@ use std::alloc::AllocError;
 use std::fmt;
 
 /// Why a run gives no output, in the order in which the inputs are judged. `Display` prints the text that the program
-/// tells behind the fault's number.
+/// prints after the fault's number.
 #[derive(Drop)]
 pub enum Fault {
     /// The number of workers isn't 1 to 64.
@@ -27,7 +27,7 @@ pub enum Fault {
     BaseTable {
         table: TableName,
     },
-    /// The first rule that the tables break, in a row counted from 1 behind the header.
+    /// The first rule that the tables break, in a row counted from 1 after the header.
     BaseRule {
         table: TableName,
         row: usize,
@@ -35,7 +35,7 @@ pub enum Fault {
     },
     /// The journal's rows are not all of one length, or its header is missing or another.
     JournalTable,
-    /// The first rule that the journal breaks, in a row counted from 1 behind the header.
+    /// The first rule that the journal breaks, in a row counted from 1 after the header.
     JournalRule {
         row: usize,
         rule: JournalRule,
@@ -46,12 +46,12 @@ pub enum Fault {
     },
     /// The clock of the board is at its end.
     ClockSpent,
-    /// There was no memory.
+    /// Memory ran out.
     Memory,
 }
 
 impl Fault {
-    /// The number that the program tells, 1 to 10.
+    /// The number that the program prints, 1 to 10.
     pub fn number(&self) -> u8
         ensures { result ≡ fault_number self.now }
     {

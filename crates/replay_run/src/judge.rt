@@ -6,33 +6,30 @@ ghost use Rattle.circ_records.specs.Base.{base_of};
 ghost use Rattle.circ_records.specs.Tables.{texts_of};
 ghost use Rattle.journal_table.specs.Entry.{first_number};
 ghost use Rattle.journal_table.specs.Journal.{journal_of};
-ghost use Rattle.replay_run.specs.Judgements.{Fails, first_read, judgement_on, with_base, with_policy};
+ghost use Rattle.replay_run.specs.Judgements.{Fails, first_read, with_base, with_policy};
+ghost use Rattle.replay_run.specs.OneThread.{judgement};
 ghost use Rattle.replay_run.specs.Prepared.{IsSound};
 
 use crate::fault::Fault;
+use crate::inputs::Inputs;
 use crate::prepared::Sound;
 use circ_policy::Policy;
 use circ_records::{Base, Tables};
 use journal_table::{Journal, JournalError};
 use std::alloc::Global;
 
-/// The policy, the base and the journal that the inputs tell, or their first fault.
+/// The policy, the base and the journal that the inputs give, or their first fault.
 #[tactic(auto, unfolding(crate::specs::Judgements::judgement_on))]
-pub fn judge<'i>(
-    alloc: Global,
-    policy: &[u8],
-    tables: &Tables,
-    journal: &'i [u8],
-) -> Result<Sound<'i>, Fault>
-    ensures { IsSound result (judgement_on policy.now (texts_of tables.now) journal.now) }
+pub fn judge(alloc: Global, inputs: &Inputs) -> Result<Sound<'_>, Fault>
+    ensures { IsSound result (judgement inputs.now) }
 {
-    match Policy::read(alloc, policy) {
-        Ok(policy) => judge_journal(alloc, policy, tables, journal),
+    match Policy::read(alloc, inputs.policy.as_slice()) {
+        Ok(policy) => judge_journal(alloc, policy, &inputs.tables, inputs.journal.as_slice()),
         Err(error) => Err(Fault::from(error)),
     }
 }
 
-/// The journal is read before the base, which asks for its first number, but its fault is told after the base's.
+/// The journal is read before the base, which asks for its first number, but its fault comes after the base's.
 fn judge_journal<'i>(
     alloc: Global,
     policy: Policy,

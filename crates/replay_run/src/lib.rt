@@ -1,6 +1,6 @@
-//! The room of whole runs: from the bytes of policy, tables and journal to the tables after the last line, the answers
-//! and the report; by one thread, by a list of workers' steps, or by workers in threads. It stands on all rooms that read, on the meaning of lines,
-//! on the board and on the report; the program stands on it.
+//! Whole runs: from the bytes of policy, tables and journal to the tables after the last line, the answers
+//! and the report; by one thread, by a list of workers' steps, or by workers in threads. It uses all crates that read, the meaning of lines,
+//! the board and the report; the program uses it.
 #![tactic(auto)]
 
 mod by_steps;
@@ -8,7 +8,6 @@ mod by_workers;
 mod fault;
 mod inputs;
 mod judge;
-mod live;
 mod prepared;
 mod replay;
 mod replay_end;

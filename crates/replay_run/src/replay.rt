@@ -4,21 +4,21 @@ ghost use Rattle.std.specs.Prelude.{◌≡◌, ◌<◌, ◌+◌, ◌++◌, ◌�
 ghost use Rattle.std.specs.BTreeMap.{is_at};
 ghost use Rattle.std.specs.List.{list_any};
 ghost use Rattle.circ_records.specs.Keys.{key_cmp};
+ghost use Rattle.circ_records.specs.Records.{record_at};
 ghost use Rattle.circ_records.specs.declared.key.Key.{Key};
 ghost use Rattle.read_set.specs.Maps.{Map};
 ghost use Rattle.read_set.specs.Replay.{one_at};
-ghost use Rattle.replay_run.specs.Live.{standing};
 ghost use Rattle.replay_run.specs.ReplayEnd.{IsReplay};
 
-use crate::live::Live;
 use crate::written::WrittenKeys;
 use circ_records::Records;
+use live_records::Live;
 use message_meaning::perform;
 use read_set::{Effect, Plan, Stop};
 use sip_answer::Answer;
 use std::alloc::{AllocError, Global};
 
-/// What a replay comes to: the records after the last line, and of each line its answer, where it has one, and the keys of
+/// The outcome of a replay: the records after the last line, and of each line its answer, where it has one, and the keys of
 /// the records that it wrote.
 #[derive(Drop)]
 pub struct Replayed {
@@ -27,7 +27,7 @@ pub struct Replayed {
     pub written: WrittenKeys,
 }
 
-/// What the lines of a plan come to, taken in order by one thread.
+/// The outcome of the lines of a plan, taken in order by one thread.
 pub fn replay(alloc: Global, plan: &Plan) -> Result<Replayed, AllocError>
     ensures { IfOk result (IsReplay plan.now) }
 {
@@ -53,8 +53,8 @@ pub fn replay(alloc: Global, plan: &Plan) -> Result<Replayed, AllocError>
     })
 }
 
-/// Takes the line of a number on the records as they stand, and puts its answer, where it has one, behind the others, who have room for it:
-/// so it goes there at once. Where memory runs out nothing is said of them: the replay drops them all then.
+/// Takes the line of a number on the records as they are, and puts its answer, where it has one, after the others, which have the capacity for it.
+/// Where memory runs out no clause speaks of them: the replay drops them all then.
 fn take_line(
     alloc: Global,
     plan: &Plan,
@@ -66,10 +66,10 @@ fn take_line(
     requires { vec_len answers.old < vec_capacity answers.old }
     ensures len { OnOk result (vec_len answers.new ≡ vec_len answers.old + 1) }
     ensures capacity { OnOk result (vec_capacity answers.new ≡ vec_capacity answers.old) }
-    ensures answer { OnOk result ((M : Map) → ((k : Key) → standing live.old k ≡ M k) → answers.new.items ≡ answers.old.items ++ (one_at plan.now line M).1 ∷ []) }
-    ensures records { OnOk result ((M : Map) → ((k : Key) → standing live.old k ≡ M k) → (k : Key) → standing live.new k ≡ (one_at plan.now line M).0 k) }
+    ensures answer { OnOk result ((M : Map) → ((k : Key) → record_at live.old k ≡ M k) → answers.new.items ≡ answers.old.items ++ (one_at plan.now line M).1 ∷ []) }
+    ensures records { OnOk result ((M : Map) → ((k : Key) → record_at live.old k ≡ M k) → (k : Key) → record_at live.new k ≡ (one_at plan.now line M).0 k) }
     ensures written { OnOk result ((keys : List Key) × (written.new ≡ written.old ++ keys ∷ [])
-        × ((k : Key) → list_any (is_at (key_cmp k)) keys ≡ false → standing live.new k ≡ standing live.old k)) }
+        × ((k : Key) → list_any (is_at (key_cmp k)) keys ≡ false → record_at live.new k ≡ record_at live.old k)) }
 {
     match perform(alloc, plan, line, live) {
         Ok(Effect { writes, answer }) => {

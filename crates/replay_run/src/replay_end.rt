@@ -6,12 +6,12 @@ ghost use Rattle.read_set.specs.Replay.{answer_of};
 ghost use Rattle.replay_run.specs.ReplayEnd.{IsReplay};
 
 use crate::replay::Replayed;
-use circ_records::{KeptKey, Key, Record, Records};
+use circ_records::{Key, Record, Records};
 use read_set::Plan;
 use result_report::End;
 use sip_answer::Answer;
 
-/// The end of a run by one thread. It lends what the replay has come to.
+/// The end of a run by one thread. It borrows the outcome of the replay.
 #[derive(Drop)]
 pub struct ReplayEnd<'e> {
     pub plan: &'e Plan,
@@ -52,7 +52,7 @@ impl<'e> End<'e> for ReplayEnd<'e> {
         0
     }
 
-    fn keys_of(&self, line: u64, i: usize) -> Option<(&KeptKey, u32)> {
+    fn keys_of(&self, line: u64, i: usize) -> Option<(&Key, u32)> {
         let first = self.plan.first();
         if line < first {
             return None;

@@ -1,4 +1,4 @@
-//! A whole run by one thread, and the output of any run that comes to what one thread comes to.
+//! A whole run by one thread, and the output of any run whose outcome is that of one thread.
 
 ghost use Rattle.std.specs.Prelude.{◌≡◌, IfOk};
 ghost use Rattle.read_set.specs.Plans.{readings_of};
@@ -6,7 +6,7 @@ ghost use Rattle.read_set.specs.Replay.{last};
 ghost use Rattle.result_report.specs.Report.{answers_behind};
 ghost use Rattle.replay_run.specs.Answers.{answers_of};
 ghost use Rattle.replay_run.specs.Entries.{AreEntries};
-ghost use Rattle.replay_run.specs.Prepared.{IsSound, IsJudgement};
+ghost use Rattle.replay_run.specs.Prepared.{IsJudgement};
 ghost use Rattle.replay_run.specs.OneThread.{IsOneThread, IsOutput, IsOutputBy, judgement, results_of};
 
 use crate::fault::Fault;
@@ -26,8 +26,7 @@ use std::thread::Threads;
 /// The output of one thread that takes the lines in the order of the journal, or the first fault of the inputs: first
 /// the policy, then the tables, then the journal. Each line is attempted once.
 ///
-/// What an output was made of is not torn down: its memory stays taken until the process ends, which gives all of it back
-/// at once.
+/// What an output was made of isn't dropped: its memory stays taken until the process ends, which frees all of it at once.
 pub fn one_thread(alloc: Global, inputs: &Inputs) -> Result<Output, Fault>
     ensures { IsOneThread inputs.now result }
 {
@@ -47,7 +46,7 @@ pub fn judge_inputs(alloc: Global, inputs: &Inputs) -> Result<Prepared<'_>, Faul
     ensures due { IsJudgement result (judgement inputs.now) }
     ensures fits { IfOk result (λ j. j.plan.readings ≡ readings_of j.journal) }
 {
-    match sound_inputs(alloc, inputs) {
+    match judge(alloc, inputs) {
         Ok(
             Sound {
                 policy,
@@ -71,7 +70,7 @@ pub fn judge_parallel<'i, R: Threads + Sync>(
     ensures due { IsJudgement result (judgement inputs.now) }
     ensures fits { IfOk result (λ j. j.plan.readings ≡ readings_of j.journal) }
 {
-    match sound_inputs(alloc, inputs) {
+    match judge(alloc, inputs) {
         Ok(
             Sound {
                 policy,
@@ -87,19 +86,7 @@ pub fn judge_parallel<'i, R: Threads + Sync>(
     }
 }
 
-/// The policy, the base and the journal of inputs, or their first fault.
-fn sound_inputs(alloc: Global, inputs: &Inputs) -> Result<Sound<'_>, Fault>
-    ensures { IsSound result (judgement inputs.now) }
-{
-    judge(
-        alloc,
-        inputs.policy.as_slice(),
-        &inputs.tables,
-        inputs.journal.as_slice(),
-    )
-}
-
-/// The output of one thread over the plan of a journal. What the replay came to isn't torn down.
+/// The output of one thread over the plan of a journal. The outcome of the replay isn't dropped.
 fn output(alloc: Global, plan: &Plan, journal: &Journal) -> Result<Output, AllocError>
     requires { plan.now.readings ≡ readings_of journal.now }
     ensures { IfOk result (IsOutput plan.now journal.now) }
@@ -117,7 +104,7 @@ fn output(alloc: Global, plan: &Plan, journal: &Journal) -> Result<Output, Alloc
     Ok(output)
 }
 
-/// The output of a run over the plan of a journal that came to the records and the answers of one thread: the tables of these
+/// The output of a run over the plan of a journal that ended with the records and the answers of one thread: the tables of these
 /// records, and the result tables of the lines with these answers.
 pub fn output_of(
     alloc: Global,
@@ -141,12 +128,18 @@ pub fn put_together(tables: Tables, texts: Texts, attempts: Vec<u32>) -> Output
     ensures results { results_of result ≡ texts }
     ensures attempts { result.attempts ≡ attempts }
 {
+    let Texts {
+        answers,
+        report,
+        passed,
+        sizes,
+    } = texts;
     Output {
         tables,
-        answers: texts.answers,
-        report: texts.report,
-        passed: texts.passed,
-        sizes: texts.sizes,
+        answers,
+        report,
+        passed,
+        sizes,
         attempts,
     }
 }

@@ -3,19 +3,19 @@
 ghost use Rattle.std.specs.Prelude.{◌≡◌, ◌<◌, ◌^◌, ◌++◌, ◌∷◌, [], List, IfOk, OnOk, length, map, option_copied, slice_get, unwrap_or};
 ghost use Rattle.circ_records.specs.declared.key.Key.{Key};
 
-use circ_records::{KeptKey, Record};
+use circ_records::{Key, Record};
 use std::alloc::{AllocError, Global};
 use std::marker::Model;
 
 /// The keys of the records that lines wrote, line after line.
 #[derive(Drop)]
 pub struct WrittenKeys {
-    keys: Vec<KeptKey>,
+    keys: Vec<Key>,
     /// Of each line, which of the keys are its own.
     spans: Vec<Span>,
 }
 
-/// So many keys from a position on.
+/// A number of keys from a position on.
 #[derive(Clone, Copy)]
 struct Span {
     from: usize,
@@ -36,7 +36,7 @@ impl Model for WrittenKeys {
 }
 
 impl WrittenKeys {
-    /// Of no line, with room for so many.
+    /// Of no line, with capacity for this number of lines.
     pub fn with_room(alloc: Global, lines: usize) -> Result<WrittenKeys, AllocError>
         ensures { IfOk result (λ w. w ≡ []) }
     {
@@ -47,7 +47,7 @@ impl WrittenKeys {
     }
 
     /// One line more, which writes these records.
-    pub fn add(&mut self, writes: &[(KeptKey, Record)]) -> Result<(), AllocError>
+    pub fn add(&mut self, writes: &[(Key, Record)]) -> Result<(), AllocError>
         ensures { OnOk result (self.new ≡ self.old ++ map (λ w. w.0) writes.now ∷ []) }
     {
         let from = self.keys.len();
@@ -60,7 +60,7 @@ impl WrittenKeys {
     }
 
     /// The i-th key, from 0, of the line at a place.
-    pub fn get(&self, place: usize, i: usize) -> Option<&KeptKey>
+    pub fn get(&self, place: usize, i: usize) -> Option<&Key>
         ensures key { option_copied result ≡ slice_get (unwrap_or (slice_get self.now place) []) i }
         ensures few { length (unwrap_or (slice_get self.now place) []) < 2 ^ 64 }
     {
@@ -72,8 +72,8 @@ impl WrittenKeys {
     }
 }
 
-/// Puts the keys of records behind others.
-fn put_keys(keys: &mut Vec<KeptKey>, records: &[(KeptKey, Record)]) -> Result<(), AllocError>
+/// Puts the keys of records after others.
+fn put_keys(keys: &mut Vec<Key>, records: &[(Key, Record)]) -> Result<(), AllocError>
     ensures put { OnOk result (keys.new.items ≡ keys.old.items ++ map (λ w. w.0) records.now) }
     ensures behind { (more : List Key) × (keys.new.items ≡ keys.old.items ++ more) }
 {

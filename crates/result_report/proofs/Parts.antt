@@ -1,4 +1,4 @@
--- Lines that are told at their positions, and in parts.
+-- Lines that are written at their positions, and in parts.
 use Rattle.std.proofs.Common.{◌≡◌, ◌∙◌, ◌<◌, ◌≤◌, ◌^◌, ◌-◌, ◌+◌, ◌*◌, ℕ, zero, suc, List, [], ◌∷◌, ◌++◌, length, take, drop, map, min, Option, Some, None, Result, Ok, Bor, arith, refl, sym, ap, ◌⊎◌, inl, inr, append_assoc}
 use Rattle.std.specs.Prelude.{IfOk, option_copied, option_map, slice_get}
 use Rattle.std.specs.List.{AllZip, filter_map, range_with_len}
@@ -26,7 +26,7 @@ pub lends : {X : Type 0} (xs : List X) (i : ℕ) (r : Option (Bor X)) → IsItem
 lends xs i None h = sym (slice_get_past xs i h.3)
 lends xs i (Some x) h = sym (slice_get_read xs (length xs) i x.now refl h.3.0 h.1)
 
--- lines are told as far as there are lines, readings and answers
+-- lines are written as far as there are lines, readings and answers
 pub no-line : (ls : List Entry) (rs : List Reading) (ans : List (Option Answer)) (i : ℕ) → None ≡ slice_get ls i → None ≡ slice_get (line_results ls rs ans) i
 no-line [] rs ans i e = refl
 no-line (x ∷ ls) [] ans i e = refl
@@ -56,7 +56,7 @@ all-three (x ∷ ls) (y ∷ rs) [] i l r a e f g = cc g
 all-three (x ∷ ls) (y ∷ rs) (z ∷ ans) zero l r a e f g = let p : l ≡ x = cc e in let q : r ≡ y = cc f in let s : a ≡ z = cc g in rw (p, q, s) refl
 all-three (x ∷ ls) (y ∷ rs) (z ∷ ans) (suc i) l r a e f g = all-three ls rs ans i l r a e f g
 
--- no more lines are told than there are
+-- no more lines are written than there are
 pub few-line_results : (ls : List Entry) (rs : List Reading) (ans : List (Option Answer)) → length (line_results ls rs ans) ≤ length ls
 few-line_results [] rs ans = omega arith
 few-line_results (x ∷ ls) [] ans = omega arith
@@ -95,7 +95,7 @@ module _ {X : Type 0} where
   pub between-none : (from position : ℕ) (xs : List X) → position ≤ from → between from position xs ≡ []
   between-none from position xs le = let none : position - from ≡ 0 = omega arith in rw none refl
 
--- the text of rows one behind the other
+-- the text of rows one after the other
 text-append : (a b : List Row) → table_text (a ++ b) ≡ table_text a ++ table_text b
 text-append [] b = refl
 text-append (row ∷ a) b = ap (λ (t : List ℕ). row_text default_writer row ++ t) (text-append a b) ∙ sym (append_assoc (row_text default_writer row) (table_text a) (table_text b))
@@ -104,7 +104,7 @@ drop-front : {X : Type 0} (xs ys : List X) → drop (length xs) (xs ++ ys) ≡ y
 drop-front [] ys = refl
 drop-front (x ∷ xs) ys = drop-front xs ys
 
--- a table without its header behind another with the same header
+-- a table without its header after another with the same header
 table-behind : (h : Row) (front back : List Row) (n : ℕ) → n ≡ length (table_text (h ∷ [])) → table_text (h ∷ front) ++ drop n (table_text (h ∷ back)) ≡ table_text (h ∷ (front ++ back))
 table-behind h front back n e =
     let head : n ≡ length (row_text default_writer h) = e ∙ ap length (append-nil (row_text default_writer h)) in
@@ -180,7 +180,7 @@ stretch-between size k from to most xs few f t = elim (cases_lt (k * size) (leng
       take_all (to - from) (drop from xs) (omega arith) ∙ empty ∙ sym none ∙ sym (take_all size (drop (k * size) xs) (omega arith))
 ]
 
--- what each thread told of each stretch
+-- what each thread wrote of each stretch
 each-part : (lines : List LineResult) (a n : ℕ) (ys : List Texts) (E : Type 0) → AllZip (λ (k : ℕ) (r : Result Texts E). IfOk r (AreTexts (stretch k lines))) (range_with_len a n) (map Ok ys)
     → (length ys ≡ n) × ((k : ℕ) (t : Texts) → slice_get ys k ≡ Some t → AreTexts (stretch (a + k) lines) t)
 each-part lines a zero [] E h = (refl, λ k t e. cc e)
@@ -198,7 +198,7 @@ pub are-parts : (lines : List LineResult) (told n : ℕ) (ks : List ℕ) (ys : L
     → AllZip (λ (k : ℕ) (r : Result Texts E). IfOk r (AreTexts (stretch k lines))) ks (map Ok ys) → (length ys ≡ n) × AreParts told lines ys
 are-parts lines told n ks ys E positions h = each-part lines told n ys E (rw positions at h)
 
--- so many are taken, or all are
+-- that number is taken, or all are
 pub taken-same : {X : Type 0} (xs : List X) (a b : ℕ) → (a ≡ b) ⊎ ((length xs ≤ a) × (length xs ≤ b)) → take a xs ≡ take b xs
 taken-same xs a b (inl e) = ap (λ n. take n xs) e
 taken-same xs a b (inr all) = take_all a xs all.0 ∙ sym (take_all b xs all.1)

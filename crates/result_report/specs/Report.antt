@@ -1,4 +1,4 @@
--- The result tables: what a run tells of each line of the journal, rising by line. A line has a row in just one of
+-- The result tables: what a run says of each line of the journal, rising by line. A line has a row in just one of
 -- answers and passed; of the answered lines the report has those that differ.
 use Rattle.std.specs.Prelude.{◌≡◌, ℕ, Bool, true, false, List, [], ◌∷◌, codes, decimal, map, option_copied, Option, Some, None}
 use Rattle.std.specs.Borrow.{Bor}
@@ -43,7 +43,7 @@ is_answered (readings.Unread w) = false
 abbrev pub AreAnswers : List Reading → List (Option Answer) → Type 0
 AreAnswers readings answers = map is_some answers ≡ map is_answered readings
 
--- the answers behind the references that a run gives
+-- the answers that the references of a run refer to
 abbrev pub answers_behind : List (Option (Bor Answer)) → List (Option Answer)
 answers_behind answers = map option_copied answers
 

@@ -13,6 +13,6 @@ between from to lines = take (to - from) (drop from lines)
 abbrev pub stretch : {X : Type 0} → ℕ → List X → List X
 stretch k lines = take STRETCH (drop (k * STRETCH) lines)
 
--- the result tables of stretches of these lines, of which so many are told
+-- the result tables of stretches of these lines, after the given number of stretches
 abbrev pub AreParts : ℕ → List LineResult → List Texts → Type 0
 AreParts told lines parts = (k : ℕ) (t : Texts) → slice_get parts k ≡ Some t → AreTexts (stretch (told + k) lines) t

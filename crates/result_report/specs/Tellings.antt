@@ -10,13 +10,13 @@ pub record HasRoom (t : Telling) : Type 0 where
   pub report : HasRoomFor t.report
   pub passed : HasRoomFor t.passed
 
--- one line more is told
+-- one line more is written
 pub record Gained (line : LineResult) (old new : Telling) : Type 0 where
   pub answers : Gains (answer_row line) old.answers new.answers
   pub report : Gains (report_row line) old.report new.report
   pub passed : Gains (passed_row line) old.passed new.passed
 
--- these lines are told
+-- these lines are written
 pub record Tells (lines : List LineResult) (t : Telling) : Type 0 where
   pub answers : Lists answers_header (answers_rows lines) t.answers
   pub report : Lists report_header (report_rows lines) t.report

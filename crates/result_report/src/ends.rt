@@ -10,7 +10,7 @@ ghost use Rattle.result_report.specs.Ends.{AreRecordsAt, HasAt, keys_named, line
 ghost use Rattle.result_report.specs.Report.{answers_behind};
 
 use crate::outcome::{LastRecords, Outcome};
-use circ_records::{KeptKey, Key, Record, RecordMap, Records};
+use circ_records::{Key, Record, RecordMap, Records};
 use read_set::Plan;
 use sip_answer::Answer;
 use std::alloc::{AllocError, Global};
@@ -46,7 +46,7 @@ pub trait End<'e> {
         ensures { result ≡ attempted self.now line };
 
     /// The i-th key, from 0, of the records that a line wrote, with the attempt that wrote it; none past the last.
-    fn keys_of(&self, line: u64, i: usize) -> Option<(&KeptKey, u32)>
+    fn keys_of(&self, line: u64, i: usize) -> Option<(&Key, u32)>
         ensures value { option_map (λ e. (e.0.now, e.1)) result ≡ slice_get (entered self.now line) i }
         ensures few { length (entered self.now line) < 2 ^ 64 };
 
@@ -54,12 +54,12 @@ pub trait End<'e> {
     fn final_of(&self, key: &Key) -> Option<&Record>
         ensures { option_copied result ≡ left self.now key.now };
 
-    /// All of them, where the end has them together: those at the keys of the plan and of what the lines wrote.
+    /// All of them, where the end already has a map of them: those at the keys of the plan and of what the lines wrote.
     fn records(&self) -> Option<&'e Records>
         ensures { IfSome result (λ r. AreRecordsAt (named_keys (planned self.now) (entered self.now)) (left self.now) r.now) };
 }
 
-/// What a run comes to, exactly as its end gives it: each line's answer and attempt, and the records at the keys of the
+/// The outcome of a run, exactly as its end gives it: each line's answer and attempt, and the records at the keys of the
 /// plan and of what the lines wrote.
 pub fn collect<'e, E: End<'e>>(alloc: Global, end: &E) -> Result<Outcome<'e>, AllocError>
     ensures answers { IfOk result (λ o. answers_behind o.answers.items ≡ map (E.answered end.now) (numbers_of (E.planned end.now))) }
@@ -75,7 +75,7 @@ pub fn collect<'e, E: End<'e>>(alloc: Global, end: &E) -> Result<Outcome<'e>, Al
     })
 }
 
-/// The records after the last line, as the end has them together, or else looked up key by key.
+/// The records after the last line, as the end lends them, or else looked up key by key.
 fn last_records<'e, E: End<'e>>(alloc: Global, end: &E) -> Result<LastRecords<'e>, AllocError>
     ensures { IfOk result (AreRecordsAt (named_keys (E.planned end.now) (E.entered end.now)) (E.left end.now)) }
 {
@@ -128,7 +128,7 @@ fn collect_attempts<'e, E: End<'e>>(
     Ok(attempts)
 }
 
-/// The records at the keys of the plan. These rise, so each goes behind the others.
+/// The records at the keys of the plan. These rise, so each goes after the others.
 fn base_records<'e, E: End<'e>>(alloc: Global, end: &E) -> Result<RecordMap, AllocError>
     ensures { IfOk result (HasAt (map (λ e. e.0) (E.planned end.now).base) (E.left end.now)) }
 {
@@ -140,25 +140,20 @@ fn base_records<'e, E: End<'e>>(alloc: Global, end: &E) -> Result<RecordMap, All
     Ok(records)
 }
 
-/// Puts the record at a key of the plan behind the others.
+/// Puts the record at a key of the plan after the others.
 fn put_rising<'e, E: End<'e>>(
     alloc: Global,
     end: &E,
-    key: &KeptKey,
+    key: &Key,
     records: &mut RecordMap,
 ) -> Result<(), AllocError>
     ensures { OnOk result ((keys : List Key) → HasAt keys (E.left end.now) records.old
         → HasAt (keys ++ key.now ∷ []) (E.left end.now) records.new) }
 {
-    match end.final_of(&key.key()) {
-        Some(found) => {
-            let found = found.copy()?;
-            let kept = key.clone()?;
-            records.put_rising(alloc, kept, found)?;
-            Ok(())
-        }
-        None => Ok(()),
+    if let Some(found) = end.final_of(key) {
+        records.put_rising(alloc, key.clone()?, found.copy()?)?;
     }
+    Ok(())
 }
 
 /// Takes the records at the keys of what the lines wrote. Where memory runs out `collect` drops the records, here and below.
@@ -191,7 +186,7 @@ fn take_entries<'e, E: End<'e>>(
 {
     let mut i = 0;
     while let Some(entry) = end.keys_of(line, i) {
-        take_record(alloc, end, &entry.0.key(), records)?;
+        take_record(alloc, end, entry.0, records)?;
         i += 1;
     }
     Ok(())
@@ -210,25 +205,9 @@ fn take_record<'e, E: End<'e>>(
     if records.get(key).is_some() {
         return Ok(());
     }
-    put_record(alloc, end, key, records)
-}
-
-/// Puts the record at a key among the others.
-fn put_record<'e, E: End<'e>>(
-    alloc: Global,
-    end: &E,
-    key: &Key,
-    records: &mut RecordMap,
-) -> Result<(), AllocError>
-    ensures { OnOk result ((keys : List Key) → HasAt keys (E.left end.now) records.old
-        → HasAt (keys ++ key.now ∷ []) (E.left end.now) records.new) }
-{
-    match end.final_of(key) {
-        Some(found) => {
-            let found = found.copy()?;
-            records.put(alloc, *key, found)?;
-            Ok(())
-        }
-        None => Ok(()),
-    }
+    let Some(found) = end.final_of(key) else {
+        return Ok(());
+    };
+    records.put(alloc, key.clone()?, found.copy()?)?;
+    Ok(())
 }

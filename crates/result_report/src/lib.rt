@@ -1,5 +1,5 @@
-//! The room of results: what a run comes to, and the tables that tell it line by line: answers, the report of recorded
-//! responses that differ, and the lines that are passed over. It stands on the journal, the plan and the answers.
+//! The outcome of a run, and its result tables, line by line: answers, the report of recorded responses that differ, and the
+//! lines that are passed over. It uses the journal, the plan and the answers.
 #![tactic(auto)]
 
 mod ends;

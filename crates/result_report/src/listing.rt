@@ -8,7 +8,7 @@ use itoa::Buffer;
 use journal_table::Line;
 use std::alloc::{AllocError, Global};
 
-/// A result table, and how many rows stand under its header.
+/// A result table, and the number of rows under its header.
 #[derive(Drop)]
 pub struct Listing {
     pub table: TableText,

@@ -1,4 +1,4 @@
-//! What a run comes to.
+//! The outcome of a run.
 
 ghost use Rattle.std.specs.Prelude.{◌≡◌};
 
@@ -6,7 +6,7 @@ use circ_records::Records;
 use sip_answer::Answer;
 use std::marker::Model;
 
-/// What a run comes to: the records after the last line, and of each line, in the order of the journal, its answer,
+/// The outcome of a run: the records after the last line, and of each line, in the order of the journal, its answer,
 /// where it has one, and the number of the attempt whose answer that is, counted from 0. The answers are borrowed by the
 /// end of the run, so that none is copied.
 #[derive(Drop)]
@@ -16,7 +16,7 @@ pub struct Outcome<'e> {
     pub attempts: Vec<u32>,
 }
 
-/// The records after the last line, by their keys. The end of the run lends them, or they were collected of it.
+/// The records after the last line, by their keys: lent by the end of the run, or collected from it.
 #[derive(Drop)]
 pub struct LastRecords<'e> {
     held: Held<'e>,

@@ -1,4 +1,4 @@
-//! The three result tables, told line by line.
+//! The three result tables, written line by line.
 
 ghost use Rattle.std.specs.Prelude.{◌≡◌, [], None, IfOk, OnOk, option_copied};
 ghost use Rattle.result_report.specs.Report.{difference_row, passed_row};
@@ -25,7 +25,7 @@ pub struct Telling {
     pub answers: Listing,
     pub report: Listing,
     pub passed: Listing,
-    /// The text of the answer last told: its memory serves for the next.
+    /// The text of the last answer: its memory is used again for the next.
     pub text: Vec<u8>,
 }
 
@@ -58,7 +58,7 @@ impl Telling {
         })
     }
 
-    /// The texts of what is told.
+    /// The finished tables.
     pub fn finish(self) -> Result<Texts, AllocError>
         ensures { IfOk result (λ t. (lines : List LineResult) → Tells lines self → AreTexts lines t) }
     {
@@ -80,7 +80,7 @@ impl Telling {
         })
     }
 
-    /// Tells one line. Where memory runs out its caller drops all that is told, so nothing is said of it.
+    /// Writes the rows of one line. Out of memory, the caller drops all tables, so the contract says nothing of them.
     #[inline(always)]
     pub fn line(
         &mut self,

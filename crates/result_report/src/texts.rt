@@ -18,7 +18,7 @@ use sip_reader::Reading;
 use std::alloc::{AllocError, Global};
 use std::thread::Threads;
 
-/// How many rows stand under the header of each result table.
+/// The number of rows under the header of each result table.
 #[derive(Clone, Copy, PartialEq, Eq)]
 pub struct Sizes {
     pub answered: u64,
@@ -54,7 +54,7 @@ pub fn report(
     tell(alloc, lines, plan, answers, 0, lines.len())?.finish()
 }
 
-/// So many stretches are told side by side and then joined: enough for all cores, and their texts are few beside the whole.
+/// This many stretches are written in parallel and then joined: enough for all cores, and their texts are small beside the whole.
 const BATCH: usize = 16;
 
 /// The same, written by as many threads as there are processors, a stretch of lines at a time.
@@ -117,7 +117,7 @@ fn tell_stretch<'e>(
     .finish()
 }
 
-/// Tells each line from one position on up to another.
+/// Writes each line from one position up to another.
 fn tell<'e>(
     alloc: Global,
     lines: &[Line],
@@ -159,7 +159,7 @@ fn reading_at(plan: &Plan, position: usize) -> Option<&Reading>
     plan.readings().get(position)
 }
 
-/// The result tables with those of the next stretches behind them. A part is given back once it is joined.
+/// The result tables with those of the next stretches after them. A part is freed once it is joined.
 fn join(whole: Texts, heads: Heads, parts: Vec<Texts>) -> Result<Texts, AllocError>
     ensures { IfOk result (λ t. (lines : List LineResult) (told : ℕ) → length lines < 2 ^ 64 → AreHeads heads
         → AreTexts (take (told * STRETCH) lines) whole → AreParts told lines parts.items → AreTexts (take ((told + length parts.items) * STRETCH) lines) t) }
@@ -180,7 +180,7 @@ pub(crate) struct Heads {
 }
 
 impl Texts {
-    /// Puts the rows of more lines behind its own. Where memory runs out its caller drops them all.
+    /// Appends the rows of more lines. Out of memory, the caller drops them all.
     fn add(&mut self, heads: Heads, more: &Texts) -> Result<(), AllocError>
         ensures { OnOk result ((front back : List LineResult) → length front + length back < 2 ^ 64 → AreHeads heads
             → AreTexts front self.old → AreTexts back more.now → AreTexts (front ++ back) self.new) }
@@ -207,7 +207,7 @@ impl Sizes {
     }
 }
 
-/// Puts a text without its head behind another.
+/// Appends a text without its header to another.
 fn put_behind(text: &mut Vec<u8>, head: usize, more: &[u8]) -> Result<(), AllocError>
     ensures { OnOk result (text.new.items ≡ text.old.items ++ drop head more.now) }
 {

@@ -1,4 +1,4 @@
--- The digits of an amount behind the point.
+-- The digits of an amount after the point.
 use Rattle.std.proofs.Common.{◌≡◌, ℕ, ◌+◌, ◌/◌, ◌%◌, [], ◌∷◌, ◌++◌, refl, arith}
 use Rattle.std.specs.Prelude.{codes, decimal}
 use Rattle.std.proofs.lemmas.Fmt.{decimal_digit}

@@ -21,7 +21,7 @@ three_digits BookWithDiskette = refl
 three_digits BookWithCd = refl
 three_digits BookWithTape = refl
 
--- the first n of the sixteen stand in their places
+-- the first n of the sixteen are in their places
 abbrev are_in_place : ℕ → Bool
 are_in_place zero = true
 are_in_place (suc n) = eqb (get_or (codes "0123456789ABCDEF") n 0) (hex_digit n) && are_in_place n

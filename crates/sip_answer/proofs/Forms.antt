@@ -1,4 +1,4 @@
--- Where digits stand in the three forms of a date.
+-- Where the digits are in the three forms of a date.
 use Rattle.std.proofs.Common.{◌≡◌, ℕ, ◌≤◌, List, length, true, ◌&&◌, eqb, leb, get_or}
 use Rattle.std.proofs.lemmas.Bool.{and_parts, leb-true}
 use Rattle.sip_answer.specs.Recorded.{are_digits, is_plain, is_iso, is_us}

@@ -1,4 +1,4 @@
--- Lists of items and how often each stands in them.
+-- Lists of items and how often each is in them.
 use Rattle.std.proofs.Common.{◌≡◌, ℕ, ◌+◌, Bool, ◌&&◌, eqb, List, [], ◌∷◌, ◌++◌, Option, Some, None, cond, map, refl, sym, ap, ◌∙◌, true, false, append-nil, unwrap_or, add-zero}
 use Rattle.std.specs.List.{cons_option, count_by, filter_map, fold, list_all}
 use Rattle.std.specs.Str.{bytes_eq}
@@ -26,7 +26,7 @@ times : (q : List ℕ) (xs : List (Bor (List ℕ))) → times_in (map (λ x. x.n
 unfolding times_in
 times q xs = count_by-map (bytes_eq q) (λ x. x.now) xs
 
--- what two tallies tell of each item is whether the lists hold the same items
+-- two tallies agree on each item where the lists have the same items
 pub are_same_items-tallies : (f g : List ℕ → ℕ) (xs ys : List (Bor (List ℕ))) →
     ((q : List ℕ) → f q ≡ count_by (λ x. bytes_eq q x.now) xs) →
     ((q : List ℕ) → g q ≡ count_by (λ x. bytes_eq q x.now) ys) →

@@ -81,7 +81,7 @@ unfolding amount_of
 fee_read [] n e = cc e
 fee_read (x ∷ t) n e = e
 
--- the fields behind a fee: none is BV
+-- the fields after a fee: none is BV
 behind : Option KnownItem → List ℕ
 behind known = given (codes "CK") (option_map (λ (i : KnownItem). media_code i.media) known) ++ filled (codes "CH") (option_map_or (λ (i : KnownItem). i.properties) known [])
 

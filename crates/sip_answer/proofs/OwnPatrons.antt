@@ -93,7 +93,7 @@ valid_read a more clean =
 regroup : (d f g h i more : List ℕ) → d ++ f ++ g ++ h ++ i ++ more ≡ d ++ (f ++ (g ++ (h ++ (i ++ more))))
 regroup d f g h i more = simp append_assoc
 
--- a text of such a response, with more behind it
+-- a text of such a response, with more after it
 shape : (x y : ℕ) (a : PatronAnswer) (more : List ℕ) → patron_text (x ∷ y ∷ []) a ++ more ≡ x ∷ y ∷ status_bytes a.status (a.date ++ fields a more)
 unfolding status_bytes fields
 shape x y a more = rw (mark_is a.status.charge_denied, mark_is a.status.renewal_denied, mark_is a.status.hold_denied, mark_is a.status.too_many_items, mark_is a.status.excessive_fees)

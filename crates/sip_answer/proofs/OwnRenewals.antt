@@ -21,7 +21,7 @@ use Rattle.sip_answer.proofs.OwnPatrons.{behind_date}
 use Rattle.sip_answer.proofs.OwnText.{Agreeing}
 use Rattle.sip_answer.proofs.Written.{digit_is, ends_field, is_same-itself, ok_byte, ok_read}
 
--- four digits tell a count, or 9999
+-- four digits are a count, or 9999
 count_is : (n : ℕ) → count n ≡ four_digits (capped n)
 unfolding count four_digits
 count_is n = by (ltb 9999 n) refl

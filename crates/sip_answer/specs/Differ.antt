@@ -29,7 +29,7 @@ abbrev pub is_same : Bool → Bool → Bool
 is_same true b = b
 is_same false b = not b
 
--- how often an item stands in a list
+-- how often an item is in a list
 unfoldable pub times_in : List (List ℕ) → List ℕ → ℕ
 times_in items item = count_by (bytes_eq item) items
 
@@ -65,7 +65,7 @@ renew_all_fixed = 29
 abbrev pub hold_fixed : ℕ
 hold_fixed = 22
 
--- where they say it: ok, or that a payment is accepted, behind the identifier; that a hold is available behind that; the
+-- where they say it: ok, or that a payment is accepted, after the identifier; that a hold is available after that; the
 -- alert of a checkin as its last flag; the counts of a renewal of all items
 abbrev pub ok_byte : List ℕ → ℕ
 ok_byte m = slice_index m 2
@@ -124,7 +124,7 @@ fee_paid_words a m = if nat_lt (length m) short_fixed then None else do
   accepted ← flag_of (ok_byte m)
   Some (word_unless words.Accepted (is_same a.accepted accepted))
 
--- the number that four digits tell of a count
+-- the number that a count has in four digits
 abbrev pub capped : ℕ → ℕ
 capped n = if nat_lt count_max n then count_max else n
 

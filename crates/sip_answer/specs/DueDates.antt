@@ -1,4 +1,4 @@
--- How a due date is written, and which day stands in a recorded one.
+-- How a due date is written, and which day a recorded one has.
 use Rattle.std.specs.Prelude.{ℕ, ◌+◌, ◌/◌, ◌%◌, List, [], ◌∷◌, ◌++◌, codes}
 use Rattle.sip_reader.specs.Bytes as byte
 use Rattle.sip_reader.specs.Days.{year_of, month_of, day_of_month}

@@ -18,7 +18,7 @@ use Rattle.sip_answer.specs.declared.answer.ItemStatusAnswer.{ItemStatusAnswer}
 use Rattle.sip_answer.specs.declared.answer.LoanAnswer.{LoanAnswer}
 use Rattle.sip_answer.specs.declared.answer.PatronAnswer.{PatronAnswer}
 
--- no bar, CR or LF stands in it
+-- it has no bar, CR or LF
 abbrev pub is_clean : List ℕ → Bool
 is_clean text = not (list_any is_barred text)
 

@@ -9,7 +9,7 @@ use Rattle.sip_answer.specs.DueDates.{four_digits}
 unfoldable pub field : List ℕ → List ℕ → List ℕ
 field id text = id ++ text ++ codes "|"
 
--- a field that is left out where there is nothing to tell
+-- a field that is left out where there is nothing to write
 unfoldable pub given : List ℕ → Option (List ℕ) → List ℕ
 given id None = []
 given id (Some text) = field id text
@@ -35,11 +35,11 @@ flag b = if b then codes "Y" else codes "N"
 unfoldable pub mark : Bool → List ℕ
 mark b = if b then codes "Y" else codes " "
 
--- the greatest count that four digits tell
+-- the greatest count of four digits
 abbrev pub count_max : ℕ
 count_max = 9999
 
--- a count (SIP 2.00): four digits; a greater number than they can tell is 9999
+-- a count (SIP 2.00): four digits; a greater number is 9999
 unfoldable pub count : ℕ → List ℕ
 count n = if nat_lt count_max n then codes "9999" else four_digits n
 

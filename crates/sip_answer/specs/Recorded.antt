@@ -10,7 +10,7 @@ use Rattle.sip_reader.specs.Days.{day_at}
 use Rattle.sip_reader.specs.Fields.{field, pieces, text_after}
 use Rattle.sip_reader.specs.Reading.{says_yes}
 
--- what can't be read lets nothing behind it be read
+-- what can't be read lets nothing after it be read
 infixl 10 ◌>>=◌
 abbrev pub ◌>>=◌ : {A B : Type 0} → Option A → (A → Option B) → Option B
 None >>= f = None
@@ -24,7 +24,7 @@ ok_of b = if b == byte.one then Some true else if b == byte.zero then Some false
 abbrev pub flag_of : ℕ → Option Bool
 flag_of b = if b == byte.Y then Some true else if b == byte.N then Some false else None
 
--- two digits stand there
+-- the bytes at i and after it are digits
 abbrev pub are_digits : ℕ → List ℕ → Bool
 are_digits i m = is_ascii_digit (slice_index m i) && is_ascii_digit (slice_index m (i + 1))
 

@@ -1,12 +1,12 @@
 //! What is answered: for each kind of response all that is written of it.
 //!
-//! Fields lie in memory in their order here, and the answer of each line stays to the end of a run: so small ones stand together,
-//! in front, where none leaves a gap before the next.
+//! Fields are in memory in their order here, and the answer of each line is stored to the end of a run: so the small ones come
+//! first, together, where none leaves a gap before the next.
 
 use crate::item_ids::ItemIds;
 use crate::owed::Owed;
 use circ_policy::{DueForm, MediaType};
-use sip_reader::{Amount, Day, KeptId, Stamp, Text};
+use sip_reader::{Amount, Day, Id, Stamp, Text};
 
 /// What is answered to a request.
 pub enum Answer {
@@ -57,8 +57,8 @@ pub struct PatronAnswer {
     pub status: PatronStatus,
     /// The currency of what is owed, three letters.
     pub currency: [u8; 3],
-    pub institution: KeptId,
-    pub patron: KeptId,
+    pub institution: Id,
+    pub patron: Id,
     /// Where the patron is known.
     pub known: Option<KnownPatron>,
 }
@@ -110,12 +110,12 @@ pub struct CheckinAnswer {
     pub date: Stamp,
     /// Whether somebody waits for the item.
     pub alert: bool,
-    pub institution: KeptId,
-    pub item: KeptId,
+    pub institution: Id,
+    pub item: Id,
     /// Where the item is known.
     pub known: Option<ReturnedItem>,
     /// Whose loan ended, where one did.
-    pub borrower: Option<KeptId>,
+    pub borrower: Option<Id>,
 }
 
 impl Drop for CheckinAnswer {
@@ -162,9 +162,9 @@ pub struct LoanAnswer {
     pub due: Option<Day>,
     /// The currency of the rental, three letters.
     pub currency: [u8; 3],
-    pub institution: KeptId,
-    pub patron: KeptId,
-    pub item: KeptId,
+    pub institution: Id,
+    pub patron: Id,
+    pub item: Id,
     /// Where the item is known.
     pub known: Option<KnownItem>,
     /// The rental that was charged, or for which the request is refused, in hundredths.
@@ -209,7 +209,7 @@ impl Drop for KnownItem {
 pub struct ItemStatusAnswer {
     /// The request's transaction date.
     pub date: Stamp,
-    pub item: KeptId,
+    pub item: Id,
     /// Where the item is known.
     pub known: Option<TitledItem>,
 }
@@ -245,8 +245,8 @@ pub struct FeePaidAnswer {
     /// The request's transaction date.
     pub date: Stamp,
     pub accepted: bool,
-    pub institution: KeptId,
-    pub patron: KeptId,
+    pub institution: Id,
+    pub patron: Id,
 }
 
 impl Drop for FeePaidAnswer {
@@ -265,7 +265,7 @@ pub struct RenewAllAnswer {
     /// The request's transaction date.
     pub date: Stamp,
     pub ok: bool,
-    pub institution: KeptId,
+    pub institution: Id,
     /// The items that were renewed, in the order of the patron's list.
     pub renewed: ItemIds,
     /// The items that weren't, in that order.
@@ -291,9 +291,9 @@ pub struct HoldAnswer {
     pub ok: bool,
     /// Whether the item waits for this patron.
     pub available: bool,
-    pub institution: KeptId,
-    pub patron: KeptId,
-    pub item: KeptId,
+    pub institution: Id,
+    pub patron: Id,
+    pub item: Id,
     /// The patron's position in the queue, where a hold was added or changed.
     pub position: Option<QueuePosition>,
     /// Where the item is known.

@@ -33,7 +33,7 @@ impl ItemIds {
         }
     }
 
-    /// Adds an id at the end. Without memory nothing changes.
+    /// Adds an id at the end. Out of memory, nothing changes.
     pub fn push(&mut self, id: Id) -> Result<(), AllocError>
         ensures ok { OnOk result (self.new ≡ self.old ++ id ∷ []) }
         ensures err { OnErr result (self.new ≡ self.old) }

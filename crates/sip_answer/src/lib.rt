@@ -1,4 +1,4 @@
-//! The room of answers: what is answered to a request, its bytes, and in which words a recorded response differs from it.
+//! The layer of answers: what is answered to a request, its bytes, and in which words a recorded response differs from it.
 #![tactic(auto)]
 
 mod answer;

@@ -6,7 +6,7 @@ use std::alloc::{AllocError, Global};
 use std::marker::Model;
 
 /// What a patron owes, in hundredths. The number has memory of its own: in place it would make every answer wider, and few
-/// kinds of answers tell one.
+/// kinds of answers have one.
 pub struct Owed {
     hundredths: Box<u128>,
 }
@@ -26,7 +26,7 @@ impl Model for Owed {
 }
 
 impl Owed {
-    /// What is owed of so many hundredths.
+    /// A debt of this number of hundredths. Takes memory.
     pub fn new(alloc: Global, hundredths: u128) -> Result<Owed, AllocError>
         ensures { IfOk result (λ o. o ≡ hundredths) }
     {

@@ -1,7 +1,7 @@
 //! Answers as bytes.
 //!
-//! Where memory runs out a part of an answer may stand in the text. `write_answer` drops it, and `put_answer` clears it, so the functions that
-//! put the parts there say nothing of it.
+//! Where memory runs out, the text may have a part of an answer. `write_answer` drops it, and `put_answer` clears it, so the contracts
+//! of the functions that append the parts say nothing of that case.
 
 ghost use Rattle.std.specs.Prelude.{◌≡◌, ◌++◌, [], IfOk, OnErr, OnOk};
 ghost use Rattle.sip_answer.specs.Texts.{answer_text};
@@ -17,10 +17,10 @@ pub(crate) use parts::COUNT_MAX;
 use parts::put_detection;
 use std::alloc::{AllocError, Global};
 
-/// Room for most answers, in bytes: one that is longer grows.
-const ROOM: usize = 256;
+/// The capacity of a text at first, in bytes. Most answers are shorter; a longer one grows.
+const USUAL_LEN: usize = 256;
 
-/// An answer's bytes, as they stand in a table: without the carriage return. Where the request had a sequence digit, they
+/// An answer's bytes, as a table has them: without the carriage return. Where the request had a sequence digit, they
 /// end in the error detection of SIP 2.00 with that digit; the request to send again never does.
 pub fn write_answer(
     alloc: Global,
@@ -29,12 +29,12 @@ pub fn write_answer(
 ) -> Result<Vec<u8>, AllocError>
     ensures { IfOk result (λ v. v.items ≡ answer_text answer.now sequence) }
 {
-    let mut out = Vec::with_capacity(alloc, ROOM)?;
+    let mut out = Vec::with_capacity(alloc, USUAL_LEN)?;
     put_answer(&mut out, answer, sequence)?;
     Ok(out)
 }
 
-/// The same, in place of what stood in `text`: so one piece of memory serves for answer after answer. Without memory nothing stands there.
+/// The same, in place of what `text` had: so one piece of memory serves for answer after answer. Out of memory, `text` is empty.
 pub fn put_answer(
     text: &mut Vec<u8>,
     answer: &Answer,
@@ -50,7 +50,7 @@ pub fn put_answer(
     Ok(())
 }
 
-/// An answer's bytes in place of what stood there.
+/// An answer's bytes in place of what `out` had.
 #[inline(always)]
 #[tactic(auto, unfolding(crate::specs::Texts::answer_text))]
 fn put_whole(out: &mut Vec<u8>, answer: &Answer, sequence: Option<u8>) -> Result<(), AllocError>

@@ -5,13 +5,13 @@ pub mod Blocks
 pub mod Clean
 pub mod Covers
 pub mod Digits
+pub mod Ends
 pub mod FeeIds
-pub mod FewNumbers
+pub mod Hashed
 pub mod Numbers
+pub mod Ordered
 pub mod Pieces
 pub mod Real
-pub mod Shorts
 pub mod Stamps
 pub mod Sums
 pub mod Written
-pub mod Ordered

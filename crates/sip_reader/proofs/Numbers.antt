@@ -1,10 +1,10 @@
 -- Day numbers, as jiff counts days.
-use Rattle.std.proofs.Common.{◌≡◌, ℕ, ◌+◌, ◌%◌, ◌≤◌, refl, ◌∙◌, arith, ℤ, pos, negsuc, ◌+ℤ◌, ◌<ℤ◌, ◌≤ℤ◌}
+use Rattle.std.proofs.Common.{◌≡◌, ℕ, ◌+◌, ◌≤◌, refl, arith, ℤ, pos, negsuc, ◌+ℤ◌, ◌<ℤ◌, ◌≤ℤ◌}
 use Rattle.std.proofs.lemmas.Int.{by_lt_z}
-use Rattle.jiff_core.specs.Calendar.{IsCivilDate, IsDate, day_count, days_from_civil, weekday_number}
+use Rattle.jiff_core.specs.Calendar.{IsCivilDate, day_count, days_from_civil}
 use Rattle.jiff_core.specs.Date.{IsYmd, epoch_day}
 use Rattle.jiff_core.specs.declared.civil.date.Date.{Date}
-use Rattle.jiff_core.proofs.CalendarLemmas.{day_count-day_of_year, day_count-lt_year, day_count_bounds, days_from_civil-day_count, days_in_month_bounds, weekday_number-parts}
+use Rattle.jiff_core.proofs.CalendarLemmas.{day_count-day_of_year, day_count-lt_year, day_count_bounds, days_from_civil-day_count, days_in_month_bounds}
 use Rattle.jiff_core.proofs.DateLemmas.{civil, epoch_day_injective}
 use Rattle.jiff_core.proofs.MarchLemmas.{day_count-early}
 use Rattle.jiff_core.proofs.SignedLemmas.{signed_arith}
@@ -24,14 +24,6 @@ day_count-1900 = day_count-early (pos 1900) 11899 1 1 refl (omega arith) (omega 
 -- the number that jiff gives
 pub number_is : (y : ℤ) (m d n : ℕ) → days_from_civil y m d +ℤ pos 4_371_587 ≡ pos n → n + 366 ≡ day_count y m d
 number_is y m d n e = omega (arith, signed_arith, days_from_civil-day_count y m d)
-
--- what jiff takes for a date is a real day, and the other way round
-pub date_real : (y m d : ℕ) → 1900 ≤ y → y ≤ 9999 → IsDate (pos y) (pos m) (pos d) → IsReal y m d
-date_real y m d low high h = ((low, high), (omega (arith, signed_arith), omega (arith, signed_arith)), (omega (arith, signed_arith), omega (arith, signed_arith)))
-
-pub real_date : (y m d : ℕ) → IsReal y m d → IsDate (pos y) (pos m) (pos d)
-real_date y m d h =
-    ((omega (arith, signed_arith), omega (arith, signed_arith)), (omega (arith, signed_arith), omega (arith, signed_arith)), (omega (arith, signed_arith), omega (arith, signed_arith)))
 
 pub real_small : (y m d : ℕ) → IsReal y m d → (m ≤ 12) × (d ≤ 31)
 real_small y m d h = (omega arith, omega (arith, days_in_month_bounds (pos y) m))
@@ -59,9 +51,6 @@ only_date a y m d h e =
     let c = first_of y m d h in
     let b : Date = record { year = pos y; month = m; day = d; year_in = c.0; month_in = c.1; day_in = c.2 } in
     epoch_day_injective a b (omega (arith, signed_arith, days_from_civil-day_count a.year a.month a.day, days_from_civil-day_count (pos y) m d))
-
-pub weekday_is : (z : ℤ) (n : ℕ) → z +ℤ pos 4_371_587 ≡ pos n → weekday_number z ≡ n % 7
-weekday_is z n e = weekday_number-parts z ∙ omega (arith, signed_arith)
 
 -- the date that jiff made of parts
 pub made : {E : Type 0} (r : Result Date E) (date : Date) (y m d : ℤ) → IfOk r (IsYmd y m d) → Some date ≡ result_ok r → IsYmd y m d date

@@ -6,7 +6,7 @@ use Rattle.std.specs.Option.{option_map}
 use Rattle.std.specs.Str.Parse.{digits_value}
 use Rattle.sip_reader.specs.Bytes as byte
 
--- what stands behind the whole digits: nothing, or a point and one digit, which is tenths, or two
+-- what comes after the whole digits: nothing, or a point and one digit, which is tenths, or two
 abbrev pub is_fraction : List ℕ → Bool
 is_fraction f = nat_le 2 (length f) && (nat_le (length f) 3 && ((slice_index f 0 == byte.point) && list_all is_ascii_digit (drop 1 f)))
 

@@ -1,7 +1,7 @@
--- Devices of proofs: how things are kept or counted. No promise is read here.
+-- Devices of proofs: how things are stored or counted. No promise is read here.
 pub mod Bars
 pub mod Digits
+pub mod Hashes
 pub mod Held
-pub mod Numbers
 pub mod Padding
 pub mod Plain

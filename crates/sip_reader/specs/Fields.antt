@@ -3,7 +3,7 @@ use Rattle.std.specs.Prelude.{ℕ, Bool, ◌&&◌, ◌==◌, nat_le, List, [], �
 use Rattle.std.specs.List.{slice_split, list_any}
 use Rattle.sip_reader.specs.Bytes as byte
 
--- what stands after the fixed part is cut at each bar
+-- what comes after the fixed part is cut at each bar
 abbrev pub pieces : List ℕ → List (List ℕ)
 pieces rest = slice_split (λ b. b == byte.bar) rest
 

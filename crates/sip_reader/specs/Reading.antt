@@ -92,9 +92,9 @@ given_id text = option_and_then (λ bytes. if is_id bytes then Some bytes else N
 abbrev pub mode_of : ℕ → HoldMode
 mode_of b = if b == byte.plus then modes.Add else if b == byte.hyphen then modes.Delete else modes.Change
 
--- Of a fixed part (SIP 2.00, messages): the two flags that may stand behind the identifier; the return date of a checkin,
--- behind one flag and the transaction date; the nb due date of a checkout and a renewal, behind two flags and that date; the
--- currency of a payment, behind that date, the fee type and the payment type.
+-- Of a fixed part (SIP 2.00, messages): the two flags that may come after the identifier; the return date of a checkin,
+-- after one flag and the transaction date; the nb due date of a checkout and a renewal, after two flags and that date; the
+-- currency of a payment, after that date, the fee type and the payment type.
 abbrev pub first_flag : List ℕ → ℕ
 first_flag m = slice_index m 2
 

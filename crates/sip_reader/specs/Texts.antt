@@ -20,7 +20,7 @@ is_id bytes = nat_le 1 (length bytes) && (nat_le (length bytes) ID_MAX && not (l
 unfoldable pub is_text : List ℕ → Bool
 is_text bytes = nat_le (length bytes) TEXT_MAX && not (list_any is_barred bytes)
 
--- the greatest number of a line of the journal, of ten digits, and the number behind it (the profile of this project)
+-- the greatest number of a line of the journal, of ten digits, and the number after it (the profile of this project)
 abbrev pub line_number_max : ℕ
 line_number_max = 9999999999
 

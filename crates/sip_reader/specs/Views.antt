@@ -1,4 +1,4 @@
--- The texts to which the fields of a message refer, as they stand there.
+-- The texts to which the fields of a message refer.
 use Rattle.std.specs.Prelude.{List, [], ◌∷◌, ℕ, ◌||◌, ◌==◌, length}
 use Rattle.std.specs.Option.{option_copied}
 use Rattle.sip_reader.specs.Bytes as byte

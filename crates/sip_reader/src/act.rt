@@ -14,8 +14,8 @@ use crate::checks::amount_in;
 use crate::fields::Fields;
 use crate::stamp::day_in;
 use crate::{
-    Act, Amount, BlockPatron, Checkin, Checkout, Day, FeePaid, HoldMode, HoldRequest, ItemStatus,
-    KeptId, Kind, PatronEnable, Renew, RenewAll, Stamp, Text,
+    Act, Amount, BlockPatron, Checkin, Checkout, Day, FeePaid, HoldMode, HoldRequest, Id,
+    ItemStatus, Kind, PatronEnable, Renew, RenewAll, Stamp, Text,
 };
 use std::alloc::{AllocError, Global};
 
@@ -163,11 +163,11 @@ fn renew_all(alloc: Global, fields: &Fields<'_>) -> Result<Act, AllocError>
 }
 
 /// The id that a tested field holds.
-fn id_of(alloc: Global, text: Option<&[u8]>) -> Result<KeptId, AllocError>
+fn id_of(alloc: Global, text: Option<&[u8]>) -> Result<Id, AllocError>
     requires { is_id (unwrap_or (option_copied text) []) ≡ true }
     ensures { IfOk result (λ id. id ≡ unwrap_or (option_copied text.entry) []) }
 {
-    KeptId::of_valid(alloc, text.unwrap_or(&[]))
+    Id::of_valid(alloc, text.unwrap_or(&[]))
 }
 
 /// The amount that a tested field holds.
@@ -179,11 +179,11 @@ fn tested_amount(text: Option<&[u8]>) -> Amount
 }
 
 /// The fee that is meant, where its identifier has the length of an id.
-fn given_fee(alloc: Global, text: Option<&[u8]>) -> Result<Option<KeptId>, AllocError>
+fn given_fee(alloc: Global, text: Option<&[u8]>) -> Result<Option<Id>, AllocError>
     ensures { IfOk result (λ id. id ≡ given_id (option_copied text.entry)) }
 {
     match text {
-        Some(text) => KeptId::read(alloc, text),
+        Some(text) => Id::read(alloc, text),
         None => Ok(None),
     }
 }

@@ -111,7 +111,7 @@ fn whole(digits: &[u8]) -> u64
     number
 }
 
-/// The hundredths that stand behind the whole digits.
+/// The hundredths that the text after the whole digits spells: nothing, or a point and one or two digits.
 fn hundredths_behind(text: &[u8]) -> Option<u64>
     ensures value { result ≡ fraction_of text.now }
     ensures small { IfSome result (λ n. n < 100) }
@@ -135,8 +135,7 @@ fn is_point_and_digits(text: &[u8]) -> bool
     text.len() >= 2 && text.len() <= 3 && text[0] == b'.' && all_digits(&text[1..])
 }
 
-/// Writes hundredths at the end of a text, with at least one digit before the point and two after it. Where memory runs
-/// out the text is as it was.
+/// Appends hundredths to a text, with at least one digit before the point and two after it. Out of memory, the text is as it was.
 pub fn push_amount(out: &mut Vec<u8>, hundredths: u128) -> Result<(), AllocError>
     ensures ok { OnOk result (out.new.items ≡ out.old.items ++ amount_text hundredths) }
     ensures err { OnErr result (out.new.items ≡ out.old.items) }
@@ -149,7 +148,7 @@ pub fn push_amount(out: &mut Vec<u8>, hundredths: u128) -> Result<(), AllocError
     written
 }
 
-/// Writes the parts of an amount, one after another. Where memory runs out those before stand behind the text.
+/// Writes the parts of an amount, one after another. Out of memory, the parts before are at the end of the text.
 #[tactic(auto, unfolding(crate::specs::Amounts::amount_text))]
 fn write_parts(out: &mut Vec<u8>, hundredths: u128) -> Result<(), AllocError>
     ensures ok { OnOk result (out.new.items ≡ out.old.items ++ amount_text hundredths) }

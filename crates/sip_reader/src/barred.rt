@@ -9,14 +9,14 @@ ghost use Rattle.sip_reader.specs.Texts.{is_barred};
 use crate::checks::BLOCK;
 use std::simd::prelude::*;
 
-/// Whether a bar, CR or LF stands among the bytes.
+/// Whether a bar, CR or LF is among the bytes.
 pub(crate) fn has_barred(bytes: &[u8]) -> bool
     ensures { result ≡ list_any is_barred bytes.now }
 {
     !are_clean(bytes)
 }
 
-/// Whether none does. Most ids have from four to fifteen bytes, which two blocks cover, one of them at the front and one at
+/// Whether none is. Most ids have from four to fifteen bytes, which two blocks cover, one of them at the front and one at
 /// the end.
 fn are_clean(bytes: &[u8]) -> bool
     ensures { result ≡ list_all is_clean bytes.now }
@@ -35,7 +35,7 @@ fn are_clean(bytes: &[u8]) -> bool
     }
 }
 
-/// The same, seen in blocks. The last block may reach over a part of the one before.
+/// The same, a block at a time. The last block may reach over a part of the one before.
 fn are_clean_by_blocks(bytes: &[u8]) -> bool
     requires { BLOCK ≤ length bytes.now }
     ensures { result ≡ list_all is_clean bytes.now }
@@ -50,7 +50,7 @@ fn are_clean_by_blocks(bytes: &[u8]) -> bool
     is_clean_block(bytes, bytes.len() - BLOCK)
 }
 
-/// Whether none stands in a block.
+/// Whether none is in the block of 16 bytes from a place on.
 fn is_clean_block(bytes: &[u8], at: usize) -> bool
     requires { at + BLOCK ≤ length bytes.now }
     ensures { result ≡ list_all is_clean (chunk at BLOCK bytes.now) }
@@ -60,7 +60,7 @@ fn is_clean_block(bytes: &[u8], at: usize) -> bool
     (block.simd_eq(u8x16::splat(b'|')) | ends).to_bitmask() == 0
 }
 
-/// Whether none stands among eight bytes.
+/// Whether none is among the eight bytes from a place on.
 fn is_clean_eight(bytes: &[u8], at: usize) -> bool
     requires { at + 8 ≤ length bytes.now }
     ensures { result ≡ list_all is_clean (chunk at 8 bytes.now) }
@@ -70,7 +70,7 @@ fn is_clean_eight(bytes: &[u8], at: usize) -> bool
     (block.simd_eq(u8x8::splat(b'|')) | ends).to_bitmask() == 0
 }
 
-/// Whether none stands among four bytes.
+/// Whether none is among the four bytes from a place on.
 fn is_clean_four(bytes: &[u8], at: usize) -> bool
     requires { at + 4 ≤ length bytes.now }
     ensures { result ≡ list_all is_clean (chunk at 4 bytes.now) }

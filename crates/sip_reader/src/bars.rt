@@ -7,7 +7,7 @@ ghost use Rattle.sip_reader.specs.Devices.Bars.{bar_bits, is_bar};
 use crate::checks::BLOCK;
 use std::simd::prelude::*;
 
-/// Where the first bar stands from a place on, or the end of the bytes where none does. Fields are short, so the first block
+/// Where the first bar from a place on is, or the end of the bytes where there is none. Fields are short, so the first block
 /// mostly has it.
 pub fn bar_from(bytes: &[u8], from: usize) -> usize
     requires long { BLOCK ≤ length bytes.now }
@@ -25,7 +25,7 @@ pub fn bar_from(bytes: &[u8], from: usize) -> usize
     last_bar_from(bytes, at)
 }
 
-/// The same where less than a block is left: the last block reaches over bytes that stand before the place.
+/// The same where less than a block is left: the last block also covers bytes before the place.
 fn last_bar_from(bytes: &[u8], from: usize) -> usize
     requires long { BLOCK ≤ length bytes.now }
     requires within { from ≤ length bytes.now }
@@ -41,7 +41,7 @@ fn last_bar_from(bytes: &[u8], from: usize) -> usize
     }
 }
 
-/// A bit for each byte of a block behind the first few of it, set where the byte is a bar.
+/// A bit for each byte of a block after its first few, set where the byte is a bar.
 fn bars_of_block(bytes: &[u8], at: usize, few: usize) -> u64
     requires whole { at + BLOCK ≤ length bytes.now }
     requires few { few ≤ BLOCK }

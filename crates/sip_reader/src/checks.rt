@@ -41,7 +41,7 @@ fn are_hold_modes(flags: &[u8]) -> bool
     flags.iter().all(|b| *b == b'+' || *b == b'-' || *b == b'*')
 }
 
-/// Whether a CR or LF stands behind the fixed part, or a piece of one byte, or a field that is used and too long.
+/// Whether the variable part has a CR or LF, a piece of one byte, or a field that is used and too long.
 #[tactic(auto, unfolding(crate::specs::Reading::has_bad_field))]
 pub fn is_bad_field(layout: &Layout, rest: &[u8], fields: &Fields<'_>) -> bool
     ensures { result ≡ has_bad_field layout.now rest.now (texts_behind fields.now) }
@@ -54,8 +54,7 @@ pub fn is_bad_field(layout: &Layout, rest: &[u8], fields: &Fields<'_>) -> bool
         || layout.pickup && len_of(fields.pickup) > TEXT_MAX
 }
 
-/// Whether a CR or LF stands somewhere. Where 16 bytes at a time are all greater than both, which is nearly always so, no byte is
-/// looked at by itself.
+/// Whether a CR or LF is among the bytes. Mostly all 16 bytes of each block are greater than both; then no single byte is looked at.
 fn has_line_end(rest: &[u8]) -> bool
     ensures { result ≡ list_any is_line_end rest.now }
 {
@@ -105,7 +104,7 @@ fn is_missing_or_empty(text: Option<&[u8]>) -> bool
     len_of(text) == 0
 }
 
-/// Whether a title stands where the item's id should be.
+/// Whether a title names the item, in place of its id.
 #[tactic(auto, unfolding(crate::specs::Reading::names_title))]
 pub fn is_by_title(layout: &Layout, fields: &Fields<'_>) -> bool
     ensures { result ≡ names_title layout.now (texts_behind fields.now) }
@@ -123,7 +122,7 @@ pub fn is_lacking(layout: &Layout, fields: &Fields<'_>) -> bool
         || layout.amount && fields.amount.is_none()
 }
 
-/// Whether a required amount isn't one. In line, since few requests have an amount.
+/// Whether a required amount isn't one. Inlined, since few requests have an amount.
 #[inline(always)]
 #[tactic(auto, unfolding(crate::specs::Reading::has_bad_amount))]
 pub fn is_bad_amount(layout: &Layout, fields: &Fields<'_>) -> bool
@@ -132,7 +131,7 @@ pub fn is_bad_amount(layout: &Layout, fields: &Fields<'_>) -> bool
     layout.amount && amount_in(fields.amount).is_none()
 }
 
-/// The amount that a text spells. It stands by itself, so that a request without one makes no room for it.
+/// The amount that a text spells. Never inlined, so that a request without one needs no stack for it.
 #[inline(never)]
 pub fn amount_in(text: Option<&[u8]>) -> Option<Amount>
     ensures { result ≡ option_and_then amount_of (option_copied text.entry) }

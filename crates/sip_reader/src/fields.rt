@@ -52,8 +52,8 @@ impl<'a> Fields<'a> {
         }
     }
 
-    /// The pieces of what stands after the fixed part, which ends here, are noted in their place: what has the fields is large, and moves
-    /// no more.
+    /// Notes the pieces of the variable part, which begins at byte `fixed` of the message. They are noted in place, since the fields are
+    /// large to move.
     pub fn note_behind(&mut self, message: &'a [u8], fixed: usize)
         requires long { BLOCK ≤ length message.now }
         requires within { fixed ≤ length message.now }
@@ -70,11 +70,11 @@ impl<'a> Fields<'a> {
         self.note(&message[at..]);
     }
 
-    /// One piece more. Its first two bytes tell which of the fields it may be.
+    /// Notes one more piece. Its first two bytes say which of the fields it may be.
     fn note(&mut self, piece: &'a [u8])
         ensures { texts_behind self.new ≡ with_piece (texts_behind self.old) piece.now }
     {
-        // written before the bytes are looked at, which the compiler then needn't read again
+        // written before the bytes are looked at, so that the compiler needn't read it again
         self.short = is_short_so_far(self.short, piece);
         let (letter, second) = (first_byte(piece), second_byte(piece));
         if letter == b'A' {

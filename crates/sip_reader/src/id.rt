@@ -1,17 +1,18 @@
 //! Ids of patrons, items and fees.
 
-ghost use Rattle.std.specs.Prelude.{◌≡◌, ◌≤◌, if◌then◌else◌, Some, None, length, true, IfOk, IsTrue};
+ghost use Rattle.std.specs.Prelude.{◌≡◌, ◌≤◌, ◌+◌, ◌++◌, if◌then◌else◌, Some, None, length, true, IfOk, IsTrue, OnErr, OnOk};
 ghost use Rattle.std.specs.Cmp.{partial_order_from_own_ties};
 ghost use Rattle.std.specs.Cmp.Lexicographic.{slice_cmp};
 ghost use Rattle.std.specs.Cmp.Rules.{comparing};
 ghost use Rattle.std.specs.Ordering.{nat_cmp, as_partial_cmp, eq_by_cmp};
 ghost use Rattle.std.proofs.Common.{rules};
-ghost use Rattle.sip_reader.specs.Devices.Numbers.{id_number};
+ghost use Rattle.sip_reader.specs.Devices.Hashes.{id_hash};
 ghost use Rattle.sip_reader.specs.Texts.{fee_id, is_id};
 
 use crate::barred::has_barred;
-use crate::short::Short;
+use crate::inline::hash_of;
 use crate::text::Text;
+use arrayvec::ArrayVec;
 use itoa::Buffer;
 use std::alloc::{AllocError, Global};
 use std::cmp::Ordering;
@@ -23,13 +24,19 @@ pub const ID_MAX: usize = 64;
 /// The greatest number of a line of a journal, of ten digits: the id of a fee that a line makes has the line's number in it.
 pub const LINE_NUMBER_MAX: u64 = 9_999_999_999;
 
-/// The number behind it, which no line has.
+/// The number after it, which no line has.
 pub const LINE_NUMBER_END: u64 = 10_000_000_000;
 
-/// The id of a patron, an item or a fee: 1 to 64 bytes without a bar, CR or LF. Ids go in the order of their bytes.
-#[derive(Clone, Copy)]
+/// The id of a patron, an item or a fee: 1 to 64 bytes without a bar, CR or LF. Ids are ordered by their bytes. Up to 14 bytes are
+/// inline; a longer id is on the heap once for all its copies, so a clone takes no memory.
 pub struct Id {
-    bytes: Short,
+    text: Text,
+}
+
+impl Drop for Id {
+    fn drop(self) {
+        let Id { text: _ } = self;
+    }
 }
 
 impl Model for Id {
@@ -38,99 +45,106 @@ impl Model for Id {
 
     ghost Value = { List ℕ };
 
-    ghost view = { λ i. i.bytes };
+    ghost view = { λ i. i.text };
 
-    ghost invariant = { λ i. is_id i.bytes ≡ true };
-
-    ghost inverse = { λ v. record { bytes = v } };
+    ghost invariant = { λ i. is_id i.text ≡ true };
 }
 
 impl Id {
-    /// The id of these bytes.
-    #[inline(always)]
-    pub fn new(bytes: &[u8]) -> Option<Id>
-        ensures { result ≡ (if is_id bytes.now then Some bytes.now else None) }
+    /// The id of these bytes, where they are one.
+    pub fn read(alloc: Global, bytes: &[u8]) -> Result<Option<Id>, AllocError>
+        ensures { IfOk result (λ id. id ≡ (if is_id bytes.now then Some bytes.now else None)) }
     {
-        if is_valid(bytes) {
-            Some(Id {
-                bytes: Short::of(bytes),
-            })
-        } else {
-            None
+        if !is_id(bytes) {
+            return Ok(None);
         }
-    }
-
-    /// The id of bytes that are one, in its form.
-    #[tactic(auto, unfolding(crate::specs::Texts::is_id))]
-    pub(crate) fn of_short(bytes: Short) -> Id
-        requires { is_id bytes ≡ true }
-        ensures { result ≡ bytes }
-    {
-        Id { bytes }
+        Ok(Some(Id::of_valid(alloc, bytes)?))
     }
 
     /// The id of bytes that are one.
-    #[tactic(auto, unfolding(crate::specs::Texts::is_id))]
-    pub(crate) fn of_valid(bytes: &[u8]) -> Id
+    #[tactic(auto, using(crate::proofs::Clean::id_is_text))]
+    pub(crate) fn of_valid(alloc: Global, bytes: &[u8]) -> Result<Id, AllocError>
         requires { is_id bytes.now ≡ true }
-        ensures { result ≡ bytes.now }
+        ensures { IfOk result (λ id. id ≡ bytes.now) }
     {
-        Id {
-            bytes: Short::of(bytes),
-        }
+        let text = Text::new(alloc, bytes)?;
+        Ok(Id { text })
     }
 
     /// The id of a fee that a line of the journal makes, by the line's number and the count of fees that it made before.
     #[tactic(auto, unfolding(crate::specs::Texts::fee_id))]
-    pub fn of_fee(line: u64, k: u64) -> Id
-        ensures { result ≡ fee_id line k }
+    pub fn of_fee(alloc: Global, line: u64, k: u64) -> Result<Id, AllocError>
+        ensures { IfOk result (λ id. id ≡ fee_id line k) }
     {
         let (mut first, mut second) = (Buffer::new(), Buffer::new());
-        let front = Short::of(b"R").with(first.format(line).as_bytes());
-        Id {
-            bytes: front.with(b"-").with(second.format(k).as_bytes()),
-        }
+        let mut bytes = ArrayVec::new();
+        append(&mut bytes, b"R");
+        append(&mut bytes, first.format(line).as_bytes());
+        append(&mut bytes, b"-");
+        append(&mut bytes, second.format(k).as_bytes());
+        Id::of_valid(alloc, bytes.as_slice())
     }
 
-    /// Its number, which most other ids haven't: it is told by the first eight bytes and the last eight.
-    pub fn number(&self) -> u64
-        ensures { result ≡ id_number self.now }
+    /// A hash, made of the first eight bytes and the last eight.
+    pub fn hash(&self) -> u64
+        ensures { result ≡ id_hash self.now }
     {
-        self.bytes.number()
+        match self.text.inline() {
+            Some(inline) => inline.hash(),
+            None => hash_of(self.as_bytes()),
+        }
     }
 
     /// Its bytes.
     pub fn as_bytes(&self) -> &[u8]
         ensures { result.now ≡ self.now }
     {
-        self.bytes.as_bytes()
+        self.text.as_bytes()
     }
 
-    /// Its bytes, known to be those of an id.
-    pub(crate) fn as_valid(&self) -> &Short
-        ensures bytes { result.now ≡ self.now }
-        ensures valid { is_id self.now ≡ true }
+    /// Appends its bytes to others; out of memory, those stay as they are.
+    pub fn append_to(&self, out: &mut Vec<u8>) -> Result<(), AllocError>
+        ensures ok { OnOk result (out.new.items ≡ out.old.items ++ self.now) }
+        ensures err { OnErr result (out.new.items ≡ out.old.items) }
     {
-        let Id { bytes } = self;
-        bytes
+        self.text.append_to(out)
     }
 
-    /// Its bytes as a text.
-    pub(crate) fn to_text(&self, alloc: Global) -> Result<Text, AllocError>
-        ensures text { IfOk result (λ t. t ≡ self.now) }
-        ensures valid { is_id self.now ≡ true }
+    /// A lemma: does nothing at run time; gives callers the type's promise that its bytes are an id.
+    pub fn keeps_its_form(&self)
+        ensures { is_id self.now ≡ true }
     {
-        let Id { bytes } = self;
-        Text::of_short(alloc, bytes)
+        let Id { text: _text } = self;
     }
 }
 
+/// Appends bytes for which there is room.
+fn append(bytes: &mut ArrayVec<u8, ID_MAX>, more: &[u8])
+    requires { length bytes.old.items + length more.now ≤ ID_MAX }
+    ensures { bytes.new.items ≡ bytes.old.items ++ more.now }
+{
+    let _fits = bytes.try_extend_from_slice(more);
+}
+
+/// Whether bytes are an id: 1 to 64 of them, without a bar, CR or LF.
 #[tactic(auto, unfolding(crate::specs::Texts::is_id))]
-pub(crate) fn is_valid(bytes: &[u8]) -> bool
+pub fn is_id(bytes: &[u8]) -> bool
     ensures value { result ≡ is_id bytes.now }
     ensures short { IsTrue result → length bytes.now ≤ ID_MAX }
 {
     !bytes.is_empty() && bytes.len() <= ID_MAX && !has_barred(bytes)
+}
+
+/// A clone is the same id. It takes no memory.
+impl Clone for Id {
+    ghost use Rattle.std.specs.Prelude.{◌≡◌};
+
+    ghost is_clone = { λ x y. y ≡ x };
+
+    fn clone(&self) -> Result<Id, AllocError> {
+        let text = self.text.clone()?;
+        Ok(Id { text })
+    }
 }
 
 impl PartialEq for Id {
@@ -157,7 +171,10 @@ impl Ord for Id {
     ghost matches_eq = { Prim.search (comparing, rules) };
 
     fn cmp(&self, other: &Id) -> Ordering {
-        self.bytes.order(&other.bytes)
+        match (self.text.inline(), other.text.inline()) {
+            (Some(inline), Some(others)) => inline.order(others),
+            _ => self.as_bytes().cmp(other.as_bytes()),
+        }
     }
 }
 

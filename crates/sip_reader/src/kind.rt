@@ -53,14 +53,14 @@ impl Command {
     }
 }
 
-/// The fixed part of a request behind its identifier, and which variable fields the rules use.
+/// The fixed part of a request after its identifier, and which variable fields the rules use.
 #[derive(Clone, Copy)]
 pub struct Layout {
-    /// How many flags stand before the date.
+    /// The number of flags before the date, each of one byte.
     pub flags: usize,
     /// Whether the flag is a hold mode; others are yes or no.
     pub hold_mode: bool,
-    /// How many bytes stand after the date.
+    /// The number of bytes after the date.
     pub after: usize,
     /// Whether AA is used, and so required.
     pub patron: bool,
@@ -76,7 +76,7 @@ pub struct Layout {
     pub title: bool,
 }
 
-/// A transaction date behind the identifier and nothing else.
+/// A transaction date after the identifier and nothing else.
 const DATE_ALONE: Layout = Layout {
     flags: 0,
     hold_mode: false,
@@ -89,7 +89,7 @@ const DATE_ALONE: Layout = Layout {
     title: false,
 };
 
-/// A patron's id behind the date.
+/// A patron's id after the date.
 const PATRON_ALONE: Layout = Layout {
     patron: true,
     ..DATE_ALONE

@@ -2,7 +2,7 @@
 
 ghost use Rattle.std.specs.Prelude.{◌≡◌};
 
-use crate::{Amount, Day, KeptId, Stamp, Text};
+use crate::{Amount, Day, Id, Stamp, Text};
 
 /// A kind of request that the rules know.
 #[derive(Clone, Copy, PartialEq, Eq)]
@@ -39,7 +39,7 @@ impl Kind {
     }
 }
 
-/// Why a message is passed over: its identifier, or its title.
+/// Why a message is passed over: its identifier, or that it names an item by title.
 #[derive(Clone, Copy, PartialEq, Eq)]
 pub enum Passed {
     ItemInformation,
@@ -200,7 +200,7 @@ impl Act {
 
 /// A patron is blocked, as after a card was retained (SIP 2.00, Block Patron).
 pub struct BlockPatron {
-    pub patron: KeptId,
+    pub patron: Id,
 }
 
 impl Drop for BlockPatron {
@@ -213,7 +213,7 @@ impl Drop for BlockPatron {
 pub struct Checkin {
     /// The day of the return date, where it is a date.
     pub back: Option<Day>,
-    pub item: KeptId,
+    pub item: Id,
     /// Whether an earlier checkout is cancelled.
     pub cancel: bool,
 }
@@ -236,8 +236,8 @@ pub struct Checkout {
     pub no_block: bool,
     /// The due day that was given then.
     pub due: Option<Day>,
-    pub patron: KeptId,
-    pub item: KeptId,
+    pub patron: Id,
+    pub item: Id,
     /// Whether an earlier checkin is cancelled.
     pub cancel: bool,
     /// Whether the user agreed to the fee.
@@ -269,8 +269,8 @@ pub enum HoldMode {
 /// A patron's place in an item's queue is made, taken away or changed (SIP 2.00, Hold).
 pub struct HoldRequest {
     pub mode: HoldMode,
-    pub patron: KeptId,
-    pub item: KeptId,
+    pub patron: Id,
+    pub item: Id,
     /// Where the item is to be picked up; empty where the request doesn't say.
     pub pickup: Text,
 }
@@ -288,7 +288,7 @@ impl Drop for HoldRequest {
 
 /// An item's properties are set (SIP 2.00, Item Status Update).
 pub struct ItemStatus {
-    pub item: KeptId,
+    pub item: Id,
     /// The properties that replace the item's.
     pub properties: Option<Text>,
 }
@@ -304,7 +304,7 @@ impl Drop for ItemStatus {
 
 /// A patron's block is taken away (SIP 2.00, Patron Enable).
 pub struct PatronEnable {
-    pub patron: KeptId,
+    pub patron: Id,
 }
 
 impl Drop for PatronEnable {
@@ -321,8 +321,8 @@ pub struct Renew {
     pub no_block: bool,
     /// The due day that was given then.
     pub due: Option<Day>,
-    pub patron: KeptId,
-    pub item: KeptId,
+    pub patron: Id,
+    pub item: Id,
     /// Whether the user agreed to the fee.
     pub agreed: bool,
 }
@@ -342,13 +342,13 @@ impl Drop for Renew {
 
 /// A patron pays (SIP 2.00, Fee Paid).
 pub struct FeePaid {
-    pub patron: KeptId,
+    pub patron: Id,
     /// Three bytes, for a currency as USD.
     pub currency: [u8; 3],
     /// What is paid.
     pub amount: Amount,
     /// The fee that is meant.
-    pub fee: Option<KeptId>,
+    pub fee: Option<Id>,
 }
 
 impl Drop for FeePaid {
@@ -364,7 +364,7 @@ impl Drop for FeePaid {
 
 /// All loans of a patron are renewed (SIP 2.00, Renew All).
 pub struct RenewAll {
-    pub patron: KeptId,
+    pub patron: Id,
     /// Whether the user agreed to the fees.
     pub agreed: bool,
 }

@@ -13,10 +13,10 @@ use std::simd::prelude::*;
 /// The length of a date and time in a message, in bytes.
 pub const STAMP_LEN: usize = 18;
 
-/// What the digits of 00 count as bytes: it is taken from two digits at once.
+/// What the digits 00 add as bytes, 48 * 10 + 48: it is subtracted once for both digits.
 const TWO_ZEROS: u32 = 528;
 
-/// A date and time `YYYYMMDDZZZZHHMMSS` as it stands in a message, of the years 1900 to 9900.
+/// A date and time `YYYYMMDDZZZZHHMMSS` as a message has it, of the years 1900 to 9900.
 #[derive(Clone, Copy)]
 pub struct Stamp {
     bytes: [u8; STAMP_LEN],
@@ -41,9 +41,9 @@ impl Stamp {
         ensures { result ≡ (if is_stamp bytes.now then Some bytes.now else None) }
     {
         if is_date(bytes) {
-            let mut kept = [0; STAMP_LEN];
-            kept.copy_from_slice(bytes);
-            Some(Stamp { bytes: kept })
+            let mut copied = [0; STAMP_LEN];
+            copied.copy_from_slice(bytes);
+            Some(Stamp { bytes: copied })
         } else {
             None
         }
@@ -80,7 +80,7 @@ fn are_digits(s: &[u8]) -> bool
     others_of_eight(s, 0, 0) == 0 && others_of_eight(s, 10, 2) == 0
 }
 
-/// A bit for each of eight bytes behind the first few of them, set where the byte is no digit.
+/// A bit for each of eight bytes after the first few of them, set where the byte is no digit.
 fn others_of_eight(s: &[u8], at: usize, few: usize) -> u64
     requires whole { at + 8 ≤ length s.now }
     requires few { few ≤ 8 }
@@ -106,12 +106,12 @@ fn is_time(s: &[u8]) -> bool
     two(s, 12) < 24 && is_sixtieth(s, 14) && is_sixtieth(s, 16)
 }
 
-/// Whether two digits behind the zone spell less than 60, which the first tells.
+/// Whether two digits after the zone spell less than 60: the first of them decides.
 #[tactic(auto, using(crate::proofs::Stamps::sixtieth))]
 fn is_sixtieth(s: &[u8], i: usize) -> bool
     requires long { length s.now ≡ STAMP_LEN }
     requires digits { has_digits s.now ≡ true }
-    requires behind { 12 ≤ i }
+    requires after { 12 ≤ i }
     requires within { i + 1 < STAMP_LEN }
     ensures { result ≡ nat_lt (two_at i s.now) 60 }
 {

@@ -5,8 +5,7 @@ ghost use Rattle.sip_reader.specs.Devices.Held.{bytes_held};
 ghost use Rattle.sip_reader.specs.Texts.{is_text};
 
 use crate::barred::has_barred;
-use crate::few::{FEW_MAX, Few};
-use crate::short::Short;
+use crate::inline::{INLINE_MAX, Inline};
 use arrayvec::ArrayVec;
 use std::alloc::{AllocError, Global};
 use std::marker::Model;
@@ -16,7 +15,7 @@ use std::sync::{Arc, ArcSlice};
 /// The longest text, in bytes.
 pub const TEXT_MAX: usize = 1024;
 
-/// So many bytes stand in one block of memory: a greater block would waste more on most titles.
+/// The greatest number of bytes in one block of memory: a greater block would waste more on most titles.
 const BLOCK_MAX: usize = 32;
 
 /// A text of a record or a message: at most 1,024 bytes without a bar, CR or LF.
@@ -30,20 +29,20 @@ impl Drop for Text {
     }
 }
 
-/// Where the bytes of a text stand.
+/// Where the bytes of a text are.
 enum Held {
-    /// In place, as most ids do, of which a line keeps many.
-    Few(Few),
-    /// In a block of memory that it has together with its copies, as most titles do.
+    /// Inline, as those of most ids.
+    Inline(Inline),
+    /// In a block of memory that it shares with its clones, as those of most titles.
     Block(Arc<ArrayVec<u8, BLOCK_MAX>>),
-    /// The same, where a block doesn't hold it: then its bytes stand in another.
+    /// The same, where a block is too small: more bytes, in memory of their size.
     Many(ArcSlice<u8>),
 }
 
 impl Drop for Held {
     fn drop(self) {
         match self {
-            Held::Few(_) => {}
+            Held::Inline(_) => {}
             Held::Block(_) => {}
             Held::Many(_) => {}
         }
@@ -63,7 +62,7 @@ impl Model for Text {
 }
 
 impl Text {
-    /// The text of these bytes.
+    /// The text of these bytes. More than 14 take memory.
     pub fn new(alloc: Global, bytes: &[u8]) -> Result<Text, AllocError>
         requires { is_text bytes.now ≡ true }
         ensures { IfOk result (λ t. t ≡ bytes.now) }
@@ -72,19 +71,7 @@ impl Text {
         Ok(Text { held })
     }
 
-    /// The text of these bytes: few of them are copied without a call.
-    pub(crate) fn of_short(alloc: Global, bytes: &Short) -> Result<Text, AllocError>
-        requires { is_text bytes.now ≡ true }
-        ensures { IfOk result (λ t. t ≡ bytes.now) }
-    {
-        if let Some(few) = Few::new(bytes) {
-            let held = Held::Few(few);
-            return Ok(Text { held });
-        }
-        Text::new(alloc, bytes.as_bytes())
-    }
-
-    /// The text that these bytes are.
+    /// The text of these bytes, where they are one.
     #[tactic(auto, unfolding(crate::specs::Texts::is_text))]
     pub fn read(alloc: Global, bytes: &[u8]) -> Result<Option<Text>, AllocError>
         ensures { IfOk result (λ t. t ≡ (if is_text bytes.now then Some bytes.now else None)) }
@@ -103,40 +90,40 @@ impl Text {
         self.held.as_slice()
     }
 
-    /// Puts its bytes behind others; without memory those stay alone.
+    /// Appends its bytes to others; out of memory, those stay as they are.
     #[inline(always)]
-    pub fn put_behind(&self, out: &mut Vec<u8>) -> Result<(), AllocError>
+    pub fn append_to(&self, out: &mut Vec<u8>) -> Result<(), AllocError>
         ensures ok { OnOk result (out.new.items ≡ out.old.items ++ self.now) }
         ensures err { OnErr result (out.new.items ≡ out.old.items) }
     {
-        match self.few() {
-            Some(few) => few.put_behind(out),
-            None => self.put_many_behind(out),
+        match self.inline() {
+            Some(inline) => inline.append_to(out),
+            None => self.append_shared(out),
         }
     }
 
-    /// The same, wherever they stand. It stands by itself, so that few bytes need no room for a call.
+    /// The same, wherever they are. Never inlined, so that the path of inline bytes stays short.
     #[inline(never)]
-    fn put_many_behind(&self, out: &mut Vec<u8>) -> Result<(), AllocError>
+    fn append_shared(&self, out: &mut Vec<u8>) -> Result<(), AllocError>
         ensures ok { OnOk result (out.new.items ≡ out.old.items ++ self.now) }
         ensures err { OnErr result (out.new.items ≡ out.old.items) }
     {
         out.extend_from_slice(self.as_bytes())
     }
 
-    /// Its bytes are a text, as its type promises. There is nothing to do: it is for whoever has to know it of bytes that were not looked at.
+    /// A lemma: does nothing at run time; gives callers the type's promise that its bytes are a text.
     pub fn keeps_its_form(&self)
         ensures { is_text self.now ≡ true }
     {
         let Text { held: _held } = self;
     }
 
-    /// Its bytes, where they stand in place.
-    pub(crate) fn few(&self) -> Option<&Few>
-        ensures { IfSome result (λ few. few.now ≡ self.now) }
+    /// Its bytes, where they are inline.
+    pub(crate) fn inline(&self) -> Option<&Inline>
+        ensures { IfSome result (λ inline. inline.now ≡ self.now) }
     {
         match &self.held {
-            Held::Few(few) => Some(few),
+            Held::Inline(inline) => Some(inline),
             Held::Block(_) | Held::Many(_) => None,
         }
     }
@@ -158,8 +145,8 @@ impl Held {
     fn of(alloc: Global, bytes: &[u8]) -> Result<Held, AllocError>
         ensures { IfOk result (λ held. bytes_held held ≡ bytes.now) }
     {
-        if bytes.len() <= FEW_MAX {
-            return Ok(Held::Few(Few::of(bytes)));
+        if bytes.len() <= INLINE_MAX {
+            return Ok(Held::Inline(Inline::of(bytes)));
         }
         Held::of_more(alloc, bytes)
     }
@@ -190,29 +177,29 @@ impl Held {
         ensures { result.now ≡ bytes_held self.now }
     {
         match self {
-            Held::Few(few) => few.as_bytes(),
+            Held::Inline(inline) => inline.as_bytes(),
             Held::Block(block) => Deref::deref(block).as_slice(),
             Held::Many(bytes) => bytes.as_slice(),
         }
     }
 
-    /// The same bytes. Most are in place, and are copied in this path alone, which lets the compiler copy them in two words.
+    /// The same bytes. Most are inline, and this path copies those alone, so that the compiler copies two words.
     fn copy(&self) -> Result<Held, AllocError>
         ensures { IfOk result (λ held. bytes_held held ≡ bytes_held self.now) }
     {
-        if let Held::Few(few) = self {
-            return Ok(Held::Few(*few));
+        if let Held::Inline(inline) = self {
+            return Ok(Held::Inline(*inline));
         }
         self.copy_any()
     }
 
-    /// The same, wherever they stand.
+    /// The same, wherever they are.
     #[inline(never)]
     fn copy_any(&self) -> Result<Held, AllocError>
         ensures { IfOk result (λ held. bytes_held held ≡ bytes_held self.now) }
     {
         match self {
-            Held::Few(few) => Ok(Held::Few(*few)),
+            Held::Inline(inline) => Ok(Held::Inline(*inline)),
             Held::Block(block) => Ok(Held::Block(Arc::try_clone(block)?)),
             Held::Many(bytes) => Ok(Held::Many(bytes.clone()?)),
         }

@@ -1,8 +1,8 @@
 -- A line that isn't on the board has no attempt.
-use Rattle.std.proofs.Common.{◌≡◌, ◌∙◌, ℕ, ◌+◌, ◌-◌, ◌<◌, ◌≤◌, inl, inr, length, sym, ap, arith}
+use Rattle.std.proofs.Common.{◌≡◌, ◌∙◌, ℕ, ◌-◌, inl, inr, length, sym, ap, arith}
 use Rattle.std.proofs.lemmas.Bool.{cases_lt}
 use Rattle.std.proofs.lemmas.List.{get_or_past}
-use Rattle.board_steps.specs.Board.{Board, IsLine, Row, blank, row_at}
+use Rattle.board_steps.specs.Board.{Board, IsLine, Row, blank}
 use Rattle.board_steps.proofs.Lines.{row_before, row_from}
 use Rattle.speculate.specs.BoardEnds.{attempt_on}
 

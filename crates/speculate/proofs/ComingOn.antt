@@ -1,5 +1,5 @@
 -- Where no worker has a line in hand, a free worker's choice brings a line on.
-use Rattle.std.proofs.Common.{◌≡◌, ◌≢◌, ℕ, zero, suc, ◌+◌, ◌<◌, ◌≤◌, ◌⊎◌, List, [], Option, Some, None, refl, sym, ap, subst, ◌∙◌, inl, inr, arith}
+use Rattle.std.proofs.Common.{◌≡◌, ℕ, zero, suc, ◌+◌, ◌<◌, ◌≤◌, ◌⊎◌, List, [], Option, Some, None, refl, sym, ap, subst, ◌∙◌, inl, inr, arith}
 use Rattle.std.proofs.lemmas.Bool.{cases_eq, cases_lt}
 use Rattle.std.proofs.lemmas.Option.{none-some}
 use Rattle.sip_answer.specs.declared.answer.Answer.{Answer}
@@ -10,9 +10,9 @@ use Rattle.board_steps.specs.Board.State.{Waiting, Running, Placing, Done, Check
 use Rattle.board_steps.specs.Choice.{CanCommit, Choice, IsChoice, NeedsCheck, NoneFits, StampCounts, Waits as IsWaiting}
 use Rattle.board_steps.specs.Choice.Choice.{ToCommit, ToCheck, ToTake, ToWait, ToEnd}
 use Rattle.board_steps.specs.Reached.{Reached}
-use Rattle.board_steps.specs.Steps.{Call, CheckStep, CommitStep, Compares, IsFree, MayTake, Reply, SendsBack, Step, TakeStep, put_row, with_state}
+use Rattle.board_steps.specs.Steps.{Call, CheckStep, CommitStep, Compares, IsFree, Reply, SendsBack, Step, TakeStep, put_row, with_state}
 use Rattle.board_steps.specs.Steps.Call.{Take, Check, Commit}
-use Rattle.board_steps.specs.Steps.Reply.{Idle, Taken, Stopped, Stranger, Placed, Lifted, Whole, Same, Changed, Commits, Later, Attempts, ClockSpent}
+use Rattle.board_steps.specs.Steps.Reply.{Idle, Taken, Whole, Same, Changed, Commits, Later, Attempts, ClockSpent}
 use Rattle.board_steps.proofs.Lines.{row_put, row_put_off, within_board}
 use Rattle.speculate.specs.ComingOn.{ComesOn, IsSpent, Names, NoneInHand}
 use Rattle.speculate.specs.Marks.{HasTurned, IsStill}

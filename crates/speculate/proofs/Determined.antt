@@ -9,7 +9,7 @@ use Rattle.read_set.specs.Settling.{Contents}
 use Rattle.read_set.specs.declared.effect.Effect.{Effect}
 use Rattle.read_set.specs.declared.notes.Note.{Note}
 use Rattle.sip_answer.specs.declared.answer.Answer.{Answer}
-use Rattle.board_steps.specs.Board.{Board, State, row_at, holder}
+use Rattle.board_steps.specs.Board.{Board, row_at, holder}
 use Rattle.board_steps.specs.Board.State.{Placing}
 use Rattle.board_steps.specs.Reached.{Reached}
 use Rattle.board_steps.specs.Steps.{Reply, Step}
@@ -51,7 +51,7 @@ module _ (plan : Planned) (b : Board) (reached : Reached plan b) (w : ℕ) where
   one_stand : (n m a c : ℕ) (notes more : List Note) → InHand b w n a notes → InHand b w m c more → stands_at plan n notes ≡ stands_at plan m more
   one_stand n m a c notes more h k = ap₂ (λ x ns. stands_at plan x ns) (one_line n m a c notes more h k) (one_noted n m a c notes more h k)
 
-  -- it wants one key, or has one version, and not both
+  -- it needs one key, or has one version, and not both
   one_wanted : (k j : Key) → Wants plan b w k → Wants plan b w j → k ≡ j
   one_wanted k j (n, a, notes, h, is, wanted) (m, c, more, i, at, wanted') =
       let e : AsksFor k ≡ AsksFor j = sym is ∙ one_stand n m a c notes more h i ∙ at in cc
@@ -60,7 +60,7 @@ module _ (plan : Planned) (b : Board) (reached : Reached plan b) (w : ℕ) where
   not_both k v (n, a, notes, h, is, wanted) (m, c, more, i, line, attempt, reads, at, settles) =
       let e : AsksFor k ≡ EndsIn (effect v) = sym is ∙ one_stand n m a c notes more h i ∙ at in cc
 
-  -- versions that tell the same are one
+  -- versions with the same contents are one
   same_contents : (v u : Contents) → v.line ≡ u.line → v.attempt ≡ u.attempt → v.reads ≡ u.reads → v.writes ≡ u.writes → v.answer ≡ u.answer → v ≡ u
   same_contents v u line attempt reads writes answer =
       ap (λ (x : ℕ). contents x v.attempt v.reads v.writes v.answer) line
@@ -134,12 +134,12 @@ plays_one plan old new other (step ∷ more) reached (mid, (r, goes, kept), play
     let same = (step_one plan old reached step s mid' r mid goes' goes).1 in
     plays_one plan mid new other more (step_of_reached plan old mid step r reached goes) plays (subst (λ (x : Board). Plays plan x more other) same plays')
 
--- a step that goes on isn't refused, but for want of memory
+-- a step that goes on isn't refused, unless memory runs out
 refused_one : (plan : Planned) (b new : Board) → Reached plan b → (step : WorkerStep) (r s : Reply) (f : BoardFault) → StepOf plan b step r new → refusal r ≡ None → StepOf plan b step s b → refusal s ≡ Some f → ⊥
 refused_one plan b new reached step r s f goes kept stops is =
     let e : None ≡ Some f = sym kept ∙ ap refusal (step_one plan b reached step r new s b goes stops).0 ∙ is in cc
 
--- so many steps, and then the next
+-- some steps, and then the next
 split : (plan : Planned) (old new : Board) (list : List WorkerStep) (n : ℕ) (step : WorkerStep) → Plays plan old list new → slice_get list n ≡ Some step
     → (mid : Board) × (after : Board) × Plays plan old (take n list) mid × Goes plan mid step after
 split plan old new [] n step plays at = absurd (cc)
@@ -153,7 +153,7 @@ by_memory plan b after reached step (faults.Attempts n) (r, goes, kept) h = absu
 by_memory plan b after reached step faults.ClockSpent (r, goes, kept) h = absurd (refused_one plan b after reached step r ClockSpent faults.ClockSpent goes kept h refl)
 by_memory plan b after reached step faults.Memory goes h = refl
 
--- a list that leads to its end stops for want of memory alone
+-- a list that leads to its end stops only where memory runs out
 pub plays_or_memory : (plan : Planned) (old new stopped : Board) (list : List WorkerStep) (halt : Halt) → Reached plan old → Plays plan old list new → Halts plan old list halt stopped → halt.fault ≡ faults.Memory
 plays_or_memory plan old new stopped list halt reached plays (before, step, at, refuses) =
     let cut = split plan old new list halt.done step plays at in

@@ -1,7 +1,6 @@
 -- The board's replies while a line is run alone, and the steps that were made.
-use Rattle.std.proofs.Common.{◌≡◌, ◌≢◌, ℕ, suc, ◌+◌, ◌-◌, ◌<◌, ◌≤◌, ◌⊎◌, List, [], ◌∷◌, ◌++◌, Option, Some, None, Result, Ok, Err, IfErr, IfOk, OnErr, OnOk, length, replicate, inl, inr, zero, refl, sym, ap, subst, ◌∙◌, arith, option_map, cond, get_or, map, take, sum_by, true, false, Bool}
+use Rattle.std.proofs.Common.{◌≡◌, ◌≢◌, ℕ, suc, ◌+◌, ◌-◌, ◌<◌, ◌≤◌, ◌⊎◌, List, [], ◌∷◌, ◌++◌, Option, Some, None, Result, Ok, Err, IfErr, IfOk, OnOk, length, replicate, inl, inr, zero, refl, sym, ap, subst, ◌∙◌, arith, option_map, cond, get_or, map, take, sum_by, true, false, Bool}
 use Rattle.std.specs.BTreeMap.{is_at}
-use Rattle.std.specs.FinMap.{get-empty}
 use Rattle.std.proofs.lemmas.Bool.{cases_lt}
 use Rattle.std.proofs.lemmas.List.{get_or-replicate, get_or_past, length-replicate, take_more}
 use Rattle.std.proofs.lemmas.List.Sums.{sum_by-cons}
@@ -200,7 +199,7 @@ pub keys_more : (notes : List Note) (x : Note) → map (λ (n : Note). n.key) (n
 keys_more [] x = refl
 keys_more (n ∷ notes) x = ap (λ (ks : List Key). n.key ∷ ks) (keys_more notes x)
 
--- the next key of a list in which each stands once, where those before it are noted
+-- the next key of a list in which each is once, where those before it are noted
 pub next_unnoted : (notes asked : List Note) (i : ℕ) (x : Note) → map (λ (n : Note). n.key) notes ≡ map (λ (n : Note). n.key) (take i asked) → IsOnceEach asked → i < length asked → x ≡ get_or asked i x
     → noted notes x.key ≡ None
 next_unnoted notes asked i x e once lt at =
@@ -216,7 +215,7 @@ pub look_seen : {J : Type 0} (plan : Planned) (b new : Board) (line : ℕ) (note
     → Reads plan new line (notes ++ record { key = k; name = name; found = found_by plan.base k (option_map contents_at place) } ∷ []) × ((row_at new line).next ≡ (row_at b line).next)
 look_seen plan b new line notes k name place reads h = look_goes plan b line notes reads k name (found_by plan.base k (option_map contents_at place)) new h
 
--- nothing else comes but want of memory
+-- nothing else comes but that memory runs out
 pub look_only : {J : Type 0} (plan : Planned) (b new : Board) (line : ℕ) (notes : List Note) (k : Key) (reply : CodeReply J) → Reads plan b line notes → noted notes k ≡ None → Answers plan b (Look 0 k) reply new
     → ((name : Name) (place : Option (Place J)) → reply ≡ replies.Seen name place → ⊥) → (reply ≢ replies.Memory) → ⊥
 look_only plan b new line notes k (replies.Seen name place) reads none h s m = s name place refl
@@ -255,7 +254,7 @@ done_appears plan b line a notes next v reads begun need settles is =
 pub spent_stops : (plan : Planned) (b new : Board) (v : Contents) → IsVersion plan v → Step plan b (Publish 0 v) Spent new → MayStop plan new faults.ClockSpent
 spent_stops plan b new v settles h = (v, settles, subst (λ x. Step plan x (Publish 0 v) Spent x) (sym h.6) (subst (λ x. Step plan b (Publish 0 v) Spent x) h.6 h))
 
--- want of memory, where the line runs
+-- memory runs out where the line runs
 pub reads_stops : (plan : Planned) (b : Board) (line : ℕ) (notes : List Note) → Reads plan b line notes → MayStop plan b faults.Memory
 reads_stops plan b line notes reads = inl (line, notes, reads.state)
 

@@ -1,5 +1,5 @@
 -- Steps of workers, one after another.
-use Rattle.std.proofs.Common.{◌≡◌, ◌≢◌, ℕ, suc, List, [], ◌∷◌, ◌++◌, Option, Some, None, Result, Ok, Err, OnOk, IfErr, option_map, refl, sym, ap, ◌∙◌, subst, ◌⊎◌, inl, inr}
+use Rattle.std.proofs.Common.{◌≡◌, ℕ, suc, List, [], ◌∷◌, ◌++◌, Option, Some, None, Result, Ok, Err, OnOk, IfErr, option_map, refl, sym, ap, ◌∙◌, subst, ◌⊎◌, inl, inr}
 use Rattle.circ_records.specs.declared.key.Key.{Key}
 use Rattle.read_set.specs.Plans.{Planned}
 use Rattle.message_meaning.specs.Needs.{IsNeed}
@@ -183,7 +183,7 @@ has_version : (plan : Planned) (b : Board) (w n a : ℕ) (notes : List Note) (e 
     → HasVersion plan b w (record { line = n; attempt = a; reads = notes; writes = e.writes; answer = e.answer })
 has_version plan b w n a notes e hand ends = (n, a, notes, hand, refl, refl, refl, ends, λ M true. given_all (noted notes) plan n (Ok e) ends M (true-agrees notes M true))
 
--- a line that doesn't run looks at nothing, wherever its rule stands
+-- a line that doesn't run looks at nothing, however far its rule has come
 rests_looking : (plan : Planned) (b : Board) (w n a : ℕ) (notes : List Note) (o : Outcome Effect) → stands_at plan n notes ≡ o → InHand b w n a notes → (HasRunning b w → ⊥) → Looks plan b w Idle b
 rests_looking plan b w n a notes (AsksFor k) is hand not = inl (k, (n, a, notes, hand, is, wanted (noted notes) plan n k is), (λ m others may. not (m, others, may.running), refl))
 rests_looking plan b w n a notes (EndsIn e) is hand not = inr (inr (_, has_version plan b w n a notes e hand is), refl, refl)

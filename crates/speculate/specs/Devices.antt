@@ -1,3 +1,3 @@
--- Devices of proofs: how things are kept or counted. No promise is read here.
+-- Devices of proofs: how things are stored or counted. No promise is read here.
 pub mod Phases
 pub mod Draining

@@ -48,7 +48,7 @@ pub record IsMarked (ready : Ready) (position : ℕ) (mark : Mark) : Type 0 wher
   pub in_checked : has_position ready.checked position ≡ is_checked mark
   pub in_checking : has_position ready.checking position ≡ is_in_check mark
 
--- each set is over so many positions
+-- each set is over this number of positions
 pub record HasPositions (len : ℕ) (ready : Ready) : Type 0 where
   pub of_waiting : length ready.waiting ≡ len
   pub of_unchecked : length ready.unchecked ≡ len

@@ -1,5 +1,5 @@
 -- What a worker's line in hand needs next, where it runs.
-use Rattle.std.specs.Prelude.{◌≡◌, ◌⊎◌, Option, Some, None, ℕ}
+use Rattle.std.specs.Prelude.{◌⊎◌, Option, Some, None, ℕ}
 use Rattle.circ_records.specs.declared.key.Key.{Key}
 use Rattle.read_set.specs.Plans.{Planned}
 use Rattle.read_set.specs.Settling.{Contents}

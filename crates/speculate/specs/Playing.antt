@@ -99,9 +99,9 @@ HasRunning b w = (n : ℕ) × (notes : List Note) × ((row_at b n).state ≡ Run
 abbrev pub WouldPlace : Planned → Board → ℕ → Type 0
 WouldPlace plan b w = (v : Contents) × HasLast b w v × IsVersion plan v × Grows plan b (Publish w v)
 
--- Where a step can want memory: where the worker's line runs, a look and a publication ask what it needs, and to follow its rule
--- over what it has noted takes memory, whatever the rule comes to. Nothing else asks: a publication that is to go on wants memory
--- just where it would place an entry, and a step for a line that is published in part or is being checked wants none.
+-- Where a step can run out of memory: where the worker's line runs, a look and a publication ask what it needs, and to follow its rule
+-- over what it has noted takes memory, whatever the rule comes to. Nothing else asks: a publication that is to go on takes memory
+-- just where it would place an entry, and a step for a line that is published in part or is being checked takes none.
 abbrev pub MayWant : Planned → Board → WorkerStep → Type 0
 MayWant plan b (steps.Look w) = HasRunning b w
 MayWant plan b (steps.Publish w) = HasRunning b w ⊎ WouldPlace plan b w
@@ -110,7 +110,7 @@ MayWant plan b (steps.Check w n) = ⊥
 MayWant plan b (steps.Commit n) = ⊥
 
 -- A step is refused: it has no attempt left, or no clock, just where the board's reply says so, which leaves the board; or it
--- lacks memory where it can want it.
+-- is out of memory where it can be.
 abbrev pub Refuses : Planned → Board → WorkerStep → BoardFault → Type 0
 Refuses plan b step (faults.Attempts n) = StepOf plan b step (Attempts n) b
 Refuses plan b step faults.ClockSpent = StepOf plan b step ClockSpent b
@@ -120,7 +120,7 @@ Refuses plan b step faults.Memory = MayWant plan b step
 abbrev pub IsRefused : Planned → Board → WorkerStep → BoardFault → Board → Type 0
 IsRefused plan old step fault new = Refuses plan old step fault × (new ≡ old)
 
--- A list stops: so many of its steps were done, the next is refused, and the board is the one before it.
+-- A list stops: the first steps were done, as many as `halt` says, the next is refused, and the board is the one before it.
 abbrev pub Halts : Planned → Board → List WorkerStep → Halt → Board → Type 0
 Halts plan old steps halt new =
     Plays plan old (take halt.done steps) new × (step : WorkerStep) × (slice_get steps halt.done ≡ Some step) × Refuses plan new step halt.fault

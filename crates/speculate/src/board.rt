@@ -10,7 +10,7 @@ ghost use Rattle.journal_table.specs.declared.TheConstants.{LINE_LIMIT};
 ghost use Rattle.speculate.specs.Choices.{Begins, chosen};
 ghost use Rattle.board_lines.specs.Courses.{PublishesMore};
 ghost use Rattle.board_lines.specs.Hands.{AreCounts, AreNotesOf, AreWorkers, IsHand};
-ghost use Rattle.board_lines.specs.Acts.{IsPlacing, IsToPublish};
+ghost use Rattle.board_lines.specs.Acts.{IsPlacing};
 ghost use Rattle.board_lines.specs.Notes.{contents_at};
 ghost use Rattle.board_lines.specs.Replies.{Answers};
 
@@ -236,13 +236,6 @@ impl<'p, 't, J: PlanName> Board<'p, 't, J> {
         ensures { IsPlacing self.now worker (option_map contents_at result) }
     {
         self.lines.placing(worker)
-    }
-
-    /// The worker's line in hand with its attempt, where it is to be published: it runs, or its publication goes on.
-    pub(crate) fn to_publish(&self, worker: u32) -> Option<Hand>
-        ensures { IsToPublish self.now worker result }
-    {
-        self.lines.to_publish(worker)
     }
 
     /// How often lines were taken, and what became of it.

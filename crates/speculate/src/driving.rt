@@ -17,7 +17,7 @@ use crate::draining::drain;
 use crate::playing::{put, settled_if_done};
 use crate::steps::BoardFault;
 use board_lines::{Reply, copied, record_seen};
-use circ_records::{KeptKey, Key, Record};
+use circ_records::{Key, Record};
 use message_meaning::{need, perform};
 use read_set::{Looks, Name, Need, Note, NotedRecord, Notes, Noting, PlanName, Stop, Version};
 use std::alloc::{AllocError, Global};
@@ -211,7 +211,7 @@ fn run_line<'t, J: PlanName + 'static, R: Wait>(
     Ok(())
 }
 
-/// Looks at all that a line wants: its version. What the rule will ask for is foreseen, so the rule is followed twice, and not
+/// Looks at all that a line needs, and returns its version. What the rule will ask for is foreseen, so the rule is followed twice, and not
 /// from its beginning at each look.
 fn read_line<J: PlanName + 'static>(
     alloc: Global,
@@ -236,13 +236,13 @@ fn read_line<J: PlanName + 'static>(
         settled_if_done(&next);
         match next {
             Need::Done(version) => return Ok(version),
-            Need::Key(key) => look_at(alloc, board, line, &key, &mut notes)?,
+            Need::Key(key) => look_at(board, line, &key, &mut notes)?,
         }
     }
 }
 
-/// The records for which the rule of a line asks, in its order, as they stand past the last line: those that the line will see,
-/// where none above it has an entry. Their names aren't told. Nothing rests on them but how often the rule is followed.
+/// The records for which the rule of a line asks, in its order, as they are past the last line: those that the line will see,
+/// where no later line has an entry. Their names aren't noted. They decide nothing but how often the rule is followed.
 fn foreseen<J: PlanName + 'static>(
     alloc: Global,
     board: &Board<'_, '_, J>,
@@ -258,7 +258,7 @@ fn foreseen<J: PlanName + 'static>(
     }
 }
 
-/// Where the records stand past the last line.
+/// The records as they are past the last line.
 #[derive(Drop)]
 struct PastAll<'b, 'p, 't, J: PlanName> {
     board: &'b Board<'p, 't, J>,
@@ -270,7 +270,8 @@ impl<J: PlanName> Looks for PastAll<'_, '_, '_, J> {
         _alloc: Global,
         key: &Key,
     ) -> Result<Option<(Name, Option<Record>)>, AllocError> {
-        let found = copied(self.board.value_of(key))?;
+        let board = self.board;
+        let found = copied(board.lines.value_of(key))?;
         // (a rule doesn't ask whose it is)
         Ok(Some((Name::Base, found)))
     }
@@ -292,14 +293,13 @@ fn look_at_each<J: PlanName>(
 {
     let mut notes = Notes::new(alloc);
     for note in asked {
-        look_at(alloc, board, line, &note.key.key(), &mut notes)?;
+        look_at(board, line, &note.key, &mut notes)?;
     }
     Ok(notes)
 }
 
 /// Looks at a key that isn't noted, and notes what was seen.
 fn look_at<J: PlanName>(
-    alloc: Global,
     board: &mut Board<'_, '_, J>,
     line: u64,
     key: &Key,
@@ -323,7 +323,7 @@ fn look_at<J: PlanName>(
     let found = copied(record_seen(plan, key, place))?;
     let found = NotedRecord::new(found);
     notes.add(Note {
-        key: KeptKey::new(alloc, key)?,
+        key: key.clone()?,
         name,
         found,
     })?;

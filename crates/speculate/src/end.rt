@@ -1,7 +1,7 @@
 //! A board on which all lines are committed, as the end of a run.
 
 use crate::finished::Finished;
-use circ_records::{KeptKey, Key, Record, Records};
+use circ_records::{Key, Record, Records};
 use read_set::{Plan, PlanName};
 use result_report::End;
 use sip_answer::Answer;
@@ -21,11 +21,14 @@ impl<'t, J: PlanName> End<'t> for Finished<'_, 't, J> {
     ghost left = { λ _ key. last J.plan key };
 
     fn plan(&self) -> &Plan {
-        Finished::plan(self)
+        self.board.plan()
     }
 
+    /// That of the replay by one thread. It is in the table of versions, and outlives the board.
     fn answer(&self, line: u64) -> Option<&'t Answer> {
-        Finished::answer(self, line)
+        let board = &self.board;
+        let _plan = board.plan();
+        board.lines.answer(line)
     }
 
     /// 0 for a line that isn't there.
@@ -37,15 +40,20 @@ impl<'t, J: PlanName> End<'t> for Finished<'_, 't, J> {
         if numbers.end <= line {
             return 0;
         }
-        Finished::attempt(self, line)
+        let board = &self.board;
+        board.lines.attempt(line)
     }
 
-    fn keys_of(&self, line: u64, i: usize) -> Option<(&KeptKey, u32)> {
-        Finished::keys_of(self, line, i)
+    fn keys_of(&self, line: u64, i: usize) -> Option<(&Key, u32)> {
+        let board = &self.board;
+        board.lines.keys_of(line, i)
     }
 
+    /// That of the replay by one thread.
     fn final_of(&self, key: &Key) -> Option<&Record> {
-        Finished::final_of(self, key)
+        let board = &self.board;
+        let _plan = board.plan();
+        board.lines.value_of(key)
     }
 
     /// It has no list of them.

@@ -1,22 +1,16 @@
 //! A board on which all lines are committed.
 
-ghost use Rattle.std.specs.Prelude.{◌≡◌, ◌^◌, ◌<◌, suc, IfErr, IfOk, OnErr, length, option_copied, slice_get};
-ghost use Rattle.std.specs.FinMap as fin;
-ghost use Rattle.board_steps.specs.Board.{IsLine, row_at};
+ghost use Rattle.std.specs.Prelude.{◌≡◌, ◌<◌, IfErr, IfOk, OnErr, length};
 ghost use Rattle.board_steps.specs.Reached.{Reached};
-ghost use Rattle.read_set.specs.Replay.{answer_of, last};
 ghost use Rattle.speculate.specs.Finishing.{IsWhole};
-ghost use Rattle.version_store.specs.Entries.{IsNamedAt};
 
 use crate::board::Board;
-use circ_records::{KeptKey, Key, Record};
 use read_set::{Plan, PlanName};
-use sip_answer::Answer;
 use std::marker::Model;
 
 /// A board on which all lines are committed: what a replay has come to.
 pub struct Finished<'p, 't, J: PlanName> {
-    board: Board<'p, 't, J>,
+    pub(crate) board: Board<'p, 't, J>,
 }
 
 impl<J: PlanName> Drop for Finished<'_, '_, J> {
@@ -97,37 +91,5 @@ impl<'p, 't, J: PlanName> Finished<'p, 't, J> {
         ensures whole { IsWhole self.now }
     {
         self.board.plan()
-    }
-
-    /// The answer of a line, where it has one: that of the replay by one thread. The table of versions lends it.
-    pub fn answer(&self, line: u64) -> Option<&'t Answer>
-        ensures { option_copied result ≡ answer_of J.plan line }
-    {
-        let _plan = self.board.plan();
-        self.board.answer(line)
-    }
-
-    /// Which attempt at a line was committed, counted from 0.
-    pub fn attempt(&self, line: u64) -> u32
-        requires { IsLine self.now line }
-        ensures { suc result ≡ (row_at self.now line).next }
-    {
-        self.board.attempt(line)
-    }
-
-    /// The i-th key, from 0 and rising, at which a line left a record, and the attempt that left it; None past the last.
-    pub fn keys_of(&self, line: u64, i: usize) -> Option<(&KeptKey, u32)>
-        ensures value { IsNamedAt (slice_get (fin.entries (row_at self.now line).entries) i) result }
-        ensures few { length (fin.entries (row_at self.now line).entries) < 2 ^ 64 }
-    {
-        self.board.keys_of(line, i)
-    }
-
-    /// The record at a key after all lines: that of the replay by one thread.
-    pub fn final_of(&self, key: &Key) -> Option<&Record>
-        ensures { option_copied result ≡ last J.plan key.now }
-    {
-        let _plan = self.board.plan();
-        self.board.value_of(key)
     }
 }

@@ -19,7 +19,7 @@ pub fn plays_are_reached()
 {}
 
 /// A list of steps leads from such a board to one board: each look is at the one key for which the line's rule asks, each
-/// publication of the one version that it comes to, and each other step is idle. Such a list stops for want of memory alone.
+/// publication of the one version that it comes to, and each other step is idle. Such a list stops only where memory runs out.
 pub fn plays_lead_to_one_board()
     ensures one { (plan : Planned) (old new other : Board) (steps : List WorkerStep) → Reached plan old → Plays plan old steps new → Plays plan old steps other → new ≡ other }
     ensures memory { (plan : Planned) (old new stopped : Board) (steps : List WorkerStep) (halt : Halt) → Reached plan old → Plays plan old steps new → Halts plan old steps halt stopped → halt.fault ≡ faults.Memory }

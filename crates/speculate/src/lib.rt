@@ -1,13 +1,12 @@
-//! The room of the board: lines run early on versions of records, and commit in the order of the journal where what they
+//! The board in code: lines run early on versions of records, and commit in the order of the journal where what they
 //! have read still holds.
 //!
-//! `Board` has the five calls `take`, `look`, `publish`, `check` and `commit`; each is one step of `board_steps`. It stands on the
-//! versions and entries of `version_store` and on the states of `attempts`; it knows no message and no table.
+//! `Board` has the five calls `take`, `look`, `publish`, `check` and `commit`; each is one step of `board_steps`. It uses the
+//! versions and entries of `version_store` and the states of `attempts`; it knows no message and no table.
 #![tactic(auto)]
 
 mod board;
 mod choice;
-mod committed;
 mod draining;
 mod driving;
 mod end;

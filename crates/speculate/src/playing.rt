@@ -50,23 +50,15 @@ pub fn act<'t, J: PlanName, R: Wait>(
     ensures refused { IfErr result (λ fault. IsRefused J.plan board.old step fault board.new) }
 {
     match step {
-        Step::Take { worker, line } => take(board, worker, line),
+        Step::Take { worker, line } => ended(board.take(worker, line)),
         Step::Look { worker } => look(alloc, board, worker),
         Step::Publish { worker } => publish(rt, alloc, table, board, worker),
-        Step::Check { worker, line } => check(board, worker, line),
-        Step::Commit { line } => commit(board, line),
+        Step::Check { worker, line } => ended(board.check(worker, line)),
+        Step::Commit { line } => ended(board.commit(line)),
     }
 }
 
-/// The worker takes the line.
-fn take<J: PlanName>(board: &mut Board<'_, '_, J>, worker: u32, line: u64) -> Result<(), BoardFault>
-    ensures goes { OnOk result (Goes J.plan board.old (steps.Take worker line) board.new) }
-    ensures refused { IfErr result (λ fault. IsRefused J.plan board.old (steps.Take worker line) fault board.new) }
-{
-    ended(board.take(worker, line))
-}
-
-/// Looks at the key that the worker's line in hand wants, if it wants one.
+/// Looks at the key that the worker's line in hand needs, if it needs one.
 fn look<'t, J: PlanName>(
     alloc: Global,
     board: &mut Board<'_, 't, J>,
@@ -116,26 +108,6 @@ fn publish_at<'t, J: PlanName>(
     }
 }
 
-/// The worker compares the next noted name of the line.
-fn check<J: PlanName>(
-    board: &mut Board<'_, '_, J>,
-    worker: u32,
-    line: u64,
-) -> Result<(), BoardFault>
-    ensures goes { OnOk result (Goes J.plan board.old (steps.Check worker line) board.new) }
-    ensures refused { IfErr result (λ fault. IsRefused J.plan board.old (steps.Check worker line) fault board.new) }
-{
-    ended(board.check(worker, line))
-}
-
-/// The line is committed.
-fn commit<J: PlanName>(board: &mut Board<'_, '_, J>, line: u64) -> Result<(), BoardFault>
-    ensures goes { OnOk result (Goes J.plan board.old (steps.Commit line) board.new) }
-    ensures refused { IfErr result (λ fault. IsRefused J.plan board.old (steps.Commit line) fault board.new) }
-{
-    ended(board.commit(line))
-}
-
 /// The place of the version to be published, a new one; None where there is no version.
 fn place_of<'t, J: PlanName, R: Wait>(
     rt: &R,
@@ -160,8 +132,8 @@ fn place_of<'t, J: PlanName, R: Wait>(
 fn key_in<J: PlanName>(next: Option<Need<J>>) -> Option<Key>
     ensures { result ≡ needed_key next }
 {
-    match &next {
-        Some(Need::Key(key)) => Some(*key),
+    match next {
+        Some(Need::Key(key)) => Some(key),
         _ => None,
     }
 }
@@ -209,7 +181,7 @@ fn running<J: PlanName>(board: &Board<'_, '_, J>, worker: u32) -> Option<Hand>
     let None = board.placing(worker) else {
         return None;
     };
-    let Some(_) = board.to_publish(worker) else {
+    let Some(_) = board.lines.to_publish(worker) else {
         return None;
     };
     Some(hand)

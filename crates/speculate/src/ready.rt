@@ -79,7 +79,7 @@ impl Drop for Ready {
 }
 
 impl Ready {
-    /// So many lines, at most those that a journal may have, which all wait.
+    /// This number of lines, at most as many as a journal may have, which all wait.
     pub fn new(alloc: Global, len: usize) -> Result<Ready, AllocError>
         requires { len ≤ LINE_LIMIT }
         ensures { IfOk result (λ r. r ≡ all_waiting len) }

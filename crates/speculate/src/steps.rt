@@ -10,7 +10,7 @@ use std::alloc::AllocError;
 pub enum Step {
     /// The worker takes the line.
     Take { worker: u32, line: u64 },
-    /// The worker looks at the key that its line in hand wants next.
+    /// The worker looks at the key that its line in hand needs next.
     Look { worker: u32 },
     /// One act of the publication of the version of the worker's line in hand.
     Publish { worker: u32 },

@@ -110,7 +110,7 @@ fn ran<'a, R: Threads + Wait + Sync + Clock + Eprint + AllocGlobal + Abort>(
     (memory, status)
 }
 
-/// Just so many files of the output stand there, each with all its bytes, and nothing else does.
+/// Just this many files of the output are there, each with all its bytes, and nothing else is.
 fn has_written<R: Abort>(rt: &R, memory: &Memory<'_, R>, whole: &Memory<'_, R>, count: usize) {
     assert!(rt;
         memory.count().checked_sub(GIVEN.len()) == Some(count),

@@ -1,5 +1,5 @@
-//! Tests of single rooms. Of those that read and write (`sip_reader`, `sip_answer`, `csv_table`, `circ_policy`): messages beside their
-//! readings, and what no run of the program shows; what one shows stands in `books` and `cases`. Of `version_store`: the store beside a
+//! Tests of single crates. Of those that read and write (`sip_reader`, `sip_answer`, `csv_table`, `circ_policy`): messages beside their
+//! readings, and what no run of the program shows; what one shows is in `books` and `cases`. Of `version_store`: the store beside a
 //! plain list of entries.
 #![tactic(auto)]
 

@@ -3,13 +3,13 @@
 
 use circ_policy::DueForm;
 use sip_answer::{Answer, FeePaidAnswer, LoanAnswer, is_own_text, write_answer};
-use sip_reader::{KeptId, Stamp};
+use sip_reader::{Id, Stamp};
 use std::alloc::AllocGlobal;
 use std::process::Abort;
 use std::test::Fail;
 
-fn kept<R: AllocGlobal + Abort>(rt: &R, id: &[u8]) -> KeptId {
-    let read = KeptId::read(rt.alloc(), id).expect(rt, "memory");
+fn kept<R: AllocGlobal + Abort>(rt: &R, id: &[u8]) -> Id {
+    let read = Id::read(rt.alloc(), id).expect(rt, "memory");
     read.expect(rt, "an id")
 }
 
@@ -43,7 +43,7 @@ fn refusal<R: AllocGlobal + Abort>(rt: &R) -> Answer {
     })
 }
 
-/// Its own text is seen, line ends behind it too, and no other text is.
+/// Its own text is seen, line ends after it too, and no other text is.
 fn see<R: AllocGlobal + Abort>(rt: &R, answer: &Answer) -> Result<(), Fail> {
     let sequence = Some(b'3');
     let written = write_answer(rt.alloc(), answer, sequence)?;

@@ -1,4 +1,4 @@
-//! The due days and late fees of a policy. Which rule a policy breaks stands in `books`.
+//! The due days and late fees of a policy. Which rule a policy breaks is in `books`.
 
 use circ_policy::{MediaType, Policy, late_fee};
 use sip_reader::Day;

@@ -12,7 +12,7 @@ use std::alloc::{AllocError, Global};
 use std::process::Abort;
 use std::test::Fail;
 
-/// Reads messages and compares the words of their readings. Each message stands before an arrow and the words, and behind each a
+/// Reads messages and compares the words of their readings. Each message is before an arrow and the words, and after each a
 /// character ends the line.
 fn compare_lines(rt: &impl Abort, alloc: Global, lines: &str, end: char) -> Result<(), Fail> {
     for line in lines.split(end) {
@@ -148,7 +148,7 @@ fn tell_day(out: &mut Vec<u8>, day: Option<Day>) -> Result<(), AllocError> {
     }
 }
 
-/// Messages with ends of lines. Behind each reading stands a tilde.
+/// Messages with ends of lines. After each reading is a tilde.
 const WITH_LINE_FEEDS: &str = "\
 3720260302    101500??||u\r\nBV0|AAP1|CG| => 37 - P1 u\r\n 0 none~\
 99\r\n => 99~\

@@ -1,9 +1,9 @@
-//! Rows of csv texts, behind their end.
+//! Rows of csv texts, after their end.
 
 use csv::ByteRecord;
 use csv_table::{RowReader, TableError, column};
 
-/// An uneven row, and the end, are told again at each further call.
+/// An uneven row, and the end, are returned again at each further call.
 #[test]
 fn stays_at_the_end(rt: HostRuntime) {
     let mut row = ByteRecord::new(rt.alloc());

@@ -100,14 +100,14 @@ fn ids_and_texts(rt: HostRuntime) -> Result<(), Fail> {
         "|bcdefghijklmnopqrst",
         "abcdefghijklmnopqrs\n",
     ] {
-        assert!(rt; Id::new(bytes.as_bytes()).is_none(), "{bytes}");
+        assert!(rt; Id::read(alloc, bytes.as_bytes())?.is_none(), "{bytes}");
     }
-    assert!(rt; Id::new(b"A") < Id::new(b"A\0"));
-    assert!(rt; Id::new(b"A~~") < Id::new(b"B"));
-    assert!(rt; Id::new("\u{e9}".as_bytes()) > Id::new(b"z"));
-    let fee = Id::of_fee(9_999_999_999, 18_446_744_073_709_551_615);
+    assert!(rt; Id::read(alloc, b"A")? < Id::read(alloc, b"A\0")?);
+    assert!(rt; Id::read(alloc, b"A~~")? < Id::read(alloc, b"B")?);
+    assert!(rt; Id::read(alloc, "\u{e9}".as_bytes())? > Id::read(alloc, b"z")?);
+    let fee = Id::of_fee(alloc, 9_999_999_999, 18_446_744_073_709_551_615)?;
     assert!(rt; fee.as_bytes() == b"R9999999999-18446744073709551615".as_slice());
-    assert!(rt; Id::of_fee(7, 0).as_bytes() == b"R7-0".as_slice());
+    assert!(rt; Id::of_fee(alloc, 7, 0)?.as_bytes() == b"R7-0".as_slice());
     assert!(rt; Text::read(alloc, b"a|b")?.is_none());
     match Text::read(alloc, b"a b")? {
         Some(text) => assert!(rt; text.clone()?.as_bytes() == b"a b".as_slice()),

@@ -7,7 +7,7 @@ ghost use Rattle.version_store.specs.Entries.{HasLines};
 mod plain;
 mod script;
 
-use circ_records::{KeptKey, Key};
+use circ_records::Key;
 use plain::PlainStore;
 use read_set::{Name, Notes, PlanName, Version, Writes};
 use sip_reader::Id;
@@ -28,20 +28,20 @@ const KEYS: &str =
 item J,item K,item L,item M,item N,item O,item P,item Q,item R,item S";
 
 /// The key that a kind and an id name.
-fn key(rt: &impl Abort, text: &str) -> Key {
+fn key<R: AllocGlobal + Abort>(rt: &R, text: &str) -> Result<Key, AllocError> {
     let (kind, id) = text.split_once(' ').unwrap_or(("", text));
-    let id = Id::new(id.as_bytes()).expect(rt, "an id");
-    match kind {
+    let id = Id::read(rt.alloc(), id.as_bytes())?.expect(rt, "an id");
+    Ok(match kind {
         "patron" => Key::Patron(id),
         "item" => Key::Item(id),
         _ => Key::Fee(id),
-    }
+    })
 }
 
-fn kept_keys<R: AllocGlobal + Abort>(rt: &R) -> Result<Vec<KeptKey>, AllocError> {
+fn all_keys<R: AllocGlobal + Abort>(rt: &R) -> Result<Vec<Key>, AllocError> {
     let mut keys = Vec::new(rt.alloc());
     for text in KEYS.split(',') {
-        keys.push(KeptKey::new(rt.alloc(), &key(rt, text))?)?;
+        keys.push(key(rt, text)?)?;
     }
     Ok(keys)
 }
@@ -68,17 +68,12 @@ fn agree<J: PlanName>(
     rt: &impl Abort,
     store: &EntryStore<'_, J>,
     plain: &PlainStore,
-    keys: &[KeptKey],
+    keys: &[Key],
 ) {
-    for (i, kept) in keys.iter().enumerate() {
-        let key = kept.key();
+    for (i, key) in keys.iter().enumerate() {
         for line in FIRST - 1..FIRST + LINES + 1 {
-            agree_at(rt, store, plain, &key, line);
-            let ours = match store.keys_of(line, i) {
-                None => None,
-                Some((kept, attempt)) => Some((kept.key(), attempt)),
-            };
-            assert!(rt; ours == plain.keys_of(line, i));
+            agree_at(rt, store, plain, key, line);
+            assert!(rt; store.keys_of(line, i) == plain.keys_of(line, i));
         }
     }
 }
@@ -116,7 +111,7 @@ enum Call {
 fn make_call<'t, J: PlanName, R: Wait + AllocGlobal + Abort>(
     rt: &R,
     table: &'t VersionTable<J>,
-    keys: &'t [KeptKey],
+    keys: &'t [Key],
     store: &mut EntryStore<'t, J>,
     plain: &mut PlainStore,
     call: Call,
@@ -128,16 +123,16 @@ fn make_call<'t, J: PlanName, R: Wait + AllocGlobal + Abort>(
     match call {
         Call::Place { line, attempt, key } => {
             let line = FIRST + line % LINES;
-            let kept = keys.get(key).expect(rt, "a key");
+            let key = keys.get(key).expect(rt, "a key");
             let place = put_version(rt, table, line, attempt)?;
-            store.place(rt.alloc(), line, attempt, kept, place)?;
-            plain.place(line, attempt, kept.key())
+            store.place(rt.alloc(), line, attempt, key, place)?;
+            plain.place(line, attempt, key.clone()?)
         }
         Call::Lift { line, key } => {
             let line = FIRST + line % LINES;
-            let key = keys.get(key).expect(rt, "a key").key();
-            store.lift(line, &key);
-            plain.lift(line, &key);
+            let key = keys.get(key).expect(rt, "a key");
+            store.lift(line, key);
+            plain.lift(line, key);
             Ok(())
         }
         Call::Suspect { line } => {
@@ -168,7 +163,7 @@ fn call_of(seed: u32) -> Call {
 fn calls<'t, J: PlanName, R: Wait + AllocGlobal + Abort>(
     rt: &R,
     table: &'t VersionTable<J>,
-    keys: &'t [KeptKey],
+    keys: &'t [Key],
     store: &mut EntryStore<'t, J>,
 ) -> Result<(), AllocError>
     requires named { J.plan ≡ no_plan }
@@ -187,7 +182,7 @@ fn calls<'t, J: PlanName, R: Wait + AllocGlobal + Abort>(
 #[test]
 fn both_stores_agree(rt: HostRuntime) -> Result<(), Fail> {
     let table: VersionTable<Brand> = VersionTable::new(rt.alloc())?;
-    let keys = kept_keys(&rt)?;
+    let keys = all_keys(&rt)?;
     let mut store = EntryStore::new(rt.alloc(), FIRST, LINES as usize)?;
     calls(&rt, &table, keys.as_slice(), &mut store)?;
     Ok(())

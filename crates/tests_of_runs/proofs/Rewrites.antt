@@ -18,7 +18,7 @@ same-at : (k : Key) (r : Record) (M : Map) → M k ≡ Some r → (q : Key) (b :
 same-at k r M there q true t = ap M (one-key q k t) ∙ there
 same-at k r M there q false t = refl
 
--- where nothing is written and answered, a noted record may be written as it stands
+-- where nothing is written and answered, a noted record may be written as it is
 settles-again : (plan : Planned) (line : ℕ) (notes : List Note) (k : Key) (r : Record) → noted notes k ≡ Some (Some r)
     → Settles plan line notes [] None → Settles plan line notes ((k, r) ∷ []) None
 settles-again plan line notes k r n s M t =

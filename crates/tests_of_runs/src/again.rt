@@ -7,14 +7,14 @@ use circ_records::{Key, Record};
 use read_set::{PlanName, Version, Writes};
 use std::alloc::{AllocError, Global};
 
-/// A version of the same line, attempt and notes that writes the record that is noted at a key, as it stands there. None
+/// A version of the same line, attempt and notes that writes the record that is noted at a key, as it is there. None
 /// where the line writes or answers something of its own, or has noted no record there.
 pub(crate) fn writing_again<J: PlanName>(
     alloc: Global,
     version: &Version<J>,
-    key: &Key,
+    key: Key,
 ) -> Result<Option<Version<J>>, AllocError> {
-    let Some(record) = record_noted(version, key)? else {
+    let Some(record) = record_noted(version, &key)? else {
         return Ok(None);
     };
     let writes = version.writes().len();
@@ -44,15 +44,15 @@ fn record_noted<J: PlanName>(version: &Version<J>, key: &Key) -> Result<Option<R
 fn rewritten<J: PlanName>(
     alloc: Global,
     version: &Version<J>,
-    key: &Key,
+    key: Key,
     found: Record,
 ) -> Result<Version<J>, AllocError>
-    requires noted { noted version.now.reads key.now ≡ Some (Some found) }
+    requires noted { noted version.now.reads key ≡ Some (Some found) }
     requires nothing { length version.now.writes ≡ 0 }
     requires silent { version.now.answer ≡ None }
 {
     let reads = version.reads().copy(alloc)?;
     let (line, attempt) = (version.line(), version.attempt());
-    let writes = Writes::one(alloc, *key, found)?;
+    let writes = Writes::one(alloc, key, found)?;
     Ok(Version::new(line, attempt, reads, writes, None))
 }

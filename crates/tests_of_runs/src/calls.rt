@@ -57,7 +57,7 @@ pub(crate) fn reply_to<'t, J: PlanName, R: Wait + AllocGlobal + Abort>(
     }
 }
 
-/// What a board tells of itself, and what the version of a worker's line does.
+/// What a board says about itself, and what the version of a worker's line does.
 fn tell_of<J: PlanName>(
     alloc: Global,
     board: &Board<'_, '_, J>,
@@ -102,8 +102,8 @@ fn look<J: PlanName>(
     rest: &str,
 ) -> Result<String, AllocError> {
     let key = match rest.strip_prefix("at ") {
-        Some(key) => key_in(key),
-        None => key_of(&next_need(alloc, board, worker)?),
+        Some(key) => key_in(alloc, key)?,
+        None => key_of(next_need(alloc, board, worker)?),
     };
     let Some(key) = key else {
         return String::from_str(alloc, "idle");
@@ -113,9 +113,9 @@ fn look<J: PlanName>(
 }
 
 /// The key that is needed, if it is one.
-fn key_of<J: PlanName>(next: &Option<Need<J>>) -> Option<Key> {
+fn key_of<J: PlanName>(next: Option<Need<J>>) -> Option<Key> {
     match next {
-        Some(Need::Key(key)) => Some(*key),
+        Some(Need::Key(key)) => Some(key),
         _ => None,
     }
 }
@@ -178,8 +178,8 @@ fn as_asked<J: PlanName>(
     let Some(key) = rest.strip_prefix("writing ") else {
         return Ok(Some(version));
     };
-    match key_in(key) {
-        Some(key) => writing_again(alloc, &version, &key),
+    match key_in(alloc, key)? {
+        Some(key) => writing_again(alloc, &version, key),
         None => Ok(None),
     }
 }

@@ -4,12 +4,12 @@ ghost use Rattle.std.specs.Prelude.{◌≡◌};
 ghost use Rattle.worker_pool.specs.Rows.{IsStatic};
 
 use crate::gates::{Watch, wait_for};
+use crate::holds::id_of;
 use crate::library::plan_of;
 use circ_records::Key;
 use message_meaning::need;
 use read_set::{Need, Notes, Plan, PlanName};
 use replay_run::{Moment, NoGate};
-use sip_reader::Id;
 use speculate::{Board, BoardFault};
 use std::alloc::{AllocGlobal, Global};
 use std::marker::Brand;
@@ -37,10 +37,10 @@ fn ends_where_a_fault_was_left(rt: HostRuntime) -> Result<(), Fail> {
 /// How often each of some workers begins at most while the others do.
 const BEGINS: u32 = 500_000;
 
-/// So many tries that found the lock taken are enough: among them some workers have tried it over and over.
+/// This many tries that found the lock taken are enough: among them some workers have tried it over and over.
 const VAIN_TRIES: u64 = 20_000;
 
-/// Whether a step tells want of memory.
+/// Whether a step reports out of memory.
 fn tells_memory<T>(told: &Result<T, Left>) -> bool {
     matches!(told, Err(Left(BoardFault::Memory)))
 }
@@ -59,7 +59,7 @@ fn leave_two<J: PlanName + Send + Sync + 'static, R: Threads + Wait + Sync + All
     shared.leave(rt, BoardFault::Memory);
     shared.leave(rt, BoardFault::ClockSpent);
     assert!(rt; tells_memory(&shared.begin(rt, 1)), "begin");
-    let key = Key::Item(Id::new(b"I1").expect(rt, "an id"));
+    let key = Key::Item(id_of(rt, b"I1"));
     assert!(rt; tells_memory(&shared.look(rt, 0, &key)), "look");
     assert!(rt; tells_memory(&shared.publish_more(rt, 0)), "publish_more");
     assert!(rt; tells_memory(&shared.check(rt, 0, 1)), "check");
@@ -99,7 +99,7 @@ fn hold_one<J: PlanName + Send + Sync + 'static, R: Threads + Wait + Sync + Allo
     Ok(())
 }
 
-/// Runs a worker that the gate holds once it has taken a line, and meanwhile leaves want of memory.
+/// Runs a worker that the gate holds once it has taken a line, and meanwhile leaves out of memory.
 fn leave_while_held<J: PlanName + Send + Sync + 'static, R: Threads + Wait + Sync>(
     rt: &R,
     alloc: Global,
@@ -133,7 +133,7 @@ fn begins_nothing_behind_a_fault_whoever_has_the_lock(rt: HostRuntime) -> Result
     begin_at_once::<Brand, HostRuntime>(&rt, &plan)
 }
 
-/// Four workers begin at once, over and over, where want of memory was left.
+/// Four workers begin at once, over and over, where out of memory was left.
 fn begin_at_once<
     J: PlanName + Send + Sync + 'static,
     R: Threads + Wait + Sync + AllocGlobal + Abort,

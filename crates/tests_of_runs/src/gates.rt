@@ -1,4 +1,4 @@
-//! A gate that counts what it is told, and may hold a worker.
+//! A gate that counts its calls, and may hold a worker.
 
 use replay_run::{Gate, Moment};
 use std::alloc::{AllocError, Global};

@@ -105,7 +105,7 @@ fn check_both_lines<J: PlanName + 'static, R: Wait + Abort>(
 }
 
 /// The second line begins again, and the third meets an entry that it has left.
-fn look_for_two_lines<'t, J: PlanName + 'static, R: Wait + Abort>(
+fn look_for_two_lines<'t, J: PlanName + 'static, R: Wait + AllocGlobal + Abort>(
     rt: &R,
     shared: &SharedBoard<'_, 't, J>,
     place: Place<'t, J>,
@@ -130,8 +130,8 @@ fn look_for_two_lines<'t, J: PlanName + 'static, R: Wait + Abort>(
         matches!(shared.begin(rt, 2), Ok((Choice::Nothing, None))),
         "nothing"
     );
-    let patron = Key::Patron(Id::new(b"P1").expect(rt, "an id"));
-    let item = Key::Item(Id::new(b"I1").expect(rt, "an id"));
+    let patron = Key::Patron(id_of(rt, b"P1"));
+    let item = Key::Item(id_of(rt, b"I1"));
     let looked = shared.look(rt, 1, &patron);
     assert!(rt; matches!(looked, Ok(Reply::Suspect { line: 2 })), "suspect");
     assert!(rt;
@@ -153,6 +153,12 @@ fn look_for_two_lines<'t, J: PlanName + 'static, R: Wait + Abort>(
         matches!(shared.publish(rt, 0, place), Ok(Reply::Stranger)),
         "a strange version"
     );
+}
+
+/// The id of these bytes, which are one.
+pub(crate) fn id_of<R: AllocGlobal + Abort>(rt: &R, bytes: &[u8]) -> Id {
+    let read = Id::read(rt.alloc(), bytes).expect(rt, "memory");
+    read.expect(rt, "an id")
 }
 
 fn is_whole<J: PlanName>(told: &Result<Option<Reply<'_, J>>, Left>) -> bool {

@@ -1,8 +1,8 @@
-//! Tests of whole runs: worked examples, told in books of texts; runs by workers in threads, whose gate is told of each step; what the steps of
+//! Tests of whole runs: worked examples, written in books of texts; runs by workers in threads, whose gate is called at each step; what the steps of
 //! a shared board give; boards that are driven to their end from wherever steps leave them; faults that were left; inputs that are cut; and runs of which one growth of the heap is refused, by `.ci/growths`. What a run of the built program shows
-//! stands in `books` and `cases`.
+//! is in `books` and `cases`.
 //!
-//! A book is a text. A row begins with `#` and its title; each line behind it says one thing:
+//! A book is a text. A row begins with `#` and its title; each line after it says one thing:
 //!
 //! | Line | Says |
 //! |---|---|
@@ -13,10 +13,10 @@
 //! | `answer TEXT` | the line's answer |
 //! | `passed WHY` | the line has no answer |
 //! | `differs WORDS` | the line's row in the report; `agrees` says that no line has one |
-//! | `after TABLE ROW` | a row of a table after the last line, all of whose rows are told so; `after TABLE` tells that it has none |
+//! | `after TABLE ROW` | a row of a table after the last line, all of whose rows are given so; `after TABLE` says that it has none |
 //! | `fault TEXT` | the run gives this fault |
 //! | `policy TEXT` | another policy |
-//! | `waiting NUMBER` | so many patrons more, W1 and so on, all of whom wait for the book |
+//! | `waiting NUMBER` | this many patrons more, W1 and so on, all of whom wait for the book |
 //! | `list WORKERS: STEPS => TEXT` | what a run by this list of steps gives: `output` and the attempts, `unfinished` and how many lines are committed, or the fault |
 //!
 //! Each run begins with the same library: patrons P1 (Ann) and P2 (Bob) of class A, the book I1 and the video tapes V1
@@ -25,7 +25,7 @@
 //! Each row is run by one thread, and driven in order through a board. Both must give the same tables and the same report.
 //!
 //! A script of the board begins as a row does. `starting ATTEMPT CLOCK` tells with which
-//! attempt and at which clock its board begins, else 0 and 0. Then come calls, each with the reply that must come behind ` = `,
+//! attempt and at which clock its board begins, else 0 and 0. Then come calls, each with the reply that must come after ` = `,
 //! and what is refused must leave the board as it was. `given TEXT` tells, of a script that is steps alone, what the run by them gives
 //! as soon as all lines are committed; each beginning of the script is run. `halts NUMBER: FAULT` tells after how many steps the script halts as a
 //! list:
@@ -44,7 +44,7 @@
 //! | `clock`, `committed`, `counts` | the board's; of the counts takes, failed checks, stops, commits and live lines |
 //!
 //! A single line tells records that need not fit together, one line, the records for which it asks (`wants`), in the order of
-//! asking, and what it does. `{9998}` stands for so many places of P2 in a queue.
+//! asking, and what it does. `{9998}` means that many places of P2 in a queue.
 #![tactic(auto)]
 
 #[cfg(test)]

@@ -10,7 +10,7 @@ use std::sync::Wait;
 use std::test::Fail;
 use std::thread::Threads;
 
-/// The inputs of a run over the library: so many lines, which ask for these by turns. Behind each request stand a comma and what
+/// The inputs of a run over the library: a number of lines, which ask for these by turns. After each request are a comma and what
 /// was recorded.
 fn inputs_of(alloc: Global, lines: u32, by_turns: &str) -> Result<Inputs, AllocError> {
     let mut inputs = Row::new(alloc)?.into_inputs(alloc);
@@ -29,7 +29,7 @@ fn inputs_of(alloc: Global, lines: u32, by_turns: &str) -> Result<Inputs, AllocE
     Ok(inputs)
 }
 
-/// The plan of so many lines over the library.
+/// The plan of a number of lines over the library.
 pub(crate) fn plan_of(
     alloc: Global,
     lines: u32,
@@ -41,7 +41,7 @@ pub(crate) fn plan_of(
     }
 }
 
-/// Runs so many lines by workers: the attempts that were committed, one behind the other, where all else is what one thread
+/// Runs a number of lines by workers: the attempts that were committed, one after the other, where all else is what one thread
 /// gives.
 pub(crate) fn attempts_of<G: Gate + Sync, R: Threads + Wait + Sync + AllocGlobal + Abort>(
     rt: &R,

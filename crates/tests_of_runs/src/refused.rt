@@ -150,7 +150,7 @@ fn try_board<R: Wait + AllocGlobal + Abort + Print>(
     Ok(())
 }
 
-/// What is tried on a board: steps, or the drive that does them, and what they must come to.
+/// What is tried on a board: steps, or the drive that does them, and what they must result in.
 struct Tried<'a> {
     steps: &'a [Step],
     is_driven: bool,
@@ -231,7 +231,7 @@ fn go_on<'t, J: PlanName + 'static, R: Wait + AllocGlobal + Abort>(
     end(rt, plan, journal, tried, board)
 }
 
-/// Compares what a board comes to on which all lines are committed.
+/// Compares what a board results in on which all lines are committed.
 fn end<J: PlanName + 'static, R: AllocGlobal + Abort>(
     rt: &R,
     plan: &Plan,

@@ -89,9 +89,9 @@ pub(crate) fn tell_version<J: PlanName>(
         let bytes = write_answer(alloc, answer, None)?;
         text.push_str(from_utf8(bytes.as_slice()).unwrap_or("?"))?;
     }
-    for (kept, record) in version.writes() {
+    for (key, record) in version.writes() {
         text.push_str("; ")?;
-        tell_record(&mut text, &kept.key(), record)?;
+        tell_record(&mut text, key, record)?;
     }
     Ok(text)
 }

@@ -114,7 +114,7 @@ pub(crate) fn add_row(tables: &mut Tables, rest: &str) -> Result<(), AllocError>
     Ok(())
 }
 
-/// So many patrons, all of whom wait for the item I1; their ids are a W and a number.
+/// A number of patrons, all of whom wait for the item I1; their ids are a W and a number.
 fn add_waiting(alloc: Global, tables: &mut Tables, count: &str) -> Result<(), AllocError> {
     for n in 1..=count.parse::<u32>().unwrap_or(0) {
         add_row(tables, format!(in alloc; "patrons W{n},Wes,A,N")?.as_str())?;

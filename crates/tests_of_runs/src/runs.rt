@@ -38,7 +38,7 @@ pub(crate) fn run_row<R: Wait + AllocGlobal + Abort>(
     Ok(())
 }
 
-/// Compares an output with what the row tells of it.
+/// Compares an output with what the row says about it.
 pub(crate) fn compare(rt: &impl Abort, title: &str, output: &Output, row: &Row) {
     must_tell(rt, title, &output.answers, row.answers.as_str());
     must_tell(rt, title, &output.passed, row.passed.as_str());
@@ -151,7 +151,7 @@ pub(crate) fn run_beginnings<R: Wait + AllocGlobal + Abort>(
     Ok(())
 }
 
-/// Runs a list of steps, which stands between the number of workers and what the run gives.
+/// Runs a list of steps, which is between the number of workers and what the run gives.
 fn run_list<R: Wait + AllocGlobal + Abort>(
     rt: &R,
     inputs: &Inputs,

@@ -170,7 +170,7 @@ fn tell_halt(alloc: Global, halt: Halt) -> Result<String, AllocError> {
     }
 }
 
-/// Plays the calls of a script, which stand before their replies. What is refused must leave the board as it was, as far as it is seen.
+/// Plays the calls of a script, which are before their replies. What is refused must leave the board as it was, as far as it is seen.
 fn play_calls<'t, J: PlanName, R: Wait + AllocGlobal + Abort>(
     rt: &R,
     table: &'t VersionTable<J>,
@@ -192,7 +192,7 @@ fn play_calls<'t, J: PlanName, R: Wait + AllocGlobal + Abort>(
     Ok(())
 }
 
-/// Whether a call with this reply changes nothing. The reply to a `begin` stands behind its choice.
+/// Whether a call with this reply changes nothing. The reply to a `begin` is after its choice.
 fn is_refusal(told: &str) -> bool {
     let (_, reply) = told.split_once(": ").unwrap_or(("", told));
     match reply {

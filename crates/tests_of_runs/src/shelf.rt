@@ -1,14 +1,14 @@
 //! Records that need not fit together, told in lines, as a source of the meaning of a line.
 //!
-//! A record is told by its key, a colon and its fields: `patron P1: patron, Ann, A, N, I1+V1, F1` (name, class, blocked,
+//! A record is written as its key, a colon and its fields: `patron P1: patron, Ann, A, N, I1+V1, F1` (name, class, blocked,
 //! loans, open fees), `item I1: item, One, 001, Main, P2 20260316 0, P1+P2` (title, media type, location, loan, queue),
-//! `fee F1: fee, P1, 01, 1.00, 0.00` (patron, type, amount, paid). A `-` stands for nothing. An entry of a queue is told with
+//! `fee F1: fee, P1, 01, 1.00, 0.00` (patron, type, amount, paid). A `-` means nothing. An entry of a queue is written with
 //! its pickup, where it has one: `P1 East+P2`.
 
 use circ_policy::MediaType;
-use circ_records::{Fee, FeeType, Hold, Holds, Ids, Item, KeptLoan, Key, Loan, Patron, Record};
+use circ_records::{Fee, FeeType, Hold, Holds, Ids, Item, Key, Loan, Patron, Record};
 use read_set::{Looks, Name, Source, Stop};
-use sip_reader::{Amount, Day, Id, KeptId, Text};
+use sip_reader::{Amount, Day, Id, Text};
 use std::alloc::{AllocError, Global};
 use std::collections::BTreeMap;
 use std::str::from_utf8;
@@ -71,7 +71,7 @@ impl Shelf {
     /// Takes in a record. False where the line tells none.
     pub(crate) fn take(&mut self, alloc: Global, line: &str) -> Result<bool, AllocError> {
         let (key, fields) = line.split_once(": ").unwrap_or((line, ""));
-        match (key_in(key), record_in(alloc, fields)?) {
+        match (key_in(alloc, key)?, record_in(alloc, fields)?) {
             (Some(key), Some(record)) => {
                 let _ = self.records.insert(key, record)?;
                 Ok(true)
@@ -82,15 +82,17 @@ impl Shelf {
 }
 
 /// The key that a kind and an id name.
-pub(crate) fn key_in(text: &str) -> Option<Key> {
-    let (kind, id) = text.split_once(' ')?;
-    let id = Id::new(id.as_bytes())?;
-    match kind {
+pub(crate) fn key_in(alloc: Global, text: &str) -> Result<Option<Key>, AllocError> {
+    let (kind, id) = text.split_once(' ').unwrap_or(("", text));
+    let Some(id) = Id::read(alloc, id.as_bytes())? else {
+        return Ok(None);
+    };
+    Ok(match kind {
         "patron" => Some(Key::Patron(id)),
         "item" => Some(Key::Item(id)),
         "fee" => Some(Key::Fee(id)),
         _ => None,
-    }
+    })
 }
 
 fn record_in(alloc: Global, text: &str) -> Result<Option<Record>, AllocError> {
@@ -117,12 +119,13 @@ fn patron_in(alloc: Global, fields: &[&str; 6]) -> Result<Option<Record>, AllocE
     let name = text_in(alloc, fields[1])?;
     let loans = list_in(alloc, fields[4])?;
     let fees = list_in(alloc, fields[5])?;
-    let (Some(name), Some(class)) = (name, Id::new(fields[2].as_bytes())) else {
+    let class = Id::read(alloc, fields[2].as_bytes())?;
+    let (Some(name), Some(class)) = (name, class) else {
         return Ok(None);
     };
     let patron = Patron {
         name,
-        class: KeptId::new(alloc, &class)?,
+        class,
         blocked: fields[3] == "Y",
         loans,
         fees,
@@ -136,10 +139,7 @@ fn item_in(alloc: Global, fields: &[&str; 6]) -> Result<Option<Record>, AllocErr
     let properties = text_in(alloc, "-")?;
     let holds = holds_in(alloc, fields[5])?;
     let media = MediaType::of_code(fields[2].as_bytes());
-    let loan = match loan_in(fields[4]) {
-        Some(loan) => Some(KeptLoan::new(alloc, &loan)?),
-        None => None,
-    };
+    let loan = loan_in(alloc, fields[4])?;
     match (title, location, properties, media) {
         (Some(title), Some(location), Some(properties), Some(media)) => {
             let item = Item {
@@ -167,23 +167,26 @@ fn holds_in(alloc: Global, text: &str) -> Result<Holds, AllocError> {
 }
 
 fn fee_in(alloc: Global, fields: &[&str; 6]) -> Result<Option<Record>, AllocError> {
-    match charged_in(fields) {
-        Some(fee) => Ok(Some(Record::fee(alloc, fee)?)),
-        None => Ok(None),
+    let patron = Id::read(alloc, fields[1].as_bytes())?;
+    let amount = Amount::read(fields[3].as_bytes());
+    let paid = Amount::read(fields[4].as_bytes());
+    let kind = match fields[2] {
+        "04" => FeeType::Overdue,
+        "06" => FeeType::Rental,
+        _ => FeeType::Other,
+    };
+    match (patron, amount, paid) {
+        (Some(patron), Some(amount), Some(paid)) => {
+            let fee = Fee {
+                patron,
+                kind,
+                amount,
+                paid,
+            };
+            Ok(Some(Record::fee(alloc, fee)?))
+        }
+        _ => Ok(None),
     }
-}
-
-fn charged_in(fields: &[&str; 6]) -> Option<Fee> {
-    Some(Fee {
-        patron: Id::new(fields[1].as_bytes())?,
-        kind: match fields[2] {
-            "04" => FeeType::Overdue,
-            "06" => FeeType::Rental,
-            _ => FeeType::Other,
-        },
-        amount: Amount::read(fields[3].as_bytes())?,
-        paid: Amount::read(fields[4].as_bytes())?,
-    })
 }
 
 fn text_in(alloc: Global, text: &str) -> Result<Option<Text>, AllocError> {
@@ -201,7 +204,7 @@ fn list_in(alloc: Global, text: &str) -> Result<Ids, AllocError> {
 fn ids_in(alloc: Global, text: &str) -> Result<Vec<Id>, AllocError> {
     let mut ids = Vec::new(alloc);
     for id in text.split('+') {
-        if let Some(id) = Id::new(id.as_bytes())
+        if let Some(id) = Id::read(alloc, id.as_bytes())?
             && text != "-"
         {
             ids.push(id)?;
@@ -210,17 +213,26 @@ fn ids_in(alloc: Global, text: &str) -> Result<Vec<Id>, AllocError> {
     Ok(ids)
 }
 
-fn loan_in(text: &str) -> Option<Loan> {
-    let (patron, rest) = text.split_once(' ')?;
-    let (due, renewals) = rest.split_once(' ')?;
+fn loan_in(alloc: Global, text: &str) -> Result<Option<Loan>, AllocError> {
+    let (patron, rest) = text.split_once(' ').unwrap_or(("", text));
+    let patron = Id::read(alloc, patron.as_bytes())?;
+    Ok(match (patron, until_in(rest)) {
+        (Some(patron), Some((due, renewals))) => Some(Loan {
+            patron,
+            due,
+            renewals,
+        }),
+        _ => None,
+    })
+}
+
+/// A due day and how often the loan was renewed.
+fn until_in(text: &str) -> Option<(Day, u32)> {
+    let (due, renewals) = text.split_once(' ')?;
     let year = due.get(0..4)?.parse().ok()?;
     let month = due.get(4..6)?.parse().ok()?;
     let day = due.get(6..8)?.parse().ok()?;
-    Some(Loan {
-        patron: Id::new(patron.as_bytes())?,
-        due: Day::of(year, month, day)?,
-        renewals: renewals.parse().ok()?,
-    })
+    Some((Day::of(year, month, day)?, renewals.parse().ok()?))
 }
 
 /// Tells a record as a line.
@@ -262,14 +274,14 @@ fn tell_patron(out: &mut String, patron: &Patron) -> Result<(), AllocError> {
         out,
         "patron, {}, {}, {blocked}",
         or_none(&patron.name),
-        shown(&patron.class.id())
+        shown(&patron.class)
     )?;
     tell_ids(out, patron.loans.as_slice())?;
     tell_ids(out, patron.fees.as_slice())
 }
 
 /// The next field, a list of ids.
-fn tell_ids(out: &mut String, ids: &[KeptId]) -> Result<(), AllocError> {
+fn tell_ids(out: &mut String, ids: &[Id]) -> Result<(), AllocError> {
     out.push_str(", ")?;
     if ids.is_empty() {
         out.push_str("-")?;
@@ -278,7 +290,7 @@ fn tell_ids(out: &mut String, ids: &[KeptId]) -> Result<(), AllocError> {
         if i > 0 {
             out.push_str("+")?;
         }
-        out.push_str(shown(&id.id()))?;
+        out.push_str(shown(id))?;
     }
     Ok(())
 }
@@ -292,7 +304,7 @@ fn tell_item(out: &mut String, item: &Item) -> Result<(), AllocError> {
         or_none(&item.title),
         or_none(&item.location)
     )?;
-    match item.loan() {
+    match &item.loan {
         Some(loan) => {
             let (year, month, day) = loan.due.parts();
             write!(

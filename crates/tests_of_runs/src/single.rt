@@ -6,7 +6,7 @@ ghost use Rattle.read_set.specs.Notes.{noted};
 use crate::checked::must_be;
 use crate::row::{Prepared, Row, prepare};
 use crate::shelf::{Shelf, tell};
-use circ_records::{KeptKey, Key, Record};
+use circ_records::{Key, Record};
 use message_meaning::{need, perform};
 use read_set::{Name, Need, Note, NotedRecord, Notes, Noting, Plan, PlanName};
 use sip_answer::{Answer, write_answer};
@@ -94,7 +94,7 @@ impl Single {
     }
 }
 
-/// What the one run of the line 1 tells over records at which it looks. Their ids, joined by blanks, are put behind `seen`.
+/// What the one run of the line 1 tells over records at which it looks. Their ids, joined by blanks, are appended to `seen`.
 fn look_once(
     alloc: Global,
     plan: &Plan,
@@ -107,12 +107,12 @@ fn look_once(
         return Ok(String::new(alloc));
     };
     for note in source.notes.as_slice() {
-        tell_want(seen, &note.key.key())?;
+        tell_want(seen, &note.key)?;
     }
     told(alloc, &effect.answer, effect.writes.as_slice())
 }
 
-/// What the version of the line 1 tells. The ids of the records for which the line asks, joined by blanks, are put behind `wants`.
+/// What the version of the line 1 tells. The ids of the records for which the line asks, joined by blanks, are appended to `wants`.
 fn ask<J: PlanName>(
     alloc: Global,
     plan: &Plan,
@@ -140,11 +140,7 @@ fn look(alloc: Global, shelf: &Shelf, key: Key, notes: &mut Notes) -> Result<(),
 {
     let found = NotedRecord::new(shelf.copy_at(&key)?);
     let name = Name::Base;
-    notes.add(Note {
-        key: KeptKey::new(alloc, &key)?,
-        name,
-        found,
-    })
+    notes.add(Note { key, name, found })
 }
 
 fn tell_want(wants: &mut String, key: &Key) -> Result<(), AllocError> {
@@ -158,15 +154,15 @@ fn tell_want(wants: &mut String, key: &Key) -> Result<(), AllocError> {
 fn told(
     alloc: Global,
     answer: &Option<Answer>,
-    writes: &[(KeptKey, Record)],
+    writes: &[(Key, Record)],
 ) -> Result<String, AllocError> {
     let mut out = String::new(alloc);
     if let Some(answer) = answer {
         let text = write_answer(alloc, answer, None)?;
         writeln!(out, "{}", from_utf8(text.as_slice()).unwrap_or("?"))?;
     }
-    for (kept, record) in writes {
-        tell(&mut out, &kept.key(), record)?;
+    for (key, record) in writes {
+        tell(&mut out, key, record)?;
     }
     Ok(out)
 }

@@ -50,7 +50,7 @@ pub(crate) fn row_of<R: AllocGlobal + Abort>(
     Ok(row)
 }
 
-/// Runs a single line. `{9998}` stands for so many places of P2 in a queue.
+/// Runs a single line. `{9998}` means that many places of P2 in a queue.
 fn run_single(rt: &impl Abort, alloc: Global, title: &str, lines: &str) -> Result<(), Fail> {
     let mut single = Single::new(alloc);
     let queue = "+P2".repeat(alloc, 9_998)?;

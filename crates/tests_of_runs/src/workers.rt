@@ -14,7 +14,7 @@ const STATUS_AND_LOAN: &str = "\
 1920260302    101500AOL1|ABI1|ACx|CHtorn|,
 11NN20260302    101500                  AOL1|AAP1|ABI1|ACx|,";
 
-/// Runs two lines by so many workers round a gate, and compares the attempts and what the gate saw.
+/// Runs two lines by a number of workers round a gate, and compares the attempts and what the gate saw.
 fn watch<R: Threads + Wait + Sync + AllocGlobal + Abort>(
     rt: &R,
     workers: u32,
@@ -59,7 +59,7 @@ fn holds_the_first_line_until_the_second_is_taken(rt: HostRuntime) -> Result<(),
     Ok(())
 }
 
-/// Runs, each of so many workers and so many lines, and what their lines ask for by turns.
+/// Runs, each of a number of workers and of lines, and what their lines ask for by turns.
 const RUNS: &str =
     "1 6, 2 6, 64 6 other words for an item, its loan, a loan against a rental, a late checkin, a block, its end
 1920260302    101500AOL1|ABI1|ACx|CHtorn|,

@@ -1,5 +1,6 @@
 -- The lines that have an entry at a key, after a change of one column.
-use Rattle.std.proofs.Common.{◌≡◌, ℕ, Bool, true, false, cond, Option, Some, None, List, [], refl, sym, ap, ◌∙◌}
+use Rattle.std.proofs.Common.{◌≡◌, ℕ, Bool, true, false, cond, Option, Some, None, List, [], ◌∷◌, refl, sym, ap, ◌∙◌}
+use Rattle.std.specs.Prelude.{◌||◌}
 use Rattle.std.specs.Ordering.{nat_cmp, eq_by_cmp, is_eq}
 use Rattle.std.specs.declared.cmp.Ordering.{Ordering}
 use Rattle.std.specs.declared.cmp.Ordering.TheVariants.{Less, Equal, Greater}
@@ -20,29 +21,22 @@ same_key k q e = key_cmp-IsAntisymmetric k q (tie (key_cmp k q) e)
 pub some_is : {A : Type 0} (o : Option A) (x : A) → o ≡ Some x → IsSome o
 some_is o x e = rw e refl
 
--- an empty column has no line
-in_empty : (column : List ℕ) (m : ℕ) → column ≡ [] → has column m ≡ false
-in_empty column m e = rw e refl
+alone : (b : Bool) → b || false ≡ cond b true false
+alone true = refl
+alone false = refl
 
-begun_if : (n m : ℕ) (column : List ℕ) (before : Option (List ℕ)) (b : Bool)
+begun_if : (n m : ℕ) (before : Option (List ℕ)) (b : Bool)
     → (b ≡ true → before ≡ None)
-    → has column m ≡ cond (eq_by_cmp nat_cmp n m) true false
-    → in_column (cond b (Some column) before) m ≡ cond b (cond (eq_by_cmp nat_cmp n m) true (in_column before m)) (in_column before m)
-begun_if n m column before true h g = rw (h refl) g
-begun_if n m column before false h g = refl
+    → in_column (cond b (Some (n ∷ [])) before) m ≡ cond b (cond (eq_by_cmp nat_cmp n m) true (in_column before m)) (in_column before m)
+begun_if n m before true h = rw (h refl) (alone (eq_by_cmp nat_cmp n m))
+begun_if n m before false h = refl
 
 -- a column that is new has one line
-pub begun : (old new : Key → Option (List ℕ)) (k q : Key) (n m : ℕ) (empty column : List ℕ)
+pub begun : (old new : Key → Option (List ℕ)) (k q : Key) (n m : ℕ)
     → old k ≡ None
-    → empty ≡ []
-    → ((p : Key) → new p ≡ cond (eq_by_cmp key_cmp k p) (Some column) (old p))
-    → ((p : ℕ) → has column p ≡ cond (eq_by_cmp nat_cmp n p) true (has empty p))
+    → ((p : Key) → new p ≡ cond (eq_by_cmp key_cmp k p) (Some (n ∷ [])) (old p))
     → in_column (new q) m ≡ with_at k n true (λ x y. in_column (old x) y) q m
-begun old new k q n m empty column none e u v =
-    ap (λ o. in_column o m) (u q)
-    ∙ begun_if n m column (old q) (eq_by_cmp key_cmp k q)
-    (λ t. ap old (sym (same_key k q t)) ∙ none)
-    (v m ∙ ap (cond (eq_by_cmp nat_cmp n m) true) (in_empty empty m e))
+begun old new k q n m none u = ap (λ o. in_column o m) (u q) ∙ begun_if n m (old q) (eq_by_cmp key_cmp k q) (λ t. ap old (sym (same_key k q t)) ∙ none)
 
 changed_if : (n m : ℕ) (w : Bool) (old new : List ℕ) (before : Option (List ℕ)) (b : Bool)
     → (b ≡ true → before ≡ Some old)
@@ -89,8 +83,8 @@ pub untouched : (f : Key → Option (List ℕ)) (k q : Key) (n m : ℕ)
     → f k ≡ None → in_column (f q) m ≡ with_at k n false (λ x y. in_column (f x) y) q m
 untouched f k q n m none = at_none (eq_by_cmp key_cmp k q) (eq_by_cmp nat_cmp n m) (f q) m (λ e. ap f (sym (same_key k q e)) ∙ none)
 
--- ---- a few keys in front of others
--- one column of the few is another
+-- ---- the keys of slots before the others
+-- one column of the slots is another
 front_if : (b : Bool) (x : List ℕ) (o p : Option (List ℕ)) → option_or (cond b (Some x) o) p ≡ cond b (Some x) (option_or o p)
 front_if true x o p = refl
 front_if false x o p = refl
@@ -108,10 +102,10 @@ behind_if b c w m None old new h g = g
 behind_if true c w m (Some x) old new h g = cc (h refl)
 behind_if false c w m (Some x) old new h g = refl
 
-pub behind : (few old new : Key → Option (List ℕ)) (was : Key → ℕ → Bool) (k q : Key) (n m : ℕ) (w : Bool) → few k ≡ None
+pub behind : (slots old new : Key → Option (List ℕ)) (was : Key → ℕ → Bool) (k q : Key) (n m : ℕ) (w : Bool) → slots k ≡ None
     → ((p : Key) (l : ℕ) → was p l ≡ in_column (old p) l)
     → ((p : Key) (l : ℕ) → in_column (new p) l ≡ with_at k n w was p l)
-    → in_column (option_or (few q) (new q)) m ≡ with_at k n w (λ x y. in_column (option_or (few x) (old x)) y) q m
-behind few old new was k q n m w none same u =
-    behind_if (eq_by_cmp key_cmp k q) (eq_by_cmp nat_cmp n m) w m (few q) (old q) (new q) (λ t. ap few (sym (same_key k q t)) ∙ none)
+    → in_column (option_or (slots q) (new q)) m ≡ with_at k n w (λ x y. in_column (option_or (slots x) (old x)) y) q m
+behind slots old new was k q n m w none same u =
+    behind_if (eq_by_cmp key_cmp k q) (eq_by_cmp nat_cmp n m) w m (slots q) (old q) (new q) (λ t. ap slots (sym (same_key k q t)) ∙ none)
     (u q m ∙ ap (λ b. cond (eq_by_cmp key_cmp k q) (cond (eq_by_cmp nat_cmp n m) w b) b) (same q m))

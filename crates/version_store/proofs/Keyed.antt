@@ -49,7 +49,7 @@ module _ {X : Type 0} where
   keyed_here (x ∷ es) zero e within is d = ap keyed_one (sym is)
   keyed_here (x ∷ es) (suc i) e within is d = keyed_here es i e (omega (arith, within)) is d
 
-  -- how the key of an entry stands to another is how the entry's stands to it
+  -- the order of an entry's key and another is that of the entry's position
   pub ordered_here : (es : List (Bor Key × X)) (k : Key) (i : ℕ) (e : Bor Key × X) (found o : Ordering) → i < length es → e ≡ get_or es i e
       → found ≡ key_cmp e.0.now k → found ≡ o → (d : Key × X) → key_cmp (get_or (keyed es) i d).0 k ≡ o
   ordered_here es k i e found o within is order is_o d = ap (λ (x : Key × X). key_cmp x.0 k) (keyed_here es i e within is d) ∙ sym order ∙ is_o

@@ -1,5 +1,5 @@
 pub mod Columns
-pub mod Few
+pub mod Slots
 pub mod Rising
 pub mod Positions
 pub mod Keyed

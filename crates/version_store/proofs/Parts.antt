@@ -7,7 +7,8 @@ use Rattle.std.proofs.lemmas.Option.{slice_get_past}
 use Rattle.circ_records.specs.Keys.{key_cmp}
 use Rattle.circ_records.specs.declared.key.Key.{Key}
 use Rattle.version_store.specs.Index.{in_part, in_parts, with_at}
-use Rattle.version_store.specs.Devices.Parts.{number_of, part_of}
+use Rattle.version_store.specs.Devices.Parts.{part_of}
+use Rattle.version_store.specs.Devices.Slots.{hash_of}
 use Rattle.version_store.specs.declared.part.IndexPart.{IndexPart}
 use Rattle.version_store.proofs.Columns.{same_key}
 
@@ -15,11 +16,11 @@ not_true : (b : Bool) → (b ≡ true → ⊥) → b ≡ false
 not_true false h = refl
 not_true true h = absurd (h refl)
 
--- keys with other numbers are others
-pub apart_by_number : (k q : Key) (m n : ℕ) → m ≡ number_of k → n ≡ number_of q → (n ≡ m → ⊥) → nat_eq n m ≡ eq_by_cmp key_cmp k q
-apart_by_number k q m n hm hn apart =
+-- keys with other hashes are others
+pub apart_by_hash : (k q : Key) (m n : ℕ) → m ≡ hash_of k → n ≡ hash_of q → (n ≡ m → ⊥) → nat_eq n m ≡ eq_by_cmp key_cmp k q
+apart_by_hash k q m n hm hn apart =
     not_true (nat_eq n m) (λ t. apart (eqb-true n m t))
-    ∙ sym (not_true (eq_by_cmp key_cmp k q) (λ t. apart (hn ∙ ap (λ x. number_of x) (sym (same_key k q t)) ∙ sym hm)))
+    ∙ sym (not_true (eq_by_cmp key_cmp k q) (λ t. apart (hn ∙ ap (λ x. hash_of x) (sym (same_key k q t)) ∙ sym hm)))
 
 -- parts in which no line has an entry
 abbrev pub AreBare : List IndexPart → Type 0
@@ -88,7 +89,7 @@ none_off true true x h = h refl
 none_off true false x h = refl
 none_off false c x h = refl
 
--- a key that stands in no part has no line that could be taken out
+-- a key that has no part has no line that could be removed
 pub cleared_past : (ps : List IndexPart) (k : Key) (n : ℕ) → length ps ≤ part_of k (length ps) → (q : Key) (m : ℕ)
     → in_parts (slice_get ps (part_of q (length ps))) q m ≡ with_at k n false (λ x y. in_parts (slice_get ps (part_of x (length ps))) x y) q m
 cleared_past ps k n past q m =

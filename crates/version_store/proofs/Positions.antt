@@ -1,4 +1,4 @@
--- Entries by their positions: what a search finds, and what stands after one was put or taken out.
+-- Entries by their positions: what a search finds, and what is there after one was put or removed.
 use Rattle.std.proofs.Common.{◌≡◌, ℕ, zero, suc, ◌+◌, ◌<◌, ◌≤◌, Bool, true, false, cond, Some, None, List, [], ◌∷◌, ◌++◌, length, get_or, set, take, drop, refl, sym, ap, ◌∙◌, arith}
 use Rattle.std.specs.Prelude.{◌&&◌, not, T}
 use Rattle.std.specs.List.{insert, remove}
@@ -36,14 +36,14 @@ to_less j k h = key_cmp_total.antisymm k j ∙ ap ordering_reverse h
 ties : (j k : Key) → j ≡ k → key_cmp k j ≡ Equal
 ties j k e = ap (λ q. key_cmp k q) e ∙ tied_itself key_cmp_total k
 
--- the keys with which a key doesn't tie are kept where it is taken out
+-- the keys with which a key doesn't tie stay where it is removed
 abbrev pub others : Key → Key → Bool
 others k x = not (eq_by_cmp key_cmp k x)
 
 not_less : (o : Ordering) → o ≡ Less → is_lt (ordering_reverse o) ≡ false
 not_less o e = ap (λ x. is_lt (ordering_reverse x)) e
 
--- what stands at or before a lesser one is less, and what stands at or behind a greater one is greater
+-- what is at or before a lesser one is less, and what is at or after a greater one is greater
 least : (a b : Ordering) → b ≡ Less → ordering_index a ≤ ordering_index b → a ≡ Less
 least Less b e le = refl
 least Equal b e le = absurd (omega (arith, le, ap ordering_index e))
@@ -73,7 +73,7 @@ module _ {X : Type 0} where
   searchable es s k = searchable_from_sorted key_cmp_total (λ (e : Key × X). e.0) es k
       (λ i d low high. ap is_lt (key_cmp_total.antisymm (get_or es (i + 1) d).0 (get_or es i d).0) ∙ not_less (key_cmp (get_or es i d).0 (get_or es (i + 1) d).0) (rising_at es i (i + 1) d s (omega arith) high))
 
-  -- where a key may still stand: those before are less, and those from the end on are greater
+  -- where a key may still be: those before are less, and those from the end on are greater
   pub record IsBetween (es : List (Key × X)) (k : Key) (low high : ℕ) : Type 0 where
     pub order : low ≤ high
     pub within : high ≤ length es

@@ -105,7 +105,7 @@ has_put ns ms i n is m = ap (λ l. has l m) is ∙ put_in ns i n m
 pub has_still : (ns : List ℕ) (n i : ℕ) → StandsAt ns n i → (m : ℕ) → has ns m ≡ cond (eq_by_cmp nat_cmp n m) true (has ns m)
 has_still ns n i at m = and_there _ _ (λ e. ap (has ns) (sym (is_one n m e)) ∙ has_at ns n i at.within at.same)
 
--- what stands at a position then
+-- what is at a position then
 abbrev Put : List ℕ → ℕ → ℕ → ℕ → Type 0
 Put ns n i k =
     ((k < i) × (get_or (insert ns i n) k 0 ≡ get_or ns k 0))
@@ -185,7 +185,7 @@ last_is ns below count n rise are some is = (
 pub last_below : (ns : List ℕ) (below count n : ℕ) → Rising ns → AreBelow ns below count → 0 < count → n ≡ get_or ns (count - 1) n → IsLatest (has ns) below (Some n)
 last_below ns below count n rise are some is = last_is ns below count n rise are some (is ∙ get_or_default ns (count - 1) n 0 (omega (arith, some, are.within)))
 
--- ---- older lines and the newest behind them
+-- ---- older lines and the newest after them
 
 pub front_at : (xs ys : List ℕ) (i d : ℕ) → i < length xs → get_or (xs ++ ys) i d ≡ get_or xs i d
 front_at [] ys i d l = absurd (omega (arith, l))
@@ -250,7 +250,7 @@ remove_last : (xs : List ℕ) (n : ℕ) → remove (xs ++ n ∷ []) (length xs) 
 remove_last [] n = refl
 remove_last (x ∷ xs) n = ap (λ (zs : List ℕ). x ∷ zs) (remove_last xs n)
 
--- a line behind all others is the newest
+-- a line after all others is the newest
 pub put_newest : (older : List ℕ) (n line : ℕ) → Rising (older ++ n ∷ []) → n < line
     → Rising ((older ++ n ∷ []) ++ line ∷ []) × ((m : ℕ) → has ((older ++ n ∷ []) ++ line ∷ []) m ≡ cond (eq_by_cmp nat_cmp line m) true (has (older ++ n ∷ []) m))
 put_newest older n line rise less =

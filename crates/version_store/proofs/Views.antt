@@ -103,7 +103,7 @@ entries-shown es h =
     same_map key_cmp_total key_cmp-IsAntisymmetric _ _ (λ q. get-from_entries key_cmp_total (map shown_pair es) q ∙ sym (get-from_sorted key_cmp (map shown_pair es) q s)) in
     ap entries e ∙ entries-from_sorted key_cmp (map shown_pair es) s
 
--- a line has as many entries as are kept
+-- a line has as many entries as are stored
 pub entries_count : {J : Type 0} (es : List (Key × Entry J)) → Rise es → length (entries (line_of es)) ≡ length es
 entries_count es s = ap (λ l. length l) (entries-shown es s) ∙ length-map es shown_pair
 

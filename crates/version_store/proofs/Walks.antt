@@ -1,4 +1,4 @@
--- A walk over the entries of a line in the order of their keys: what is left, and what was left behind.
+-- A walk over the entries of a line in the order of their keys: what is left, and what was passed.
 use Rattle.std.proofs.Common.{◌≡◌, ◌≢◌, ℕ, true, cond, List, [], ◌∷◌, Option, Some, None, Ordering, Less, Equal, Greater, refl, sym, ap, subst, ◌∙◌, ◌⊎◌, inl, inr}
 use Rattle.std.specs.Prelude.{T, option_map}
 use Rattle.std.proofs.lemmas.Option.{none-some, same_Some}
@@ -62,7 +62,7 @@ module _ {X : Type 0} where
   rising [] h = tt
   rising (e ∷ es) h = (above_all e.0 es (first _ _ h), rising es (second _ _ h))
 
-  -- all was walked as far as what is left, and what was left behind was good
+  -- all was walked as far as what is left, and what was passed was good
   pub record Went (Good : Key → X → Type 0) (all rest : List (Key × X)) : Type 0 where
     pub ordered : Rising rest
     pub here : (q : Key) (u : X) → look q rest ≡ Some u → look q all ≡ Some u

@@ -37,7 +37,7 @@ no_entries = empty
 abbrev pub IsLine : Store → ℕ → Type 0
 IsLine s n = (s.first ≤ n) × (n < s.first + length s.lines)
 
--- so many lines are there, from this number on
+-- there are `count` lines, from this number on
 abbrev pub HasLines : ℕ → ℕ → Store → Type 0
 HasLines first count s = (s.first ≡ first) × (length s.lines ≡ count)
 

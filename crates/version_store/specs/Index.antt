@@ -22,7 +22,7 @@ in_column (Some column) n = has column n
 abbrev pub in_map : ColumnMap → Key → ℕ → Bool
 in_map map k n = in_column (get key_cmp map.columns k) n
 
--- whether a line has an entry at a key, by the part of the index in which the key stands
+-- whether a line has an entry at a key, by the key's part of the index
 abbrev pub in_part : IndexPart → Key → ℕ → Bool
 in_part part k n = in_column (column_in part k) n
 

@@ -1,6 +1,6 @@
 //! The lines that have an entry at one key.
 
-ghost use Rattle.std.specs.Prelude.{◌≡◌, ℕ, OnOk, OnErr, [], MatchResult, ◌≤◌, cond, true, false, length};
+ghost use Rattle.std.specs.Prelude.{◌≡◌, ℕ, OnOk, OnErr, [], ◌∷◌, MatchResult, ◌≤◌, cond, true, false, length};
 ghost use Rattle.std.specs.List.{insert};
 ghost use Rattle.std.specs.Ordering.{eq_by_cmp, nat_cmp};
 ghost use Rattle.version_store.specs.Index.{IsLatest, has};
@@ -9,15 +9,15 @@ ghost use Rattle.version_store.specs.Devices.Columns.{AreBelow, GoesTo, Rising, 
 use std::alloc::{AllocError, Global};
 use std::marker::Model;
 
-/// Up to so many lines take no more room than they need.
-const FEW: usize = 8;
+/// A vector of fewer lines than this grows by one line, so that it takes no more room than it needs.
+const EXACT_BELOW: usize = 8;
 
-/// Room for so many lines is made first: the least block of memory has it.
-const USUAL: usize = 3;
+/// The first room is for this many lines: the least block of memory has it.
+const FIRST_ROOM: usize = 3;
 
-/// The lines that have an entry at one key. The greatest stands in place, since mostly it is the one that is looked for: the others
-/// stand in memory of their own, as a vector that rises. Most keys have few lines, and there a tree's least node takes more than all
-/// of them. Mostly lines come rising, and a late one is taken out: so few others are moved.
+/// The lines that have an entry at one key. The greatest is inline, since mostly it is the one that is looked for. The others
+/// are on the heap, as a vector that rises: most keys have few lines, for which the least node of a tree would take more memory.
+/// Lines mostly come rising, and mostly a late one is removed, so few others are moved.
 pub struct Column {
     /// The greatest; none only where there are no lines.
     newest: Option<u64>,
@@ -46,12 +46,12 @@ impl Model for Column {
 }
 
 impl Column {
-    /// No line.
-    pub fn new(alloc: Global) -> Column
-        ensures { result ≡ [] }
+    /// One line.
+    pub fn of(alloc: Global, line: u64) -> Column
+        ensures { result ≡ line ∷ [] }
     {
         Column {
-            newest: None,
+            newest: Some(line),
             older: Vec::new(alloc),
         }
     }
@@ -119,7 +119,7 @@ fn position_of(lines: &[u64], line: u64) -> Result<usize, usize>
     requires { Rising lines.now }
     ensures { MatchResult result (StandsAt lines.now line) (GoesTo lines.now line) }
 {
-    // most lines come behind all others
+    // most lines come after all others
     if let Some(last) = lines.last() {
         if *last < line {
             return Err(lines.len());
@@ -139,15 +139,15 @@ fn count_below(lines: &[u64], line: u64) -> usize
     }
 }
 
-/// Puts a line at a position, and makes no more room than it needs while they are few: a column stays until the run ends.
+/// Puts a line at a position. While there are few lines, it makes no more room than they need: a column stays until the run ends.
 fn insert_at(lines: &mut Vec<u64>, position: usize, line: u64) -> Result<(), AllocError>
     requires { position ≤ length lines.old.items }
     ensures items { OnOk result (lines.new.items ≡ insert lines.old.items position line) }
     ensures same { OnErr result (lines.new.items ≡ lines.old.items) }
 {
     if lines.is_empty() {
-        lines.reserve_exact(USUAL)?;
-    } else if lines.len() < FEW {
+        lines.reserve_exact(FIRST_ROOM)?;
+    } else if lines.len() < EXACT_BELOW {
         lines.reserve_exact(1)?;
     }
     match lines.insert(position, line) {

@@ -2,7 +2,7 @@ use crate::table::Place;
 use read_set::{Name, PlanName};
 use std::alloc::AllocError;
 
-/// What an attempt at a line placed at a key: its record stands in the version at the place.
+/// What an attempt at a line placed at a key: its record is in the version at the place.
 pub struct Entry<'t, J: PlanName> {
     pub attempt: u32,
     /// Whether a check of the line has failed since it was placed.

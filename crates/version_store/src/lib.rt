@@ -1,9 +1,8 @@
-//! The room of versions: what the attempts at the lines have written, and who sees it.
+//! What the attempts at the lines have written, and which entry a line sees.
 //!
-//! A version goes into the `VersionTable` once and stays there; threads put and read without a lock. A `Place` is a
-//! reference into it. An `EntryStore` says, for each line, at which keys it has an entry, of which attempt, and at which
-//! place the version stands; a line sees the entry of the greatest line below it that has one. The store holds keys,
-//! names and places, and no record. It stands on the versions of `read_set`; the board stands on it.
+//! A version is put into the `VersionTable` once and stays there; threads put and read without a lock. A `Place` is a reference into
+//! it. An `EntryStore` says, for each line, at which keys it has an entry, of which attempt, and the place of the version; a line
+//! sees the entry of the greatest line below it that has one. The store has keys, names and places, and no record.
 #![tactic(auto)]
 
 mod column;
@@ -11,9 +10,9 @@ mod entry;
 mod index;
 mod line;
 mod map;
-mod numbered;
 mod part;
-mod short;
+mod short_list;
+mod slot;
 mod store;
 mod table;
 

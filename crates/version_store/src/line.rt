@@ -7,21 +7,20 @@ ghost use Rattle.version_store.specs.Entries.{AllOf, IsLeastLeft, IsNamedAt, key
 ghost use Rattle.version_store.specs.Devices.Positions.{IsAt, IsGap, Rise, all_marked};
 
 use crate::entry::Entry;
-use crate::short::ShortList;
-use circ_records::{KeptKey, Key};
+use crate::short_list::ShortList;
+use circ_records::Key;
 use read_set::PlanName;
 use std::alloc::{AllocError, Global};
 use std::cmp::Ordering;
 use std::marker::Model;
 
-/// An entry at the key that it borrows from the writes of the version at its place: so it takes 24 bytes, and with a key of its
-/// own it would take 88.
-type Placed<'t, J> = (&'t KeptKey, Entry<'t, J>);
+/// An entry, and its key, borrowed from the writes of the version at its place: with a key of its own it would take more memory.
+type Placed<'t, J> = (&'t Key, Entry<'t, J>);
 
-/// Among so many entries a key is looked for one by one: to tell whether a key is the same costs less than how it stands to another.
-const FEW: usize = 4;
+/// Up to this many entries are searched one by one: whether two keys are the same costs less than their order.
+const SCANNED_MAX: usize = 4;
 
-/// The entries of one line as a list that rises by key. Most lines that write have two: those stand in place.
+/// The entries of one line as a list that rises by key. Most lines that write have two: those are inline.
 pub struct LineEntries<'t, J: PlanName> {
     entries: ShortList<Placed<'t, J>>,
 }
@@ -64,7 +63,7 @@ impl<'t, J: PlanName> LineEntries<'t, J> {
     pub fn get(&self, key: &Key) -> Option<Entry<'t, J>>
         ensures { option_map shown result ≡ fin.get self.now key.now }
     {
-        if self.entries.len() <= FEW {
+        if self.entries.len() <= SCANNED_MAX {
             return entry_among(&self.entries, key);
         }
         match position_of(&self.entries, key) {
@@ -78,7 +77,7 @@ impl<'t, J: PlanName> LineEntries<'t, J> {
         requires { is_some (fin.get self.now key.now) ≡ true }
         ensures { Some (shown result) ≡ fin.get self.now key.now }
     {
-        if self.entries.len() <= FEW {
+        if self.entries.len() <= SCANNED_MAX {
             return known_among(&self.entries, key);
         }
         let Some(made) = self.get(key) else {
@@ -88,19 +87,12 @@ impl<'t, J: PlanName> LineEntries<'t, J> {
     }
 
     /// Puts an entry at a key, and borrows the key.
-    pub fn put(
-        &mut self,
-        alloc: Global,
-        key: &Key,
-        kept: &'t KeptKey,
-        made: Entry<'t, J>,
-    ) -> Result<(), AllocError>
-        requires { kept.now ≡ key.now }
+    pub fn put(&mut self, alloc: Global, key: &'t Key, made: Entry<'t, J>) -> Result<(), AllocError>
         ensures put { OnOk result (self.new ≡ fin.insert self.old key.now (shown made.entry)) }
         ensures same { OnErr result (self.new ≡ self.old) }
         ensures absent { OnErr result (fin.get self.old key.now ≡ None) }
     {
-        put_entry(&mut self.entries, alloc, key, kept, made)
+        put_entry(&mut self.entries, alloc, key, made)
     }
 
     /// Takes the entry at a key out.
@@ -120,7 +112,7 @@ impl<'t, J: PlanName> LineEntries<'t, J> {
     }
 
     /// The i-th key, rising, and the attempt of its entry.
-    pub fn nth(&self, i: usize) -> Option<(&KeptKey, u32)>
+    pub fn nth(&self, i: usize) -> Option<(&Key, u32)>
         ensures value { IsNamedAt (slice_get (fin.entries self.now) i) result }
         ensures few { length (fin.entries self.now) < 2 ^ 64 }
     {
@@ -138,7 +130,7 @@ impl<'t, J: PlanName> LineEntries<'t, J> {
     }
 
     /// The least key whose entry isn't of this attempt.
-    pub fn left(&self, attempt: u32) -> Option<&'t KeptKey>
+    pub fn left(&self, attempt: u32) -> Option<&'t Key>
         ensures { MatchOption result (AllOf self.now attempt) (λ k. IsLeastLeft self.now attempt k.now) }
     {
         left_key(&self.entries, attempt)
@@ -154,7 +146,7 @@ fn entry_among<'t, J: PlanName>(
 {
     for i in 0..entries.len() {
         let (own, made) = &entries[i];
-        if own.is(key) {
+        if *key == **own {
             return Some(*made);
         }
     }
@@ -169,7 +161,7 @@ fn known_among<'t, J: PlanName>(entries: &ShortList<Placed<'t, J>>, key: &Key) -
     let last = entries.len() - 1;
     for i in 0..last {
         let (own, made) = &entries[i];
-        if own.is(key) {
+        if *key == **own {
             return *made;
         }
     }
@@ -185,7 +177,7 @@ fn position_of<J: PlanName>(entries: &ShortList<Placed<'_, J>>, key: &Key) -> Re
     let mut high = entries.len();
     while low < high {
         let middle = low + (high - low) / 2;
-        match entries[middle].0.order(key) {
+        match entries[middle].0.cmp(key) {
             Ordering::Equal => return Ok(middle),
             Ordering::Less => low = middle + 1,
             Ordering::Greater => high = middle,
@@ -198,12 +190,10 @@ fn position_of<J: PlanName>(entries: &ShortList<Placed<'_, J>>, key: &Key) -> Re
 fn put_entry<'t, J: PlanName>(
     entries: &mut ShortList<Placed<'t, J>>,
     alloc: Global,
-    key: &Key,
-    kept: &'t KeptKey,
+    key: &'t Key,
     made: Entry<'t, J>,
 ) -> Result<(), AllocError>
-    requires rising { Rise (keyed entries.old) }
-    requires kept { kept.now ≡ key.now }
+    requires { Rise (keyed entries.old) }
     ensures put { OnOk result (keyed entries.new ≡ fin.put key_cmp key.now made.entry (keyed entries.old)) }
     ensures same { OnErr result (entries.new ≡ entries.old) }
     ensures absent { OnErr result (fin.find key_cmp key.now (keyed entries.old) ≡ None) }
@@ -211,10 +201,10 @@ fn put_entry<'t, J: PlanName>(
 {
     match position_of(entries, key) {
         Ok(position) => {
-            entries.set(position, (kept, made));
+            entries.set(position, (key, made));
             Ok(())
         }
-        Err(position) => match entries.insert(alloc, position, (kept, made)) {
+        Err(position) => match entries.insert(alloc, position, (key, made)) {
             Ok(()) => Ok(()),
             Err(refused) => Err(refused),
         },
@@ -247,10 +237,7 @@ fn nth_entry<'m, 't, J: PlanName>(
 }
 
 /// The least key whose entry isn't of this attempt.
-fn left_key<'t, J: PlanName>(
-    entries: &ShortList<Placed<'t, J>>,
-    attempt: u32,
-) -> Option<&'t KeptKey>
+fn left_key<'t, J: PlanName>(entries: &ShortList<Placed<'t, J>>, attempt: u32) -> Option<&'t Key>
     requires { Rise (keyed entries.now) }
     ensures { MatchOption result (AllOf (line_of (keyed entries.now)) attempt) (λ k. IsLeastLeft (line_of (keyed entries.now)) attempt k.now) }
 {

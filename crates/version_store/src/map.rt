@@ -1,4 +1,4 @@
-//! Columns of keys as a map.
+//! The columns of many keys.
 
 ghost use Rattle.std.specs.Prelude.{◌≡◌, ℕ, OnOk, OnErr, None, true, false};
 ghost use Rattle.std.specs.BTreeMap.{get};
@@ -52,9 +52,7 @@ impl ColumnMap {
         ensures put { OnOk result ((q : Key) (m : ℕ) → in_map self.new q m ≡ with_at key.now line true (in_map self.old) q m) }
         ensures same { OnErr result ((q : Key) (m : ℕ) → in_map self.new q m ≡ in_map self.old q m) }
     {
-        let mut column = Column::new(alloc);
-        column.insert(line)?;
-        self.columns.insert(*key, column)?;
+        self.columns.insert(key.clone()?, Column::of(alloc, line))?;
         Ok(())
     }
 

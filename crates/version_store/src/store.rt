@@ -7,14 +7,13 @@ ghost use Rattle.version_store.specs.Entries.{AllOf, IsLeastLeft, IsLine, IsName
 use crate::entry::{Entry, Found, Seen};
 use crate::index::KeyIndex;
 use crate::line::LineEntries;
-use crate::numbered::Sought;
 use crate::table::Place;
-use circ_records::{KeptKey, Key};
+use circ_records::Key;
 use read_set::{Name, PlanName};
 use std::alloc::{AllocError, Global};
 use std::marker::Model;
 
-/// The entries of the lines of a journal, which go by their numbers.
+/// The entries of the lines of a journal, by their numbers.
 pub struct EntryStore<'t, J: PlanName> {
     first: u64,
     lines: Vec<LineEntries<'t, J>>,
@@ -48,7 +47,7 @@ impl<'t, J: PlanName> Model for EntryStore<'t, J> {
 }
 
 impl<'t, J: PlanName> EntryStore<'t, J> {
-    /// So many lines from the first number on, none of which has an entry.
+    /// This many lines from the first number on, none of which has an entry.
     pub fn new(alloc: Global, first: u64, lines: usize) -> Result<EntryStore<'t, J>, AllocError>
         ensures { IfOk result (λ s. s ≡ none_placed first lines) }
     {
@@ -105,7 +104,7 @@ impl<'t, J: PlanName> EntryStore<'t, J> {
     }
 
     /// The i-th key, from 0 and rising, at which a line has an entry, and the attempt of that entry; None past the last.
-    pub fn keys_of(&self, line: u64, i: usize) -> Option<(&KeptKey, u32)>
+    pub fn keys_of(&self, line: u64, i: usize) -> Option<(&Key, u32)>
         ensures value { IsNamedAt (slice_get (fin.entries (line_at self.now line)) i) result }
         ensures few { length (fin.entries (line_at self.now line)) < 2 ^ 64 }
     {
@@ -136,7 +135,7 @@ impl<'t, J: PlanName> EntryStore<'t, J> {
     }
 
     /// The least key at which a line has an entry of another attempt; None where it has none.
-    pub fn left(&self, line: u64, attempt: u32) -> Option<&'t KeptKey>
+    pub fn left(&self, line: u64, attempt: u32) -> Option<&'t Key>
         ensures { MatchOption result (AllOf (line_at self.now line) attempt) (λ k. IsLeastLeft (line_at self.now line) attempt k.now) }
     {
         let Some(position) = self.position(line) else {
@@ -145,14 +144,14 @@ impl<'t, J: PlanName> EntryStore<'t, J> {
         self.lines[position].left(attempt)
     }
 
-    /// The entry of a line at a key is of this attempt, and stands at this place. It isn't suspect. It borrows the key. Without
-    /// memory nothing changes.
+    /// The entry of a line at a key is of this attempt and at this place, and isn't suspect. It borrows the key. Out of memory,
+    /// nothing changes.
     pub fn place(
         &mut self,
         alloc: Global,
         line: u64,
         attempt: u32,
-        key: &'t KeptKey,
+        key: &'t Key,
         place: Place<'t, J>,
     ) -> Result<(), AllocError>
         requires { IsLine self.old line }
@@ -164,16 +163,14 @@ impl<'t, J: PlanName> EntryStore<'t, J> {
             suspect: false,
             place,
         };
-        let at = key.key();
-        let sought = Sought::new(&at);
-        let Ok(()) = self.index.set(alloc, &sought, key, line) else {
+        let Ok(()) = self.index.set(alloc, key, line) else {
             return Err(AllocError);
         };
         let row = &mut self.lines[(line - self.first) as usize];
-        match row.put(alloc, &at, key, made) {
+        match row.put(alloc, key, made) {
             Ok(()) => Ok(()),
             Err(refused) => {
-                self.index.clear(&sought, line);
+                self.index.clear(key, line);
                 Err(refused)
             }
         }
@@ -188,8 +185,7 @@ impl<'t, J: PlanName> EntryStore<'t, J> {
         };
         let row = &mut self.lines[position];
         row.take_out(key);
-        let sought = Sought::new(key);
-        self.index.clear(&sought, line);
+        self.index.clear(key, line);
     }
 
     /// Each entry of a line is suspect.
@@ -203,7 +199,7 @@ impl<'t, J: PlanName> EntryStore<'t, J> {
         row.suspect_all();
     }
 
-    /// Where a line stands among the lines.
+    /// The index of a line's entries.
     fn position(&self, line: u64) -> Option<usize>
         ensures { result ≡ position_of self.now line }
     {
@@ -221,8 +217,7 @@ impl<'t, J: PlanName> EntryStore<'t, J> {
     fn latest(&self, key: &Key, below: u64) -> Option<(u64, Entry<'t, J>)>
         ensures { option_map (λ p. (p.0, shown p.1)) result ≡ visible (line_at self.now) below key.now }
     {
-        let sought = Sought::new(key);
-        let Some(line) = self.index.latest_below(&sought, below) else {
+        let Some(line) = self.index.latest_below(key, below) else {
             return None;
         };
         let row = &self.lines[(line - self.first) as usize];

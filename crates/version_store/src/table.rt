@@ -6,12 +6,12 @@ use read_set::{PlanName, Version};
 use std::alloc::{AllocError, Global};
 use std::sync::Wait;
 
-/// A shelf for so many lines. A shelf makes room for twice as many versions as it has when seven eighths of its room are taken, and
-/// writes to all of it: this many lines, and a few that are run again, stay below such a mark, so that little room is made in vain.
+/// There is a shelf for each 57,000 lines. A shelf makes room for twice as many versions as it has when seven eighths of its room are
+/// taken, and writes to all of it: this many lines, and a few that are run again, stay below such a mark.
 const LINES_A_SHELF: usize = 57_000;
 
 /// The versions that were made. None is changed or leaves before the table does. Each has memory of its own, since a shelf makes
-/// more room than it needs: so what stands there is to be small.
+/// more room than it needs: so its elements are to be small.
 pub struct VersionTable<J: PlanName> {
     shelves: Vec<Shelf<J>>,
     alloc: Global,
@@ -54,7 +54,7 @@ impl<J: PlanName> VersionTable<J> {
         VersionTable::for_lines(alloc, 1)
     }
 
-    /// A table with no version, for the versions of so many lines.
+    /// A table with no version, for the versions of this many lines.
     pub fn for_lines(alloc: Global, lines: usize) -> Result<VersionTable<J>, AllocError> {
         let count = lines / LINES_A_SHELF + 1;
         let mut shelves = Vec::with_capacity(alloc, count)?;
@@ -64,7 +64,7 @@ impl<J: PlanName> VersionTable<J> {
         Ok(VersionTable { shelves, alloc })
     }
 
-    /// Puts a version into the table; where there is no memory for it, it is handed back.
+    /// Puts a version into the table. Out of memory, the version is returned.
     pub fn put<'t, R: Wait>(
         &'t self,
         rt: &R,
@@ -89,7 +89,7 @@ impl<J: PlanName> VersionTable<J> {
     }
 }
 
-/// The shelf on which the versions of a line stand: the lines go round all shelves.
+/// The shelf of a line's versions: one line after the other gets the next shelf.
 fn shelf_of<J: PlanName>(shelves: &[Shelf<J>], line: u64) -> Option<&Shelf<J>> {
     if shelves.is_empty() {
         return None;

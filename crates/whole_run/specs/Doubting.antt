@@ -1,4 +1,4 @@
--- Results that can't be meant, and what is told of them.
+-- Results that can't be meant, and what is printed for them.
 use Rattle.std.specs.Prelude.{◌≡◌, ◌++◌, ◌∷◌, ◌⊎◌, ℕ, [], Bool, List, None, Option, Some, codes, decimal, if◌then◌else◌, nat_lt, string_bytes, true}
 use Rattle.outside.specs.Events.{Event, Tell}
 use Rattle.command_line.specs.declared.chosen.Options.{Options}
@@ -34,16 +34,16 @@ abbrev pub IsDoubt : Sizes → Option Doubt → Type 0
 IsDoubt s None = doubt_of_sizes s ≡ None
 IsDoubt s (Some doubt) = MayDoubt s doubt
 
--- the doubt that is told: for sure where the words ask for it
+-- the doubt that is printed: always where the words ask for it
 abbrev pub IsToldDoubt : Options → Sizes → Option Doubt → Type 0
 IsToldDoubt o s None = o.explain ≡ true → IsDoubt s None
 IsToldDoubt o s (Some doubt) = MayDoubt s doubt
 
--- a doubt as it is told
+-- a doubt as it is printed
 abbrev pub doubt_events : Option Doubt → Bool → List Event
 doubt_events None taken = []
 doubt_events (Some doubt) taken = Tell (doubt_text doubt) taken ∷ []
 
--- the doubt of a result is told
+-- the doubt of a result is printed
 abbrev pub TellsDoubt : Options → Sizes → List Event → Type 0
 TellsDoubt o s events = (doubt : Option Doubt) × (taken : Bool) × IsToldDoubt o s doubt × (events ≡ doubt_events doubt taken)

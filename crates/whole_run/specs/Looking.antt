@@ -45,7 +45,7 @@ AreLooked o lost events = (read : List (Option FileId)) × (written : List (Opti
 abbrev pub AreApart : Options → List Event → Type 0
 AreApart o events = AreLooked o None events
 
--- It is told which input would be replaced, by the folder of the output, or memory ran out.
+-- The input that would be replaced is named, by the folder of the output, or memory ran out.
 abbrev pub TellsLoss : Options → InputName → Stop → Type 0
 TellsLoss o input (stops.Replaces told named) = (string_bytes told ≡ string_bytes o.out) × (named ≡ input)
 TellsLoss o input (stops.Fault faults.Memory) = Unit {0}

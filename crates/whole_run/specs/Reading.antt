@@ -33,19 +33,19 @@ AreRead o i events = (holds : Result (List ℕ) Failure) × IsAbsent holds i.tab
 abbrev pub AreGiven : Options → Inputs → List Event → Type 0
 AreGiven o i events = (looks : List Event) × (reads : List Event) × AreApart o looks × AreRead o i reads × (events ≡ looks ++ reads)
 
--- A file that fails is told by its path, with the reason that it gave, or memory ran out.
+-- A file that fails is named by its path, with the reason that it gave, or memory ran out.
 abbrev pub MayTell : List ℕ → Failure → Stop → Type 0
 MayTell path failure (stops.File told why) = (string_bytes told ≡ path) × (why ≡ failure)
 MayTell path failure (stops.Fault faults.Memory) = Unit {0}
 MayTell path failure stop = ⊥
 
--- A folder that isn't there is told by its path, with that of the file that was looked for in it, or memory ran out.
+-- A folder that isn't there is named by its path, with that of the file that was looked for in it, or memory ran out.
 abbrev pub MayTellFolder : List ℕ → List ℕ → Stop → Type 0
 MayTellFolder folder path (stops.NoFolder told within) = (string_bytes told ≡ path) × (string_bytes within ≡ folder)
 MayTellFolder folder path (stops.Fault faults.Memory) = Unit {0}
 MayTellFolder folder path stop = ⊥
 
--- what is told of a file that is missing, by what its folder is found to be
+-- what is said of a file that is missing, by what its folder is found to be
 abbrev pub TellsMissing : List ℕ → List ℕ → Option FileId → Stop → Type 0
 TellsMissing folder path None stop = MayTellFolder folder path stop
 TellsMissing folder path (Some found) stop = MayTell path Missing stop
@@ -54,13 +54,13 @@ abbrev pub is_missing : Failure → Bool
 is_missing Missing = true
 is_missing failure = false
 
--- A file of a folder fails, and it is told. Of one that is missing the folder is looked up first: it may be what is missing.
+-- A file of a folder fails, and it is named. Of one that is missing the folder is looked up first: it may be what is missing.
 abbrev pub TellsIn : List ℕ → List ℕ → Failure → Stop → List Event → Type 0
 TellsIn folder path failure stop events =
     ((is_missing failure ≡ true) × ((found : Option FileId) × (events ≡ Find folder found ∷ []) × TellsMissing folder path found stop))
     ⊎ ((is_missing failure ≡ false) × (events ≡ []) × MayTell path failure stop)
 
--- A file fails, and it is told; of a folder's file as said above.
+-- A file fails, and it is named; of a folder's file as said above.
 abbrev pub TellsFile : List ℕ → Failure → Stop → List Event → Type 0
 TellsFile path failure stop events = ((events ≡ []) × MayTell path failure stop)
     ⊎ ((folder : List ℕ) × (name : List ℕ) × (path ≡ in_folder folder name) × TellsIn folder path failure stop events)

@@ -60,12 +60,12 @@ IsUnprinted o stop events = (output : Output) × (reads : List Event) × IsRepla
 abbrev pub HasStopped : Options → Stop → List Event → Type 0
 HasStopped o stop events = StopsBefore o stop events ⊎ (IsRefused o stop events ⊎ (IsCutShort o stop events ⊎ IsUnprinted o stop events))
 
--- what to do is told where the words ask for it, and may be told where they don't
+-- what to do is printed where the words ask for it, and may be printed where they don't
 abbrev pub IsAsked : Options → Option Options → Type 0
 IsAsked o None = o.explain ≡ false
 IsAsked o (Some told) = told ≡ o
 
--- A run that ends has the status of its differences, and tells why its result can't be meant, where it can't. One that is stopped tells why, and has
+-- A run that ends has the status of its differences, and says why its result can't be meant, where it can't. One that is stopped says why, and has
 -- the status of that; nothing else is asked of the outside.
 abbrev pub IsRun : Options → ℕ → List Event → Type 0
 IsRun o status events =

@@ -42,7 +42,7 @@ MaySee faults.JournalTable what = IsOfTable what
 MaySee (faults.JournalRule row rule) what = AreOfLine what
 MaySee fault what = ⊥
 
--- a stop of this fault; what is seen in its text may be told too
+-- a stop of this fault; what is seen in its text may be said too
 abbrev pub IsOf : Fault → Stop → Type 0
 IsOf fault (stops.Fault told) = told ≡ fault
 IsOf fault (stops.Seen told what) = (told ≡ fault) × MaySee fault what

@@ -1,4 +1,4 @@
--- The statuses of the program, as its page on formats tells them.
+-- The statuses of the program, as its page on formats lists them.
 use Rattle.std.specs.Prelude.{ℕ, nat_lt, if◌then◌else◌}
 use Rattle.replay_run.specs.Faults.{fault_number}
 use Rattle.whole_run.specs.declared.stop.Stop.{Stop}

@@ -1,4 +1,4 @@
--- What the program tells of what stopped it, as its page on formats gives it: a line, and where that is asked for a second one
+-- What the program prints of what stopped it, as its page on formats gives it: a line, and where that is asked for a second one
 -- that says what to do.
 use Rattle.std.specs.Prelude.{◌==◌, ◌++◌, ℕ, List, [], Option, None, Some, codes, decimal, string_bytes, if◌then◌else◌}
 use Rattle.std.specs.Cmp.Lexicographic.{pointwise}
@@ -27,7 +27,7 @@ loss_of inputs.Policy = codes "files would replace that of --policy"
 loss_of inputs.Base = codes "tables would replace those of --base"
 loss_of inputs.Journal = codes "files would replace that of --journal"
 
--- the line of a stop, where an output is an input as clap's own refusals are told; of standard output that fails nothing is told
+-- the line of a stop, where an output is an input in the form of clap's own refusals; none where standard output fails
 abbrev pub line_of : Stop → List ℕ
 line_of (stops.Fault fault) = codes "fault " ++ decimal (fault_number fault) ++ codes ": " ++ fault_text fault ++ codes "\n"
 line_of (stops.Seen fault what) = codes "fault " ++ decimal (fault_number fault) ++ codes ": " ++ fault_text fault ++ codes "\n"
@@ -125,7 +125,7 @@ remedy_of o (stops.File path failure) = string_bytes path ++ (codes ": " ++ (rea
 remedy_of o (stops.NoFolder path folder) = codes "no folder '" ++ (string_bytes folder ++ codes "'. Make it, or name the one that is meant.\n")
 remedy_of o stops.Output = []
 
--- what is told: the line, and after it what to do just where that is asked for
+-- what is printed: the line, and after it what to do just where that is asked for
 abbrev pub stop_text : Stop → Option Options → List ℕ
 stop_text stop None = line_of stop
 stop_text stop (Some options) = line_of stop ++ remedy_of options stop

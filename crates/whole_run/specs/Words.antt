@@ -10,13 +10,13 @@ use Rattle.whole_run.specs.Run.{IsRun}
 use Rattle.whole_run.specs.Telling.{stop_text}
 use Rattle.whole_run.specs.declared.stop.Stop.TheVariants as stops
 
--- Words that give no options: one text is printed or told, and nothing else is asked of the outside.
+-- Words that give no options: one text is printed, and nothing else is asked of the outside.
 abbrev pub TellsRefusal : Refusal → ℕ → List Event → Type 0
 TellsRefusal (refusals.Help text) status events = (taken : Bool) × (events ≡ Print (string_bytes text) taken ∷ []) × (status ≡ if taken then 0 else 3)
 TellsRefusal (refusals.Words text) status events = (taken : Bool) × (events ≡ Tell (string_bytes text) taken ∷ []) × (status ≡ 2)
 TellsRefusal refusals.Memory status events = (taken : Bool) × (events ≡ Tell (stop_text (stops.Fault faults.Memory) None) taken ∷ []) × (status ≡ 3)
 
--- The words give options, and the run is one with these; or they give none, which is for want of memory alone where clap's definition takes them.
+-- The words give options, and the run is one with these; or they give none, which is only out of memory where clap's definition takes them.
 abbrev pub IsSession : List (List ℕ) → ℕ → List Event → Type 0
 IsSession words status events =
     ((o : Options) × AreAskedBy words o × IsRun o status events)

@@ -1,4 +1,4 @@
-//! Results that can't be meant: what is told of a run that came to its end, where its inputs don't go together.
+//! Results that can't be meant: what is said of a run that came to its end, where its inputs don't go together.
 
 ghost use Rattle.std.specs.Prelude.{◌≡◌, IfSome, Some};
 ghost use Rattle.whole_run.specs.Doubting.{IsDoubt, IsOfNames, doubt_of_sizes, doubt_text};
@@ -8,12 +8,12 @@ use csv::{ByteRecord, ReaderBuilder};
 use journal_table::Journal;
 use memchr::memmem;
 use replay_run::{Inputs, Sizes};
-use sip_reader::{Act, Id, KeptId, Reading, read_request};
+use sip_reader::{Act, Id, Reading, read_request};
 use std::alloc::{AllocError, Global};
 use std::collections::BTreeSet;
 use std::fmt;
 
-/// One of so many requests that name a patron, or an item, is enough to be told.
+/// A doubt is printed where more than one in this many requests names an unknown patron, or an unknown item.
 const QUARTER: u64 = 4;
 
 /// Why a result can't be meant.
@@ -25,7 +25,7 @@ pub enum Doubt {
     NoAnswer { lines: u64 },
     /// No request has the policy's institution.
     Institution { id: String },
-    /// So many requests name a patron, and so many of them one that the base lacks.
+    /// How many requests name a patron, and how many of them one that the base lacks.
     Patrons { unknown: u64, named: u64 },
     /// The same of items.
     Items { unknown: u64, named: u64 },
@@ -97,8 +97,8 @@ fn doubt_of_names(alloc: Global, inputs: &Inputs) -> Option<Doubt>
 
 /// The institution of a policy.
 fn institution_of(alloc: Global, policy: &[u8]) -> Option<String> {
-    let institution = Policy::read(alloc, policy).ok()?.institution();
-    String::from_str(alloc, str::from_utf8(institution.as_bytes()).ok()?).ok()
+    let policy = Policy::read(alloc, policy).ok()?;
+    String::from_str(alloc, str::from_utf8(policy.institution().as_bytes()).ok()?).ok()
 }
 
 /// Whether a request has this institution.
@@ -125,7 +125,7 @@ fn ids_of(alloc: Global, text: &[u8]) -> Result<BTreeSet<Id>, AllocError> {
             Ok(true) => {}
             _ => break,
         }
-        if let Some(id) = row.get(0).and_then(Id::new) {
+        if let Some(id) = Id::read(alloc, row.get(0).unwrap_or(b""))? {
             let _ = ids.insert(id)?;
         }
     }
@@ -158,8 +158,8 @@ impl Named {
             if let Reading::Asked(request) = &read_request(alloc, line.request())? {
                 let (patron, item) = names_of(&request.act);
                 named.count(
-                    patron.map(|id| patrons.contains(&id.id())),
-                    item.map(|id| items.contains(&id.id())),
+                    patron.map(|id| patrons.contains(id)),
+                    item.map(|id| items.contains(id)),
                 );
             }
         }
@@ -207,7 +207,7 @@ fn is_many(unknown: u64, named: u64) -> bool {
 }
 
 /// The patron and the item that a request names.
-fn names_of(act: &Act) -> (Option<&KeptId>, Option<&KeptId>) {
+fn names_of(act: &Act) -> (Option<&Id>, Option<&Id>) {
     match act {
         Act::BlockPatron(asked) => (Some(&asked.patron), None),
         Act::Checkin(asked) => (None, Some(&asked.item)),

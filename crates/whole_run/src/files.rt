@@ -139,7 +139,7 @@ fn read_if_there<O: Outside>(
     }
 }
 
-/// Writes the tables, then the answers, the report and the passed lines. Each stands under its name only when it is whole;
+/// Writes the tables, then the answers, the report and the passed lines. Each gets its name only when it is whole;
 /// files written before one that fails stay. All memory is taken before the first file is touched.
 pub fn write_output<O: Outside>(
     outside: &mut O,

@@ -42,7 +42,7 @@ impl fmt::Display for Phase {
 pub struct Progress<'a, R> {
     rt: &'a R,
     shown: bool,
-    /// The number of the first line, and that behind the last one's.
+    /// The number of the first line, and the one after the last line's.
     first: AtomicU64,
     end: AtomicU64,
     /// The milliseconds of the clock at the last count.
@@ -75,18 +75,18 @@ impl<'a, R: Clock + Eprint> Progress<'a, R> {
         progress
     }
 
-    /// Notes how many lines are to come: by the numbers of the journal's first row and its last one, which lie no gap apart in a
+    /// Notes how many lines are to come: by the numbers of the journal's first row and its last one, which have no gap between them in a
     /// journal that isn't refused. Of a journal without numbers no counts are shown.
     pub fn expect(&self, journal: &[u8]) {
         if !self.shown {
             return;
         }
         let mut rows = journal.split(|byte| *byte == b'\n');
-        let mut rows_from_behind = journal.rsplit(|byte| *byte == b'\n');
+        let mut rows_from_end = journal.rsplit(|byte| *byte == b'\n');
         let Some(first) = rows.find_map(|row| number_of(row)) else {
             return;
         };
-        let Some(last) = rows_from_behind.find_map(|row| number_of(row)) else {
+        let Some(last) = rows_from_end.find_map(|row| number_of(row)) else {
             return;
         };
         self.first.store(first, Ordering::SeqCst);
@@ -109,18 +109,18 @@ impl<'a, R: Clock + Eprint> Progress<'a, R> {
     fn count(&self, line: u64) {
         let first = self.first.load(Ordering::SeqCst);
         let end = self.end.load(Ordering::SeqCst);
-        let behind = line.saturating_add(1);
-        if behind == end {
+        let next = line.saturating_add(1);
+        if next == end {
             self.show(Phase::Writing);
-        } else if behind < end && self.is_due() {
+        } else if next < end && self.is_due() {
             self.show(Phase::Running {
-                committed: behind.saturating_sub(first),
+                committed: next.saturating_sub(first),
                 lines: end.saturating_sub(first),
             });
         }
     }
 
-    /// Whether the last count is old enough; of several workers one is told so.
+    /// Whether the last count is old enough; of several workers that ask, one gets yes.
     fn is_due(&self) -> bool {
         let Ok(since) = self.rt.monotonic() else {
             return false;

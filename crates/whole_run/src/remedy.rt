@@ -11,11 +11,11 @@ use journal_table::JournalRule;
 use replay_run::Fault;
 use std::fmt;
 
-/// What is told of a stop: its line, and after it, where that is asked for, what to do.
+/// What is printed for a stop: its line, and after it, where that is asked for, what to do.
 #[derive(Clone, Copy)]
 pub struct StopText<'a> {
     pub stop: &'a Stop,
-    /// What the run was asked for, where what to do is to be told too.
+    /// What the run was asked for, where what to do is to be printed too.
     pub asked: Option<&'a Options>,
 }
 

@@ -37,7 +37,7 @@ const DIFFERENT: u8 = 1;
 /// - 2 where the command line, the workers, the policy, a table or the journal is refused;
 /// - 3 where a file can't be read or written, standard output takes no text, or memory ran out.
 ///
-/// What stopped the run is told on standard error, and what to do too where that is a terminal or the words ask for it.
+/// What stopped the run is printed on standard error, and what to do too where that is a terminal or the words ask for it.
 pub fn run<R: AllocGlobal + Threads + Wait + Sync + Clock + Eprint, S: AsStr, O: Outside>(
     rt: &R,
     outside: &mut O,
@@ -86,7 +86,7 @@ fn tell_doubt<O: Outside>(outside: &mut O, doubt: &Option<Doubt>)
     }
 }
 
-/// What the run was asked for, where what to do about a stop is to be told too.
+/// What the run was asked for, where what to do about a stop is to be printed too.
 fn asked_of(options: &Options, is_terminal: bool) -> Option<&Options>
     ensures { IsAsked options.entry.now (option_map (λ o. o.now) result) }
 {
@@ -97,7 +97,7 @@ fn asked_of(options: &Options, is_terminal: bool) -> Option<&Options>
     }
 }
 
-/// Tells what stands against the words: prints help, tells a refusal.
+/// Prints what clap says of the words: help, or a refusal.
 fn refuse<O: Outside>(refusal: &Refusal, outside: &mut O) -> u8
     ensures { Did (TellsRefusal refusal.now result) (O.log outside.old) (O.log outside.new) }
 {
@@ -115,7 +115,7 @@ fn refuse<O: Outside>(refusal: &Refusal, outside: &mut O) -> u8
 #[derive(Drop)]
 struct Ended {
     sizes: Sizes,
-    /// Why its result can't be meant, where that is to be told.
+    /// Why its result can't be meant, where that is to be printed.
     doubt: Option<Doubt>,
 }
 
@@ -176,7 +176,7 @@ fn rewrite<R: AllocGlobal + Threads + Wait + Sync + Clock + Eprint, O: Outside>(
     Ok(Ended { sizes, doubt })
 }
 
-/// Why the result can't be meant, where that is to be told.
+/// Why the result can't be meant, where that is to be printed.
 fn doubt_where_asked(
     options: &Options,
     is_terminal: bool,

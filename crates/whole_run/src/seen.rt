@@ -14,7 +14,7 @@ use std::mem::forget;
 /// What is seen in the text that a fault is about.
 #[derive(Drop)]
 pub enum Seen {
-    /// A row has another number of fields than the first one. So many rows stand before it.
+    /// A row has another number of fields than the first one, and this many rows are before it.
     Uneven { row: u64 },
     /// The line, from 1, from which on a policy is no TOML.
     Line { line: u64 },
@@ -138,7 +138,7 @@ fn row_at(alloc: Global, text: &[u8], row: usize) -> Option<ByteRecord> {
     Some(found)
 }
 
-/// How many rows stand before the first one that has another number of fields than the first of all.
+/// How many rows are before the first one that has another number of fields than the first of all.
 fn uneven_row(alloc: Global, text: &[u8]) -> Option<u64> {
     let mut reader = ReaderBuilder::new()
         .has_headers(false)

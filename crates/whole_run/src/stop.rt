@@ -1,4 +1,4 @@
-//! What ends a run before its last line is printed, and the status that tells it.
+//! What ends a run before its last line is printed, and the status of that.
 
 ghost use Rattle.std.specs.Prelude.{◌≡◌, Bool, Some, option_map};
 ghost use Rattle.outside.specs.Events.{Tell, noted};
@@ -64,7 +64,7 @@ pub enum Stop {
     Output,
 }
 
-/// The line that is told of a stop; nothing of standard output that fails.
+/// The line that is printed for a stop; none where standard output fails.
 impl fmt::Display for Stop {
     ghost output = { λ stop. Some (line_of stop) };
 
@@ -128,8 +128,8 @@ impl Stop {
         }
     }
 
-    /// Tells what stopped the run, and gives its status. Where what was asked for is given, what to do is told too.
-    /// That it can't be told changes no status.
+    /// Prints what stopped the run, and returns its status. Where what was asked for is given, what to do is printed too.
+    /// A failure to print changes no status.
     pub fn tell<O: Outside>(&self, asked: Option<&Options>, outside: &mut O) -> u8
         ensures status { result ≡ status_of self.now }
         ensures told { (taken : Bool) × (O.log outside.new ≡ noted (Tell (stop_text self.now (option_map (λ o. o.now) asked.entry)) taken) (O.log outside.old)) }

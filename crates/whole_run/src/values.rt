@@ -9,11 +9,11 @@ use crate::seen::Seen;
 use circ_records::{BaseRule, TableName};
 use csv::ByteRecord;
 use journal_table::JournalRule;
-use sip_reader::{Amount, Day, Id, is_text};
+use sip_reader::{Amount, Day, is_id, is_text};
 use std::alloc::Global;
 use std::fmt;
 
-/// How much of a value is told, in characters.
+/// How much of a value is printed, in characters.
 const TOLD: usize = 60;
 
 /// The form that a value should have.
@@ -104,7 +104,7 @@ fn columns_of(table: TableName) -> &'static [Column] {
     }
 }
 
-/// What is told of a row of a table that breaks a rule: the value that names the row, and those that break the rule. Nothing where memory runs out.
+/// What is said of a row of a table that breaks a rule: the value that names the row, and those that break the rule. Nothing where memory runs out.
 pub fn seen_in_row(
     alloc: Global,
     table: TableName,
@@ -134,7 +134,7 @@ fn seen_in_values(alloc: Global, table: TableName, row: &ByteRecord) -> Option<S
     Some(Seen::Form { text, form })
 }
 
-/// Where the first value of a row stands that has another form than it should, and the right one.
+/// The place of the first value of a row that has another form than it should, and the right form.
 fn wrong_form(table: TableName, row: &ByteRecord) -> Option<(usize, Form)> {
     for (place, ((_, kind), value)) in columns_of(table).iter().zip(row.iter()).enumerate() {
         if let Kind::Value(form) = kind {
@@ -157,7 +157,7 @@ fn row_values(alloc: Global, table: TableName, rule: BaseRule, row: &ByteRecord)
     Some(told)
 }
 
-/// The same of a row of the journal. Its messages aren't told: they may have passwords.
+/// The same of a row of the journal. Its messages aren't printed: they may have passwords.
 pub fn journal_values(alloc: Global, rule: JournalRule, row: &ByteRecord) -> Option<String> {
     let mut told = String::new(alloc);
     tell_value(alloc, &mut told, "line", row.get(0)?)?;
@@ -185,7 +185,7 @@ fn is_about(rule: BaseRule, column: &Column, value: &[u8]) -> bool {
 /// Whether an id or a text is one.
 fn is_spelt(kind: Kind, value: &[u8]) -> bool {
     match kind {
-        Kind::Id => Id::new(value).is_some(),
+        Kind::Id => is_id(value),
         Kind::Text => is_text(value),
         Kind::Value(_) => true,
     }
@@ -227,7 +227,7 @@ fn is_number(value: &[u8]) -> bool {
         && text.parse::<u32>().is_ok()
 }
 
-/// Puts a value after others, in double quotes. Of a long one the beginning is told.
+/// Puts a value after others, in double quotes. Of a long one the beginning is printed.
 fn tell_value(alloc: Global, told: &mut String, name: &str, value: &[u8]) -> Option<()> {
     let before = if told.is_empty() { "" } else { ", " };
     let value = shown(alloc, value)?;
@@ -235,7 +235,7 @@ fn tell_value(alloc: Global, told: &mut String, name: &str, value: &[u8]) -> Opt
     told.push_str(more.as_str()).ok()
 }
 
-/// The characters of a value, as many as are told. Line ends and others that aren't printed are told by their escapes.
+/// The first characters of a value, at most `TOLD` of them. Of line ends and others that don't show, the escapes are.
 fn shown(alloc: Global, value: &[u8]) -> Option<String> {
     let Ok(text) = str::from_utf8(value) else {
         return String::from_str(alloc, "bytes that are no UTF-8").ok();

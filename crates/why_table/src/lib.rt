@@ -1,5 +1,4 @@
-//! The table that tells why lines were answered as they were: a row for each record that a line read. It stands on `line_reasons`;
-//! the program `sip_why` stands on it.
+//! The table that says why lines were answered as they were: a row for each record that a line read. The program `sip_why` uses it.
 #![tactic(auto)]
 
 mod renewals;

@@ -3,7 +3,8 @@
 use crate::sayings::owed_by;
 use circ_policy::Policy;
 use circ_records::{Key, Record};
-use line_reasons::{Reason, ask_turn, reason_of_renewal};
+use line_reasons::{Reason, reason_of_renewal};
+use loan_meaning::ask_for;
 use read_set::{Article, LoanRequest, Member, Notes, Plan, known_item, known_patron};
 use sip_reader::{Act, Id, Reading, RenewAll};
 use std::alloc::{AllocError, Global};
@@ -22,7 +23,7 @@ pub fn item_reasons(
     let Act::RenewAll(asked) = &request.act else {
         return Ok(none);
     };
-    let found = found_at(notes, &Key::Patron(asked.patron.id()))?;
+    let found = found_at(notes, &Key::Patron(asked.patron.clone()?))?;
     match known_patron(plan.policy(), found) {
         Some(member) => reasons_of(alloc, plan.policy(), asked, &member, notes),
         None => Ok(none),
@@ -47,12 +48,12 @@ fn reasons_of(
 ) -> Result<Vec<(Id, Reason)>, AllocError> {
     let mut reasons = Vec::new(alloc);
     let mut owes = owed_by(notes, member.patron.get())?.unwrap_or(0);
-    for kept in member.patron.get().loans.as_slice() {
-        let a = ask_turn(asked, kept.id());
-        let found = known_item(policy, found_at(notes, &Key::Item(a.item))?);
+    for id in member.patron.get().loans.as_slice() {
+        let a = ask_for(asked, id)?;
+        let found = known_item(policy, found_at(notes, &Key::Item(id.clone()?))?);
         let (reason, charged) = turn_of(owes, &a, member, &found);
         owes = owes.saturating_add(charged);
-        reasons.push((a.item, reason))?;
+        reasons.push((id.clone()?, reason))?;
     }
     Ok(reasons)
 }

@@ -88,7 +88,7 @@ fn say_patron(
     add(out, "class", patron.class.as_bytes())?;
     add(out, "blocked", if patron.blocked { b"Y" } else { b"N" })?;
     add_number(out, "loans", patron.loans.len() as u64)?;
-    let class = asked.policy.kept_class(&patron.class);
+    let class = asked.policy.class(&patron.class);
     if let Some(class) = &class {
         add_of(out, u64::from(class.max_loans))?;
     }
@@ -106,7 +106,7 @@ fn say_patron(
 pub fn owed_by(notes: &Notes, patron: &Patron) -> Result<Option<u128>, AllocError> {
     let mut owed: u128 = 0;
     for id in patron.fees.as_slice() {
-        let Some(note) = notes.get(&Key::Fee(id.id())) else {
+        let Some(note) = notes.get(&Key::Fee(id.clone()?)) else {
             return Ok(None);
         };
         if let Some(Record::Fee(fee)) = note.found.record()? {
@@ -129,9 +129,9 @@ fn say_item(
 ) -> Result<(), AllocError> {
     match &item.loan {
         Some(loan) => {
-            add(out, "borrower", loan.patron().as_bytes())?;
-            add_day(alloc, out, "due", loan.due())?;
-            add_number(out, "renewals", u64::from(loan.renewals()))?;
+            add(out, "borrower", loan.patron.as_bytes())?;
+            add_day(alloc, out, "due", loan.due)?;
+            add_number(out, "renewals", u64::from(loan.renewals))?;
         }
         None => add(out, "borrower none", b"")?,
     }
@@ -208,7 +208,7 @@ fn say_late(
     let back = checkin.back.unwrap_or(request.date.day());
     add_day(alloc, out, "back", back)?;
     if let Some(loan) = &item.loan {
-        let fee = late_fee(loan.due(), back, media);
+        let fee = late_fee(loan.due, back, media);
         add_amount(alloc, out, "late fee", u128::from(fee.hundredths()))?;
     }
     Ok(())

@@ -15,7 +15,7 @@ use std::alloc::{AllocError, Global};
 /// The names of the columns.
 pub const WHY_HEADER: [&str; 6] = ["line", "reason", "kind", "id", "since", "said"];
 
-/// What columns say that say nothing.
+/// The text of a column that is empty.
 const NOTHING: &[u8] = b"";
 
 /// The table while it is written.
@@ -56,7 +56,7 @@ impl WhyTable {
             let found = note.found.record()?;
             let said = say(alloc, &asked, notes, found.as_ref())?;
             let since = since_of(alloc, note, found.is_some())?;
-            self.row(line, asked.reason, note.key.key(), since, said)?;
+            self.row(line, asked.reason, &note.key, since, said)?;
         }
         Ok(())
     }
@@ -65,14 +65,14 @@ impl WhyTable {
         &mut self,
         line: u64,
         reason: Reason,
-        key: Key,
+        key: &Key,
         since: String,
         said: Vec<u8>,
     ) -> Result<(), AllocError> {
         let mut digits = itoa::Buffer::new();
         let number = digits.format(line);
         let word = word_of(&reason);
-        let kind = kind_of(&key);
+        let kind = kind_of(key);
         self.table.row(&[
             number.as_bytes(),
             word.as_bytes(),
@@ -107,9 +107,9 @@ impl WhyTable {
 
 /// The reason of a row: in a renewal of all items that of the item, else that of the line.
 fn reason_of(items: &[(Id, Reason)], reason: Reason, note: &Note) -> Reason {
-    if let Key::Item(id) = note.key.key() {
+    if let Key::Item(id) = &note.key {
         for item in items {
-            if item.0 == id {
+            if item.0 == *id {
                 return item.1;
             }
         }

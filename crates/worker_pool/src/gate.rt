@@ -1,4 +1,4 @@
-//! What is told of the workers' steps.
+//! What is called after the steps of workers.
 
 /// What a worker has just done with a line.
 #[derive(Clone, Copy, PartialEq, Eq)]
@@ -13,7 +13,7 @@ pub enum Moment {
     Committed,
 }
 
-/// Is told of what workers do, outside the lock, after the step. A gate that doesn't return holds its worker, and no other.
+/// Is called outside the lock, after a step of a worker. A gate that doesn't return holds its worker, and no other.
 pub trait Gate {
     fn at(&self, worker: u32, line: u64, moment: Moment);
 }

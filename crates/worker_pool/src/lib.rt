@@ -1,7 +1,7 @@
-//! The room of the workers: threads that run the lines of a plan over one board under one lock.
+//! The workers: threads that run the lines of a plan over one board under one lock.
 //!
-//! A `SharedBoard` gives its board to one worker at a time, for one call; what a line wants and what it does is worked out
-//! outside the lock, and versions stand in a table beside it. It knows no message and no table.
+//! A `SharedBoard` gives its board to one worker at a time, for one call; what a line needs and what it does is worked out
+//! outside the lock, and versions are in a table beside it. It knows no message and no table.
 #![tactic(auto)]
 
 mod calls;

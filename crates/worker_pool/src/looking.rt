@@ -1,4 +1,4 @@
-//! Looking at the board for what a line wants.
+//! Looking at the board for what a line needs.
 
 use crate::calls::Left;
 use crate::shared::SharedBoard;

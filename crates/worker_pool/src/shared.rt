@@ -15,10 +15,10 @@ use std::time::Duration;
 use version_store::{Place, VersionTable};
 
 /// How often a worker tries the lock before it sleeps. A hold is a microsecond or two; to sleep and be woken costs far more, and
-/// keeps the line that the worker has in hand from being published.
+/// delays the publication of the line that the worker has in hand.
 const TRIES: u32 = 1000;
 
-/// How often a free worker tries the lock before it stands back. While others keep the lock busy, one more line in hand speeds
+/// How often a free worker tries the lock before it rests. While others keep the lock busy, one more line in hand speeds
 /// nothing up, and who holds the lock last has the board in its core's cache (`bench/threads`).
 const TRIES_AT_EASE: u32 = 20;
 
@@ -32,7 +32,7 @@ pub struct SharedBoard<'p, 't, J: PlanName> {
     workers: usize,
     /// How many tries at the lock have found it taken.
     vain_tries: AtomicU64,
-    /// 1 once a worker has ended. Who stands back sleeps on it.
+    /// 1 once a worker has ended. Who rests sleeps on it.
     ended: AtomicU64,
     held: Mutex<Held<'p, 't, J>>,
     ghost named: { plan.now ≡ J.plan },
@@ -75,7 +75,7 @@ impl<'p, 't, J: PlanName + 'static> SharedBoard<'p, 't, J> {
         self.vain_tries.load(Ordering::Relaxed)
     }
 
-    /// Takes the lock where it is free at one of so many tries.
+    /// Takes the lock where it is free at one of this number of tries.
     fn try_hold(&self, tries: u32) -> Option<MutexGuard<'_, Held<'p, 't, J>>> {
         for tried in 0..tries {
             if let Some(held) = self.held.try_lock() {
@@ -97,7 +97,7 @@ impl<'p, 't, J: PlanName + 'static> SharedBoard<'p, 't, J> {
         }
     }
 
-    /// Takes the lock, where it can without sleeping, also while others sleep: `lock` alone sleeps at once behind a sleeper.
+    /// Takes the lock, where it can without sleeping, also while others sleep: `lock` alone sleeps at once where another sleeps.
     fn hold<R: Wait>(&self, rt: &R) -> MutexGuard<'_, Held<'p, 't, J>> {
         match self.try_hold(TRIES) {
             Some(held) => held,
@@ -151,7 +151,7 @@ impl<'p, 't, J: PlanName + 'static> SharedBoard<'p, 't, J> {
         self.hold(rt).left
     }
 
-    /// Sleeps for so long, or until a worker ends.
+    /// Sleeps for this time, or until a worker ends.
     pub fn rest<R: Wait>(&self, rt: &R, time: Duration) {
         self.ended.park_timeout(rt, 0, time);
     }
@@ -162,7 +162,7 @@ impl<'p, 't, J: PlanName + 'static> SharedBoard<'p, 't, J> {
         self.ended.wake_all();
     }
 
-    /// What the workers have come to: the end of the replay, where all lines are committed; else the board, on which there are more
+    /// The end of the replay, where all lines are committed; else the board, on which there are more
     /// lines than are committed.
     pub fn close(self) -> Result<Finished<'p, 't, J>, Open<'p, 't, J>>
         ensures { IfErr result (λ rest. (rest.committed ≡ rest.board.committed) × (rest.committed < length J.plan.readings)) }

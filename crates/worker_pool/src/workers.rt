@@ -21,20 +21,20 @@ use std::thread::Threads;
 use std::time::Duration;
 use version_store::Place;
 
-/// How many microseconds a worker stands back before it chooses again where its choice waits for others: as long as some dozens
+/// How many microseconds a worker rests before it chooses again where its choice waits for others: as long as some dozens
 /// of lines take. One that comes back at once takes the same line over and over, or one whose records others are still about to
 /// write (`bench/threads`).
 const STAND_BACK: u64 = 800;
 
-/// So many tries at the lock that found it taken, in one turn of a worker, show that it is busy. One more line in hand then speeds
+/// This number of tries at the lock that found it taken, in one turn of a worker, shows that it is busy. One more line in hand then speeds
 /// nothing up, and slows the others down: the board goes from one core's cache to another's at each step.
 const BUSY: u64 = 10;
 
-/// How often a worker doubles the time for which it stands back while the lock is busy turn after turn: up to a tenth of a second. What
+/// How often a worker doubles the time for which it rests while the lock is busy turn after turn: up to a tenth of a second. What
 /// the others do meanwhile is little, and each of their lines takes the board from the first worker's cache.
 const DOUBLINGS: u32 = 7;
 
-/// How many pauses of the processor, of 5 to 50 nanoseconds each, the first worker stands back. It never sleeps, so that a line that
+/// How many pauses of the processor, of 5 to 50 nanoseconds each, the first worker rests. It never sleeps, so that a line that
 /// everybody waits for is soon in hand.
 const PAUSES: u32 = 5_000;
 
@@ -78,7 +78,7 @@ enum Turn {
     Last,
 }
 
-/// Runs as many workers as the board was made for, until all lines are committed or a fault was left, which is given. The
+/// Runs as many workers as the board was made for, until all lines are committed or a fault was left, which is returned. The
 /// first works in the calling thread; one whose thread can't be made is left out.
 pub fn run_workers<J: PlanName + Send + Sync + 'static, G: Gate + Sync, R: Threads + Wait + Sync>(
     rt: &R,
@@ -239,7 +239,7 @@ fn duty_of<J: PlanName>(worker: u32, begun: &Result<Begun<'_, J>, Left>) -> Resu
     }
 }
 
-/// How far the publication or the check has come to which the reply belongs.
+/// How far the publication or the check of the reply has come.
 fn course_of<J: PlanName>(reply: &Reply<'_, J>) -> Course {
     match reply {
         Reply::Placed => Course::More,
@@ -282,7 +282,7 @@ fn check_line<J: PlanName + 'static, G: Gate, R: Wait>(
     unreachable!()
 }
 
-/// Runs a line that the worker has taken, until its version stands or the attempt ends.
+/// Runs a line that the worker has taken, until its version is published or the attempt ends.
 fn run_line<J: PlanName + 'static, G: Gate, R: Wait>(
     rt: &R,
     alloc: Global,
@@ -331,7 +331,7 @@ fn read_line<'t, J: PlanName + 'static, R: Wait>(
     }
 }
 
-/// The version that a line's rule came to on these notes.
+/// The version that a line's rule gives on these notes.
 fn version_of<J: PlanName>(task: Task, notes: Notes, effect: Effect) -> Version<J>
     requires { Settles J.plan task.line notes effect.writes effect.answer }
     ensures { result ≡ record { line = task.line; attempt = task.attempt; reads = notes; writes = effect.writes; answer = effect.answer } }

@@ -1,4 +1,4 @@
--- What stands behind a list of entries: a device of proofs.
+-- A key after all keys of a list of entries: a device of proofs.
 use Rattle.std.specs.Prelude.{◌≡◌}
 use Rattle.std.specs.List.{AllByRecursion}
 use Rattle.std.specs.declared.cmp.Ordering.TheVariants.{Less}

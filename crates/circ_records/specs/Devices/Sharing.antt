@@ -1,8 +1,8 @@
--- What a shared value is behind a borrow of it: a device of proofs.
-use Rattle.std.specs.Prelude.{Option}
-use Rattle.std.specs.Borrow.{LendsIf, MutBor, Fml, RattleType}
+-- What a shared value is once a borrow of it has ended: a device of proofs.
+use Rattle.std.specs.Prelude.{◌≡◌, ◌⊎◌, Result}
+use Rattle.std.specs.Borrow.{LendsSoOk, MutBor, Fml, RattleType}
 use Rattle.circ_records.specs.contracts.shared.Shared.{the_row}
 
--- s ends as the last value behind r, and is unchanged where r is `None`
-abbrev pub LendsSole : (R : RattleType) → MutBor R.Denot → Option (MutBor R.Denot) → Fml
-LendsSole R s r = LendsIf (the_row R) R s r (λ w. w) s.now
+-- s ends as the last value that was written through r, and where r is an `Err`, as it was or as a clone of that
+abbrev pub LendsMade : (R : RattleType) → (R.Denot → R.Denot → Type 0) → MutBor R.Denot → {E : Type 0} → Result (MutBor R.Denot) E → Fml
+LendsMade R is_clone s r = LendsSoOk (the_row R) R s r (λ n w. n ≡ w) (λ n. (n ≡ s.now) ⊎ is_clone s.now n)

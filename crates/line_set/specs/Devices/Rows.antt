@@ -2,17 +2,17 @@
 use Rattle.std.specs.Prelude.{◌≡◌, ℕ, zero, suc, ◌+◌, ◌*◌, ◌<◌, ◌≤◌, Bool, true, false, List, length, slice_index_or, Option, Some, None}
 use Rattle.line_set.specs.Trees.{node_at, IsPower}
 
--- the first number below a node, so many rows down
+-- the first number below a node, a number of rows down
 abbrev pub below : ℕ → ℕ → ℕ
 below i zero = i
 below i (suc k) = below (2 * i) k
 
--- the flags are so many rows below the node
+-- the flags are this many rows below the node
 pub record IsAbove (nodes : List Bool) (i k : ℕ) : Type 0 where
   pub low : length nodes ≤ below i k
   pub high : below (i + 1) k ≤ 2 * length nodes
 
--- a node of a row that has a power of two of nodes: the flags are so many rows below it, width of them, from the first on
+-- a node of a row that has a power of two of nodes: the flags are this many rows below it, width of them, from the first on
 pub record IsInRow (nodes : List Bool) (i width first : ℕ) : Type 0 where
   pub rows : ℕ
   pub row : ℕ

@@ -15,7 +15,7 @@ abbrev pub IsKnown : Part → Entries → List (List ℕ) → Option ℕ → Typ
 IsKnown has w fees None = Unit {0}
 IsKnown has w fees (Some sum) = follow has (owed_at w fees) ≡ Done sum
 
--- no fee that line n may make, from the one of this number on, stands in a list
+-- no fee that line n may make, from the one of this number on, is in a list
 abbrev pub AreNew : ℕ → ℕ → List (List ℕ) → Type 0
 AreNew n made fees = (k : ℕ) → made ≤ k → k < 2 ^ 64 → Contains fees (fee_id n k) → ⊥
 

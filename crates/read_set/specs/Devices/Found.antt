@@ -1,11 +1,11 @@
--- A device of proofs: how a note keeps what it found.
+-- A device of proofs: how a note stores what it found.
 use Rattle.std.specs.Prelude.{Option, Some, None}
 use Rattle.circ_records.specs.declared.record.Record.{Record}
 use Rattle.circ_records.specs.declared.record.Record.TheVariants as record_of
 use Rattle.read_set.specs.declared.found.Held.{Held}
 use Rattle.read_set.specs.declared.found.Held.TheVariants.{Nothing, Patron, Item, Fee}
 
--- the record that is kept, or none
+-- the record, or none
 abbrev pub record_in : Held → Option Record
 record_in Nothing = None
 record_in (Patron patron) = Some (record_of.Patron patron)

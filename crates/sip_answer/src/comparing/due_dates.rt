@@ -1,4 +1,4 @@
-//! The day that stands in a recorded due date.
+//! The day of a recorded due date.
 
 ghost use Rattle.std.specs.Prelude.{◌≡◌, ◌≤◌, ◌+◌, ◌*◌, true, length, IsTrue};
 ghost use Rattle.sip_reader.specs.Dates.{two_at, year_at};

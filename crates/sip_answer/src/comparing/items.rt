@@ -14,7 +14,7 @@ use sip_reader::Id;
 use std::alloc::{AllocError, Global};
 use std::collections::BTreeMap;
 
-/// Whether the items behind a fixed part, all of this identifier, are these, in whatever order.
+/// Whether the items after a fixed part, all of this identifier, are these, in whatever order.
 pub fn is_same_as_recorded(
     alloc: Global,
     ids: &[Id],
@@ -64,7 +64,7 @@ fn are_same_items(alloc: Global, xs: &[&[u8]], ys: &[&[u8]]) -> Result<bool, All
     Ok(both(first, second))
 }
 
-/// How often each item stands in a list.
+/// How often each item is in a list.
 fn tally<'a>(alloc: Global, items: &[&'a [u8]]) -> Result<BTreeMap<&'a [u8], usize>, AllocError>
     ensures { IfOk result (λ m. (q : List ℕ) → unwrap_or (get_by (λ k. slice_cmp nat_cmp q k.now) m) 0 ≡ count_by (λ x. bytes_eq q x.now) items.now) }
 {
@@ -91,7 +91,7 @@ fn both(first: bool, second: bool) -> bool
     first && second
 }
 
-/// Whether each of the items stands as often in the one as in the other.
+/// Whether both tallies have the same count of each of the items.
 fn stand_alike(
     items: &[&[u8]],
     in_xs: &BTreeMap<&[u8], usize>,

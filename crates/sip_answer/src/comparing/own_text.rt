@@ -1,6 +1,6 @@
 //! A recorded response that is the very text of the answer: nothing has to be looked for in it.
 //!
-//! No bar stands in the texts before and behind the fields that are compared: their types promise that, so none of them is looked through.
+//! The ids and texts of an answer have no bar: their types promise that, so none of them is looked through.
 
 ghost use Rattle.std.specs.Prelude.{◌≡◌, ◌≤◌, [], ◌∷◌, true, IfSome};
 ghost use Rattle.std.specs.Char.{is_ascii_digit};
@@ -15,10 +15,10 @@ ghost use Rattle.sip_answer.specs.Laws.{IsDate, LoanParts, loan_texts, patron_te
 ghost use Rattle.sip_answer.specs.Texts.{answer_text};
 
 use crate::answer::{Answer, KnownItem, KnownPatron, LoanAnswer, PatronAnswer};
-use sip_reader::{Amount, Day, KeptId, STAMP_LEN, Stamp, Text, without_line_end};
+use sip_reader::{Amount, Day, Id, STAMP_LEN, Stamp, Text, without_line_end};
 
-/// Whether a recorded response is seen at once to agree with an answer: it is the answer's own text, but for CR and LF behind it. One that
-/// isn't may agree, too. A renewal of all items is never seen so, since all its ids would have to be looked through.
+/// Whether a recorded response is seen at once to agree with an answer: it is the answer's own text, but for CR and LF after it. One that
+/// isn't may agree, too. A renewal of all items is never seen at once.
 pub fn is_own_text(answer: &Answer, sequence: Option<u8>, text: &[u8], recorded: &[u8]) -> bool
     requires { text.now ≡ answer_text answer.now sequence }
     ensures { result ≡ true → Agrees answer.now recorded.now }
@@ -126,7 +126,7 @@ fn item_is_whole(known: &Option<KnownItem>)
 }
 
 #[tactic(auto, using(crate::proofs::WholeTexts::id_whole))]
-fn id_is_whole(id: &KeptId)
+fn id_is_whole(id: &Id)
     ensures { is_whole id.now ≡ true }
 {
     id.keeps_its_form();
@@ -139,7 +139,7 @@ fn text_is_whole(text: &Text)
     text.keeps_its_form();
 }
 
-/// Whether no bar stands among the bytes.
+/// Whether no bar is among the bytes.
 fn is_whole(text: &[u8]) -> bool
     ensures { result ≡ is_whole text.now }
 {

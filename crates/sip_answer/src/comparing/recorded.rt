@@ -34,7 +34,7 @@ pub fn flag_of(b: u8) -> Option<bool>
     }
 }
 
-/// Whether two digits stand there.
+/// Whether the bytes at `i` and after it are digits.
 pub fn are_digits(i: usize, m: &[u8]) -> bool
     requires { i + 2 ≤ length m.now }
     ensures { result ≡ are_digits i m.now }
@@ -42,7 +42,7 @@ pub fn are_digits(i: usize, m: &[u8]) -> bool
     m[i].is_ascii_digit() && m[i + 1].is_ascii_digit()
 }
 
-/// The number that they spell.
+/// The number that these two digits spell.
 pub fn two_at(i: usize, m: &[u8]) -> u8
     requires within { i + 2 ≤ length m.now }
     requires digits { are_digits i m.now ≡ true }
@@ -147,7 +147,7 @@ fn hundredths_of(text: &[u8]) -> Option<u64>
     }
 }
 
-/// Whether the patron is told to be valid.
+/// Whether the response says that the patron is valid.
 #[tactic(auto, unfolding(crate::specs::Recorded::valid_in))]
 pub fn valid_in(rest: &[u8]) -> bool
     ensures { result ≡ valid_in rest.now }

@@ -251,7 +251,7 @@ pub fn compare_renew_all(
     Ok(Some(words))
 }
 
-/// The number that four digits tell of a count.
+/// The number that a count has in four digits: 9,999 for a greater one.
 fn capped(n: usize) -> usize
     ensures { result ≡ capped n }
 {

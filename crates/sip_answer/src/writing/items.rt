@@ -12,7 +12,7 @@ use super::parts::{
 use crate::answer::{
     CheckinAnswer, HoldAnswer, ItemStatusAnswer, QueuePosition, ReturnedItem, TitledItem,
 };
-use sip_reader::{KeptId, Text};
+use sip_reader::{Id, Text};
 use std::alloc::AllocError;
 
 /// An item status update response.
@@ -70,7 +70,7 @@ fn put_checkin_head(out: &mut Vec<u8>, answer: &CheckinAnswer) -> Result<(), All
 fn put_returned(
     out: &mut Vec<u8>,
     known: &Option<ReturnedItem>,
-    borrower: &Option<KeptId>,
+    borrower: &Option<Id>,
 ) -> Result<(), AllocError>
     ensures { OnOk result (out.new.items ≡ out.old.items
         ++ field (codes "AQ") (option_map_or (λ i. i.location) known.now [])
@@ -95,7 +95,7 @@ fn put_returned(
 }
 
 #[tactic(auto, unfolding(crate::specs::Parts::given))]
-fn put_borrower(out: &mut Vec<u8>, borrower: &Option<KeptId>) -> Result<(), AllocError>
+fn put_borrower(out: &mut Vec<u8>, borrower: &Option<Id>) -> Result<(), AllocError>
     ensures { OnOk result (out.new.items ≡ out.old.items ++ given (codes "AA") borrower.now) }
 {
     match borrower {

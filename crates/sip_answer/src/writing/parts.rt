@@ -8,16 +8,16 @@ ghost use Rattle.sip_answer.specs.Parts.{field, filled, digit, flag, hex_digit, 
 
 use circ_policy::MediaType;
 use itoa::Buffer;
-use sip_reader::{KeptId, Text, push_amount, sum_of};
+use sip_reader::{Id, Text, push_amount, sum_of};
 use std::alloc::AllocError;
 
-/// The greatest count that the four digits of a response tell (SIP 2.00, fixed-length fields).
+/// The greatest count that a response has in its four digits (SIP 2.00, fixed-length fields).
 pub const COUNT_MAX: usize = 9999;
 
 /// The hexadecimal digits.
 const HEX: &[u8; 16] = b"0123456789ABCDEF";
 
-/// A field: its identifier, its text and a bar. In line, since each caller knows its identifier.
+/// A field: its identifier, its text and a bar. Inlined, since each caller knows its identifier.
 #[inline(always)]
 #[tactic(auto, unfolding(crate::specs::Parts::field))]
 pub fn put_field(out: &mut Vec<u8>, id: &[u8; 2], text: &[u8]) -> Result<(), AllocError>
@@ -29,31 +29,31 @@ pub fn put_field(out: &mut Vec<u8>, id: &[u8; 2], text: &[u8]) -> Result<(), All
     Ok(())
 }
 
-/// A field of an id. Most ids are short, and are copied without a call. In line, for the same reason.
+/// A field of an id. Most ids are short, and are copied without a call. Inlined, for the same reason.
 #[inline(always)]
 #[tactic(auto, unfolding(crate::specs::Parts::field))]
-pub fn put_id(out: &mut Vec<u8>, id: &[u8; 2], named: &KeptId) -> Result<(), AllocError>
+pub fn put_id(out: &mut Vec<u8>, id: &[u8; 2], named: &Id) -> Result<(), AllocError>
     ensures { OnOk result (out.new.items ≡ out.old.items ++ field id.now named.now) }
 {
     out.extend_from_slice(id)?;
-    named.put_behind(out)?;
+    named.append_to(out)?;
     out.push(b'|')?;
     Ok(())
 }
 
-/// A field of a text that is mostly short: then it is copied without a call. In line, for the same reason.
+/// A field of a text that is mostly short: then it is copied without a call. Inlined, for the same reason.
 #[inline(always)]
 #[tactic(auto, unfolding(crate::specs::Parts::field))]
 pub fn put_text(out: &mut Vec<u8>, id: &[u8; 2], text: &Text) -> Result<(), AllocError>
     ensures { OnOk result (out.new.items ≡ out.old.items ++ field id.now text.now) }
 {
     out.extend_from_slice(id)?;
-    text.put_behind(out)?;
+    text.append_to(out)?;
     out.push(b'|')?;
     Ok(())
 }
 
-/// The field of a media type: so few bytes are copied at once.
+/// The field of a media type, whose six bytes are copied at once.
 #[tactic(auto, using(crate::proofs::Codes::three_digits), unfolding(crate::specs::Parts::field))]
 pub fn put_media(out: &mut Vec<u8>, media: MediaType) -> Result<(), AllocError>
     ensures { OnOk result (out.new.items ≡ out.old.items ++ field (codes "CK") (media_code media)) }
@@ -126,12 +126,12 @@ fn put_few(out: &mut Vec<u8>, hundredths: u64) -> Result<(), AllocError>
     ensures { OnOk result (out.new.items ≡ out.old.items ++ amount_text hundredths) }
 {
     out.extend_from_slice(Buffer::new().format(hundredths / 100).as_bytes())?;
-    out.extend_from_slice(&behind_point(hundredths))
+    out.extend_from_slice(&point_and_cents(hundredths))
 }
 
-/// The point, and the two digits behind it.
+/// The point, and the two digits after it.
 #[tactic(auto, using(crate::proofs::AmountDigits::two_digits))]
-fn behind_point(hundredths: u64) -> [u8; 3]
+fn point_and_cents(hundredths: u64) -> [u8; 3]
     ensures { result ≡ codes "." ++ decimal (hundredths / 10 % 10) ++ decimal (hundredths % 10) }
 {
     let tens = (hundredths / 10 % 10) as u8;

@@ -1,10 +1,10 @@
--- A device of proofs: the bytes of a text, where a few stand in place and more of them in memory that copies have together.
+-- A device of proofs: the bytes of a text, where a few are inline and more of them in memory that clones share.
 use Rattle.std.specs.Prelude.{ℕ, List}
 use Rattle.std.specs.Arc.{arc_slice_items, arc_value}
 use Rattle.sip_reader.specs.declared.text.Held.{Held}
-use Rattle.sip_reader.specs.declared.text.Held.TheVariants.{Block, Few, Many}
+use Rattle.sip_reader.specs.declared.text.Held.TheVariants.{Block, Inline, Many}
 
 abbrev pub bytes_held : Held → List ℕ
-bytes_held (Few bytes) = bytes
+bytes_held (Inline bytes) = bytes
 bytes_held (Block b) = (arc_value b).items
 bytes_held (Many v) = arc_slice_items v

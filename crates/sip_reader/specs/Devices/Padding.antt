@@ -1,9 +1,9 @@
--- A device of proofs: so many bytes at the most, and zeros behind them.
+-- A device of proofs: up to a number of bytes, and zeros after them.
 use Rattle.std.specs.Prelude.{ℕ, List, ◌++◌, ◌-◌, ◌≤◌, ◌≡◌, length, take, drop, replicate}
 use Rattle.std.proofs.Common.{arith}
 use Rattle.std.proofs.lemmas.Grind.{common_steps}
 
--- the first bytes count, and zeros stand behind them
+-- the first bytes count, and the others are zeros
 pub record IsPadded (max len : ℕ) (bytes : List ℕ) : Type 0 where
   pub within : len ≤ max
   pub whole : length bytes ≡ max

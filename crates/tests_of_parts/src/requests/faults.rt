@@ -101,7 +101,7 @@ pub(super) const BAD_FLAG: &str = "
 11NX20260302    101500                  A| => bad_flag
 ";
 
-/// A CR or LF in the rest, or a piece of one byte, wherever it stands.
+/// A CR or LF in the rest, or a piece of one byte, wherever it is.
 pub(super) const BAD_FIELD: &str = "
 1920260302    101500A|ABI1| => bad_field
 1920260302    101500ABI1|A => bad_field

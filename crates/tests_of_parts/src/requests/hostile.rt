@@ -1,11 +1,11 @@
-//! Long and strange messages: each has a reading. Cut ones stand in `cases`.
+//! Long and strange messages: each has a reading. Cut ones are in `cases`.
 
 use super::told;
 use std::alloc::{AllocError, Global};
 use std::process::Abort;
 use std::test::Fail;
 
-/// A message with so many times a byte in place of `~`.
+/// A message with a number of times a byte in place of `~`.
 fn filled(alloc: Global, len: usize, with: u8, message: &str) -> Result<Vec<u8>, AllocError> {
     let (front, back) = message.split_once('~').unwrap_or((message, ""));
     let mut bytes = Vec::from_slice(alloc, front.as_bytes())?;
@@ -16,7 +16,7 @@ fn filled(alloc: Global, len: usize, with: u8, message: &str) -> Result<Vec<u8>,
     Ok(bytes)
 }
 
-/// Reads each message with so many times a byte in place of `~`, and compares how its words begin.
+/// Reads each message with a number of times a byte in place of `~`, and compares how its words begin.
 fn measure(rt: &impl Abort, alloc: Global, len: usize, with: u8, lines: &str) -> Result<(), Fail> {
     for line in lines.split('\n') {
         let (message, words) = line.split_once(" => ").unwrap_or((line, ""));

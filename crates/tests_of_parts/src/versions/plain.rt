@@ -5,7 +5,7 @@ use read_set::Name;
 use std::alloc::{AllocError, Global};
 use version_store::Found;
 
-#[derive(Clone, Copy)]
+#[derive(Drop)]
 pub struct Plain {
     pub line: u64,
     pub key: Key,
@@ -30,11 +30,11 @@ impl PlainStore {
         }
     }
 
-    fn latest(&self, key: &Key, below: u64) -> Option<Plain> {
+    fn latest(&self, key: &Key, below: u64) -> Option<&Plain> {
         let mut found = None;
         for plain in &self.entries {
             if plain.line < below && plain.key == *key {
-                found = Some(later(found, *plain));
+                found = Some(later(found, plain));
             }
         }
         found
@@ -72,10 +72,10 @@ impl PlainStore {
         smaller
     }
 
-    pub fn keys_of(&self, line: u64, i: usize) -> Option<(Key, u32)> {
+    pub fn keys_of(&self, line: u64, i: usize) -> Option<(&Key, u32)> {
         for plain in &self.entries {
             if plain.line == line && self.below(line, &plain.key) == i {
-                return Some((plain.key, plain.attempt));
+                return Some((&plain.key, plain.attempt));
             }
         }
         None
@@ -110,7 +110,7 @@ impl PlainStore {
 }
 
 /// The entry of the greater line.
-fn later(found: Option<Plain>, plain: Plain) -> Plain {
+fn later<'p>(found: Option<&'p Plain>, plain: &'p Plain) -> &'p Plain {
     match found {
         Some(other) => {
             if other.line > plain.line {

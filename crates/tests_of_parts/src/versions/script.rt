@@ -1,12 +1,12 @@
-//! What workers' steps come to in the store, beside what is seen: in both stores the same.
+//! What workers' steps result in in the store, beside what is seen: in both stores the same.
 
 ghost use Rattle.std.specs.Prelude.{◌≡◌};
 ghost use Rattle.read_set.specs.Plans.{no_plan};
 ghost use Rattle.version_store.specs.Entries.{HasLines};
 
 use super::plain::PlainStore;
-use super::{Call, FIRST, LINES, agree, kept_keys, make_call};
-use circ_records::KeptKey;
+use super::{Call, FIRST, LINES, agree, all_keys, make_call};
+use circ_records::Key;
 use read_set::{Name, PlanName};
 use std::alloc::{AllocError, Global};
 use std::marker::Brand;
@@ -105,19 +105,19 @@ fn call_in(line: &str) -> Option<Call> {
     }
 }
 
-/// What a store tells of the key of a `see`.
+/// What a store says about the key of a `see`.
 fn told<J: PlanName>(
     alloc: Global,
     store: &EntryStore<'_, J>,
-    keys: &[KeptKey],
+    keys: &[Key],
     see: &str,
 ) -> Result<String, AllocError> {
     let (line, key) = see.split_once(' ').unwrap_or((see, ""));
     let below = FIRST.saturating_add(line.parse::<u64>().unwrap_or(0).saturating_sub(1));
-    let Some(kept) = keys.get(key.parse::<usize>().unwrap_or(0)) else {
+    let Some(key) = keys.get(key.parse::<usize>().unwrap_or(0)) else {
         return Ok(String::new(alloc));
     };
-    match store.name(&kept.key(), below) {
+    match store.name(key, below) {
         Found::Named(Name::Base) => String::from_str(alloc, "base"),
         Found::Named(Name::Made { line, attempt }) => {
             let line = line.saturating_sub(FIRST).saturating_add(1);
@@ -133,7 +133,7 @@ fn told<J: PlanName>(
 fn play<'t, J: PlanName, R: Wait + AllocGlobal + Abort>(
     rt: &R,
     table: &'t VersionTable<J>,
-    keys: &'t [KeptKey],
+    keys: &'t [Key],
     store: &mut EntryStore<'t, J>,
     script: &str,
 ) -> Result<(), AllocError>
@@ -159,7 +159,7 @@ fn play<'t, J: PlanName, R: Wait + AllocGlobal + Abort>(
 fn both_stores_agree_on_scripts(rt: HostRuntime) -> Result<(), Fail> {
     for script in [EARLY, STALE, LIFTED] {
         let table: VersionTable<Brand> = VersionTable::new(rt.alloc())?;
-        let keys = kept_keys(&rt)?;
+        let keys = all_keys(&rt)?;
         let mut store = EntryStore::new(rt.alloc(), FIRST, LINES as usize)?;
         play(&rt, &table, keys.as_slice(), &mut store, script)?;
     }

@@ -1,6 +1,6 @@
 //! Lines on the records that they meet, in the order in which they ask for them, and that nothing is asked needlessly.
 
-/// Each line as it meets records of other lines, which may not have come to their end.
+/// Each line as it meets records of other lines, which may not be at their end.
 pub const MET: &str = "
 # a patron enable on the base
 patron P1: patron, Ann, A, N, -, -

@@ -1,27 +1,27 @@
--- A device of proofs: how the lines of a column are kept, and where a line stands among them.
+-- A device of proofs: how the lines of a column are stored, and the position of a line among them.
 use Rattle.std.specs.Prelude.{◌≡◌, ◌++◌, ℕ, ◌<◌, ◌≤◌, List, Option, length, option_to_list, slice_index_or}
 use Rattle.std.specs.List.{AllPairs}
 
--- older lines, and the newest behind them
+-- older lines, and the newest after them
 abbrev pub all_of : List ℕ → Option ℕ → List ℕ
 all_of older newest = older ++ option_to_list newest
 
--- each line is below those behind it
+-- each line is below those after it
 abbrev pub Rising : List ℕ → Type 0
 Rising column = AllPairs (λ m n. m < n) column
 
--- the line stands at the position
+-- the line is at the position
 pub record StandsAt (column : List ℕ) (line i : ℕ) : Type 0 where
   pub within : i < length column
   pub same : slice_index_or column i 0 ≡ line
 
--- it doesn't stand there, and goes to the position
+-- it isn't there, and goes to the position
 pub record GoesTo (column : List ℕ) (line i : ℕ) : Type 0 where
   pub within : i ≤ length column
   pub below : (j : ℕ) → j < i → slice_index_or column j 0 < line
   pub above : (j : ℕ) → i ≤ j → j < length column → line < slice_index_or column j 0
 
--- the first lines, so many, are below the line, and no other
+-- the first `count` lines are below the line, and no other
 pub record AreBelow (column : List ℕ) (line count : ℕ) : Type 0 where
   pub within : count ≤ length column
   pub below : (j : ℕ) → j < count → slice_index_or column j 0 < line

@@ -1,4 +1,4 @@
--- A device of proofs: how the entries of a line are kept, and where a key stands among them.
+-- A device of proofs: how the entries of a line are stored, and the position of a key among them.
 use Rattle.std.specs.Prelude.{◌≡◌, ℕ, ◌<◌, ◌≤◌, true, List, T, length, map, slice_index_or}
 use Rattle.std.specs.FinMap.{is_sorted}
 use Rattle.std.specs.declared.cmp.Ordering.TheVariants.{Less, Greater}
@@ -6,16 +6,16 @@ use Rattle.circ_records.specs.Keys.{key_cmp}
 use Rattle.circ_records.specs.declared.key.Key.{Key}
 use Rattle.version_store.specs.declared.entry.Entry.{Entry}
 
--- each key is below those behind it
+-- each key is below those after it
 abbrev pub Rise : {X : Type 0} → List (Key × X) → Type 0
 Rise es = T (is_sorted key_cmp es)
 
--- the key stands at the position
+-- the key is at the position
 pub record IsAt {X : Type 0} (es : List (Key × X)) (k : Key) (i : ℕ) : Type 0 where
   pub within : i < length es
   pub same : (d : Key × X) → (slice_index_or es i d).0 ≡ k
 
--- it doesn't stand there, and goes to the position
+-- it isn't there, and goes to the position
 pub record IsGap {X : Type 0} (es : List (Key × X)) (k : Key) (i : ℕ) : Type 0 where
   pub within : i ≤ length es
   pub below : (j : ℕ) (d : Key × X) → j < i → key_cmp (slice_index_or es j d).0 k ≡ Less

@@ -1,7 +1,7 @@
 -- A device of proofs: the list that a short list is.
 use Rattle.std.specs.Prelude.{List, [], ◌∷◌}
-use Rattle.version_store.specs.declared.short.Held.{Held}
-use Rattle.version_store.specs.declared.short.Held.TheVariants.{Nothing, One, Two, Many}
+use Rattle.version_store.specs.declared.short_list.Held.{Held}
+use Rattle.version_store.specs.declared.short_list.Held.TheVariants.{Nothing, One, Two, Many}
 
 abbrev pub listed : {T : Type 0} → Held T → List T
 listed Nothing = []

@@ -6,13 +6,11 @@ use Rattle.board_lines.proofs.publishing.is_placed.Goals as goal
 
 pub returns-in-Some : goal.returns-in-Some
 returns-in-Some g c =
-    let o = get (line_at c.args.entries.now c.args.line) c.key.result in
-    rw (← c.key.ensures) (
+    let o = get (line_at c.args.entries.now c.args.line) c.args.key.now in (
       λ h. placed_if o c.in-Some.own c.args.attempt c.in-Some.ensures (eqb-true c.in-Some.own c.args.attempt h),
       λ p. eq-eqb c.in-Some.own c.args.attempt (own_if o c.in-Some.own c.args.attempt c.in-Some.ensures p),
     )
 
 pub returns-in-None : goal.returns-in-None
 returns-in-None g c =
-    let o = get (line_at c.args.entries.now c.args.line) c.key.result in
-    rw (← c.key.ensures) (λ h. absurd (cc), λ p. absurd (none_if_none o c.args.attempt c.in-None.ensures p))
+    let o = get (line_at c.args.entries.now c.args.line) c.args.key.now in (λ h. absurd (cc), λ p. absurd (none_if_none o c.args.attempt c.in-None.ensures p))

@@ -14,4 +14,4 @@ returns g c =
     let n = c.in-Some-seen.seen in
     let note : Key → Option Record → Note = λ key found. record { key = key; name = n.name; found = found } in
     let found : c.new-found.result ≡ found_by base k (option_map contents_at n.place) = c.new-found.ensures ∙ c.in_ok-copied.ensures ∙ c.record_seen.ensures in
-    ap₂ (λ q x. Some (note q x)) c.in_ok-new.ensures found ∙ sym (nth_note base c.args.noted.now c.args.i k (n.name, option_map contents_at n.place) c.in-Some.ensures c.in-Some-seen.ensures)
+    ap₂ (λ q x. Some (note q x)) c.in_ok-clone.ensures.cases found ∙ sym (nth_note base c.args.noted.now c.args.i k (n.name, option_map contents_at n.place) c.in-Some.ensures c.in-Some-seen.ensures)

@@ -6,5 +6,5 @@ use Rattle.board_lines.proofs.same.same_key.Goals as goal
 
 pub returns : goal.returns
 returns c =
-    let e : c.is.result ≡ eq_by_cmp key_cmp c.args.key.now c.args.kept.now = search rules in
-    (λ h. sym (key_same c.args.key.now c.args.kept.now (sym e ∙ h)), λ h. e ∙ same_tie c.args.key.now c.args.kept.now (sym h))
+    let e : c.eq.result ≡ eq_by_cmp key_cmp c.args.b.now c.args.a.now = search rules in
+    (λ h. key_same c.args.b.now c.args.a.now (sym e ∙ h), λ h. e ∙ same_tie c.args.b.now c.args.a.now h)

@@ -8,7 +8,7 @@ use Rattle.circ_policy.specs.Reading.{class_in, entries}
 use Rattle.circ_policy.proofs.Entries.{with_front}
 use Rattle.circ_policy.proofs.sections.class_entries.Given as goal
 
--- what is left stands behind what was read, and the names rise
+-- what is left comes after what was read, and the names rise
 abbrev pub invariant-loop-name : goal.invariant-loop-name
 invariant-loop-name l =
     record {

@@ -4,8 +4,12 @@ use Rattle.circ_records.specs.Records.{Entries, record_at}
 use Rattle.circ_records.proofs.Entering.{same-entries}
 use Rattle.circ_records.proofs.CoherentBase.{coherent-rows, told-kinds}
 use Rattle.circ_records.proofs.FirstBroken.{none-broken}
+use Rattle.circ_records.proofs.Positions.{rises-empty}
 use Rattle.circ_records.proofs.Stopped.{in-closed, in-fees, in-holds, in-items, in-loans, in-patrons, still-stops}
 use Rattle.circ_records.proofs.base.records_of.Goals as goal
+
+pub from_list-listed-requires : goal.from_list-listed-requires
+from_list-listed-requires c = rw c.in_ok-listed.ensures rises-empty
 
 pub returns-in_err-add_patrons-clause-err : goal.returns-in_err-add_patrons-clause-err
 returns-in_err-add_patrons-clause-err c =
@@ -36,15 +40,15 @@ returns-clause-ok c =
     none-broken c.args.policy.now c.args.first (rows_in c.args.tables.now) c.in_ok-add_patrons.ensures.ok c.in_ok-add_items.ensures.ok c.in_ok-add_loans.ensures.ok c.in_ok-add_fees.ensures.ok c.in_ok-add_closed.ensures.ok c.in_ok-add_holds.ensures.ok
 
 pub returns-clause-told : goal.returns-clause-told
-returns-clause-told c = same-entries (rows_in c.args.tables.now) c.in_ok-records.records.items c.in_ok-records.ensures.rising (λ k. ap (λ (es : Entries). record_at es k) c.in_ok-records.ensures.same ∙ c.in_ok-add_holds.ensures.told k)
+returns-clause-told c = same-entries (rows_in c.args.tables.now) c.in_ok-records.records.entries.items c.in_ok-records.ensures.rising (λ k. ap (λ (es : Entries). record_at es k) c.in_ok-records.ensures.same ∙ c.in_ok-add_holds.ensures.told k)
 
 pub returns-clause-coherent : goal.returns-clause-coherent
 returns-clause-coherent c =
-    coherent-rows c.args.policy.now c.args.first (rows_in c.args.tables.now) (record_at c.in_ok-records.records.items)
+    coherent-rows c.args.policy.now c.args.first (rows_in c.args.tables.now) (record_at c.in_ok-records.records.entries.items)
     c.in_ok-add_patrons.ensures.ok c.in_ok-add_items.ensures.ok c.in_ok-add_loans.ensures.ok c.in_ok-add_fees.ensures.ok c.in_ok-add_closed.ensures.ok c.in_ok-add_holds.ensures.ok
     (λ k. ap (λ (es : Entries). record_at es k) c.in_ok-records.ensures.same ∙ c.in_ok-add_holds.ensures.told k)
 
 pub returns-clause-kinds : goal.returns-clause-kinds
 returns-clause-kinds c =
-    told-kinds (rows_in c.args.tables.now) (record_at c.in_ok-records.records.items)
+    told-kinds (rows_in c.args.tables.now) (record_at c.in_ok-records.records.entries.items)
     (λ k. ap (λ (es : Entries). record_at es k) c.in_ok-records.ensures.same ∙ c.in_ok-add_holds.ensures.told k)

@@ -3,7 +3,7 @@ use Rattle.circ_records.specs.Writing.{HasWidth, with_rows}
 use Rattle.circ_records.specs.Written.{listed_fees}
 use Rattle.circ_records.proofs.fee_rows.write_fees.Given as goal
 
--- what is written so far, with the rest of the list behind it, is all of it
+-- what is written so far, with the rest of the list after it, is all of it
 abbrev pub invariant-loop-fee : goal.invariant-loop-fee
 invariant-loop-fee l = record {
   wide : HasWidth 5 l.text;

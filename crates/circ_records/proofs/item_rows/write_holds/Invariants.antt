@@ -3,7 +3,7 @@ use Rattle.circ_records.specs.Writing.{HasWidth, with_rows}
 use Rattle.circ_records.specs.Written.{queued}
 use Rattle.circ_records.proofs.item_rows.write_holds.Given as goal
 
--- what is written so far, with the rest of the queue behind it, is all of it
+-- what is written so far, with the rest of the queue after it, is all of it
 abbrev pub invariant-loop-hold : goal.invariant-loop-hold
 invariant-loop-hold l = record {
   wide : HasWidth 3 l.text;

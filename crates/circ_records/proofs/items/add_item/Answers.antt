@@ -4,8 +4,7 @@ use Rattle.std.specs.Ordering.{eq_by_cmp}
 use Rattle.csv.specs.Records.{fields_of}
 use Rattle.circ_records.specs.Keys.{key_cmp}
 use Rattle.circ_records.specs.Records.{record_at}
-use Rattle.circ_records.specs.Tables.{field}
-use Rattle.circ_records.specs.declared.key.Key.{Key}
+use Rattle.circ_records.specs.Tables.{Row, field}
 use Rattle.circ_records.specs.declared.key.Key.TheVariants as key
 use Rattle.std.proofs.lemmas.Result.{IfOk-weaker}
 use Rattle.circ_records.proofs.Lookups.{is_some-map}
@@ -15,8 +14,8 @@ use Rattle.circ_records.proofs.items.add_item.Goals as goal
 pub returns-clause-told : goal.returns-clause-told
 returns-clause-told c = IfOk-weaker c.put_rising.result _ _ (λ done put r before tells fresh.
     tells-item r before (fields_of c.args.row.now) c.args.records.now c.put_rising.new.self c.in_ok-told.told tells fresh (c.in_ok-told.ensures ∙ c.in_ok-item.ensures)
-    (λ q. put q ∙ ap (λ (k : Key). cond (eq_by_cmp key_cmp k q) (Some c.in_ok-told.told) (record_at c.args.records.now q)) c.requires.key)) c.put_rising.ensures.put
+    (λ q. put q ∙ ap (λ k. cond (eq_by_cmp key_cmp (key.Item k) q) (Some c.in_ok-told.told) (record_at c.args.records.now q)) c.requires.id)) c.put_rising.ensures.put
 
 pub returns-clause-double : goal.returns-clause-double
 returns-clause-double c = IfOk-weaker c.put_rising.result _ _ (λ double is r t.
-    is ∙ ap is_some (ap (λ (k : Key). record_at c.args.records.now k) c.requires.key ∙ t (key.Item (field 0 (fields_of c.args.row.now)))) ∙ is_some-map _ _) c.put_rising.ensures.double
+    is ∙ ap is_some (ap (λ k. record_at c.args.records.now (key.Item k)) c.requires.id ∙ t (key.Item (field 0 (fields_of c.args.row.now)))) ∙ is_some-map _ _) c.put_rising.ensures.double

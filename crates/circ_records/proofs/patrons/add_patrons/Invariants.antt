@@ -9,7 +9,7 @@ use Rattle.circ_records.proofs.Broken.{KeepsUpTo}
 use Rattle.circ_records.proofs.Reading.{IsAt}
 use Rattle.circ_records.proofs.patrons.add_patrons.Given as goal
 
--- where all is a table, no row so far breaks a rule, and the records are those that they tell
+-- where all is a table, no row so far breaks a rule, and the records are those that they give
 abbrev pub invariant-loop-row : goal.invariant-loop-row
 invariant-loop-row l = record {
   named : l.rows.table ≡ table.Patrons;

@@ -8,7 +8,7 @@ use Rattle.circ_records.proofs.Broken.{KeepsUpTo}
 use Rattle.circ_records.proofs.Reading.{IsAt}
 use Rattle.circ_records.proofs.queues.add_holds.Given as goal
 
--- where all is a table, no row so far breaks a rule, and the map has the records that they tell
+-- where all is a table, no row so far breaks a rule, and the map has the records that they give
 abbrev pub invariant-loop-waiting : goal.invariant-loop-waiting
 invariant-loop-waiting l = record {
   named : l.rows.table ≡ table.Holds;

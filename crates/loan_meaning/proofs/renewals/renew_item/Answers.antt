@@ -18,7 +18,7 @@ returns-in_err-article-clause-gives g c =
 pub returns-clause-gives : goal.returns-clause-gives
 unfolding renew_rule
 returns-clause-gives g c =
-    let third = rw c.ask_renew-a.ensures at c.renew_both.ensures.gives in
+    let third = rw c.in_ok-ask_renew.ensures at c.renew_both.ensures.gives in
     goes_on _ _ (patron_at c.args.policy.now c.args.request.now.patron) _ c.in_ok-member.member _ (λ k r e. c.renew_both.ensures.keeps.grows k r (c.in_ok-article.ensures.keeps.grows k r e)) c.in_ok-member.ensures.gives
     (goes_on _ _ (item_at c.args.policy.now c.args.request.now.item) (λ item. renew_rule_known c.args.policy.now c.args.n (by_renew c.args.request.now) c.args.date c.in_ok-member.member item) c.in_ok-article.article _
     c.renew_both.ensures.keeps.grows c.in_ok-article.ensures.gives third)
@@ -37,7 +37,7 @@ returns-in_err-article-clause-keeps g c =
 pub returns-clause-keeps : goal.returns-clause-keeps
 unfolding renew_rule
 returns-clause-keeps g c =
-    let third = rw c.ask_renew-a.ensures at c.renew_both.ensures.keeps in
+    let third = rw c.in_ok-ask_renew.ensures at c.renew_both.ensures.keeps in
     gains_then _ _ _ (patron_at c.args.policy.now c.args.request.now.patron) _ c.in_ok-member.member c.in_ok-member.ensures.gives c.in_ok-member.ensures.keeps
     (gains_then _ _ _ (item_at c.args.policy.now c.args.request.now.item) (λ item. renew_rule_known c.args.policy.now c.args.n (by_renew c.args.request.now) c.args.date c.in_ok-member.member item) c.in_ok-article.article c.in_ok-article.ensures.gives c.in_ok-article.ensures.keeps third)
 

@@ -1,8 +1,5 @@
-use Rattle.std.proofs.Common.{◌≡◌, ◌++◌, length}
+use Rattle.std.proofs.Common.{◌≡◌, take}
 use Rattle.read_set.proofs.sorted.map_of.Given as goal
 
-abbrev pub invariant-loop-kept : goal.invariant-loop-kept
-invariant-loop-kept l = l.left.items ++ l.map.entries ≡ l.fn.entries.items
-
-abbrev pub decreases-loop-kept : goal.decreases-loop-kept
-decreases-loop-kept l = length l.left.items
+abbrev pub invariant-loop-entry : goal.invariant-loop-entry
+invariant-loop-entry l = l.map.entries ≡ take l.entry-index l.entries

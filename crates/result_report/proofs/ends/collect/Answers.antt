@@ -1,4 +1,4 @@
-use Rattle.std.proofs.Common.{◌≡◌, ◌∙◌, map, ap}
+use Rattle.std.proofs.Common.{◌∙◌, map, ap}
 use Rattle.result_report.proofs.Collected.{numbers}
 use Rattle.result_report.proofs.ends.collect.Goals as goal
 

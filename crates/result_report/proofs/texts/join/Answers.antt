@@ -11,7 +11,7 @@ nothing-left : {X : Type 0} (l : List X) → length l ≡ 0 → l ≡ []
 nothing-left [] h = refl
 nothing-left (x ∷ xs) h = absurd (omega arith)
 
--- what stands behind some items
+-- what follows some items
 at-length : {X : Type 0} (xs : List X) (y : X) (ys : List X) → slice_get (xs ++ y ∷ ys) (length xs) ≡ Some y
 at-length [] y ys = refl
 at-length (x ∷ xs) y ys = at-length xs y ys

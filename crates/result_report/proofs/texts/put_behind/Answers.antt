@@ -6,7 +6,7 @@ use Rattle.std.specs.Slice.{IsGetRangeResult}
 use Rattle.std.proofs.lemmas.List.{drop_all, length-drop, take_all}
 use Rattle.result_report.proofs.texts.put_behind.Goals as goal
 
--- what stands behind a head, or nothing
+-- what follows a header, or nothing
 rest : (more : List ℕ) (head : ℕ) (got : Option (Bor (List ℕ))) (none : Bor (List ℕ)) → IsGetRangeResult more head (length more) got → none.now ≡ [] → (unwrap_or got none).now ≡ drop head more
 rest more head None none lookup empty = elim lookup.0 [
   | inl past ↦ empty ∙ sym (drop_all head more (omega (arith, past)))

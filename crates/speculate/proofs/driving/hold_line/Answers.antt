@@ -1,4 +1,4 @@
-use Rattle.std.proofs.Common.{◌≡◌, Some, None, subst}
+use Rattle.std.proofs.Common.{Some, subst}
 use Rattle.speculate.specs.Devices.Phases.{IsBegun}
 use Rattle.speculate.proofs.Drives.{runs_on, stop_halts}
 use Rattle.speculate.proofs.Phases.{spares_on}

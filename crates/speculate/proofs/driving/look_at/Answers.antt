@@ -27,13 +27,13 @@ returns-in_err-add-clause-fault g c =
     let p = err_from_is_err_and c.from_residual-in_err-add.result c.from_residual-in_err-add.ensures.1 in
     rw (p.1, p.2) (seen_stops g.J.PlanName.plan c.args.board.now c.look.new.self c.args.line c.args.notes.now c.args.key.now c.in-Seen.name c.in-Seen.place c.requires.reads c.in-Seen.ensures)
 
-pub returns-in_err-new-clause-fault : goal.returns-in_err-new-clause-fault
-returns-in_err-new-clause-fault g c =
-    let p = err_from_is_err_and c.from_residual-in_err-new.result c.from_residual-in_err-new.ensures.1 in
+pub returns-in_err-clone-clause-fault : goal.returns-in_err-clone-clause-fault
+returns-in_err-clone-clause-fault g c =
+    let p = err_from_is_err_and c.from_residual-in_err-clone.result c.from_residual-in_err-clone.ensures.1 in
     rw (p.1, p.2) (seen_stops g.J.PlanName.plan c.args.board.now c.look.new.self c.args.line c.args.notes.now c.args.key.now c.in-Seen.name c.in-Seen.place c.requires.reads c.in-Seen.ensures)
 
-pub returns-in_err-new-clause-led : goal.returns-in_err-new-clause-led
-returns-in_err-new-clause-led g c =
+pub returns-in_err-clone-clause-led : goal.returns-in_err-clone-clause-led
+returns-in_err-clone-clause-led g c =
     drives {J = g.row.J.Denot} g.J.PlanName.plan c.args.line c.args.board.now c.look.new.self (Look 0 c.args.key.now) (replies.Seen c.in-Seen.name c.in-Seen.place) tt
     (look_for g.J.PlanName.plan c.args.board.now c.args.line c.requires.reads.goes.stands c.args.key.now) tt c.in-Seen.ensures
 
@@ -57,7 +57,7 @@ returns-clause-reads g c =
     let is : c.new-found.result ≡ found_by plan.base k (option_map contents_at place) =
     c.new-found.ensures ∙ c.in_ok-found.ensures ∙ c.record_seen.ensures ∙ ap (λ (p : Planned). found_by p.base k (option_map contents_at place)) c.plan-plan.ensures.plan in
     let noted : c.add.new.self ≡ notes ++ record { key = k; name = name; found = found_by plan.base k (option_map contents_at place) } ∷ [] =
-    c.in_ok-add.ensures.ok ∙ ap₂ (λ (q : Key) (f : Option Record). notes ++ record { key = q; name = name; found = f } ∷ []) c.in_ok-new.ensures is in
+    c.in_ok-add.ensures.ok ∙ ap₂ (λ (q : Key) (f : Option Record). notes ++ record { key = q; name = name; found = f } ∷ []) c.in_ok-clone.ensures.cases is in
     subst (λ (ns : List Note). Reads plan c.look.new.self c.args.line ns) (sym noted)
     (look_seen plan c.args.board.now c.look.new.self c.args.line notes k name place c.requires.reads c.in-Seen.ensures).0
 
@@ -69,8 +69,8 @@ returns-clause-led g c =
 pub returns-clause-keys : goal.returns-clause-keys
 returns-clause-keys g c =
     ap (λ (ns : List Note). map (λ (n : Note). n.key) ns) c.in_ok-add.ensures.ok
-    ∙ keys_more c.args.notes.now (record { key = c.in_ok-new.field-0; name = c.in-Seen.name; found = c.new-found.result })
-    ∙ ap (λ (q : Key). map (λ (n : Note). n.key) c.args.notes.now ++ q ∷ []) c.in_ok-new.ensures
+    ∙ keys_more c.args.notes.now (record { key = c.in_ok-clone.field-0; name = c.in-Seen.name; found = c.new-found.result })
+    ∙ ap (λ (q : Key). map (λ (n : Note). n.key) c.args.notes.now ++ q ∷ []) c.in_ok-clone.ensures.cases
 
 pub returns-clause-next : goal.returns-clause-next
 returns-clause-next g c =

@@ -1,13 +1,10 @@
-use Rattle.std.proofs.Common.{◌++◌, ◌∷◌, ◌∙◌, [], List, ap, map, sym}
-use Rattle.circ_records.specs.declared.key.Key.{Key}
-use Rattle.read_set.specs.declared.notes.Note.{Note}
+use Rattle.std.proofs.Common.{◌++◌, ◌∷◌, ◌∙◌, [], ap, sym}
 use Rattle.speculate.proofs.Drives.{drives_on, next_keys, next_unnoted}
 use Rattle.speculate.proofs.driving.look_at_each.Goals as goal
 
 pub look_at-requires-clause-fresh : goal.look_at-requires-clause-fresh
 look_at-requires-clause-fresh g c =
-    rw c.key.ensures
-    (next_unnoted c.loop-note.notes c.args.asked.now c.loop-note.note-index c.note-item.result c.loop-note.invariant.keys c.requires.once c.loop-note-test.true c.note-item.is)
+    next_unnoted c.loop-note.notes c.args.asked.now c.loop-note.note-index c.note-item.result c.loop-note.invariant.keys c.requires.once c.loop-note-test.true c.note-item.is
 
 pub loop-note-preserved : goal.loop-note-preserved
 loop-note-preserved g c = record {
@@ -16,8 +13,7 @@ loop-note-preserved g c = record {
   led = drives_on g.J.PlanName.plan c.args.line c.args.board.now c.loop-note.board c.look_at.new.board c.loop-note.invariant.led c.look_at.ensures.led;
   keys =
       c.in_ok-look_at.ensures.keys
-      ∙ ap (λ (q : Key). map (λ (n : Note). n.key) c.loop-note.notes ++ q ∷ []) c.key.ensures
-      ∙ ap (λ (ks : List Key). ks ++ c.note-item.result.key ∷ []) c.loop-note.invariant.keys
+      ∙ ap (λ ks. ks ++ c.note-item.result.key ∷ []) c.loop-note.invariant.keys
       ∙ sym (next_keys c.args.asked.now c.loop-note.note-index c.note-item.result c.loop-note-test.true c.note-item.is);
 }
 

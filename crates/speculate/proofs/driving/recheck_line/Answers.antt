@@ -1,6 +1,4 @@
-use Rattle.std.proofs.Common.{List}
 use Rattle.board_steps.specs.Steps.Call.{Check}
-use Rattle.board_lines.specs.declared.reply.Reply.TheVariants as replies
 use Rattle.speculate.proofs.Drives.{check_halts, led, recheck_other, runs_none, runs_on}
 use Rattle.speculate.proofs.Phases.{changed_waits, checked_goes, done_checks, same_checks}
 use Rattle.speculate.proofs.driving.recheck_line.Goals as goal

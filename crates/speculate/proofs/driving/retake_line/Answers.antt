@@ -1,4 +1,4 @@
-use Rattle.std.proofs.Common.{◌≡◌, true, false, subst}
+use Rattle.std.proofs.Common.{false, subst}
 use Rattle.speculate.specs.Devices.Phases.{IsRechecked}
 use Rattle.speculate.proofs.Drives.{begun_again, runs_on}
 use Rattle.speculate.proofs.driving.retake_line.Goals as goal

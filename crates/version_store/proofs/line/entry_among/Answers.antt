@@ -9,14 +9,14 @@ use Rattle.version_store.proofs.line.entry_among.Goals as goal
 pub loop-i-init : goal.loop-i-init
 loop-i-init g c = refl
 
-pub returns-then-is : goal.returns-then-is
-returns-then-is g c =
+pub returns-then-eq : goal.returns-then-eq
+returns-then-eq g c =
     let es = keyed c.args.entries.now in
     let e = c.index.result.now in
     let i = c.loop-i.i in
     let lt : i < length c.args.entries.now = omega (arith, c.loop-i-test.true, c.len-i-end.ensures) in
     let more : drop i es ≡ (e.0.now, e.1) ∷ drop (i + 1) es = keyed_more c.args.entries.now i e lt c.index.ensures in
-    sym (c.loop-i.invariant ∙ found_next (drop i es) (drop (i + 1) es) c.args.key.now (e.0.now, e.1) more (sym c.is.ensures ∙ c.if-is.true))
+    sym (c.loop-i.invariant ∙ found_next (drop i es) (drop (i + 1) es) c.args.key.now (e.0.now, e.1) more (sym c.eq.ensures ∙ c.if-eq.true))
 
 pub loop-i-preserved : goal.loop-i-preserved
 loop-i-preserved g c =
@@ -25,7 +25,7 @@ loop-i-preserved g c =
     let i = c.loop-i.i in
     let lt : i < length c.args.entries.now = omega (arith, c.loop-i-test.true, c.len-i-end.ensures) in
     let more : drop i es ≡ (e.0.now, e.1) ∷ drop (i + 1) es = keyed_more c.args.entries.now i e lt c.index.ensures in
-    c.loop-i.invariant ∙ missed_next (drop i es) (drop (i + 1) es) c.args.key.now (e.0.now, e.1) more (sym c.is.ensures ∙ c.if-is.false)
+    c.loop-i.invariant ∙ missed_next (drop i es) (drop (i + 1) es) c.args.key.now (e.0.now, e.1) more (sym c.eq.ensures ∙ c.if-eq.false)
 
 pub returns : goal.returns
 returns g c =

@@ -4,6 +4,6 @@ use Rattle.circ_records.specs.Keys.{key_cmp}
 use Rattle.version_store.specs.Entries.{keyed}
 use Rattle.version_store.proofs.line.entry_among.Given as goal
 
--- what stands at the key stands behind the entries so far
+-- the entry of the key, if any, is after the entries so far
 abbrev pub invariant-loop-i : goal.invariant-loop-i
 invariant-loop-i g l = find key_cmp l.key (keyed l.entries) ≡ find key_cmp l.key (drop l.i (keyed l.entries))

@@ -3,11 +3,10 @@ use Rattle.std.specs.Prelude.{List, option_map, slice_get}
 use Rattle.circ_records.specs.declared.key.Key.{Key}
 use Rattle.read_set.specs.declared.notes.Name.{Name}
 use Rattle.read_set.specs.declared.notes.Note.{Note}
-use Rattle.version_store.specs.declared.entry.Found.TheVariants.{Named}
 use Rattle.board_steps.specs.Board.{row_at}
 use Rattle.board_lines.specs.Hands.{notes_of}
 use Rattle.board_lines.specs.Notes.{key_and_name}
-use Rattle.board_lines.proofs.Checks.{check_notes, is_same, is_other, names_here, names_past, names_there, note_past}
+use Rattle.board_lines.proofs.Checks.{check_notes, is_same, is_other, names_past, names_there, note_past}
 use Rattle.board_lines.proofs.lines.Lines.check.Goals as goal
 
 pub end_check-requires : goal.end_check-requires
@@ -39,12 +38,11 @@ send_back-requires g c =
     let n = c.args.line in
     let i = c.in-Some.compared in
     let now = c.in-Some-names_at.found in
-    let key = c.in-Some-note_at.key in
-    let name = c.in-Some-note_at.noted in
+    let noted = c.in-Some-names_at.noted in
     let o : Option (Key × Name) = option_map key_and_name (slice_get (notes_of (row_at b n).state) i) in
-    let x = names_here b n o c.in-Some-names_at.noted now key name c.in-Some-names_at.ensures.names c.in-Some-note_at.ensures in
-    is_other b c.args.worker n c.in-Some.ensures.0 c.in-Some.ensures.1 c.in-Some.stamp i key name now c.in-Some.ensures.2 c.in-Some-note_at.ensures x.1
-    (λ e. (let z : true ≡ false = sym (c.is_named.ensures.1 (e ∙ ap Named (sym x.0))) ∙ c.if-is_named.false in cc))
+    let x = names_there b n o noted now c.in-Some-names_at.ensures.names in
+    is_other b c.args.worker n c.in-Some.ensures.0 c.in-Some.ensures.1 c.in-Some.stamp i x.0 noted now c.in-Some.ensures.2 x.1 x.2
+    (λ e. (let z : true ≡ false = sym (c.is_named.ensures.1 e) ∙ c.if-is_named.false in cc))
 
 pub returns-in_default : goal.returns-in_default
 returns-in_default g c = (c.in_default.ensures, refl)

@@ -68,7 +68,7 @@ lift-requires g c =
     let fit : Fits b n (notes_at b n) v = c.requires.fits in
     let act : AllPlaced (row_at b n) v × IsNextLeft (row_at b n) v c.in-Lift.key.now = subst (IsAct (row_at b n) v) c.in-Lift.is c.act-act.ensures.act in
     let room : HasRoom b = c.has_room.ensures.0 c.if-not-has_room.false in
-    record { may = may; fits = fit; version = c.requires.version; all = act.0; next = rw (c.key.ensures) act.1; room = room }
+    record { may = may; fits = fit; version = c.requires.version; all = act.0; next = act.1; room = room }
 
 pub returns-in-Lift : goal.returns-in-Lift
 returns-in-Lift g c =
@@ -80,7 +80,7 @@ returns-in-Lift g c =
     let fit : Fits b n (notes_at b n) v = c.requires.fits in
     let act : AllPlaced (row_at b n) v × IsNextLeft (row_at b n) v c.in-Lift.key.now = subst (IsAct (row_at b n) v) c.in-Lift.is c.act-act.ensures.act in
     let room : HasRoom b = c.has_room.ensures.0 c.if-not-has_room.false in
-    (n, notes_at b n, may, fit, act.0, c.in-Lift.key.now, act.1, room, rw (← c.key.ensures) c.lift.ensures)
+    (n, notes_at b n, may, fit, act.0, c.in-Lift.key.now, act.1, room, c.lift.ensures)
 
 pub place-requires : goal.place-requires
 place-requires g c =

@@ -1,7 +1,6 @@
 use Rattle.std.proofs.Common.{◌≡◌, Some, map, sym, ap, subst, ◌∙◌}
 use Rattle.std.proofs.lemmas.Option.{slice_get_within}
 use Rattle.read_set.specs.Plans.{Planned}
-use Rattle.board_steps.specs.Board.{Board, row_at, holder}
 use Rattle.board_lines.specs.Hands.{AreWorkers}
 use Rattle.board_lines.specs.Parts.{Parts, IsKept, board_of, row_shown}
 use Rattle.board_lines.proofs.lines.Lines.workers.Goals as goal

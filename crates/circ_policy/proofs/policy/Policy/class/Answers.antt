@@ -9,7 +9,7 @@ use Rattle.circ_policy.specs.declared.class.Class.{Class}
 use Rattle.circ_policy.proofs.Names.{found, missing}
 use Rattle.circ_policy.proofs.policy.Policy.class.Goals as goal
 
--- the closure tells how the name of an entry goes against the one that is looked for
+-- the closure compares the name of an entry with the one that is looked for
 pub returns-in-Ok : goal.returns-in-Ok
 unfolding class_of
 returns-in-Ok c =

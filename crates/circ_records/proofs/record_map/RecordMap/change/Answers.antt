@@ -8,37 +8,37 @@ use Rattle.circ_records.proofs.Changing.{changed-there, on-err, same-there, some
 use Rattle.circ_records.proofs.Positions.{changed-second, held, in-second, missing, put-at, rises-first, there-before}
 use Rattle.circ_records.proofs.record_map.RecordMap.change.Goals as goal
 
-pub position_in-requires : goal.position_in-requires
-position_in-requires c = rw c.as_slice.ensures.value (rises-first c.self.inside.listed.items c.self.inside.placed.entries c.self.invariant)
+pub position-requires : goal.position-requires
+position-requires c = (rises-first c.self.inside.listed.entries.items c.self.inside.mapped.entries c.self.invariant)
 
 -- ---- the key is listed
 
 pub index_mut-requires : goal.index_mut-requires
 index_mut-requires c =
-    let at : position_from 0 c.args.key c.self.inside.listed.items ≡ Ok c.in-Ok.position = ap (position_from 0 c.args.key) (sym c.as_slice.ensures.value) ∙ sym c.position_in.ensures ∙ c.in-Ok.is in
-    let within = (held c.self.inside.listed.items c.args.key c.in-Ok.position at).0 in
-    omega (arith, within, ap length c.as_slice.ensures.value, c.as_slice.ensures.len)
+    let at : position_from 0 c.args.key c.self.inside.listed.entries.items ≡ Ok c.in-Ok.position = ap (λ (k : Key). position_from 0 k c.self.inside.listed.entries.items) (sym c.as_ref.ensures) ∙ sym c.position.ensures ∙ c.in-Ok.is in
+    let within = (held c.self.inside.listed.entries.items c.args.key c.in-Ok.position at).0 in
+    omega (arith, within)
 
 pub invariant_of-self-in-Ok : goal.invariant_of-self-in-Ok
 invariant_of-self-in-Ok c =
-    let es = c.self.inside.listed.items in
-    let at : position_from 0 c.args.key es ≡ Ok c.in-Ok.position = ap (position_from 0 c.args.key) (sym c.as_slice.ensures.value) ∙ sym c.position_in.ensures ∙ c.in-Ok.is in
+    let es = c.self.inside.listed.entries.items in
+    let at : position_from 0 c.args.key es ≡ Ok c.in-Ok.position = ap (λ (k : Key). position_from 0 k es) (sym c.as_ref.ensures) ∙ sym c.position.ensures ∙ c.in-Ok.is in
     let same : c.index_mut.result.now.0 ≡ c.args.key = ap (λ (e : Key × Record). e.0) c.index_mut.ensures.value ∙ (held es c.args.key c.in-Ok.position at).1 c.index_mut.result.now in
-    (put-at es c.self.inside.placed.entries c.args.key c.index_mut.result.now.0 c.apply.new.target c.in-Ok.position c.self.invariant at same).rising
+    (put-at es c.self.inside.mapped.entries c.args.key c.index_mut.result.now.0 c.apply.new.target c.in-Ok.position c.self.invariant at same).rising
 
 pub returns-in-Ok-clause-rule : goal.returns-in-Ok-clause-rule
 returns-in-Ok-clause-rule c =
-    let es = c.self.inside.listed.items in
-    let at : position_from 0 c.args.key es ≡ Ok c.in-Ok.position = ap (position_from 0 c.args.key) (sym c.as_slice.ensures.value) ∙ sym c.position_in.ensures ∙ c.in-Ok.is in
-    let there : record_at (es ++ c.self.inside.placed.entries) c.args.key ≡ Some c.index_mut.result.now.1 =
-    there-before es c.self.inside.placed.entries c.args.key c.in-Ok.position c.index_mut.result.now at ∙ ap (λ (e : Key × Record). Some e.1) (sym c.index_mut.ensures.value) in
+    let es = c.self.inside.listed.entries.items in
+    let at : position_from 0 c.args.key es ≡ Ok c.in-Ok.position = ap (λ (k : Key). position_from 0 k es) (sym c.as_ref.ensures) ∙ sym c.position.ensures ∙ c.in-Ok.is in
+    let there : record_at (es ++ c.self.inside.mapped.entries) c.args.key ≡ Some c.index_mut.result.now.1 =
+    there-before es c.self.inside.mapped.entries c.args.key c.in-Ok.position c.index_mut.result.now at ∙ ap (λ (e : Key × Record). Some e.1) (sym c.index_mut.ensures.value) in
     rw (← c.self.view_is) (c.in_ok-broken.ensures.rule ∙ ap (broken_by c.args.what) (sym there))
 
 pub returns-in-Ok-clause-ok : goal.returns-in-Ok-clause-ok
 returns-in-Ok-clause-ok c = λ none.
-    let es = c.self.inside.listed.items in
-    let fs = c.self.inside.placed.entries in
-    let at : position_from 0 c.args.key es ≡ Ok c.in-Ok.position = ap (position_from 0 c.args.key) (sym c.as_slice.ensures.value) ∙ sym c.position_in.ensures ∙ c.in-Ok.is in
+    let es = c.self.inside.listed.entries.items in
+    let fs = c.self.inside.mapped.entries in
+    let at : position_from 0 c.args.key es ≡ Ok c.in-Ok.position = ap (λ (k : Key). position_from 0 k es) (sym c.as_ref.ensures) ∙ sym c.position.ensures ∙ c.in-Ok.is in
     let same : c.index_mut.result.now.0 ≡ c.args.key = ap (λ (e : Key × Record). e.0) c.index_mut.ensures.value ∙ (held es c.args.key c.in-Ok.position at).1 c.index_mut.result.now in
     let there : record_at (es ++ fs) c.args.key ≡ Some c.index_mut.result.now.1 =
     there-before es fs c.args.key c.in-Ok.position c.index_mut.result.now at ∙ ap (λ (e : Key × Record). Some e.1) (sym c.index_mut.ensures.value) in
@@ -49,18 +49,18 @@ returns-in-Ok-clause-ok c = λ none.
 
 pub returns-in_default-get_mut-clause-rule : goal.returns-in_default-get_mut-clause-rule
 returns-in_default-get_mut-clause-rule c =
-    let es = c.self.inside.listed.items in
-    let fs = c.self.inside.placed.entries in
-    let at : position_from 0 c.args.key es ≡ Err c.in_default.field-0 = ap (position_from 0 c.args.key) (sym c.as_slice.ensures.value) ∙ sym c.position_in.ensures ∙ c.in_default.is in
+    let es = c.self.inside.listed.entries.items in
+    let fs = c.self.inside.mapped.entries in
+    let at : position_from 0 c.args.key es ≡ Err c.in_default.field-0 = ap (λ (k : Key). position_from 0 k es) (sym c.as_ref.ensures) ∙ sym c.position.ensures ∙ c.in_default.is in
     let lacks : record_at es c.args.key ≡ None = missing 0 es c.args.key c.in_default.field-0 (rises-first es fs c.self.invariant) at in
     let none : record_at fs c.args.key ≡ None = sym c.in_default-get_mut.ensures.value in
     rw (← c.self.view_is) (c.lacks.ensures ∙ ap (broken_by c.args.what) (sym (in-second es fs c.args.key lacks ∙ none)))
 
 pub returns-in_err-broken-2-clause-err : goal.returns-in_err-broken-2-clause-err
 returns-in_err-broken-2-clause-err c = on-err c.from_residual-in_err-broken-2.result (λ q.
-    let es = c.self.inside.listed.items in
-    let fs = c.self.inside.placed.entries in
-    let at : position_from 0 c.args.key es ≡ Err c.in_default.field-0 = ap (position_from 0 c.args.key) (sym c.as_slice.ensures.value) ∙ sym c.position_in.ensures ∙ c.in_default.is in
+    let es = c.self.inside.listed.entries.items in
+    let fs = c.self.inside.mapped.entries in
+    let at : position_from 0 c.args.key es ≡ Err c.in_default.field-0 = ap (λ (k : Key). position_from 0 k es) (sym c.as_ref.ensures) ∙ sym c.position.ensures ∙ c.in_default.is in
     let lacks : record_at es c.args.key ≡ None = missing 0 es c.args.key c.in_default.field-0 (rises-first es fs c.self.invariant) at in
     let there = c.in-Some.ensures.value in
     let new = c.get_mut.follows.lender c.apply-2.new.target in
@@ -70,17 +70,17 @@ returns-in_err-broken-2-clause-err c = on-err c.from_residual-in_err-broken-2.re
 
 pub returns-clause-rule : goal.returns-clause-rule
 returns-clause-rule c =
-    let es = c.self.inside.listed.items in
-    let fs = c.self.inside.placed.entries in
-    let at : position_from 0 c.args.key es ≡ Err c.in_default.field-0 = ap (position_from 0 c.args.key) (sym c.as_slice.ensures.value) ∙ sym c.position_in.ensures ∙ c.in_default.is in
+    let es = c.self.inside.listed.entries.items in
+    let fs = c.self.inside.mapped.entries in
+    let at : position_from 0 c.args.key es ≡ Err c.in_default.field-0 = ap (λ (k : Key). position_from 0 k es) (sym c.as_ref.ensures) ∙ sym c.position.ensures ∙ c.in_default.is in
     let lacks : record_at es c.args.key ≡ None = missing 0 es c.args.key c.in_default.field-0 (rises-first es fs c.self.invariant) at in
     rw (← c.self.view_is) (c.in_ok-broken-2.ensures.rule ∙ ap (broken_by c.args.what) (c.in-Some.ensures.value ∙ sym (in-second es fs c.args.key lacks)))
 
 pub returns-clause-ok : goal.returns-clause-ok
 returns-clause-ok c = λ none.
-    let es = c.self.inside.listed.items in
-    let fs = c.self.inside.placed.entries in
-    let at : position_from 0 c.args.key es ≡ Err c.in_default.field-0 = ap (position_from 0 c.args.key) (sym c.as_slice.ensures.value) ∙ sym c.position_in.ensures ∙ c.in_default.is in
+    let es = c.self.inside.listed.entries.items in
+    let fs = c.self.inside.mapped.entries in
+    let at : position_from 0 c.args.key es ≡ Err c.in_default.field-0 = ap (λ (k : Key). position_from 0 k es) (sym c.as_ref.ensures) ∙ sym c.position.ensures ∙ c.in_default.is in
     let lacks : record_at es c.args.key ≡ None = missing 0 es c.args.key c.in_default.field-0 (rises-first es fs c.self.invariant) at in
     let there = c.in-Some.ensures.value in
     let new = c.get_mut.follows.lender c.apply-2.new.target in

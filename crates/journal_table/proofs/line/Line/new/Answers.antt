@@ -1,4 +1,4 @@
-use Rattle.journal_table.specs.Layout.{connection_len, request_len, text_of}
+use Rattle.journal_table.specs.Layout.{text_of}
 use Rattle.journal_table.proofs.Layouts.{entry_is}
 use Rattle.journal_table.proofs.line.Line.new.Goals as goal
 

@@ -21,17 +21,17 @@ returns-in_ok-put-in-Ok c =
     let line : plan.first + n ≡ c.args.line = omega (arith, c.requires.line) in
     let next : suc n ≡ c.args.line + 1 - plan.first = omega (arith, c.requires.line) in
     let old : Shelf = c.args.self in
-    let new : Shelf = record { standing = c.put.new.self; writers = c.in_ok-writers-in-Ok.writers } in
-    let kept : (j : Key) → record_at c.perform.new.source.records j ≡ record_at old.standing.records j =
-    λ j. ap (λ o. unwrap_or o None) (c.perform.ensures.keeps.grows j (record_at old.standing.records j) refl) in
+    let new : Shelf = record { live = c.put.new.self; writers = c.in_ok-writers-in-Ok.writers } in
+    let kept : (j : Key) → record_at c.perform.new.source j ≡ record_at old.live j =
+    λ j. ap (λ o. unwrap_or o None) (c.perform.ensures.keeps.grows j (record_at old.live j) refl) in
     let e : Effect = c.in-Ok.field-0 in
     let does : effect_at plan (plan.first + n) (after plan n) ≡ e =
     ap (λ l. effect_at plan l (after plan n)) line
-    ∙ followed plan c.args.line (λ k. Some (record_at c.perform.new.source.records k)) (after plan n) e
-    (λ j r at. sym (c.requires.stands.records j) ∙ sym (kept j) ∙ ap (λ o. unwrap_or o None) at) c.in-Ok.ensures.order in
+    ∙ followed plan c.args.line (λ k. Some (record_at c.perform.new.source k)) (after plan n) e
+    (λ j r at. sym (c.requires.shelf.records j) ∙ sym (kept j) ∙ ap (λ o. unwrap_or o None) at) c.in-Ok.ensures.order in
     let marked : c.as_slice.result.now ≡ e.writes = cc in
     subst (λ m. IsShelf plan m new) next
-    (passed plan n old new e c.requires.stands does
+    (passed plan n old new e c.requires.shelf does
     (λ k. c.in_ok-put-in-Ok.ensures k
     ∙ ap (λ found. option_or (record_at e.writes k) found) (kept k))
     (λ k. c.in_ok-writers-in-Ok.ensures k

@@ -9,14 +9,14 @@ pub returns : goal.returns
 returns c =
     let plan : Planned = c.args.self.now.plan.now in
     let line = c.args.self.now.next in
-    let stands : IsShelf plan (line - plan.first) c.args.self.now.shelf = c.args.self.now.stands in
+    let shelf : IsShelf plan (line - plan.first) c.args.self.now.shelf = c.args.self.now.comes in
     record {
-      holds = λ k note e. sym (stands.records k) ∙ (c.in_ok-looked.ensures.seen k note e).0;
-      names = λ k note e. (c.in_ok-looked.ensures.seen k note e).1 ∙ stands.writers k;
+      holds = λ k note e. sym (shelf.records k) ∙ (c.in_ok-looked.ensures.seen k note e).0;
+      names = λ k note e. (c.in_ok-looked.ensures.seen k note e).1 ∙ shelf.writers k;
       asked = c.in_ok-looked.ensures.asked;
       all = c.in_ok-looked.ensures.all;
       answer =
           c.in_ok-looked.ensures.answer (before plan line)
-          (agrees_seen c.args.self.now.shelf.standing.records c.args.self.now.shelf.writers.entries _ (before plan line) c.in_ok-looked.ensures.seen stands.records);
-      reason = c.in_ok-reason.ensures (before plan line) stands.records;
+          (agrees_seen c.args.self.now.shelf.live c.args.self.now.shelf.writers.entries _ (before plan line) c.in_ok-looked.ensures.seen shelf.records);
+      reason = c.in_ok-reason.ensures (before plan line) shelf.records;
     }

@@ -1,7 +1,7 @@
 use Rattle.line_origins.proofs.tracer.Tracer.see.Given as goal
 
 abbrev pub ghosts-look : goal.ghosts-look
-ghosts-look a = record { records = a.shelf.now.standing.records; writers = a.shelf.now.writers.entries }
+ghosts-look a = record { records = a.shelf.now.live; writers = a.shelf.now.writers.entries }
 
 abbrev pub ghosts-tell : goal.ghosts-tell
-ghosts-tell a = record { records = a.shelf.now.standing.records; writers = a.shelf.now.writers.entries }
+ghosts-tell a = record { records = a.shelf.now.live; writers = a.shelf.now.writers.entries }

@@ -1,6 +1,6 @@
 use Rattle.std.proofs.Common.{rules}
 use Rattle.read_set.proofs.effect.Draft.put.Goals as goal
-use Rattle.read_set.proofs.effect.Draft.put.Goals.{in-Few, in-Many}
+use Rattle.read_set.proofs.effect.Draft.put.Goals.{in-List, in-Map}
 
 pub invariant_of-self : goal.invariant_of-self
-invariant_of-self c = elim c.match-self.branch [ in-Few w ↦ search rules | in-Many w ↦ search rules ]
+invariant_of-self c = elim c.match-self.branch [ in-List w ↦ search rules | in-Map w ↦ search rules ]

@@ -3,8 +3,8 @@ use Rattle.sip_reader.specs.Texts.{fee_id}
 use Rattle.sip_reader.proofs.FeeIds.{is_id-fee}
 use Rattle.sip_reader.proofs.id.Id.of_fee.Goals as goal
 
-pub invariant_of-result : goal.invariant_of-result
+pub of_valid-requires : goal.of_valid-requires
 unfolding fee_id
-invariant_of-result c =
-    let same : c.with-2.result ≡ fee_id c.args.line c.args.k = search rules in
+of_valid-requires c =
+    let same : c.as_slice.result.now ≡ fee_id c.args.line c.args.k = search rules in
     rw same (is_id-fee c.args.line c.args.k c.ranges.line.fits c.ranges.k.fits)

@@ -1,4 +1,5 @@
-use Rattle.std.proofs.Common.{◌≡◌, ◌≤◌, ◌<◌, ◌+◌, length, ap, arith}
+use Rattle.std.proofs.Common.{◌∙◌, length, ap, subst, sym, arith}
+use Rattle.board_steps.specs.Board.{Board, IsCommitted, row_at}
 use Rattle.read_set.specs.Plans.{Planned}
 use Rattle.speculate.proofs.BoardEnds.{none_outside}
 use Rattle.speculate.proofs.end.FinishedEnd.attempt.Goals as goal
@@ -19,7 +20,8 @@ returns-then-numbers-line g c =
 pub attempt-requires : goal.attempt-requires
 attempt-requires g c =
     let first = ap (λ (p : Planned). p.first) c.plan.ensures.plan in
-    let count = ap (λ (p : Planned). length p.readings) c.plan.ensures.plan in (
+    let count = ap (λ (p : Planned). length p.readings) c.plan.ensures.plan in
+    subst (λ (b : Board). IsCommitted (row_at b c.args.line).state) (sym (c.board.view_is ∙ c.self.view_is)) (c.plan.ensures.whole c.args.line (
       omega (arith, c.if-line-numbers.false, c.numbers-numbers.ensures.start, first, c.plan.ensures.reached.first),
       omega (arith, c.if-numbers-line.false, c.numbers-numbers.ensures.end, first, count, c.plan.ensures.reached.first, c.plan.ensures.reached.all),
-    )
+    ))

@@ -1,6 +1,6 @@
-use Rattle.std.proofs.Common.{◌≡◌, ◌≤◌, ◌<◌, ◌-◌, ◌++◌, ◌∷◌, [], Some, None, ◌∙◌, ap, arith, subst, sym}
+use Rattle.std.proofs.Common.{◌≤◌, ◌<◌, ◌-◌, ◌++◌, ◌∷◌, [], ◌∙◌, arith, subst, sym}
 use Rattle.version_store.specs.Devices.Columns.{AreBelow}
-use Rattle.version_store.proofs.Rising.{front_at, last_below, newest_below, none_at_all, none_below, older_below, rising_older}
+use Rattle.version_store.proofs.Rising.{front_at, last_below, newest_below, none_below, older_below, rising_older}
 use Rattle.version_store.proofs.column.Column.latest_below.Goals as goal
 
 pub returns-then-newest-below : goal.returns-then-newest-below

@@ -8,15 +8,15 @@ pub returns-in-Ok-clause-put : goal.returns-in-Ok-clause-put
 returns-in-Ok-clause-put c =
     let parts = c.args.self.now.parts.items in
     let part = c.index_mut-part.result.now in
-    let here : c.part_of-position.result ≡ part_of c.args.key.now (length parts) = search rules in
-    let within : c.part_of-position.result < length parts = search rules in
-    let there = slice_get-get_or parts c.part_of-position.result part within ∙ ap Some (sym c.index_mut-part.ensures.value) in
-    entered parts c.part_of-position.result part c.set.new.self c.args.key.now c.args.line true here there c.in-Ok.ensures.put
+    let here : c.part_of-hash.result.1 ≡ part_of c.args.key.now (length parts) = search rules in
+    let within : c.part_of-hash.result.1 < length parts = search rules in
+    let there = slice_get-get_or parts c.part_of-hash.result.1 part within ∙ ap Some (sym c.index_mut-part.ensures.value) in
+    entered parts c.part_of-hash.result.1 part c.set.new.self c.args.key.now c.args.line true here there c.in-Ok.ensures.put
 
 pub returns-in-Err-clause-same : goal.returns-in-Err-clause-same
 returns-in-Err-clause-same c =
     let parts = c.args.self.now.parts.items in
     let part = c.index_mut-part.result.now in
-    let within : c.part_of-position.result < length parts = search rules in
-    let there = slice_get-get_or parts c.part_of-position.result part within ∙ ap Some (sym c.index_mut-part.ensures.value) in
-    unentered parts c.part_of-position.result part c.set.new.self there c.in-Err.ensures.same
+    let within : c.part_of-hash.result.1 < length parts = search rules in
+    let there = slice_get-get_or parts c.part_of-hash.result.1 part within ∙ ap Some (sym c.index_mut-part.ensures.value) in
+    unentered parts c.part_of-hash.result.1 part c.set.new.self there c.in-Err.ensures.same

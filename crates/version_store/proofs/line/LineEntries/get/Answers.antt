@@ -9,8 +9,8 @@ use Rattle.version_store.proofs.Positions.{at_find, gap_find}
 use Rattle.version_store.proofs.Views.{get_shown}
 use Rattle.version_store.proofs.line.LineEntries.get.Goals as goal
 
-pub returns-then-len-le-FEW : goal.returns-then-len-le-FEW
-returns-then-len-le-FEW g c =
+pub returns-then-len-le-SCANNED_MAX : goal.returns-then-len-le-SCANNED_MAX
+returns-then-len-le-SCANNED_MAX g c =
     rw (← c.self.view_is) (ap (option_map shown) c.entry_among.ensures ∙ sym (get_shown (keyed c.self.inside.entries) c.args.key.now))
 
 pub index-requires : goal.index-requires

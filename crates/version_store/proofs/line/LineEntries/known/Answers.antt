@@ -10,6 +10,6 @@ known_among-requires g c =
     some_shown (keyed c.self.inside.entries) c.args.key.now
     (subst (λ (l : Line). is_some (get l c.args.key.now) ≡ true) (sym c.self.view_is) c.requires)
 
-pub returns-then-len-le-FEW : goal.returns-then-len-le-FEW
-returns-then-len-le-FEW g c =
+pub returns-then-len-le-SCANNED_MAX : goal.returns-then-len-le-SCANNED_MAX
+returns-then-len-le-SCANNED_MAX g c =
     rw (← c.self.view_is) (ap (option_map shown) c.known_among.ensures ∙ sym (get_shown (keyed c.self.inside.entries) c.args.key.now))

@@ -12,8 +12,8 @@ invariant_of-self-in-Ok-put g c =
     let made : Entry g.row.J.Denot = record { attempt = c.args.attempt; suspect = false; place = c.args.place } in
     let there : IsLine s c.args.line = subst (λ (x : Store). IsLine x c.args.line) (sym c.self.view_is) c.requires in
     indexed_put a.index c.set.new.self s c.args.line (c.args.line - a.first) c.args.key.now true c.index_mut-row.result.now c.put.new.self
-    there refl c.index_mut-row.ensures.value c.self.invariant (rw (← c.key-at.ensures, ← c.new-sought.ensures) c.in-Ok.ensures.put)
-    (λ k. ap (λ (l : Line). is_some (get l k)) (rw (← c.key-at.ensures) c.in-Ok-put.ensures.put) ∙ put_at c.index_mut-row.result.now c.args.key.now (shown made) k)
+    there refl c.index_mut-row.ensures.value c.self.invariant c.in-Ok.ensures.put
+    (λ k. ap (λ (l : Line). is_some (get l k)) c.in-Ok-put.ensures.put ∙ put_at c.index_mut-row.result.now c.args.key.now (shown made) k)
 
 pub invariant_of-self-in-Err : goal.invariant_of-self-in-Err
 invariant_of-self-in-Err g c =
@@ -22,5 +22,5 @@ invariant_of-self-in-Err g c =
     let there : IsLine s c.args.line = subst (λ (x : Store). IsLine x c.args.line) (sym c.self.view_is) c.requires in
     indexed_put a.index c.clear.new.self s c.args.line (c.args.line - a.first) c.args.key.now false c.index_mut-row.result.now c.put.new.self
     there refl c.index_mut-row.ensures.value c.self.invariant
-    (put_and_out a.index c.set.new.self c.clear.new.self c.args.key.now c.args.line true (rw (← c.key-at.ensures, ← c.new-sought.ensures) c.in-Ok.ensures.put) (rw (← c.key-at.ensures, ← c.new-sought.ensures) c.clear.ensures))
-    (λ k. ap (λ (l : Line). is_some (get l k)) c.in-Err.ensures.same ∙ absent_at c.index_mut-row.result.now c.args.key.now (rw (← c.key-at.ensures) c.in-Err.ensures.absent) k)
+    (put_and_out a.index c.set.new.self c.clear.new.self c.args.key.now c.args.line true c.in-Ok.ensures.put c.clear.ensures)
+    (λ k. ap (λ (l : Line). is_some (get l k)) c.in-Err.ensures.same ∙ absent_at c.index_mut-row.result.now c.args.key.now c.in-Err.ensures.absent k)

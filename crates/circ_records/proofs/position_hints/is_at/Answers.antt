@@ -1,0 +1,14 @@
+use Rattle.std.proofs.Common.{◌≡◌, Some, length, refl, sym, ◌∙◌}
+use Rattle.std.specs.Prelude.{slice_get}
+use Rattle.std.proofs.lemmas.Option.{slice_get_read}
+use Rattle.circ_records.specs.Devices.KeyRefs.{key_of}
+use Rattle.circ_records.proofs.Positions.{stands-at}
+use Rattle.circ_records.proofs.position_hints.is_at.Goals as goal
+
+-- the entry there has the key
+pub returns-in-Some : goal.returns-in-Some
+returns-in-Some c = λ is.
+    let es = c.args.listed.now in
+    let h = c.in-Some.ensures.lookup in
+    let there : slice_get es c.args.position ≡ Some c.in-Some.entry.now = slice_get_read es (length es) c.args.position c.in-Some.entry.now refl h.3.0 h.1 in
+    stands-at es (key_of c.args.key.now) c.args.position c.in-Some.entry.now c.requires there (sym c.is.ensures ∙ is)

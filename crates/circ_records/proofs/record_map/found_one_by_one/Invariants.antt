@@ -1,0 +1,8 @@
+use Rattle.std.proofs.Common.{◌≡◌}
+use Rattle.circ_records.specs.Devices.KeyRefs.{key_of}
+use Rattle.circ_records.specs.Records.{record_at}
+use Rattle.circ_records.proofs.record_map.found_one_by_one.Given as goal
+
+-- those so far have another key
+abbrev pub invariant-loop-own : goal.invariant-loop-own
+invariant-loop-own l = record_at l.mapped.entries (key_of l.key) ≡ record_at l.own-iterator (key_of l.key)

@@ -1,0 +1,145 @@
+//! Where the records of a list likely are.
+
+ghost use Rattle.std.specs.Prelude.{◌≡◌, Ok, IfSome, IsTrue};
+ghost use Rattle.circ_records.specs.Devices.KeyRefs.{key_of};
+ghost use Rattle.circ_records.specs.Devices.Positions.{position_from};
+ghost use Rattle.circ_records.specs.Laws.{AreRising};
+
+use crate::key::{Key, KeyRef};
+use crate::record::Record;
+use std::alloc::{AllocError, Global};
+
+/// The number of slots for each record: with fewer, more records would find theirs taken.
+const SLOTS_A_RECORD: usize = 4;
+
+/// The number of slots that are looked at for a key, whoever chose the ids: a record for which all of them are taken has none.
+const TRIES: usize = 8;
+
+/// The content of a slot that no record took.
+const FREE: u32 = u32::MAX;
+
+/// A hash table with the positions of most records of a list, by the hashes of their ids. A position is a hint: the list is looked at
+/// there, and halved where it has another key. So only the time of a look-up depends on the hints.
+pub(crate) struct PositionHints {
+    slots: Vec<u32>,
+    /// At most this many slots are taken.
+    taken: usize,
+}
+
+impl Drop for PositionHints {
+    fn drop(self) {
+        let PositionHints { slots: _, taken: _ } = self;
+    }
+}
+
+impl PositionHints {
+    /// No hints, also for records that are added.
+    pub(crate) fn none(alloc: Global) -> PositionHints {
+        PositionHints {
+            slots: Vec::new(alloc),
+            taken: 0,
+        }
+    }
+
+    /// Hints for the records of a list.
+    pub(crate) fn of(alloc: Global, listed: &[(Key, Record)]) -> Result<PositionHints, AllocError> {
+        let count = listed.len().saturating_mul(SLOTS_A_RECORD);
+        let mut slots = vec![in alloc; FREE; count.saturating_add(TRIES)]?;
+        for (position, entry) in listed.iter().enumerate() {
+            // a position of more than 32 bits has no slot
+            let Ok(position) = u32::try_from(position) else {
+                break;
+            };
+            take_slot(&mut slots, entry.0.hash(), position);
+        }
+        let taken = listed.len();
+        Ok(PositionHints { slots, taken })
+    }
+
+    /// How many records the list had from which these hints were made.
+    pub(crate) fn count(&self) -> usize {
+        self.slots.len().saturating_sub(TRIES) / SLOTS_A_RECORD
+    }
+
+    /// Adds a hint for a record that is appended to a list. Where half of the slots are taken, some by records that moved since,
+    /// all hints are made again: a list that is twice as long has twice as many slots.
+    pub(crate) fn add(
+        &mut self,
+        alloc: Global,
+        listed: &[(Key, Record)],
+        key: &Key,
+    ) -> Result<(), AllocError> {
+        if self.slots.is_empty() {
+            return Ok(());
+        }
+        if self.taken > self.slots.len() / 2 {
+            *self = PositionHints::of(alloc, listed)?;
+        }
+        self.taken = self.taken.saturating_add(1);
+        // a position of more than 32 bits has no slot
+        if let Ok(position) = u32::try_from(listed.len()) {
+            take_slot(&mut self.slots, key.hash(), position);
+        }
+        Ok(())
+    }
+
+    /// The same hints, for a list that likely has the same keys.
+    pub(crate) fn copy(&self) -> Result<PositionHints, AllocError> {
+        let slots = self.slots.clone()?;
+        let taken = self.taken;
+        Ok(PositionHints { slots, taken })
+    }
+
+    /// The position of a key in a list, where a slot has it.
+    #[inline(always)]
+    pub(crate) fn position(&self, listed: &[(Key, Record)], key: &KeyRef<'_>) -> Option<usize>
+        requires { AreRising listed.now }
+        ensures { IfSome result (λ position. position_from 0 (key_of key.now) listed.now ≡ Ok position) }
+    {
+        if self.slots.is_empty() {
+            return None;
+        }
+        let first = first_slot(key.id().hash(), self.slots.len());
+        for slot in first..first.saturating_add(TRIES) {
+            let position = *self.slots.get(slot)?;
+            if is_at(listed, position as usize, key) {
+                return Some(position as usize);
+            }
+            if position == FREE {
+                return None;
+            }
+        }
+        None
+    }
+}
+
+/// The first slot that is looked at for a hash of 32 bits. The last slots are left for those that follow the first.
+fn first_slot(hash: u64, slots: usize) -> usize {
+    (hash.wrapping_mul(slots.saturating_sub(TRIES) as u64) >> 32) as usize
+}
+
+/// Puts a position into the first free slot for a hash, where there is one, unless a slot has it already: in a copy of the hints of
+/// another list it does.
+fn take_slot(slots: &mut Vec<u32>, hash: u64, position: u32) {
+    let first = first_slot(hash, slots.len());
+    for slot in first..first.saturating_add(TRIES) {
+        if slot >= slots.len() {
+            return;
+        }
+        if slots[slot] == FREE || slots[slot] == position {
+            slots[slot] = position;
+            return;
+        }
+    }
+}
+
+/// Whether a key is at a position.
+fn is_at(listed: &[(Key, Record)], position: usize, key: &KeyRef<'_>) -> bool
+    requires { AreRising listed.now }
+    ensures { IsTrue result → position_from 0 (key_of key.now) listed.now ≡ Ok position }
+{
+    match listed.get(position) {
+        Some(entry) => key.is(&entry.0),
+        None => false,
+    }
+}

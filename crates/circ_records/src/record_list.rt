@@ -1,0 +1,133 @@
+//! Records as a list, rising by key, in which one is found by a hint of its position or by halving the list.
+
+ghost use Rattle.std.specs.Prelude.{◌≡◌, ◌++◌, ◌∷◌, [], Err, IfOk, IsTrue, OnErr, OnOk, length, option_copied};
+ghost use Rattle.circ_records.specs.Devices.KeyRefs.{key_of};
+ghost use Rattle.circ_records.specs.Devices.Positions.{position_from};
+ghost use Rattle.circ_records.specs.Laws.{AreRising};
+ghost use Rattle.circ_records.specs.Records.{record_at};
+
+use crate::key::{Key, KeyRef};
+use crate::position_hints::PositionHints;
+use crate::record::Record;
+use std::alloc::{AllocError, Global};
+
+/// Records by their keys. To look for one, the keys have to rise.
+pub(crate) struct RecordList {
+    pub(crate) entries: Vec<(Key, Record)>,
+    /// Where each record likely is.
+    hints: PositionHints,
+}
+
+impl Drop for RecordList {
+    fn drop(self) {
+        let RecordList {
+            entries: _,
+            hints: _,
+        } = self;
+    }
+}
+
+impl RecordList {
+    /// No records, and no hints.
+    pub(crate) fn new(alloc: Global) -> RecordList
+        ensures { result.entries.items ≡ [] }
+    {
+        RecordList {
+            entries: Vec::new(alloc),
+            hints: PositionHints::none(alloc),
+        }
+    }
+
+    /// No records, no hints, and memory for this many records.
+    pub(crate) fn with_capacity(alloc: Global, count: usize) -> Result<RecordList, AllocError>
+        ensures { IfOk result (λ l. l.entries.items ≡ []) }
+    {
+        let entries = Vec::with_capacity(alloc, count)?;
+        Ok(RecordList {
+            entries,
+            hints: PositionHints::none(alloc),
+        })
+    }
+
+    /// No records, but the hints of this list: they are right once records with the same keys were appended in the same order.
+    pub(crate) fn emptied_copy(&self, alloc: Global) -> Result<RecordList, AllocError>
+        ensures { IfOk result (λ l. l.entries.items ≡ []) }
+    {
+        let hints = self.hints.copy()?;
+        let entries = Vec::with_capacity(alloc, hints.count())?;
+        Ok(RecordList { entries, hints })
+    }
+
+    /// The same records with hints, which are added for those that are appended from now on, too.
+    pub(crate) fn with_hints(self, alloc: Global) -> Result<RecordList, AllocError>
+        ensures { IfOk result (λ l. l.entries ≡ self.entries) }
+    {
+        let RecordList { entries, hints: _ } = self;
+        let hints = PositionHints::of(alloc, entries.as_slice())?;
+        Ok(RecordList { entries, hints })
+    }
+
+    /// The record under a key.
+    pub(crate) fn get(&self, key: &KeyRef<'_>) -> Option<&Record>
+        requires { AreRising self.now.entries.items }
+        ensures { option_copied result ≡ record_at self.now.entries.items (key_of key.now) }
+    {
+        match self.position(key) {
+            Ok(position) => Some(&self.entries[position].1),
+            Err(_) => None,
+        }
+    }
+
+    /// The position of a key, or else the position at which it would have to be inserted. A hint of it is tried first, then
+    /// whether the key comes after all others, and then the list is halved.
+    pub(crate) fn position(&self, key: &KeyRef<'_>) -> Result<usize, usize>
+        requires { AreRising self.now.entries.items }
+        ensures { result ≡ position_from 0 (key_of key.now) self.now.entries.items }
+    {
+        match self.hints.position(self.entries.as_slice(), key) {
+            Some(position) => Ok(position),
+            None => self.position_without_hint(key),
+        }
+    }
+
+    fn position_without_hint(&self, key: &KeyRef<'_>) -> Result<usize, usize>
+        requires { AreRising self.now.entries.items }
+        ensures { result ≡ position_from 0 (key_of key.now) self.now.entries.items }
+    {
+        if self.goes_last(key) {
+            Err(self.entries.len())
+        } else {
+            self.halved(key)
+        }
+    }
+
+    fn halved(&self, key: &KeyRef<'_>) -> Result<usize, usize>
+        requires { AreRising self.now.entries.items }
+        ensures { result ≡ position_from 0 (key_of key.now) self.now.entries.items }
+    {
+        self.entries
+            .as_slice()
+            .binary_search_by(|entry| key.order(&entry.0))
+    }
+
+    /// Whether a key comes after all others, by a comparison with the last.
+    pub(crate) fn goes_last(&self, key: &KeyRef<'_>) -> bool
+        requires { AreRising self.now.entries.items }
+        ensures { IsTrue result → position_from 0 (key_of key.now) self.now.entries.items ≡ Err (length self.now.entries.items) }
+    {
+        match self.entries.last() {
+            Some(last) => key.order(&last.0).is_lt(),
+            None => true,
+        }
+    }
+
+    /// Appends a record, with a hint where the list has hints. Out of memory, the records stay as they are.
+    pub(crate) fn push(&mut self, alloc: Global, key: Key, record: Record) -> Result<(), AllocError>
+        ensures ok { OnOk result (self.new.entries.items ≡ self.old.entries.items ++ (key, «record») ∷ []) }
+        ensures err { OnErr result (self.new.entries.items ≡ self.old.entries.items) }
+    {
+        self.hints.add(alloc, self.entries.as_slice(), &key)?;
+        self.entries.push((key, record))?;
+        Ok(())
+    }
+}

@@ -1,2 +1,0 @@
--- Devices of proofs: how far a walk has come. No promise is read here.
-pub mod Copied

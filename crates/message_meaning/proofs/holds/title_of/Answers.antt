@@ -1,5 +1,0 @@
-use Rattle.std.proofs.Common.{refl}
-use Rattle.message_meaning.proofs.holds.title_of.Goals as goal
-
-pub returns-in-None : goal.returns-in-None
-returns-in-None c = rw c.in-None.is refl

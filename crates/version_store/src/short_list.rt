@@ -1,0 +1,208 @@
+//! Lists most of which are short.
+
+ghost use Rattle.std.specs.Prelude.{◌≡◌, ◌<◌, ◌≤◌, [], ◌∷◌, IfOk, OnOk, OnErr, length, slice_index_or, slice_set};
+ghost use Rattle.std.specs.List.{insert, remove};
+ghost use Rattle.version_store.specs.Devices.ShortLists.{listed};
+
+use std::alloc::{AllocError, Global};
+use std::collections::VecDeque;
+use std::marker::Model;
+use std::ops::Index;
+
+/// A list of fewer elements than this grows by one element, so that it takes no more room than it needs.
+const EXACT_BELOW: usize = 8;
+
+/// The first room on the heap is for this many elements: one more than are inline.
+const FIRST_ROOM: usize = 3;
+
+/// A list of which up to two elements are inline. A longer one is on the heap.
+pub struct ShortList<T: Copy> {
+    held: Held<T>,
+}
+
+impl<T: Copy> Drop for ShortList<T> {
+    fn drop(self) {
+        let ShortList { held: _ } = self;
+    }
+}
+
+/// Where the elements are.
+enum Held<T: Copy> {
+    Nothing,
+    One(T),
+    Two(T, T),
+    /// On the heap. They stay there when elements leave.
+    Many(VecDeque<T>),
+}
+
+impl<T: Copy> Drop for Held<T> {
+    fn drop(self) {
+        match self {
+            Held::Nothing => {}
+            Held::One(_) => {}
+            Held::Two(_, _) => {}
+            Held::Many(_) => {}
+        }
+    }
+}
+
+impl<T: Copy> Model for ShortList<T> {
+    ghost use Rattle.std.specs.Prelude.{List};
+    ghost use Rattle.version_store.specs.Devices.ShortLists.{listed};
+
+    ghost Value = { List T };
+
+    ghost view = { λ l. listed l.held };
+}
+
+impl<T: Copy> ShortList<T> {
+    /// The empty list.
+    pub fn new() -> ShortList<T>
+        ensures { result ≡ [] }
+    {
+        ShortList {
+            held: Held::Nothing,
+        }
+    }
+
+    /// How many elements it has.
+    pub fn len(&self) -> usize
+        ensures { result ≡ length self.now }
+    {
+        match &self.held {
+            Held::Nothing => 0,
+            Held::One(_) => 1,
+            Held::Two(_, _) => 2,
+            Held::Many(many) => many.len(),
+        }
+    }
+
+    /// Another element at a position.
+    pub fn set(&mut self, position: usize, value: T)
+        requires { position < length self.old }
+        ensures { self.new ≡ slice_set self.old position value }
+    {
+        match &mut self.held {
+            Held::Nothing => {}
+            Held::One(first) => *first = value,
+            Held::Two(first, second) => {
+                if position == 0 {
+                    *first = value;
+                } else {
+                    *second = value;
+                }
+            }
+            Held::Many(many) => many[position] = value,
+        }
+    }
+
+    /// One more element at a position. Out of memory, nothing changes.
+    pub fn insert(&mut self, alloc: Global, position: usize, value: T) -> Result<(), AllocError>
+        requires { position ≤ length self.old }
+        ensures put { OnOk result (self.new ≡ insert self.old position value) }
+        ensures same { OnErr result (self.new ≡ self.old) }
+    {
+        match &mut self.held {
+            Held::Nothing => self.held = Held::One(value),
+            Held::One(first) => {
+                let first = *first;
+                self.held = two_of(first, position, value);
+            }
+            Held::Two(first, second) => {
+                let (first, second) = (*first, *second);
+                self.held = Held::Many(three_of(alloc, first, second, position, value)?);
+            }
+            Held::Many(many) => return insert_among(many, position, value),
+        }
+        Ok(())
+    }
+
+    /// The element at a position leaves.
+    pub fn remove(&mut self, position: usize)
+        requires { position < length self.old }
+        ensures { self.new ≡ remove self.old position }
+    {
+        match &mut self.held {
+            Held::Nothing => {}
+            Held::One(_) => self.held = Held::Nothing,
+            Held::Two(first, second) => {
+                let other = if position == 0 { *second } else { *first };
+                self.held = Held::One(other);
+            }
+            Held::Many(many) => {
+                let _ = many.remove(position);
+            }
+        }
+    }
+}
+
+impl<T: Copy> Index<usize> for ShortList<T> {
+    type Output = T;
+
+    ghost use Rattle.std.specs.Prelude.{◌≡◌, ◌<◌, length, slice_index_or};
+
+    ghost can_index = { λ l i. i < length l };
+
+    ghost index_gives = { λ l i x. x ≡ slice_index_or l i x };
+
+    fn index(&self, position: usize) -> &T
+        requires { position < length self.now }
+        ensures { result.now ≡ slice_index_or self.now position result.now }
+    {
+        match &self.held {
+            Held::Nothing => unreachable!(),
+            Held::One(first) => first,
+            Held::Two(first, second) => { if position == 0 { first } else { second } }
+            Held::Many(many) => &many[position],
+        }
+    }
+}
+
+/// One element, and another that goes before or after it.
+fn two_of<T: Copy>(first: T, position: usize, value: T) -> Held<T>
+    requires { position ≤ 1 }
+    ensures { listed result ≡ insert (first ∷ []) position value }
+{
+    if position == 0 {
+        Held::Two(value, first)
+    } else {
+        Held::Two(first, value)
+    }
+}
+
+/// Two elements, and another that goes to a position, with room for no more.
+fn three_of<T: Copy>(
+    alloc: Global,
+    first: T,
+    second: T,
+    position: usize,
+    value: T,
+) -> Result<VecDeque<T>, AllocError>
+    requires { position ≤ 2 }
+    ensures { IfOk result (λ many. many.items ≡ insert (first ∷ second ∷ []) position value) }
+{
+    let mut many = VecDeque::with_capacity(alloc, FIRST_ROOM)?;
+    many.push_back(first)?;
+    many.push_back(second)?;
+    insert_among(&mut many, position, value)?;
+    Ok(many)
+}
+
+/// One more element at a position. While there are few, it makes no more room than they need: a list stays until the run ends.
+fn insert_among<T: Copy>(
+    many: &mut VecDeque<T>,
+    position: usize,
+    value: T,
+) -> Result<(), AllocError>
+    requires { position ≤ length many.old.items }
+    ensures put { OnOk result (many.new.items ≡ insert many.old.items position value) }
+    ensures same { OnErr result (many.new.items ≡ many.old.items) }
+{
+    if many.len() < EXACT_BELOW {
+        many.reserve_exact(1)?;
+    }
+    match many.insert(position, value) {
+        Ok(()) => Ok(()),
+        Err(_) => Err(AllocError),
+    }
+}

@@ -1,0 +1,3 @@
+mod Adding
+mod Knowing
+mod Reading

@@ -1,6 +1,7 @@
 -- Records added to a base.
-use Rattle.std.proofs.Common.{◌≡◌, ◌∙◌, Bool, true, false, cond, Option, Some, None, inl, inr, refl, sym, ap, subst}
-use Rattle.std.specs.Prelude.{◌⊎◌, is_some}
+use Rattle.std.proofs.Common.{◌≡◌, ◌∙◌, ◌<◌, ℕ, List, length, get_or, Bool, true, false, cond, Some, None, inl, inr, refl, sym, ap, subst}
+use Rattle.std.specs.Prelude.{◌⊎◌, Contains, is_some}
+use Rattle.std.proofs.lemmas.List.Elements.{Contains-get_or}
 use Rattle.std.specs.Ordering.{eq_by_cmp}
 use Rattle.circ_records.specs.Keys.{key_cmp}
 use Rattle.circ_records.specs.Records.{Entries, record_at}
@@ -46,3 +47,15 @@ adds_put M old new key r none there put k = by (eq_by_cmp key_cmp key k) refl
         let same : k ≡ key = sym (one-key key k s) in
         inr (ap (record_at old) same ∙ none, same, ap (λ j. is_some (M j)) same ∙ there)
     by false s = inl (put k ∙ ap (λ b. cond b (Some r) (record_at old k)) s)
+
+-- an element of a list at an index
+pub listed : {X : Type 0} (xs ys : List X) (i : ℕ) (x : X) → ys ≡ xs → i < length ys → x ≡ get_or ys i x → Contains xs x
+listed xs ys i x same within is = subst (λ zs. Contains zs x) same (subst (Contains ys) (sym is) (Contains-get_or ys i x within))
+
+-- to the same map
+pub adds_from : (P : Key → Type 0) (M a b c : Map) → ((k : Key) → a k ≡ b k) → Adds P M a c → Adds P M b c
+adds_from P M a b c same adds k = by (adds k)
+  where
+    by : (c k ≡ a k) ⊎ ((a k ≡ None) × P k × (is_some (M k) ≡ true)) → (c k ≡ b k) ⊎ ((b k ≡ None) × P k × (is_some (M k) ≡ true))
+    by (inl e) = inl (e ∙ same k)
+    by (inr e) = inr (sym (same k) ∙ e.0, e.1, e.2)

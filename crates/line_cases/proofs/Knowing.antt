@@ -1,6 +1,6 @@
 -- Notes one after the other, and what is known by them.
 use Rattle.std.proofs.Common.{◌≡◌, ◌∙◌, ℕ, ◌+◌, ◌<◌, Bool, true, false, cond, List, [], ◌∷◌, ◌++◌, Option, Some, None, length, get_or, take, drop, refl, sym, ap}
-use Rattle.std.specs.Prelude.{unwrap_or, find}
+use Rattle.std.specs.Prelude.{unwrap_or}
 use Rattle.std.specs.BTreeMap.{is_at}
 use Rattle.std.specs.Cmp.{eq_by_cmp_equiv}
 use Rattle.std.specs.Option.{option_map}
@@ -13,7 +13,7 @@ use Rattle.circ_records.specs.declared.record.Record.{Record}
 use Rattle.read_set.specs.Notes.{note_of, noted, IsOnceEach}
 use Rattle.read_set.specs.declared.notes.Note.{Note}
 use Rattle.read_set.proofs.Keeping.{either-way, found-more, fresh-at, one-key}
-use Rattle.line_cases.specs.Devices.Adding.{known_of}
+use Rattle.line_cases.specs.Devices.Adding.{IsNamed, IsNamedBy, known_of}
 
 mapped : (b : Bool) (note : Note) (o : Option Note) → option_map (λ (n : Note). n.found) (cond b (Some note) o) ≡ cond b (Some note.found) (option_map (λ (n : Note). n.found) o)
 mapped true note o = refl
@@ -73,8 +73,12 @@ pub once_noted : (notes : List Note) (i : ℕ) (note : Note) → IsOnceEach note
 once_noted notes i note once within is =
     let left : drop i notes ≡ note ∷ drop (i + 1) notes = at_drop_more (λ (ns : List Note). ns) notes i note within ∙ ap (λ (x : Note). x ∷ drop (i + 1) notes) (sym is) in
     ap (option_map (λ (n : Note). n.found)) (
-      ap (λ (ns : List Note). note_of ns note.key) (sym (take-append-drop i notes))
-      ∙ after_none (take i notes) (drop i notes) note.key (fresh-at notes i note once within is)
-      ∙ ap (λ (ns : List Note). note_of ns note.key) left
-      ∙ ap (λ b. cond b (Some note) (note_of (drop (i + 1) notes) note.key)) ((eq_by_cmp_equiv key_cmp_total).refl note.key)
+    ap (λ (ns : List Note). note_of ns note.key) (sym (take-append-drop i notes))
+    ∙ after_none (take i notes) (drop i notes) note.key (fresh-at notes i note once within is)
+    ∙ ap (λ (ns : List Note). note_of ns note.key) left
+    ∙ ap (λ b. cond b (Some note) (note_of (drop (i + 1) notes) note.key)) ((eq_by_cmp_equiv key_cmp_total).refl note.key)
     )
+
+-- what a note's record refers to is named by the notes
+pub named_note : (notes : List Note) (i : ℕ) (note : Note) (k : Key) → IsOnceEach notes → i < length notes → note ≡ get_or notes i note → IsNamedBy note k → IsNamed notes k
+named_note notes i note k once within is named = (note.key, named.0, once_noted notes i note once within is ∙ ap (λ r. Some r) named.1, named.2)

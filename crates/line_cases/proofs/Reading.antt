@@ -1,5 +1,5 @@
 -- What a line read, on its notes and on the whole map.
-use Rattle.std.proofs.Common.{◌≡◌, ◌∙◌, Bool, true, false, List, Option, Some, None, inl, inr, refl, sym, ap, subst, ℕ}
+use Rattle.std.proofs.Common.{◌≡◌, ◌∙◌, true, false, Option, Some, None, inl, inr, refl, sym, ap, subst, ℕ}
 use Rattle.std.specs.Prelude.{◌⊎◌, is_some, unwrap_or}
 use Rattle.std.specs.Option.{option_map, option_map_or}
 use Rattle.circ_records.specs.Records.{Entries, record_at}

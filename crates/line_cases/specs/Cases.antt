@@ -1,5 +1,5 @@
 -- Test cases of single lines: what the files of one hold.
-use Rattle.std.specs.Prelude.{◌≡◌, ◌⊎◌, ℕ, true, List, [], ◌∷◌, decimal, is_some, Option, Some, None, Ok}
+use Rattle.std.specs.Prelude.{◌≡◌, ◌⊎◌, ℕ, true, List, [], ◌∷◌, decimal, is_some, Some, Ok}
 use Rattle.std.specs.Option.{option_map_or}
 use Rattle.csv_table.specs.Text.{table_text}
 use Rattle.circ_records.specs.Records.{Entries, record_at}
@@ -18,7 +18,7 @@ use Rattle.result_report.specs.Report.{LineResult, Row, answers_header, answers_
 use Rattle.replay_run.specs.OneThread.{IsOneThread}
 use Rattle.replay_run.specs.declared.inputs.Output.{Output}
 use Rattle.line_cases.specs.Refers.{RefersTo}
-use Rattle.line_cases.specs.declared.line_case.LineCase.{LineCase}
+use Rattle.line_cases.specs.declared.making.LineCase.{LineCase}
 
 -- THE JOURNAL AND THE ANSWERS
 
@@ -59,8 +59,8 @@ pub record IsBase (plan : Planned) (line : ℕ) (entries : Entries) : Type 0 whe
 -- CASES
 
 -- the files of a case of a line: the same policy, its base, a journal of it alone, and the answer that it has in the whole run
-pub record IsOfLine (policy : List ℕ) (plan : Planned) (line : Entry) (c : LineCase) : Type 0 where
-  pub policy : c.inputs.policy.items ≡ policy
+pub record IsOfLine (given : List ℕ) (plan : Planned) (line : Entry) (c : LineCase) : Type 0 where
+  pub policy : c.inputs.policy.items ≡ given
   pub base : (entries : Entries) × (texts_of c.inputs.tables ≡ tables_of entries) × IsBase plan line.number entries
   pub journal : c.inputs.journal.items ≡ journal_of_one line
   pub answers : c.answers.items ≡ answers_text (in_run plan line)
@@ -71,8 +71,8 @@ Replays c = (o : Output) × IsOneThread c.inputs (Ok o) × (o.answers.items ≡ 
 
 -- so a replay of the case answers as the whole run does
 abbrev pub IsCertified : List ℕ → Planned → Entry → LineCase → Type 0
-IsCertified policy plan line c = IsOfLine policy plan line c × Replays c
+IsCertified given plan line c = IsOfLine given plan line c × Replays c
 
 -- what was made for a line and isn't given out: its replay has other answers, or is refused
 abbrev pub IsDropped : List ℕ → Planned → Entry → Type 0
-IsDropped policy plan line = (c : LineCase) × IsOfLine policy plan line c × (Replays c → ⊥)
+IsDropped given plan line = (c : LineCase) × IsOfLine given plan line c × (Replays c → ⊥)

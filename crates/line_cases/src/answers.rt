@@ -22,7 +22,7 @@ pub(crate) fn answers_of_one(
     line: &Line,
     answer: Option<&Answer>,
 ) -> Result<Vec<u8>, AllocError>
-    requires { option_copied answer.entry ≡ answer_of plan.now line.now.number }
+    requires { option_copied answer ≡ answer_of plan.now line.now.number }
     ensures { IfOk result (λ text. text.items ≡ answers_text (in_run plan.now line.now)) }
 {
     let mut table = TableText::under(alloc, &HEADER)?;

@@ -11,7 +11,7 @@ ghost use Rattle.circ_records.specs.declared.key.Key.TheVariants as keys;
 ghost use Rattle.circ_records.specs.declared.record.Record.TheVariants as record_of;
 ghost use Rattle.read_set.specs.Notes.{IsOnceEach, noted};
 ghost use Rattle.read_set.specs.Replay.{before};
-ghost use Rattle.line_cases.specs.Devices.Adding.{Adds, IsNamed, known_of};
+ghost use Rattle.line_cases.specs.Devices.Adding.{Adds, IsNamed, IsNamedBy, known_of};
 ghost use Rattle.line_cases.specs.Refers.{RefersTo};
 
 use crate::patrons::put_patron;
@@ -61,10 +61,24 @@ fn put_listed(
     ensures { OnOk result (Adds (IsNamed notes.now) (before tracer.now.plan.now tracer.now.next) (record_at records.old) (record_at records.new)) }
 {
     for note in notes {
-        if let Some(Record::Patron(patron)) = note.found.record()? {
-            put_items(alloc, tracer, patron.get(), records)?;
-            put_fees(alloc, tracer, patron.get(), records)?;
-        }
+        put_listed_by(alloc, tracer, note, records)?;
+    }
+    Ok(())
+}
+
+/// Puts what is on the lists of a record, where it is a patron.
+fn put_listed_by(
+    alloc: Global,
+    tracer: &Tracer<'_>,
+    note: &Note,
+    records: &mut RecordMap,
+) -> Result<(), AllocError>
+    ensures { OnOk result (Adds (IsNamedBy note.now) (before tracer.now.plan.now tracer.now.next) (record_at records.old) (record_at records.new)) }
+{
+    let found = note.found.record()?;
+    if let Some(Record::Patron(patron)) = &found {
+        put_items(alloc, tracer, patron.get(), records)?;
+        return put_fees(alloc, tracer, patron.get(), records);
     }
     Ok(())
 }
@@ -78,7 +92,8 @@ fn put_items(
 ) -> Result<(), AllocError>
     ensures { OnOk result (Adds (RefersTo (record_of.Patron patron.now)) (before tracer.now.plan.now tracer.now.next) (record_at records.old) (record_at records.new)) }
 {
-    for id in patron.loans.as_slice() {
+    let ids = patron.loans.as_slice();
+    for id in ids {
         put_item(alloc, tracer, id, records)?;
     }
     Ok(())
@@ -115,7 +130,8 @@ fn put_fees(
 ) -> Result<(), AllocError>
     ensures { OnOk result (Adds (RefersTo (record_of.Patron patron.now)) (before tracer.now.plan.now tracer.now.next) (record_at records.old) (record_at records.new)) }
 {
-    for id in patron.fees.as_slice() {
+    let ids = patron.fees.as_slice();
+    for id in ids {
         put_fee(alloc, tracer, id, records)?;
     }
     Ok(())
@@ -151,17 +167,33 @@ fn put_named(
     ensures { OnOk result (Adds (IsNamed notes.now) (before tracer.now.plan.now tracer.now.next) (record_at records.old) (record_at records.new)) }
 {
     for note in notes {
-        match note.found.record()? {
-            Some(Record::Item(item)) => put_users(alloc, tracer, item.get(), records)?,
-            Some(Record::Fee(fee)) => put_patron(alloc, tracer, &fee.get().patron, records)?,
-            Some(Record::Patron(_)) | None => {}
-        }
+        put_named_by(alloc, tracer, note, records)?;
     }
     Ok(())
 }
 
-/// Puts the patron who has an item on loan, and those who wait for it.
-fn put_users(
+/// Puts the patrons that a record names, where it is an item or a fee.
+fn put_named_by(
+    alloc: Global,
+    tracer: &Tracer<'_>,
+    note: &Note,
+    records: &mut RecordMap,
+) -> Result<(), AllocError>
+    ensures { OnOk result (Adds (IsNamedBy note.now) (before tracer.now.plan.now tracer.now.next) (record_at records.old) (record_at records.new)) }
+{
+    let found = note.found.record()?;
+    if let Some(Record::Item(item)) = &found {
+        put_borrower(alloc, tracer, item.get(), records)?;
+        return put_waiting(alloc, tracer, item.get(), records);
+    }
+    if let Some(Record::Fee(fee)) = &found {
+        return put_patron(alloc, tracer, &fee.get().patron, records);
+    }
+    Ok(())
+}
+
+/// Puts the patron who has an item on loan.
+fn put_borrower(
     alloc: Global,
     tracer: &Tracer<'_>,
     item: &Item,
@@ -169,10 +201,23 @@ fn put_users(
 ) -> Result<(), AllocError>
     ensures { OnOk result (Adds (RefersTo (record_of.Item item.now)) (before tracer.now.plan.now tracer.now.next) (record_at records.old) (record_at records.new)) }
 {
-    if let Some(loan) = &item.loan {
-        put_patron(alloc, tracer, &loan.patron, records)?;
+    match &item.loan {
+        Some(loan) => put_patron(alloc, tracer, &loan.patron, records),
+        None => Ok(()),
     }
-    for hold in item.holds.as_slice() {
+}
+
+/// Puts the patrons who wait for an item.
+fn put_waiting(
+    alloc: Global,
+    tracer: &Tracer<'_>,
+    item: &Item,
+    records: &mut RecordMap,
+) -> Result<(), AllocError>
+    ensures { OnOk result (Adds (RefersTo (record_of.Item item.now)) (before tracer.now.plan.now tracer.now.next) (record_at records.old) (record_at records.new)) }
+{
+    let holds = item.holds.as_slice();
+    for hold in holds {
         put_patron(alloc, tracer, &hold.patron, records)?;
     }
     Ok(())

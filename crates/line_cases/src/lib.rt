@@ -5,7 +5,7 @@
 mod answers;
 mod base;
 mod journal;
-mod line_case;
+mod making;
 mod patrons;
 
-pub use line_case::{LineCase, certified, line_case};
+pub use making::{LineCase, certified, line_case};

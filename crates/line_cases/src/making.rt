@@ -1,6 +1,7 @@
 //! The case of one line.
 
-ghost use Rattle.std.specs.Prelude.{◌≡◌, IfNone, IfOk, IfSome};
+ghost use Rattle.std.specs.Prelude.{◌≡◌, IfNone, IfOk, IfSome, Ok};
+ghost use Rattle.replay_run.specs.OneThread.{IsOneThread};
 ghost use Rattle.line_cases.specs.Cases.{IsCertified, IsDropped, IsOfLine, Replays};
 
 use crate::answers::answers_of_one;
@@ -9,7 +10,7 @@ use crate::journal::journal_of_one;
 use circ_records::write_records;
 use journal_table::Line;
 use line_origins::{Seen, Tracer};
-use replay_run::{Fault, Inputs, one_thread};
+use replay_run::{Fault, Inputs, Output, one_thread};
 use std::alloc::{AllocError, Global};
 
 /// A test case: what a run is given, and the answers that it must write.
@@ -75,10 +76,25 @@ pub fn certified(alloc: Global, case: LineCase) -> Result<Option<LineCase>, Allo
     ensures certified { IfOk result (λ c. IfSome c (λ c. (c ≡ case) × Replays case)) }
     ensures dropped { IfOk result (λ c. IfNone c (Replays case → ⊥)) }
 {
+    let Some(output) = replayed(alloc, &case)? else {
+        return Ok(None);
+    };
+    if output.answers != case.answers {
+        return Ok(None);
+    }
+    Ok(Some(case))
+}
+
+/// The output of a case by one thread; none where it is refused.
+fn replayed(alloc: Global, case: &LineCase) -> Result<Option<Output>, AllocError>
+    ensures output { IfOk result (λ o. IfSome o (λ o. IsOneThread case.now.inputs (Ok o))) }
+    ensures refused { IfOk result (λ o. IfNone o (Replays case.now → ⊥)) }
+{
     match one_thread(alloc, &case.inputs) {
-        Ok(output) if output.answers == case.answers => Ok(Some(case)),
-        Ok(_) => Ok(None),
-        Err(Fault::Memory) => Err(AllocError),
-        Err(_) => Ok(None),
+        Ok(output) => Ok(Some(output)),
+        Err(fault) => match &fault {
+            Fault::Memory => Err(AllocError),
+            _ => Ok(None),
+        },
     }
 }

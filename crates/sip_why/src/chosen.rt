@@ -13,6 +13,8 @@ pub struct Options {
     pub changes: Option<String>,
     /// The folder of the tables of the finished run whose changes these are.
     pub out: Option<String>,
+    /// The folder that gets a test case of each line that is wanted.
+    pub test: Option<String>,
 }
 
 impl Drop for Options {
@@ -25,6 +27,7 @@ impl Drop for Options {
             lines: _,
             changes: _,
             out: _,
+            test: _,
         } = self;
     }
 }

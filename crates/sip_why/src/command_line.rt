@@ -29,11 +29,17 @@ const CHANGES_HELP: &str =
 const OUT_HELP: &str =
     "The folder of the tables that sip_replay wrote of these files; for --changes";
 
+const TEST_HELP: &str =
+    "A folder that gets a test case of each line of --report and --line, in a folder named by the line's number";
+
 const AFTER_HELP: &str = "Example:
   sip_why --policy policy.toml --base tables --journal journal.csv --report result/report.csv > why.csv
 
 Standard output gets a table with the columns line, reason, kind, id, since, said: a row for each record that a line read. With neither --report nor
 --line each answered line is told.
+
+A test case has the policy, a base with what the line read, a journal of that line with its recorded response, and expected/answers.csv: run by
+sip_replay it gives these answers, and the whole run has them. It has names of patrons and passwords as the journal has them.
 
 Status 0: all is told. 2: the command line, an input, or a line that is wanted is refused; standard error names it, and the others are told. 3: a file
 cannot be read or written, or memory ran out.";
@@ -47,6 +53,10 @@ pub fn options<S: AsStr>(alloc: Global, words: &[S]) -> Result<Options, Stop> {
     if matches.get_str("changes").is_some() != matches.get_str("out").is_some() {
         return Err(Stop::refused(alloc, "--changes and --out go", "together"));
     }
+    let names_lines = matches.get_str("report").is_some() || matches.get_strs("line").is_some();
+    if matches.get_str("test").is_some() && !names_lines {
+        return Err(Stop::refused(alloc, "--test goes with --report or", "--line"));
+    }
     Ok(Options {
         policy: text_of(alloc, &matches, "policy")?,
         base: text_of(alloc, &matches, "base")?,
@@ -55,6 +65,7 @@ pub fn options<S: AsStr>(alloc: Global, words: &[S]) -> Result<Options, Stop> {
         lines: lines_of(alloc, &matches)?,
         changes: given(alloc, &matches, "changes")?,
         out: given(alloc, &matches, "out")?,
+        test: given(alloc, &matches, "test")?,
     })
 }
 
@@ -110,5 +121,6 @@ fn command<'a>(alloc: Global) -> Result<Command<'a>, AllocError> {
         .arg(option(alloc, "report", "FILE", REPORT_HELP))?
         .arg(line)?
         .arg(option(alloc, "changes", "FILE", CHANGES_HELP))?
-        .arg(option(alloc, "out", "DIR", OUT_HELP))
+        .arg(option(alloc, "out", "DIR", OUT_HELP))?
+        .arg(option(alloc, "test", "DIR", TEST_HELP))
 }

@@ -2,6 +2,8 @@
 //! computed stands in `line_origins` and below; here are the words of the command line and the files.
 #![tactic(auto)]
 
+mod case_files;
+mod cases;
 mod changes;
 mod chosen;
 mod command_line;

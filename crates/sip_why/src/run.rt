@@ -1,5 +1,6 @@
 //! The whole run: words, files, the table and the status.
 
+use crate::cases::write_cases;
 use crate::changes::changes_text;
 use crate::chosen::Options;
 use crate::command_line::options;
@@ -10,6 +11,7 @@ use crate::wanted::wanted_lines;
 use clap::error::ErrorKind;
 use line_origins::Tracer;
 use read_set::Plan;
+use replay_run::Inputs;
 use std::alloc::{AllocError, Global};
 use std::convert::AsStr;
 use std::io::Write;
@@ -63,13 +65,17 @@ fn tell<R: Files + AllocGlobal, W: Write, E: Write>(
 ) -> Result<u8, Stop> {
     let alloc = rt.alloc();
     let inputs = read_inputs(rt, options)?;
-    let Prepared { plan, journal } = prepare(alloc, &inputs)?;
+    let prepared = prepare(alloc, &inputs)?;
     let mut table = WhyTable::new(alloc)?;
-    let status = match wanted_lines(rt, options, &journal)? {
-        Some(wanted) => tell_wanted(alloc, &plan, &wanted, &mut table, err)?,
-        None => tell_all(alloc, &plan, &mut table)?,
+    let status = match wanted_lines(rt, options, &prepared.journal)? {
+        Some(wanted) => {
+            let told = tell_wanted(alloc, &prepared.plan, &wanted, &mut table, err)?;
+            let tested = write_tests(rt, options, &inputs, &prepared, &wanted, err)?;
+            told.max(tested)
+        }
+        None => tell_all(alloc, &prepared.plan, &mut table)?,
     };
-    write_changes(rt, options, &plan)?;
+    write_changes(rt, options, &prepared.plan)?;
     let text = table.finish()?;
     match out.write_all(&text) {
         Ok(()) => Ok(status),
@@ -91,6 +97,21 @@ fn write_changes<R: Files + AllocGlobal>(
     };
     let text = changes_text(rt, plan, folder.as_str())?;
     write_file(rt, path.as_str(), &text)
+}
+
+/// Writes a test case of each line that is wanted, where cases are.
+fn write_tests<R: Files + AllocGlobal, E: Write>(
+    rt: &R,
+    options: &Options,
+    inputs: &Inputs,
+    prepared: &Prepared<'_>,
+    wanted: &[u64],
+    err: &mut E,
+) -> Result<u8, Stop> {
+    match &options.test {
+        Some(folder) => write_cases(rt, folder.as_str(), inputs, prepared, wanted, err),
+        None => Ok(WHOLE),
+    }
 }
 
 /// Tells each answered line.
@@ -129,7 +150,7 @@ fn tell_wanted<E: Write>(
 }
 
 /// The replay before a line, which is this or a later one.
-fn reach<'p>(alloc: Global, tracer: Tracer<'p>, line: u64) -> Result<Tracer<'p>, AllocError> {
+pub fn reach<'p>(alloc: Global, tracer: Tracer<'p>, line: u64) -> Result<Tracer<'p>, AllocError> {
     if line < tracer.next() {
         return Ok(tracer);
     }

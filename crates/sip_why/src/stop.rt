@@ -72,6 +72,14 @@ impl Stop {
         }
     }
 
+    /// The stop of a folder that is there, where one is to be made.
+    pub fn there_already(alloc: Global, path: &str) -> Stop {
+        match format!(in alloc; "{path}: there is one already") {
+            Ok(text) => Stop::File(text),
+            Err(_) => Stop::Memory,
+        }
+    }
+
     /// What is refused, and the word that is to blame.
     pub fn refused(alloc: Global, what: &str, word: &str) -> Stop {
         match format!(in alloc; "{what} {word}") {

@@ -83,7 +83,7 @@ fn number_in(alloc: Global, row: &ByteRecord, journal: &Journal<'_>) -> Result<u
 }
 
 /// The line of a number.
-fn line_of<'j, 't>(journal: &'j Journal<'t>, number: u64) -> Option<&'j Line<'t>> {
+pub fn line_of<'j, 't>(journal: &'j Journal<'t>, number: u64) -> Option<&'j Line<'t>> {
     let first = journal.first()?;
     let place = number.checked_sub(first)?;
     journal.lines().get(place as usize)

@@ -1,0 +1,5 @@
+mod Adding
+mod Giving
+mod Knowing
+mod Reading
+mod Replaying

@@ -3,3 +3,4 @@ mod Giving
 mod Knowing
 mod Reading
 mod Replaying
+mod Running

@@ -1,3 +1,4 @@
 pub mod Cases
 pub mod Devices
+pub mod InRun
 pub mod Refers

@@ -5,7 +5,9 @@
 mod answers;
 mod base;
 mod journal;
+mod laws;
 mod making;
 mod patrons;
 
+pub use laws::cases_are_of_the_run;
 pub use making::{LineCase, certified, line_case};

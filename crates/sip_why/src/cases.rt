@@ -13,17 +13,8 @@ use std::alloc::{AllocError, Global};
 use std::io::Write;
 use std::rt::Files;
 
-/// What became of the case of a line.
-#[derive(Drop)]
-enum Outcome {
-    /// The line has no answer, or isn't in the journal, which was told before.
-    Unanswered,
-    Case(LineCase),
-    /// A replay of the case answers otherwise than the whole run: it isn't given out.
-    Otherwise,
-}
-
-/// Writes a case of each of these lines whose numbers rise, where it has an answer, into a folder. Of a line whose case isn't given out that is told.
+/// Writes a case of each of these lines into a folder. Their numbers rise. A line that the journal lacks, or that has no answer, is left out: it was named
+/// before. One whose case isn't given out is named here.
 pub fn write_cases<R: Files + AllocGlobal, E: Write>(
     rt: &R,
     folder: &str,
@@ -40,10 +31,12 @@ pub fn write_cases<R: Files + AllocGlobal, E: Write>(
             continue;
         };
         tracer = reach(alloc, tracer, number)?;
+        if tracer.see(alloc)?.answer.is_none() {
+            continue;
+        }
         match case_at(alloc, inputs, &tracer, line)? {
-            Outcome::Unanswered => {}
-            Outcome::Case(case) => write_case(rt, folder, number, &case)?,
-            Outcome::Otherwise => {
+            Some(case) => write_case(rt, folder, number, &case)?,
+            None => {
                 let _ = writeln!(
                     err,
                     "error: line {number} gives no case: alone it is answered otherwise"
@@ -61,12 +54,9 @@ fn case_at(
     inputs: &Inputs,
     tracer: &Tracer<'_>,
     line: &Line<'_>,
-) -> Result<Outcome, AllocError> {
-    if line.number() != tracer.next() || tracer.see(alloc)?.answer.is_none() {
-        return Ok(Outcome::Unanswered);
+) -> Result<Option<LineCase>, AllocError> {
+    if line.number() != tracer.next() {
+        return Ok(None);
     }
-    match line_case(alloc, inputs.policy.as_slice(), tracer, line)? {
-        Some(case) => Ok(Outcome::Case(case)),
-        None => Ok(Outcome::Otherwise),
-    }
+    line_case(alloc, inputs.policy.as_slice(), tracer, line)
 }

@@ -103,10 +103,16 @@ fn texts_of<R: Files + AllocGlobal>(rt: &R, folder: &str, table: &Table) -> Resu
         if !rows.next(&mut row)? {
             break;
         }
-        let id = Vec::from_slice(alloc, column(&row, 0))?;
-        texts.insert(id, Vec::from_slice(alloc, column(&row, 1))?)?;
+        put_text(alloc, &mut texts, &row)?;
     }
     Ok(texts)
+}
+
+/// Puts the second field of a row at its first.
+fn put_text(alloc: Global, texts: &mut Texts, row: &ByteRecord) -> Result<(), AllocError> {
+    let id = Vec::from_slice(alloc, column(row, 0))?;
+    let text = Vec::from_slice(alloc, column(row, 1))?;
+    put(texts, id, text)
 }
 
 /// What the items and the patrons of a folder are called.
@@ -154,12 +160,24 @@ fn changes_of<R: Files + AllocGlobal>(
 ) -> Result<Changes, Stop> {
     let mut changes = BTreeMap::new(rt.alloc());
     for source in sources {
-        let before = read_in(rt, base, &source.table)?;
-        let after = read_in(rt, out, &source.table)?;
-        note_rows(rt.alloc(), &mut changes, source, &before, names, false)?;
-        note_rows(rt.alloc(), &mut changes, source, &after, names, true)?;
+        note_table(rt, &mut changes, source, base, out, names)?;
     }
     Ok(changes)
+}
+
+/// Takes in what a table says, before and after.
+fn note_table<R: Files + AllocGlobal>(
+    rt: &R,
+    changes: &mut Changes,
+    source: &Source,
+    base: &str,
+    out: &str,
+    names: &Names,
+) -> Result<(), Stop> {
+    let before = read_in(rt, base, &source.table)?;
+    note_rows(rt.alloc(), changes, source, &before, names, false)?;
+    let after = read_in(rt, out, &source.table)?;
+    note_rows(rt.alloc(), changes, source, &after, names, true)
 }
 
 /// Takes in what each row of a table says, before or after.
@@ -226,20 +244,28 @@ fn fields_of_row<'r>(
     let mut fields = Vec::new(alloc);
     for (position, name) in table.header.iter().enumerate() {
         let value = column(row, position);
-        fields.push(Field {
-            name: name.as_bytes(),
-            value,
-        })?;
-        if *name == "item" {
-            fields.push(Field {
-                name: b"thing",
-                value,
-            })?;
-        } else if *name == "patron" {
-            fields.push(Field { name: b"AA", value })?;
-        }
+        push_fields(&mut fields, name, value)?;
     }
     Ok(fields)
+}
+
+/// Adds a column as a field, and once more under the name by which it is written.
+fn push_fields<'r>(
+    fields: &mut Vec<Field<'r>>,
+    name: &'static str,
+    value: &'r [u8],
+) -> Result<(), AllocError> {
+    fields.push(Field {
+        name: name.as_bytes(),
+        value,
+    })?;
+    let again: &[u8] = match name {
+        "item" => b"thing",
+        "patron" => b"AA",
+        _ => return Ok(()),
+    };
+    fields.push(Field { name: again, value })?;
+    Ok(())
 }
 
 fn put(changes: &mut Changes, about: Vec<u8>, says: Vec<u8>) -> Result<(), AllocError> {
@@ -284,21 +310,43 @@ fn share_out(
     let mut others = Vec::new(alloc);
     for (about, says) in changes {
         let (id, what) = cut(about, b'\n');
-        let (before, after) = cut(says, b'\n');
-        let change = Change {
-            what: Vec::from_slice(alloc, what)?,
-            before: Vec::from_slice(alloc, before)?,
-            after: Vec::from_slice(alloc, if after.is_empty() { b"none" } else { after })?,
-        };
-        match subjects.get_mut(id) {
-            Some(subject) => subject.changes.push(change)?,
-            None => others.push(OtherChange {
-                id: Vec::from_slice(alloc, id)?,
-                change,
-            })?,
-        }
+        give(subjects, &mut others, id, change_of(alloc, what, says)?)?;
     }
     Ok(others)
+}
+
+/// What was said before and after of something.
+fn change_of(alloc: Global, what: &[u8], says: &[u8]) -> Result<Change, AllocError> {
+    let (before, after) = cut(says, b'\n');
+    Ok(Change {
+        what: Vec::from_slice(alloc, what)?,
+        before: Vec::from_slice(alloc, before)?,
+        after: Vec::from_slice(alloc, if after.is_empty() { b"none" } else { after })?,
+    })
+}
+
+/// Gives a change to whom or what it is of, or to the others.
+fn give(
+    subjects: &mut Subjects,
+    others: &mut Vec<OtherChange>,
+    id: &[u8],
+    change: Change,
+) -> Result<(), AllocError> {
+    if let Some(subject) = subjects.get_mut(id) {
+        return add_change(&mut subject.changes, change);
+    }
+    let id = Vec::from_slice(*others.allocator(), id)?;
+    match others.push(OtherChange { id, change }) {
+        Ok(()) => Ok(()),
+        Err(_) => Err(AllocError),
+    }
+}
+
+fn add_change(changes: &mut Vec<Change>, change: Change) -> Result<(), AllocError> {
+    match changes.push(change) {
+        Ok(()) => Ok(()),
+        Err(_) => Err(AllocError),
+    }
 }
 
 /// Gives each change of the run to the patron and to the item that it is of, and returns those of patrons that no wrong response is about.

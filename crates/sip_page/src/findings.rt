@@ -36,7 +36,7 @@ pub struct Findings {
 
 impl Findings {
     /// Of no line.
-    fn none(alloc: Global) -> Findings {
+    pub fn none(alloc: Global) -> Findings {
         Findings {
             lines: 0,
             answered: 0,
@@ -66,6 +66,34 @@ impl Findings {
         self.lines = self.lines.saturating_add(1);
     }
 
+    /// Notes the lines of a run, which have these fates; `limit` wrong responses are shown at most.
+    pub fn note_lines(
+        &mut self,
+        alloc: Global,
+        texts: &RunTexts<'_>,
+        fates: &[Fate],
+        names: &Names,
+        whys: &mut Whys,
+        limit: u64,
+    ) -> Result<(), Stop> {
+        let mut reading = Reading::of(alloc, texts)?;
+        for fate in fates {
+            let number = reading.next_line()?;
+            self.note_line(number);
+            match *fate {
+                Fate::Passed => {}
+                Fate::Right => self.note_answered(alloc, reading.next_answer()?, false, whys)?,
+                Fate::Wrong => {
+                    self.note_answered(alloc, reading.next_answer()?, true, whys)?;
+                    self.wrong = self.wrong.saturating_add(1);
+                    let shown = self.wrong <= limit;
+                    self.note_wrong(alloc, number, reading.next_wrong()?, names, whys, shown)?;
+                }
+            }
+        }
+        Ok(())
+    }
+
     /// Notes an answered line, whose recorded response is wrong or right.
     fn note_answered(
         &mut self,
@@ -82,21 +110,32 @@ impl Findings {
         }
         let date = value_in(&case.asked, b"date");
         whys.note(self.last_line, date, line.connection())?;
-        let more = u64::from(is_wrong);
-        if is_day(date) {
-            count(alloc, &mut self.days, date.get(..8).unwrap_or(b""), more)?;
-            count(
-                alloc,
-                &mut self.hours,
-                date.get(12..14).unwrap_or(b"--"),
-                more,
-            )?;
+        self.note_time(alloc, date, u64::from(is_wrong))?;
+        if is_wrong {
+            return Ok(());
         }
-        if !is_wrong {
-            let name = message_at(alloc, case.kind, line.connection())?;
-            count(alloc, &mut self.right, &name, 1)?;
+        self.note_right(alloc, case.kind, line.connection())
+    }
+
+    /// Counts this many wrong responses more in the day and the hour of a transaction date.
+    fn note_time(&mut self, alloc: Global, date: &[u8], more: u64) -> Result<(), AllocError> {
+        if !is_day(date) {
+            return Ok(());
         }
-        Ok(())
+        count(alloc, &mut self.days, date.get(..8).unwrap_or(b""), more)?;
+        let hour = date.get(12..14).unwrap_or(b"--");
+        count(alloc, &mut self.hours, hour, more)
+    }
+
+    /// Counts a right response.
+    fn note_right(
+        &mut self,
+        alloc: Global,
+        kind: &[u8],
+        connection: &[u8],
+    ) -> Result<(), AllocError> {
+        let name = message_at(alloc, kind, connection)?;
+        count(alloc, &mut self.right, &name, 1)
     }
 
     /// Notes a wrong response, which is shown where `shown` says so.
@@ -154,32 +193,4 @@ pub fn message_at(alloc: Global, kind: &[u8], connection: &[u8]) -> Result<Vec<u
     name.push(b' ')?;
     name.extend_from_slice(connection)?;
     Ok(name)
-}
-
-/// What the tables of a run come to, whose lines have these fates; `limit` wrong responses are shown at most.
-pub fn findings_of(
-    alloc: Global,
-    texts: &RunTexts<'_>,
-    fates: &[Fate],
-    names: &Names,
-    whys: &mut Whys,
-    limit: u64,
-) -> Result<Findings, Stop> {
-    let mut findings = Findings::none(alloc);
-    let mut reading = Reading::of(alloc, texts)?;
-    for fate in fates {
-        let number = reading.next_line()?;
-        findings.note_line(number);
-        match *fate {
-            Fate::Passed => {}
-            Fate::Right => findings.note_answered(alloc, reading.next_answer()?, false, whys)?,
-            Fate::Wrong => {
-                findings.note_answered(alloc, reading.next_answer()?, true, whys)?;
-                findings.wrong = findings.wrong.saturating_add(1);
-                let shown = findings.wrong <= limit;
-                findings.note_wrong(alloc, number, reading.next_wrong()?, names, whys, shown)?;
-            }
-        }
-    }
-    Ok(findings)
 }

@@ -70,11 +70,7 @@ impl By {
 pub fn add_index(sheet: &mut Sheet, view: &View<'_>, by: By) -> Result<(), AllocError> {
     let mut index = BTreeMap::new(view.alloc);
     for group in view.findings.groups.values() {
-        match by {
-            By::Word => put_words(view.alloc, &mut index, group)?,
-            By::Message => put(view.alloc, &mut index, &group.facts.kind, by, group)?,
-            By::Connection => put(view.alloc, &mut index, &group.facts.connection, by, group)?,
-        }
+        put_group(view.alloc, &mut index, by, group)?;
     }
     let mut most = 1;
     for entry in index.values() {
@@ -88,6 +84,15 @@ pub fn add_index(sheet: &mut Sheet, view: &View<'_>, by: By) -> Result<(), Alloc
     }
     sheet.add(TABLE_END, b"");
     Ok(())
+}
+
+/// Puts a group under its words, its message or its connection.
+fn put_group(alloc: Global, index: &mut Index, by: By, group: &Group) -> Result<(), AllocError> {
+    match by {
+        By::Word => put_words(alloc, index, group),
+        By::Message => put(alloc, index, &group.facts.kind, by, group),
+        By::Connection => put(alloc, index, &group.facts.connection, by, group),
+    }
 }
 
 /// Puts a group under each of its words.
@@ -195,13 +200,19 @@ pub fn add_days(sheet: &mut Sheet, alloc: Global, days: &Tally) -> Result<(), Al
     );
     let most = most_of(days);
     for (day, count) in days {
-        let mut words = Vec::new(alloc);
-        put_day(&mut words, day)?;
-        sheet.add("<tr><th scope=\"row\">", &words);
-        sheet.add("</th><td>", b"");
+        add_day(sheet, alloc, day)?;
         add_bar(sheet, *count, most);
         sheet.add("</tr>\n", b"");
     }
     sheet.add(TABLE_END, b"");
+    Ok(())
+}
+
+/// Adds the beginning of a day's row.
+fn add_day(sheet: &mut Sheet, alloc: Global, day: &[u8]) -> Result<(), AllocError> {
+    let mut words = Vec::new(alloc);
+    put_day(&mut words, day)?;
+    sheet.add("<tr><th scope=\"row\">", &words);
+    sheet.add("</th><td>", b"");
     Ok(())
 }

@@ -2,7 +2,7 @@
 
 use crate::changes::{OtherChange, check_base, names_of, note_changes};
 use crate::files::{Rows, read, read_in};
-use crate::findings::{Findings, findings_of};
+use crate::findings::Findings;
 use crate::reading::{ANSWERS, PASSED, REPORT};
 use crate::sheet::Sheet;
 use crate::shown::{View, add_groups};
@@ -90,34 +90,31 @@ fn add_all<R: Files + Env + AllocGlobal>(
     sheet: &mut Sheet,
     options: &PageOptions,
 ) -> Result<(), Stop> {
-    let names = names_of(rt, options.out.as_str())?;
-    if let Some(base) = &options.base {
-        check_base(rt, base.as_str(), &names)?;
-    }
-    let (mut findings, passed, whys) = read_run(rt, options, &names)?;
-    let others = match &options.base {
-        Some(base) => Some(note_changes(
-            rt,
-            base.as_str(),
-            options.out.as_str(),
-            &names,
-            &mut findings,
-        )?),
-        None => None,
-    };
+    let made_by = made_by(rt)?;
+    let run = read_run(rt, options)?;
     let view = View {
         alloc: rt.alloc(),
-        names: &names,
-        findings: &findings,
-        whys: &whys,
+        names: &run.names,
+        findings: &run.findings,
+        whys: &run.whys,
     };
-    add_head(sheet, &view)?;
-    add_summary(sheet, &view, options, made_by(rt)?.as_str())?;
-    add_wrong(sheet, &view, u64::from(options.limit))?;
-    add_people(sheet, &view, &others, u64::from(options.limit));
-    add_things(sheet, &view, others.is_some());
-    add_passed(sheet, &passed);
+    add_what_is_wrong(sheet, &view, options, made_by.as_str())?;
+    add_people(sheet, &view, &run.others, u64::from(options.limit));
+    add_things(sheet, &view, run.others.is_some());
+    add_passed(sheet, &run.passed);
     Ok(())
+}
+
+/// Adds the head of the page, its summary and the wrong responses.
+fn add_what_is_wrong(
+    sheet: &mut Sheet,
+    view: &View<'_>,
+    options: &PageOptions,
+    made_by: &str,
+) -> Result<(), Stop> {
+    add_head(sheet, view)?;
+    add_summary(sheet, view, options, made_by)?;
+    add_wrong(sheet, view, u64::from(options.limit))
 }
 
 /// By which program the page is made, where who called it says so.
@@ -131,47 +128,115 @@ fn made_by<R: Env + AllocGlobal>(rt: &R) -> Result<String, Stop> {
     }
 }
 
-/// What the tables of the run come to, and how many lines were passed over for each reason.
-fn read_run<R: Files + AllocGlobal>(
-    rt: &R,
-    options: &PageOptions,
-    names: &Names,
-) -> Result<(Findings, Tally, Whys), Stop> {
-    let journal = read(rt, options.journal.as_str())?;
-    let answers = read_in(rt, options.out.as_str(), &ANSWERS)?;
-    let passed = read_in(rt, options.out.as_str(), &PASSED)?;
-    let report = read_in(rt, options.out.as_str(), &REPORT)?;
-    let texts = RunTexts {
-        journal: &journal,
-        answers: &answers,
-        passed: &passed,
-        report: &report,
-    };
-    let fates = match fates(rt.alloc(), &texts) {
-        Ok(fates) => fates,
-        Err(error) => return Err(Stop::of_no_run(rt.alloc(), &error)),
-    };
-    let mut whys = match &options.why {
-        Some(path) => Whys::of(rt.alloc(), &read(rt, path.as_str())?, &report)?,
-        None => Whys::none(rt.alloc()),
-    };
-    let limit = u64::from(options.limit);
-    let findings = findings_of(rt.alloc(), &texts, &fates, names, &mut whys, limit)?;
-    Ok((findings, reasons_of(rt.alloc(), &passed)?, whys))
+/// What the tables of a run say.
+#[derive(Drop)]
+struct RunSummary {
+    names: Names,
+    findings: Findings,
+    /// How many lines were passed over for each reason.
+    passed: Tally,
+    whys: Whys,
+    /// What changed for others, where base tables were given.
+    others: Option<Vec<OtherChange>>,
 }
 
-/// How many lines have each reason of `passed.csv`.
-fn reasons_of(alloc: Global, text: &[u8]) -> Result<Tally, Stop> {
+/// What the tables of the run say. Its names are those of the base, too, where there is one.
+fn read_run<R: Files + AllocGlobal>(rt: &R, options: &PageOptions) -> Result<RunSummary, Stop> {
+    let names = names_of(rt, options.out.as_str())?;
+    let Some(base) = &options.base else {
+        return read_result(rt, options, names);
+    };
+    check_base(rt, base.as_str(), &names)?;
+    let mut run = read_result(rt, options, names)?;
+    run.others = Some(note_changes(
+        rt,
+        base.as_str(),
+        options.out.as_str(),
+        &run.names,
+        &mut run.findings,
+    )?);
+    Ok(run)
+}
+
+/// What the journal and the result tables say, without what changed.
+fn read_result<R: Files + AllocGlobal>(
+    rt: &R,
+    options: &PageOptions,
+    names: Names,
+) -> Result<RunSummary, Stop> {
+    let files = RunFiles {
+        journal: read(rt, options.journal.as_str())?,
+        answers: read_in(rt, options.out.as_str(), &ANSWERS)?,
+        passed: read_in(rt, options.out.as_str(), &PASSED)?,
+        report: read_in(rt, options.out.as_str(), &REPORT)?,
+    };
+    let whys = whys_of(rt, options, &files.report)?;
+    summary_of(rt.alloc(), &files, names, whys, u64::from(options.limit))
+}
+
+/// The bytes of a journal and of the result tables of its run.
+#[derive(Drop)]
+struct RunFiles {
+    journal: Vec<u8>,
+    answers: Vec<u8>,
+    passed: Vec<u8>,
+    report: Vec<u8>,
+}
+
+/// What the table of reasons says of the lines of a report, where there is one.
+fn whys_of<R: Files + AllocGlobal>(
+    rt: &R,
+    options: &PageOptions,
+    report: &[u8],
+) -> Result<Whys, Stop> {
+    match &options.why {
+        Some(path) => Whys::of(rt.alloc(), &read(rt, path.as_str())?, report),
+        None => Ok(Whys::none(rt.alloc())),
+    }
+}
+
+/// What these files say; `limit` wrong responses are shown at most.
+fn summary_of(
+    alloc: Global,
+    files: &RunFiles,
+    names: Names,
+    whys: Whys,
+    limit: u64,
+) -> Result<RunSummary, Stop> {
+    let texts = RunTexts {
+        journal: &files.journal,
+        answers: &files.answers,
+        passed: &files.passed,
+        report: &files.report,
+    };
+    let fates = match fates(alloc, &texts) {
+        Ok(fates) => fates,
+        Err(error) => return Err(Stop::of_no_run(alloc, &error)),
+    };
+    let mut run = RunSummary {
+        names,
+        findings: Findings::none(alloc),
+        passed: BTreeMap::new(alloc),
+        whys,
+        others: None,
+    };
+    run.findings
+        .note_lines(alloc, &texts, &fates, &run.names, &mut run.whys, limit)?;
+    count_reasons(alloc, &mut run.passed, &files.passed)?;
+    Ok(run)
+}
+
+/// Counts the reasons of `passed.csv`.
+fn count_reasons(alloc: Global, reasons: &mut Tally, text: &[u8]) -> Result<(), Stop> {
     let mut rows = Rows::under(alloc, &PASSED, text)?;
     let mut row = ByteRecord::new(alloc);
-    let mut reasons = BTreeMap::new(alloc);
     for _ in 0..u64::MAX {
         if !rows.next(&mut row)? {
             break;
         }
-        count(alloc, &mut reasons, column(&row, 2), 1)?;
+        count(alloc, reasons, column(&row, 2), 1)?;
     }
-    Ok(reasons)
+    Ok(())
 }
 
 /// Adds the wrong responses.

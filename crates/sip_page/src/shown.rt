@@ -242,20 +242,31 @@ fn add_links(sheet: &mut Sheet, kind: &Kind, subjects: &Subjects, texts: &Texts,
 fn add_rows(sheet: &mut Sheet, view: &View<'_>, group: &Group) -> Result<(), AllocError> {
     sheet.add(ROWS, b"");
     for finding in &group.findings {
-        let case = finding.line.case(view.alloc)?;
-        add_row(sheet, view, finding, &case)?;
-        sheet.add_number(
-            "<tr class=\"m\"><td colspan=\"6\"><details><summary>Messages of line ",
-            finding.number,
-        );
-        sheet.add("</summary>", b"");
-        if !group.is_same {
-            add_because(sheet, view, finding, &case)?;
-        }
-        add_messages(sheet, finding, &case);
-        sheet.add("</details></td></tr>", b"");
+        add_line(sheet, view, finding, group.is_same)?;
     }
     sheet.add("</tbody></table></div>\n", b"");
+    Ok(())
+}
+
+/// Adds a line of a group, and its messages; why it was wrong, where the group doesn't say it of all its lines.
+fn add_line(
+    sheet: &mut Sheet,
+    view: &View<'_>,
+    finding: &Finding,
+    is_same: bool,
+) -> Result<(), AllocError> {
+    let case = finding.line.case(view.alloc)?;
+    add_row(sheet, view, finding, &case)?;
+    sheet.add_number(
+        "<tr class=\"m\"><td colspan=\"6\"><details><summary>Messages of line ",
+        finding.number,
+    );
+    sheet.add("</summary>", b"");
+    if !is_same {
+        add_because(sheet, view, finding, &case)?;
+    }
+    add_messages(sheet, finding, &case);
+    sheet.add("</details></td></tr>", b"");
     Ok(())
 }
 

@@ -141,11 +141,16 @@ impl Whys {
     fn sinces_of(&self, rows: &[ByteRecord], date: &[u8]) -> Result<Vec<Vec<u8>>, AllocError> {
         let mut sinces = Vec::new(self.alloc);
         for row in rows {
-            let mut since = Vec::new(self.alloc);
-            self.put_since(&mut since, column(row, 4), date)?;
-            sinces.push(since)?;
+            sinces.push(self.since_of(row, date)?)?;
         }
         Ok(sinces)
+    }
+
+    /// Since when a row is so.
+    fn since_of(&self, row: &ByteRecord, date: &[u8]) -> Result<Vec<u8>, AllocError> {
+        let mut since = Vec::new(self.alloc);
+        self.put_since(&mut since, column(row, 4), date)?;
+        Ok(since)
     }
 
     /// Writes since when something is so: `, since 09:12 (line 214, SELF2)`.

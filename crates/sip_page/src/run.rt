@@ -210,8 +210,8 @@ fn summary_of(
         whys,
         others: None,
     };
-    count_reasons(alloc, &mut run.passed, &files.passed)?;
     run.note_lines(alloc, files, limit)?;
+    count_reasons(alloc, &mut run.passed, &files.passed)?;
     Ok(run)
 }
 

@@ -149,17 +149,20 @@ impl Findings {
         shown: bool,
     ) -> Result<(), AllocError> {
         let facts = facts_of(alloc, number, &line, names, whys)?;
-        if shown {
-            self.note_subjects(alloc, &facts, number)?;
-        }
         let key = key_of(alloc, &facts)?;
+        if !shown {
+            return self.count_wrong(alloc, &key, facts);
+        }
+        self.note_subjects(alloc, &facts, number)?;
+        self.count_wrong(alloc, &key, facts)?;
+        show_in(&mut self.groups, &key, Finding { number, line })
+    }
+
+    /// Counts a wrong response in its group.
+    fn count_wrong(&mut self, alloc: Global, key: &[u8], facts: Facts) -> Result<(), AllocError> {
         let name = message_at(alloc, &facts.kind, &facts.connection)?;
         let right = counted(&self.right, &name);
-        count_in(&mut self.groups, &key, facts, right)?;
-        if shown {
-            show_in(&mut self.groups, &key, Finding { number, line })?;
-        }
-        Ok(())
+        count_in(&mut self.groups, key, facts, right)
     }
 
     /// Notes whom and what a wrong response is about.

@@ -203,16 +203,6 @@ fn summary_of(
     whys: Whys,
     limit: u64,
 ) -> Result<RunSummary, Stop> {
-    let texts = RunTexts {
-        journal: &files.journal,
-        answers: &files.answers,
-        passed: &files.passed,
-        report: &files.report,
-    };
-    let fates = match fates(alloc, &texts) {
-        Ok(fates) => fates,
-        Err(error) => return Err(Stop::of_no_run(alloc, &error)),
-    };
     let mut run = RunSummary {
         names,
         findings: Findings::none(alloc),
@@ -220,10 +210,27 @@ fn summary_of(
         whys,
         others: None,
     };
-    run.findings
-        .note_lines(alloc, &texts, &fates, &run.names, &mut run.whys, limit)?;
+    run.note_lines(alloc, files, limit)?;
     count_reasons(alloc, &mut run.passed, &files.passed)?;
     Ok(run)
+}
+
+impl RunSummary {
+    /// Notes the lines; `limit` wrong responses are shown at most.
+    fn note_lines(&mut self, alloc: Global, files: &RunFiles, limit: u64) -> Result<(), Stop> {
+        let texts = RunTexts {
+            journal: &files.journal,
+            answers: &files.answers,
+            passed: &files.passed,
+            report: &files.report,
+        };
+        let fates = match fates(alloc, &texts) {
+            Ok(fates) => fates,
+            Err(error) => return Err(Stop::of_no_run(alloc, &error)),
+        };
+        self.findings
+            .note_lines(alloc, &texts, &fates, &self.names, &mut self.whys, limit)
+    }
 }
 
 /// Counts the reasons of `passed.csv`.

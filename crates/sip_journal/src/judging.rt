@@ -269,7 +269,10 @@ impl Judge {
     /// The first odd message from a line on, counted over all logs.
     fn first_odd(&self, from: u64) -> Option<&Shown> {
         let mut first: Option<&Shown> = None;
-        for shown in self.damaged.iter().chain(&self.bare) {
+        for shown in &self.damaged {
+            first = earlier(first, shown, from);
+        }
+        for shown in &self.bare {
             first = earlier(first, shown, from);
         }
         for (_, sums) in &self.clients {

@@ -1,16 +1,11 @@
 -- The bytes of segments, position by position.
 use Rattle.std.proofs.Common.{◌≡◌, ◌+◌, ◌-◌, ◌≤◌, ℕ, List, [], ◌∷◌, ◌++◌, length, Option, Some, None, Bool, true, false, refl, sym, ap, arith, append_assoc, ◌∙◌, inl, inr}
-use Rattle.std.specs.Prelude.{◌&&◌, ◌↔◌, nat_le, Result, Ok, Err, OnErr}
-use Rattle.std.specs.List.{list_all}
+use Rattle.std.specs.Prelude.{◌↔◌, nat_le, Result, Ok, Err, OnErr}
 use Rattle.std.specs.Option.{option_or}
 use Rattle.std.proofs.lemmas.Bool.{cases_Bool}
 use Rattle.std.proofs.lemmas.Bool.Decides.{nat_tests}
 use Rattle.std.proofs.lemmas.Option.{slice_get_past}
-use Rattle.capture_streams.specs.Streams.{Segment, StandFrom, byte_at, byte_of, is_passed}
-
-both : (a b : Bool) → (a && b) ≡ true → (a ≡ true) × (b ≡ true)
-both true b h = (refl, h)
-both false b h = (h, cc h)
+use Rattle.capture_streams.specs.Streams.{Segment, StandFrom, byte_at, byte_of, is_passed, needed}
 
 at-most : (a b : ℕ) → nat_le a b ≡ true → a ≤ b
 at-most a b h = grind (arith, nat_tests)
@@ -70,9 +65,13 @@ byte-passed s n p passed above = elim (cases_Bool (nat_le s.at p)) [
   | inr e ↦ rw e refl
 ]
 
--- segments that are passed have no byte from there on
-pub passed-none : (ss : List Segment) (n p : ℕ) → list_all (is_passed n) ss ≡ true → n ≤ p → byte_at ss p ≡ None
-passed-none [] n p all above = refl
-passed-none (s ∷ ss) n p all above =
-    let (first, rest) = both (is_passed n s) (list_all (is_passed n) ss) all in
-    rw (byte-passed s n p (at-most (s.at + length s.bytes) n first) above) (passed-none ss n p rest above)
+-- without the segments that are passed there is the same byte at each position from there on
+pub byte-needed : (ss : List Segment) (n p : ℕ) → n ≤ p → byte_at (needed n ss) p ≡ byte_at ss p
+byte-needed [] n p above = refl
+byte-needed (s ∷ ss) n p above = elim (cases_Bool (is_passed n s)) [
+  | inl e ↦ rw (e, byte-passed s n p (at-most (s.at + length s.bytes) n e) above) (byte-needed ss n p above)
+  | inr e ↦ rw e (ap (λ (o : Option ℕ). option_or (byte_of s p) o) (byte-needed ss n p above))
+]
+
+pub same-needed : (ss ws : List Segment) (n : ℕ) → ws ≡ needed n ss → (q : ℕ) → n ≤ q → byte_at ws q ≡ byte_at ss q
+same-needed ss ws n is q above = ap (λ (l : List Segment). byte_at l q) is ∙ byte-needed ss n q above

@@ -1,5 +1,5 @@
 -- One side of a TCP connection, as packets were captured: segments may come late, early and again (RFC 9293, sequence numbers).
-use Rattle.std.specs.Prelude.{◌≡◌, ◌+◌, ◌-◌, ◌%◌, ◌^◌, ◌≤◌, ℕ, Bool, nat_le, List, [], ◌∷◌, ◌++◌, length, Option, Some, None, slice_get, if◌then◌else◌}
+use Rattle.std.specs.Prelude.{◌≡◌, ◌+◌, ◌-◌, ◌%◌, ◌^◌, ◌≤◌, ℕ, Bool, not, nat_le, filter, List, [], ◌∷◌, ◌++◌, length, Option, Some, None, slice_get, if◌then◌else◌}
 use Rattle.std.specs.Option.{option_or}
 
 -- the position of the first byte, and the bytes
@@ -33,6 +33,10 @@ Gives r later given = StandFrom r.next (r.waiting ++ later) given
 -- all bytes of a segment lie before a position
 abbrev pub is_passed : ℕ → Segment → Bool
 is_passed p s = nat_le (s.at + length s.bytes) p
+
+-- the segments that have a byte at a position or after it
+abbrev pub needed : ℕ → List Segment → List Segment
+needed p ss = filter (λ s. not (is_passed p s)) ss
 
 -- of the positions of a number the one that lies nearest to another: numbers begin again at 2 ^ 32
 pub record IsNear (next number p : ℕ) : Type 0 where

@@ -1,6 +1,6 @@
 //! The bytes of a stream, cut into pieces.
 
-ghost use Rattle.std.specs.Prelude.{◌≡◌, ◌++◌, ◌∷◌, [], true, false, length, IfOk, OnErr, IfSome};
+ghost use Rattle.std.specs.Prelude.{◌≡◌, ◌++◌, ◌∷◌, [], true, false, IfOk, OnErr, IfSome};
 ghost use Rattle.capture_streams.specs.Pieces.{Byte, HasNoEnd, IsMarked, bytes_alone, written};
 
 use std::alloc::{AllocError, Global};
@@ -99,11 +99,11 @@ impl Cutter {
         }
     }
 
-    /// How many bytes came since the last end.
-    pub fn len(&self) -> usize
-        ensures { result ≡ length self.now.bytes }
+    /// The bytes since the last end.
+    pub fn open(&self) -> &[u8]
+        ensures { result.now ≡ self.now.bytes }
     {
-        self.bytes.len()
+        self.bytes.as_slice()
     }
 
     /// Takes the next byte. Gives the piece that it ends, if it ends one.

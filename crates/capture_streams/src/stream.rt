@@ -1,8 +1,7 @@
 //! The segments of one side of a connection, put in order.
 
 ghost use Rattle.std.specs.Prelude.{◌≡◌, ◌+◌, ◌^◌, ◌<◌, ◌≤◌, ◌↔◌, ◌∷◌, [], ℕ, List, None, true, false, length, IfOk, IfSome, IfNone, OnOk, OnErr};
-ghost use Rattle.std.specs.List.{list_all};
-ghost use Rattle.capture_streams.specs.Streams.{Gives, IsNear, byte_at, byte_of, is_passed};
+ghost use Rattle.capture_streams.specs.Streams.{Gives, IsNear, byte_at, byte_of, is_passed, needed};
 ghost use Rattle.capture_streams.specs.Streams.{Segment as Came};
 
 use std::alloc::{AllocError, Global};
@@ -125,6 +124,16 @@ impl Stream {
         Ok(())
     }
 
+    /// Lets go of the segments of which no byte is needed any more. Nothing that is given changes.
+    pub fn settle(&mut self, alloc: Global)
+        ensures given { (later : List Came) (given : List ℕ) → Gives self.new later given ↔ Gives self.old later given }
+        ensures kept { self.new.waiting ≡ needed self.old.next self.old.waiting }
+        ensures still { self.new.next ≡ self.old.next }
+    {
+        forget(&mut self.waiting, self.next);
+        release(alloc, &mut self.waiting);
+    }
+
     /// Gives the next byte, as soon as it came.
     pub fn next(&mut self) -> Option<u8>
         ensures some { IfSome result (λ b. (later : List Came) (given : List ℕ) → Gives self.new later given ↔ Gives self.old later (b ∷ given)) }
@@ -156,20 +165,20 @@ impl Stream {
     }
 }
 
-/// Lets go of the segments that came, where all their bytes lie before a position.
+/// Lets go of the segments of which all bytes lie before a position.
 fn forget(waiting: &mut Vec<Segment>, next: u64)
-    ensures { (p : ℕ) → next ≤ p → byte_at waiting.new.items p ≡ byte_at waiting.old.items p }
+    ensures { waiting.new.items ≡ needed next waiting.old.items }
 {
-    if are_passed(waiting, next) {
-        waiting.clear();
-    }
+    waiting.retain(|segment| !segment.is_passed(next));
 }
 
-/// Whether all bytes of these segments lie before a position.
-fn are_passed(waiting: &[Segment], next: u64) -> bool
-    ensures { result ≡ list_all (is_passed next) waiting.now }
+/// Gives back the memory of a list that is empty.
+fn release(alloc: Global, waiting: &mut Vec<Segment>)
+    ensures { waiting.new.items ≡ waiting.old.items }
 {
-    waiting.iter().all(|segment| segment.is_passed(next))
+    if waiting.is_empty() {
+        *waiting = Vec::new(alloc);
+    }
 }
 
 /// The byte at a position, by the first segment that has one there.

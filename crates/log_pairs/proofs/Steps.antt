@@ -8,11 +8,11 @@ use Rattle.std.specs.Ordering.{nat_cmp}
 use Rattle.std.specs.Str.{bytes_eq}
 use Rattle.std.proofs.lemmas.List.{length-append}
 use Rattle.std.proofs.Math.Seq.{take-append_seam}
-use Rattle.log_pairs.specs.Pairs.{Open, Pair, Pending, Said, Request, Response, begins_open, has_open, pairs_of, to_come}
+use Rattle.log_pairs.specs.Pairs.{Open, Pair, Pending, Said, Request, Response, Over, begins_open, first_connection, has_open, pairs_of, to_come}
 use Rattle.log_pairs.specs.Devices.Positions.{IsWaiting, is_position, no_pair, pending_from, position_in}
 use Rattle.log_pairs.proofs.Keeping.{AreWaiting, unanswered, waiting-answered, waiting-asked, waiting-taken}
 use Rattle.log_pairs.proofs.Keys.{position-after}
-use Rattle.log_pairs.proofs.Waiting.{Moves, answered, asked, ends, one-open, others}
+use Rattle.log_pairs.proofs.Waiting.{Moves, answered, asked, ends, here, none-open, one-open, others, over}
 
 -- what waits, as a caller sees it
 abbrev pub opened : {A : Type 0} → ℕ → List Pair → BTreeMap (Vec ℕ A) ℕ → Open
@@ -72,6 +72,16 @@ fewer-kept n ps m w c are h d i at = by (bytes_eq c d) (position-after c m w Non
     by true e = let bad : ◌≡◌ {A = Option ℕ} None (Some i) = sym e ∙ at in cc bad
     by false e = are d i (sym e ∙ at)
 
+pub over-pairs : {A : Type 0} (n : ℕ) (ps : List Pair) (m w : BTreeMap (Vec ℕ A) ℕ) (c : List ℕ) → AreWaiting (position_in m) n ps → Changes c m w None
+    → (rest : List Said) → to_come (opened n ps w) rest ≡ to_come (opened n ps m) (Over c ∷ rest)
+over-pairs n ps m w c are h rest =
+    ap (λ (qs : List Pair). qs ++ pairs_of rest) (over (position_in m) (position_in w) c rest n ps (moves c c m w None refl h) (unanswered (position_in m) n ps are))
+
+pub over-closed : {A : Type 0} (n : ℕ) (ps : List Pair) (m w : BTreeMap (Vec ℕ A) ℕ) (c : List ℕ) → Changes c m w None → has_open c (pending_from (position_in w) n ps) ≡ false
+over-closed n ps m w c h =
+    let none : position_in w c ≡ None = moves c c m w None refl h c ∙ rw (here c) refl in
+    none-open (position_in w) c n ps none
+
 pub close-pairs : {A : Type 0} (n : ℕ) (ps : List Pair) (m w : BTreeMap (Vec ℕ A) ℕ) → AreWaiting (position_in m) n ps → w.entries ≡ []
     → to_come (opened n ps w) [] ≡ to_come (opened n ps m) []
 close-pairs n ps m w are empty =
@@ -92,6 +102,10 @@ count f n (p ∷ ps) = ap (λ (k : ℕ). suc k) (count f (n + 1) ps)
 pub begins : (f : List ℕ → Option ℕ) (n : ℕ) (ps : List Pair) (p : Pair) → 0 < length ps → p ≡ get_or ps 0 p → begins_open (pending_from f n ps) ≡ is_position (f p.connection) n
 begins f n [] p some is = absurd (omega arith)
 begins f n (q ∷ ps) p some is = ap (λ (x : Pair). is_position (f x.connection) n) (sym is)
+
+pub first-of : (f : List ℕ → Option ℕ) (n : ℕ) (ps : List Pair) (p : Pair) → 0 < length ps → p ≡ get_or ps 0 p → Some p.connection ≡ first_connection (pending_from f n ps)
+first-of f n [] p some is = absurd (omega arith)
+first-of f n (q ∷ ps) p some is = ap (λ (x : Pair). Some x.connection) is
 
 pub taken-kept : (f : List ℕ → Option ℕ) (n : ℕ) (ps qs : List Pair) (p : Pair) → ps ≡ p ∷ qs → begins_open (pending_from f n ps) ≡ false → AreWaiting f n ps → AreWaiting f (n + 1) qs
 taken-kept f n ps qs p is closed are =

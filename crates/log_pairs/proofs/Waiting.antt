@@ -4,7 +4,7 @@ use Rattle.std.specs.Prelude.{◌&&◌, ◌||◌, if◌then◌else◌}
 use Rattle.std.specs.Str.{bytes_eq}
 use Rattle.std.proofs.lemmas.Bool.{cases_Bool, ne_eqb, eq-eqb}
 use Rattle.std.proofs.lemmas.Slice.Eq.{bytes_eq-Decides}
-use Rattle.log_pairs.specs.Pairs.{Pair, Said, Request, Response, has_open, pairs_of, reply_in, settled}
+use Rattle.log_pairs.specs.Pairs.{Pair, Said, Request, Response, Over, has_open, pairs_of, reply_in, settled}
 use Rattle.log_pairs.specs.Devices.Positions.{is_position, no_pair, pending_from}
 
 -- what an open request is settled as, and a closed one
@@ -40,7 +40,7 @@ position-else : (e : Bool) (i n : ℕ) (o : Option ℕ) → (i ≡ n → ⊥) �
 position-else true i n o h = apart i n h
 position-else false i n o h = refl
 
-here : (c : List ℕ) → bytes_eq c c ≡ true
+pub here : (c : List ℕ) → bytes_eq c c ≡ true
 here c = equal_bytes c c refl
 
 pub asked : (f g : List ℕ → Option ℕ) (c m : List ℕ) (rest : List Said) (n i : ℕ) (ps : List Pair) → Moves c (Some i) f g → i ≡ n + length ps → Unanswered f n ps
@@ -117,6 +117,20 @@ answered f g c m rest n (suc j) (p ∷ ps) q moves at below same is =
     ap₂ (λ (x : Pair) (xs : List Pair). x ∷ xs)
     (other-one (bytes_eq c p.connection) (is_position (g p.connection) n) (is_position (f p.connection) n) p (reply_in rest p.connection) (Some m) if_same otherwise)
     (answered f g c m rest (n + 1) j ps q moves next (omega arith) same is)
+
+-- a connection is over: its open request stays without a response
+none-else : (e : Bool) (n : ℕ) (o : Option ℕ) → is_position (if e then None else o) n ≡ (if e then false else is_position o n)
+none-else true n o = refl
+none-else false n o = refl
+
+pub over : (f g : List ℕ → Option ℕ) (c : List ℕ) (rest : List Said) (n : ℕ) (ps : List Pair) → Moves c None f g → Unanswered f n ps
+    → map (settled rest) (pending_from g n ps) ≡ map (settled (Over c ∷ rest)) (pending_from f n ps)
+over f g c rest n [] moves still = refl
+over f g c rest n (p ∷ ps) moves still =
+    let new : is_position (g p.connection) n ≡ (if bytes_eq c p.connection then false else is_position (f p.connection) n) =
+    ap (λ (o : Option ℕ). is_position o n) (moves p.connection) ∙ none-else (bytes_eq c p.connection) n (f p.connection) in
+    let one = asked-one (bytes_eq c p.connection) (is_position (f p.connection) n) p (reply_in rest p.connection) still.0 in
+    ap₂ (λ (q : Pair) (qs : List Pair). q ∷ qs) (ap (λ (b : Bool). settle b (reply_in rest p.connection) p) new ∙ one) (over f g c rest (n + 1) ps moves still.1)
 
 -- whether a connection has an open request
 found-one : (f : List ℕ → Option ℕ) (c d : List ℕ) (n : ℕ) → is_position (f c) n ≡ false → (is_position (f d) n && bytes_eq c d) ≡ false

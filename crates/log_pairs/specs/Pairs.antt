@@ -2,10 +2,11 @@
 use Rattle.std.specs.Prelude.{◌&&◌, ◌||◌, ℕ, Bool, true, false, List, [], ◌∷◌, ◌++◌, map, Option, Some, None, if◌then◌else◌}
 use Rattle.std.specs.Str.{bytes_eq}
 
--- what a line of a log says: a request or a response of a connection
+-- what a log says, in its order: a request or a response of a connection, or that nothing more is said of what a connection asked
 pub data Said : Type 0 where
   Request : (connection : List ℕ) → (message : List ℕ) → Said
   Response : (connection : List ℕ) → (message : List ℕ) → Said
+  Over : (connection : List ℕ) → Said
 
 -- a request, the connection that it came over, and the response to it
 pub record Pair : Type 0 where
@@ -13,17 +14,19 @@ pub record Pair : Type 0 where
   pub request : List ℕ
   pub response : Option (List ℕ)
 
--- the response to a request is the next message of its connection, where that is a response and no request
+-- the response to a request is what is said next of its connection, where that is a response
 abbrev pub reply_in : List Said → List ℕ → Option (List ℕ)
 reply_in [] c = None
 reply_in (Request d m ∷ rest) c = if bytes_eq d c then None else reply_in rest c
 reply_in (Response d m ∷ rest) c = if bytes_eq d c then Some m else reply_in rest c
+reply_in (Over d ∷ rest) c = if bytes_eq d c then None else reply_in rest c
 
 -- the pairs of a log: a pair for each request, in their order
 abbrev pub pairs_of : List Said → List Pair
 pairs_of [] = []
 pairs_of (Request c m ∷ rest) = record { connection = c; request = m; response = reply_in rest c } ∷ pairs_of rest
 pairs_of (Response c m ∷ rest) = pairs_of rest
+pairs_of (Over c ∷ rest) = pairs_of rest
 
 -- a request that came, with the response that it has so far, and whether one may yet come
 pub record Pending : Type 0 where
@@ -53,3 +56,8 @@ has_open c (p ∷ ps) = (p.is_open && bytes_eq c p.pair.connection) || has_open 
 abbrev pub begins_open : List Pending → Bool
 begins_open [] = true
 begins_open (p ∷ ps) = p.is_open
+
+-- the connection of the request that waits first
+abbrev pub first_connection : List Pending → Option (List ℕ)
+first_connection [] = None
+first_connection (p ∷ ps) = Some p.pair.connection

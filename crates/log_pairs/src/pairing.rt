@@ -1,9 +1,9 @@
 //! Requests and responses in the order of a log, put together.
 
-ghost use Rattle.std.specs.Prelude.{◌≡◌, ◌+◌, ◌<◌, ◌≤◌, ◌∷◌, [], true, false, IfOk, OnOk, OnErr, IfSome, IfNone, List, ℕ, length};
+ghost use Rattle.std.specs.Prelude.{◌≡◌, ◌+◌, ◌<◌, ◌≤◌, ◌∷◌, [], true, false, IfOk, OnOk, OnErr, IfSome, IfNone, List, ℕ, length, option_map};
 ghost use Rattle.std.specs.List.{AllByRecursion};
 ghost use Rattle.journal_table.specs.declared.TheConstants.{LINE_LIMIT};
-ghost use Rattle.log_pairs.specs.Pairs.{Said, Request, Response, has_open, begins_open, to_come};
+ghost use Rattle.log_pairs.specs.Pairs.{Said, Request, Response, Over, has_open, begins_open, first_connection, to_come};
 ghost use Rattle.log_pairs.specs.Devices.Positions.{is_position, position_in};
 
 use crate::exchange::Exchange;
@@ -113,6 +113,25 @@ impl Pairing {
         let at = position - self.taken;
         self.waiting[at].answer(bytes);
         Ok(true)
+    }
+
+    /// Nothing more comes to what a connection asked: its open request, if it has one, stays without a response.
+    pub fn over(&mut self, connection: &[u8])
+        ensures pairs { (rest : List Said) → to_come self.new rest ≡ to_come self.old (Over connection.now ∷ rest) }
+        ensures closed { has_open connection.now self.new.pending ≡ false }
+        ensures counted { self.new.asked ≡ self.old.asked }
+    {
+        self.open.remove(connection);
+    }
+
+    /// The connection of the first request that wasn't taken yet.
+    pub fn first(&self) -> Option<&[u8]>
+        ensures { option_map (λ c. c.now) result ≡ first_connection self.now.pending }
+    {
+        match self.waiting.front() {
+            Some(first) => Some(first.connection()),
+            None => None,
+        }
     }
 
     /// Takes the first request that wasn't taken yet, with its response, where that can't change any more.

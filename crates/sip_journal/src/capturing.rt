@@ -1,6 +1,7 @@
 //! The messages of captured connections, as they come.
 
 use crate::connection::{Half, Heard};
+use crate::connections::{Client, Connection, Connections, Ends};
 use crate::headers::TcpSegment;
 use crate::judging::Place;
 use crate::reading::Reading;
@@ -9,17 +10,9 @@ use capture_streams::Piece;
 use log_pairs::{Odd, Side, odd_of};
 use sip_reader::{unsummed, without_line_end};
 use std::alloc::{AllocError, Global};
-use std::collections::{BTreeMap, VecDeque};
-use std::net::SocketAddr;
 
 /// The port of a server, where none is named.
 const PORT: u16 = 6001;
-
-/// How many connections that are over are remembered, for segments that come again.
-const REMEMBERED: usize = 4096;
-
-/// The two ends of a connection, the lesser address before the other.
-type Ends = (SocketAddr, SocketAddr);
 
 /// Which of the two ends sends.
 #[derive(Clone, Copy)]
@@ -50,47 +43,23 @@ impl Turn {
             is_first: !self.is_first,
         }
     }
-}
 
-/// Who of the two ends is the client.
-#[derive(Clone, Copy)]
-enum Client {
-    /// Nobody has sent a message yet.
-    Unknown,
-    First,
-    Second,
-    /// Neither: they don't speak SIP2.
-    Nobody,
-}
-
-struct Connection {
-    first: Half,
-    second: Half,
-    client: Client,
-    /// Whether bytes of the client are missing since its last whole request: what is answered next may be a request that is missing.
-    lacks_request: bool,
-    is_over: bool,
-}
-
-impl Drop for Connection {
-    fn drop(self) {
-        let Connection {
-            first: _,
-            second: _,
-            client: _,
-            lacks_request: _,
-            is_over: _,
-        } = self;
+    /// What the end sends whose turn it is.
+    fn half_of(self, connection: &Connection) -> &Half {
+        if self.is_first {
+            &connection.first
+        } else {
+            &connection.second
+        }
     }
 }
 
-/// The connections of a capture.
+/// The messages of a capture.
 pub struct Capturing {
     alloc: Global,
     /// The port of the server, where one is named.
     port: Option<u16>,
-    connections: BTreeMap<Ends, Connection>,
-    over: VecDeque<Ends>,
+    connections: Connections,
 }
 
 impl Drop for Capturing {
@@ -99,7 +68,6 @@ impl Drop for Capturing {
             alloc: _,
             port: _,
             connections: _,
-            over: _,
         } = self;
     }
 }
@@ -109,8 +77,7 @@ impl Capturing {
         Capturing {
             alloc,
             port,
-            connections: BTreeMap::new(alloc),
-            over: VecDeque::new(alloc),
+            connections: Connections::new(alloc),
         }
     }
 
@@ -121,25 +88,35 @@ impl Capturing {
         reading: &mut Reading<'l>,
         place: Place<'l>,
     ) -> Result<(), Stop> {
+        self.settle(reading, place)?;
         let turn = Turn::of(segment);
-        let mut connection = match self.connections.remove(&turn.ends) {
+        let mut connection = match self.connections.take(&turn.ends) {
             Some(connection) => connection,
             None => match self.begun(segment, turn.ends) {
                 Some(connection) => connection,
                 None => return Ok(()),
             },
         };
+        self.begin_again(&mut connection, turn, segment, reading)?;
         let was_over = connection.is_over;
-        if segment.begins {
-            connection.is_over = false;
-        }
         if !matches!(connection.client, Client::Nobody) {
             self.hear(&mut connection, turn, segment, reading, place)?;
         }
-        if matches!(connection.client, Client::Nobody) {
-            connection.is_over = true;
+        self.connections.keep(turn.ends, connection, was_over)?;
+        Ok(())
+    }
+
+    /// A segment comes: lets go of what no segment can change any more.
+    fn settle<'l>(&mut self, reading: &mut Reading<'l>, place: Place<'l>) -> Result<(), Stop> {
+        self.connections.count();
+        if let Some(client) = self.connections.settle()? {
+            let name = format!(in self.alloc; "{client}")?;
+            reading.over(name.as_str())?;
         }
-        self.keep(turn.ends, connection, was_over)
+        if let Some((ends, connection)) = self.connections.take_idle() {
+            self.finish(ends, connection, reading, place)?;
+        }
+        Ok(())
     }
 
     /// A connection that begins with this segment; none where it has nothing to say, or another port is wanted.
@@ -155,13 +132,26 @@ impl Capturing {
             (false, false) if self.port.is_none() => Client::Unknown,
             _ => return None,
         };
-        Some(Connection {
-            first: Half::new(self.alloc),
-            second: Half::new(self.alloc),
-            client,
-            lacks_request: false,
-            is_over: false,
-        })
+        Some(Connection::new(self.alloc, client))
+    }
+
+    /// Where a segment begins the stream of one end anew, the connection isn't over; where that is the client's, what it asked before is.
+    fn begin_again(
+        &self,
+        connection: &mut Connection,
+        turn: Turn,
+        segment: &TcpSegment<'_>,
+        reading: &mut Reading<'_>,
+    ) -> Result<(), Stop> {
+        let is_new = segment.begins && !turn.half_of(connection).is_begun_at(segment.number);
+        if !is_new || matches!(connection.client, Client::Nobody) {
+            return Ok(());
+        }
+        connection.is_over = false;
+        if let Some((Side::Request, name)) = self.speaker(connection.client, turn)? {
+            reading.over(name.as_str())?;
+        }
+        Ok(())
     }
 
     /// Hears a segment of a connection: first what it acknowledges, then what it says.
@@ -193,7 +183,25 @@ impl Capturing {
         };
         connection.is_over = connection.is_over || is_over;
         self.tell(connection, turn.other(), &answered, reading, place)?;
-        self.tell(connection, turn, &said, reading, place)
+        self.tell(connection, turn, &said, reading, place)?;
+        self.look(connection, turn)?;
+        Ok(())
+    }
+
+    /// Looks who is the client, as soon as a message has begun. Where nobody is, nothing is kept of the connection.
+    fn look(&self, connection: &mut Connection, turn: Turn) -> Result<(), AllocError> {
+        if matches!(connection.client, Client::Unknown) {
+            let message = without_line_feeds(turn.half_of(connection).open());
+            if let Some(identifier) = message.get(..2) {
+                connection.client = client_by(self.alloc, identifier, turn.is_first)?;
+            }
+        }
+        if matches!(connection.client, Client::Nobody) {
+            connection.first = Half::new(self.alloc);
+            connection.second = Half::new(self.alloc);
+            connection.is_over = true;
+        }
+        Ok(())
     }
 
     /// Hands on what was heard of one end.
@@ -230,7 +238,7 @@ impl Capturing {
         reading: &mut Reading<'l>,
         place: Place<'l>,
     ) -> Result<(), Stop> {
-        let message = message_of(piece);
+        let message = without_line_feeds(piece.bytes());
         if message.is_empty() {
             return Ok(());
         }
@@ -257,12 +265,10 @@ impl Capturing {
 
     /// Whose messages an end sends, and the name of the connection: the client's address and port.
     fn speaker(&self, client: Client, turn: Turn) -> Result<Option<(Side, String)>, AllocError> {
-        let (address, is_client) = match client {
-            Client::First => (turn.ends.0, turn.is_first),
-            Client::Second => (turn.ends.1, !turn.is_first),
-            _ => return Ok(None),
+        let Some(address) = client.address(turn.ends) else {
+            return Ok(None);
         };
-        let side = if is_client {
+        let side = if matches!(client, Client::First) == turn.is_first {
             Side::Request
         } else {
             Side::Response
@@ -271,23 +277,26 @@ impl Capturing {
         Ok(Some((side, name)))
     }
 
-    /// Keeps a connection, and lets go of the one that is over the longest, where there are many.
-    fn keep(&mut self, ends: Ends, connection: Connection, was_over: bool) -> Result<(), Stop> {
-        let ended = connection.is_over && !was_over;
-        if self.connections.insert(ends, connection).is_err() {
-            return Err(Stop::Memory);
-        }
-        if ended && self.over.push_back(ends).is_err() {
-            return Err(Stop::Memory);
-        }
-        if self.over.len() > REMEMBERED {
-            if let Some(oldest) = self.over.pop_front() {
-                if let Some(connection) = self.connections.remove(&oldest) {
-                    if !connection.is_over && self.connections.insert(oldest, connection).is_err() {
-                        return Err(Stop::Memory);
-                    }
-                }
-            }
+    /// Nothing more comes of a connection: hands on what waits for its end.
+    fn finish<'l>(
+        &self,
+        ends: Ends,
+        mut connection: Connection,
+        reading: &mut Reading<'l>,
+        place: Place<'l>,
+    ) -> Result<(), Stop> {
+        let (mut first, mut second) = (Vec::new(self.alloc), Vec::new(self.alloc));
+        connection.first.close(&mut first)?;
+        connection.second.close(&mut second)?;
+        let turn = Turn {
+            ends,
+            is_first: true,
+        };
+        self.tell(&mut connection, turn, &first, reading, place)?;
+        self.tell(&mut connection, turn.other(), &second, reading, place)?;
+        if let Some(client) = connection.client.address(ends) {
+            let name = format!(in self.alloc; "{client}")?;
+            reading.over(name.as_str())?;
         }
         Ok(())
     }
@@ -295,21 +304,10 @@ impl Capturing {
     /// The capture is at its end.
     pub fn end<'l>(&mut self, reading: &mut Reading<'l>, place: Place<'l>) -> Result<(), Stop> {
         for _ in 0..u64::MAX {
-            let Some((ends, mut connection)) = self.connections.pop_first() else {
+            let Some((ends, connection)) = self.connections.take_first() else {
                 break;
             };
-            if matches!(connection.client, Client::Nobody) {
-                continue;
-            }
-            let (mut first, mut second) = (Vec::new(self.alloc), Vec::new(self.alloc));
-            connection.first.close(&mut first)?;
-            connection.second.close(&mut second)?;
-            let turn = Turn {
-                ends,
-                is_first: true,
-            };
-            self.tell(&mut connection, turn, &first, reading, place)?;
-            self.tell(&mut connection, turn.other(), &second, reading, place)?;
+            self.finish(ends, connection, reading, place)?;
         }
         Ok(())
     }
@@ -336,8 +334,7 @@ fn exchange(
 }
 
 /// The bytes of a piece without the line feeds that may follow a carriage return.
-fn message_of(piece: &Piece) -> &[u8] {
-    let bytes = piece.bytes();
+fn without_line_feeds(bytes: &[u8]) -> &[u8] {
     let from = bytes
         .iter()
         .position(|byte| *byte != b'\n')

@@ -68,6 +68,16 @@ impl Half {
         }
     }
 
+    /// Whether its begin was captured, with this number.
+    pub fn is_begun_at(&self, number: u32) -> bool {
+        self.begun_at == Some(number)
+    }
+
+    /// The bytes that wait for their end.
+    pub fn open(&self) -> &[u8] {
+        self.cutter.open()
+    }
+
     /// Whether all that was sent was heard.
     pub fn is_over(&self) -> bool {
         match (&self.stream, self.end) {
@@ -120,7 +130,7 @@ impl Half {
 
     /// The stream begins with the byte behind this number; what came before belongs to another connection.
     fn begin(&mut self, number: u32, heard: &mut Vec<Heard>) -> Result<(), AllocError> {
-        if self.begun_at == Some(number) {
+        if self.is_begun_at(number) {
             return Ok(());
         }
         self.close(heard)?;
@@ -191,10 +201,11 @@ impl Half {
             };
             if let Some(piece) = self.cutter.take(byte)? {
                 heard.push(Heard::Piece(piece))?;
-            } else if self.cutter.len() >= LONGEST {
+            } else if self.cutter.open().len() >= LONGEST {
                 heard.push(Heard::Piece(self.cutter.gap()))?;
             }
         }
+        stream.settle(self.alloc);
         Ok(())
     }
 
@@ -206,7 +217,7 @@ impl Half {
             None => self.last,
         };
         self.lose(last, heard)?;
-        if self.cutter.len() > 0 {
+        if !self.cutter.open().is_empty() {
             heard.push(Heard::Piece(self.cutter.gap()))?;
         }
         Ok(())

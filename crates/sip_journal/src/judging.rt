@@ -41,6 +41,9 @@ pub struct Judge {
     wrong: u64,
     /// What each client does, by the name of its connection.
     clients: BTreeMap<Vec<u8>, Sums>,
+    /// Requests that lack a checksum, of clients of which nothing more comes, and the first of them.
+    lacking: u64,
+    bare: Vec<Shown>,
     skipped: Vec<Shown>,
     damaged: Vec<Shown>,
 }
@@ -81,6 +84,8 @@ impl Drop for Judge {
             unknown: _,
             wrong: _,
             clients: _,
+            lacking: _,
+            bare: _,
             skipped: _,
             damaged: _,
         } = self;
@@ -95,6 +100,8 @@ impl Judge {
             unknown: 0,
             wrong: 0,
             clients: BTreeMap::new(alloc),
+            lacking: 0,
+            bare: Vec::new(alloc),
             skipped: Vec::new(alloc),
             damaged: Vec::new(alloc),
         }
@@ -112,7 +119,7 @@ impl Judge {
 
     /// Requests without a checksum, of clients that send some with one.
     pub fn lacking(&self) -> u64 {
-        let mut all: u64 = 0;
+        let mut all = self.lacking;
         for (_, sums) in &self.clients {
             all = all.saturating_add(sums.lacking());
         }
@@ -195,6 +202,24 @@ impl Judge {
         Ok(())
     }
 
+    /// Nothing more comes of a connection: of its client only what is lacking is kept.
+    pub fn over(&mut self, connection: &[u8]) -> Result<(), AllocError> {
+        let Some(mut sums) = self.clients.remove(connection) else {
+            return Ok(());
+        };
+        let lacking = sums.lacking();
+        if lacking == 0 {
+            return Ok(());
+        }
+        self.lacking = self.lacking.saturating_add(lacking);
+        if let Some(shown) = sums.first.take() {
+            self.bare.push(shown)?;
+            self.bare.sort_unstable_by_key(|shown| shown.number);
+            self.bare.truncate(TOLD);
+        }
+        Ok(())
+    }
+
     /// Counts a request of a client: one with a checksum, or this one without.
     fn count_sum(&mut self, connection: &[u8], bare: Option<Shown>) -> Result<(), AllocError> {
         // (of more clients than these the last ones count as one)
@@ -245,6 +270,9 @@ impl Judge {
     fn first_odd(&self, from: u64) -> Option<&Shown> {
         let mut first: Option<&Shown> = None;
         for shown in &self.damaged {
+            first = earlier(first, shown, from);
+        }
+        for shown in &self.bare {
             first = earlier(first, shown, from);
         }
         for (_, sums) in &self.clients {

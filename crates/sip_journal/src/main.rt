@@ -6,6 +6,7 @@ mod capturing;
 mod chosen;
 mod command_line;
 mod connection;
+mod connections;
 mod console;
 mod finder;
 mod headers;

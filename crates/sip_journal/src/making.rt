@@ -4,11 +4,14 @@ use crate::stop::Stop;
 use journal_table::{CONNECTION_LIMIT, LINE_LIMIT};
 use log_pairs::{Exchange, Pairing, Side, head_text, rows_text};
 use sip_reader::LINE_NUMBER_END;
-use std::alloc::Global;
+use std::alloc::{AllocError, Global};
 use std::io::Write;
 
 /// How many exchanges are written at once.
 const ROWS: usize = 4096;
+
+/// After so many further requests, of all connections, no response comes to a request any more.
+const PATIENCE: usize = 16_384;
 
 /// The journal that is made. What isn't written yet is kept.
 pub struct Making {
@@ -90,6 +93,7 @@ impl Making {
                     ));
                 }
                 self.pairing.ask(self.alloc, connection, message)?;
+                self.give_up()?;
             }
             Side::Response => {
                 if !self.pairing.answer(self.alloc, connection, message)? {
@@ -100,6 +104,24 @@ impl Making {
         }
         self.collect()?;
         Ok(Taken::Paired)
+    }
+
+    /// Nothing more comes of a connection: its open request stays without a response.
+    pub fn over(&mut self, connection: &[u8]) -> Result<(), Stop> {
+        self.pairing.over(connection);
+        self.collect()
+    }
+
+    /// Leaves the first request that waits without a response, where too many came after it.
+    fn give_up(&mut self) -> Result<(), AllocError> {
+        if self.pairing.waiting() <= PATIENCE {
+            return Ok(());
+        }
+        if let Some(connection) = self.pairing.first() {
+            let name = Vec::from_slice(self.alloc, connection)?;
+            self.pairing.over(name.as_slice());
+        }
+        Ok(())
     }
 
     /// No message comes any more: requests that are open stay without a response.

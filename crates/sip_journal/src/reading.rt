@@ -162,6 +162,12 @@ impl<'l> Reading<'l> {
         Ok(())
     }
 
+    /// Nothing more comes of a connection.
+    pub fn over(&mut self, connection: &str) -> Result<(), Stop> {
+        self.judge.over(connection.as_bytes())?;
+        self.making.over(connection.as_bytes())
+    }
+
     /// A packet was read.
     pub fn count_packet(&mut self) {
         self.lines = self.lines.saturating_add(1);

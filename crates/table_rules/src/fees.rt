@@ -1,0 +1,187 @@
+//! The tables of open and of closed fees.
+
+ghost use Rattle.std.specs.Prelude.{◌≡◌, List, Option, Some, is_some, not, IfErr, IfOk, IfSome, if◌then◌else◌, true};
+ghost use Rattle.csv.specs.Records.{fields_of};
+ghost use Rattle.sip_reader.specs.Texts.{is_id};
+ghost use Rattle.circ_records.specs.Rules as Rules;
+ghost use Rattle.circ_records.specs.Tables.{Row, field};
+ghost use Rattle.circ_records.specs.Values.{hundredths};
+ghost use Rattle.circ_records.specs.declared.fault.BaseRule.{BaseRule};
+ghost use Rattle.circ_records.specs.declared.fault.BaseRule.TheVariants as rule;
+ghost use Rattle.table_rules.specs.Devices.RowsBefore.{HasIds};
+
+use crate::judge::Judge;
+use crate::line_fees::is_taken;
+use crate::seen_ids::add_id;
+use circ_records::{BaseRule, FeeType};
+use csv::ByteRecord;
+use csv_table::column;
+use sip_reader::{Amount, Id};
+use std::alloc::{AllocError, Global};
+use std::collections::BTreeSet;
+
+pub(crate) const FEES: [&str; 5] = ["id", "patron", "type", "amount", "paid"];
+
+pub(crate) const CLOSED: [&str; 4] = ["id", "patron", "type", "amount"];
+
+/// What is kept of the rows of open fees and of the patrons, and the number of the journal's first line.
+pub(crate) struct FeeJudge<'a> {
+    pub(crate) first: Option<u64>,
+    pub(crate) patrons: &'a BTreeSet<Id>,
+    pub(crate) ids: BTreeSet<Id>,
+}
+
+impl Drop for FeeJudge<'_> {
+    fn drop(self) {
+        let FeeJudge {
+            first: _,
+            patrons: _,
+            ids: _,
+        } = self;
+    }
+}
+
+impl Judge for FeeJudge<'_> {
+    ghost judges = { λ s rule before. (patrons : List Row) × HasIds 0 patrons s.patrons.now × HasIds 0 before s.ids × (rule ≡ Rules.fee_rule s.first patrons) };
+
+    fn judge(&mut self, alloc: Global, row: &ByteRecord) -> Result<Option<BaseRule>, AllocError> {
+        let broken = broken_open(alloc, self.first, self.patrons, &self.ids, row)?;
+        add_id(alloc, &mut self.ids, column(row, 0))?;
+        Ok(broken)
+    }
+}
+
+/// The same of closed fees, beside the ids of the open ones.
+pub(crate) struct ClosedJudge<'a> {
+    pub(crate) first: Option<u64>,
+    pub(crate) patrons: &'a BTreeSet<Id>,
+    pub(crate) fees: &'a BTreeSet<Id>,
+    pub(crate) ids: BTreeSet<Id>,
+}
+
+impl Drop for ClosedJudge<'_> {
+    fn drop(self) {
+        let ClosedJudge {
+            first: _,
+            patrons: _,
+            fees: _,
+            ids: _,
+        } = self;
+    }
+}
+
+impl Judge for ClosedJudge<'_> {
+    ghost judges = { λ s rule before. (patrons : List Row) × (fees : List Row) × HasIds 0 patrons s.patrons.now × HasIds 0 fees s.fees.now × HasIds 0 before s.ids
+        × (rule ≡ Rules.closed_rule s.first patrons fees) };
+
+    fn judge(&mut self, alloc: Global, row: &ByteRecord) -> Result<Option<BaseRule>, AllocError> {
+        let broken = self.broken_rule(alloc, row)?;
+        add_id(alloc, &mut self.ids, column(row, 0))?;
+        Ok(broken)
+    }
+}
+
+/// The first rule that a row of open fees breaks after such with these ids, with patrons of these.
+#[tactic(auto, unfolding(circ_records::specs::Rules::fee_rule, circ_records::specs::Rules::has_fee_values))]
+fn broken_open(
+    alloc: Global,
+    first: Option<u64>,
+    patrons: &BTreeSet<Id>,
+    ids: &BTreeSet<Id>,
+    row: &ByteRecord,
+) -> Result<Option<BaseRule>, AllocError>
+    ensures { IfOk result (λ broken. (all_patrons before : List Row) → HasIds 0 all_patrons patrons.now → HasIds 0 before ids.now
+        → broken ≡ Rules.fee_rule first all_patrons before (fields_of row.now)) }
+{
+    let Some((id, patron)) = ids_of(alloc, row)? else {
+        return Ok(Some(BaseRule::Text));
+    };
+    if !has_closed_values(row) || Amount::read(column(row, 4)).is_none() {
+        return Ok(Some(BaseRule::Value));
+    }
+    if ids.contains(&id) {
+        return Ok(Some(BaseRule::Double));
+    }
+    if !patrons.contains(&patron) {
+        return Ok(Some(BaseRule::Patron));
+    }
+    if !is_owing(row) {
+        return Ok(Some(BaseRule::Paid));
+    }
+    if is_taken(first, column(row, 0)) {
+        return Ok(Some(BaseRule::Number));
+    }
+    Ok(None)
+}
+
+impl ClosedJudge<'_> {
+    /// The first rule that a row breaks.
+    #[tactic(auto, unfolding(circ_records::specs::Rules::closed_rule))]
+    fn broken_rule(
+        &self,
+        alloc: Global,
+        row: &ByteRecord,
+    ) -> Result<Option<BaseRule>, AllocError>
+        ensures { IfOk result (λ broken. (patrons fees before : List Row) → HasIds 0 patrons self.now.patrons.now → HasIds 0 fees self.now.fees.now → HasIds 0 before self.now.ids
+            → broken ≡ Rules.closed_rule self.now.first patrons fees before (fields_of row.now)) }
+    {
+        let Some((id, patron)) = ids_of(alloc, row)? else {
+            return Ok(Some(BaseRule::Text));
+        };
+        if !has_closed_values(row) {
+            return Ok(Some(BaseRule::Value));
+        }
+        if self.fees.contains(&id) || self.ids.contains(&id) {
+            return Ok(Some(BaseRule::Double));
+        }
+        if !self.patrons.contains(&patron) {
+            return Ok(Some(BaseRule::Patron));
+        }
+        if is_taken(self.first, column(row, 0)) {
+            return Ok(Some(BaseRule::Number));
+        }
+        Ok(None)
+    }
+}
+
+/// The ids of a row's fee and of its patron, where both are ids.
+#[tactic(auto, unfolding(circ_records::specs::Rules::has_fee_texts))]
+fn ids_of(alloc: Global, row: &ByteRecord) -> Result<Option<(Id, Id)>, AllocError>
+    ensures texts { IfOk result (λ ids. is_some ids ≡ Rules.has_fee_texts (fields_of row.now)) }
+    ensures fee { IfOk result (λ ids. IfSome ids (λ it. (it.0 ≡ field 0 (fields_of row.now)) × (is_id it.0 ≡ true))) }
+    ensures patron { IfOk result (λ ids. IfSome ids (λ it. (it.1 ≡ field 1 (fields_of row.now)) × (is_id it.1 ≡ true))) }
+{
+    let Some(id) = Id::read(alloc, column(row, 0))? else {
+        return Ok(None);
+    };
+    let Some(patron) = Id::read(alloc, column(row, 1))? else {
+        return Ok(None);
+    };
+    Ok(Some((id, patron)))
+}
+
+/// Whether a row has a fee type and an amount.
+#[tactic(auto, unfolding(circ_records::specs::Rules::has_closed_values))]
+fn has_closed_values(row: &ByteRecord) -> bool
+    ensures { result ≡ Rules.has_closed_values (fields_of row.now) }
+{
+    FeeType::of_code(column(row, 2)).is_some() && Amount::read(column(row, 3)).is_some()
+}
+
+/// Whether what is paid is below the amount.
+#[tactic(auto, unfolding(circ_records::specs::Rules::is_owing))]
+fn is_owing(row: &ByteRecord) -> bool
+    ensures { result ≡ Rules.is_owing (fields_of row.now) }
+{
+    hundredths(column(row, 4)) < hundredths(column(row, 3))
+}
+
+/// The hundredths of a text that is an amount.
+fn hundredths(text: &[u8]) -> u64
+    ensures { result ≡ hundredths text.now }
+{
+    match Amount::read(text) {
+        Some(amount) => amount.hundredths(),
+        None => 0,
+    }
+}

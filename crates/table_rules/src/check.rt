@@ -113,7 +113,8 @@ fn judge_holds<J: Judge>(
     requires table { IsSome (holds_rows_of text.now) }
     ensures broken { OnOk result ((rule : List Row → Row → Option BaseRule) (rows : List Row) → J.judges judge.old rule [] → holds_rows_of text.now ≡ Some rows
         → broken.new.items ≡ broken.old.items ++ broken_rows table.Holds rule rows) }
-    ensures count { IfOk result (λ count. (rows : List Row) → holds_rows_of text.now ≡ Some rows → count ≡ length rows) }
+    ensures count { IfOk result (λ count. (rule : List Row → Row → Option BaseRule) (rows : List Row) → J.judges judge.old rule [] → holds_rows_of text.now ≡ Some rows
+        → count ≡ length rows) }
 {
     if text.is_empty() {
         return Ok(0);

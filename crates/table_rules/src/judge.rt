@@ -6,7 +6,7 @@ ghost use Rattle.csv_table.specs.Rows.{rows_under};
 ghost use Rattle.csv_table.specs.Text.{bytes_of};
 ghost use Rattle.circ_records.specs.Tables.{Row};
 ghost use Rattle.circ_records.specs.declared.fault.BaseRule.{BaseRule};
-ghost use Rattle.table_rules.specs.AllBroken.{broken_rows};
+ghost use Rattle.table_rules.specs.AllBroken.{broken_rows, row_fault};
 
 use circ_records::{BaseError, BaseRule, TableName};
 use csv::ByteRecord;
@@ -39,7 +39,8 @@ pub(crate) fn judge_rows<J: Judge>(
         → broken.new.items ≡ broken.old.items ++ broken_rows table rule rows) }
     ensures after { OnOk result ((rule : List Row → Row → Option BaseRule) (rows : List Row) → J.judges judge.old rule [] → rows_under (bytes_of header.now) text.now ≡ Some rows
         → J.judges judge.new rule rows) }
-    ensures count { IfOk result (λ count. (rows : List Row) → rows_under (bytes_of header.now) text.now ≡ Some rows → count ≡ length rows) }
+    ensures count { IfOk result (λ count. (rule : List Row → Row → Option BaseRule) (rows : List Row) → J.judges judge.old rule [] → rows_under (bytes_of header.now) text.now ≡ Some rows
+        → count ≡ length rows) }
 {
     let Ok(mut rows) = RowReader::under(alloc, header, text) else {
         return Err(AllocError);
@@ -48,15 +49,33 @@ pub(crate) fn judge_rows<J: Judge>(
     let mut count = 0;
     while next_row(&mut rows, &mut row)? {
         count += 1;
-        if let Some(rule) = judge.judge(alloc, &row)? {
-            broken.push(BaseError::Rule {
-                table,
-                row: count,
-                rule,
-            })?;
-        }
+        judge_row(alloc, table, count, judge, &row, broken)?;
     }
     Ok(count)
+}
+
+/// Lists a row where it breaks a rule, by its number in the table.
+fn judge_row<J: Judge>(
+    alloc: Global,
+    table: TableName,
+    number: usize,
+    judge: &mut J,
+    row: &ByteRecord,
+    broken: &mut Vec<BaseError>,
+) -> Result<(), AllocError>
+    ensures broken { OnOk result ((rule : List Row → Row → Option BaseRule) (before : List Row) → J.judges judge.old rule before
+        → broken.new.items ≡ broken.old.items ++ row_fault table number (rule before (fields_of row.now))) }
+    ensures after { OnOk result ((rule : List Row → Row → Option BaseRule) (before : List Row) → J.judges judge.old rule before
+        → J.judges judge.new rule (before ++ fields_of row.now ∷ [])) }
+{
+    if let Some(rule) = judge.judge(alloc, row)? {
+        broken.push(BaseError::Rule {
+            table,
+            row: number,
+            rule,
+        })?;
+    }
+    Ok(())
 }
 
 /// Reads the next row of a table. Without one, at the end, `row` means nothing.

@@ -17,7 +17,7 @@ ghost use Rattle.whole_run.specs.Checking.{AreLines, EndsChecking, FirstIsRefuse
 
 use crate::files::read_inputs;
 use crate::remedy::Remedy;
-use crate::seen::stop_of;
+use crate::seen::{TableRow, stop_beside, stop_of};
 use crate::stop::{REFUSED, Stop};
 use circ_policy::Policy;
 use circ_records::BaseError;
@@ -156,24 +156,13 @@ fn lines_of(
     ensures { IfOk result (λ text. AreLines options.now faults.items (string_bytes text)) }
 {
     let mut text = String::new(alloc);
+    let mut read = TableRow::new();
     for fault in faults {
-        let line = line_of(alloc, options, inputs, fault)?;
+        let stop = stop_beside(alloc, fault, inputs, &mut read);
+        let line = format!(in alloc; "{}", Remedy { stop: &stop, options })?;
         text.push_str(line.as_str())?;
     }
     Ok(text)
-}
-
-/// The line of a fault, as what to do about it.
-fn line_of(
-    alloc: Global,
-    options: &Options,
-    inputs: &Inputs,
-    fault: Fault,
-) -> Result<String, AllocError>
-    ensures { IfOk result (λ line. (stop : Stop) × IsOf fault stop × (string_bytes line ≡ remedy_of options.now stop)) }
-{
-    let stop = stop_of(alloc, fault, inputs);
-    format!(in alloc; "{}", Remedy { stop: &stop, options })
 }
 
 /// The last line where there are faults: how many, and how many of them are listed.

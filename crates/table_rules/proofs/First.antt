@@ -6,7 +6,7 @@ use Rattle.std.specs.Option.{option_or}
 use Rattle.std.specs.Result.{result_err}
 use Rattle.csv_table.specs.Rows.{rows_under}
 use Rattle.circ_policy.specs.Terms.{Terms}
-use Rattle.circ_records.specs.Base.{base_of, broken_closed, broken_fees, broken_holds, broken_items, broken_loans, broken_patrons, first_broken, holds_rows_of, rows_of, table_rows, unless_broken, ◌>>=◌}
+use Rattle.circ_records.specs.Base.{base_of, first_broken, holds_rows_of, rows_of, table_rows, unless_broken, ◌>>=◌}
 use Rattle.circ_records.specs.Records.{Entries}
 use Rattle.circ_records.specs.Rules.{broken, broken_from, closed_rule, fee_rule, hold_rule, item_rule, loan_rule, patron_rule}
 use Rattle.circ_records.specs.Tables.{Row, Rows, Texts, closed_header, fees_header, items_header, loans_header, patrons_header}
@@ -56,10 +56,10 @@ first-of-rows policy first rows =
     (first-from table.Holds (hold_rule rows.patrons rows.items rows.loans) 1 [] rows.holds)))))
 
 -- texts of tables, one after the other
-text-faults : Option (List Row) → Option (List Row) → Option (List Row) → Option (List Row) → Option (List Row) → Option (List Row) → List BaseError
+abbrev pub text-faults : Option (List Row) → Option (List Row) → Option (List Row) → Option (List Row) → Option (List Row) → Option (List Row) → List BaseError
 text-faults p i l f c h = text_fault table.Patrons p ++ (text_fault table.Items i ++ (text_fault table.Loans l ++ (text_fault table.Fees f ++ (text_fault table.Closed c ++ text_fault table.Holds h))))
 
-all-rows : Option (List Row) → Option (List Row) → Option (List Row) → Option (List Row) → Option (List Row) → Option (List Row) → Result Rows BaseError
+abbrev pub all-rows : Option (List Row) → Option (List Row) → Option (List Row) → Option (List Row) → Option (List Row) → Option (List Row) → Result Rows BaseError
 all-rows p i l f c h = do
   patrons ← table_rows table.Patrons p
   items ← table_rows table.Items i
@@ -70,7 +70,6 @@ all-rows p i l f c h = do
   Ok (record { patrons = patrons; items = items; loans = loans; fees = fees; closed = closed; holds = holds })
 
 first-text : (p i l f c h : Option (List Row)) → slice_get (text-faults p i l f c h) 0 ≡ result_err (all-rows p i l f c h)
-unfolding text-faults all-rows
 first-text None i l f c h = refl
 first-text (Some p) None l f c h = refl
 first-text (Some p) (Some i) None f c h = refl
@@ -80,8 +79,8 @@ first-text (Some p) (Some i) (Some l) (Some f) (Some c) None = refl
 first-text (Some p) (Some i) (Some l) (Some f) (Some c) (Some h) = refl
 
 -- of the texts that are no tables
-first-of-texts : (texts : Texts) → slice_get (no_tables texts) 0 ≡ result_err (rows_of texts)
-unfolding no_tables rows_of text-faults all-rows
+pub first-of-texts : (texts : Texts) → slice_get (no_tables texts) 0 ≡ result_err (rows_of texts)
+unfolding no_tables rows_of
 first-of-texts texts =
     first-text (rows_under patrons_header texts.patrons) (rows_under items_header texts.items) (rows_under loans_header texts.loans)
     (rows_under fees_header texts.fees) (rows_under closed_header texts.closed) (holds_rows_of texts.holds)

@@ -1,28 +1,30 @@
 -- What is kept of rows, as one row more is read.
-use Rattle.std.proofs.Common.{◌≡◌, ◌≤◌, ◌<◌, ◌+◌, ℕ, suc, List, [], ◌∷◌, ◌++◌, Bool, true, false, cond, Option, Some, None, length, refl, sym, ap, ◌∙◌, arith}
+use Rattle.std.proofs.Common.{◌≡◌, ◌≤◌, ◌<◌, ◌+◌, ◌⊎◌, ℕ, List, [], ◌∷◌, ◌++◌, Bool, true, false, cond, Option, Some, None, length, inl, inr, refl, sym, ap, ◌∙◌, arith}
 use Rattle.std.specs.Prelude.{is_some, nat_le, option_map, unwrap_or, ◌&&◌, ◌||◌}
-use Rattle.std.specs.BTreeMap.{BTreeMap, get}
+use Rattle.std.specs.BTreeMap.{BTreeMap, get, is_at}
 use Rattle.std.specs.BTreeSet.{BTreeSet, contains}
 use Rattle.std.specs.Cmp.Lexicographic.{slice_cmp}
-use Rattle.std.specs.List.{filter, find}
+use Rattle.std.specs.List.{list_any}
+use Rattle.std.specs.Map.{lookup}
 use Rattle.std.specs.Option.{option_or}
-use Rattle.std.specs.Ordering.{is_eq, nat_cmp}
-use Rattle.std.proofs.lemmas.Bool.{le-leb, leb-false, leb-true, lt-leb}
-use Rattle.std.proofs.lemmas.List.{append-nil, length-append}
+use Rattle.std.specs.Ordering.{is_eq, nat_cmp, ordering_then}
+use Rattle.std.specs.declared.cmp.Ordering.{Ordering}
+use Rattle.std.specs.declared.cmp.Ordering.TheVariants.{Less, Equal, Greater}
+use Rattle.std.proofs.lemmas.Bool.{le-leb, leb-false, leb-true}
+use Rattle.std.proofs.lemmas.List.{length-append}
 use Rattle.std.proofs.lemmas.List.Elements.{filter-append}
 use Rattle.std.proofs.lemmas.List.Folds.{list_any-append}
 use Rattle.sip_reader.specs.Texts.{is_id}
 use Rattle.circ_records.specs.Read.{pair_cmp}
-use Rattle.circ_records.specs.Rules.{has_hold, has_row}
+use Rattle.circ_records.specs.Rules.{has_hold, has_row, is_borrower, is_of_patron}
 use Rattle.circ_records.specs.Tables.{Row, field}
 use Rattle.circ_records.specs.Told.{row_with, rows_with}
 use Rattle.circ_records.specs.Values.{is_same}
 use Rattle.circ_records.specs.declared.holds.TheConstants.{QUEUE_MAX}
-use Rattle.circ_records.proofs.Lookups.{find-append, same-text, tie-text}
-use Rattle.circ_records.proofs.Waiting.{same-pair}
+use Rattle.circ_records.proofs.Lookups.{find-append, is_some-map, same-text, tie-text}
 use Rattle.table_rules.specs.Devices.RowsBefore.{HasHolds, HasIds, HasLoans, HasQueues, as_far, id_in}
 
-abbrev pub id_cmp : List ℕ → List ℕ → _
+abbrev pub id_cmp : List ℕ → List ℕ → Ordering
 id_cmp = slice_cmp nat_cmp
 
 either-way : (b h : Bool) → cond b true h ≡ (h || b)
@@ -37,16 +39,31 @@ or-none false = refl
 
 -- an id isn't a text that is none
 other-text : (q t : List ℕ) → is_id q ≡ true → is_id t ≡ false → is_same q t ≡ false
-other-text q t ok no = by (is_same q t) refl
+other-text q t ok bad = by (is_same q t) refl
   where
     by : (b : Bool) → is_same q t ≡ b → b ≡ false
-    by true e = cc (ok, no, same-text q t e)
+    by true e = cc (ok, bad, same-text q t e)
     by false e = refl
 
 some-of-both : (b : Bool) (row : Row) (o : Option Row) → is_some (option_or o (cond b (Some row) None)) ≡ (is_some o || b)
 some-of-both true row None = refl
 some-of-both false row None = refl
 some-of-both b row (Some x) = refl
+
+-- what is read of a text that is an id, or none
+pub read-some : (text id : List ℕ) (o : Option (List ℕ)) → o ≡ id_in text → o ≡ Some id → id ≡ text
+read-some text id o is some = by (is_id text) refl
+  where
+    by : (b : Bool) → is_id text ≡ b → id ≡ text
+    by true e = cc (is, some, e)
+    by false e = cc (is, some, e)
+
+pub read-none : (text : List ℕ) (o : Option (List ℕ)) → o ≡ id_in text → o ≡ None → is_id text ≡ false
+read-none text o is none = by (is_id text) refl
+  where
+    by : (b : Bool) → is_id text ≡ b → b ≡ false
+    by true e = cc (is, none, e)
+    by false e = refl
 
 -- IDS
 
@@ -67,15 +84,15 @@ ids-more column before row old new id is updates has = λ q ok.
 
 pub ids-same : (column : ℕ) (before : List Row) (row : Row) (ids : BTreeSet (List ℕ)) → is_id (field column row) ≡ false
     → HasIds column before ids → HasIds column (before ++ row ∷ []) ids
-ids-same column before row ids no has = λ q ok.
+ids-same column before row ids bad has = λ q ok.
     has q ok
     ∙ sym (or-none (has_row column q before))
-    ∙ ap (λ b. has_row column q before || b) (sym (other-text q (field column row) ok no))
+    ∙ ap (λ b. has_row column q before || b) (sym (other-text q (field column row) ok bad))
     ∙ sym (has_row-more column q before row)
 
 -- LOANS
 
-patron-of : Row → Option (List ℕ)
+abbrev pub patron-of : Row → Option (List ℕ)
 patron-of loan = id_in (field 0 loan)
 
 row_with-more : (q : List ℕ) (rows : List Row) (row : Row) → row_with 1 q (rows ++ row ∷ []) ≡ option_or (row_with 1 q rows) (cond (is_same q (field 1 row)) (Some row) None)
@@ -99,6 +116,7 @@ loans-put before row old new item patron i p free updates has = λ q ok.
     free-at : (o : Option (Option (List ℕ))) → is_some o ≡ false → o ≡ None
     free-at None e = refl
     free-at (Some x) e = cc e
+
     by : (q : List ℕ) → is_id q ≡ true → (b : Bool) → is_same q item ≡ b
         → cond b (Some patron) (get id_cmp old q) ≡ option_map patron-of (row_with 1 q (before ++ row ∷ []))
     by q ok true e =
@@ -118,6 +136,7 @@ loans-kept before row lent item i is has = λ q ok. has q ok ∙ ap (option_map 
   where
     some-mapped : (o : Option Row) → is_some (option_map patron-of o) ≡ true → o ≡ None → ⊥
     some-mapped o some none = cc (some, none)
+
     by : (q : List ℕ) → is_id q ≡ true → (b : Bool) → is_same q item ≡ b → (o : Option Row) → row_with 1 q before ≡ o
         → option_or o (cond (is_same q (field 1 row)) (Some row) None) ≡ o
     by q ok b e (Some x) at = refl
@@ -126,11 +145,23 @@ loans-kept before row lent item i is has = λ q ok. has q ok ∙ ap (option_map 
 
 -- a row without an item
 pub loans-same : (before : List Row) (row : Row) (lent : BTreeMap (List ℕ) (Option (List ℕ))) → is_id (field 1 row) ≡ false → HasLoans before lent → HasLoans (before ++ row ∷ []) lent
-loans-same before row lent no has = λ q ok.
+loans-same before row lent bad has = λ q ok.
     has q ok ∙ ap (option_map patron-of) (sym (row_with-more q before row
-    ∙ ap (λ b. option_or (row_with 1 q before) (cond b (Some row) None)) (other-text q (field 1 row) ok no) ∙ none-left (row_with 1 q before)))
+    ∙ ap (λ b. option_or (row_with 1 q before) (cond b (Some row) None)) (other-text q (field 1 row) ok bad) ∙ none-left (row_with 1 q before)))
 
 -- HOLDS
+
+tie-both : (p q : Ordering) → is_eq (ordering_then p q) ≡ (is_eq p && is_eq q)
+tie-both Less q = refl
+tie-both Equal q = refl
+tie-both Greater q = refl
+
+-- whether pairs tie, and whether they are the same texts
+same-pair : (item patron a b : List ℕ) → is_eq (pair_cmp (item, patron) (a, b)) ≡ (is_same a item && is_same b patron)
+same-pair item patron a b =
+    tie-both (slice_cmp nat_cmp item a) (slice_cmp nat_cmp patron b)
+    ∙ ap (λ t. t && is_eq (slice_cmp nat_cmp patron b)) (tie-text item a)
+    ∙ ap (λ t. is_same a item && t) (tie-text patron b)
 
 has_hold-more : (a b : List ℕ) (rows : List Row) (row : Row) → has_hold a b (rows ++ row ∷ []) ≡ (has_hold a b rows || (is_same a (field 0 row) && is_same b (field 1 row)))
 has_hold-more a b rows row =
@@ -148,19 +179,20 @@ holds-more before row old new hold i p updates has = λ a b ok fine.
     ∙ sym (has_hold-more a b before row)
 
 other-pair : (a b : List ℕ) (row : Row) → is_id a ≡ true → is_id b ≡ true → (is_id (field 0 row) && is_id (field 1 row)) ≡ false → (is_same a (field 0 row) && is_same b (field 1 row)) ≡ false
-other-pair a b row ok fine no = by (is_id (field 0 row)) refl (is_id (field 1 row)) refl
+other-pair a b row ok fine bad = by (is_id (field 0 row)) refl (is_id (field 1 row)) refl
   where
     and-none : (t : Bool) → (t && false) ≡ false
     and-none true = refl
     and-none false = refl
+
     by : (s : Bool) → is_id (field 0 row) ≡ s → (t : Bool) → is_id (field 1 row) ≡ t → (is_same a (field 0 row) && is_same b (field 1 row)) ≡ false
     by false e t f = ap (λ x. x && is_same b (field 1 row)) (other-text a (field 0 row) ok e)
     by true e false f = ap (λ x. is_same a (field 0 row) && x) (other-text b (field 1 row) fine f) ∙ and-none (is_same a (field 0 row))
-    by true e true f = cc (no, e, f)
+    by true e true f = cc (bad, e, f)
 
 pub holds-same : (before : List Row) (row : Row) (waiting : BTreeSet (List ℕ × List ℕ)) → (is_id (field 0 row) && is_id (field 1 row)) ≡ false → HasHolds before waiting → HasHolds (before ++ row ∷ []) waiting
-holds-same before row waiting no has = λ a b ok fine.
-    has a b ok fine ∙ sym (or-none (has_hold a b before)) ∙ ap (λ t. has_hold a b before || t) (sym (other-pair a b row ok fine no)) ∙ sym (has_hold-more a b before row)
+holds-same before row waiting bad has = λ a b ok fine.
+    has a b ok fine ∙ sym (or-none (has_hold a b before)) ∙ ap (λ t. has_hold a b before || t) (sym (other-pair a b row ok fine bad)) ∙ sym (has_hold-more a b before row)
 
 -- QUEUES
 
@@ -191,8 +223,8 @@ one-further n m e lt = by (nat_le QUEUE_MAX n) refl (nat_le QUEUE_MAX (n + 1)) r
         ap (λ k. k + 1) (sym same) ∙ sym (ap (λ (t : Bool). cond t QUEUE_MAX (n + 1)) eb)
 
 -- none further
-no-further : (n : ℕ) → QUEUE_MAX ≤ as_far n → as_far n ≡ as_far (n + 1)
-no-further n le = by (nat_le QUEUE_MAX n) refl
+bad-further : (n : ℕ) → QUEUE_MAX ≤ as_far n → as_far n ≡ as_far (n + 1)
+bad-further n le = by (nat_le QUEUE_MAX n) refl
   where
     by : (a : Bool) → nat_le QUEUE_MAX n ≡ a → as_far n ≡ as_far (n + 1)
     by true ea =
@@ -203,10 +235,10 @@ no-further n le = by (nat_le QUEUE_MAX n) refl
         absurd (omega (arith, le, is, leb-false QUEUE_MAX n ea))
 
 -- a hold of an item whose queue isn't full
-pub queues-put : (before : List Row) (row : Row) (old new : BTreeMap (List ℕ) ℕ) (item : List ℕ) (len : ℕ) → item ≡ field 0 row → is_id item ≡ true
+pub queues-put : (before : List Row) (row : Row) (old new : BTreeMap (List ℕ) ℕ) (item : List ℕ) (len : ℕ) → item ≡ field 0 row
     → len ≡ unwrap_or (get id_cmp old item) 0 → len < QUEUE_MAX → ((q : List ℕ) → get id_cmp new q ≡ cond (is_eq (id_cmp item q)) (Some (len + 1)) (get id_cmp old q))
     → HasQueues before old → HasQueues (before ++ row ∷ []) new
-queues-put before row old new item len i fine is lt updates has = λ q ok.
+queues-put before row old new item len i is lt updates has = λ q ok.
     ap (λ o. unwrap_or o 0) (updates q ∙ ap (λ b. cond b (Some (len + 1)) (get id_cmp old q)) (tie-text item q)) ∙ by q ok (is_same q item) refl
   where
     by : (q : List ℕ) → is_id q ≡ true → (b : Bool) → is_same q item ≡ b
@@ -226,10 +258,63 @@ queues-kept before row lengths item i full has = λ q ok. has q ok ∙ by q ok (
     by : (q : List ℕ) → is_id q ≡ true → (b : Bool) → is_same q item ≡ b → as_far (length (rows_with 0 q before)) ≡ as_far (length (rows_with 0 q (before ++ row ∷ [])))
     by q ok true e =
         let same : unwrap_or (get id_cmp lengths item) 0 ≡ as_far (length (rows_with 0 q before)) = ap (λ t. unwrap_or (get id_cmp lengths t) 0) (sym (same-text q item e)) ∙ has q ok in
-        no-further (length (rows_with 0 q before)) (omega (arith, full, same)) ∙ ap as_far (sym (waiting-more q before row true (sym (ap (is_same q) i) ∙ e)))
+        bad-further (length (rows_with 0 q before)) (omega (arith, full, same)) ∙ ap as_far (sym (waiting-more q before row true (sym (ap (is_same q) i) ∙ e)))
     by q ok false e = sym (same-count (length (rows_with 0 q before))) ∙ ap as_far (sym (waiting-more q before row false (sym (ap (is_same q) i) ∙ e)))
 
 -- a row without an item
 pub queues-same : (before : List Row) (row : Row) (lengths : BTreeMap (List ℕ) ℕ) → is_id (field 0 row) ≡ false → HasQueues before lengths → HasQueues (before ++ row ∷ []) lengths
-queues-same before row lengths no has = λ q ok.
-    has q ok ∙ sym (same-count (length (rows_with 0 q before))) ∙ ap as_far (sym (waiting-more q before row false (other-text q (field 0 row) ok no)))
+queues-same before row lengths bad has = λ q ok.
+    has q ok ∙ sym (same-count (length (rows_with 0 q before))) ∙ ap as_far (sym (waiting-more q before row false (other-text q (field 0 row) ok bad)))
+
+-- LOOK-UPS
+
+pub is_lent-by : (loans : List Row) (item : List ℕ) (found : Option (Option (List ℕ))) → found ≡ option_map patron-of (row_with 1 item loans) → is_some found ≡ has_row 1 item loans
+is_lent-by loans item found is = ap is_some is ∙ is_some-map patron-of (row_with 1 item loans)
+
+-- the patron of an item's first loan is this one, or another; or it is bad id
+pub borrower-is : (loans : List Row) (item patron b : List ℕ) → Some (Some b) ≡ option_map patron-of (row_with 1 item loans) → is_eq (id_cmp b patron) ≡ is_borrower patron item loans
+unfolding is_borrower
+borrower-is loans item patron b is = by (row_with 1 item loans) is
+  where
+    same : (loan : Row) (ok : Bool) → is_id (field 0 loan) ≡ ok → Some (Some b) ≡ Some (cond ok (Some (field 0 loan)) None) → b ≡ field 0 loan
+    same loan true e h = cc h
+    same loan false e h = cc h
+
+    by : (o : Option Row) → Some (Some b) ≡ option_map patron-of o → is_eq (id_cmp b patron) ≡ is_of_patron patron o
+    by None h = cc h
+    by (Some loan) h = tie-text b patron ∙ ap (is_same patron) (same loan (is_id (field 0 loan)) refl h)
+
+pub borrower-is-none : (loans : List Row) (item patron : List ℕ) (found : Option (Option (List ℕ))) → found ≡ option_map patron-of (row_with 1 item loans) → (found ≡ None) ⊎ (found ≡ Some None)
+    → is_id patron ≡ true → false ≡ is_borrower patron item loans
+unfolding is_borrower
+borrower-is-none loans item patron found is or ok = by (row_with 1 item loans) is or
+  where
+    bad-id : (loan : Row) (fine : Bool) → is_id (field 0 loan) ≡ fine → Some (cond fine (Some (field 0 loan)) None) ≡ Some None → false ≡ is_same patron (field 0 loan)
+    bad-id loan true e h = cc h
+    bad-id loan false e h = sym (other-text patron (field 0 loan) ok e)
+
+    by : (o : Option Row) → found ≡ option_map patron-of o → (found ≡ None) ⊎ (found ≡ Some None) → false ≡ is_of_patron patron o
+    by None h w = refl
+    by (Some loan) h (inl none) = cc (h, none)
+    by (Some loan) h (inr some) = bad-id loan (is_id (field 0 loan)) refl (sym h ∙ some)
+
+pub full-as-far : (n : ℕ) → nat_le QUEUE_MAX (as_far n) ≡ nat_le QUEUE_MAX n
+full-as-far n = by (nat_le QUEUE_MAX n) refl
+  where
+    by : (b : Bool) → nat_le QUEUE_MAX n ≡ b → nat_le QUEUE_MAX (as_far n) ≡ nat_le QUEUE_MAX n
+    by true e = ap (λ (t : Bool). nat_le QUEUE_MAX (cond t QUEUE_MAX n)) e ∙ sym e
+    by false e = ap (λ (t : Bool). nat_le QUEUE_MAX (cond t QUEUE_MAX n)) e
+
+-- NO ROWS YET
+
+pub no-ids : (column : ℕ) (ids : BTreeSet (List ℕ)) → ids.keys ≡ [] → HasIds column [] ids
+no-ids column ids none = λ q ok. ap (λ (ks : List (List ℕ)). list_any (is_at (id_cmp q)) ks) none
+
+pub no-loans : (lent : BTreeMap (List ℕ) (Option (List ℕ))) → lent.entries ≡ [] → HasLoans [] lent
+no-loans lent none = λ q ok. ap (λ (es : List (List ℕ × Option (List ℕ))). lookup (is_at (id_cmp q)) es) none
+
+pub no-holds : (waiting : BTreeSet (List ℕ × List ℕ)) → waiting.keys ≡ [] → HasHolds [] waiting
+no-holds waiting none = λ a b ok fine. ap (λ (ks : List (List ℕ × List ℕ)). list_any (is_at (pair_cmp (a, b))) ks) none
+
+pub no-queues : (lengths : BTreeMap (List ℕ) ℕ) → lengths.entries ≡ [] → HasQueues [] lengths
+no-queues lengths none = λ q ok. ap (λ (es : List (List ℕ × ℕ)). unwrap_or (lookup (is_at (id_cmp q)) es) 0) none

@@ -1,5 +1,5 @@
 -- What the list of broken rules is to a run.
-use Rattle.std.specs.Prelude.{◌≡◌, ℕ, List, Option, Result}
+use Rattle.std.specs.Prelude.{◌≡◌, ℕ, Option}
 use Rattle.std.specs.List.{slice_get}
 use Rattle.std.specs.Result.{result_err}
 use Rattle.circ_policy.specs.Terms.{Terms}

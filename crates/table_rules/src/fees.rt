@@ -1,19 +1,21 @@
 //! The tables of open and of closed fees.
 
-ghost use Rattle.std.specs.Prelude.{◌≡◌, List, Option, Some, is_some, not, IfErr, IfOk, IfSome, if◌then◌else◌, true};
+ghost use Rattle.std.specs.Prelude.{◌++◌, ◌≡◌, if◌then◌else◌, is_some, length, not, true, IfErr, IfOk, IfSome, IsSome, List, OnOk, Option, Some};
 ghost use Rattle.csv.specs.Records.{fields_of};
-ghost use Rattle.sip_reader.specs.Texts.{is_id};
+ghost use Rattle.csv_table.specs.Rows.{rows_under};
 ghost use Rattle.circ_records.specs.Rules as Rules;
-ghost use Rattle.circ_records.specs.Tables.{Row, field};
+ghost use Rattle.circ_records.specs.Tables.{Row, field, closed_header, fees_header};
 ghost use Rattle.circ_records.specs.Values.{hundredths};
 ghost use Rattle.circ_records.specs.declared.fault.BaseRule.{BaseRule};
 ghost use Rattle.circ_records.specs.declared.fault.BaseRule.TheVariants as rule;
+ghost use Rattle.circ_records.specs.declared.tables.TableName.TheVariants as table;
+ghost use Rattle.table_rules.specs.AllBroken.{broken_rows};
 ghost use Rattle.table_rules.specs.Devices.RowsBefore.{HasIds};
 
-use crate::judge::Judge;
+use crate::judge::{Judge, judge_rows};
 use crate::line_fees::is_taken;
-use crate::seen_ids::add_id;
-use circ_records::{BaseRule, FeeType};
+use crate::seen_ids::{TableIds, add_id, has_id};
+use circ_records::{BaseError, BaseRule, FeeType, TableName};
 use csv::ByteRecord;
 use csv_table::column;
 use sip_reader::{Amount, Id};
@@ -25,10 +27,10 @@ pub(crate) const FEES: [&str; 5] = ["id", "patron", "type", "amount", "paid"];
 pub(crate) const CLOSED: [&str; 4] = ["id", "patron", "type", "amount"];
 
 /// What is kept of the rows of open fees and of the patrons, and the number of the journal's first line.
-pub(crate) struct FeeJudge<'a> {
-    pub(crate) first: Option<u64>,
-    pub(crate) patrons: &'a BTreeSet<Id>,
-    pub(crate) ids: BTreeSet<Id>,
+struct FeeJudge<'a> {
+    first: Option<u64>,
+    patrons: &'a BTreeSet<Id>,
+    ids: BTreeSet<Id>,
 }
 
 impl Drop for FeeJudge<'_> {
@@ -38,6 +40,20 @@ impl Drop for FeeJudge<'_> {
             patrons: _,
             ids: _,
         } = self;
+    }
+}
+
+impl FeeJudge<'_> {
+    /// The ids of all rows.
+    fn into_ids(self) -> BTreeSet<Id>
+        ensures { result ≡ self.entry.ids }
+    {
+        let FeeJudge {
+            first: _,
+            patrons: _,
+            ids,
+        } = self;
+        ids
     }
 }
 
@@ -52,11 +68,11 @@ impl Judge for FeeJudge<'_> {
 }
 
 /// The same of closed fees, beside the ids of the open ones.
-pub(crate) struct ClosedJudge<'a> {
-    pub(crate) first: Option<u64>,
-    pub(crate) patrons: &'a BTreeSet<Id>,
-    pub(crate) fees: &'a BTreeSet<Id>,
-    pub(crate) ids: BTreeSet<Id>,
+struct ClosedJudge<'a> {
+    first: Option<u64>,
+    patrons: &'a BTreeSet<Id>,
+    fees: &'a BTreeSet<Id>,
+    ids: BTreeSet<Id>,
 }
 
 impl Drop for ClosedJudge<'_> {
@@ -81,6 +97,58 @@ impl Judge for ClosedJudge<'_> {
     }
 }
 
+/// Lists each row of open fees that breaks a rule after those that are listed, and returns the ids of all rows. `first` is the number of the journal's
+/// first line. Patrons are those of their table, and the text is a table.
+pub(crate) fn judge_fees(
+    alloc: Global,
+    first: Option<u64>,
+    patrons: &BTreeSet<Id>,
+    text: &[u8],
+    broken: &mut Vec<BaseError>,
+) -> Result<TableIds, AllocError>
+    requires table { IsSome (rows_under fees_header text.now) }
+    ensures broken { OnOk result ((patron_rows rows : List Row) → HasIds 0 patron_rows patrons.now → rows_under fees_header text.now ≡ Some rows
+        → broken.new.items ≡ broken.old.items ++ broken_rows table.Fees (Rules.fee_rule first patron_rows) rows) }
+    ensures ids { IfOk result (λ seen. (patron_rows rows : List Row) → HasIds 0 patron_rows patrons.now → rows_under fees_header text.now ≡ Some rows
+        → HasIds 0 rows seen.ids × (seen.count ≡ length rows)) }
+{
+    let ids = BTreeSet::new(alloc);
+    let mut judge = FeeJudge {
+        first,
+        patrons,
+        ids,
+    };
+    let count = judge_rows(alloc, TableName::Fees, &FEES, text, &mut judge, broken)?;
+    Ok(TableIds {
+        ids: judge.into_ids(),
+        count,
+    })
+}
+
+/// The same of closed fees, beside the ids of the open ones. Returns how many rows there are.
+pub(crate) fn judge_closed(
+    alloc: Global,
+    first: Option<u64>,
+    patrons: &BTreeSet<Id>,
+    fees: &BTreeSet<Id>,
+    text: &[u8],
+    broken: &mut Vec<BaseError>,
+) -> Result<usize, AllocError>
+    requires table { IsSome (rows_under closed_header text.now) }
+    ensures broken { OnOk result ((patron_rows fee_rows rows : List Row) → HasIds 0 patron_rows patrons.now → HasIds 0 fee_rows fees.now → rows_under closed_header text.now ≡ Some rows
+        → broken.new.items ≡ broken.old.items ++ broken_rows table.Closed (Rules.closed_rule first patron_rows fee_rows) rows) }
+    ensures count { IfOk result (λ count. (patron_rows fee_rows rows : List Row) → HasIds 0 patron_rows patrons.now → HasIds 0 fee_rows fees.now → rows_under closed_header text.now ≡ Some rows
+        → count ≡ length rows) }
+{
+    let mut judge = ClosedJudge {
+        first,
+        patrons,
+        fees,
+        ids: BTreeSet::new(alloc),
+    };
+    judge_rows(alloc, TableName::Closed, &CLOSED, text, &mut judge, broken)
+}
+
 /// The first rule that a row of open fees breaks after such with these ids, with patrons of these.
 #[tactic(auto, unfolding(circ_records::specs::Rules::fee_rule, circ_records::specs::Rules::has_fee_values))]
 fn broken_open(
@@ -99,10 +167,10 @@ fn broken_open(
     if !has_closed_values(row) || Amount::read(column(row, 4)).is_none() {
         return Ok(Some(BaseRule::Value));
     }
-    if ids.contains(&id) {
+    if has_id(ids, &id) {
         return Ok(Some(BaseRule::Double));
     }
-    if !patrons.contains(&patron) {
+    if !has_id(patrons, &patron) {
         return Ok(Some(BaseRule::Patron));
     }
     if !is_owing(row) {
@@ -117,11 +185,7 @@ fn broken_open(
 impl ClosedJudge<'_> {
     /// The first rule that a row breaks.
     #[tactic(auto, unfolding(circ_records::specs::Rules::closed_rule))]
-    fn broken_rule(
-        &self,
-        alloc: Global,
-        row: &ByteRecord,
-    ) -> Result<Option<BaseRule>, AllocError>
+    fn broken_rule(&self, alloc: Global, row: &ByteRecord) -> Result<Option<BaseRule>, AllocError>
         ensures { IfOk result (λ broken. (patrons fees before : List Row) → HasIds 0 patrons self.now.patrons.now → HasIds 0 fees self.now.fees.now → HasIds 0 before self.now.ids
             → broken ≡ Rules.closed_rule self.now.first patrons fees before (fields_of row.now)) }
     {
@@ -131,10 +195,10 @@ impl ClosedJudge<'_> {
         if !has_closed_values(row) {
             return Ok(Some(BaseRule::Value));
         }
-        if self.fees.contains(&id) || self.ids.contains(&id) {
+        if has_id(self.fees, &id) || has_id(&self.ids, &id) {
             return Ok(Some(BaseRule::Double));
         }
-        if !self.patrons.contains(&patron) {
+        if !has_id(self.patrons, &patron) {
             return Ok(Some(BaseRule::Patron));
         }
         if is_taken(self.first, column(row, 0)) {
@@ -148,8 +212,8 @@ impl ClosedJudge<'_> {
 #[tactic(auto, unfolding(circ_records::specs::Rules::has_fee_texts))]
 fn ids_of(alloc: Global, row: &ByteRecord) -> Result<Option<(Id, Id)>, AllocError>
     ensures texts { IfOk result (λ ids. is_some ids ≡ Rules.has_fee_texts (fields_of row.now)) }
-    ensures fee { IfOk result (λ ids. IfSome ids (λ it. (it.0 ≡ field 0 (fields_of row.now)) × (is_id it.0 ≡ true))) }
-    ensures patron { IfOk result (λ ids. IfSome ids (λ it. (it.1 ≡ field 1 (fields_of row.now)) × (is_id it.1 ≡ true))) }
+    ensures fee { IfOk result (λ ids. IfSome ids (λ it. it.0 ≡ field 0 (fields_of row.now))) }
+    ensures patron { IfOk result (λ ids. IfSome ids (λ it. it.1 ≡ field 1 (fields_of row.now))) }
 {
     let Some(id) = Id::read(alloc, column(row, 0))? else {
         return Ok(None);

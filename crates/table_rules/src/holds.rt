@@ -3,15 +3,19 @@
 ghost use Rattle.std.specs.BTreeMap.{get};
 ghost use Rattle.std.specs.Cmp.Lexicographic.{slice_cmp};
 ghost use Rattle.std.specs.Ordering.{nat_cmp};
-ghost use Rattle.std.specs.Prelude.{◌≡◌, ◌++◌, ◌&&◌, ◌∷◌, [], List, is_some, unwrap_or, IfOk, IfSome, OnOk, true};
+ghost use Rattle.std.specs.Prelude.{◌&&◌, ◌++◌, ◌∷◌, ◌≡◌, [], is_some, length, unwrap_or, IfOk, IfSome, IsSome, List, OnOk, Some};
 ghost use Rattle.csv.specs.Records.{fields_of};
+ghost use Rattle.circ_records.specs.Base.{holds_rows_of};
 ghost use Rattle.sip_reader.specs.Texts.{is_id};
 ghost use Rattle.circ_records.specs.Rules as Rules;
 ghost use Rattle.circ_records.specs.Tables.{Row, field};
+ghost use Rattle.circ_records.specs.declared.tables.TableName.TheVariants as table;
+ghost use Rattle.table_rules.specs.AllBroken.{broken_rows};
 ghost use Rattle.table_rules.specs.Devices.RowsBefore.{HasHolds, HasIds, HasLoans, HasQueues};
 
-use crate::judge::Judge;
-use circ_records::{BaseRule, QUEUE_MAX};
+use crate::judge::{Judge, judge_rows};
+use crate::seen_ids::has_id;
+use circ_records::{BaseError, BaseRule, QUEUE_MAX, TableName};
 use csv::ByteRecord;
 use csv_table::column;
 use sip_reader::{Id, is_text};
@@ -21,13 +25,13 @@ use std::collections::{BTreeMap, BTreeSet};
 pub(crate) const HOLDS: [&str; 3] = ["item", "patron", "pickup"];
 
 /// What is kept of the rows of holds: who waits for what, and how many wait for each item; and of the tables before.
-pub(crate) struct HoldJudge<'a> {
-    pub(crate) patrons: &'a BTreeSet<Id>,
-    pub(crate) items: &'a BTreeSet<Id>,
-    pub(crate) lent: &'a BTreeMap<Id, Option<Id>>,
-    pub(crate) waiting: BTreeSet<(Id, Id)>,
+struct HoldJudge<'a> {
+    patrons: &'a BTreeSet<Id>,
+    items: &'a BTreeSet<Id>,
+    lent: &'a BTreeMap<Id, Option<Id>>,
+    waiting: BTreeSet<(Id, Id)>,
     /// At most `QUEUE_MAX` each.
-    pub(crate) lengths: BTreeMap<Id, usize>,
+    lengths: BTreeMap<Id, usize>,
 }
 
 impl Drop for HoldJudge<'_> {
@@ -54,28 +58,53 @@ impl Judge for HoldJudge<'_> {
     }
 }
 
+/// Lists each row of holds that breaks a rule after those that are listed, and returns how many rows there are. Patrons, items and loans are those of
+/// their tables, and the text is a table: no bytes at all count as the header alone.
+pub(crate) fn judge_holds(
+    alloc: Global,
+    patrons: &BTreeSet<Id>,
+    items: &BTreeSet<Id>,
+    lent: &BTreeMap<Id, Option<Id>>,
+    text: &[u8],
+    broken: &mut Vec<BaseError>,
+) -> Result<usize, AllocError>
+    requires table { IsSome (holds_rows_of text.now) }
+    ensures broken { OnOk result ((patron_rows item_rows loan_rows rows : List Row) → HasIds 0 patron_rows patrons.now → HasIds 0 item_rows items.now → HasLoans loan_rows lent.now
+        → holds_rows_of text.now ≡ Some rows → broken.new.items ≡ broken.old.items ++ broken_rows table.Holds (Rules.hold_rule patron_rows item_rows loan_rows) rows) }
+    ensures count { IfOk result (λ count. (patron_rows item_rows loan_rows rows : List Row) → HasIds 0 patron_rows patrons.now → HasIds 0 item_rows items.now → HasLoans loan_rows lent.now
+        → holds_rows_of text.now ≡ Some rows → count ≡ length rows) }
+{
+    if text.is_empty() {
+        return Ok(0);
+    }
+    let mut judge = HoldJudge {
+        patrons,
+        items,
+        lent,
+        waiting: BTreeSet::new(alloc),
+        lengths: BTreeMap::new(alloc),
+    };
+    judge_rows(alloc, TableName::Holds, &HOLDS, text, &mut judge, broken)
+}
+
 impl HoldJudge<'_> {
     /// The first rule that a row breaks.
     #[tactic(auto, unfolding(circ_records::specs::Rules::hold_rule))]
-    fn broken_rule(
-        &self,
-        alloc: Global,
-        row: &ByteRecord,
-    ) -> Result<Option<BaseRule>, AllocError>
+    fn broken_rule(&self, alloc: Global, row: &ByteRecord) -> Result<Option<BaseRule>, AllocError>
         ensures { IfOk result (λ broken. (patrons items loans before : List Row) → HasIds 0 patrons self.now.patrons.now → HasIds 0 items self.now.items.now → HasLoans loans self.now.lent.now
             → HasHolds before self.now.waiting → HasQueues before self.now.lengths → broken ≡ Rules.hold_rule patrons items loans before (fields_of row.now)) }
     {
         let Some(hold) = ids_of(alloc, row)? else {
             return Ok(Some(BaseRule::Text));
         };
-        if self.waiting.contains(&hold) {
+        if is_waiting(&self.waiting, &hold) {
             return Ok(Some(BaseRule::Double));
         }
         let (item, patron) = hold;
-        if !self.patrons.contains(&patron) {
+        if !has_id(self.patrons, &patron) {
             return Ok(Some(BaseRule::Patron));
         }
-        if !self.items.contains(&item) {
+        if !has_id(self.items, &item) {
             return Ok(Some(BaseRule::Item));
         }
         if is_borrower(self.lent, &item, &patron) {
@@ -92,8 +121,8 @@ impl HoldJudge<'_> {
 #[tactic(auto, unfolding(circ_records::specs::Rules::has_hold_texts))]
 fn ids_of(alloc: Global, row: &ByteRecord) -> Result<Option<(Id, Id)>, AllocError>
     ensures texts { IfOk result (λ ids. is_some ids ≡ Rules.has_hold_texts (fields_of row.now)) }
-    ensures item { IfOk result (λ ids. IfSome ids (λ it. (it.0 ≡ field 0 (fields_of row.now)) × (is_id it.0 ≡ true))) }
-    ensures patron { IfOk result (λ ids. IfSome ids (λ it. (it.1 ≡ field 1 (fields_of row.now)) × (is_id it.1 ≡ true))) }
+    ensures item { IfOk result (λ ids. IfSome ids (λ it. it.0 ≡ field 0 (fields_of row.now))) }
+    ensures patron { IfOk result (λ ids. IfSome ids (λ it. it.1 ≡ field 1 (fields_of row.now))) }
 {
     if !is_text(column(row, 2)) {
         return Ok(None);
@@ -104,8 +133,8 @@ fn ids_of(alloc: Global, row: &ByteRecord) -> Result<Option<(Id, Id)>, AllocErro
 /// The item and the patron of a row, where both are ids.
 fn both_ids(alloc: Global, row: &ByteRecord) -> Result<Option<(Id, Id)>, AllocError>
     ensures some { IfOk result (λ ids. is_some ids ≡ (is_id (field 0 (fields_of row.now)) && is_id (field 1 (fields_of row.now)))) }
-    ensures item { IfOk result (λ ids. IfSome ids (λ it. (it.0 ≡ field 0 (fields_of row.now)) × (is_id it.0 ≡ true))) }
-    ensures patron { IfOk result (λ ids. IfSome ids (λ it. (it.1 ≡ field 1 (fields_of row.now)) × (is_id it.1 ≡ true))) }
+    ensures item { IfOk result (λ ids. IfSome ids (λ it. it.0 ≡ field 0 (fields_of row.now))) }
+    ensures patron { IfOk result (λ ids. IfSome ids (λ it. it.1 ≡ field 1 (fields_of row.now))) }
 {
     let Some(item) = Id::read(alloc, column(row, 0))? else {
         return Ok(None);
@@ -116,11 +145,22 @@ fn both_ids(alloc: Global, row: &ByteRecord) -> Result<Option<(Id, Id)>, AllocEr
     Ok(Some((item, patron)))
 }
 
+/// Whether the patron waits for the item already.
+fn is_waiting(waiting: &BTreeSet<(Id, Id)>, hold: &(Id, Id)) -> bool
+    ensures { (holds : List Row) → HasHolds holds waiting.now → result ≡ Rules.has_hold hold.now.0 hold.now.1 holds }
+{
+    hold.0.keeps_its_form();
+    hold.1.keeps_its_form();
+    waiting.contains(hold)
+}
+
 /// Whether the first loan of an item is this patron's.
 #[tactic(auto, unfolding(circ_records::specs::Rules::is_borrower))]
 fn is_borrower(lent: &BTreeMap<Id, Option<Id>>, item: &Id, patron: &Id) -> bool
-    ensures { (loans : List Row) → HasLoans loans lent.now → is_id item.now ≡ true → is_id patron.now ≡ true → result ≡ Rules.is_borrower patron.now item.now loans }
+    ensures { (loans : List Row) → HasLoans loans lent.now → result ≡ Rules.is_borrower patron.now item.now loans }
 {
+    item.keeps_its_form();
+    patron.keeps_its_form();
     match lent.get(item) {
         Some(Some(borrower)) => borrower == patron,
         _ => false,
@@ -130,8 +170,9 @@ fn is_borrower(lent: &BTreeMap<Id, Option<Id>>, item: &Id, patron: &Id) -> bool
 /// Whether as many wait for an item as a queue takes.
 #[tactic(auto, unfolding(circ_records::specs::Rules::is_full))]
 fn is_full(lengths: &BTreeMap<Id, usize>, item: &Id) -> bool
-    ensures { (holds : List Row) → HasQueues holds lengths.now → is_id item.now ≡ true → result ≡ Rules.is_full item.now holds }
+    ensures { (holds : List Row) → HasQueues holds lengths.now → result ≡ Rules.is_full item.now holds }
 {
+    item.keeps_its_form();
     length_of(lengths, item) >= QUEUE_MAX
 }
 

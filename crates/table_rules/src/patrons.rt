@@ -1,17 +1,19 @@
 //! The table of patrons.
 
-ghost use Rattle.std.specs.Prelude.{◌≡◌, ◌&&◌, List, is_some, IfOk, IfSome, true};
+ghost use Rattle.std.specs.Prelude.{◌++◌, ◌≡◌, is_some, length, IfOk, IfSome, IsSome, List, OnOk, Some};
 ghost use Rattle.csv.specs.Records.{fields_of};
-ghost use Rattle.sip_reader.specs.Texts.{is_id};
+ghost use Rattle.csv_table.specs.Rows.{rows_under};
 ghost use Rattle.circ_records.specs.Rules as Rules;
-ghost use Rattle.circ_records.specs.Tables.{Row, field};
+ghost use Rattle.circ_records.specs.Tables.{Row, field, patrons_header};
+ghost use Rattle.circ_records.specs.declared.tables.TableName.TheVariants as table;
+ghost use Rattle.table_rules.specs.AllBroken.{broken_rows};
 ghost use Rattle.table_rules.specs.Devices.RowsBefore.{HasIds};
 
-use crate::judge::Judge;
-use crate::seen_ids::add_id;
+use crate::judge::{Judge, judge_rows};
+use crate::seen_ids::{TableIds, add_id, has_id};
 use crate::values::is_flag;
 use circ_policy::Policy;
-use circ_records::BaseRule;
+use circ_records::{BaseError, BaseRule, TableName};
 use csv::ByteRecord;
 use csv_table::column;
 use sip_reader::{Id, is_text};
@@ -21,14 +23,24 @@ use std::collections::BTreeSet;
 pub(crate) const PATRONS: [&str; 4] = ["id", "name", "class", "blocked"];
 
 /// What is kept of the rows of patrons, and the policy.
-pub(crate) struct PatronJudge<'p> {
-    pub(crate) policy: &'p Policy,
-    pub(crate) ids: BTreeSet<Id>,
+struct PatronJudge<'p> {
+    policy: &'p Policy,
+    ids: BTreeSet<Id>,
 }
 
 impl Drop for PatronJudge<'_> {
     fn drop(self) {
         let PatronJudge { policy: _, ids: _ } = self;
+    }
+}
+
+impl PatronJudge<'_> {
+    /// The ids of all rows.
+    fn into_ids(self) -> BTreeSet<Id>
+        ensures { result ≡ self.entry.ids }
+    {
+        let PatronJudge { policy: _, ids } = self;
+        ids
     }
 }
 
@@ -40,6 +52,34 @@ impl Judge for PatronJudge<'_> {
         add_id(alloc, &mut self.ids, column(row, 0))?;
         Ok(broken)
     }
+}
+
+/// Lists each row of patrons that breaks a rule after those that are listed, and returns the ids of all rows. The text is a table.
+pub(crate) fn judge_patrons(
+    alloc: Global,
+    policy: &Policy,
+    text: &[u8],
+    broken: &mut Vec<BaseError>,
+) -> Result<TableIds, AllocError>
+    requires table { IsSome (rows_under patrons_header text.now) }
+    ensures broken { OnOk result ((rows : List Row) → rows_under patrons_header text.now ≡ Some rows
+        → broken.new.items ≡ broken.old.items ++ broken_rows table.Patrons (Rules.patron_rule policy.now) rows) }
+    ensures ids { IfOk result (λ seen. (rows : List Row) → rows_under patrons_header text.now ≡ Some rows → HasIds 0 rows seen.ids × (seen.count ≡ length rows)) }
+{
+    let ids = BTreeSet::new(alloc);
+    let mut judge = PatronJudge { policy, ids };
+    let count = judge_rows(
+        alloc,
+        TableName::Patrons,
+        &PATRONS,
+        text,
+        &mut judge,
+        broken,
+    )?;
+    Ok(TableIds {
+        ids: judge.into_ids(),
+        count,
+    })
 }
 
 /// The first rule that a row of patrons breaks after rows with these ids.
@@ -58,7 +98,7 @@ fn broken_rule(
     if !is_flag(column(row, 3)) {
         return Ok(Some(BaseRule::Value));
     }
-    if ids.contains(&id) {
+    if has_id(ids, &id) {
         return Ok(Some(BaseRule::Double));
     }
     if !has_class(alloc, policy, column(row, 2))? {
@@ -71,7 +111,7 @@ fn broken_rule(
 #[tactic(auto, unfolding(circ_records::specs::Rules::has_patron_texts))]
 fn id_of(alloc: Global, row: &ByteRecord) -> Result<Option<Id>, AllocError>
     ensures texts { IfOk result (λ id. is_some id ≡ Rules.has_patron_texts (fields_of row.now)) }
-    ensures id { IfOk result (λ id. IfSome id (λ it. (it ≡ field 0 (fields_of row.now)) × (is_id it ≡ true))) }
+    ensures id { IfOk result (λ id. IfSome id (λ it. it ≡ field 0 (fields_of row.now))) }
 {
     if is_text(column(row, 1)) && is_text(column(row, 2)) {
         Id::read(alloc, column(row, 0))

@@ -4,7 +4,9 @@ ghost use Rattle.std.specs.Prelude.{◌≡◌, ◌++◌, IsSome, None, is_some, 
 ghost use Rattle.csv_table.specs.Rows.{rows_under};
 ghost use Rattle.csv_table.specs.Text.{bytes_of};
 ghost use Rattle.csv_table.specs.declared.TableError.TheVariants as refusal;
+ghost use Rattle.circ_records.specs.Base.{holds_rows_of};
 ghost use Rattle.circ_records.specs.Tables.{texts_of};
+ghost use Rattle.circ_records.specs.declared.tables.TableName.TheVariants as table;
 ghost use Rattle.table_rules.specs.AllBroken.{no_tables, text_fault};
 
 use crate::fees::{CLOSED, FEES};
@@ -23,16 +25,35 @@ pub(crate) fn no_tables(alloc: Global, tables: &Tables) -> Result<Vec<BaseError>
     ensures { IfOk result (λ faults. faults.items ≡ no_tables (texts_of tables.now)) }
 {
     let mut faults = Vec::new(alloc);
-    test_text(alloc, TableName::Patrons, &PATRONS, &tables.patrons, &mut faults)?;
+    test_text(
+        alloc,
+        TableName::Patrons,
+        &PATRONS,
+        &tables.patrons,
+        &mut faults,
+    )?;
     test_text(alloc, TableName::Items, &ITEMS, &tables.items, &mut faults)?;
     test_text(alloc, TableName::Loans, &LOANS, &tables.loans, &mut faults)?;
     test_text(alloc, TableName::Fees, &FEES, &tables.fees, &mut faults)?;
-    test_text(alloc, TableName::Closed, &CLOSED, &tables.closed, &mut faults)?;
-    // no bytes at all count as the header alone
-    if !tables.holds.is_empty() {
-        test_text(alloc, TableName::Holds, &HOLDS, &tables.holds, &mut faults)?;
-    }
+    test_text(
+        alloc,
+        TableName::Closed,
+        &CLOSED,
+        &tables.closed,
+        &mut faults,
+    )?;
+    test_holds(alloc, &tables.holds, &mut faults)?;
     Ok(faults)
+}
+
+/// The same of a text of holds: no bytes at all count as its header alone.
+fn test_holds(alloc: Global, text: &[u8], faults: &mut Vec<BaseError>) -> Result<(), AllocError>
+    ensures { OnOk result (faults.new.items ≡ faults.old.items ++ text_fault table.Holds (holds_rows_of text.now)) }
+{
+    if text.is_empty() {
+        return Ok(());
+    }
+    test_text(alloc, TableName::Holds, &HOLDS, text, faults)
 }
 
 /// Adds a text to those that are no tables, where it is none under its header.

@@ -18,20 +18,12 @@ use circ_records::{BaseError, Tables};
 use std::alloc::{AllocError, Global};
 
 /// What a check finds in the tables of a base.
+#[derive(Drop)]
 pub struct TableCheck {
     /// Each row that breaks a rule, table by table, with the first rule that it breaks; or, where texts are no tables, each of these.
     pub broken: Vec<BaseError>,
     /// How many rows the tables have, where all texts are tables.
     pub sizes: TableSizes,
-}
-
-impl Drop for TableCheck {
-    fn drop(self) {
-        let TableCheck {
-            broken: _,
-            sizes: _,
-        } = self;
-    }
 }
 
 /// All rules that the tables of a base break. `first` is the number of the journal's first line, where it has one: no fee of the base may

@@ -27,7 +27,7 @@ use outside::Outside;
 use replay_run::{Fault, Inputs};
 use std::alloc::{AllocError, Global};
 use std::fmt;
-use table_rules::{TableSizes, check_tables};
+use table_rules::{TableCheck, TableSizes, check_tables};
 
 /// How many faults are listed at most.
 const LISTED: usize = 100;
@@ -98,16 +98,29 @@ fn judge_inputs(alloc: Global, policy: &Policy, inputs: &Inputs) -> Result<Found
     match Journal::read(alloc, inputs.journal.as_slice()) {
         Ok(journal) => {
             let lines = journal.lines().len();
-            let check = check_tables(alloc, policy, &inputs.tables, journal.first())?;
-            let faults = faults_of_tables(alloc, check.broken)?;
-            Ok(Found { faults, sizes: check.sizes, lines })
+            let TableCheck { broken, sizes } = check_tables(
+                alloc,
+                policy,
+                &inputs.tables,
+                journal.first(),
+            )?;
+            let faults = faults_of_tables(alloc, broken)?;
+            Ok(Found {
+                faults,
+                sizes,
+                lines,
+            })
         }
         Err(JournalError::Memory) => Err(AllocError),
         Err(error) => {
-            let check = check_tables(alloc, policy, &inputs.tables, None)?;
-            let mut faults = faults_of_tables(alloc, check.broken)?;
+            let TableCheck { broken, sizes } = check_tables(alloc, policy, &inputs.tables, None)?;
+            let mut faults = faults_of_tables(alloc, broken)?;
             faults.push(Fault::from(error))?;
-            Ok(Found { faults, sizes: check.sizes, lines: 0 })
+            Ok(Found {
+                faults,
+                sizes,
+                lines: 0,
+            })
         }
     }
 }
@@ -132,7 +145,11 @@ fn text_of(
 ) -> Result<String, AllocError>
     ensures { IfOk result (λ text. IsText options.now found.faults.items found.sizes found.lines (string_bytes text)) }
 {
-    let Found { faults, sizes, lines } = found;
+    let Found {
+        faults,
+        sizes,
+        lines,
+    } = found;
     if faults.is_empty() {
         return format!(in alloc; "{}", CheckedLine { sizes, lines });
     }
@@ -158,11 +175,30 @@ fn lines_of(
     let mut text = String::new(alloc);
     let mut read = TableRow::new();
     for fault in faults {
-        let stop = stop_beside(alloc, fault, inputs, &mut read);
-        let line = format!(in alloc; "{}", Remedy { stop: &stop, options })?;
+        let line = line_of(alloc, options, inputs, &mut read, fault)?;
         text.push_str(line.as_str())?;
     }
     Ok(text)
+}
+
+/// The line of a fault, as what to do about it; beside a row that was read before.
+fn line_of<'i>(
+    alloc: Global,
+    options: &Options,
+    inputs: &'i Inputs,
+    read: &mut TableRow<'i>,
+    fault: Fault,
+) -> Result<String, AllocError>
+    ensures { IfOk result (λ line. (stop : Stop) × IsOf fault stop × (string_bytes line ≡ remedy_of options.now stop)) }
+{
+    let stop = stop_beside(alloc, fault, inputs, read);
+    format!(in alloc;
+        "{}",
+        Remedy {
+            stop: &stop,
+            options
+        }
+    )
 }
 
 /// The last line where there are faults: how many, and how many of them are listed.

@@ -205,7 +205,9 @@ impl<'i> OpenTable<'i> {
     fn new(alloc: Global, table: TableName, text: &'i [u8]) -> OpenTable<'i> {
         OpenTable {
             table,
-            rows: ReaderBuilder::new().has_headers(true).from_reader(alloc, text),
+            rows: ReaderBuilder::new()
+                .has_headers(true)
+                .from_reader(alloc, text),
             row: ByteRecord::new(alloc),
             number: 0,
         }

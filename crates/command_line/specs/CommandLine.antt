@@ -29,6 +29,10 @@ workers_rule = record (new_rule (codes "workers")) {
 abbrev pub explain_rule : Rule
 explain_rule = record (new_rule (codes "explain")) { long = Some (codes "explain"); action = Some SetTrue }
 
+-- whether the inputs are checked, and nothing is written: a flag
+abbrev pub check_rule : Rule
+check_rule = record (new_rule (codes "check")) { long = Some (codes "check"); action = Some SetTrue }
+
 -- a command line that tells its version
 abbrev pub versioned : App → App
 versioned = on_top (λ shape. record shape { has_version = true })
@@ -36,9 +40,9 @@ versioned = on_top (λ shape. record shape { has_version = true })
 -- the command line of the program
 unfoldable pub sip_replay_line : App
 sip_replay_line =
-    with_rule (with_rule (with_rule (with_rule (with_rule (with_rule (versioned (new_app (codes "sip_replay")))
+    with_rule (with_rule (with_rule (with_rule (with_rule (with_rule (with_rule (versioned (new_app (codes "sip_replay")))
     (path_rule (codes "policy"))) (path_rule (codes "base"))) (path_rule (codes "journal")))
-    (path_rule (codes "out"))) workers_rule) explain_rule
+    (path_rule (codes "out"))) workers_rule) explain_rule) check_rule
 
 -- a number: that of the text that clap reads, and this one where there is none
 abbrev pub Counts : ℕ → Option Text → ℕ → Type 0
@@ -60,6 +64,7 @@ pub record GivesOptions (rows : List Row) (o : Options) : Type 0 where
   pub out : Some (string_bytes o.out) ≡ first_of (codes "out") rows
   pub workers : Counts 4 (one_of (codes "workers") rows) o.workers
   pub explain : Says (one_of (codes "explain") rows) o.explain
+  pub check : Says (one_of (codes "check") rows) o.check
 
 -- The words, of which the first is the program's name, give these options.
 abbrev pub AreAskedBy : List Text → Options → Type 0

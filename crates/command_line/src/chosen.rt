@@ -14,6 +14,8 @@ pub struct Options {
     pub workers: u32,
     /// Whether what to do about a fault is told too.
     pub explain: bool,
+    /// Whether the inputs are only checked.
+    pub check: bool,
 }
 
 impl Drop for Options {
@@ -25,6 +27,7 @@ impl Drop for Options {
             out: _,
             workers: _,
             explain: _,
+            check: _,
         } = self;
     }
 }

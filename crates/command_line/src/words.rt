@@ -3,7 +3,7 @@ ghost use Rattle.std.specs.Prelude.{◌≡◌, IfErr, IfOk, Some, codes, is_some
 ghost use Rattle.clap.specs.Words.{app_of, first_value, found_of, matches_of};
 ghost use Rattle.clap.specs.Words.{rule_of, takes};
 ghost use Rattle.clap.specs.Built.{TakesValue};
-ghost use Rattle.command_line.specs.CommandLine.{explain_rule, path_rule, sip_replay_line, workers_rule};
+ghost use Rattle.command_line.specs.CommandLine.{check_rule, explain_rule, path_rule, sip_replay_line, workers_rule};
 ghost use Rattle.command_line.specs.CommandLine.{GivesOptions};
 ghost use Rattle.command_line.specs.CommandLine.{HasPaths, IsOwnArg};
 ghost use Rattle.command_line.specs.declared.refusal.Refusal.TheVariants.{Memory};
@@ -46,12 +46,17 @@ const EXPLAIN_HELP: &str =
     "Where an input is refused or a file fails, a second line on standard error says what to do; on a \
 terminal it always does";
 
+const CHECK_HELP: &str =
+    "Only checks the inputs: lists the rows that break a rule, the first 100 of them, and writes no file";
+
 const AFTER_HELP: &str = "Example:
   sip_replay --policy policy.toml --base tables --journal journal.csv --out result
 
 answers.csv has the response to each message, report.csv a row for each recorded response that differs, with what
 differs in it, passed.csv each message that was not looked at, with the reason. Standard output gets one line:
   lines <n> answered <n> passed <n> differences <n>
+
+With --check standard output gets a line for each row that breaks a rule instead, or one that says what was read.
 
 Status 0: no recorded response differs. 1: some do. 2: the command line, the policy, a table or the journal is
 refused, and standard error says why. 3: a file cannot be read or written, or memory ran out.";
@@ -72,6 +77,7 @@ pub fn options<S: AsStr>(alloc: Global, words: &[S]) -> Result<Options, Refusal>
     let out = text_of(alloc, &matches, "out")?;
     let workers = matches.get_one::<u32>("workers").unwrap_or(DEFAULT_WORKERS);
     let explain = matches.get_flag("explain");
+    let check = matches.get_flag("check");
     Ok(Options {
         policy,
         base,
@@ -79,6 +85,7 @@ pub fn options<S: AsStr>(alloc: Global, words: &[S]) -> Result<Options, Refusal>
         out,
         workers,
         explain,
+        check,
     })
 }
 
@@ -131,6 +138,17 @@ fn explain<'a>(alloc: Global) -> Arg<'a>
         .help(EXPLAIN_HELP)
 }
 
+/// Whether the inputs are only checked.
+fn check<'a>(alloc: Global) -> Arg<'a>
+    ensures rule { rule_of result ≡ check_rule }
+    ensures own { IsOwnArg (codes "check") result }
+{
+    Arg::new(alloc, "check")
+        .long("check")
+        .action(ArgAction::SetTrue)
+        .help(CHECK_HELP)
+}
+
 /// The command line of the program.
 fn command<'a>(alloc: Global) -> Result<Command<'a>, AllocError>
     ensures line { IfOk result (λ c. app_of c ≡ sip_replay_line) }
@@ -142,6 +160,7 @@ fn command<'a>(alloc: Global) -> Result<Command<'a>, AllocError>
     let out = path(alloc, "out", "DIR", OUT_HELP);
     let workers = workers(alloc);
     let explain = explain(alloc);
+    let check = check(alloc);
     Command::new(alloc, "sip_replay")
         .version(VERSION)
         .about(ABOUT)
@@ -151,5 +170,6 @@ fn command<'a>(alloc: Global) -> Result<Command<'a>, AllocError>
         .arg(journal)?
         .arg(out)?
         .arg(workers)?
-        .arg(explain)
+        .arg(explain)?
+        .arg(check)
 }

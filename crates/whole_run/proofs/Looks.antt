@@ -5,7 +5,7 @@ use Rattle.std.specs.List.{position}
 use Rattle.std.specs.Prelude.{option_map, string_bytes}
 use Rattle.command_line.specs.declared.chosen.Options.{Options}
 use Rattle.outside.proofs.Steps.{both}
-use Rattle.outside.specs.Events.{Did, Event, Find, after, noted}
+use Rattle.outside.specs.Events.{Did, Event, Find, noted}
 use Rattle.outside.specs.declared.file_id.FileId.{FileId}
 use Rattle.replay_run.specs.declared.inputs.Inputs.{Inputs}
 use Rattle.whole_run.specs.Looking.{AreApart, AreFound, AreLooked, AreLooks, input_at, is_among}

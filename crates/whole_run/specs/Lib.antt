@@ -1,3 +1,4 @@
+pub mod Checking
 pub mod Doubting
 pub mod Looking
 pub mod Reading

@@ -1,11 +1,12 @@
 -- The whole program: what its words come to, what it asks of the outside, in this order, and its status.
-use Rattle.std.specs.Prelude.{◌≡◌, ◌∷◌, ◌⊎◌, ℕ, [], Bool, List, None, if◌then◌else◌, string_bytes}
+use Rattle.std.specs.Prelude.{◌≡◌, ◌∷◌, ◌⊎◌, ℕ, [], Bool, List, None, false, if◌then◌else◌, string_bytes, true}
 use Rattle.outside.specs.Events.{Event, Print, Tell}
 use Rattle.command_line.specs.CommandLine.{AreAskedBy, AreTaken}
 use Rattle.command_line.specs.declared.chosen.Options.{Options}
 use Rattle.command_line.specs.declared.refusal.Refusal.{Refusal}
 use Rattle.command_line.specs.declared.refusal.Refusal.TheVariants as refusals
 use Rattle.replay_run.specs.declared.fault.Fault.TheVariants as faults
+use Rattle.whole_run.specs.Checking.{IsCheck}
 use Rattle.whole_run.specs.Run.{IsRun}
 use Rattle.whole_run.specs.Telling.{stop_text}
 use Rattle.whole_run.specs.declared.stop.Stop.TheVariants as stops
@@ -16,8 +17,12 @@ TellsRefusal (refusals.Help text) status events = (taken : Bool) × (events ≡ 
 TellsRefusal (refusals.Words text) status events = (taken : Bool) × (events ≡ Tell (string_bytes text) taken ∷ []) × (status ≡ 2)
 TellsRefusal refusals.Memory status events = (taken : Bool) × (events ≡ Tell (stop_text (stops.Fault faults.Memory) None) taken ∷ []) × (status ≡ 3)
 
--- The words give options, and the run is one with these; or they give none, which is only out of memory where clap's definition takes them.
+-- what options ask for: a check, or a run
+abbrev pub IsDone : Options → ℕ → List Event → Type 0
+IsDone o status events = ((o.check ≡ true) × IsCheck o status events) ⊎ ((o.check ≡ false) × IsRun o status events)
+
+-- The words give options, and this is what they ask for; or they give none, which is only out of memory where clap's definition takes them.
 abbrev pub IsSession : List (List ℕ) → ℕ → List Event → Type 0
 IsSession words status events =
-    ((o : Options) × AreAskedBy words o × IsRun o status events)
+    ((o : Options) × AreAskedBy words o × IsDone o status events)
     ⊎ ((refusal : Refusal) × (AreTaken words → refusal ≡ refusals.Memory) × TellsRefusal refusal status events)

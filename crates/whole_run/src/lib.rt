@@ -2,6 +2,7 @@
 //! the status. `replay_run` and the crates below it compute; all that is asked of files and streams goes through an `Outside`.
 #![tactic(auto)]
 
+mod checking;
 mod doubt;
 mod files;
 mod looking;
@@ -12,4 +13,5 @@ mod seen;
 mod stop;
 mod values;
 
+pub use checking::first_is_refused;
 pub use replaying::{refuse_words, run};

@@ -33,9 +33,9 @@ impl fmt::Display for StopText<'_> {
 
 /// What to do about a stop, as a line of its own.
 #[derive(Clone, Copy)]
-struct Remedy<'a> {
-    stop: &'a Stop,
-    options: &'a Options,
+pub struct Remedy<'a> {
+    pub stop: &'a Stop,
+    pub options: &'a Options,
 }
 
 impl fmt::Display for Remedy<'_> {

@@ -6,8 +6,10 @@ ghost use Rattle.replay_run.specs.declared.inputs.Output.{Output};
 ghost use Rattle.whole_run.specs.Doubting.{IsToldDoubt, doubt_events};
 ghost use Rattle.whole_run.specs.Run.{HasEnded, HasStopped, IsAsked, IsReplayed, IsRun, sizes_line, writes_of};
 ghost use Rattle.whole_run.specs.Statuses.{ended_status};
-ghost use Rattle.whole_run.specs.Words.{IsSession, TellsRefusal};
+ghost use Rattle.whole_run.specs.Checking.{IsCheck};
+ghost use Rattle.whole_run.specs.Words.{IsDone, IsSession, TellsRefusal};
 
+use crate::checking::check;
 use crate::doubt::{Doubt, doubt_of};
 use crate::files::{read_inputs, write_output};
 use crate::progress::Progress;
@@ -32,9 +34,9 @@ const DIFFERENT: u8 = 1;
 /// Reads the words, of which the first is the program's name, then the files, replays the journal, writes the
 /// files and prints one line. Gives the status of the program:
 ///
-/// - 0 where no recorded response differs, and for help, whose text goes to standard output;
+/// - 0 where no recorded response differs, where a check finds no fault, and for help, whose text goes to standard output;
 /// - 1 where some recorded response differs;
-/// - 2 where the command line, the workers, the policy, a table or the journal is refused;
+/// - 2 where the command line, the workers, the policy, a table or the journal is refused, or a check finds a fault in them;
 /// - 3 where a file can't be read or written, standard output takes no text, or memory ran out.
 ///
 /// What stopped the run is printed on standard error, and what to do too where that is a terminal or the words ask for it.
@@ -46,7 +48,7 @@ pub fn run<R: AllocGlobal + Threads + Wait + Sync + Clock + Eprint, S: AsStr, O:
     ensures { Did (IsSession (map S.text words.now) result) (O.log outside.old) (O.log outside.new) }
 {
     match options(rt.alloc(), words) {
-        Ok(options) => run_with(rt, outside, &options),
+        Ok(options) => do_as_asked(rt, outside, &options),
         Err(refusal) => refuse(&refusal, outside),
     }
 }
@@ -60,7 +62,32 @@ pub fn refuse_words<O: Outside>(outside: &mut O, error: &io::Error) -> u8 {
     REFUSED
 }
 
-/// The same, of what the words ask for.
+/// The same, of what the words ask for: a check, or a run.
+fn do_as_asked<R: AllocGlobal + Threads + Wait + Sync + Clock + Eprint, O: Outside>(
+    rt: &R,
+    outside: &mut O,
+    options: &Options,
+) -> u8
+    ensures { Did (IsDone options.now result) (O.log outside.old) (O.log outside.new) }
+{
+    if options.check {
+        check_with(rt.alloc(), outside, options)
+    } else {
+        run_with(rt, outside, options)
+    }
+}
+
+/// The check, with what is said where it is stopped.
+fn check_with<O: Outside>(alloc: Global, outside: &mut O, options: &Options) -> u8
+    ensures { Did (IsCheck options.now result) (O.log outside.old) (O.log outside.new) }
+{
+    match check(outside, alloc, options) {
+        Ok(status) => status,
+        Err(stop) => stop.tell(asked_of(options, outside.is_terminal()), outside),
+    }
+}
+
+/// The run, with what is said where it is stopped.
 fn run_with<R: AllocGlobal + Threads + Wait + Sync + Clock + Eprint, O: Outside>(
     rt: &R,
     outside: &mut O,

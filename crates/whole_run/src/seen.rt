@@ -6,7 +6,7 @@ ghost use Rattle.whole_run.specs.Seeing.{IsOf, IsOfPolicy, IsOfTable, MaySee};
 use crate::stop::Stop;
 use crate::values::{Form, journal_values, seen_in_row};
 use circ_records::TableName;
-use csv::{ByteRecord, ErrorKind, ReaderBuilder};
+use csv::{ByteRecord, ErrorKind, Reader, ReaderBuilder};
 use replay_run::{Fault, Inputs, Tables};
 use std::alloc::Global;
 use std::mem::forget;
@@ -32,13 +32,31 @@ pub enum Seen {
 pub fn stop_of(alloc: Global, fault: Fault, inputs: &Inputs) -> Stop
     ensures { IsOf fault result }
 {
-    match seen_of(alloc, &fault, inputs) {
+    let mut rows = TableRow::new();
+    stop_beside(alloc, fault, inputs, &mut rows)
+}
+
+/// The same, beside a row that was read before. Faults in the order of the tables and their rows take one reading of each table.
+pub fn stop_beside<'i>(
+    alloc: Global,
+    fault: Fault,
+    inputs: &'i Inputs,
+    read: &mut TableRow<'i>,
+) -> Stop
+    ensures { IsOf fault result }
+{
+    match seen_of(alloc, &fault, inputs, read) {
         Some(seen) => Stop::Seen { fault, seen },
         None => Stop::Fault(fault),
     }
 }
 
-fn seen_of(alloc: Global, fault: &Fault, inputs: &Inputs) -> Option<Seen>
+fn seen_of<'i>(
+    alloc: Global,
+    fault: &Fault,
+    inputs: &'i Inputs,
+    read: &mut TableRow<'i>,
+) -> Option<Seen>
     ensures { IfSome result (MaySee fault.now) }
 {
     match fault {
@@ -46,8 +64,8 @@ fn seen_of(alloc: Global, fault: &Fault, inputs: &Inputs) -> Option<Seen>
         Fault::BaseTable { table } => seen_in_table(alloc, text_of(&inputs.tables, *table)),
         Fault::JournalTable => seen_in_table(alloc, inputs.journal.as_slice()),
         Fault::BaseRule { table, row, rule } => {
-            let row = row_at(alloc, text_of(&inputs.tables, *table), *row)?;
-            seen_in_row(alloc, *table, *rule, &row)
+            let row = read.at(alloc, &inputs.tables, *table, *row)?;
+            seen_in_row(alloc, *table, *rule, row)
         }
         Fault::JournalRule { row, rule } => {
             let row = row_at(alloc, inputs.journal.as_slice(), *row)?;
@@ -123,7 +141,92 @@ fn seen_in_table(alloc: Global, text: &[u8]) -> Option<Seen>
     Some(Seen::Uneven { row })
 }
 
-/// A row of a table, counted from 1 below the header.
+/// A row of a table that was read last, and the rows after it.
+pub struct TableRow<'i> {
+    reading: Option<OpenTable<'i>>,
+}
+
+impl Drop for TableRow<'_> {
+    fn drop(self) {
+        let TableRow { reading: _ } = self;
+    }
+}
+
+/// A table that is read, with the row that was read last and its number from 1 below the header.
+struct OpenTable<'i> {
+    table: TableName,
+    rows: Reader<&'i [u8]>,
+    row: ByteRecord,
+    number: usize,
+}
+
+impl Drop for OpenTable<'_> {
+    fn drop(self) {
+        let OpenTable {
+            table: _,
+            rows: _,
+            row: _,
+            number: _,
+        } = self;
+    }
+}
+
+impl<'i> TableRow<'i> {
+    /// No row yet.
+    pub fn new() -> TableRow<'i> {
+        TableRow { reading: None }
+    }
+
+    /// A row of a table, counted from 1 below the header. One that comes after the row that was read last takes no new reading.
+    fn at(
+        &mut self,
+        alloc: Global,
+        tables: &'i Tables,
+        table: TableName,
+        row: usize,
+    ) -> Option<&ByteRecord> {
+        if !self.is_before(table, row) {
+            self.reading = Some(OpenTable::new(alloc, table, text_of(tables, table)));
+        }
+        let reading = self.reading.as_mut()?;
+        reading.go_to(row)?;
+        Some(&reading.row)
+    }
+
+    fn is_before(&self, table: TableName, row: usize) -> bool {
+        match &self.reading {
+            Some(reading) => reading.table == table && reading.number <= row,
+            None => false,
+        }
+    }
+}
+
+impl<'i> OpenTable<'i> {
+    fn new(alloc: Global, table: TableName, text: &'i [u8]) -> OpenTable<'i> {
+        OpenTable {
+            table,
+            rows: ReaderBuilder::new()
+                .has_headers(true)
+                .from_reader(alloc, text),
+            row: ByteRecord::new(alloc),
+            number: 0,
+        }
+    }
+
+    /// Reads on to the row of a number.
+    fn go_to(&mut self, row: usize) -> Option<()> {
+        for _ in self.number..row {
+            match self.rows.read_byte_record(&mut self.row) {
+                Ok(true) => {}
+                _ => return None,
+            }
+        }
+        self.number = row;
+        Some(())
+    }
+}
+
+/// A row of the journal, counted from 1 below the header.
 fn row_at(alloc: Global, text: &[u8], row: usize) -> Option<ByteRecord> {
     let mut reader = ReaderBuilder::new()
         .has_headers(true)

@@ -9,9 +9,10 @@ use crate::seen::Seen;
 use circ_records::{BaseRule, TableName};
 use csv::ByteRecord;
 use journal_table::JournalRule;
-use sip_reader::{Amount, Day, is_id, is_text};
+use sip_reader::{Amount, is_id, is_text};
 use std::alloc::Global;
 use std::fmt;
+use table_rules::{is_due, is_flag, is_renewals};
 
 /// How much of a value is printed, in characters.
 const TOLD: usize = 60;
@@ -194,37 +195,12 @@ fn is_spelt(kind: Kind, value: &[u8]) -> bool {
 /// Whether a value has its form.
 fn has_form(form: Form, value: &[u8]) -> bool {
     match form {
-        Form::Flag => value == b"Y".as_slice() || value == b"N".as_slice(),
-        Form::Day => is_day(value),
-        Form::Number => is_number(value),
+        Form::Flag => is_flag(value),
+        Form::Day => is_due(value),
+        Form::Number => is_renewals(value),
         Form::FeeType => matches!(value, [b'0', b'1'..=b'9']),
         Form::Amount => Amount::read(value).is_some(),
     }
-}
-
-/// Whether a text is a day, in eight digits.
-fn is_day(value: &[u8]) -> bool {
-    let Ok(text) = str::from_utf8(value) else {
-        return false;
-    };
-    if text.len() != 8 || !value.iter().all(|byte| byte.is_ascii_digit()) {
-        return false;
-    }
-    let number = text.parse::<u32>().unwrap_or(0);
-    let year = u16::try_from(number / 10_000).unwrap_or(0);
-    let month = u8::try_from(number / 100 % 100).unwrap_or(0);
-    let day = u8::try_from(number % 100).unwrap_or(0);
-    Day::of(year, month, day).is_some()
-}
-
-/// Whether a text is a number from 0 to 4,294,967,295 in digits, without leading zeros.
-fn is_number(value: &[u8]) -> bool {
-    let Ok(text) = str::from_utf8(value) else {
-        return false;
-    };
-    (text == "0" || !text.starts_with('0'))
-        && value.iter().all(|byte| byte.is_ascii_digit())
-        && text.parse::<u32>().is_ok()
 }
 
 /// Puts a value after others, in double quotes. Of a long one the beginning is printed.

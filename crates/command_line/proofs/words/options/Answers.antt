@@ -33,4 +33,6 @@ returns-clause-given g c =
       explain = subst (λ o. Says o c.get_flag-explain.result) (one_text-rows f (codes "explain") ∙ ap (one_of (codes "explain")) rows)
           (says (one_text f (codes "explain")) c.get_flag-explain.result c.get_flag-explain.ensures.none c.get_flag-explain.ensures.value
           c.get_flag-explain.ensures.other);
+      check = subst (λ o. Says o c.get_flag-check.result) (one_text-rows f (codes "check") ∙ ap (one_of (codes "check")) rows)
+          (says (one_text f (codes "check")) c.get_flag-check.result c.get_flag-check.ensures.none c.get_flag-check.ensures.value c.get_flag-check.ensures.other);
     }

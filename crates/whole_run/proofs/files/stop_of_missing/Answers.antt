@@ -1,4 +1,3 @@
-use Rattle.std.proofs.Common.{None, Some}
 use Rattle.whole_run.proofs.files.stop_of_missing.Goals as goal
 
 pub returns-in-Some : goal.returns-in-Some

@@ -3,7 +3,7 @@ use Rattle.whole_run.proofs.replaying.run.Goals as goal
 
 pub returns-in-Ok : goal.returns-in-Ok
 returns-in-Ok g c =
-    let d = c.run_with.ensures in
+    let d = c.do_as_asked.ensures in
     (d.0, d.1, inl (c.in-Ok.options, c.in-Ok.ensures.given, d.2))
 
 pub returns-in-Err : goal.returns-in-Err

@@ -1,4 +1,3 @@
-use Rattle.std.proofs.Common.{true}
 use Rattle.whole_run.proofs.replaying.tell_doubt.Goals as goal
 
 pub returns-in-Some : goal.returns-in-Some

@@ -1,0 +1,4 @@
+pub mod Checked
+pub mod First
+pub mod Listing
+pub mod RowsBefore

@@ -1,0 +1,4 @@
+pub mod AllBroken
+pub mod Devices
+pub mod Laws
+pub mod Sizes

@@ -1,0 +1,132 @@
+//! The table of patrons.
+
+ghost use Rattle.std.specs.Prelude.{◌++◌, ◌≡◌, is_some, length, IfOk, IfSome, IsSome, List, OnOk, Some};
+ghost use Rattle.csv.specs.Records.{fields_of};
+ghost use Rattle.csv_table.specs.Rows.{rows_under};
+ghost use Rattle.circ_records.specs.Rules as Rules;
+ghost use Rattle.circ_records.specs.Tables.{Row, field, patrons_header};
+ghost use Rattle.circ_records.specs.declared.tables.TableName.TheVariants as table;
+ghost use Rattle.table_rules.specs.AllBroken.{broken_rows};
+ghost use Rattle.table_rules.specs.Devices.RowsBefore.{HasIds};
+
+use crate::judge::{Judge, judge_rows};
+use crate::seen_ids::{TableIds, add_id, has_id};
+use crate::values::is_flag;
+use circ_policy::Policy;
+use circ_records::{BaseError, BaseRule, TableName};
+use csv::ByteRecord;
+use csv_table::column;
+use sip_reader::{Id, is_text};
+use std::alloc::{AllocError, Global};
+use std::collections::BTreeSet;
+
+pub(crate) const PATRONS: [&str; 4] = ["id", "name", "class", "blocked"];
+
+/// What is kept of the rows of patrons, and the policy.
+struct PatronJudge<'p> {
+    policy: &'p Policy,
+    ids: BTreeSet<Id>,
+}
+
+impl Drop for PatronJudge<'_> {
+    fn drop(self) {
+        let PatronJudge { policy: _, ids: _ } = self;
+    }
+}
+
+impl PatronJudge<'_> {
+    /// The ids of all rows.
+    fn into_ids(self) -> BTreeSet<Id>
+        ensures { result ≡ self.entry.ids }
+    {
+        let PatronJudge { policy: _, ids } = self;
+        ids
+    }
+}
+
+impl Judge for PatronJudge<'_> {
+    ghost judges = { λ s rule before. (rule ≡ Rules.patron_rule s.policy.now) × HasIds 0 before s.ids };
+
+    fn judge(&mut self, alloc: Global, row: &ByteRecord) -> Result<Option<BaseRule>, AllocError> {
+        let broken = broken_rule(alloc, self.policy, &self.ids, row)?;
+        add_id(alloc, &mut self.ids, column(row, 0))?;
+        Ok(broken)
+    }
+}
+
+/// Lists each row of patrons that breaks a rule after those that are listed, and returns the ids of all rows. The text is a table.
+pub(crate) fn judge_patrons(
+    alloc: Global,
+    policy: &Policy,
+    text: &[u8],
+    broken: &mut Vec<BaseError>,
+) -> Result<TableIds, AllocError>
+    requires table { IsSome (rows_under patrons_header text.now) }
+    ensures broken { OnOk result ((rows : List Row) → rows_under patrons_header text.now ≡ Some rows
+        → broken.new.items ≡ broken.old.items ++ broken_rows table.Patrons (Rules.patron_rule policy.now) rows) }
+    ensures ids { IfOk result (λ seen. (rows : List Row) → rows_under patrons_header text.now ≡ Some rows → HasIds 0 rows seen.ids × (seen.count ≡ length rows)) }
+{
+    let ids = BTreeSet::new(alloc);
+    let mut judge = PatronJudge { policy, ids };
+    let count = judge_rows(
+        alloc,
+        TableName::Patrons,
+        &PATRONS,
+        text,
+        &mut judge,
+        broken,
+    )?;
+    Ok(TableIds {
+        ids: judge.into_ids(),
+        count,
+    })
+}
+
+/// The first rule that a row of patrons breaks after rows with these ids.
+#[tactic(auto, unfolding(circ_records::specs::Rules::patron_rule))]
+fn broken_rule(
+    alloc: Global,
+    policy: &Policy,
+    ids: &BTreeSet<Id>,
+    row: &ByteRecord,
+) -> Result<Option<BaseRule>, AllocError>
+    ensures { IfOk result (λ broken. (before : List Row) → HasIds 0 before ids.now → broken ≡ Rules.patron_rule policy.now before (fields_of row.now)) }
+{
+    let Some(id) = id_of(alloc, row)? else {
+        return Ok(Some(BaseRule::Text));
+    };
+    if !is_flag(column(row, 3)) {
+        return Ok(Some(BaseRule::Value));
+    }
+    if has_id(ids, &id) {
+        return Ok(Some(BaseRule::Double));
+    }
+    if !has_class(alloc, policy, column(row, 2))? {
+        return Ok(Some(BaseRule::Class));
+    }
+    Ok(None)
+}
+
+/// The id of a row's patron, where all texts of the row are valid.
+#[tactic(auto, unfolding(circ_records::specs::Rules::has_patron_texts))]
+fn id_of(alloc: Global, row: &ByteRecord) -> Result<Option<Id>, AllocError>
+    ensures texts { IfOk result (λ id. is_some id ≡ Rules.has_patron_texts (fields_of row.now)) }
+    ensures id { IfOk result (λ id. IfSome id (λ it. it ≡ field 0 (fields_of row.now))) }
+{
+    if is_text(column(row, 1)) && is_text(column(row, 2)) {
+        Id::read(alloc, column(row, 0))
+    } else {
+        Ok(None)
+    }
+}
+
+/// Whether the policy has a class of this name.
+#[tactic(auto, unfolding(circ_records::specs::Rules::has_class))]
+fn has_class(alloc: Global, policy: &Policy, name: &[u8]) -> Result<bool, AllocError>
+    ensures { IfOk result (λ has. has ≡ Rules.has_class policy.now name.now) }
+{
+    let Some(class) = Id::read(alloc, name)? else {
+        return Ok(false);
+    };
+    Ok(policy.class(&class).is_some())
+}

@@ -50,7 +50,7 @@ FirstIsRefused = (bytes : List ℕ) (policy : Terms) (texts : Texts) (journal : 
 abbrev pub listed : List Fault → List Fault
 listed = take 100
 
--- a line for each of these faults, as what to do about it is told: where it is, the values that are seen there, and what to do
+-- a line for each of these faults, the one that `--explain` prints: where it is, the values that are seen there, and what to do
 abbrev pub AreLines : Options → List Fault → List ℕ → Type 0
 AreLines o [] text = text ≡ []
 AreLines o (fault ∷ rest) text = (stop : Stop) × (more : List ℕ) × IsOf fault stop × AreLines o rest more × (text ≡ remedy_of o stop ++ more)
@@ -73,8 +73,8 @@ lines_in (Err error) = 0
 -- the text of a check, by the faults that there are, the sizes of the tables and the number of lines
 abbrev pub IsText : Options → List Fault → TableSizes → ℕ → List ℕ → Type 0
 IsText o [] sizes lines text = text ≡ checked_line sizes lines
-IsText o (fault ∷ rest) sizes lines text = (told : List ℕ) × AreLines o (listed (fault ∷ rest)) told
-    × (text ≡ told ++ count_line (length (fault ∷ rest)) (length (listed (fault ∷ rest))))
+IsText o (fault ∷ rest) sizes lines text = (lines-of : List ℕ) × AreLines o (listed (fault ∷ rest)) lines-of
+    × (text ≡ lines-of ++ count_line (length (fault ∷ rest)) (length (listed (fault ∷ rest))))
 
 -- 2 where there are faults, else 0
 abbrev pub check_status : List Fault → ℕ
@@ -87,7 +87,7 @@ IsChecked o faults text reads = (i : Inputs) × (policy : Terms) × (sizes : Tab
     × (faults ≡ faults_of policy (texts_of i.tables) (journal_of i.journal.items)) × AreSizes (texts_of i.tables) sizes
     × IsText o faults sizes (lines_in (journal_of i.journal.items)) text
 
--- The check comes to its end: its text is printed.
+-- The check ends: its text is printed.
 abbrev pub EndsChecking : Options → ℕ → List Event → Type 0
 EndsChecking o status events = (faults : List Fault) × (text : List ℕ) × (reads : List Event) × IsChecked o faults text reads
     × (events ≡ reads ++ Print text true ∷ []) × (status ≡ check_status faults)

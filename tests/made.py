@@ -35,6 +35,13 @@ def write_inputs(journal, **rows):
     model.write('journal.csv', journal)
 
 
+def write_by_turns(count, first=1):
+    """Writes the inputs and what a replay gives of this many lines, which ask for four things by turns: one is answered, one passed over, one has a wrong
+    sum and one is of no kind."""
+    requests = ('1920260302    101500AOL1|ABI1|ACx|CHtorn|', '9900302.00AY1AZFCA5', '9900302.00AY1AZFCA6', '88')
+    write_replayed([(str(first + line), 'C1', requests[line % 4], '') for line in range(count)], items=[ITEM])
+
+
 def write_told(status, stdout='', stderr=''):
     for name, text in (('status', f'{status}\n'), ('stdout', stdout), ('stderr', stderr)):
         model.write(name, text)

@@ -3,19 +3,19 @@ use Rattle.std.specs.Prelude.{ℕ, ◌+◌, ◌-◌, slice_set, slice_index_or}
 use Rattle.attempts.specs.declared.counts.Counts.{Counts}
 use Rattle.attempts.specs.declared.state.LineState.{LineState}
 use Rattle.attempts.specs.declared.state.LineState.TheVariants.{Waiting, Running, Committed}
-use Rattle.attempts.specs.declared.table.Row.{Row}
+use Rattle.attempts.specs.declared.table.AttemptRow.{AttemptRow}
 use Rattle.attempts.specs.States.{States}
 
 -- a row past the last
-abbrev pub no_row : Row
+abbrev pub no_row : AttemptRow
 no_row = record { state = Waiting; next = 0 }
 
 -- the row of a line that is there
-abbrev pub row_of : States → ℕ → Row
+abbrev pub row_of : States → ℕ → AttemptRow
 row_of t line = slice_index_or t.rows (line - t.first) no_row
 
 -- another row for a line, and other counts; no other line changes
-abbrev pub with_row : States → ℕ → Row → Counts → States
+abbrev pub with_row : States → ℕ → AttemptRow → Counts → States
 with_row t line row counts = record { first = t.first; rows = slice_set t.rows (line - t.first) row; counts = counts }
 
 -- the line is in another state, in the same attempt

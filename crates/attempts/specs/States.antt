@@ -5,12 +5,12 @@ use Rattle.std.specs.Option.{option_and_then}
 use Rattle.attempts.specs.declared.counts.Counts.{Counts}
 use Rattle.attempts.specs.declared.state.LineState.{LineState}
 use Rattle.attempts.specs.declared.state.LineState.TheVariants.{Waiting, Running, Placing, Done, Checking, Committed}
-use Rattle.attempts.specs.declared.table.Row.{Row}
+use Rattle.attempts.specs.declared.table.AttemptRow.{AttemptRow}
 
 -- the lines from the first number on, and the counts
 pub record States : Type 0 where
   pub first : ℕ
-  pub rows : List Row
+  pub rows : List AttemptRow
   pub counts : Counts
 
 -- an attempt goes on: the line is running, placing, done or being checked
@@ -47,19 +47,19 @@ one_if true = 1
 one_if false = 0
 
 -- how many lines are live, and how many committed
-abbrev pub live_among : List Row → ℕ
+abbrev pub live_among : List AttemptRow → ℕ
 live_among rows = sum_by (λ r. one_if (is_live r.state)) rows
 
-abbrev pub committed_among : List Row → ℕ
+abbrev pub committed_among : List AttemptRow → ℕ
 committed_among rows = sum_by (λ r. one_if (is_committed r.state)) rows
 
 -- the number of an attempt is that of a u32; a line that doesn't wait has one
-pub record IsNumbered (r : Row) : Type 0 where
+pub record IsNumbered (r : AttemptRow) : Type 0 where
   pub spent : r.next ≤ 2 ^ 32
   pub begun : is_waiting r.state ≡ false → 1 ≤ r.next
 
 -- the counts are those of the lines, and balance
-pub record IsCounted (rows : List Row) (c : Counts) : Type 0 where
+pub record IsCounted (rows : List AttemptRow) (c : Counts) : Type 0 where
   pub balance : Balanced c
   pub live : c.live ≡ live_among rows
   pub commits : c.commits ≡ committed_among rows
@@ -69,7 +69,7 @@ pub record IsCounted (rows : List Row) (c : Counts) : Type 0 where
   pub numbered : All IsNumbered rows
 
 -- the row of the line of a number
-abbrev pub row_at : States → ℕ → Option Row
+abbrev pub row_at : States → ℕ → Option AttemptRow
 row_at t line = if nat_lt line t.first then None else slice_get t.rows (line - t.first)
 
 -- the state of the line of a number
@@ -81,7 +81,7 @@ abbrev pub next_at : States → ℕ → Option ℕ
 next_at t line = option_map (λ r. r.next) (row_at t line)
 
 -- the newest attempt of a line that doesn't wait
-abbrev pub newest_of : Row → Option ℕ
+abbrev pub newest_of : AttemptRow → Option ℕ
 newest_of r = if is_waiting r.state then None else Some (r.next - 1)
 
 abbrev pub newest_at : States → ℕ → Option ℕ

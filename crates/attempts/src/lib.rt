@@ -1,8 +1,8 @@
 //! Attempts: the state of each line of a journal, which attempts of it were begun, and how often lines were
 //! taken, sent back and committed.
 //!
-//! An attempt's number is used once: each take of a line gives it the next one. The counts balance in every table, as
-//! its type says. It knows nothing of records, keys or versions; the board moves the lines and says when.
+//! An attempt's number is used once: each take of a line gives it the next one. The counts balance in every table: its
+//! type's invariant says so. This crate knows nothing of records, keys or versions; the board decides when a line changes its state.
 #![tactic(auto)]
 
 mod counts;

@@ -15,7 +15,7 @@ const ATTEMPTS: u64 = 1 << 32;
 
 /// A line: its state, and the number of its next attempt.
 #[derive(Clone, Copy)]
-pub struct Row {
+pub struct AttemptRow {
     pub state: LineState,
     pub next: u64,
 }
@@ -23,7 +23,7 @@ pub struct Row {
 /// The state of each line of a journal, and the counts. Lines go by their numbers.
 pub struct AttemptTable {
     first: u64,
-    rows: Vec<Row>,
+    rows: Vec<AttemptRow>,
     counts: Counts,
 }
 
@@ -48,7 +48,7 @@ impl Model for AttemptTable {
 }
 
 impl AttemptTable {
-    /// The lines from the first number on, all waiting, the next attempt of each being this one.
+    /// A table of this many lines from the number `first` on, all waiting. The next attempt of each has the number `attempt`.
     pub fn new(
         alloc: Global,
         first: u64,
@@ -57,7 +57,7 @@ impl AttemptTable {
     ) -> Result<AttemptTable, AllocError>
         ensures { IfOk result (λ t. t ≡ all_waiting first lines attempt) }
     {
-        let row = Row {
+        let row = AttemptRow {
             state: LineState::Waiting,
             next: attempt as u64,
         };
@@ -124,7 +124,7 @@ impl AttemptTable {
         if row.next == ATTEMPTS {
             return None;
         }
-        self.rows[place] = Row {
+        self.rows[place] = AttemptRow {
             state: LineState::Running { worker },
             next: row.next + 1,
         };
@@ -177,7 +177,7 @@ impl AttemptTable {
     }
 
     /// The row of a line.
-    fn row(&self, line: u64) -> Option<Row>
+    fn row(&self, line: u64) -> Option<AttemptRow>
         ensures row { result ≡ row_at self.now line }
         ensures numbered { IfSome result IsNumbered }
     {

@@ -15,7 +15,7 @@ use Rattle.board_steps.proofs.Lines.{row_from, rows_put, row_put, row_put_off, w
 use Rattle.board_lines.specs.Courses.{IsUnderWay}
 use Rattle.board_lines.specs.Parts.{Kept, Parts, no_notes, row_by, row_shown, first_of, board_of, kept_at, HandsHold, IsKept}
 use Rattle.board_lines.specs.declared.lines.Lines.TheInside.{Inside}
-use Rattle.board_lines.specs.declared.row.Row as code
+use Rattle.board_lines.specs.declared.row.LineRow as code
 use Rattle.board_lines.proofs.Firsts.{length_first, nth_first, set_first}
 
 -- the fields of the code, as data
@@ -34,12 +34,12 @@ row_there base a n there =
     row_from (board_of base a) n there.0 ∙ nth_first (row_by base a) (length a.rows) (n - a.states.first) _ (place_of base a n there)
 
 -- the row of a line, in code and as data
-pub row_read : {J : Type 0} (rows : List (code.Row J)) (n x first : ℕ) (spot : code.Row J) → x ≡ first → n - first < length (map row_shown rows) → spot ≡ get_or rows (n - x) spot
+pub row_read : {J : Type 0} (rows : List (code.LineRow J)) (n x first : ℕ) (spot : code.LineRow J) → x ≡ first → n - first < length (map row_shown rows) → spot ≡ get_or rows (n - x) spot
     → get_or (map row_shown rows) (n - first) no_notes ≡ row_shown spot
 row_read rows n x first spot f l is =
     get_or-map row_shown rows (n - first) spot no_notes (omega (arith, l, length-map rows row_shown)) ∙ ap row_shown (sym (is ∙ ap (λ y. get_or rows (n - y) spot) f))
 
-pub row_set : {J : Type 0} (rows : List (code.Row J)) (n x first : ℕ) (row : code.Row J) → x ≡ first → map row_shown (set rows (n - x) row) ≡ set (map row_shown rows) (n - first) (row_shown row)
+pub row_set : {J : Type 0} (rows : List (code.LineRow J)) (n x first : ℕ) (row : code.LineRow J) → x ≡ first → map row_shown (set rows (n - x) row) ≡ set (map row_shown rows) (n - first) (row_shown row)
 row_set rows n x first row f = map-set row_shown rows (n - x) row ∙ ap (λ y. set (map row_shown rows) (n - y) (row_shown row)) f
 
 -- only line n is another

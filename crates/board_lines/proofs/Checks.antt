@@ -18,7 +18,7 @@ use Rattle.attempts.specs.Moves as moves
 use Rattle.attempts.specs.States.{States, state_at}
 use Rattle.attempts.specs.declared.state.LineState.{LineState}
 use Rattle.attempts.specs.declared.state.LineState.TheVariants as states
-use Rattle.attempts.specs.declared.table.Row as attempt
+use Rattle.attempts.specs.declared.table.AttemptRow as attempt
 use Rattle.version_store.specs.Entries as store
 use Rattle.version_store.specs.Entries.{Shown, IsNamedAt}
 use Rattle.version_store.specs.declared.entry.Found.{Found}
@@ -241,7 +241,7 @@ module _ (plan : Planned) (a : Parts) (kept : IsKept plan a) (w n : ℕ) where
       | inr d ↦ (checking_parts (get_or a.states.rows (n - a.states.first) no_row).state _ notes _ answer w t i (sym (state_shown plan a kept n check_line) ∙ d)).1
     ]
 
-    -- the line comes to another state of the same attempt, and is in the worker's hand or not
+    -- the line enters another state of the same attempt, and is in the worker's hand or not
     module _ (s : LineState) (to : State) (x : Option ℕ)
         (to_is : state_of s notes (get_or a.rows (n - a.states.first) no_notes).contents ≡ to)
         (hand_is : ((x ≡ Some n) × (holder to ≡ Some w)) ⊎ ((x ≡ None) × (holder to ≡ None)))
@@ -393,7 +393,7 @@ module _ (plan : Planned) (a : Parts) (kept : IsKept plan a) (w n : ℕ) where
     module _ (q : Parts) (k : Kept) (l : store.Line) (states_is : q.states ≡ moves.failed a.states n)
         (store_first : q.store.first ≡ a.store.first) (lines_is : q.store.lines ≡ set a.store.lines (n - a.states.first) l)
         (rows_is : q.rows ≡ set a.rows (n - a.states.first) k) (hands_is : q.hands ≡ set a.hands w None) (latest_is : q.latest ≡ a.latest) where
-      gone : attempt.Row
+      gone : attempt.AttemptRow
       gone = record { state = states.Waiting; next = (get_or a.states.rows (n - a.states.first) no_row).next }
 
       m : Row

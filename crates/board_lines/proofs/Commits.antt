@@ -10,7 +10,7 @@ use Rattle.attempts.specs.Moves.{no_row, committed}
 use Rattle.attempts.specs.States.{States, state_at}
 use Rattle.attempts.specs.declared.state.LineState.{LineState}
 use Rattle.attempts.specs.declared.state.LineState.TheVariants as states
-use Rattle.attempts.specs.declared.table.Row as attempt
+use Rattle.attempts.specs.declared.table.AttemptRow as attempt
 use Rattle.version_store.specs.Entries as store
 use Rattle.board_steps.specs.Board.{Row, Board, IsLine, IsCommitted, row_at, holder}
 use Rattle.board_steps.specs.Board.State.{Placing, Done, Committed}
@@ -119,7 +119,7 @@ module _ (plan : Planned) (a : Parts) (kept : IsKept plan a) (n : ℕ) (state : 
         (k_is : k ≡ record { notes = []; contents = (get_or a.rows (n - a.states.first) no_notes).contents; course = (get_or a.rows (n - a.states.first) no_notes).course; changed = (get_or a.rows (n - a.states.first) no_notes).changed })
         (hands_is : q.hands ≡ a.hands) (clock_is : q.clock ≡ a.clock)
         (latest_is : q.latest ≡ max a.latest (get_or a.rows (n - a.states.first) no_notes).changed) where
-      s : attempt.Row
+      s : attempt.AttemptRow
       s = record { state = states.Committed; next = (get_or a.states.rows (n - a.states.first) no_row).next }
 
       r : Row

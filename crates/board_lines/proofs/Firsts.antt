@@ -1,4 +1,4 @@
--- So many values of a function.
+-- The first values of a function.
 use Rattle.std.proofs.Common.{◌≡◌, ◌≢◌, ℕ, zero, suc, ◌<◌, ◌∷◌, length, set, get_or, refl, ap₂, arith}
 use Rattle.std.specs.Prelude.{replicate}
 use Rattle.board_lines.specs.Parts.{first_of}

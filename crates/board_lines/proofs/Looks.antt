@@ -12,7 +12,7 @@ use Rattle.attempts.specs.Moves as moves
 use Rattle.attempts.specs.States.{States, state_at}
 use Rattle.attempts.specs.declared.state.LineState.{LineState}
 use Rattle.attempts.specs.declared.state.LineState.TheVariants as states
-use Rattle.attempts.specs.declared.table.Row as attempt
+use Rattle.attempts.specs.declared.table.AttemptRow as attempt
 use Rattle.version_store.specs.Entries as store
 use Rattle.version_store.specs.declared.entry.Found.TheVariants.{Named}
 use Rattle.board_steps.specs.Board.{Row, Board, IsLine, IsCommitted, row_at, holder, value_at, found}
@@ -101,7 +101,7 @@ module _ (plan : Planned) (a : Parts) (kept : IsKept plan a) (w n : ℕ) (k : Ke
   -- the attempt ends
   module _ (q : Parts) (states_is : q.states ≡ moves.stopped a.states n) (store_is : q.store ≡ a.store) (rows_is : q.rows ≡ a.rows)
       (hands_is : q.hands ≡ set a.hands w None) (clock_is : q.clock ≡ a.clock) (latest_is : q.latest ≡ a.latest) where
-    s : attempt.Row
+    s : attempt.AttemptRow
     s = record { state = states.Waiting; next = (get_or a.states.rows (n - a.states.first) no_row).next }
 
     r : Row

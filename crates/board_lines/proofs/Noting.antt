@@ -1,12 +1,11 @@
 -- Notes: one more, and the i-th.
-use Rattle.std.proofs.Common.{◌≡◌, ℕ, zero, suc, ◌-◌, ◌<◌, ◌≤◌, Bool, true, false, cond, List, [], ◌∷◌, ◌++◌, length, slice_get, refl, sym, ap, ◌∙◌, arith, Some, None, map, subst}
+use Rattle.std.proofs.Common.{◌≡◌, ℕ, zero, suc, ◌-◌, ◌<◌, ◌≤◌, Bool, true, false, cond, List, [], ◌∷◌, ◌++◌, length, slice_get, refl, sym, ap, ◌∙◌, arith, Some, None, map, subst, length-append, take, take_all}
 use Rattle.std.specs.Prelude.{Option, option_map, ◌||◌}
 use Rattle.std.specs.BTreeMap.{is_at}
 use Rattle.std.specs.Global.{Box}
 use Rattle.std.specs.BTreeSet.{BTreeSet}
 use Rattle.std.specs.List.{list_any, IsDistinct}
 use Rattle.std.specs.Ordering.{eq_by_cmp}
-use Rattle.std.proofs.Common.{length-append, take, take_all}
 use Rattle.std.proofs.lemmas.List.{take-append-le}
 use Rattle.std.proofs.lemmas.Option.{none-some, same_Some, slice_get-map}
 use Rattle.std.proofs.lemmas.Cmp.{eq_by_cmp_equiv}
@@ -14,7 +13,7 @@ use Rattle.std.proofs.lemmas.Map.Keys.{IsDistinct-push}
 use Rattle.circ_records.specs.Keys.{key_cmp, key_cmp_total}
 use Rattle.circ_records.specs.declared.key.Key.{Key}
 use Rattle.board_lines.specs.Devices.Held.{index_in, notes_in}
-use Rattle.board_lines.specs.declared.notes.Held.{Held}
+use Rattle.board_lines.specs.declared.notes.NoteList.{NoteList}
 use Rattle.board_lines.specs.declared.notes.PlaceNote.{PlaceNote}
 use Rattle.board_lines.specs.Notes.{Noted, noted, few, is_indexed, is_key_in, is_noted, AreNoted, AreOnce, ArePlaced, IsPlaced}
 
@@ -155,8 +154,8 @@ pub nothing_noted : {J : Type 0} (ns : List (PlaceNote J)) → ns ≡ [] → Are
 nothing_noted ns no_notes = subst (λ ms. AreNoted ms None) (sym no_notes) none_kept
 
 -- no box, and so no notes
-pub none_held : {J : Type 0} (o : Option (Box (Held J))) → o ≡ None → AreNoted (notes_in o) (index_in o)
-none_held o none = subst (λ (x : Option (Box (Held _))). AreNoted (notes_in x) (index_in x)) (sym none) none_kept
+pub none_held : {J : Type 0} (o : Option (Box (NoteList J))) → o ≡ None → AreNoted (notes_in o) (index_in o)
+none_held o none = subst (λ (x : Option (Box (NoteList _))). AreNoted (notes_in x) (index_in x)) (sym none) none_kept
 
 -- nothing is noted yet in what is spare
 pub nothing_held : {J : Type 0} (ns : List (PlaceNote J)) (index : Index) → ns ≡ [] → index ≡ None → AreNoted ns index
@@ -174,9 +173,9 @@ key_of : {J : Type 0} (o : Option (PlaceNote J)) → option_map (λ (n : Noted).
 key_of None = refl
 key_of (Some n) = refl
 
-pub held_key : {J : Type 0} (o : Option (Box (Held J))) (b : Box (Held J)) (h : Held J) (i : ℕ) → Some b ≡ o → h ≡ b.value
+pub held_key : {J : Type 0} (o : Option (Box (NoteList J))) (b : Box (NoteList J)) (h : NoteList J) (i : ℕ) → Some b ≡ o → h ≡ b.value
     → option_map (λ (n : PlaceNote J). n.key) (slice_get h.notes.items i) ≡ option_map (λ (n : Noted). n.key) (slice_get (map noted (notes_in o)) i)
 held_key o b h i is at =
-    ap (λ (x : Held _). option_map (λ (n : PlaceNote _). n.key) (slice_get x.notes.items i)) at
+    ap (λ (x : NoteList _). option_map (λ (n : PlaceNote _). n.key) (slice_get x.notes.items i)) at
     ∙ sym (ap (option_map (λ (n : Noted). n.key)) (slice_get-map noted b.value.notes.items i) ∙ key_of (slice_get b.value.notes.items i))
-    ∙ ap (λ (x : Option (Box (Held _))). option_map (λ (n : Noted). n.key) (slice_get (map noted (notes_in x)) i)) is
+    ∙ ap (λ (x : Option (Box (NoteList _))). option_map (λ (n : Noted). n.key) (slice_get (map noted (notes_in x)) i)) is

@@ -7,7 +7,7 @@ use Rattle.read_set.specs.Plans.{Planned}
 use Rattle.attempts.specs.Moves.{no_row}
 use Rattle.attempts.specs.States.{States, all_waiting}
 use Rattle.attempts.specs.declared.state.LineState.TheVariants as states
-use Rattle.attempts.specs.declared.table.Row as attempt
+use Rattle.attempts.specs.declared.table.AttemptRow as attempt
 use Rattle.version_store.specs.Entries as store
 use Rattle.board_steps.specs.Board.{Row, Board, blank, row_at, holder}
 use Rattle.board_steps.specs.Board.State.{Waiting, Placing}
@@ -15,7 +15,7 @@ use Rattle.board_steps.specs.Reached.{Reached}
 use Rattle.board_steps.specs.Steps.{opening, opening_row}
 use Rattle.board_steps.proofs.Lines.{row_before, row_from}
 use Rattle.board_steps.proofs.Histories.{opening_reached}
-use Rattle.board_lines.specs.declared.row.Row as kept
+use Rattle.board_lines.specs.declared.row.LineRow as kept
 use Rattle.board_lines.specs.Parts.{row_shown, Kept, Parts, no_notes, row_with, row_by, board_of, IsKept}
 use Rattle.board_lines.proofs.Firsts.{first_replicate}
 use Rattle.board_lines.proofs.Moves.{board_eq}
@@ -50,13 +50,13 @@ module _ (plan : Planned) (workers number clock : ℕ) (q : Parts)
 
   each : (p : ℕ) → p < length q.rows → row_by plan.base q p ≡ opening_row number
   each p lt =
-      let r : attempt.Row = record { state = states.Waiting; next = number } in
+      let r : attempt.AttemptRow = record { state = states.Waiting; next = number } in
       let n = length plan.readings in
       let l : p < n = omega (arith, lt, many) in
       ap (λ (x : States). row_with plan.base (get_or x.rows p no_row) (get_or q.rows p no_notes) (get_or q.store.lines p store.no_entries)) states_is
       ∙ ap (λ (x : List Kept). row_with plan.base (get_or (replicate n r) p no_row) (get_or x p no_notes) (get_or q.store.lines p store.no_entries)) rows_is
       ∙ ap (λ (x : store.Store). row_with plan.base (get_or (replicate n r) p no_row) (get_or (replicate n no_notes) p no_notes) (get_or x.lines p store.no_entries)) store_is
-      ∙ ap (λ (x : attempt.Row). row_with plan.base x (get_or (replicate n no_notes) p no_notes) (get_or (store.no_rows n) p store.no_entries)) (get_or-replicate n p r no_row l)
+      ∙ ap (λ (x : attempt.AttemptRow). row_with plan.base x (get_or (replicate n no_notes) p no_notes) (get_or (store.no_rows n) p store.no_entries)) (get_or-replicate n p r no_row l)
       ∙ ap (λ (x : Kept). row_with plan.base r x (get_or (store.no_rows n) p store.no_entries)) (get_or-replicate n p no_notes no_notes l)
       ∙ ap (λ (x : store.Line). row_with plan.base r no_notes x) (get_or-replicate n p store.no_entries store.no_entries l)
 
@@ -101,6 +101,6 @@ map_push : {A B : Type 0} (f : A → B) (xs : List A) (x : A) → map f (xs ++ x
 map_push f [] x = refl
 map_push f (y ∷ ys) x = ap (λ zs. f y ∷ zs) (map_push f ys x)
 
-pub rows_more : {J : Type 0} (rows : List (kept.Row J)) (x : kept.Row J) (i : ℕ) → map row_shown rows ≡ replicate i no_notes → row_shown x ≡ no_notes
+pub rows_more : {J : Type 0} (rows : List (kept.LineRow J)) (x : kept.LineRow J) (i : ℕ) → map row_shown rows ≡ replicate i no_notes → row_shown x ≡ no_notes
     → map row_shown (rows ++ x ∷ []) ≡ replicate (i + 1) no_notes
 rows_more rows x i h e = map_push row_shown rows x ∙ ap₂ (λ (ks : List Kept) (k : Kept). ks ++ k ∷ []) h e ∙ replicate_next i (i + 1) no_notes (omega arith)

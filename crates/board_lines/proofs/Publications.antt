@@ -16,7 +16,7 @@ use Rattle.attempts.specs.Moves.{no_row, moved}
 use Rattle.attempts.specs.States.{States, state_at, is_live}
 use Rattle.attempts.specs.declared.state.LineState.{LineState}
 use Rattle.attempts.specs.declared.state.LineState.TheVariants as states
-use Rattle.attempts.specs.declared.table.Row as attempt
+use Rattle.attempts.specs.declared.table.AttemptRow as attempt
 use Rattle.version_store.specs.Entries as store
 use Rattle.version_store.specs.Entries.{shown_by}
 use Rattle.version_store.proofs.Sights.{line_from, put_is}
@@ -27,15 +27,14 @@ use Rattle.board_steps.specs.Steps.{Reply, MayPublish, Fits, IsVersion, IsNextWr
 use Rattle.board_steps.specs.Steps.Reply.{Placed, Lifted, Whole}
 use Rattle.board_steps.proofs.Lines.{within_board}
 use Rattle.board_steps.proofs.Steps.{publish_step}
-use Rattle.board_lines.specs.Acts.{IsPlacing}
+use Rattle.board_lines.specs.Acts.{IsPlacing, IsAct, publishes, places, notes_at}
 use Rattle.board_lines.specs.Notes.{notes_by}
 use Rattle.board_lines.specs.Courses.{FirstPlaced, FirstPlacedBut, IsUnderWay, UnderWay}
 use Rattle.board_lines.specs.Parts.{Kept, Parts, no_notes, row_with, row_by, state_of, board_of, kept_at, HandsHold, IsKept}
-use Rattle.board_lines.specs.declared.row.Course.{Course}
-use Rattle.board_lines.specs.Acts.{IsAct, publishes, places, notes_at}
+use Rattle.board_lines.specs.declared.row.LineProgress.{LineProgress}
 use Rattle.board_lines.specs.Hands.{notes_of}
-use Rattle.board_lines.specs.declared.publishing.Act.{Act}
-use Rattle.board_lines.specs.declared.publishing.Act.TheVariants as acts
+use Rattle.board_lines.specs.declared.publishing.PublishAct.{PublishAct}
+use Rattle.board_lines.specs.declared.publishing.PublishAct.TheVariants as acts
 use Rattle.board_lines.proofs.Boards.{Puts, place_of, row_there, board_is, row_new, row_old, kept_put}
 use Rattle.board_lines.proofs.Hands.{hand_same, hand_put}
 use Rattle.board_lines.proofs.Moves.{puts_of, board_eq}
@@ -144,7 +143,7 @@ module _ (plan : Planned) (a : Parts) (kept : IsKept plan a) (n : ℕ) (there : 
   pub state_there : state_at a.states n ≡ Some (get_or a.states.rows (n - a.states.first) no_row).state
   state_there =
       rw (le-ltb n a.states.first there.0)
-      (ap (option_map (λ (r : attempt.Row). r.state)) (slice_get-get_or a.states.rows (n - a.states.first) no_row (omega (arith, place_there, kept.all_states))))
+      (ap (option_map (λ (r : attempt.AttemptRow). r.state)) (slice_get-get_or a.states.rows (n - a.states.first) no_row (omega (arith, place_there, kept.all_states))))
 
   pub entries_there : (row_at (board_of plan.base a) n).entries ≡ store.line_at a.store n
   entries_there =
@@ -227,11 +226,11 @@ module _ (plan : Planned) (a : Parts) (kept : IsKept plan a) (w n : ℕ) (notes 
   act_place : n - a.states.first < length a.rows
   act_place = place_there plan a kept n act_line
 
-  module _ (q : Parts) (l : store.Line) (k : Kept) (come : Course) (states_is : q.states ≡ moved a.states n (states.Placing w)) (store_is : q.store ≡ store.with_line a.store n l)
+  module _ (q : Parts) (l : store.Line) (k : Kept) (come : LineProgress) (states_is : q.states ≡ moved a.states n (states.Placing w)) (store_is : q.store ≡ store.with_line a.store n l)
       (rows_is : q.rows ≡ set a.rows (n - a.states.first) k)
       (k_is : k ≡ record { notes = (get_or a.rows (n - a.states.first) no_notes).notes; contents = Some v; course = come; changed = a.clock + 1 })
       (hands_is : q.hands ≡ a.hands) (clock_is : q.clock ≡ a.clock + 1) (latest_is : q.latest ≡ a.latest) where
-    s : attempt.Row
+    s : attempt.AttemptRow
     s = record { state = states.Placing w; next = (get_or a.states.rows (n - a.states.first) no_row).next }
 
     r : Row
@@ -282,7 +281,7 @@ module _ (plan : Planned) (a : Parts) (kept : IsKept plan a) (w n : ℕ) (notes 
           same_notes = fits.same_notes;
           placed = subst (λ (x : store.Line). FirstPlaced x v.attempt v.writes come.placed) (ap (λ (x : Row). x.entries) (sym r_is)) first;
         } in
-        subst (λ (x : Course). IsUnderWay n r ns last x) (sym come_is)
+        subst (λ (x : LineProgress). IsUnderWay n r ns last x) (sym come_is)
         (subst (λ (x : State). IsUnderWay n r (notes_of x) (last_of x) come) same under)
 
     -- the step keeps what the fields keep
@@ -322,7 +321,7 @@ module _ (plan : Planned) (a : Parts) (kept : IsKept plan a) (w n : ℕ) (notes 
       (rows_is : q.rows ≡ set a.rows (n - a.states.first) k)
       (k_is : k ≡ record { notes = (get_or a.rows (n - a.states.first) no_notes).notes; contents = Some v; course = (get_or a.rows (n - a.states.first) no_notes).course; changed = (get_or a.rows (n - a.states.first) no_notes).changed })
       (hands_is : q.hands ≡ set a.hands w None) (clock_is : q.clock ≡ a.clock) (latest_is : q.latest ≡ a.latest) where
-    d : attempt.Row
+    d : attempt.AttemptRow
     d = record { state = states.Done None; next = (get_or a.states.rows (n - a.states.first) no_row).next }
 
     t : Row
@@ -367,12 +366,12 @@ module _ (plan : Planned) (a : Parts) (kept : IsKept plan a) (w n : ℕ) (notes 
         (λ u ns last h. (let z : Done notes v.answer None ≡ Placing u ns last = sym (ap (λ (x : Row). x.state) t_is) ∙ h in absurd (cc)))
 
 -- ---- what an act is
-pub act_left : (r : Row) (v : Contents) (act : Act) → IsAct r v act → (act ≡ acts.Finish → ⊥) → AllPlaced r v → NoneLeft r v → ⊥
+pub act_left : (r : Row) (v : Contents) (act : PublishAct) → IsAct r v act → (act ≡ acts.Finish → ⊥) → AllPlaced r v → NoneLeft r v → ⊥
 act_left r v (acts.Write k count) h not all none = h.1.apart (all k.now h.0 h.1.written)
 act_left r v (acts.Lift k) h not all none = h.1.left.2 (none k.now h.1.left.0 h.1.left.1)
 act_left r v acts.Finish h not all none = not refl
 
-pub no_other : (act : Act) → (act ≡ acts.Finish → ⊥) → ((k : Bor Key) → act ≡ acts.Lift k → ⊥) → ((k : Bor Key) (count : ℕ) → act ≡ acts.Write k count → ⊥) → ⊥
+pub no_other : (act : PublishAct) → (act ≡ acts.Finish → ⊥) → ((k : Bor Key) → act ≡ acts.Lift k → ⊥) → ((k : Bor Key) (count : ℕ) → act ≡ acts.Write k count → ⊥) → ⊥
 no_other (acts.Write k count) f l w = w k count refl
 no_other (acts.Lift k) f l w = l k refl
 no_other acts.Finish f l w = f refl
@@ -399,7 +398,7 @@ more_notes b w n notes v here = sym (ap notes_of here)
 pub more_may : (b : Board) (w n : ℕ) (notes : List Note) (v : Contents) → (row_at b n).state ≡ Placing w notes (Some v) → MayPublish b w n (notes_at b n)
 more_may b w n notes v here = subst (λ (ns : List Note). MayPublish b w n ns) (more_notes b w n notes v here) (inr (Some v, here))
 
-pub more_fits : (b : Board) (w n : ℕ) (notes : List Note) (v : Contents) (come : Course) → (row_at b n).state ≡ Placing w notes (Some v) → UnderWay n (row_at b n) notes v come → Fits b n (notes_at b n) v
+pub more_fits : (b : Board) (w n : ℕ) (notes : List Note) (v : Contents) (come : LineProgress) → (row_at b n).state ≡ Placing w notes (Some v) → UnderWay n (row_at b n) notes v come → Fits b n (notes_at b n) v
 more_fits b w n notes v come here under = record {
   same_line = under.same_line;
   same_attempt = under.same_attempt;

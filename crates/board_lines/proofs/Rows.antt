@@ -12,7 +12,7 @@ use Rattle.attempts.specs.Moves.{no_row}
 use Rattle.attempts.specs.States.{States, state_at, next_at, newest_at, newest_of, is_live, is_waiting}
 use Rattle.attempts.specs.declared.state.LineState.{LineState}
 use Rattle.attempts.specs.declared.state.LineState.TheVariants as states
-use Rattle.attempts.specs.declared.table.Row as attempt
+use Rattle.attempts.specs.declared.table.AttemptRow as attempt
 use Rattle.version_store.specs.Entries as store
 use Rattle.board_steps.specs.Board.{Row, Board, IsLine, blank, row_at, holder, live_of}
 use Rattle.board_steps.proofs.Lines.{row_before, row_from, within_board}
@@ -107,7 +107,7 @@ module _ (plan : Planned) (a : Parts) (kept : IsKept plan a) where
     state_stands =
         let within = place_of plan.base a n there in
         state_from a.states n there.0
-        ∙ ap (option_map (λ (r : attempt.Row). r.state)) (slice_get-get_or a.states.rows (n - a.states.first) no_row (omega (arith, within, kept.all_states)))
+        ∙ ap (option_map (λ (r : attempt.AttemptRow). r.state)) (slice_get-get_or a.states.rows (n - a.states.first) no_row (omega (arith, within, kept.all_states)))
 
     pub state_shown : (row_at (board_of plan.base a) n).state
         ≡ state_of (get_or a.states.rows (n - a.states.first) no_row).state (notes_by plan.base (get_or a.rows (n - a.states.first) no_notes).notes) (get_or a.rows (n - a.states.first) no_notes).contents

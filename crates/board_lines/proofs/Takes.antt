@@ -5,7 +5,7 @@ use Rattle.read_set.specs.Plans.{Planned}
 use Rattle.attempts.specs.Moves.{no_row, taken}
 use Rattle.attempts.specs.States.{States, state_at, next_at}
 use Rattle.attempts.specs.declared.state.LineState.TheVariants as states
-use Rattle.attempts.specs.declared.table.Row as attempt
+use Rattle.attempts.specs.declared.table.AttemptRow as attempt
 use Rattle.version_store.specs.Entries as store
 use Rattle.board_steps.specs.Board.{Row, Board, IsLine, IsCommitted, row_at, holder}
 use Rattle.board_steps.specs.Board.State.{Running, Placing}
@@ -54,7 +54,7 @@ module _ (plan : Planned) (a : Parts) (kept : IsKept plan a) (n w : ℕ) (waits 
   module _ (q : Parts) (k : Kept) (states_is : q.states ≡ taken a.states n w) (store_is : q.store ≡ a.store)
       (rows_is : q.rows ≡ set a.rows p k) (k_is : k ≡ record { notes = []; contents = (get_or a.rows p no_notes).contents; course = (get_or a.rows p no_notes).course; changed = (get_or a.rows p no_notes).changed })
       (hands_is : q.hands ≡ set a.hands w (Some n)) (within : w < length a.hands) (clock_is : q.clock ≡ a.clock) (latest_is : q.latest ≡ a.latest) where
-    s : attempt.Row
+    s : attempt.AttemptRow
     s = record { state = states.Running w; next = (get_or a.states.rows p no_row).next + 1 }
 
     r : Row

@@ -14,8 +14,8 @@ use Rattle.board_steps.specs.Board.State.{Placing}
 use Rattle.board_steps.specs.Steps.{MayPublish, IsNextWrite, AllPlaced, IsNextLeft, NoneLeft}
 use Rattle.board_lines.specs.Hands.{notes_of}
 use Rattle.board_lines.specs.declared.hand.Hand.{Hand}
-use Rattle.board_lines.specs.declared.publishing.Act.{Act}
-use Rattle.board_lines.specs.declared.publishing.Act.TheVariants as acts
+use Rattle.board_lines.specs.declared.publishing.PublishAct.{PublishAct}
+use Rattle.board_lines.specs.declared.publishing.PublishAct.TheVariants as acts
 
 -- a line in this state is to be published
 abbrev pub publishes : LineState → Bool
@@ -62,7 +62,7 @@ IsFirstApart l a writes (Some i) =
 
 -- The next act: the next write is placed; when all are placed, the least key that an earlier attempt left is lifted; when none
 -- is left, all is published.
-abbrev pub IsAct : Row → Contents → Act → Type 0
+abbrev pub IsAct : Row → Contents → PublishAct → Type 0
 IsAct r v (acts.Write k count) = (value : Record) × IsNextWrite r v k.now value
 IsAct r v (acts.Lift k) = AllPlaced r v × IsNextLeft r v k.now
 IsAct r v acts.Finish = AllPlaced r v × NoneLeft r v

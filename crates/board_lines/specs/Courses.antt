@@ -12,10 +12,10 @@ use Rattle.board_steps.specs.Steps.{IsVersion}
 use Rattle.board_steps.specs.Steps.Call.{Publish}
 use Rattle.board_lines.specs.Acts.{IsPlacedAt, IsPlacing}
 use Rattle.board_lines.specs.Replies.{Answers}
-use Rattle.board_lines.specs.declared.publishing.Act.{Act}
-use Rattle.board_lines.specs.declared.publishing.Act.TheVariants as acts
+use Rattle.board_lines.specs.declared.publishing.PublishAct.{PublishAct}
+use Rattle.board_lines.specs.declared.publishing.PublishAct.TheVariants as acts
 use Rattle.board_lines.specs.declared.reply.Reply.{Reply}
-use Rattle.board_lines.specs.declared.row.Course.{Course}
+use Rattle.board_lines.specs.declared.row.LineProgress.{LineProgress}
 
 -- the first `count` writes have their entries, of this attempt
 abbrev pub FirstPlaced : Line → ℕ → Entries → ℕ → Type 0
@@ -26,19 +26,19 @@ abbrev pub FirstPlacedBut : Line → ℕ → Entries → Key → ℕ → Type 0
 FirstPlacedBut l a writes k count = (j : ℕ) (x : Key × Record) → j < count → slice_get writes j ≡ Some x → (x.0 ≡ k) ⊎ IsPlacedAt l a x.0
 
 -- how many writes are placed once the act is done
-abbrev pub ComesTo : Line → Contents → Act → Type 0
+abbrev pub ComesTo : Line → Contents → PublishAct → Type 0
 ComesTo l v (acts.Write k count) = FirstPlacedBut l v.attempt v.writes k.now count
 ComesTo l v (acts.Lift k) = Unit {0}
 ComesTo l v acts.Finish = Unit {0}
 
 -- the version is of the line, its attempt and its notes, and has come so far
-pub record UnderWay (n : ℕ) (r : Row) (notes : List Note) (v : Contents) (c : Course) : Type 0 where
+pub record UnderWay (n : ℕ) (r : Row) (notes : List Note) (v : Contents) (c : LineProgress) : Type 0 where
   pub same_line : v.line ≡ n
   pub same_attempt : suc v.attempt ≡ r.next
   pub same_notes : v.reads ≡ notes
   pub placed : FirstPlaced r.entries v.attempt v.writes c.placed
 
-abbrev pub IsUnderWay : ℕ → Row → List Note → Option Contents → Course → Type 0
+abbrev pub IsUnderWay : ℕ → Row → List Note → Option Contents → LineProgress → Type 0
 IsUnderWay n r notes None c = ⊥
 IsUnderWay n r notes (Some v) c = UnderWay n r notes v c
 

@@ -6,7 +6,7 @@ use Rattle.read_set.specs.Plans.{Planned}
 use Rattle.read_set.specs.Settling.{Contents}
 use Rattle.read_set.specs.declared.notes.Note.{Note}
 use Rattle.attempts.specs.Moves.{no_row}
-use Rattle.attempts.specs.declared.table.Row as attempt
+use Rattle.attempts.specs.declared.table.AttemptRow as attempt
 use Rattle.attempts.specs.States.{States}
 use Rattle.attempts.specs.declared.state.LineState.{LineState}
 use Rattle.attempts.specs.declared.state.LineState.TheVariants as states
@@ -17,17 +17,17 @@ use Rattle.board_steps.specs.Board.State.{Waiting, Running, Placing, Done, Check
 use Rattle.board_steps.specs.Reached.{Reached}
 use Rattle.board_lines.specs.Notes.{Noted, notes_by, contents_at}
 use Rattle.board_lines.specs.Courses.{IsUnderWay}
-use Rattle.board_lines.specs.declared.row.Course.{Course}
-use Rattle.board_lines.specs.declared.row.Row.{Row}
+use Rattle.board_lines.specs.declared.row.LineProgress.{LineProgress}
+use Rattle.board_lines.specs.declared.row.LineRow.{LineRow}
 
 -- what the board has of a line beside its state and its entries
 pub record Kept : Type 0 where
   pub notes : List Noted
   pub contents : Option Contents
-  pub course : Course
+  pub course : LineProgress
   pub changed : ℕ
 
-abbrev pub row_shown : {J : Type 0} → Row J → Kept
+abbrev pub row_shown : {J : Type 0} → LineRow J → Kept
 row_shown r = record { notes = r.notes; contents = option_map contents_at r.version; course = r.course; changed = r.changed }
 
 abbrev pub no_notes : Kept
@@ -56,7 +56,7 @@ state_of (states.Checking w t i) notes contents = Checking w notes (answer_by co
 state_of states.Committed notes contents = Committed (answer_by contents)
 
 -- a line of these three
-abbrev pub row_with : Entries → attempt.Row → Kept → store.Line → steps.Row
+abbrev pub row_with : Entries → attempt.AttemptRow → Kept → store.Line → steps.Row
 row_with base s k l = record { state = state_of s.state (notes_by base k.notes) k.contents; next = s.next; changed = k.changed; entries = l }
 
 -- the line at a position

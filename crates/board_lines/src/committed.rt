@@ -1,5 +1,5 @@
-//! What the lines have come to: the answers, attempts and entries of those that are committed, and the record that is seen
-//! past the last.
+//! The results of the lines: the answers, attempts and entries of those that are committed, and the record that is visible
+//! after the last line.
 
 ghost use Rattle.std.specs.Prelude.{◌≡◌, ◌+◌, ◌^◌, ◌<◌, suc, length, option_copied, option_map, slice_get};
 ghost use Rattle.std.specs.FinMap as fin;
@@ -18,7 +18,7 @@ use sip_answer::Answer;
 use version_store::Place;
 
 impl<'p, 't, J: PlanName> Lines<'p, 't, J> {
-    /// The answer of a line that is committed, where it has one; None of any other line.
+    /// The answer of a committed line, where it has one; None for any other line.
     pub fn answer(&self, line: u64) -> Option<&'t Answer>
         ensures { option_copied result ≡ committed_answer (row_at self.now line).state }
     {
@@ -42,7 +42,7 @@ impl<'p, 't, J: PlanName> Lines<'p, 't, J> {
         attempt
     }
 
-    /// The i-th key, from 0 and rising, at which a line has an entry, and the attempt of that entry; None past the last.
+    /// The i-th key, from 0 and rising, at which a line has an entry, and the attempt of that entry; None after the last.
     pub fn keys_of(&self, line: u64, i: usize) -> Option<(&Key, u32)>
         ensures value { IsNamedAt (slice_get (fin.entries (row_at self.now line).entries) i) result }
         ensures few { length (fin.entries (row_at self.now line).entries) < 2 ^ 64 }
@@ -50,7 +50,7 @@ impl<'p, 't, J: PlanName> Lines<'p, 't, J> {
         self.entries.keys_of(line, i)
     }
 
-    /// The record that is seen at a key past the last line.
+    /// The record that is visible at a key after the last line.
     pub fn value_of(&self, key: &Key) -> Option<&Record>
         ensures { option_copied result ≡ value_at J.plan (row_at self.now) (self.now.first + length self.now.rows) key.now }
     {

@@ -1,9 +1,9 @@
-//! The lines of the board: which attempt each is at, what each has noted and published, and who has it in hand, as some list
-//! of steps leaves them.
+//! The lines of the board: the attempt that each is at, what each has noted and published, and which worker has it in hand.
+//! Each value of them is one that some list of steps leads to.
 //!
 //! `Lines` has the five calls `take`, `look`, `publish`, `check` and `commit`; each is one step of `board_steps`. It uses the
-//! versions and entries of `version_store` and the states of `attempts`; it knows no message and no table. `speculate` has the
-//! lines, and beside them what a free worker chooses from.
+//! versions and entries of `version_store` and the states of `attempts`; it knows no message and no table. `speculate` adds to the
+//! lines the sets from which a free worker chooses.
 #![tactic(auto)]
 
 mod committed;

@@ -24,23 +24,23 @@ ghost use Rattle.board_lines.specs.Courses.{ComesTo, FirstPlaced, FirstPlacedBut
 
 use crate::hand::Hand;
 use crate::notes::{PlaceNotes, PlacedName, Spare};
-use crate::publishing::{Act, act_of, is_of, is_placing, is_publishing, settled};
+use crate::publishing::{PublishAct, act_of, is_of, is_placing, is_publishing, settled};
 use crate::reply::Reply;
-use crate::row::{Course, Row};
+use crate::row::{LineProgress, LineRow};
 use crate::same::same_notes;
 use attempts::{AttemptTable, Counts, LineState};
 use circ_records::Key;
 use read_set::{Name, Plan, PlanName};
 use std::alloc::{AllocError, Global};
 use std::marker::Model;
-use version_store::{EntryStore, Found, Place, Seen};
+use version_store::{EntryStore, Found, Place, SeenEntry};
 
-/// The lines of a plan while workers run them: at each moment as some list of steps leaves them.
+/// The lines of a plan while workers run them. Each value is one that some list of steps leads to.
 pub struct Lines<'p, 't, J: PlanName> {
     pub(crate) plan: &'p Plan,
     pub(crate) attempts: AttemptTable,
     pub(crate) entries: EntryStore<'t, J>,
-    pub(crate) rows: Vec<Row<'t, J>>,
+    pub(crate) rows: Vec<LineRow<'t, J>>,
     /// Memory for the notes of the next line that is run.
     spare: Spare<'t, J>,
     /// The line that each worker has in hand.
@@ -83,7 +83,7 @@ impl<'p, 't, J: PlanName> Model for Lines<'p, 't, J> {
 }
 
 impl<'p, 't, J: PlanName> Lines<'p, 't, J> {
-    /// The plan. The board is one that steps lead to.
+    /// The plan. The contract also gives `Reached`, which holds of every board that steps lead to.
     pub fn plan(&self) -> &'p Plan
         ensures plan { result.now ≡ J.plan }
         ensures reached { Reached J.plan self.now }
@@ -114,7 +114,7 @@ impl<'p, 't, J: PlanName> Lines<'p, 't, J> {
         Reply::Taken { attempt }
     }
 
-    /// Commits the next line, where no line below has changed since its stamp. It looks at no read.
+    /// Commits the next line, where no line below has changed since its stamp. It compares none of the line's notes.
     pub fn commit(&mut self, line: u64) -> Reply<'t, J>
         ensures { Answers J.plan self.old (Commit line) result self.new }
     {
@@ -366,7 +366,7 @@ impl<'p, 't, J: PlanName> Lines<'p, 't, J> {
         self.attempts.counts()
     }
 
-    /// How many workers the board was made for. Whoever has a line in hand is one of them.
+    /// How many workers the board was made for. Each worker that has a line in hand is one of them.
     pub fn workers(&self) -> usize
         ensures count { result ≡ self.now.workers }
         ensures hands { AreWorkers self.now }
@@ -381,7 +381,7 @@ impl<'p, 't, J: PlanName> Lines<'p, 't, J> {
         self.attempts.counts().commits
     }
 
-    /// How often the entries of lines have changed, from what the clock began with.
+    /// The clock: what it began with, and 1 more for each change of the entries of a line.
     pub fn clock(&self) -> u64
         ensures { result ≡ self.now.clock }
     {
@@ -445,7 +445,7 @@ impl<'p, 't, J: PlanName> Lines<'p, 't, J> {
     }
 
     /// How far the publication of the worker's line in hand has come, if it is being published.
-    fn course(&self, worker: u32, line: u64) -> Course
+    fn course(&self, worker: u32, line: u64) -> LineProgress
         requires { holder (row_at self.now line).state ≡ Some worker }
         ensures { (n : ℕ) (notes : List Note) (v : Contents) → (row_at self.now n).state ≡ Placing worker notes (Some v) → (n ≡ line) × UnderWay line (row_at self.now line) notes v result }
     {
@@ -467,18 +467,18 @@ impl<'p, 't, J: PlanName> Lines<'p, 't, J> {
         ensures { Answers J.plan self.old (Publish worker (contents_at place.entry)) result self.new }
     {
         let act = self.act(line, place, count);
-        if let Act::Finish = act {
+        if let PublishAct::Finish = act {
             self.finish(worker, line, place);
             return Reply::Whole;
         }
         if !self.has_room() {
             return Reply::ClockSpent;
         }
-        if let Act::Lift(key) = act {
+        if let PublishAct::Lift(key) = act {
             self.lift(worker, line, key, place);
             return Reply::Lifted;
         }
-        let Act::Write(key, count) = act else {
+        let PublishAct::Write(key, count) = act else {
             unreachable!()
         };
         match self.place(worker, line, key, place, count) {
@@ -551,7 +551,7 @@ impl<'p, 't, J: PlanName> Lines<'p, 't, J> {
     }
 
     /// The next act of the publication of the version at a place. Its first `count` writes are placed.
-    fn act(&self, line: u64, place: Place<'t, J>, count: usize) -> Act<'t>
+    fn act(&self, line: u64, place: Place<'t, J>, count: usize) -> PublishAct<'t>
         requires there { IsLine self.now line }
         requires placed { FirstPlaced (row_at self.now line).entries (contents_at place).attempt (contents_at place).writes count }
         ensures act { IsAct (row_at self.now line) (contents_at place.entry) result }
@@ -594,7 +594,7 @@ impl<'p, 't, J: PlanName> Lines<'p, 't, J> {
         let clock = self.clock + 1;
         let row = &mut self.rows[(line - self.plan.first()) as usize];
         row.version = Some(place);
-        row.course = Course { placed: count };
+        row.course = LineProgress { placed: count };
         row.changed = clock;
         self.clock = clock;
         Ok(())
@@ -616,7 +616,7 @@ impl<'p, 't, J: PlanName> Lines<'p, 't, J> {
         let clock = self.clock + 1;
         let row = &mut self.rows[(line - self.plan.first()) as usize];
         row.version = Some(place);
-        row.course = Course { placed };
+        row.course = LineProgress { placed };
         row.changed = clock;
         self.clock = clock;
     }
@@ -648,20 +648,20 @@ fn hand_at(hands: &[Option<u64>], worker: u32) -> Option<u64>
 }
 
 /// The name of what was seen, with the place of its version; the line whose entry it is, where that is suspect.
-fn name_of<'t, J: PlanName>(sight: Seen<'t, J>) -> Result<PlacedName<'t, J>, u64>
+fn name_of<'t, J: PlanName>(sight: SeenEntry<'t, J>) -> Result<PlacedName<'t, J>, u64>
     ensures named { IfOk result (λ name. IsNameOf (seen sight.entry) name) }
     ensures suspect { IfErr result (λ line. seen sight.entry ≡ SeesSuspect line) }
 {
     match sight {
-        Seen::Base => Ok(PlacedName {
+        SeenEntry::Base => Ok(PlacedName {
             name: Name::Base,
             place: None,
         }),
-        Seen::Made { name, place } => Ok(PlacedName {
+        SeenEntry::Made { name, place } => Ok(PlacedName {
             name,
             place: Some(place),
         }),
-        Seen::Suspect { line } => Err(line),
+        SeenEntry::Suspect { line } => Err(line),
     }
 }
 
@@ -683,12 +683,12 @@ fn later(a: u64, b: u64) -> u64
 }
 
 /// Rows of lines that never ran.
-fn rows_of<'t, J: PlanName>(alloc: Global, lines: usize) -> Result<Vec<Row<'t, J>>, AllocError>
+fn rows_of<'t, J: PlanName>(alloc: Global, lines: usize) -> Result<Vec<LineRow<'t, J>>, AllocError>
     ensures { IfOk result (λ v. map row_shown v.items ≡ replicate lines no_notes) }
 {
     let mut rows = Vec::with_capacity(alloc, lines)?;
     for _i in 0..lines {
-        rows.push(Row::new())?;
+        rows.push(LineRow::new())?;
     }
     Ok(rows)
 }

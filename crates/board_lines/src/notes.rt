@@ -58,26 +58,26 @@ impl<J: PlanName> PlaceNote<'_, J> {
 /// Up to this many notes are searched one by one: most lines have no more, and an index of them would take more memory.
 const SCANNED_MAX: usize = 8;
 
-/// The first room is for this many notes: most lines have two.
+/// The first allocation has capacity for this many notes: most lines have two.
 const FIRST_ROOM: usize = 2;
 
 /// The notes of a line that has some, in the order of looking.
-struct Held<'t, J: PlanName> {
+struct NoteList<'t, J: PlanName> {
     notes: Vec<PlaceNote<'t, J>>,
     /// The keys again that aren't among the first few, to be found. Most lines never have it.
     index: Option<Box<BTreeSet<Key>>>,
 }
 
-impl<J: PlanName> Drop for Held<'_, J> {
+impl<J: PlanName> Drop for NoteList<'_, J> {
     fn drop(self) {
-        let Held { notes: _, index: _ } = self;
+        let NoteList { notes: _, index: _ } = self;
     }
 }
 
 /// Memory of one line's notes, to be used for another's: mostly a line is committed just before the next is run, and to allocate and
 /// free memory costs more than the notes do.
 pub(crate) struct Spare<'t, J: PlanName> {
-    held: Option<Box<Held<'t, J>>>,
+    held: Option<Box<NoteList<'t, J>>>,
 }
 
 impl<J: PlanName> Drop for Spare<'_, J> {
@@ -93,14 +93,14 @@ impl<'t, J: PlanName> Spare<'t, J> {
     }
 
     /// Keeps the memory of notes that are few.
-    fn keep(&mut self, held: Box<Held<'t, J>>) {
+    fn keep(&mut self, held: Box<NoteList<'t, J>>) {
         if held.notes.len() <= SCANNED_MAX {
             self.held = Some(held);
         }
     }
 
-    /// Room for the notes of a line that has none: the spare memory, or new memory for as many as most lines have.
-    fn take(&mut self, alloc: Global) -> Result<Box<Held<'t, J>>, AllocError>
+    /// Memory for the notes of a line that has none: the spare memory, or new memory for as many as most lines have.
+    fn take(&mut self, alloc: Global) -> Result<Box<NoteList<'t, J>>, AllocError>
         ensures notes { IfOk result (λ held. held.value.notes.items ≡ []) }
         ensures index { IfOk result (λ held. held.value.index ≡ None) }
     {
@@ -109,7 +109,7 @@ impl<'t, J: PlanName> Spare<'t, J> {
             return Ok(held);
         }
         let notes = Vec::with_capacity(alloc, FIRST_ROOM)?;
-        match Box::new(alloc, Held { notes, index: None }) {
+        match Box::new(alloc, NoteList { notes, index: None }) {
             Ok(held) => Ok(held),
             Err(_) => Err(AllocError),
         }
@@ -117,10 +117,10 @@ impl<'t, J: PlanName> Spare<'t, J> {
 }
 
 /// What a line has noted, in the order of looking: keys, names and places, but no record. The board has this of each line until
-/// the run ends, and a line has notes only until it is committed: so they are in a box, made with the first of them, and without
+/// the run ends, and a line has notes only until it is committed: so they are in a box, which is made with the first note. Without
 /// notes this takes two words.
 pub struct PlaceNotes<'t, J: PlanName> {
-    held: Option<Box<Held<'t, J>>>,
+    held: Option<Box<NoteList<'t, J>>>,
 }
 
 impl<J: PlanName> Drop for PlaceNotes<'_, J> {
@@ -182,7 +182,7 @@ impl<'t, J: PlanName> PlaceNotes<'t, J> {
         Ok(())
     }
 
-    /// No notes any more. Their memory is spare, where they are few, and else freed.
+    /// Removes all notes. Their memory is kept as spare memory where they are few, and else freed.
     pub(crate) fn clear(&mut self, spare: &mut Spare<'t, J>)
         ensures { self.new ≡ [] }
     {
@@ -191,7 +191,7 @@ impl<'t, J: PlanName> PlaceNotes<'t, J> {
         }
     }
 
-    /// The same, with the key of the i-th note, from 0, moved out: nobody reads the notes after that.
+    /// The same, and returns the key of the i-th note, from 0, which is moved out: the notes aren't read after that.
     pub(crate) fn take_key(&mut self, spare: &mut Spare<'t, J>, i: usize) -> Option<Key>
         ensures key { result ≡ option_map (λ n. n.key) (slice_get self.old i) }
         ensures none { self.new ≡ [] }
@@ -247,8 +247,8 @@ impl<'t, J: PlanName> PlaceNotes<'t, J> {
     }
 }
 
-impl<'t, J: PlanName> Held<'t, J> {
-    /// No notes any more, but their memory.
+impl<'t, J: PlanName> NoteList<'t, J> {
+    /// Removes all notes, and keeps their memory.
     fn empty(&mut self)
         ensures notes { self.new.notes.items ≡ [] }
         ensures index { self.new.index ≡ None }
@@ -304,7 +304,7 @@ fn first_held<'t, J: PlanName>(
     spare: &mut Spare<'t, J>,
     key: &Key,
     seen: PlacedName<'t, J>,
-) -> Result<Box<Held<'t, J>>, AllocError>
+) -> Result<Box<NoteList<'t, J>>, AllocError>
     requires { IsPlaced (note_with key.now seen) }
     ensures noted { IfOk result (λ held. AreNoted held.value.notes.items held.value.index) }
     ensures note { IfOk result (λ held. map noted held.value.notes.items ≡ note_with key.now seen.entry ∷ []) }
@@ -364,7 +364,7 @@ fn enter(alloc: Global, index: &mut Option<Box<BTreeSet<Key>>>, key: &Key) -> Re
 
 /// The i-th note, from 0.
 fn nth<'n, 't, J: PlanName>(
-    held: &'n Option<Box<Held<'t, J>>>,
+    held: &'n Option<Box<NoteList<'t, J>>>,
     i: usize,
 ) -> Option<&'n PlaceNote<'t, J>>
     ensures { option_copied result ≡ slice_get (notes_in held.now) i }

@@ -20,7 +20,7 @@ use version_store::{EntryStore, Place};
 
 /// What a publication does next.
 #[derive(Clone, Copy)]
-pub(crate) enum Act<'t> {
+pub(crate) enum PublishAct<'t> {
     /// It places the write at this key, borrowed from the version. After it this many of the first writes are placed.
     Write(&'t Key, usize),
     /// It removes the entry at this key, which an earlier attempt left.
@@ -72,7 +72,7 @@ pub(crate) fn act_of<'t, J: PlanName>(
     line: u64,
     version: &'t Version<J>,
     placed: usize,
-) -> Act<'t>
+) -> PublishAct<'t>
     requires { FirstPlaced (line_at entries.now line) version.now.attempt version.now.writes placed }
     ensures act { (r : Row) → r.entries ≡ line_at entries.now line → IsAct r version.now result }
     ensures comes { ComesTo (line_at entries.now line) version.now result }
@@ -80,11 +80,11 @@ pub(crate) fn act_of<'t, J: PlanName>(
     let writes = version.writes();
     let attempt = version.attempt();
     if let Some(i) = next_write(entries, line, attempt, writes, placed) {
-        return Act::Write(&writes[i].0, i + 1);
+        return PublishAct::Write(&writes[i].0, i + 1);
     }
     match entries.left(line, attempt) {
-        Some(key) => Act::Lift(key),
-        None => Act::Finish,
+        Some(key) => PublishAct::Lift(key),
+        None => PublishAct::Finish,
     }
 }
 

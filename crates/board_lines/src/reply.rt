@@ -1,10 +1,10 @@
-//! What the board's calls answer.
+//! The replies of the board's calls.
 
 use circ_records::Key;
 use read_set::{Name, PlanName};
 use version_store::{Found, Place};
 
-/// What a call of the board answers.
+/// The reply of a call of the board.
 #[derive(Drop)]
 pub enum Reply<'t, J: PlanName> {
     /// The call has nothing to do here; nothing changed.

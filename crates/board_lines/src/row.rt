@@ -6,23 +6,23 @@ use version_store::Place;
 
 /// How far the publication of a version has come.
 #[derive(Clone, Copy)]
-pub struct Course {
+pub struct LineProgress {
     /// How many of its first writes are placed.
     pub placed: usize,
 }
 
 /// What a line has noted, the place of the version of its newest publication, how far that has come, and the clock at the
 /// last change of the line's entries.
-pub struct Row<'t, J: PlanName> {
+pub struct LineRow<'t, J: PlanName> {
     pub notes: PlaceNotes<'t, J>,
     pub version: Option<Place<'t, J>>,
-    pub course: Course,
+    pub course: LineProgress,
     pub changed: u64,
 }
 
-impl<J: PlanName> Drop for Row<'_, J> {
+impl<J: PlanName> Drop for LineRow<'_, J> {
     fn drop(self) {
-        let Row {
+        let LineRow {
             notes: _,
             version: _,
             course: _,
@@ -31,18 +31,18 @@ impl<J: PlanName> Drop for Row<'_, J> {
     }
 }
 
-impl<'t, J: PlanName> Row<'t, J> {
+impl<'t, J: PlanName> LineRow<'t, J> {
     ghost use Rattle.std.specs.Prelude.{◌≡◌};
     ghost use Rattle.board_lines.specs.Parts.{no_notes, row_shown};
 
     /// The row of a line that never ran.
-    pub fn new() -> Row<'t, J>
+    pub fn new() -> LineRow<'t, J>
         ensures { row_shown result ≡ no_notes }
     {
-        Row {
+        LineRow {
             notes: PlaceNotes::new(),
             version: None,
-            course: Course { placed: 0 },
+            course: LineProgress { placed: 0 },
             changed: 0,
         }
     }

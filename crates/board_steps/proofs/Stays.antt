@@ -1,8 +1,7 @@
 -- What no step changes: committed lines; and which steps send a line back.
-use Rattle.std.proofs.Common.{◌≡◌, ◌≢◌, ℕ, ◌-◌, cond, List, Option, length, set, get_or, sym, ap, subst, ◌∙◌, refl, ◌⊎◌, inl, inr, arith}
+use Rattle.std.proofs.Common.{◌≡◌, ◌≢◌, ℕ, ◌-◌, cond, List, Option, length, set, get_or, sym, ap, subst, ◌∙◌, refl, ◌⊎◌, inl, inr, arith, length-set}
 use Rattle.std.proofs.lemmas.Bool.{cases_eq, cases_lt, le-ltb}
 use Rattle.std.proofs.lemmas.List.{get_or_past}
-use Rattle.std.proofs.Common.{length-set}
 use Rattle.circ_records.specs.declared.key.Key.{Key}
 use Rattle.sip_answer.specs.declared.answer.Answer.{Answer}
 use Rattle.read_set.specs.Plans.{Planned}

@@ -1,5 +1,5 @@
-//! The steps of workers: what a step is, which boards steps lead to, and what holds of them. Nothing here runs: the definitions
-//! are to be read, and the laws say that every list of steps gives the replay by one thread.
+//! The steps of workers: what a step is, which boards steps lead to, and what holds of them. No code here runs: there are definitions,
+//! and laws about them, which say that every list of steps gives the replay by one thread.
 //!
 //! A board is a value: each line's state, what it has read, and its entries. It uses the meaning of a line (`read_set`) and the
 //! visible entry (`version_store`).
@@ -83,8 +83,8 @@ pub fn steps_are_determined()
     ensures { (plan : Planned) (old : Board) → Reached plan old → (call : Call) (reply : Reply) (new : Board) (other_reply : Reply) (other : Board) → Step plan old call reply new → Step plan old call other_reply other → (reply ≡ other_reply) × (new ≡ other) }
 {}
 
-/// A change of line m: the stamps of the lines above it count no more, those of the lines below it count as before, and no
-/// other check is spared.
+/// A change of line m: the stamps of the lines above it are no longer valid, those of the lines below it are valid as before, and
+/// each other line that needs a check still needs it.
 pub fn stamps_after_a_change()
     ensures above { (plan : Planned) (b : Board) → Reached plan b → (m : ℕ) (r : Row) → IsLine b m → (n : ℕ) → m < n → StampCounts (row_at b) n → NeedsCheck (row_at (changing b m r)) n }
     ensures below { (plan : Planned) (b : Board) → Reached plan b → (m : ℕ) (r : Row) → IsLine b m → (n : ℕ) → n < m → StampCounts (row_at b) n → StampCounts (row_at (changing b m r)) n }

@@ -36,7 +36,7 @@ abbrev pub written : Option Piece → List Item
 written None = []
 written (Some p) = bytes_alone p.bytes ++ end_of p ∷ []
 
--- a piece tells whether a gap stands before it, and what is open behind it whether it ended in one
+-- a piece says whether a gap is before it, and what is open after it says whether it ended in one
 abbrev pub IsMarked : Bool → Option Piece → Bool → Type 0
 IsMarked old None new = new ≡ old
 IsMarked old (Some p) new = (p.after_gap ≡ old) × (new ≡ p.before_gap)

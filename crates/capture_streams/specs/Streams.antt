@@ -16,7 +16,7 @@ abbrev pub byte_at : List Segment → ℕ → Option ℕ
 byte_at [] p = None
 byte_at (s ∷ ss) p = option_or (byte_of s p) (byte_at ss p)
 
--- these bytes stand in the segments at the positions from here on, one after the other
+-- these bytes are in the segments at the positions from here on, one after the other
 abbrev pub StandFrom : ℕ → List Segment → List ℕ → Type 0
 StandFrom p ss [] = Unit {0}
 StandFrom p ss (b ∷ bs) = (byte_at ss p ≡ Some b) × StandFrom (p + 1) ss bs

@@ -10,16 +10,16 @@ use std::mem;
 /// A carriage return: the end of a message (SIP 2.00, message protocol).
 const END: u8 = b'\r';
 
-/// What stood between two ends of a stream: an end is a carriage return or a gap.
-pub struct Piece {
+/// What was between two ends of a stream: an end is a carriage return or a gap.
+pub struct StreamPiece {
     bytes: Vec<u8>,
     after_gap: bool,
     before_gap: bool,
 }
 
-impl Drop for Piece {
+impl Drop for StreamPiece {
     fn drop(self) {
-        let Piece {
+        let StreamPiece {
             bytes: _,
             after_gap: _,
             before_gap: _,
@@ -27,7 +27,7 @@ impl Drop for Piece {
     }
 }
 
-impl Model for Piece {
+impl Model for StreamPiece {
     ghost use Rattle.capture_streams.specs.Pieces.{Piece as Cut};
 
     ghost Value = { Cut };
@@ -35,7 +35,7 @@ impl Model for Piece {
     ghost view = { λ p. record { bytes = p.bytes.items; after_gap = p.after_gap; before_gap = p.before_gap } };
 }
 
-impl Piece {
+impl StreamPiece {
     /// Its bytes, without its end.
     pub fn bytes(&self) -> &[u8]
         ensures { result.now ≡ self.now.bytes }
@@ -43,14 +43,14 @@ impl Piece {
         self.bytes.as_slice()
     }
 
-    /// Whether a gap stands before it, so that its beginning may be missing.
+    /// Whether a gap is before it, so that its beginning may be missing.
     pub fn is_after_gap(&self) -> bool
         ensures { result ≡ self.now.after_gap }
     {
         self.after_gap
     }
 
-    /// Whether a gap stands behind it, so that its end is missing.
+    /// Whether a gap is after it, so that its end is missing.
     pub fn is_before_gap(&self) -> bool
         ensures { result ≡ self.now.before_gap }
     {
@@ -107,7 +107,7 @@ impl Cutter {
     }
 
     /// Takes the next byte. Gives the piece that it ends, if it ends one.
-    pub fn take(&mut self, byte: u8) -> Result<Option<Piece>, AllocError>
+    pub fn take(&mut self, byte: u8) -> Result<Option<StreamPiece>, AllocError>
         ensures whole { IfOk result (λ piece. written piece ++ bytes_alone self.new.bytes ≡ bytes_alone self.old.bytes ++ Byte byte ∷ []) }
         ensures cut { IfOk result (λ piece. IfSome piece (λ p. HasNoEnd p.bytes)) }
         ensures marked { IfOk result (λ piece. IsMarked self.old.after_gap piece self.new.after_gap) }
@@ -121,7 +121,7 @@ impl Cutter {
     }
 
     /// Bytes are missing here: gives what came since the last end.
-    pub fn gap(&mut self) -> Piece
+    pub fn gap(&mut self) -> StreamPiece
         ensures piece { result ≡ record { bytes = self.old.bytes; after_gap = self.old.after_gap; before_gap = true } }
         ensures cut { HasNoEnd result.bytes }
         ensures new { self.new ≡ record { bytes = []; after_gap = true } }
@@ -130,7 +130,7 @@ impl Cutter {
     }
 
     /// What came since the last end, as a piece; nothing is open then.
-    fn piece(&mut self, before_gap: bool) -> Piece
+    fn piece(&mut self, before_gap: bool) -> StreamPiece
         ensures piece { result ≡ record { bytes = self.old.bytes; after_gap = self.old.after_gap; before_gap = before_gap } }
         ensures cut { HasNoEnd result.bytes }
         ensures new { self.new ≡ record { bytes = []; after_gap = before_gap } }
@@ -138,7 +138,7 @@ impl Cutter {
         let bytes = mem::replace(&mut self.bytes, Vec::new(self.alloc));
         let after_gap = self.after_gap;
         self.after_gap = before_gap;
-        Piece {
+        StreamPiece {
             bytes,
             after_gap,
             before_gap,

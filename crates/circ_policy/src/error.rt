@@ -6,7 +6,7 @@ ghost use Rattle.circ_policy.specs.declared.error.PolicyError.TheVariants.{Memor
 use std::alloc::{AllocError, AllocFailed};
 use thiserror::Error;
 
-/// Why the bytes of a policy give none.
+/// Why the bytes of a policy file are refused.
 #[derive(Debug, Drop, Error)]
 pub enum PolicyError {
     /// The bytes are no TOML.

@@ -12,7 +12,7 @@ use crate::media_type::MediaType;
 use sip_reader::{Day, Id};
 use std::marker::Model;
 
-/// What a library grants its patrons, and what it asks for it.
+/// What a library grants its patrons, and what it charges for it.
 pub struct Policy {
     pub(crate) institution: Id,
     pub(crate) currency: [u8; 3],
@@ -61,7 +61,7 @@ impl Policy {
         &self.institution
     }
 
-    /// The currency of all amounts, three letters. The terms of each type of media lie in their ranges.
+    /// The currency of all amounts, three letters. The contract also says that the terms of each type of media are in their ranges.
     pub fn currency(&self) -> [u8; 3]
         ensures value { result ≡ self.now.currency }
         ensures ranges { FitsPolicy self.now }

@@ -9,8 +9,7 @@ use Rattle.std.specs.declared.cmp.Ordering.TheVariants.{Less, Equal, Greater}
 use Rattle.std.proofs.lemmas.Map.Keys.{sorted_head, sorted_tail}
 use Rattle.circ_records.specs.Devices.Behind.{IsBehind}
 use Rattle.circ_records.specs.Keys.{key_cmp, key_cmp_total}
-use Rattle.circ_records.specs.Laws.{AreRising}
-use Rattle.circ_records.specs.Records.{Entries}
+use Rattle.circ_records.specs.Records.{AreRising, Entries}
 use Rattle.circ_records.specs.declared.key.Key.{Key}
 use Rattle.circ_records.specs.declared.record.Record.{Record}
 

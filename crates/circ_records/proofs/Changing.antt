@@ -5,17 +5,17 @@ use Rattle.std.specs.Ordering.{eq_by_cmp}
 use Rattle.circ_records.specs.Changes.{IsChanged, changed}
 use Rattle.circ_records.specs.Keys.{key_cmp, key_cmp-IsAntisymmetric}
 use Rattle.circ_records.specs.Records.{Entries, record_at}
-use Rattle.circ_records.specs.declared.changes.Change.{Change}
+use Rattle.circ_records.specs.declared.changes.ListChange.{ListChange}
 use Rattle.circ_records.specs.declared.key.Key.{Key}
 use Rattle.circ_records.specs.declared.record.Record.{Record}
-use Rattle.circ_records.proofs.Lookups.{tie}
+use Rattle.circ_records.proofs.SameTexts.{tie}
 
 -- keys that tie are one
 pub same-key : (k q : Key) → eq_by_cmp key_cmp k q ≡ true → k ≡ q
 same-key k q e = key_cmp-IsAntisymmetric k q (tie (key_cmp k q) e)
 
 -- the record that was there is put back changed
-pub changed-there : (old new : Entries) (k : Key) (c : Change) (was is : Record) → Some was ≡ record_at old k → is ≡ changed c was
+pub changed-there : (old new : Entries) (k : Key) (c : ListChange) (was is : Record) → Some was ≡ record_at old k → is ≡ changed c was
     → ((q : Key) → record_at new q ≡ cond (eq_by_cmp key_cmp k q) (Some is) (record_at old q)) → IsChanged k c old new
 changed-there old new k c was is there value updates q = updates q ∙ by (eq_by_cmp key_cmp k q) refl
   where

@@ -12,11 +12,10 @@ use Rattle.std.specs.declared.cmp.Ordering.TheVariants.{Less, Equal, Greater}
 use Rattle.circ_records.specs.Devices.Behind.{IsBehind}
 use Rattle.circ_records.specs.Devices.Positions.{position_from}
 use Rattle.circ_records.specs.Keys.{key_cmp, key_cmp_total, key_cmp-IsAntisymmetric}
-use Rattle.circ_records.specs.Laws.{AreRising}
-use Rattle.circ_records.specs.Records.{Entries, record_at}
+use Rattle.circ_records.specs.Records.{AreRising, Entries, record_at}
 use Rattle.circ_records.specs.declared.key.Key.{Key}
 use Rattle.circ_records.specs.declared.record.Record.{Record}
-use Rattle.circ_records.proofs.Lookups.{tie}
+use Rattle.circ_records.proofs.SameTexts.{tie}
 
 abbrev keys_in : Entries → List Key
 keys_in es = map (λ e. e.0) es

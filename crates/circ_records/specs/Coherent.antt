@@ -8,8 +8,8 @@ use Rattle.sip_reader.specs.Texts.{is_id, is_text, line_number_end}
 use Rattle.sip_reader.specs.declared.amount.TheConstants.{AMOUNT_MAX}
 use Rattle.circ_records.specs.MadeFees.{may_be_made}
 use Rattle.circ_records.specs.Records.{Entries, record_at}
-use Rattle.circ_records.specs.Rules.{has_class}
-use Rattle.circ_records.specs.Values.{is_same}
+use Rattle.circ_records.specs.Classes.{has_class}
+use Rattle.circ_records.specs.Texts.{is_same}
 use Rattle.circ_records.specs.declared.holds.Hold.{Hold}
 use Rattle.circ_records.specs.declared.holds.TheConstants.{QUEUE_MAX}
 use Rattle.circ_records.specs.declared.key.Key.{Key}

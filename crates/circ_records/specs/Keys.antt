@@ -1,6 +1,6 @@
 -- The order of keys: by kind, then by the bytes of the id.
 use Rattle.std.specs.Prelude.{◌≡◌, ℕ, List, refl}
-use Rattle.std.specs.Ordering.{nat_cmp, on, then_cmp}
+use Rattle.std.specs.Ordering.{nat_cmp, on, then_cmp, ordering_then}
 use Rattle.std.specs.Cmp.{IsTotalOrder, nat_cmp_total}
 use Rattle.std.specs.Cmp.Lexicographic.{slice_cmp, nat_list_cmp_total}
 use Rattle.std.proofs.lemmas.Cmp.{on_total, then_total}
@@ -8,7 +8,6 @@ use Rattle.std.proofs.Common.{ap, arith}
 use Rattle.std.specs.FinMap.{IsAntisymmetric, nat_cmp-IsAntisymmetric, slice_cmp-IsAntisymmetric}
 use Rattle.std.specs.declared.cmp.Ordering.{Ordering}
 use Rattle.std.specs.declared.cmp.Ordering.TheVariants.{Less, Equal, Greater}
-use Rattle.std.specs.Ordering.{ordering_then}
 use Rattle.circ_records.specs.declared.key.Key.{Key}
 use Rattle.circ_records.specs.declared.key.Key.TheVariants.{Patron, Item, Fee}
 

@@ -2,7 +2,7 @@
 use Rattle.std.specs.Prelude.{ℕ, Bool, false, ◌&&◌, ◌==◌, nat_le, List, length, slice_index, take, drop, Option, Some, None, if◌then◌else◌}
 use Rattle.sip_reader.specs.Amounts.{whole_len}
 use Rattle.sip_reader.specs.Bytes as byte
-use Rattle.circ_records.specs.Values.{decimal_of, is_decimal}
+use Rattle.circ_records.specs.Texts.{decimal_of, is_decimal}
 
 -- a dash and a number of 1 to 20 digits, without leading zeros
 unfoldable pub is_count : List ℕ → Bool

@@ -1,18 +1,7 @@
--- The words by which faults name a table and a rule.
+-- The words by which faults name a rule.
 use Rattle.std.specs.Prelude.{ℕ, List, codes}
-use Rattle.circ_records.specs.declared.tables.TableName.{TableName}
-use Rattle.circ_records.specs.declared.tables.TableName.TheVariants as table
-use Rattle.circ_records.specs.declared.fault.BaseRule.{BaseRule}
-use Rattle.circ_records.specs.declared.fault.BaseRule.TheVariants as rule
-
--- the tables of a base (the profile of this project)
-abbrev pub table_word : TableName → List ℕ
-table_word table.Patrons = codes "patrons"
-table_word table.Items = codes "items"
-table_word table.Loans = codes "loans"
-table_word table.Fees = codes "fees"
-table_word table.Closed = codes "closed"
-table_word table.Holds = codes "holds"
+use Rattle.circ_records.specs.declared.rule.BaseRule.{BaseRule}
+use Rattle.circ_records.specs.declared.rule.BaseRule.TheVariants as rule
 
 -- the rules of a base (the profile of this project)
 abbrev pub rule_word : BaseRule → List ℕ

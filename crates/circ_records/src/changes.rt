@@ -2,19 +2,19 @@
 
 ghost use Rattle.std.specs.Prelude.{◌≡◌, ◌++◌, ◌∷◌, [], OnOk, OnErr, IfOk, Some, None, is_some};
 ghost use Rattle.circ_records.specs.Changes.{broken_by, broken_hold, changed};
-ghost use Rattle.circ_records.specs.declared.changes.Change.TheVariants as change;
+ghost use Rattle.circ_records.specs.Coherent.{is_loan_of};
+ghost use Rattle.circ_records.specs.declared.changes.ListChange.TheVariants as change;
 
-use crate::fault::BaseRule;
 use crate::holds::{Hold, QUEUE_MAX};
-use crate::known::is_loan_of;
 use crate::record::{Item, Loan, Patron, Record};
+use crate::rule::BaseRule;
 use crate::shared::Shared;
 use sip_reader::Id;
 use std::alloc::{AllocError, Global};
 
 /// What a row of loans, fees or holds changes of a patron or an item.
 #[derive(Drop)]
-pub(crate) enum Change {
+pub enum ListChange {
     /// The item is appended to the patron's loans.
     Borrows(Id),
     /// The fee is appended to the patron's open fees.
@@ -25,14 +25,14 @@ pub(crate) enum Change {
     Awaited(Hold),
 }
 
-impl Change {
+impl ListChange {
     /// The rule that it breaks where there is no such record.
     pub(crate) fn lacks(&self) -> BaseRule
         ensures { Some result ≡ broken_by self.now None }
     {
         match self {
-            Change::Borrows(_) | Change::Owes(_) => BaseRule::Patron,
-            Change::Lent(_) | Change::Awaited(_) => BaseRule::Item,
+            ListChange::Borrows(_) | ListChange::Owes(_) => BaseRule::Patron,
+            ListChange::Lent(_) | ListChange::Awaited(_) => BaseRule::Item,
         }
     }
 }
@@ -41,17 +41,17 @@ impl Change {
 pub(crate) fn apply(
     alloc: Global,
     target: &mut Record,
-    what: Change,
+    what: ListChange,
 ) -> Result<Option<BaseRule>, AllocError>
     ensures rule { IfOk result (λ broken. broken ≡ broken_by what (Some target.old)) }
     ensures ok { IfOk result (λ broken. broken ≡ None → target.new ≡ changed what target.old) }
     ensures err { OnErr result (target.new ≡ target.old) }
 {
     match what {
-        Change::Borrows(item) => borrow(alloc, target, item),
-        Change::Owes(fee) => owe(alloc, target, fee),
-        Change::Lent(loan) => lend(target, loan),
-        Change::Awaited(hold) => wait(target, hold),
+        ListChange::Borrows(item) => borrow(alloc, target, item),
+        ListChange::Owes(fee) => owe(alloc, target, fee),
+        ListChange::Lent(loan) => lend(target, loan),
+        ListChange::Awaited(hold) => wait(target, hold),
     }
 }
 
@@ -135,6 +135,16 @@ fn rule_of_hold(item: &Shared<Item>, patron: &Id) -> Option<BaseRule>
         Some(BaseRule::Queue)
     } else {
         None
+    }
+}
+
+/// Whether a loan is this patron's.
+fn is_loan_of(patron: &Id, loan: &Option<Loan>) -> bool
+    ensures { result ≡ is_loan_of patron.now loan.now }
+{
+    match loan {
+        Some(loan) => *patron == loan.patron,
+        None => false,
     }
 }
 

@@ -7,7 +7,7 @@ use std::marker::Model;
 /// A patron's position in the queue of an item.
 pub struct Hold {
     pub patron: Id,
-    /// Where the patron wants to have it, empty where nothing was said.
+    /// Where the patron wants to pick it up; empty where no place was given.
     pub pickup: Text,
 }
 

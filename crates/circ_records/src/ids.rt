@@ -9,10 +9,10 @@ use std::marker::Model;
 /// The longest list that is in one block of memory. Most lists have no more ids, and a run stores each list that a line writes.
 const FEW: usize = 6;
 
-/// A list of ids, as a patron's loans or open fees, the oldest first. The empty list takes no memory, and another shares its memory
-/// with its copies.
+/// A list of ids, such as a patron's loans or open fees, the oldest first. The empty list takes no memory; any other list shares its
+/// memory with its copies.
 pub struct Ids {
-    held: Held,
+    held: IdBlock,
 }
 
 impl Drop for Ids {
@@ -23,7 +23,7 @@ impl Drop for Ids {
 
 /// The ids of a list: those of a short one in one block of memory of just their number, those of a longer one in the block of a
 /// `Vec`, which is in another block.
-enum Held {
+enum IdBlock {
     None,
     One(Shared<[Id; 1]>),
     Two(Shared<[Id; 2]>),
@@ -34,18 +34,18 @@ enum Held {
     Many(Shared<Vec<Id>>),
 }
 
-impl Drop for Held {
+impl Drop for IdBlock {
     #[inline(always)]
     fn drop(self) {
         match self {
-            Held::None => {}
-            Held::One(_) => {}
-            Held::Two(_) => {}
-            Held::Three(_) => {}
-            Held::Four(_) => {}
-            Held::Five(_) => {}
-            Held::Six(_) => {}
-            Held::Many(_) => {}
+            IdBlock::None => {}
+            IdBlock::One(_) => {}
+            IdBlock::Two(_) => {}
+            IdBlock::Three(_) => {}
+            IdBlock::Four(_) => {}
+            IdBlock::Five(_) => {}
+            IdBlock::Six(_) => {}
+            IdBlock::Many(_) => {}
         }
     }
 }
@@ -64,14 +64,16 @@ impl Ids {
     pub fn new() -> Ids
         ensures { result ≡ [] }
     {
-        Ids { held: Held::None }
+        Ids {
+            held: IdBlock::None,
+        }
     }
 
     /// The list of one id.
     pub fn one(alloc: Global, id: Id) -> Result<Ids, AllocError>
         ensures { IfOk result (λ l. l ≡ id ∷ []) }
     {
-        let held = Held::One(Shared::new(alloc, [id])?);
+        let held = IdBlock::One(Shared::new(alloc, [id])?);
         Ok(Ids { held })
     }
 
@@ -82,12 +84,12 @@ impl Ids {
         let mut ids = ids;
         if ids.len() > FEW {
             ids.shrink_to_fit();
-            let held = Held::Many(Shared::new(alloc, ids)?);
+            let held = IdBlock::Many(Shared::new(alloc, ids)?);
             return Ok(Ids { held });
         }
         match ids.pop() {
             Some(last) => Ok(Ids {
-                held: Held::longer(alloc, ids.as_slice(), last)?,
+                held: IdBlock::longer(alloc, ids.as_slice(), last)?,
             }),
             None => Ok(Ids::new()),
         }
@@ -99,9 +101,9 @@ impl Ids {
         ensures err { OnErr result (self.new ≡ self.old) }
     {
         match &mut self.held {
-            Held::Many(ids) => push_to_many(ids, id),
+            IdBlock::Many(ids) => push_to_many(ids, id),
             few => {
-                *few = Held::longer(alloc, few.as_slice(), id)?;
+                *few = IdBlock::longer(alloc, few.as_slice(), id)?;
                 Ok(())
             }
         }
@@ -134,35 +136,35 @@ impl Ids {
     }
 }
 
-impl Held {
+impl IdBlock {
     /// These ids and one more at the end.
     #[inline(always)]
-    fn longer(alloc: Global, ids: &[Id], last: Id) -> Result<Held, AllocError>
+    fn longer(alloc: Global, ids: &[Id], last: Id) -> Result<IdBlock, AllocError>
         ensures { IfOk result (λ held. ids_held held ≡ ids.now ++ last ∷ []) }
     {
         match ids {
-            [] => Ok(Held::One(Shared::new(alloc, [last])?)),
-            [a] => Ok(Held::Two(Shared::new(alloc, [a.clone()?, last])?)),
-            _ => Held::of_three_or_more(alloc, ids, last),
+            [] => Ok(IdBlock::One(Shared::new(alloc, [last])?)),
+            [a] => Ok(IdBlock::Two(Shared::new(alloc, [a.clone()?, last])?)),
+            _ => IdBlock::of_three_or_more(alloc, ids, last),
         }
     }
 
     /// The same for a list of three or more. A call reserves stack for the longest of its lists first, so this is a function of its own.
     #[inline(never)]
-    fn of_three_or_more(alloc: Global, ids: &[Id], last: Id) -> Result<Held, AllocError>
+    fn of_three_or_more(alloc: Global, ids: &[Id], last: Id) -> Result<IdBlock, AllocError>
         ensures { IfOk result (λ held. ids_held held ≡ ids.now ++ last ∷ []) }
     {
         Ok(match ids {
-            [a, b] => Held::Three(Shared::new(alloc, [a.clone()?, b.clone()?, last])?),
-            [a, b, c] => Held::Four(Shared::new(
+            [a, b] => IdBlock::Three(Shared::new(alloc, [a.clone()?, b.clone()?, last])?),
+            [a, b, c] => IdBlock::Four(Shared::new(
                 alloc,
                 [a.clone()?, b.clone()?, c.clone()?, last],
             )?),
-            [a, b, c, d] => Held::Five(Shared::new(
+            [a, b, c, d] => IdBlock::Five(Shared::new(
                 alloc,
                 [a.clone()?, b.clone()?, c.clone()?, d.clone()?, last],
             )?),
-            [a, b, c, d, e] => Held::Six(Shared::new(
+            [a, b, c, d, e] => IdBlock::Six(Shared::new(
                 alloc,
                 [
                     a.clone()?,
@@ -173,22 +175,22 @@ impl Held {
                     last,
                 ],
             )?),
-            _ => Held::Many(Shared::new(alloc, with_last(alloc, ids, last)?)?),
+            _ => IdBlock::Many(Shared::new(alloc, with_last(alloc, ids, last)?)?),
         })
     }
 
-    fn copy(&self) -> Result<Held, AllocError>
+    fn copy(&self) -> Result<IdBlock, AllocError>
         ensures { IfOk result (λ held. ids_held held ≡ ids_held self.now) }
     {
         Ok(match self {
-            Held::None => Held::None,
-            Held::One(ids) => Held::One(ids.copy()?),
-            Held::Two(ids) => Held::Two(ids.copy()?),
-            Held::Three(ids) => Held::Three(ids.copy()?),
-            Held::Four(ids) => Held::Four(ids.copy()?),
-            Held::Five(ids) => Held::Five(ids.copy()?),
-            Held::Six(ids) => Held::Six(ids.copy()?),
-            Held::Many(ids) => Held::Many(ids.copy()?),
+            IdBlock::None => IdBlock::None,
+            IdBlock::One(ids) => IdBlock::One(ids.copy()?),
+            IdBlock::Two(ids) => IdBlock::Two(ids.copy()?),
+            IdBlock::Three(ids) => IdBlock::Three(ids.copy()?),
+            IdBlock::Four(ids) => IdBlock::Four(ids.copy()?),
+            IdBlock::Five(ids) => IdBlock::Five(ids.copy()?),
+            IdBlock::Six(ids) => IdBlock::Six(ids.copy()?),
+            IdBlock::Many(ids) => IdBlock::Many(ids.copy()?),
         })
     }
 
@@ -196,14 +198,14 @@ impl Held {
         ensures { result.now ≡ ids_held self.now }
     {
         match self {
-            Held::None => &[],
-            Held::One(ids) => ids.get().as_slice(),
-            Held::Two(ids) => ids.get().as_slice(),
-            Held::Three(ids) => ids.get().as_slice(),
-            Held::Four(ids) => ids.get().as_slice(),
-            Held::Five(ids) => ids.get().as_slice(),
-            Held::Six(ids) => ids.get().as_slice(),
-            Held::Many(ids) => ids.get().as_slice(),
+            IdBlock::None => &[],
+            IdBlock::One(ids) => ids.get().as_slice(),
+            IdBlock::Two(ids) => ids.get().as_slice(),
+            IdBlock::Three(ids) => ids.get().as_slice(),
+            IdBlock::Four(ids) => ids.get().as_slice(),
+            IdBlock::Five(ids) => ids.get().as_slice(),
+            IdBlock::Six(ids) => ids.get().as_slice(),
+            IdBlock::Many(ids) => ids.get().as_slice(),
         }
     }
 }

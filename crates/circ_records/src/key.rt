@@ -11,7 +11,7 @@ use sip_reader::Id;
 use std::alloc::AllocError;
 use std::cmp::Ordering;
 
-/// What names a record.
+/// The key of a record: whether it is of a patron, an item or a fee, and its id.
 pub enum Key {
     Patron(Id),
     Item(Id),

@@ -3,7 +3,7 @@
 ghost use Rattle.std.specs.Prelude.{◌≡◌, Ok, IfSome, IsTrue};
 ghost use Rattle.circ_records.specs.Devices.KeyRefs.{key_of};
 ghost use Rattle.circ_records.specs.Devices.Positions.{position_from};
-ghost use Rattle.circ_records.specs.Laws.{AreRising};
+ghost use Rattle.circ_records.specs.Records.{AreRising};
 
 use crate::key::{Key, KeyRef};
 use crate::record::Record;

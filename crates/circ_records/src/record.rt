@@ -1,6 +1,5 @@
 ghost use Rattle.std.specs.Prelude.{◌≡◌, IfOk};
-ghost use Rattle.circ_records.specs.FeeTypes.{fee_type_code};
-ghost use Rattle.circ_records.specs.Values.{fee_type_of};
+ghost use Rattle.circ_records.specs.FeeTypes.{fee_type_code, fee_type_of};
 ghost use Rattle.circ_records.specs.declared.record.Record.TheVariants as record_of;
 
 use crate::holds::Holds;
@@ -45,7 +44,7 @@ impl Drop for Patron {
 pub struct Item {
     pub title: Text,
     pub media: MediaType,
-    /// Its place when nobody has it.
+    /// Its place when it isn't on loan.
     pub location: Text,
     pub properties: Text,
     pub loan: Option<Loan>,
@@ -187,7 +186,7 @@ impl FeeType {
     }
 
     /// The fee type of two digits.
-    #[tactic(auto, unfolding(crate::specs::Values::fee_type_of))]
+    #[tactic(auto, unfolding(crate::specs::FeeTypes::fee_type_of))]
     pub fn of_code(code: &[u8]) -> Option<FeeType>
         ensures { result ≡ fee_type_of code.now }
     {

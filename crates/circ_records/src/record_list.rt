@@ -1,10 +1,9 @@
-//! Records as a list, rising by key, in which one is found by a hint of its position or by halving the list.
+//! Records as a list, rising by key, in which one is found by a hint of its position or by binary search.
 
 ghost use Rattle.std.specs.Prelude.{◌≡◌, ◌++◌, ◌∷◌, [], Err, IfOk, IsTrue, OnErr, OnOk, length, option_copied};
 ghost use Rattle.circ_records.specs.Devices.KeyRefs.{key_of};
 ghost use Rattle.circ_records.specs.Devices.Positions.{position_from};
-ghost use Rattle.circ_records.specs.Laws.{AreRising};
-ghost use Rattle.circ_records.specs.Records.{record_at};
+ghost use Rattle.circ_records.specs.Records.{AreRising, record_at};
 
 use crate::key::{Key, KeyRef};
 use crate::position_hints::PositionHints;

@@ -7,17 +7,16 @@ ghost use Rattle.std.specs.declared.cmp.Ordering.TheVariants.{Greater};
 ghost use Rattle.circ_records.specs.Changes.{IsChanged, broken_by};
 ghost use Rattle.circ_records.specs.Devices.KeyRefs.{key_of};
 ghost use Rattle.circ_records.specs.Keys.{key_cmp};
-ghost use Rattle.circ_records.specs.Laws.{AreRising};
-ghost use Rattle.circ_records.specs.Records.{Entries, record_at};
+ghost use Rattle.circ_records.specs.Records.{AreRising, Entries, record_at};
 ghost use Rattle.circ_records.specs.declared.key.Key.{Key};
 ghost use Rattle.circ_records.specs.declared.key.Key.TheVariants as keys;
 ghost use Rattle.circ_records.specs.declared.record.Record.{Record};
 
-use crate::changes::{Change, apply};
-use crate::fault::BaseRule;
+use crate::changes::{ListChange, apply};
 use crate::key::{Key, KeyRef};
 use crate::record::Record;
 use crate::record_list::RecordList;
+use crate::rule::BaseRule;
 use sip_reader::Id;
 use std::alloc::{AllocError, Global};
 use std::collections::BTreeMap;
@@ -25,7 +24,7 @@ use std::marker::Model;
 use std::mem::replace;
 
 /// Records by their keys, put in one by one. Records that come after all others are in a list, since most tables have their rows in
-/// rising order: a list takes little memory, and a record is found by a hint or by halving. A record that comes between goes into a
+/// rising order: a list takes little memory, and a record is found by a hint or by binary search. A record that comes between goes into a
 /// map, and those that come after it go with it: so no list is moved for one record, however many come between. For each record that
 /// is put, at most two go back to the list, those that come before all others of the map (`put_after_list`).
 pub struct RecordMap {
@@ -46,8 +45,7 @@ impl Drop for RecordMap {
 
 impl Model for RecordMap {
     ghost use Rattle.std.specs.Prelude.{◌++◌};
-    ghost use Rattle.circ_records.specs.Laws.{AreRising};
-    ghost use Rattle.circ_records.specs.Records.{Entries};
+    ghost use Rattle.circ_records.specs.Records.{AreRising, Entries};
 
     ghost Value = { Entries };
 
@@ -62,6 +60,14 @@ impl RecordMap {
         ensures { result ≡ [] }
     {
         RecordMap::from_list(alloc, RecordList::new(alloc))
+    }
+
+    /// No records, and memory for this many.
+    pub fn with_capacity(alloc: Global, count: usize) -> Result<RecordMap, AllocError>
+        ensures { IfOk result (λ m. m ≡ []) }
+    {
+        let listed = RecordList::with_capacity(alloc, count)?;
+        Ok(RecordMap::from_list(alloc, listed))
     }
 
     /// The records of a list that rises by key.
@@ -148,11 +154,11 @@ impl RecordMap {
 
     /// Changes the record at a key, or returns the rule that the change breaks there. One look-up serves for both. Out of memory,
     /// nothing changes.
-    pub(crate) fn change(
+    pub fn change(
         &mut self,
         alloc: Global,
         key: Key,
-        what: Change,
+        what: ListChange,
     ) -> Result<Option<BaseRule>, AllocError>
         ensures rule { IfOk result (λ broken. broken ≡ broken_by what (record_at self.old key)) }
         ensures ok { IfOk result (λ broken. broken ≡ None → IsChanged key what self.old self.new) }
@@ -170,7 +176,7 @@ impl RecordMap {
     }
 
     /// The same records in a list with hints, whatever the order in which they came.
-    pub(crate) fn with_hints(self, alloc: Global) -> Result<RecordMap, AllocError>
+    pub fn with_hints(self, alloc: Global) -> Result<RecordMap, AllocError>
         ensures { IfOk result (λ m. m ≡ self) }
     {
         let listed = self.into_list(alloc)?.with_hints(alloc)?;

@@ -1,8 +1,7 @@
-//! The records that a run ends with.
+//! The records that a run begins with, and those that it ends with.
 
-ghost use Rattle.std.specs.Prelude.{◌≡◌, IfOk, option_copied};
-ghost use Rattle.circ_records.specs.Laws.{AreRising};
-ghost use Rattle.circ_records.specs.Records.{record_at};
+ghost use Rattle.std.specs.Prelude.{◌≡◌, ◌<◌, ◌^◌, [], IfOk, length, option_copied};
+ghost use Rattle.circ_records.specs.Records.{AreRising, record_at};
 ghost use Rattle.circ_records.specs.declared.key.Key.TheVariants as keys;
 
 use crate::key::{Key, KeyRef};
@@ -12,8 +11,9 @@ use crate::record_map::RecordMap;
 use sip_reader::Id;
 use std::alloc::{AllocError, Global};
 use std::marker::Model;
+use std::mem::replace;
 
-/// Records by their keys, as a run leaves them.
+/// Records by their keys, to which none are added.
 pub struct Records {
     /// By rising keys.
     records: RecordList,
@@ -26,8 +26,7 @@ impl Drop for Records {
 }
 
 impl Model for Records {
-    ghost use Rattle.circ_records.specs.Laws.{AreRising};
-    ghost use Rattle.circ_records.specs.Records.{Entries};
+    ghost use Rattle.circ_records.specs.Records.{AreRising, Entries};
 
     ghost Value = { Entries };
 
@@ -54,14 +53,14 @@ impl Records {
     }
 
     /// The record of an item.
-    pub(crate) fn item(&self, id: &Id) -> Option<&Record>
+    pub fn item(&self, id: &Id) -> Option<&Record>
         ensures { option_copied result ≡ record_at self.now (keys.Item id.now) }
     {
         self.records.get(&KeyRef::Item(id))
     }
 
     /// The record of a fee.
-    pub(crate) fn fee(&self, id: &Id) -> Option<&Record>
+    pub fn fee(&self, id: &Id) -> Option<&Record>
         ensures { option_copied result ≡ record_at self.now (keys.Fee id.now) }
     {
         self.records.get(&KeyRef::Fee(id))
@@ -71,7 +70,25 @@ impl Records {
     pub fn as_slice(&self) -> &[(Key, Record)]
         ensures records { result.now ≡ self.now }
         ensures rising { AreRising self.now }
+        ensures few { length self.now < 2 ^ 64 }
     {
         self.records.entries.as_slice()
+    }
+
+    /// The records by their keys, taken out: none are left here.
+    pub fn take(&mut self, alloc: Global) -> RecordMap
+        ensures taken { result ≡ self.old }
+        ensures left { self.new ≡ [] }
+    {
+        let records = replace(&mut self.records, RecordList::new(alloc));
+        RecordMap::from_list(alloc, records)
+    }
+
+    /// An empty map. It finds the records at the base's keys as fast as the base does, once all of them were put into it in their order.
+    pub fn empty_map(&self, alloc: Global) -> Result<RecordMap, AllocError>
+        ensures { IfOk result (λ m. m ≡ []) }
+    {
+        let listed = self.records.emptied_copy(alloc)?;
+        Ok(RecordMap::from_list(alloc, listed))
     }
 }

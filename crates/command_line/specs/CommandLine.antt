@@ -1,15 +1,16 @@
 -- What the words of the command line mean, by clap's own definition.
 use Rattle.std.specs.Prelude.{◌≡◌, ◌<◌, ◌^◌, ℕ, Bool, List, Option, Some, None, codes, is_some, false, true, pos}
-use Rattle.std.specs.Prelude.{string_bytes}
+use Rattle.std.specs.Prelude.{[], option_map, string_bytes, unwrap_or}
 use Rattle.std.specs.Str.Parse.{IsNumeral, digits_value, without_leading_plus}
 use Rattle.clap.specs.Words.{App, Row, Rule, Text, first_of, one_of, new_app, new_rule}
 use Rattle.clap.specs.Words.{with_rule}
 use Rattle.clap.specs.Simple.{on_top}
-use Rattle.clap.specs.Words.{IsParsedFrom, IsPlainArg, first_value, found_of, matches_of, takes}
+use Rattle.clap.specs.Words.{IsParsedFrom, IsPlainArg, first_value, found_of, matched_of, matches_of, raw_values, takes}
 use Rattle.clap.specs.declared.builder.action.ArgAction.TheVariants.{Set, SetTrue}
 use Rattle.clap.specs.declared.builder.arg.Arg.{Arg}
 use Rattle.clap.specs.declared.builder.command.Command.{Command}
 use Rattle.clap.specs.declared.parser.matches.ArgMatches.{ArgMatches}
+use Rattle.clap.specs.declared.parser.matches.Found.{Found}
 use Rattle.clap.specs.declared.builder.value_parser.ValueParser.TheVariants.{Signed}
 use Rattle.command_line.specs.declared.chosen.Options.{Options}
 
@@ -25,7 +26,7 @@ workers_rule = record (new_rule (codes "workers")) {
   parser = Some (Signed (pos 0) (pos 4294967295));
 }
 
--- whether what to do is told too: a flag
+-- whether what to do is printed too: a flag
 abbrev pub explain_rule : Rule
 explain_rule = record (new_rule (codes "explain")) { long = Some (codes "explain"); action = Some SetTrue }
 
@@ -33,7 +34,7 @@ explain_rule = record (new_rule (codes "explain")) { long = Some (codes "explain
 abbrev pub check_rule : Rule
 check_rule = record (new_rule (codes "check")) { long = Some (codes "check"); action = Some SetTrue }
 
--- a command line that tells its version
+-- a command line whose program prints its version
 abbrev pub versioned : App → App
 versioned = on_top (λ shape. record shape { has_version = true })
 
@@ -74,7 +75,11 @@ AreAskedBy words o = GivesOptions (matches_of sip_replay_line words) o
 abbrev pub AreTaken : List Text → Type 0
 AreTaken words = takes sip_replay_line words ≡ true
 
--- an argument of this name that stands for itself
+-- the values that were given for a name
+abbrev pub values_of : Found → Text → List Text
+values_of found name = unwrap_or (option_map raw_values (matched_of found name)) []
+
+-- an argument of this name, which is in no group and excludes no other
 abbrev pub IsOwnArg : Text → Arg → Type 0
 IsOwnArg name a = (a.id.now ≡ name) × (a.global ≡ false) × IsPlainArg a
 

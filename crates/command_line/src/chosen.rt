@@ -1,6 +1,6 @@
 //! What the command lines ask for.
 
-/// The files and folders of a run, as the words name them, how many workers are wanted, and how much is told.
+/// The files and folders of a run, as the words name them, how many workers are wanted, and how much is reported.
 pub struct Options {
     /// The policy, a TOML file.
     pub policy: String,
@@ -12,7 +12,7 @@ pub struct Options {
     pub out: String,
     /// How many workers, of which 1 to 64 are taken.
     pub workers: u32,
-    /// Whether what to do about a fault is told too.
+    /// Whether what to do about a fault is printed too.
     pub explain: bool,
     /// Whether the inputs are only checked.
     pub check: bool,
@@ -40,7 +40,7 @@ pub struct PageOptions {
     pub base: Option<String>,
     /// The folder that has the files of the run.
     pub out: String,
-    /// What was told of why responses were wrong, a CSV file.
+    /// Why responses were wrong, as sip_why wrote it, a CSV file.
     pub why: Option<String>,
     /// How many wrong responses, and how many changes, are shown.
     pub limit: u32,

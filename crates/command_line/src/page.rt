@@ -1,14 +1,14 @@
 //! The words of the command line of `sip_page`, read by `clap`.
-ghost use Rattle.std.specs.Prelude.{◌≡◌, IfErr, IfOk, codes, map, option_map, string_bytes, true};
-ghost use Rattle.clap.specs.Words.{app_of, first_value, found_of, matches_of, rule_of, takes};
+ghost use Rattle.std.specs.Prelude.{◌≡◌, IfErr, IfOk, codes, map, true};
+ghost use Rattle.clap.specs.Words.{app_of, matches_of, rule_of, takes};
 ghost use Rattle.command_line.specs.CommandLine.{IsOwnArg};
 ghost use Rattle.command_line.specs.Page.{GivesPage, HasPagePaths, limit_rule, sip_page_line, spare_path_rule};
 ghost use Rattle.command_line.specs.declared.refusal.Refusal.TheVariants.{Memory};
 
 use crate::chosen::PageOptions;
 use crate::refusal::Refusal;
-use crate::words::{VERSION, path, text_of};
-use clap::{Arg, ArgMatches, Command, value_parser};
+use crate::words::{VERSION, path, text_if_given, text_of};
+use clap::{Arg, Command, value_parser};
 use std::alloc::{AllocError, Global};
 use std::convert::AsStr;
 
@@ -59,23 +59,6 @@ pub fn page_options<S: AsStr>(alloc: Global, words: &[S]) -> Result<PageOptions,
         why,
         limit,
     })
-}
-
-/// The first value of `id`, copied, where it has one.
-fn text_if_given(
-    alloc: Global,
-    matches: &ArgMatches<'_>,
-    id: &str,
-) -> Result<Option<String>, AllocError>
-    ensures { IfOk result (λ o. option_map string_bytes o ≡ first_value (found_of matches.now) id.now) }
-{
-    match matches.get_str(id) {
-        Some(text) => match String::from_str(alloc, text) {
-            Ok(copy) => Ok(Some(copy)),
-            Err(error) => Err(error),
-        },
-        None => Ok(None),
-    }
 }
 
 /// An argument that takes a path and may be left out.

@@ -8,12 +8,12 @@ use clap::Error;
 use clap::error::ErrorKind;
 use std::alloc::{AllocError, Global};
 
-/// What words come to that give no options.
+/// Why words give no options.
 #[derive(Drop)]
 pub enum Refusal {
     /// They ask for help or for the version: its text.
     Help(String),
-    /// They are refused: what is told of them.
+    /// They are refused: what is printed of it.
     Words(String),
     /// Memory ran out.
     Memory,
@@ -28,7 +28,7 @@ impl From<AllocError> for Refusal {
 }
 
 impl Refusal {
-    /// What clap's error tells.
+    /// The refusal that is in clap's error.
     pub(crate) fn of_error(alloc: Global, error: &Error) -> Refusal
         ensures memory { kind_of error.now ≡ OutOfMemory → result ≡ refusals.Memory }
     {

@@ -1,10 +1,10 @@
 //! The words of the command line of `sip_replay`, read by `clap`.
-ghost use Rattle.std.specs.Prelude.{◌≡◌, IfErr, IfOk, Some, codes, is_some, map, string_bytes, true};
+ghost use Rattle.std.specs.Prelude.{◌≡◌, IfErr, IfOk, Some, codes, is_some, map, option_map, string_bytes, true};
 ghost use Rattle.clap.specs.Words.{app_of, first_value, found_of, matches_of};
 ghost use Rattle.clap.specs.Words.{rule_of, takes};
 ghost use Rattle.clap.specs.Built.{TakesValue};
 ghost use Rattle.command_line.specs.CommandLine.{check_rule, explain_rule, path_rule, sip_replay_line, workers_rule};
-ghost use Rattle.command_line.specs.CommandLine.{GivesOptions};
+ghost use Rattle.command_line.specs.CommandLine.{GivesOptions, values_of};
 ghost use Rattle.command_line.specs.CommandLine.{HasPaths, IsOwnArg};
 ghost use Rattle.command_line.specs.declared.refusal.Refusal.TheVariants.{Memory};
 
@@ -16,7 +16,7 @@ use std::convert::AsStr;
 
 const DEFAULT_WORKERS: u32 = 4;
 
-/// The version that the programs tell of themselves, that of the file `VERSION`.
+/// The version that the programs say they have, that of the file `VERSION`.
 pub(crate) const VERSION: &str = "0.3.0";
 
 const ABOUT: &str =
@@ -101,6 +101,39 @@ pub(crate) fn text_of(
     String::from_str(alloc, matches.get_str(id).unwrap())
 }
 
+/// The first value of `id`, copied, where it has one.
+pub(crate) fn text_if_given(
+    alloc: Global,
+    matches: &ArgMatches<'_>,
+    id: &str,
+) -> Result<Option<String>, AllocError>
+    ensures { IfOk result (λ o. option_map string_bytes o ≡ first_value (found_of matches.now) id.now) }
+{
+    match matches.get_str(id) {
+        Some(text) => match String::from_str(alloc, text) {
+            Ok(copy) => Ok(Some(copy)),
+            Err(error) => Err(error),
+        },
+        None => Ok(None),
+    }
+}
+
+/// The values of `id`, copied.
+pub(crate) fn texts_of(
+    alloc: Global,
+    matches: &ArgMatches<'_>,
+    id: &str,
+) -> Result<Vec<String>, AllocError>
+    ensures { IfOk result (λ v. map string_bytes v.items ≡ values_of (found_of matches.now) id.now) }
+{
+    let given = matches.get_strs(id).unwrap_or(&[]);
+    let mut texts = Vec::new(alloc);
+    for text in given {
+        texts.push(String::from_str(alloc, text)?)?;
+    }
+    Ok(texts)
+}
+
 /// An argument that must be given and takes a path.
 pub(crate) fn path<'a>(alloc: Global, name: &'a str, value: &'a str, help: &'a str) -> Arg<'a>
     ensures rule { rule_of result ≡ path_rule name.entry.now }
@@ -127,7 +160,7 @@ fn workers<'a>(alloc: Global) -> Arg<'a>
         .help(WORKERS_HELP)
 }
 
-/// Whether what to do is told too.
+/// Whether what to do is printed too.
 fn explain<'a>(alloc: Global) -> Arg<'a>
     ensures rule { rule_of result ≡ explain_rule }
     ensures own { IsOwnArg (codes "explain") result }

@@ -34,7 +34,7 @@ name-at [] i d h = absurd (omega arith)
 name-at (n ∷ ns) zero d h = refl
 name-at (n ∷ ns) (suc i) d h = name-at ns i d (omega arith)
 
--- a row and names from a place on, where the field a and the name b stand
+-- a row and names from a place on, where the field a and the name b are
 pub names-step : (xs : List (List ℕ)) (names : List (Bor (List ℕ))) (i : ℕ) (a b : List ℕ) (d : Bor (List ℕ)) → i < length names → length xs ≡ length names
     → a ≡ get_or xs i [] → b ≡ (get_or names i d).now
     → is_row (drop i xs) (drop i (map (λ name. name.now) names))

@@ -33,7 +33,7 @@ records-turns (suc n) (suc m) s xs h k e = next-turns n m (next_record default_c
     let fewer : length p.2 < length xs = q.0 in
     records-turns n m p.1 p.2 (omega arith) (omega arith) q.1)
 
--- the records from a place are the next one and those behind it
+-- the records from a place are the next one and those after it
 records-step : (s : State) (xs : List ℕ) (p : Read) → ends_at_end s ≡ false → next_record default_config s [] [] xs ≡ Some p
     → records_from default_config (length xs + 1) s xs ≡ p.0 ∷ records_from default_config (length p.2 + 1) p.1 p.2
 unfolding records_from
@@ -187,7 +187,7 @@ header-reading a b text f config start strict trims source r first same =
       between = rw state q.1;
     }
 
--- a byte order mark is taken off, and nothing is put there
+-- a byte order mark is removed, and nothing is put there
 strip-shorter : (text : List ℕ) → length (strip_bom text) ≤ length text
 unfolding strip_bom
 strip-shorter [] = omega arith

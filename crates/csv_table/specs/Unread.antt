@@ -18,7 +18,7 @@ abbrev pub evenly : Option ℕ → List (List (List ℕ)) → Option (List (List
 evenly None rows = None
 evenly (Some width) rows = if list_all (λ (row : List (List ℕ)). length row == width) rows then Some rows else None
 
--- what a reader gives that stands between two records, before these bytes
+-- what a reader between two records returns, where these bytes follow
 abbrev pub unread_at : State → Option ℕ → List ℕ → Unread
 unread_at s width bytes = record { size = length bytes; rows = evenly width (records_from default_config (length bytes + 1) s bytes) }
 
@@ -33,7 +33,7 @@ left_of = source_of (λ s. Some s.now)
 abbrev pub unread_by : Reader (Bor (List ℕ)) → Unread
 unread_by r = unread_in r.state r.expected (left_of r)
 
--- a reader that has read the header, as it was set up, and stands between two records
+-- a reader as it was set up, which has read the header and is between two records
 pub record IsReading (r : Reader (Bor (List ℕ))) : Type 0 where
   pub trim : r.trim ≡ trim.None
   pub first : r.first ≡ true

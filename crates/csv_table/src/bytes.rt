@@ -7,14 +7,14 @@ use std::alloc::Global;
 use std::io;
 use std::io::{ErrorKind, Read};
 
-/// So many bytes are asked for at once.
+/// The size of the buffer: at most this many bytes are read at once.
 const ROOM: usize = 8192;
 
-/// Room for the first bytes, so that they are seldom copied as more come. What is never written to stays untouched.
+/// The first capacity, in bytes, so that they are seldom copied as more come. Memory that is never written to isn't touched.
 const FIRST_ROOM: usize = 1 << 20;
 
-/// All bytes that a reader has left. They come by way of a room of its own, which is filled with zeros once: `fs::read` fills with zeros
-/// all that it then reads over.
+/// Returns all bytes that a reader has left. They are read through a buffer that is filled with zeros once: `fs::read` fills with zeros
+/// all the memory that it then overwrites.
 pub fn read_bytes<R: Read>(alloc: Global, reader: &mut R) -> io::Result<Vec<u8>>
     ensures { IfOk result (λ v. IfSome (R.remaining reader.old) (λ bytes. v.items ≡ bytes)) }
 {
@@ -30,7 +30,7 @@ pub fn read_bytes<R: Read>(alloc: Global, reader: &mut R) -> io::Result<Vec<u8>>
     Err(io::Error::from(ErrorKind::TimedOut))
 }
 
-/// Reads some bytes to the front of a room, and says how many: none where a signal came between. Without a number the reader is at its end.
+/// Reads some bytes to the front of a buffer and returns how many: 0 where a signal interrupted, None where the reader is at its end.
 fn read_part<R: Read>(reader: &mut R, room: &mut [u8]) -> io::Result<Option<usize>>
     requires { length room.old ≡ ROOM }
     ensures within { IfOk result (λ part. IfSome part (λ n. n ≤ length room.new)) }

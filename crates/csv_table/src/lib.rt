@@ -1,5 +1,5 @@
-//! Tables of comma-separated rows of one length under a header: the shared ground floor below the
-//! rooms that read or write tables (journal, records, reports). What a row is `csv` says, with its
+//! Tables of comma-separated rows of one length under a header, which the other crates use to
+//! read or write tables (journal, records, reports). The crate `csv` defines what a row is, with its
 //! defaults; here a text is a table where its rows are of one length and the first is the header.
 #![tactic(auto)]
 
@@ -17,7 +17,7 @@ use csv::{ByteRecord, ErrorKind};
 pub use reader::RowReader;
 pub use text::{TableText, reads_back};
 
-/// Why a text gives no rows.
+/// Why a text is refused as a table.
 #[derive(Clone, Copy, Debug, PartialEq, Eq)]
 pub enum TableError {
     /// Its rows are not all of one length, or its header is missing or another.

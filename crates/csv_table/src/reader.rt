@@ -12,9 +12,9 @@ use csv::{ByteRecord, Reader, ReaderBuilder};
 use std::alloc::Global;
 use std::marker::Model;
 
-/// The rows under the header of a text, read one at a time. After an error it answers that error.
+/// The rows under the header of a text, read one at a time. After an error each call returns that error again.
 pub struct RowReader<'a> {
-    /// In memory of its own: it has tables and room of 17 KB in place, which would move with whoever has it.
+    /// On the heap: it has tables and a buffer of 17 KB inline, which would be moved with each owner.
     reader: Box<Reader<&'a [u8]>>,
     reach: Reach,
 }
@@ -81,7 +81,7 @@ impl<'a> RowReader<'a> {
         }
     }
 
-    /// Reads the next row. Without one, at the end, `row` means nothing.
+    /// Reads the next row into `row` and returns whether there was one. At the end the contents of `row` are unspecified.
     #[inline(always)]
     pub fn next(&mut self, row: &mut ByteRecord) -> Result<bool, TableError>
         // A row is the first of those that were left.

@@ -9,12 +9,12 @@ use csv::{Writer, WriterBuilder};
 use std::alloc::{AllocError, Global};
 use std::marker::Model;
 
-/// Room for the first rows, in bytes, so that a text is seldom copied as it grows. What is never written to stays untouched.
+/// The first capacity, in bytes, so that a text is seldom copied as it grows. Memory that is never written to isn't touched.
 const FIRST_ROOM: usize = 1 << 20;
 
 /// The text of a table, written row by row under its header. After a failure there is no text.
 pub struct TableText {
-    /// In memory of its own: it has room for 8 KB in place, which would move with whoever has it.
+    /// On the heap: it has a buffer of 8 KB inline, which would be moved with each owner.
     writer: Box<Writer<Vec<u8>>>,
     width: usize,
     failed: bool,

@@ -5,8 +5,8 @@ use Rattle.sip_reader.specs.Texts.{line_number_max}
 use Rattle.journal_table.specs.Entry.{Entry}
 use Rattle.journal_table.specs.declared.TheConstants.{CONNECTION_LIMIT}
 use Rattle.journal_table.specs.declared.line.Line.TheInside.{Inside}
-use Rattle.journal_table.specs.declared.line.Texts.{Texts}
-use Rattle.journal_table.specs.declared.line.Texts.TheVariants.{Lent, Own}
+use Rattle.journal_table.specs.declared.line.LineTexts.{LineTexts}
+use Rattle.journal_table.specs.declared.line.LineTexts.TheVariants.{Lent, Own}
 
 abbrev pub comma : ℕ
 comma = 44
@@ -16,20 +16,20 @@ abbrev pub joined : List ℕ → List ℕ → List ℕ → List ℕ
 joined connection request response = connection ++ comma ∷ (request ++ comma ∷ response)
 
 -- in the journal's own bytes, or in a copy
-abbrev pub text_of : Texts → List ℕ
+abbrev pub text_of : LineTexts → List ℕ
 text_of (Lent connection request bytes) = bytes.now
 text_of (Own own) = own.value.bytes.items
 
-abbrev pub connection_len : Texts → ℕ
+abbrev pub connection_len : LineTexts → ℕ
 connection_len (Lent connection request bytes) = connection
 connection_len (Own own) = own.value.connection_len
 
-abbrev pub request_len : Texts → ℕ
+abbrev pub request_len : LineTexts → ℕ
 request_len (Lent connection request bytes) = request
 request_len (Own own) = own.value.request_len
 
 -- where these three texts are
-pub record AreTexts (texts : Texts) (connection request response : List ℕ) : Type 0 where
+pub record AreTexts (texts : LineTexts) (connection request response : List ℕ) : Type 0 where
   pub joins : text_of texts ≡ joined connection request response
   pub first : connection_len texts ≡ length connection
   pub second : request_len texts ≡ length request

@@ -22,7 +22,7 @@ use std::marker::Model;
 /// without quotes, a line borrows its texts from there.
 pub struct Line<'t> {
     number: u64,
-    texts: Texts<'t>,
+    texts: LineTexts<'t>,
 }
 
 impl Drop for Line<'_> {
@@ -35,8 +35,8 @@ impl Drop for Line<'_> {
 }
 
 /// Where the three texts of a line are, with a comma between, and how long the first two are. Lines are stored until the run ends,
-/// and nearly all are lent: so the lengths of these take five bytes.
-enum Texts<'t> {
+/// and nearly all are borrowed: so the lengths of these take five bytes.
+enum LineTexts<'t> {
     /// In the bytes of the journal.
     Lent {
         connection_len: u8,
@@ -47,15 +47,15 @@ enum Texts<'t> {
     Own(Box<OwnTexts>),
 }
 
-impl Drop for Texts<'_> {
+impl Drop for LineTexts<'_> {
     fn drop(self) {
         match self {
-            Texts::Lent {
+            LineTexts::Lent {
                 connection_len: _,
                 request_len: _,
                 bytes: _,
             } => {}
-            Texts::Own(_) => {}
+            LineTexts::Own(_) => {}
         }
     }
 }
@@ -89,8 +89,8 @@ impl<'t> Model for Line<'t> {
     ghost invariant = { IsLaidOut };
 }
 
-impl<'t> Texts<'t> {
-    /// The texts of the next row. They are lent where the journal has them without quotes and their lengths fit.
+impl<'t> LineTexts<'t> {
+    /// The texts of the next row. They are borrowed where the journal has them without quotes and their lengths fit.
     fn of(
         alloc: Global,
         rows: &mut RowTexts<'t>,
@@ -98,19 +98,19 @@ impl<'t> Texts<'t> {
         connection: &[u8],
         request: &[u8],
         response: &[u8],
-    ) -> Result<Texts<'t>, AllocError>
+    ) -> Result<LineTexts<'t>, AllocError>
         ensures { IfOk result (λ texts. AreTexts texts connection.now request.now response.now) }
     {
         let Some(bytes) = rows.next(number, connection, request, response) else {
-            return Texts::own(alloc, connection, request, response);
+            return LineTexts::own(alloc, connection, request, response);
         };
         match (u8::try_from(connection.len()), u32::try_from(request.len())) {
-            (Ok(connection_len), Ok(request_len)) => Ok(Texts::Lent {
+            (Ok(connection_len), Ok(request_len)) => Ok(LineTexts::Lent {
                 connection_len,
                 request_len,
                 bytes,
             }),
-            _ => Texts::own(alloc, connection, request, response),
+            _ => LineTexts::own(alloc, connection, request, response),
         }
     }
 
@@ -120,7 +120,7 @@ impl<'t> Texts<'t> {
         connection: &[u8],
         request: &[u8],
         response: &[u8],
-    ) -> Result<Texts<'t>, AllocError>
+    ) -> Result<LineTexts<'t>, AllocError>
         ensures { IfOk result (λ texts. AreTexts texts connection.now request.now response.now) }
     {
         let own = OwnTexts {
@@ -129,7 +129,7 @@ impl<'t> Texts<'t> {
             bytes: with_commas(alloc, connection, request, response)?,
         };
         match Box::new(alloc, own) {
-            Ok(own) => Ok(Texts::Own(own)),
+            Ok(own) => Ok(LineTexts::Own(own)),
             Err(_) => Err(AllocError),
         }
     }
@@ -138,8 +138,8 @@ impl<'t> Texts<'t> {
         ensures { result.now ≡ text_of self.now }
     {
         match self {
-            Texts::Lent { bytes, .. } => bytes,
-            Texts::Own(own) => own.bytes.as_slice(),
+            LineTexts::Lent { bytes, .. } => bytes,
+            LineTexts::Own(own) => own.bytes.as_slice(),
         }
     }
 
@@ -147,8 +147,8 @@ impl<'t> Texts<'t> {
         ensures { result ≡ connection_len self.now }
     {
         match self {
-            Texts::Lent { connection_len, .. } => usize::from(*connection_len),
-            Texts::Own(own) => own.connection_len,
+            LineTexts::Lent { connection_len, .. } => usize::from(*connection_len),
+            LineTexts::Own(own) => own.connection_len,
         }
     }
 
@@ -156,8 +156,8 @@ impl<'t> Texts<'t> {
         ensures { result ≡ request_len self.now }
     {
         match self {
-            Texts::Lent { request_len, .. } => *request_len as usize,
-            Texts::Own(own) => own.request_len,
+            LineTexts::Lent { request_len, .. } => *request_len as usize,
+            LineTexts::Own(own) => own.request_len,
         }
     }
 }
@@ -189,7 +189,7 @@ impl<'t> Line<'t> {
     /// A line of these texts.
     fn new(
         number: u64,
-        texts: Texts<'t>,
+        texts: LineTexts<'t>,
         connection: &[u8],
         request: &[u8],
         response: &[u8],
@@ -262,7 +262,7 @@ pub(crate) fn read_line<'t>(
         return breaks(JournalRule::Connection);
     }
     let (request, response) = (column(fields, 2), column(fields, 3));
-    let texts = Texts::of(alloc, rows, digits, connection, request, response)?;
+    let texts = LineTexts::of(alloc, rows, digits, connection, request, response)?;
     Ok(Line::new(number, texts, connection, request, response))
 }
 

@@ -13,7 +13,7 @@ use Rattle.read_set.specs.Replay.{before}
 use Rattle.read_set.specs.declared.notes.Note.{Note}
 use Rattle.message_meaning.specs.Rules.{rule_at}
 use Rattle.line_origins.specs.Origins.{IsSeen}
-use Rattle.line_origins.specs.declared.tracer.Seen.{Seen}
+use Rattle.line_origins.specs.declared.tracer.LineTrace.{LineTrace}
 use Rattle.line_cases.specs.Cases.{IsBase, NamesRead, Reads, whole}
 use Rattle.line_cases.specs.Devices.Adding.{Adds, IsNamed, known_of}
 
@@ -34,7 +34,7 @@ had_there has M j rule x None agrees is e = absurd (let clash : Wants j ≡ Done
 had_there has M j rule x (Some r) agrees is e =
     (is ∙ ap (λ v. Some v) (sym (agrees j r is)), subst (λ v. follow has (rule v) ≡ Done x) (sym (agrees j r is)) e)
 
--- what is asked for on the whole map is had, where the rule comes to its end
+-- what is asked for on the whole map is had, where the rule ends
 asked_had : {A : Type 0} (has : Part) (M : Map) (m : Asks A) (x : A) (k : Key) → Agrees has M → follow has m ≡ Done x → IsAsked (whole M) m k → has k ≡ Some (M k)
 asked_had has M (Give y) x k agrees e h = absurd h
 asked_had has M (Ask j rule) x k agrees e (inl same) =
@@ -46,11 +46,11 @@ found None r now h e = cc
 found (Some note) r now h e = let is : note.found ≡ r = cc in h note refl ∙ is
 
 -- the notes are true before the line
-agrees_with : (plan : Planned) (line : ℕ) (s : Seen) → IsSeen plan line s → Agrees (noted s.notes) (before plan line)
+agrees_with : (plan : Planned) (line : ℕ) (s : LineTrace) → IsSeen plan line s → Agrees (noted s.notes) (before plan line)
 agrees_with plan line s seen k r e = found (note_of s.notes k) r (before plan line k) (seen.holds k) e
 
 -- what is noted is read
-noted_read : (plan : Planned) (line : ℕ) (s : Seen) (k : Key) (r : Option Record) → IsSeen plan line s → noted s.notes k ≡ Some r → Reads plan line k
+noted_read : (plan : Planned) (line : ℕ) (s : LineTrace) (k : Key) (r : Option Record) → IsSeen plan line s → noted s.notes k ≡ Some r → Reads plan line k
 noted_read plan line s k r seen e = by (seen.asked k)
   where
     by : (noted s.notes k ≡ None) ⊎ IsAsked (noted s.notes) (rule_at plan line) k → Reads plan line k
@@ -58,19 +58,19 @@ noted_read plan line s k r seen e = by (seen.asked k)
     by (inr asked) = asked_whole (noted s.notes) (before plan line) (rule_at plan line) k (agrees_with plan line s seen) asked
 
 -- a key is as it was known, or was added
-abbrev Added : Planned → ℕ → Seen → Entries → Key → Type 0
+abbrev Added : Planned → ℕ → LineTrace → Entries → Key → Type 0
 Added plan line s entries k =
     (record_at entries k ≡ known_of (noted s.notes) k) ⊎ ((known_of (noted s.notes) k ≡ None) × IsNamed s.notes k × (is_some (before plan line k) ≡ true))
 
-read_there : (plan : Planned) (line : ℕ) (s : Seen) (entries : Entries) (k : Key) → IsSeen plan line s → Reads plan line k → known_of (noted s.notes) k ≡ before plan line k
+read_there : (plan : Planned) (line : ℕ) (s : LineTrace) (entries : Entries) (k : Key) → IsSeen plan line s → Reads plan line k → known_of (noted s.notes) k ≡ before plan line k
 read_there plan line s entries k seen asked =
     ap (λ o. unwrap_or o None) (asked_had (noted s.notes) (before plan line) (rule_at plan line) seen.all.0 k (agrees_with plan line s seen) seen.all.1 asked)
 
-reads_kept : (plan : Planned) (line : ℕ) (s : Seen) (entries : Entries) (k : Key) → IsSeen plan line s → Reads plan line k → Added plan line s entries k → record_at entries k ≡ before plan line k
+reads_kept : (plan : Planned) (line : ℕ) (s : LineTrace) (entries : Entries) (k : Key) → IsSeen plan line s → Reads plan line k → Added plan line s entries k → record_at entries k ≡ before plan line k
 reads_kept plan line s entries k seen asked (inl e) = e ∙ read_there plan line s entries k seen asked
 reads_kept plan line s entries k seen asked (inr e) = absurd (let clash : false ≡ true = ap (λ (o : Option Record). is_some o) (sym e.0 ∙ read_there plan line s entries k seen asked) ∙ e.2 in cc)
 
-nothing_else : (plan : Planned) (line : ℕ) (s : Seen) (entries : Entries) (k : Key) (o : Option (Option Record)) → IsSeen plan line s → is_some (record_at entries k) ≡ true
+nothing_else : (plan : Planned) (line : ℕ) (s : LineTrace) (entries : Entries) (k : Key) (o : Option (Option Record)) → IsSeen plan line s → is_some (record_at entries k) ≡ true
     → noted s.notes k ≡ o → Added plan line s entries k → Reads plan line k ⊎ NamesRead plan line k
 nothing_else plan line s entries k (Some r) seen there is (inl e) = inl (noted_read plan line s k r seen is)
 nothing_else plan line s entries k None seen there is (inl e) =
@@ -80,7 +80,7 @@ nothing_else plan line s entries k o seen there is (inr e) =
     inr (named.0, named.1, noted_read plan line s named.0 (Some named.1) seen named.2, agrees_with plan line s seen named.0 (Some named.1) named.2, named.3)
 
 -- a base made of what was read, to which what that refers to was added
-pub is_base : (plan : Planned) (line : ℕ) (s : Seen) (entries : Entries) → IsSeen plan line s
+pub is_base : (plan : Planned) (line : ℕ) (s : LineTrace) (entries : Entries) → IsSeen plan line s
     → Adds (IsNamed s.notes) (before plan line) (known_of (noted s.notes)) (record_at entries) → IsBase plan line entries
 is_base plan line s entries seen adds = record {
   read = λ k asked. reads_kept plan line s entries k seen asked (adds k);

@@ -34,7 +34,7 @@ refused_none faults.Memory due o n fails out = n refl
 pub is_refused : (c : LineCase) (fault : Fault) → IsOneThread c.inputs (Err fault) → (fault ≡ faults.Memory → ⊥) → Replays c → ⊥
 is_refused c fault fails n again = refused_none fault (judgement c.inputs) again.0 n fails again.1
 
--- answers that a comparison told apart
+-- answers that a comparison found to differ
 pub told_apart : (b : Bool) (xs ys : List ℕ) → b ≡ not (pointwise ◌==◌ xs ys) → b ≡ true → xs ≡ ys → ⊥
 told_apart b xs ys is apart same =
     let clash : true ≡ false = sym apart ∙ is ∙ ap not (ap (λ zs. pointwise ◌==◌ xs zs) (sym same) ∙ nat_list_eq_equiv.refl xs) in cc

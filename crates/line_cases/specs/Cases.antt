@@ -3,8 +3,8 @@ use Rattle.std.specs.Prelude.{◌≡◌, ◌⊎◌, ℕ, true, List, [], ◌∷�
 use Rattle.std.specs.Option.{option_map_or}
 use Rattle.csv_table.specs.Text.{table_text}
 use Rattle.circ_records.specs.Records.{Entries, record_at}
-use Rattle.circ_records.specs.Tables.{texts_of}
-use Rattle.circ_records.specs.Written.{tables_of}
+use Rattle.record_tables.specs.Tables.{texts_of}
+use Rattle.record_tables.specs.Written.{tables_of}
 use Rattle.circ_records.specs.declared.key.Key.{Key}
 use Rattle.circ_records.specs.declared.record.Record.{Record}
 use Rattle.journal_table.specs.Entry.{Entry}

@@ -1,8 +1,8 @@
-//! The base of a case: the records that its line read, and those that these refer to, without what else hangs on them.
+//! The base of a case: the records that its line read, and those that these refer to, but not what only those refer to.
 //!
-//! A patron that was read is whole, so the items and fees on its lists are in the base, these items without their queues. An item or a fee
-//! that was read is whole, so the patrons that it names are there, and on their lists what the base has of them. That is what a base needs to
-//! be coherent.
+//! A patron that was read is copied completely, so the items and fees on its lists are in the base, these items without their queues. An item
+//! or a fee that was read is copied completely, so the patrons that it names are there, and their lists have those items and fees that are in
+//! the base. That is what a base needs to be coherent.
 
 ghost use Rattle.std.specs.Prelude.{◌≡◌, IfOk, OnOk};
 ghost use Rattle.circ_records.specs.Records.{record_at};
@@ -21,7 +21,7 @@ use read_set::{Note, Notes};
 use sip_reader::Id;
 use std::alloc::{AllocError, Global};
 
-/// The records of the base of the line before which a replay stands, of what the line read.
+/// The records of the base of a case, made of what its line read. The replay has stopped before that line.
 pub(crate) fn case_records(
     alloc: Global,
     tracer: &Tracer<'_>,

@@ -1,5 +1,5 @@
-//! Test cases of single lines: the line with its recorded response, the records that it met, and the answer that it has in the whole run. A case
-//! is given out only after a replay of its own files gave that answer. `sip_why` writes them.
+//! Test cases of single lines: the line with its recorded response, the records that it read, and the answer that it has in the whole run. A case
+//! is returned only after a replay of its own files gave that answer. `sip_why` writes them.
 #![tactic(auto)]
 
 mod answers;

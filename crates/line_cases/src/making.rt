@@ -7,9 +7,9 @@ ghost use Rattle.line_cases.specs.Cases.{IsCertified, IsDropped, IsOfLine, Repla
 use crate::answers::answers_of_one;
 use crate::base::case_records;
 use crate::journal::journal_of_one;
-use circ_records::write_records;
 use journal_table::Line;
-use line_origins::{Seen, Tracer};
+use line_origins::{LineTrace, Tracer};
+use record_tables::write_records;
 use replay_run::{Fault, Inputs, Output, one_thread};
 use std::alloc::{AllocError, Global};
 
@@ -29,8 +29,8 @@ impl Drop for LineCase {
     }
 }
 
-/// The case of the line before which a replay stands, under the policy of these bytes; none where a replay of the case answers otherwise than
-/// the whole run, or refuses it. Its base has what the line read and what these records refer to; its journal has the line alone.
+/// The case of the line before which a replay has stopped, under the policy of these bytes. None where a replay of the case gives another answer
+/// than the whole run, or refuses the case. Its base has what the line read and what these records refer to; its journal has the line alone.
 pub fn line_case(
     alloc: Global,
     policy: &[u8],
@@ -55,7 +55,7 @@ fn case_of(
     requires { line.now.number ≡ tracer.now.next }
     ensures { IfOk result (IsOfLine policy.now tracer.now.plan.now line.now) }
 {
-    let Seen {
+    let LineTrace {
         reason: _,
         notes,
         answer,

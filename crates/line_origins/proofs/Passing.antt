@@ -16,14 +16,13 @@ use Rattle.read_set.specs.Replay.{after, one_by}
 use Rattle.read_set.specs.declared.effect.Effect.{Effect}
 use Rattle.read_set.proofs.Following.{settles}
 use Rattle.message_meaning.specs.Rules.{rule_at, rule_by}
-use Rattle.message_meaning.proofs.Whole.{whole}
 use Rattle.line_origins.specs.Origins.{IsGreatest, IsShelf, LastWritersAreGreatest, effect_at, effect_by, last_writer, written_by, writes_at}
-use Rattle.line_origins.specs.declared.shelf.Shelf.{Shelf}
+use Rattle.line_origins.specs.declared.shelf.TracedRecords.{TracedRecords}
 
 -- over a whole map a line's program is what the line does
 whole_by : (plan : Planned) (line : ℕ) (r : Option Reading) (M : Map) → over M (rule_by plan line r) ≡ effect_by plan line r M
 whole_by plan line None M = refl
-whole_by plan line (Some r) M = whole M plan.policy line r
+whole_by plan line (Some r) M = refl
 
 pub effect_whole : (plan : Planned) (line : ℕ) (M : Map) → over M (rule_at plan line) ≡ effect_at plan line M
 unfolding rule_at
@@ -62,7 +61,7 @@ last_greatest plan zero k = λ m h. absurd (omega (arith, h))
 last_greatest plan (suc n) k = next_greatest plan n k (last_writer plan n k) (writes_at plan n k) refl (last_greatest plan n k)
 
 -- the shelf after one line more, by what the line does
-pub passed : (plan : Planned) (n : ℕ) (old new : Shelf) (e : Effect) → IsShelf plan n old → effect_at plan (plan.first + n) (after plan n) ≡ e
+pub passed : (plan : Planned) (n : ℕ) (old new : TracedRecords) (e : Effect) → IsShelf plan n old → effect_at plan (plan.first + n) (after plan n) ≡ e
     → ((k : Key) → record_at new.live k ≡ put e.writes (record_at old.live) k)
     → ((k : Key) → lookup (is_at (key_cmp k)) new.writers.entries ≡ written_by e.writes (plan.first + n) (lookup (is_at (key_cmp k)) old.writers.entries) k)
     → IsShelf plan (suc n) new

@@ -19,9 +19,9 @@ use Rattle.read_set.specs.declared.notes.Name.TheVariants as names
 use Rattle.read_set.specs.declared.notes.Note.{Note}
 use Rattle.message_meaning.specs.Rules.{rule_at}
 use Rattle.line_reasons.specs.Lines.{reason_at}
-use Rattle.line_origins.specs.declared.shelf.Shelf.{Shelf}
-use Rattle.line_origins.specs.declared.tracer.End.{End}
-use Rattle.line_origins.specs.declared.tracer.Seen.{Seen}
+use Rattle.line_origins.specs.declared.shelf.TracedRecords.{TracedRecords}
+use Rattle.line_origins.specs.declared.tracer.TraceEnd.{TraceEnd}
+use Rattle.line_origins.specs.declared.tracer.LineTrace.{LineTrace}
 
 -- WHO WROTE WHAT
 
@@ -52,7 +52,7 @@ abbrev pub LastWritersAreGreatest : Type 0
 LastWritersAreGreatest = (plan : Planned) (count : ℕ) (k : Key) → IsGreatest plan count k (last_writer plan count k)
 
 -- the records after the first lines, of this count, and who wrote them
-pub record IsShelf (plan : Planned) (count : ℕ) (shelf : Shelf) : Type 0 where
+pub record IsShelf (plan : Planned) (count : ℕ) (shelf : TracedRecords) : Type 0 where
   pub records : (k : Key) → record_at shelf.live k ≡ after plan count k
   pub writers : (k : Key) → lookup (is_at (key_cmp k)) shelf.writers.entries ≡ last_writer plan count k
 
@@ -73,19 +73,19 @@ AreSeen records writers notes = (k : Key) (note : Note) → note_of notes k ≡ 
     → (record_at records k ≡ note.found) × (line_of note.name ≡ lookup (is_at (key_cmp k)) writers)
 
 -- where a replay stopped: the records before a line, and who wrote them
-pub record IsEnd (plan : Planned) (line : ℕ) (end : End) : Type 0 where
+pub record IsEnd (plan : Planned) (line : ℕ) (end : TraceEnd) : Type 0 where
   pub records : (k : Key) → record_at end.records k ≡ before plan line k
   pub writers : (k : Key) → lookup (is_at (key_cmp k)) end.writers.entries ≡ last_writer plan (line - plan.first) k
 
 -- what a line read, and why it is answered as it is
-pub record IsSeen (plan : Planned) (line : ℕ) (s : Seen) : Type 0 where
+pub record IsSeen (plan : Planned) (line : ℕ) (s : LineTrace) : Type 0 where
   -- what is noted is so before the line
   pub holds : (k : Key) (note : Note) → note_of s.notes k ≡ Some note → before plan line k ≡ note.found
   -- each name is that of the last line below that wrote the record
   pub names : (k : Key) (note : Note) → note_of s.notes k ≡ Some note → line_of note.name ≡ last_writer plan (line - plan.first) k
   -- nothing is noted but what the line's rule asks for
   pub asked : (k : Key) → (noted s.notes k ≡ None) ⊎ IsAsked (noted s.notes) (rule_at plan line) k
-  -- and all of that: on what is noted the rule comes to its end
+  -- and all of that: on what is noted the rule ends
   pub all : (e : Effect) × (follow (noted s.notes) (rule_at plan line) ≡ Done e)
   pub answer : s.answer ≡ answer_of plan line
   pub reason : s.reason ≡ reason_at plan line (before plan line)

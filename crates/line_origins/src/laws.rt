@@ -2,7 +2,7 @@
 
 ghost use Rattle.line_origins.specs.Origins.{LastWritersAreGreatest};
 
-/// Whoever is named as the last writer of a record wrote it, and no line after it and before the one in hand did.
+/// The line that is named as the last writer of a record wrote it, and no later line below the one in hand did.
 pub fn last_writers_are_greatest()
     ensures { LastWritersAreGreatest }
 {}

@@ -8,4 +8,4 @@ mod shelf;
 mod tracer;
 
 pub use laws::last_writers_are_greatest;
-pub use tracer::{End, Seen, Tracer};
+pub use tracer::{LineTrace, TraceEnd, Tracer};

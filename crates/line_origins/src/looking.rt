@@ -1,17 +1,17 @@
-//! A source that looks at the shelf, and notes what it sees and which line wrote it.
+//! A source that reads the records of a `TracedRecords`, and notes what it read and which line wrote it.
 
 ghost use Rattle.std.specs.Prelude.{◌≡◌, [], None, ⊤};
 ghost use Rattle.read_set.specs.Asks.{follow, Ask, Give, Gains};
 ghost use Rattle.read_set.specs.Notes.{note_of, noted};
 ghost use Rattle.read_set.specs.Stops.{Follows};
 
-use crate::shelf::Shelf;
+use crate::shelf::TracedRecords;
 use circ_records::{Key, Record};
 use read_set::{Note, NotedRecord, Notes, OneByOne, Source, Stop};
 use std::alloc::Global;
 use std::marker::{Brand, PhantomData};
 
-/// Which shelf it is. Each use picks it.
+/// Names one shelf in a type, for contracts alone. Each use chooses a name.
 pub trait ShelfName {
     ghost use Rattle.std.specs.Prelude.{ℕ, List};
     ghost use Rattle.circ_records.specs.Records.{Entries};
@@ -30,10 +30,10 @@ impl ShelfName for Brand {
     ghost writers = { [] };
 }
 
-/// What was looked at. Its type names the shelf, so what is noted stays true whatever is read.
+/// A shelf, and what was read of it. Its type names the shelf, so what is noted stays true whatever is read.
 #[derive(Drop)]
 pub struct Looking<'s, N: ShelfName> {
-    shelf: &'s Shelf,
+    shelf: &'s TracedRecords,
     notes: Notes,
     of: PhantomData<N>,
     ghost named: { (shelf.now.live ≡ N.records) × (shelf.now.writers.entries ≡ N.writers) },
@@ -44,7 +44,7 @@ ghost use Rattle.line_origins.specs.Origins.{AreSeen};
 
 impl<'s, N: ShelfName> Looking<'s, N> {
     /// Nothing is noted yet.
-    pub fn new(alloc: Global, shelf: &'s Shelf) -> Looking<'s, N>
+    pub fn new(alloc: Global, shelf: &'s TracedRecords) -> Looking<'s, N>
         requires records { shelf.now.live ≡ N.records }
         requires writers { shelf.now.writers.entries ≡ N.writers }
         ensures { result.notes ≡ [] }

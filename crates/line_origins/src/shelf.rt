@@ -1,4 +1,4 @@
-//! The records as they are, and which line wrote each last.
+//! The records after some of the lines, and which line wrote each last.
 
 ghost use Rattle.std.specs.Prelude.{◌≡◌, ◌≤◌, ◌-◌, ◌+◌, IfOk};
 ghost use Rattle.std.specs.BTreeMap.{is_at};
@@ -17,17 +17,17 @@ use std::collections::BTreeMap;
 
 /// The records after the lines so far, and of each key that these wrote the number of the line that wrote it last.
 #[derive(Drop)]
-pub struct Shelf {
+pub struct TracedRecords {
     pub(crate) live: Live,
     pub(crate) writers: BTreeMap<Key, u64>,
 }
 
-impl Shelf {
+impl TracedRecords {
     /// The records before the first line, copied.
-    pub fn over(alloc: Global, plan: &Plan) -> Result<Shelf, AllocError>
+    pub fn over(alloc: Global, plan: &Plan) -> Result<TracedRecords, AllocError>
         ensures { IfOk result (IsShelf plan.now 0) }
     {
-        Ok(Shelf {
+        Ok(TracedRecords {
             live: Live::over(alloc, plan)?,
             writers: BTreeMap::new(alloc),
         })
@@ -56,18 +56,18 @@ impl Shelf {
         }
     }
 
-    /// Does the line of a number. Out of memory, the records are lost.
-    pub fn pass(self, alloc: Global, plan: &Plan, line: u64) -> Result<Shelf, AllocError>
+    /// Replays the line of this number, which is the next one. Out of memory, the records are lost.
+    pub fn pass(self, alloc: Global, plan: &Plan, line: u64) -> Result<TracedRecords, AllocError>
         requires line { plan.now.first ≤ line }
         requires shelf { IsShelf plan.now (line - plan.now.first) self }
         ensures { IfOk result (IsShelf plan.now (line + 1 - plan.now.first)) }
     {
-        let Shelf { mut live, writers } = self;
+        let TracedRecords { mut live, writers } = self;
         match perform(alloc, plan, line, &mut live) {
             Ok(Effect { writes, answer: _ }) => {
                 let writers = mark(writers, writes.as_slice(), line)?;
                 live.put(writes)?;
-                Ok(Shelf { live, writers })
+                Ok(TracedRecords { live, writers })
             }
             Err(Stop::Unnoted(_)) => unreachable!(),
             Err(Stop::Memory) => Err(AllocError),

@@ -16,7 +16,7 @@ ghost use Rattle.read_set.specs.Replay.{before, one_at};
 ghost use Rattle.read_set.specs.declared.effect.Effect.{Effect};
 
 use crate::looking::{Looking, ShelfName};
-use crate::shelf::Shelf;
+use crate::shelf::TracedRecords;
 use circ_records::{Key, Record, Records};
 use line_reasons::{Reason, reason};
 use message_meaning::perform_one_by_one;
@@ -26,19 +26,19 @@ use std::alloc::{AllocError, Global};
 use std::collections::BTreeMap;
 use std::marker::Brand;
 
-/// The replay of a plan by one thread, before one of its lines.
+/// The replay of a plan by one thread, stopped before one of its lines.
 #[derive(Drop)]
 pub struct Tracer<'p> {
     plan: &'p Plan,
     next: u64,
-    shelf: Shelf,
+    shelf: TracedRecords,
     ghost begun: { plan.now.first ≤ next },
     ghost comes: { IsShelf plan.now (next - plan.now.first) shelf },
 }
 
 /// What a line read and answered.
 #[derive(Drop)]
-pub struct Seen {
+pub struct LineTrace {
     /// Why it is answered as it is, where it has an answer.
     pub reason: Option<Reason>,
     /// What it read, in the order of reading: each record with the last line below that wrote it, or the base.
@@ -48,12 +48,12 @@ pub struct Seen {
 
 /// Where a replay stopped: the records, and of each key that was written the number of the line that wrote it last.
 #[derive(Drop)]
-pub struct End {
+pub struct TraceEnd {
     pub records: Records,
     writers: BTreeMap<Key, u64>,
 }
 
-impl End {
+impl TraceEnd {
     /// The line that wrote the record at a key last, where one did.
     pub fn writer(&self, key: &Key) -> Option<u64>
         ensures { result ≡ lookup (is_at (key_cmp key.now)) self.now.writers.entries }
@@ -63,13 +63,13 @@ impl End {
 }
 
 impl<'p> Tracer<'p> {
-    /// Before the first line.
+    /// The replay that has stopped before the first line.
     pub fn new(alloc: Global, plan: &'p Plan) -> Result<Tracer<'p>, AllocError>
         ensures plan { IfOk result (λ t. t.plan.now ≡ plan.now) }
         ensures next { IfOk result (λ t. t.next ≡ plan.now.first) }
     {
         Ok(Tracer {
-            shelf: Shelf::over(alloc, plan)?,
+            shelf: TracedRecords::over(alloc, plan)?,
             plan,
             next: plan.first(),
         })
@@ -82,14 +82,14 @@ impl<'p> Tracer<'p> {
         self.plan
     }
 
-    /// The number of the line before which it is.
+    /// The number of the line before which it has stopped.
     pub fn next(&self) -> u64
         ensures { result ≡ self.now.next }
     {
         self.next
     }
 
-    /// The same before a later line. Out of memory, the replay is lost.
+    /// Goes on to a later line, and stops before it. Out of memory, the replay is lost.
     pub fn pass_to(self, alloc: Global, line: u64) -> Result<Tracer<'p>, AllocError>
         requires { self.next ≤ line }
         ensures plan { IfOk result (λ t. t.plan.now ≡ self.entry.plan.now) }
@@ -103,7 +103,7 @@ impl<'p> Tracer<'p> {
         Ok(tracer)
     }
 
-    /// The same before the next line.
+    /// Goes on by one line.
     fn pass(self, alloc: Global) -> Result<Tracer<'p>, AllocError>
         requires { self.next + 1 < 2 ^ 64 }
         ensures plan { IfOk result (λ t. t.plan.now ≡ self.entry.plan.now) }
@@ -118,8 +118,8 @@ impl<'p> Tracer<'p> {
         })
     }
 
-    /// The records before the line, and who wrote them.
-    pub fn into_end(self, alloc: Global) -> Result<End, AllocError>
+    /// The records before the line, and which lines wrote them.
+    pub fn into_end(self, alloc: Global) -> Result<TraceEnd, AllocError>
         ensures { IfOk result (IsEnd self.entry.plan.now self.entry.next) }
     {
         let Tracer {
@@ -127,8 +127,8 @@ impl<'p> Tracer<'p> {
             next: _,
             shelf,
         } = self;
-        let Shelf { live, writers } = shelf;
-        Ok(End {
+        let TracedRecords { live, writers } = shelf;
+        Ok(TraceEnd {
             records: live.into_records(alloc)?,
             writers,
         })
@@ -142,13 +142,13 @@ impl<'p> Tracer<'p> {
     }
 
     /// What the line reads and answers.
-    pub fn see(&self, alloc: Global) -> Result<Seen, AllocError>
+    pub fn see(&self, alloc: Global) -> Result<LineTrace, AllocError>
         ensures { IfOk result (IsSeen self.now.plan.now self.now.next) }
     {
         let looked = look::<Brand>(alloc, self.plan, self.next, &self.shelf)?;
         let reason = tell::<Brand>(alloc, self.plan, self.next, &self.shelf)?;
         let (notes, answer) = looked;
-        Ok(Seen {
+        Ok(LineTrace {
             reason,
             notes,
             answer,
@@ -161,7 +161,7 @@ fn look<N: ShelfName>(
     alloc: Global,
     plan: &Plan,
     line: u64,
-    shelf: &Shelf,
+    shelf: &TracedRecords,
 ) -> Result<(Notes, Option<Answer>), AllocError>
     requires records { shelf.now.live ≡ N.records }
     requires writers { shelf.now.writers.entries ≡ N.writers }
@@ -182,7 +182,7 @@ fn tell<N: ShelfName>(
     alloc: Global,
     plan: &Plan,
     line: u64,
-    shelf: &Shelf,
+    shelf: &TracedRecords,
 ) -> Result<Option<Reason>, AllocError>
     requires records { shelf.now.live ≡ N.records }
     requires writers { shelf.now.writers.entries ≡ N.writers }

@@ -1,13 +1,12 @@
 -- What is found in a source.
-use Rattle.std.proofs.Common.{◌≡◌, ℕ, List, [], Option, Some, None, Result, IfOk, refl, ◌∙◌, ap, ap₂}
+use Rattle.std.proofs.Common.{◌≡◌, ℕ, List, [], Option, Some, None, Result, Ok, Err, IfOk, refl, ◌∙◌, ap, ap₂}
 use Rattle.circ_policy.specs.Terms.{Terms}
 use Rattle.circ_records.specs.Records.{Entries}
 use Rattle.circ_records.specs.declared.record.Fee.{Fee}
 use Rattle.circ_records.specs.declared.record.Loan.{Loan}
 use Rattle.sip_reader.specs.declared.request.FeePaid.{FeePaid}
-use Rattle.loan_meaning.specs.Lookups.{patron_at, item_at, fee_at, borrower_at}
-use Rattle.loan_meaning.specs.Owing.{owed_at}
-use Rattle.loan_meaning.proofs.Whole.{meant, owes}
+use Rattle.read_set.specs.Lookups.{patron_at, item_at, fee_at, borrower_at}
+use Rattle.read_set.specs.Owing.{owed_at}
 use Rattle.read_set.specs.Asks.{Asks, Gains, follow, over}
 use Rattle.read_set.specs.Checkins.{loan_of}
 use Rattle.read_set.specs.Fees.{owed}
@@ -17,8 +16,10 @@ use Rattle.read_set.specs.Stops.{Follows}
 use Rattle.read_set.specs.declared.known.Article.{Article}
 use Rattle.read_set.specs.declared.known.Member.{Member}
 use Rattle.read_set.specs.declared.source.Stop.{Stop}
+use Rattle.read_set.proofs.Following.{meant}
+use Rattle.read_set.proofs.Overs.{owes}
 use Rattle.line_reasons.specs.Found.{asked_in, owed_by, owing_by, owing_in, returned_in}
-use Rattle.line_reasons.specs.declared.finding.Asked.{Asked}
+use Rattle.line_reasons.specs.declared.finding.Parties.{Parties}
 use Rattle.line_reasons.specs.declared.finding.Owing.{Owing}
 use Rattle.line_reasons.specs.declared.finding.Returned.{Returned}
 
@@ -26,15 +27,15 @@ use Rattle.line_reasons.specs.declared.finding.Returned.{Returned}
 
 pub patron_means : (has : Part) (p : Terms) (id : List ℕ) (r : Result (Option Member) Stop) → Follows r (follow has (patron_at p id)) → IfOk r (λ m. (M : Map) → Agrees has M → m ≡ patron_in p M id)
 unfolding patron_at
-patron_means has p id r = meant has (patron_at p id) (λ M. patron_in p M id) r (λ M. refl)
+patron_means has p id r = meant has (patron_at p id) r
 
 pub item_means : (has : Part) (p : Terms) (id : List ℕ) (r : Result (Option Article) Stop) → Follows r (follow has (item_at p id)) → IfOk r (λ a. (M : Map) → Agrees has M → a ≡ item_in p M id)
 unfolding item_at
-item_means has p id r = meant has (item_at p id) (λ M. item_in p M id) r (λ M. refl)
+item_means has p id r = meant has (item_at p id) r
 
 pub fee_means : (has : Part) (id : List ℕ) (r : Result (Option Fee) Stop) → Follows r (follow has (fee_at id)) → IfOk r (λ f. (M : Map) → Agrees has M → f ≡ fee_in M id)
 unfolding fee_at
-fee_means has id r = meant has (fee_at id) (λ M. fee_in M id) r (λ M. refl)
+fee_means has id r = meant has (fee_at id) r
 
 borrower_whole : (M : Map) (p : Terms) (loan : Option Loan) → over M (borrower_at p loan) ≡ borrower_in p M loan
 unfolding borrower_at patron_at
@@ -43,10 +44,12 @@ borrower_whole M p (Some loan) = refl
 
 pub borrower_means : (has : Part) (p : Terms) (loan : Option Loan) (r : Result (Option Member) Stop) → Follows r (follow has (borrower_at p loan))
     → IfOk r (λ m. (M : Map) → Agrees has M → m ≡ borrower_in p M loan)
-borrower_means has p loan r = meant has (borrower_at p loan) (λ M. borrower_in p M loan) r (λ M. borrower_whole M p loan)
+borrower_means has p loan (Ok x) h = λ M a. meant has (borrower_at p loan) (Ok x) h M a ∙ borrower_whole M p loan
+borrower_means has p loan (Err stop) h = tt
 
 pub owed_means : (has : Part) (w : Entries) (fees : List (List ℕ)) (r : Result ℕ Stop) → w ≡ [] → Follows r (follow has (owed_at w fees)) → IfOk r (λ o. (M : Map) → Agrees has M → o ≡ owed M fees)
-owed_means has w fees r none h = meant has (owed_at [] fees) (λ M. owed M fees) r (λ M. owes M [] fees) (rw none at h)
+owed_means has w fees (Ok x) none h = λ M a. meant has (owed_at [] fees) (Ok x) (rw none at h) M a ∙ owes M [] fees
+owed_means has w fees (Err stop) none h = tt
 
 -- what was had stays
 pub gains_grow : {A P : Type 0} (old new : Part) (m : Asks A) → Gains P old new m → Grows old new
@@ -58,7 +61,7 @@ agrees_before old new M grows a = λ k r e. a k r (grows k r e)
 
 -- what was found one after the other
 
-abbrev pub asked : Option Member → Option Article → ℕ → Asked
+abbrev pub asked : Option Member → Option Article → ℕ → Parties
 asked member article owes = record { member = member; article = article; owes = owes }
 
 pub asked_is : (p : Terms) (patron item : List ℕ) (M : Map) (member : Option Member) (article : Option Article) (owes : ℕ) → member ≡ patron_in p M patron → article ≡ item_in p M item

@@ -8,7 +8,7 @@ use Rattle.read_set.specs.Known.{borrower_in, item_in, patron_in}
 use Rattle.read_set.specs.Maps.{Map}
 use Rattle.read_set.specs.Payments.{meant}
 use Rattle.read_set.specs.declared.known.Member.{Member}
-use Rattle.line_reasons.specs.declared.finding.Asked.{Asked}
+use Rattle.line_reasons.specs.declared.finding.Parties.{Parties}
 use Rattle.line_reasons.specs.declared.finding.Owing.{Owing}
 use Rattle.line_reasons.specs.declared.finding.Returned.{Returned}
 
@@ -18,7 +18,7 @@ owed_by M None = 0
 owed_by M (Some member) = owed M member.patron.fees
 
 -- the patron and the item of a request
-abbrev pub asked_in : Terms → List ℕ → List ℕ → Map → Asked
+abbrev pub asked_in : Terms → List ℕ → List ℕ → Map → Parties
 asked_in p patron item M = record { member = patron_in p M patron; article = item_in p M item; owes = owed_by M (patron_in p M patron) }
 
 -- the item that came back, and whoever has it

@@ -19,7 +19,7 @@ use Rattle.read_set.specs.Renewals.{renewals_of}
 use Rattle.read_set.specs.declared.known.Article.{Article}
 use Rattle.read_set.specs.declared.known.Member.{Member}
 use Rattle.read_set.specs.declared.verdict.LoanRequest.{LoanRequest}
-use Rattle.line_reasons.specs.declared.finding.Asked.{Asked}
+use Rattle.line_reasons.specs.declared.finding.Parties.{Parties}
 use Rattle.line_reasons.specs.declared.finding.Owing.{Owing}
 use Rattle.line_reasons.specs.declared.finding.Returned.{Returned}
 use Rattle.line_reasons.specs.declared.names.Reason.{Reason}
@@ -64,7 +64,7 @@ checkout_reason_known q owes (Some member) (Some article) =
     if q.renewal && lent_to q.patron article.item.loan then renewal_reason owes (by_checkout q) member article
     else lending_reason owes (by_checkout q) member article
 
-abbrev pub checkout_reason : Checkout → Asked → Reason
+abbrev pub checkout_reason : Checkout → Parties → Reason
 checkout_reason q asked = checkout_reason_known q asked.owes asked.member asked.article
 
 abbrev pub renew_reason_known : Renew → ℕ → Option Member → Option Article → Reason
@@ -72,7 +72,7 @@ renew_reason_known q owes None article = reasons.UnknownPatron
 renew_reason_known q owes (Some member) None = reasons.UnknownItem
 renew_reason_known q owes (Some member) (Some article) = renewal_reason owes (by_renew q) member article
 
-abbrev pub renew_reason : Renew → Asked → Reason
+abbrev pub renew_reason : Renew → Parties → Reason
 renew_reason q asked = renew_reason_known q asked.owes asked.member asked.article
 
 -- CHECKIN (message 09)
@@ -115,7 +115,7 @@ hold_reason_known q None article = reasons.UnknownPatron
 hold_reason_known q (Some member) None = reasons.UnknownItem
 hold_reason_known q (Some member) (Some article) = queue_reason q.mode q.patron member.patron.blocked article.item
 
-abbrev pub hold_reason : HoldRequest → Asked → Reason
+abbrev pub hold_reason : HoldRequest → Parties → Reason
 hold_reason q asked = hold_reason_known q asked.member asked.article
 
 -- FEE PAID (message 37)

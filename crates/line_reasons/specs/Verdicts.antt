@@ -1,9 +1,10 @@
 -- How the tests of a loan and of a renewal end, by the name of the first one that holds; and which names go with a yes.
-use Rattle.std.specs.Prelude.{◌≡◌, Bool, true, false}
-use Rattle.read_set.specs.Checkouts.{lending_verdict}
+use Rattle.std.specs.Prelude.{◌≡◌, Bool, true, false, []}
+use Rattle.read_set.specs.Asks.{over}
+use Rattle.read_set.specs.Checkouts.{lending_tests}
 use Rattle.read_set.specs.Fees.{owed}
 use Rattle.read_set.specs.Maps.{Map}
-use Rattle.read_set.specs.Renewals.{renewal_verdict}
+use Rattle.read_set.specs.Renewals.{renewal_tests}
 use Rattle.read_set.specs.declared.known.Article.{Article}
 use Rattle.read_set.specs.declared.known.Member.{Member}
 use Rattle.read_set.specs.declared.verdict.LoanRequest.{LoanRequest}
@@ -22,8 +23,8 @@ verdict_of _ = verdicts.Refused
 -- the reason of a loan or of a renewal ends its tests as the rule's verdict
 abbrev pub ReasonsDecideVerdicts : Type 0
 ReasonsDecideVerdicts = (M : Map) (a : LoanRequest) (member : Member) (article : Article)
-    → (lending_verdict M a member article ≡ verdict_of (lending_reason (owed M member.patron.fees) a member article))
-    × (renewal_verdict M a member article ≡ verdict_of (renewal_reason (owed M member.patron.fees) a member article))
+    → (over M (lending_tests a member article) ≡ verdict_of (lending_reason (owed M member.patron.fees) a member article))
+    × (over M (renewal_tests [] a member article) ≡ verdict_of (renewal_reason (owed M member.patron.fees) a member article))
 
 -- the reasons that go with a yes
 abbrev pub grants : Reason → Bool

@@ -17,7 +17,7 @@ use std::alloc::Global;
 
 /// The patron and the item of a request, where they are known, and what the patron owes in hundredths.
 #[derive(Drop)]
-pub struct Asked {
+pub struct Parties {
     pub member: Option<Member>,
     pub article: Option<Article>,
     pub owes: u128,
@@ -123,14 +123,14 @@ pub fn find_asked<S: Source>(
     patron: &Id,
     item: &Id,
     source: &mut S,
-) -> Result<Asked, Stop>
+) -> Result<Parties, Stop>
     ensures means { IfOk result (λ f. (M : Map) → Agrees (S.has source.new) M → f ≡ asked_in policy.now patron.now item.now M) }
     ensures keeps { Grows (S.has source.old) (S.has source.new) }
 {
     let member = find_patron(alloc, policy, source, patron)?;
     let article = find_item(alloc, policy, source, item)?;
     let owes = find_debt(alloc, &member, source)?;
-    Ok(Asked {
+    Ok(Parties {
         member,
         article,
         owes,

@@ -3,7 +3,7 @@
 ghost use Rattle.std.specs.Prelude.{◌≡◌};
 ghost use Rattle.line_reasons.specs.Reasons.{entry_reason, hold_reason, item_reason, patron_reason, place_reason, queue_reason};
 
-use crate::finding::Asked;
+use crate::finding::Parties;
 use crate::names::Reason;
 use circ_records::{Item, QUEUE_MAX};
 use loan_meaning::{has_lent_to, waits};
@@ -50,7 +50,7 @@ fn reason_of_queue(mode: HoldMode, patron: &Id, blocked: bool, item: &Item) -> R
 }
 
 /// Why a hold (message 15) is answered as it is.
-pub fn reason_of_hold(request: &HoldRequest, asked: &Asked) -> Reason
+pub fn reason_of_hold(request: &HoldRequest, asked: &Parties) -> Reason
     ensures { result ≡ hold_reason request.now asked.now }
 {
     match (&asked.member, &asked.article) {

@@ -3,7 +3,7 @@
 ghost use Rattle.line_reasons.specs.Verdicts.{ReasonsDecideVerdicts};
 ghost use Rattle.line_reasons.specs.Laws.{ReasonsGoWithAnswers};
 
-/// The tests of a loan and of a renewal end as the name of the first one that holds says: so no name is of another test than the rule's.
+/// The reason of a loan or a renewal gives the verdict of the rule's tests: made, refused, or refused since a rental isn't agreed to.
 pub fn reasons_decide_verdicts()
     ensures { ReasonsDecideVerdicts }
 {}

@@ -4,7 +4,7 @@ ghost use Rattle.std.specs.Prelude.{◌≡◌, ◌&&◌, ◌||◌, IfOk};
 ghost use Rattle.line_reasons.specs.Reasons.{checkout_reason, lending_reason, owing_reason, renew_reason, renewal_reason};
 ghost use Rattle.read_set.specs.Loans.{lent_to};
 
-use crate::finding::Asked;
+use crate::finding::Parties;
 use crate::names::Reason;
 use circ_records::Loan;
 use loan_meaning::{
@@ -102,7 +102,7 @@ fn is_renewal(request: &Checkout, article: &Article) -> bool
 }
 
 /// Why a checkout (message 11) is made or refused.
-pub fn reason_of_checkout(request: &Checkout, asked: &Asked) -> Result<Reason, AllocError>
+pub fn reason_of_checkout(request: &Checkout, asked: &Parties) -> Result<Reason, AllocError>
     ensures { IfOk result (λ r. r ≡ checkout_reason request.now asked.now) }
 {
     match (&asked.member, &asked.article) {
@@ -120,7 +120,7 @@ pub fn reason_of_checkout(request: &Checkout, asked: &Asked) -> Result<Reason, A
 }
 
 /// Why a renewal (message 29) is made or refused.
-pub fn reason_of_renew(request: &Renew, asked: &Asked) -> Result<Reason, AllocError>
+pub fn reason_of_renew(request: &Renew, asked: &Parties) -> Result<Reason, AllocError>
     ensures { IfOk result (λ r. r ≡ renew_reason request.now asked.now) }
 {
     match (&asked.member, &asked.article) {

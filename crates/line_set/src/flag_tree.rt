@@ -96,7 +96,7 @@ impl FlagTree {
         }
     }
 
-    /// Takes a position out.
+    /// Removes a position.
     pub fn remove(&mut self, position: usize)
         requires { position < length self.old }
         ensures { self.new ≡ slice_set self.old position false }

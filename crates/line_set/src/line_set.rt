@@ -9,7 +9,7 @@ use std::alloc::{AllocError, Global};
 use std::marker::Model;
 
 /// Some of the positions from 0 up to a limit. One of them may be held apart from the tree: most sets of lines have one position at a time, and
-/// such a set never goes up and down the tree.
+/// changes of such a set leave the tree as it is.
 pub struct LineSet {
     tree: FlagTree,
     /// A position of the set that the tree doesn't have.
@@ -64,7 +64,7 @@ impl LineSet {
         }
     }
 
-    /// Takes a position out.
+    /// Removes a position.
     pub fn remove(&mut self, position: usize)
         requires { position < length self.old }
         ensures { self.new ≡ slice_set self.old position false }

@@ -8,8 +8,8 @@ use sip_reader::Id;
 use std::alloc::{AllocError, Global};
 use std::marker::Model;
 
-/// The records as they are: those before the first line, and over them what the lines so far wrote. They are one map, so that each is found by
-/// one look-up.
+/// The records after the lines so far: those before the first line, except where these lines wrote others. They are in one map, so that each
+/// is found by one look-up.
 pub struct Live {
     records: RecordMap,
 }
@@ -30,8 +30,7 @@ impl Model for Live {
 
 impl Live {
     ghost use Rattle.std.specs.Prelude.{IfOk, OnOk, option_copied};
-    ghost use Rattle.circ_records.specs.Laws.{AreRising};
-    ghost use Rattle.circ_records.specs.Records.{record_at};
+    ghost use Rattle.circ_records.specs.Records.{AreRising, record_at};
     ghost use Rattle.circ_records.specs.declared.key.Key.{Key};
     ghost use Rattle.read_set.specs.Maps.{put};
 

@@ -2,4 +2,3 @@ pub mod Owing
 pub mod Sums
 pub mod Turning
 pub mod Walking
-pub mod Whole

@@ -1,11 +1,11 @@
 use Rattle.std.proofs.Common.{◌≡◌, ℕ, ◌+◌, ◌*◌, ◌^◌, ◌<◌, ◌≤◌, List, length, get_or, drop, Option, arith}
 use Rattle.read_set.specs.Asks.{Done, IsAsked, follow}
-use Rattle.loan_meaning.specs.Owing.{owed_from}
+use Rattle.read_set.specs.Owing.{owed_from}
 use Rattle.read_set.specs.Fees.{rest_of}
 use Rattle.circ_records.specs.Records.{Entries}
 use Rattle.read_set.specs.Known.{as_fee}
 use Rattle.read_set.specs.Stops.{StopsAt}
-use Rattle.loan_meaning.specs.Lookups.{ask_after}
+use Rattle.read_set.specs.Lookups.{ask_after}
 use Rattle.circ_records.specs.declared.key.Key.{Key}
 use Rattle.circ_records.specs.declared.key.Key.TheVariants as keys
 use Rattle.circ_records.specs.declared.record.Record.{Record}

@@ -24,8 +24,8 @@ use Rattle.circ_records.specs.declared.record.FeeType.TheVariants as fee_types
 use Rattle.circ_records.specs.declared.record.Record.{Record}
 use Rattle.circ_records.specs.declared.record.Record.TheVariants as records
 use Rattle.sip_reader.specs.Texts.{fee_id}
-use Rattle.loan_meaning.specs.Lookups.{ask_after}
-use Rattle.loan_meaning.specs.Owing.{owed_from, owed_at}
+use Rattle.read_set.specs.Lookups.{ask_after}
+use Rattle.read_set.specs.Owing.{owed_from, owed_at}
 use Rattle.loan_meaning.specs.Devices.Sums.{IsKnown, AreNew, Runs, fee_front, begins_as_made, none_begins_as_made, with_room, sum_with, charged_by}
 use Rattle.read_set.specs.Asks.{Asks, Give, Ask, ◌>>=◌, Reached, Done, Wants, follow}
 use Rattle.read_set.specs.Effects.{written}
@@ -65,7 +65,7 @@ same_owed has w v sum (id ∷ more) h =
     ∙ alike has (ask_after w (keys.Fee id)) (λ found. owed_from v (sum + rest_of (as_fee found)) more) (λ found. owed_from w (sum + rest_of (as_fee found)) more)
     (λ found. same_owed has w v (sum + rest_of (as_fee found)) more (λ j c. h j (Contains-append_right (id ∷ []) more j c)))
 
--- a program that comes to its end came to the end of its first part
+-- a program that ends has ended its first part
 parts_by : {A B : Type 0} (has : Part) (m : Asks A) (f : A → Asks B) (y : B) (reached : Reached A) → follow has m ≡ reached → follow has (m >>= f) ≡ Done y → (x : A) × (follow has m ≡ Done x) × (follow has (f x) ≡ Done y)
 parts_by has m f y (Done x) s e = (x, s, sym (follow_done has m f x s) ∙ e)
 parts_by has m f y (Wants k) s e = let w : Wants k ≡ Done y = sym (follow_wants has m f k s) ∙ e in cc

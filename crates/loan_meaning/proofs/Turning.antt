@@ -3,9 +3,8 @@ use Rattle.circ_policy.specs.Terms.{Terms}
 use Rattle.circ_records.specs.declared.key.Key.{Key}
 use Rattle.circ_records.specs.declared.record.Record.{Record}
 use Rattle.sip_reader.specs.declared.request.RenewAll.{RenewAll}
-use Rattle.loan_meaning.specs.RenewAlls.{turn_rule, turns_rule}
+use Rattle.read_set.specs.RenewAlls.{turn_rule, turns_rule, by_renew_all}
 use Rattle.read_set.specs.Asks.{Done, IsAsked, follow}
-use Rattle.read_set.specs.RenewAlls.{by_renew_all}
 use Rattle.read_set.specs.Stops.{StopsAt}
 use Rattle.read_set.specs.declared.progress.Renewals.{Renewals}
 use Rattle.read_set.specs.declared.source.Stop.{Stop}

@@ -1,7 +1,1 @@
-pub mod Checkins
-pub mod Checkouts
 pub mod Devices
-pub mod Lookups
-pub mod Owing
-pub mod RenewAlls
-pub mod Renewals

@@ -7,7 +7,7 @@ use std::alloc::Global;
 
 /// What stays the same while the rule of a line runs.
 #[derive(Clone, Copy)]
-pub struct Line<'p> {
+pub struct LineContext<'p> {
     pub alloc: Global,
     pub policy: &'p Policy,
     /// Its number in the journal, of which its fees have their ids.
@@ -18,7 +18,7 @@ pub struct Line<'p> {
 
 /// The same, and the loan or renewal for which the line asks.
 #[derive(Drop)]
-pub struct Asked<'p> {
+pub struct LoanContext<'p> {
     pub alloc: Global,
     pub policy: &'p Policy,
     /// The line's number in the journal, of which its fees have their ids.

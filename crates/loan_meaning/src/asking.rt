@@ -3,7 +3,7 @@
 ghost use Rattle.std.specs.Prelude.{◌≡◌, IfOk};
 ghost use Rattle.read_set.specs.Loans.{by_checkout, by_renew, due_for, charge_for, is_lent, lent_to};
 
-use crate::asked::Asked;
+use crate::asked::LoanContext;
 use crate::fees::nothing;
 use circ_policy::Media;
 use circ_records::Loan;
@@ -45,7 +45,7 @@ pub fn ask_renew(request: &Renew) -> Result<LoanRequest, AllocError>
 
 /// The due day of the loan or renewal.
 #[tactic(auto, unfolding(read_set::specs::Loans::due_for))]
-pub fn due_of(asked: &Asked<'_>, media: &Media) -> Day
+pub fn due_of(asked: &LoanContext<'_>, media: &Media) -> Day
     ensures { result ≡ due_for asked.now.policy.now asked.now.request asked.now.date media.now }
 {
     let a = &asked.request;

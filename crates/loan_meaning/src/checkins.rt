@@ -1,15 +1,14 @@
 //! Checkin.
 
 ghost use Rattle.std.specs.Prelude.{◌≡◌, IfOk, OnOk, Some, None};
-ghost use Rattle.loan_meaning.specs.Checkins.{checkin_rule};
-ghost use Rattle.loan_meaning.specs.Lookups.{borrower_at};
+ghost use Rattle.read_set.specs.Checkins.{checkin_rule, returned_item, checkin_answer, day_back, lateness, returner, returned_by, returned_writes, returned, checked_in, loan_of, checkin};
+ghost use Rattle.read_set.specs.Lookups.{borrower_at};
 ghost use Rattle.read_set.specs.Asks.{follow, Done, Gains};
 ghost use Rattle.read_set.specs.Effects.{unwritten, written};
 ghost use Rattle.read_set.specs.Maps.{Map, Agrees};
-ghost use Rattle.read_set.specs.Checkins.{returned_item, checkin_answer, day_back, lateness, returner, returned_by, returned_writes, returned, checked_in, loan_of, checkin};
 ghost use Rattle.read_set.specs.Stops.{Follows};
 
-use crate::asked::Line;
+use crate::asked::LineContext;
 use crate::asking::loan_in;
 use crate::fees::{Charge, draft_for, list_fee, make_fee, nothing};
 use crate::lists::{has_queue, without};
@@ -21,7 +20,7 @@ use sip_answer::{Answer, CheckinAnswer, ReturnedItem};
 use sip_reader::{Amount, Checkin, Day, Id, Stamp};
 use std::alloc::{AllocError, Global};
 
-fn tell_unknown(line: &Line<'_>, request: &Checkin) -> Result<Answer, AllocError>
+fn tell_unknown(line: &LineContext<'_>, request: &Checkin) -> Result<Answer, AllocError>
     ensures { IfOk result (λ a. a ≡ checkin_answer line.now.policy.now request.now line.now.date None None) }
 {
     Ok(Answer::Checkin(CheckinAnswer {
@@ -48,7 +47,7 @@ fn show(item: &Item) -> Result<ReturnedItem, AllocError>
 /// In line, where an effect is made: so its answer is made in place, and doesn't move.
 #[inline(always)]
 fn tell(
-    line: &Line<'_>,
+    line: &LineContext<'_>,
     request: &Checkin,
     article: &Article,
     borrower: Option<Id>,
@@ -102,7 +101,7 @@ fn return_from(
 /// The borrower's record without the loan and with its late fee, and that fee. Where memory runs out between the two, only the
 /// record is written: no clause says so, since the caller then drops all that is written.
 fn return_by(
-    line: &Line<'_>,
+    line: &LineContext<'_>,
     item: &Id,
     borrower: &Id,
     fee: Amount,
@@ -135,7 +134,7 @@ fn unlent(alloc: Global, article: &Article) -> Result<Item, AllocError>
 }
 
 fn write_return(
-    line: &Line<'_>,
+    line: &LineContext<'_>,
     item: &Id,
     fee: Amount,
     article: &Article,
@@ -152,7 +151,7 @@ fn write_return(
 }
 
 fn end_loan(
-    line: &Line<'_>,
+    line: &LineContext<'_>,
     request: &Checkin,
     article: &Article,
     loan: &Loan,
@@ -174,7 +173,7 @@ fn end_loan(
 /// An item that isn't on loan stays as it is. It is a function of its own: the memory of an answer is filled with zeros before it is known
 /// whether there is one.
 #[inline(never)]
-fn end_unlent(line: &Line<'_>, request: &Checkin, article: &Article) -> Result<Effect, Stop>
+fn end_unlent(line: &LineContext<'_>, request: &Checkin, article: &Article) -> Result<Effect, Stop>
     ensures { Follows result (Done (unwritten (Some (checkin_answer line.now.policy.now request.now line.now.date (Some article.now.item) None)))) }
 {
     let answer = tell(line, request, article, None)?;
@@ -183,7 +182,7 @@ fn end_unlent(line: &Line<'_>, request: &Checkin, article: &Article) -> Result<E
 
 /// An unknown item is refused. It is a function of its own for the same reason.
 #[inline(never)]
-fn end_unknown(line: &Line<'_>, request: &Checkin) -> Result<Effect, Stop>
+fn end_unknown(line: &LineContext<'_>, request: &Checkin) -> Result<Effect, Stop>
     ensures { Follows result (Done (unwritten (Some (checkin_answer line.now.policy.now request.now line.now.date None None)))) }
 {
     let answer = tell_unknown(line, request)?;
@@ -191,7 +190,7 @@ fn end_unknown(line: &Line<'_>, request: &Checkin) -> Result<Effect, Stop>
 }
 
 fn end_any(
-    line: &Line<'_>,
+    line: &LineContext<'_>,
     request: &Checkin,
     article: &Article,
     member: Option<Member>,
@@ -206,7 +205,7 @@ fn end_any(
 
 #[tactic(auto, unfolding(read_set::specs::Checkins::checked_in))]
 fn end(
-    line: &Line<'_>,
+    line: &LineContext<'_>,
     request: &Checkin,
     article: Option<Article>,
     member: Option<Member>,
@@ -220,7 +219,7 @@ fn end(
 }
 
 /// The patron who has the item, where both are known.
-#[tactic(auto, unfolding(crate::specs::Lookups::borrower_at), using(read_set::proofs::Gaining::gains_none))]
+#[tactic(auto, unfolding(read_set::specs::Lookups::borrower_at), using(read_set::proofs::Gaining::gains_none))]
 fn any_borrower_of<S: Source>(
     alloc: Global,
     policy: &Policy,
@@ -237,7 +236,7 @@ fn any_borrower_of<S: Source>(
 }
 
 /// A checkin (message 09) on line n.
-#[tactic(auto, unfolding(crate::specs::Checkins::checkin_rule), using(read_set::proofs::Gaining::gains_none, read_set::proofs::Gaining::gains_first, read_set::proofs::Following::follow_wants))]
+#[tactic(auto, unfolding(read_set::specs::Checkins::checkin_rule), using(read_set::proofs::Gaining::gains_none, read_set::proofs::Gaining::gains_first, read_set::proofs::Following::follow_wants))]
 pub fn check_in<S: Source>(
     alloc: Global,
     policy: &Policy,
@@ -252,7 +251,7 @@ pub fn check_in<S: Source>(
 {
     let article = item_of(alloc, policy, source, &request.item)?;
     let member = any_borrower_of(alloc, policy, source, &article)?;
-    let line = Line {
+    let line = LineContext {
         alloc,
         policy,
         number: n,

@@ -4,17 +4,16 @@ ghost use Rattle.std.specs.Prelude.{◌≡◌, ◌&&◌, ◌∷◌, [], IfOk, On
 ghost use Rattle.circ_records.specs.declared.key.Key.TheVariants as keys;
 ghost use Rattle.circ_records.specs.declared.record.FeeType.TheVariants as fee_types;
 ghost use Rattle.circ_records.specs.declared.record.Record.TheVariants as records;
-ghost use Rattle.loan_meaning.specs.Checkouts.{lending_tests, other_at, lending_rule_by, lending_rule, checkout_rule_known, checkout_rule};
+ghost use Rattle.read_set.specs.Checkouts.{lending_tests, other_at, lending_rule_by, lending_rule, checkout_rule_known, checkout_rule, loan_ended, loan_ended_by, lent, lent_list, lending_made, checkout};
 ghost use Rattle.read_set.specs.Asks.{follow, Done, Gains};
 ghost use Rattle.read_set.specs.Effects.{written, ◌⊕◌};
 ghost use Rattle.read_set.specs.Fees.{fee_made};
 ghost use Rattle.read_set.specs.Ids.{without};
-ghost use Rattle.read_set.specs.Checkouts.{loan_ended, loan_ended_by, lent, lent_list, lending_made, checkout};
 ghost use Rattle.read_set.specs.Loans.{lent_to};
 ghost use Rattle.read_set.specs.Maps.{Map, Agrees};
 ghost use Rattle.read_set.specs.Stops.{Follows};
 
-use crate::asked::{Asked, Line};
+use crate::asked::{LineContext, LoanContext};
 use crate::asking::{ask_checkout, charge_of, due_of, has_lent_to, has_loan, loan_in, rental_in};
 use crate::fees::{Charge, draft_for, list_fee, make_fee, test_owing};
 use crate::lists::{is_first_another, without, without_hold};
@@ -27,9 +26,9 @@ use read_set::{Article, Draft, Effect, LoanRequest, Member, Source, Stop, Verdic
 use sip_reader::{Amount, Checkout, Day, Id, Stamp};
 use std::alloc::{AllocError, Global};
 
-#[tactic(auto, unfolding(crate::specs::Checkouts::lending_tests), using(read_set::proofs::Gaining::gains_none, read_set::proofs::Gaining::gains_first))]
+#[tactic(auto, unfolding(read_set::specs::Checkouts::lending_tests), using(read_set::proofs::Gaining::gains_none, read_set::proofs::Gaining::gains_first))]
 fn test_lending<S: Source>(
-    asked: &Asked<'_>,
+    asked: &LoanContext<'_>,
     member: &Member,
     article: &Article,
     source: &mut S,
@@ -62,7 +61,7 @@ fn test_lending<S: Source>(
 
 #[tactic(auto, using(read_set::proofs::Gaining::gains_none, read_set::proofs::Gaining::gains_first))]
 fn other_of<S: Source>(
-    asked: &Asked<'_>,
+    asked: &LoanContext<'_>,
     loan: &Option<Loan>,
     source: &mut S,
 ) -> Result<Option<Member>, Stop>
@@ -165,7 +164,7 @@ fn list_loan(
 
 /// The patron and the item are written after the other borrower, and the rental's fee last.
 fn write_lending(
-    asked: &Asked<'_>,
+    asked: &LoanContext<'_>,
     due: Day,
     charge: Amount,
     patron: Patron,
@@ -198,7 +197,7 @@ fn write_lending(
 #[inline(always)]
 #[tactic(auto, unfolding(read_set::specs::Checkouts::lending_made))]
 fn make_loan(
-    asked: &Asked<'_>,
+    asked: &LoanContext<'_>,
     member: Member,
     article: Article,
     other: Option<Member>,
@@ -222,9 +221,9 @@ fn make_loan(
 }
 
 /// Where the loan is made, the record of the other patron whose loan ends is read first.
-#[tactic(auto, unfolding(crate::specs::Checkouts::lending_of), using(read_set::proofs::Gaining::gains_none, read_set::proofs::Gaining::gains_first, read_set::proofs::Following::follow_wants))]
+#[tactic(auto, unfolding(read_set::specs::Checkouts::lending_of), using(read_set::proofs::Gaining::gains_none, read_set::proofs::Gaining::gains_first, read_set::proofs::Following::follow_wants))]
 fn lend_by<S: Source>(
-    asked: &Asked<'_>,
+    asked: &LoanContext<'_>,
     member: Member,
     article: Article,
     verdict: Verdict,
@@ -245,9 +244,9 @@ fn lend_by<S: Source>(
     make_loan(asked, member, article, other)
 }
 
-#[tactic(auto, unfolding(crate::specs::Checkouts::lending_rule), using(read_set::proofs::Gaining::gains_none, read_set::proofs::Gaining::gains_first, read_set::proofs::Following::follow_wants))]
+#[tactic(auto, unfolding(read_set::specs::Checkouts::lending_rule), using(read_set::proofs::Gaining::gains_none, read_set::proofs::Gaining::gains_first, read_set::proofs::Following::follow_wants))]
 fn lend<S: Source>(
-    asked: &Asked<'_>,
+    asked: &LoanContext<'_>,
     member: Member,
     article: Article,
     source: &mut S,
@@ -268,7 +267,7 @@ fn is_renewal(request: &Checkout, article: &Article) -> bool
 
 #[tactic(auto, using(read_set::proofs::Gaining::gains_none, read_set::proofs::Gaining::gains_first))]
 fn lend_both<S: Source>(
-    line: &Line<'_>,
+    line: &LineContext<'_>,
     request: &Checkout,
     member: Option<Member>,
     article: Option<Article>,
@@ -277,7 +276,7 @@ fn lend_both<S: Source>(
     ensures gives { Follows result (follow (S.has source.new) (checkout_rule_known line.now.policy.now line.now.number request.now line.now.date member article)) }
     ensures keeps { Gains S.one_by_one (S.has source.old) (S.has source.new) (checkout_rule_known line.now.policy.now line.now.number request.now line.now.date member article) }
 {
-    let asked = Asked {
+    let asked = LoanContext {
         alloc: line.alloc,
         policy: line.policy,
         number: line.number,
@@ -297,7 +296,7 @@ fn lend_both<S: Source>(
 }
 
 /// A checkout (message 11) on line n.
-#[tactic(auto, unfolding(crate::specs::Checkouts::checkout_rule), using(read_set::proofs::Gaining::gains_none, read_set::proofs::Gaining::gains_first, read_set::proofs::Following::follow_wants))]
+#[tactic(auto, unfolding(read_set::specs::Checkouts::checkout_rule), using(read_set::proofs::Gaining::gains_none, read_set::proofs::Gaining::gains_first, read_set::proofs::Following::follow_wants))]
 pub fn check_out<S: Source>(
     alloc: Global,
     policy: &Policy,
@@ -312,7 +311,7 @@ pub fn check_out<S: Source>(
 {
     let member = patron_of(alloc, policy, source, &request.patron)?;
     let article = item_of(alloc, policy, source, &request.item)?;
-    let line = Line {
+    let line = LineContext {
         alloc,
         policy,
         number: n,

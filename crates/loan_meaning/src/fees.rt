@@ -1,14 +1,14 @@
 //! What is owed, and what is charged.
 
 ghost use Rattle.std.specs.Prelude.{◌≡◌, [], nat_lt, true, IfOk, OnOk, OnErr};
-ghost use Rattle.loan_meaning.specs.Owing.{owed_at, owed_from, owing_tests};
+ghost use Rattle.read_set.specs.Owing.{owed_at, owed_from, owing_tests};
 ghost use Rattle.loan_meaning.specs.Devices.Sums.{IsKnown};
 ghost use Rattle.read_set.specs.Asks.{follow, Gains};
 ghost use Rattle.read_set.specs.Effects.{written};
 ghost use Rattle.read_set.specs.Fees.{rest_of, fee_made, with_fee, owing_verdict};
 ghost use Rattle.read_set.specs.Stops.{Follows};
 
-use crate::asked::Asked;
+use crate::asked::LoanContext;
 use crate::lookup::read_after;
 use circ_records::{Fee, FeeType, Ids, Key, Patron, Record, Shared, put_fee};
 use read_set::{Article, Draft, Member, Source, Stop, Verdict, known_fee};
@@ -32,7 +32,7 @@ pub fn rest_of(fee: Option<Shared<Fee>>) -> u64
 }
 
 /// What is owed over a list of fees, in hundredths, after the writes so far.
-#[tactic(auto, unfolding(crate::specs::Owing::owed_at), using(read_set::proofs::Gaining::gains_none, read_set::proofs::Gaining::gains_first))]
+#[tactic(auto, unfolding(read_set::specs::Owing::owed_at), using(read_set::proofs::Gaining::gains_none, read_set::proofs::Gaining::gains_first))]
 pub fn owed_of<S: Source>(
     alloc: Global,
     source: &mut S,
@@ -51,7 +51,7 @@ pub fn owed_of<S: Source>(
 }
 
 /// What is owed over a list of fees after the writes so far, where it is known already; else it is summed, and known.
-/// After an error nobody asks for the sum again: the rule's run is at its end.
+/// After an error the sum isn't needed again: the rule has ended.
 #[tactic(auto, using(read_set::proofs::Gaining::gains_none, read_set::proofs::Gaining::gains_first))]
 pub fn owed_once<S: Source>(
     alloc: Global,
@@ -130,7 +130,7 @@ fn write_fee(
     )
 }
 
-/// No records yet, with room for a patron, an item and the fee of what is charged, where anything is.
+/// No records yet, with capacity for a patron, an item and, where something is charged, its fee.
 pub fn draft_for(alloc: Global, charge: Amount) -> Result<Draft, AllocError>
     ensures { IfOk result (λ w. w ≡ []) }
 {
@@ -144,7 +144,7 @@ pub fn nothing() -> Amount
     Amount::new(0).unwrap()
 }
 
-/// It goes last in the patron's list. Out of memory, the list stays as it was.
+/// Appends the id of the k-th fee of a line to a patron's list, where the amount is above 0. Out of memory, the list stays as it was.
 pub fn list_fee(
     alloc: Global,
     line: u64,
@@ -161,7 +161,7 @@ pub fn list_fee(
     Ok(())
 }
 
-/// It goes last in the list of a patron's record. Out of memory, the record stays as it was.
+/// The same in the list of a patron's record. Out of memory, the record stays as it was.
 pub fn list_fee_of(
     alloc: Global,
     line: u64,
@@ -192,9 +192,9 @@ fn owing(owes: u128, agreed: bool, member: &Member, article: &Article) -> Verdic
 }
 
 /// The last tests of a loan and of a renewal. `sum` is what is known of the sum that is owed.
-#[tactic(auto, unfolding(crate::specs::Owing::owing_tests), using(read_set::proofs::Gaining::gains_none, read_set::proofs::Gaining::gains_first, read_set::proofs::Following::follow_wants))]
+#[tactic(auto, unfolding(read_set::specs::Owing::owing_tests), using(read_set::proofs::Gaining::gains_none, read_set::proofs::Gaining::gains_first, read_set::proofs::Following::follow_wants))]
 pub fn test_owing<S: Source>(
-    asked: &Asked<'_>,
+    asked: &LoanContext<'_>,
     writes: &Draft,
     member: &Member,
     article: &Article,

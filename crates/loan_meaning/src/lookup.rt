@@ -1,7 +1,7 @@
 //! Reading the records of ids.
 
 ghost use Rattle.std.specs.Prelude.{◌≡◌};
-ghost use Rattle.loan_meaning.specs.Lookups.{patron_at, item_at, fee_at, borrower_at, ask_after};
+ghost use Rattle.read_set.specs.Lookups.{patron_at, item_at, fee_at, borrower_at, ask_after};
 ghost use Rattle.read_set.specs.Asks.{follow, Gains};
 ghost use Rattle.read_set.specs.Stops.{Follows};
 
@@ -13,7 +13,7 @@ use std::alloc::Global;
 
 /// The patron of an id, where it is known.
 #[inline(always)]
-#[tactic(auto, unfolding(crate::specs::Lookups::patron_at), using(read_set::proofs::Gaining::gains_ask))]
+#[tactic(auto, unfolding(read_set::specs::Lookups::patron_at), using(read_set::proofs::Gaining::gains_ask))]
 pub fn patron_of<S: Source>(
     alloc: Global,
     policy: &Policy,
@@ -29,7 +29,7 @@ pub fn patron_of<S: Source>(
 
 /// The item that a request names, where it is known.
 #[inline(always)]
-#[tactic(auto, unfolding(crate::specs::Lookups::item_at), using(read_set::proofs::Gaining::gains_ask))]
+#[tactic(auto, unfolding(read_set::specs::Lookups::item_at), using(read_set::proofs::Gaining::gains_ask))]
 pub fn item_of<S: Source>(
     alloc: Global,
     policy: &Policy,
@@ -44,7 +44,7 @@ pub fn item_of<S: Source>(
 }
 
 /// The fee of an id, where it has a record.
-#[tactic(auto, unfolding(crate::specs::Lookups::fee_at), using(read_set::proofs::Gaining::gains_ask))]
+#[tactic(auto, unfolding(read_set::specs::Lookups::fee_at), using(read_set::proofs::Gaining::gains_ask))]
 pub fn fee_of<S: Source>(
     alloc: Global,
     source: &mut S,
@@ -58,7 +58,7 @@ pub fn fee_of<S: Source>(
 }
 
 /// The patron who has a loan, where it is known.
-#[tactic(auto, unfolding(crate::specs::Lookups::borrower_at), using(read_set::proofs::Gaining::gains_none, read_set::proofs::Gaining::gains_first))]
+#[tactic(auto, unfolding(read_set::specs::Lookups::borrower_at), using(read_set::proofs::Gaining::gains_none, read_set::proofs::Gaining::gains_first))]
 pub fn borrower_of<S: Source>(
     alloc: Global,
     policy: &Policy,
@@ -75,7 +75,7 @@ pub fn borrower_of<S: Source>(
 }
 
 /// The record at a key after the writes so far.
-#[tactic(auto, unfolding(crate::specs::Lookups::ask_after), using(read_set::proofs::Gaining::gains_none, read_set::proofs::Gaining::gains_first))]
+#[tactic(auto, unfolding(read_set::specs::Lookups::ask_after), using(read_set::proofs::Gaining::gains_none, read_set::proofs::Gaining::gains_first))]
 pub fn read_after<S: Source>(
     alloc: Global,
     source: &mut S,

@@ -4,17 +4,16 @@ ghost use Rattle.std.specs.Prelude.{◌≡◌, ◌+◌, ◌<◌, ◌≤◌, ◌^
 ghost use Rattle.circ_records.specs.declared.key.Key.TheVariants as keys;
 ghost use Rattle.circ_records.specs.declared.record.FeeType.TheVariants as fee_types;
 ghost use Rattle.circ_records.specs.declared.record.Record.TheVariants as records;
-ghost use Rattle.loan_meaning.specs.RenewAlls.{turn_rule_known, turn_rule, turns_rule, renew_all_rule_known, renew_all_rule};
+ghost use Rattle.read_set.specs.RenewAlls.{turn_rule_known, turn_rule, turns_rule, renew_all_rule_known, renew_all_rule, by_renew_all, one_renewed, one_left, turn_by, none_renewed, renew_all_answer, all_renewed, renew_all};
 ghost use Rattle.loan_meaning.specs.Devices.Sums.{Runs};
 ghost use Rattle.read_set.specs.Asks.{follow, Gains};
 ghost use Rattle.read_set.specs.Effects.{written};
 ghost use Rattle.read_set.specs.Fees.{fee_made};
 ghost use Rattle.read_set.specs.Renewals.{renewed};
 ghost use Rattle.read_set.specs.Maps.{Map, Agrees};
-ghost use Rattle.read_set.specs.RenewAlls.{by_renew_all, one_renewed, one_left, turn_by, none_renewed, renew_all_answer, all_renewed, renew_all};
 ghost use Rattle.read_set.specs.Stops.{Follows};
 
-use crate::asked::{Asked, Line};
+use crate::asked::{LineContext, LoanContext};
 use crate::asking::{due_of, rental_in};
 use crate::fees::{Charge, has_amount, list_fee_of, make_fee};
 use crate::lookup::{patron_of, read_after};
@@ -48,7 +47,7 @@ pub fn ask_for(request: &RenewAll, item: &Id) -> Result<LoanRequest, AllocError>
 /// The renewed item and its fee. Where memory runs out between the two, only the item is written: no clause says so, since the
 /// caller then drops all that is written.
 fn write_turn(
-    asked: &Asked<'_>,
+    asked: &LoanContext<'_>,
     k: u64,
     due: Day,
     rental: Amount,
@@ -77,7 +76,11 @@ fn count(made: u64, rental: Amount) -> u64
     if has_amount(rental) { made + 1 } else { made }
 }
 
-fn renew_next(asked: &Asked<'_>, article: Article, done: Renewals) -> Result<Renewals, AllocError>
+fn renew_next(
+    asked: &LoanContext<'_>,
+    article: Article,
+    done: Renewals,
+) -> Result<Renewals, AllocError>
     requires { done.made + 1 < 2 ^ 64 }
     ensures value { IfOk result (λ next. next ≡ one_renewed asked.now.policy.now asked.now.number asked.now.request asked.now.date article done) }
     ensures few { IfOk result (λ next. next.made ≤ done.made + 1) }
@@ -105,7 +108,7 @@ fn leave(item: &Id, done: Renewals) -> Result<Renewals, AllocError>
 
 #[tactic(auto, unfolding(read_set::specs::RenewAlls::turn_by))]
 fn end_turn(
-    asked: &Asked<'_>,
+    asked: &LoanContext<'_>,
     article: Article,
     done: Renewals,
     verdict: Verdict,
@@ -122,7 +125,7 @@ fn end_turn(
 
 #[tactic(auto, using(read_set::proofs::Gaining::gains_none, read_set::proofs::Gaining::gains_first, read_set::proofs::Following::follow_wants))]
 fn turn_known<S: Source>(
-    asked: &Asked<'_>,
+    asked: &LoanContext<'_>,
     done: Renewals,
     article: Article,
     fresh: bool,
@@ -144,7 +147,7 @@ fn turn_known<S: Source>(
 
 #[tactic(auto, using(read_set::proofs::Gaining::gains_none, read_set::proofs::Gaining::gains_first))]
 fn turn_any<S: Source>(
-    asked: &Asked<'_>,
+    asked: &LoanContext<'_>,
     done: Renewals,
     article: Option<Article>,
     fresh: bool,
@@ -165,9 +168,9 @@ fn turn_any<S: Source>(
 }
 
 /// An item's turn, after the ones before it.
-#[tactic(auto, unfolding(crate::specs::RenewAlls::turn_rule), using(read_set::proofs::Gaining::gains_none, read_set::proofs::Gaining::gains_first, read_set::proofs::Following::follow_wants))]
+#[tactic(auto, unfolding(read_set::specs::RenewAlls::turn_rule), using(read_set::proofs::Gaining::gains_none, read_set::proofs::Gaining::gains_first, read_set::proofs::Following::follow_wants))]
 fn take_turn<S: Source>(
-    asked: &Asked<'_>,
+    asked: &LoanContext<'_>,
     done: Renewals,
     fresh: bool,
     sum: &mut Option<u128>,
@@ -201,7 +204,7 @@ fn begin(alloc: Global, member: Member) -> Renewals
 /// The items of a list, each after the ones before it.
 #[tactic(auto, using(read_set::proofs::Gaining::gains_none, read_set::proofs::Gaining::gains_first))]
 fn take_turns<S: Source>(
-    line: &Line<'_>,
+    line: &LineContext<'_>,
     request: &RenewAll,
     items: &[Id],
     member: Member,
@@ -214,7 +217,7 @@ fn take_turns<S: Source>(
     let mut sum = None;
     let mut done = begin(line.alloc, member);
     for item in items {
-        let asked = Asked {
+        let asked = LoanContext {
             alloc: line.alloc,
             policy: line.policy,
             number: line.number,
@@ -227,7 +230,7 @@ fn take_turns<S: Source>(
 }
 
 fn tell(
-    line: &Line<'_>,
+    line: &LineContext<'_>,
     ok: bool,
     renewed: ItemIds,
     unrenewed: ItemIds,
@@ -244,7 +247,7 @@ fn tell(
 }
 
 #[tactic(auto, unfolding(read_set::specs::RenewAlls::all_renewed))]
-fn finish(line: &Line<'_>, request: &RenewAll, done: Renewals) -> Result<Effect, AllocError>
+fn finish(line: &LineContext<'_>, request: &RenewAll, done: Renewals) -> Result<Effect, AllocError>
     ensures { IfOk result (λ e. e ≡ all_renewed line.now.policy.now request.now line.now.date done) }
 {
     let Renewals {
@@ -266,7 +269,7 @@ fn finish(line: &Line<'_>, request: &RenewAll, done: Renewals) -> Result<Effect,
 
 #[tactic(auto, using(read_set::proofs::Gaining::gains_none, read_set::proofs::Gaining::gains_first, read_set::proofs::Following::follow_wants))]
 fn renew_each<S: Source>(
-    line: &Line<'_>,
+    line: &LineContext<'_>,
     request: &RenewAll,
     member: Member,
     source: &mut S,
@@ -281,7 +284,7 @@ fn renew_each<S: Source>(
 
 #[tactic(auto, using(read_set::proofs::Gaining::gains_none, read_set::proofs::Gaining::gains_first))]
 fn renew_any<S: Source>(
-    line: &Line<'_>,
+    line: &LineContext<'_>,
     request: &RenewAll,
     member: Option<Member>,
     source: &mut S,
@@ -300,7 +303,7 @@ fn renew_any<S: Source>(
 }
 
 /// A renewal of all items (message 65) on line n.
-#[tactic(auto, unfolding(crate::specs::RenewAlls::renew_all_rule), using(read_set::proofs::Gaining::gains_none, read_set::proofs::Gaining::gains_first, read_set::proofs::Following::follow_wants))]
+#[tactic(auto, unfolding(read_set::specs::RenewAlls::renew_all_rule), using(read_set::proofs::Gaining::gains_none, read_set::proofs::Gaining::gains_first, read_set::proofs::Following::follow_wants))]
 pub fn renew_all<S: Source>(
     alloc: Global,
     policy: &Policy,
@@ -314,7 +317,7 @@ pub fn renew_all<S: Source>(
     ensures keeps { Gains S.one_by_one (S.has source.old) (S.has source.new) (renew_all_rule policy.now n request.now date) }
 {
     let member = patron_of(alloc, policy, source, &request.patron)?;
-    let line = Line {
+    let line = LineContext {
         alloc,
         policy,
         number: n,

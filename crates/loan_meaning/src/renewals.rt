@@ -4,16 +4,15 @@ ghost use Rattle.std.specs.Prelude.{◌≡◌, ◌∷◌, [], if◌then◌else�
 ghost use Rattle.circ_records.specs.declared.key.Key.TheVariants as keys;
 ghost use Rattle.circ_records.specs.declared.record.FeeType.TheVariants as fee_types;
 ghost use Rattle.circ_records.specs.declared.record.Record.TheVariants as records;
-ghost use Rattle.loan_meaning.specs.Renewals.{renewal_tests, renewal_rule, renew_rule_known, renew_rule};
+ghost use Rattle.read_set.specs.Renewals.{renewal_tests, renewal_rule, renew_rule_known, renew_rule, may_renew, renewals_of, one_more, renewed_loan, renewed, renewal_made, renewal_by, renew};
 ghost use Rattle.loan_meaning.specs.Devices.Sums.{IsKnown};
 ghost use Rattle.read_set.specs.Asks.{follow, Done, Gains};
 ghost use Rattle.read_set.specs.Effects.{◌⊕◌};
-ghost use Rattle.read_set.specs.Renewals.{may_renew, renewals_of, one_more, renewed_loan, renewed, renewal_made, renewal_by, renew};
 ghost use Rattle.read_set.specs.Fees.{fee_made};
 ghost use Rattle.read_set.specs.Maps.{Map, Agrees};
 ghost use Rattle.read_set.specs.Stops.{Follows};
 
-use crate::asked::Asked;
+use crate::asked::LoanContext;
 use crate::asking::{ask_renew, charge_of, due_of, loan_in, rental_in};
 use crate::fees::{Charge, draft_for, has_amount, list_fee, make_fee, test_owing};
 use crate::lists::has_queue;
@@ -45,9 +44,9 @@ pub fn renewals_of(loan: &Option<Loan>) -> u32
 }
 
 /// The tests of a renewal, after the writes so far. `sum` is what is known of the sum that is owed.
-#[tactic(auto, unfolding(crate::specs::Renewals::renewal_tests), using(read_set::proofs::Gaining::gains_none, read_set::proofs::Gaining::gains_first))]
+#[tactic(auto, unfolding(read_set::specs::Renewals::renewal_tests), using(read_set::proofs::Gaining::gains_none, read_set::proofs::Gaining::gains_first))]
 pub fn test_renewal<S: Source>(
-    asked: &Asked<'_>,
+    asked: &LoanContext<'_>,
     writes: &Draft,
     member: &Member,
     article: &Article,
@@ -109,7 +108,7 @@ pub fn renew_loan_of(alloc: Global, due: Day, article: Article) -> Result<Item, 
 }
 
 #[tactic(auto, unfolding(read_set::specs::Renewals::renewal_made))]
-fn make_renewal(asked: &Asked<'_>, member: Member, article: Article) -> Result<Effect, Stop>
+fn make_renewal(asked: &LoanContext<'_>, member: Member, article: Article) -> Result<Effect, Stop>
     ensures { Follows result (Done (renewal_made asked.now.policy.now asked.now.number asked.now.request asked.now.date member article)) }
 {
     let due = due_of(asked, &article.media);
@@ -126,7 +125,7 @@ fn make_renewal(asked: &Asked<'_>, member: Member, article: Article) -> Result<E
 
 /// The patron is written first, where a rental is charged, and its fee last.
 fn write_renewal(
-    asked: &Asked<'_>,
+    asked: &LoanContext<'_>,
     due: Day,
     charge: Amount,
     patron: Patron,
@@ -155,7 +154,7 @@ fn write_renewal(
 }
 
 fn renew_by(
-    asked: &Asked<'_>,
+    asked: &LoanContext<'_>,
     member: Member,
     article: Article,
     verdict: Verdict,
@@ -171,9 +170,9 @@ fn renew_by(
 }
 
 /// A renewal of a known item by a known patron.
-#[tactic(auto, unfolding(crate::specs::Renewals::renewal_rule), using(read_set::proofs::Gaining::gains_none, read_set::proofs::Gaining::gains_first, read_set::proofs::Following::follow_wants))]
+#[tactic(auto, unfolding(read_set::specs::Renewals::renewal_rule), using(read_set::proofs::Gaining::gains_none, read_set::proofs::Gaining::gains_first, read_set::proofs::Following::follow_wants))]
 pub fn renew_one<S: Source>(
-    asked: &Asked<'_>,
+    asked: &LoanContext<'_>,
     member: Member,
     article: Article,
     source: &mut S,
@@ -188,7 +187,7 @@ pub fn renew_one<S: Source>(
 
 #[tactic(auto, using(read_set::proofs::Gaining::gains_none, read_set::proofs::Gaining::gains_first))]
 fn renew_both<S: Source>(
-    asked: &Asked<'_>,
+    asked: &LoanContext<'_>,
     member: Option<Member>,
     article: Option<Article>,
     source: &mut S,
@@ -206,7 +205,7 @@ fn renew_both<S: Source>(
 }
 
 /// A renewal (message 29) on line n.
-#[tactic(auto, unfolding(crate::specs::Renewals::renew_rule), using(read_set::proofs::Gaining::gains_none, read_set::proofs::Gaining::gains_first, read_set::proofs::Following::follow_wants))]
+#[tactic(auto, unfolding(read_set::specs::Renewals::renew_rule), using(read_set::proofs::Gaining::gains_none, read_set::proofs::Gaining::gains_first, read_set::proofs::Following::follow_wants))]
 pub fn renew_item<S: Source>(
     alloc: Global,
     policy: &Policy,
@@ -219,7 +218,7 @@ pub fn renew_item<S: Source>(
     ensures means { IfOk result (λ e. (M : Map) → Agrees (S.has source.new) M → e ≡ renew policy.now n request.now date M) }
     ensures keeps { Gains S.one_by_one (S.has source.old) (S.has source.new) (renew_rule policy.now n request.now date) }
 {
-    let asked = Asked {
+    let asked = LoanContext {
         alloc,
         policy,
         number: n,

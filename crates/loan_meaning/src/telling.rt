@@ -5,7 +5,7 @@ ghost use Rattle.read_set.specs.Asks.{Done};
 ghost use Rattle.read_set.specs.Loans.{known_item, rental_in_answer, loan_answer_of, by_kind, loan_answer, refused};
 ghost use Rattle.read_set.specs.Stops.{Follows};
 
-use crate::asked::Asked;
+use crate::asked::LoanContext;
 use crate::fees::{has_amount, nothing};
 use circ_records::Item;
 use read_set::{Article, Effect, Stop};
@@ -33,11 +33,11 @@ fn tell_rental(rental: Amount) -> Option<Amount>
     }
 }
 
-/// The answer to what is asked for, by its kind. It is made in one piece, and in line where an effect is made, since moving it costs as much
+/// The answer to what is asked for, by its kind. It is made in one piece, and inlined where an effect is made, since moving it costs as much
 /// as making it.
 #[inline(always)]
 fn tell(
-    asked: &Asked<'_>,
+    asked: &LoanContext<'_>,
     known: Option<KnownItem>,
     due: Option<Day>,
     renewed: bool,
@@ -64,10 +64,10 @@ fn tell(
     }
 }
 
-/// The answer to a loan or a renewal that is made. In line, for the same reason.
+/// The answer to a loan or a renewal that is made. Inlined, for the same reason.
 #[inline(always)]
 pub fn tell_made(
-    asked: &Asked<'_>,
+    asked: &LoanContext<'_>,
     article: &Article,
     due: Day,
     renewed: bool,
@@ -82,7 +82,7 @@ pub fn tell_made(
 /// A refusal, with the rental where it is for one.
 #[tactic(auto, unfolding(read_set::specs::Loans::refused))]
 pub fn refuse_for(
-    asked: &Asked<'_>,
+    asked: &LoanContext<'_>,
     article: Option<Article>,
     rental: Amount,
 ) -> Result<Effect, Stop>
@@ -97,7 +97,7 @@ pub fn refuse_for(
 }
 
 /// A refusal for something else than a rental.
-pub fn refuse(asked: &Asked<'_>, article: Option<Article>) -> Result<Effect, Stop>
+pub fn refuse(asked: &LoanContext<'_>, article: Option<Article>) -> Result<Effect, Stop>
     ensures { Follows result (Done (refused asked.now.policy.now asked.now.request asked.now.date article 0)) }
 {
     refuse_for(asked, article, nothing())

@@ -120,7 +120,7 @@ same-kept n ps qs m w is same are c i at =
 pub same-opened : {A : Type 0} (n : ℕ) (ps qs : List Pair) (m w : BTreeMap (Vec ℕ A) ℕ) → qs ≡ ps → w.entries ≡ m.entries → opened n qs w ≡ opened n ps m
 same-opened n ps qs m w is same = rw (is, same) refl
 
--- a request that was put behind the others and taken back
+-- a request that was put after the others and taken back
 pub taken-back : (ps qs ws : List Pair) (p : Pair) (k : ℕ) → qs ≡ ps ++ p ∷ [] → k ≡ length qs → ws ≡ take (k - 1) qs → ws ≡ ps
 taken-back ps qs ws p k is at rest =
     let more : length (ps ++ p ∷ []) ≡ length ps + 1 = simp length-append in

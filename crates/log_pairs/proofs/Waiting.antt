@@ -58,7 +58,7 @@ asked f g c m rest n i (p ∷ ps) moves at still =
     let one = asked-one (bytes_eq c p.connection) (is_position (f p.connection) n) p (reply_in rest p.connection) still.0 in
     ap₂ (λ (q : Pair) (qs : List Pair). q ∷ qs) (ap (λ (b : Bool). settle b (reply_in rest p.connection) p) new ∙ one) below
 
--- the open request of a connection lies behind this position, or there is none
+-- the open request of a connection is after this position, or there is none
 abbrev pub Passed : Option ℕ → ℕ → Type 0
 Passed None n = Unit {0}
 Passed (Some i) n = i < n

@@ -6,7 +6,7 @@ use Rattle.sip_reader.specs.Bytes as byte
 use Rattle.log_pairs.specs.declared.escapes.Escapes.{Escapes}
 use Rattle.log_pairs.specs.declared.escapes.Escapes.TheVariants.{Bare, Backslash, Angle, Hexadecimal, Octal}
 
--- a byte, and how many bytes behind the first its spelling has
+-- a byte, and how many bytes after the first its spelling has
 abbrev pub Spelling : Type 0
 Spelling = ℕ × ℕ
 
@@ -76,7 +76,7 @@ of_octal (Some high) None low = None
 of_octal (Some high) (Some middle) None = None
 of_octal (Some high) (Some middle) (Some low) = if nat_lt high 4 then Some (64 * high + 8 * middle + low, 3) else None
 
--- three octal digits of a byte, behind the first byte
+-- three octal digits of a byte, after the first byte
 abbrev pub triple : List ℕ → Option Spelling
 triple text = of_octal (octal_at (slice_get text 1)) (octal_at (slice_get text 2)) (octal_at (slice_get text 3))
 
@@ -91,7 +91,7 @@ spelled Angle text = angle text
 spelled Hexadecimal text = pair text 0
 spelled Octal text = octal text
 
--- what a text spells behind so many bytes that are spelled already
+-- what a text spells after this number of bytes that are spelled already
 abbrev pub message_from : Escapes → ℕ → List ℕ → Option (List ℕ)
 message_from e more [] = Some []
 message_from e (suc more) (b ∷ rest) = message_from e more rest

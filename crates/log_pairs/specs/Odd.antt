@@ -11,8 +11,8 @@ use Rattle.sip_reader.specs.declared.request.Reading.TheVariants.{BadSum, Unread
 use Rattle.sip_reader.specs.declared.request.Why.TheVariants.{UnknownKind}
 use Rattle.log_pairs.specs.declared.odd.Odd.{Odd}
 use Rattle.log_pairs.specs.declared.odd.Odd.TheVariants.{UnknownIdentifier, WrongSum, NoSum}
-use Rattle.log_pairs.specs.declared.odd.Side.{Side}
-use Rattle.log_pairs.specs.declared.odd.Side.TheVariants.{Request, Response}
+use Rattle.log_pairs.specs.declared.odd.Direction.{Direction}
+use Rattle.log_pairs.specs.declared.odd.Direction.TheVariants.{Request, Response}
 
 abbrev pub is_bad_sum : Reading → Bool
 is_bad_sum BadSum = true
@@ -32,26 +32,26 @@ abbrev pub is_response_at : ℕ → ℕ → Bool
 is_response_at a b = (is_ascii_digit a && is_ascii_digit b) && is_response ((a - byte.zero) * 10 + (b - byte.zero))
 
 -- whether a message of two bytes or more has an identifier of its side: of a request, one that is read
-abbrev pub has_identifier : Side → List ℕ → Bool
+abbrev pub has_identifier : Direction → List ℕ → Bool
 has_identifier Request m = nat_le 2 (length m) && not (is_unknown (reading (take 2 m)))
 has_identifier Response m = nat_le 2 (length m) && is_response_at (slice_index m 0) (slice_index m 1)
 
--- whether error detection ends behind fewer bytes than these
+-- whether error detection ends after fewer bytes than these
 abbrev pub has_sum_within : ℕ → List ℕ → Bool
 has_sum_within zero m = false
 has_sum_within (suc n) m = has_trailer (take n m) || has_sum_within n m
 
--- whether error detection stands before the end: bytes were left behind it, or two messages are in one
+-- whether error detection is before the end: bytes were left after it, or two messages are in one
 abbrev pub has_sum_inside : List ℕ → Bool
 has_sum_inside m = has_sum_within (length m) m
 
 -- a request without error detection, but for a resend, which has none by the standard
-abbrev pub lacks_sum : Side → List ℕ → Bool
+abbrev pub lacks_sum : Direction → List ℕ → Bool
 lacks_sum Request m = not (has_trailer m) && not (starts_with nat_eq m (codes "97"))
 lacks_sum Response m = false
 
 -- what is odd about a message, if anything is
-abbrev pub odd_of : Side → List ℕ → Option Odd
+abbrev pub odd_of : Direction → List ℕ → Option Odd
 odd_of side message =
     if not (has_identifier side message) then Some UnknownIdentifier
     else if is_bad_sum (reading message) || has_sum_inside (trimmed message) then Some WrongSum

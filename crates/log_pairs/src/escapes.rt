@@ -8,7 +8,7 @@ use std::alloc::{AllocError, Global};
 /// How a log spells bytes.
 #[derive(Clone, Copy)]
 pub enum Escapes {
-    /// Each byte stands as it is.
+    /// Each byte is written as it is.
     Bare,
     /// `\r`, `\n`, `\t`, `\\`, and `\x` with two hexadecimal digits; another backslash stands for itself.
     Backslash,
@@ -44,7 +44,7 @@ pub fn unescaped(
     Ok(Some(message))
 }
 
-/// The byte that is spelled at the head of a text, and how many bytes behind the first its spelling has.
+/// The byte that is spelled at the head of a text, and how many bytes after the first its spelling has.
 fn spelled(escapes: Escapes, text: &[u8]) -> Option<(u8, usize)>
     ensures { result ≡ Spec.spelled escapes text.now }
 {

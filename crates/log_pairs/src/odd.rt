@@ -8,7 +8,7 @@ use std::alloc::{AllocError, Global};
 
 /// Which side a message is of.
 #[derive(Clone, Copy)]
-pub enum Side {
+pub enum Direction {
     Request,
     Response,
 }
@@ -25,7 +25,7 @@ pub enum Odd {
 }
 
 /// What is odd about a message, if anything is.
-pub fn odd_of(alloc: Global, side: Side, message: &[u8]) -> Result<Option<Odd>, AllocError>
+pub fn odd_of(alloc: Global, side: Direction, message: &[u8]) -> Result<Option<Odd>, AllocError>
     ensures { IfOk result (λ odd. odd ≡ Spec.odd_of side message.now) }
 {
     if !has_identifier(alloc, side, message)? {
@@ -43,15 +43,15 @@ pub fn odd_of(alloc: Global, side: Side, message: &[u8]) -> Result<Option<Odd>, 
 }
 
 /// Whether a message begins with an identifier of its side.
-fn has_identifier(alloc: Global, side: Side, message: &[u8]) -> Result<bool, AllocError>
+fn has_identifier(alloc: Global, side: Direction, message: &[u8]) -> Result<bool, AllocError>
     ensures { IfOk result (λ known. known ≡ Spec.has_identifier side message.now) }
 {
     if message.len() < 2 {
         return Ok(false);
     }
     match side {
-        Side::Request => Ok(!is_unknown(&read_request(alloc, &message[..2])?)),
-        Side::Response => Ok(is_response_at(message[0], message[1])),
+        Direction::Request => Ok(!is_unknown(&read_request(alloc, &message[..2])?)),
+        Direction::Response => Ok(is_response_at(message[0], message[1])),
     }
 }
 
@@ -89,7 +89,7 @@ fn is_response(number: u8) -> bool
     }
 }
 
-/// Whether error detection stands before the end of a message.
+/// Whether error detection is before the end of a message.
 fn has_sum_inside(message: &[u8]) -> bool
     ensures { result ≡ Spec.has_sum_inside message.now }
 {
@@ -102,11 +102,11 @@ fn has_sum_inside(message: &[u8]) -> bool
 }
 
 /// Whether a message is a request without error detection, which a resend never has.
-fn lacks_sum(side: Side, message: &[u8]) -> bool
+fn lacks_sum(side: Direction, message: &[u8]) -> bool
     ensures { result ≡ Spec.lacks_sum side message.now }
 {
     match side {
-        Side::Request => unsummed(message).1.is_none() && !message.starts_with(b"97"),
-        Side::Response => false,
+        Direction::Request => unsummed(message).1.is_none() && !message.starts_with(b"97"),
+        Direction::Response => false,
     }
 }

@@ -115,7 +115,7 @@ impl Pairing {
         Ok(true)
     }
 
-    /// Nothing more comes to what a connection asked: its open request, if it has one, stays without a response.
+    /// No more responses come for a connection: its open request, if it has one, stays without a response.
     pub fn over(&mut self, connection: &[u8])
         ensures pairs { (rest : List Said) → to_come self.new rest ≡ to_come self.old (Over connection.now ∷ rest) }
         ensures closed { has_open connection.now self.new.pending ≡ false }

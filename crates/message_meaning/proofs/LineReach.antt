@@ -20,22 +20,19 @@ use Rattle.sip_reader.specs.declared.request.HoldRequest.{HoldRequest}
 use Rattle.sip_reader.specs.declared.request.ItemStatus.{ItemStatus}
 use Rattle.sip_reader.specs.declared.request.Reading.{Reading}
 use Rattle.sip_reader.specs.declared.request.Reading.TheVariants as readings
-use Rattle.loan_meaning.specs.Lookups.{patron_at, item_at, fee_at, ask_after}
-use Rattle.loan_meaning.specs.Owing.{owed_at}
-use Rattle.message_meaning.specs.Blocks.{block_rule, block_rule_known}
-use Rattle.message_meaning.specs.Payments.{pay_rule_each, named, meant_at, payment_rule, fee_paid_rule_known, fee_paid_rule}
-use Rattle.message_meaning.specs.Holds.{hold_rule}
-use Rattle.message_meaning.specs.ItemStatuses.{item_status_rule}
-use Rattle.message_meaning.specs.Rules.{rule_of, rule, rule_by, rule_at}
+use Rattle.read_set.specs.Lookups.{patron_at, item_at, fee_at, ask_after}
+use Rattle.read_set.specs.Owing.{owed_at}
+use Rattle.read_set.specs.Blocks.{block_rule, block_rule_known, blocked_by}
+use Rattle.read_set.specs.Payments.{pay_rule_each, named, meant_at, payment_rule, fee_paid_rule_known, fee_paid_rule, pay_one, only_known, payment_answer, all_paid}
+use Rattle.read_set.specs.Holds.{hold_rule, held}
+use Rattle.read_set.specs.ItemStatuses.{item_status_rule, updated}
+use Rattle.message_meaning.specs.Rules.{rule_by, rule_at}
 use Rattle.read_set.specs.Asks.{Give, ◌>>=◌, Wants, follow}
 use Rattle.read_set.specs.Effects.{unwritten}
-use Rattle.read_set.specs.Holds.{held}
 use Rattle.read_set.specs.Ids.{same, has_id}
-use Rattle.read_set.specs.ItemStatuses.{updated}
 use Rattle.read_set.specs.Known.{as_fee}
 use Rattle.read_set.specs.Maps.{Part}
-use Rattle.read_set.specs.Blocks.{blocked_by}
-use Rattle.read_set.specs.Payments.{pay_one, only_known, payment_answer, all_paid}
+use Rattle.read_set.specs.Meaning.{rule_of, rule}
 use Rattle.read_set.specs.Plans.{Planned, reading_at}
 use Rattle.read_set.specs.Stops.{Follows}
 use Rattle.read_set.specs.Wanted.{IsOfAct, IsOfReading, IsOfLine, IsNamed, Wanted, WantsAt}

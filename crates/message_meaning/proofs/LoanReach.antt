@@ -15,24 +15,20 @@ use Rattle.sip_reader.specs.declared.request.Checkin.{Checkin}
 use Rattle.sip_reader.specs.declared.request.Checkout.{Checkout}
 use Rattle.sip_reader.specs.declared.request.Renew.{Renew}
 use Rattle.sip_reader.specs.declared.request.RenewAll.{RenewAll}
-use Rattle.loan_meaning.specs.Checkouts.{lending_tests, other_at, lending_of, lending_rule_by, lending_rule, checkout_rule_known, checkout_rule}
-use Rattle.loan_meaning.specs.Renewals.{renewal_tests, renewal_rule, renew_rule_known, renew_rule}
-use Rattle.loan_meaning.specs.Lookups.{patron_at, item_at, borrower_at, ask_after}
-use Rattle.loan_meaning.specs.Owing.{owed_from, owed_at, owing_tests}
-use Rattle.loan_meaning.specs.RenewAlls.{turn_rule_known, turn_rule, turns_rule, renew_all_rule_known, renew_all_rule}
-use Rattle.loan_meaning.specs.Checkins.{checkin_rule}
+use Rattle.read_set.specs.Checkouts.{lending_tests, other_at, lending_of, lending_rule_by, lending_rule, checkout_rule_known, checkout_rule, lending_made}
+use Rattle.read_set.specs.Renewals.{renewal_tests, renewal_rule, renew_rule_known, renew_rule, may_renew, renewals_of, renewed, renewal_by}
+use Rattle.read_set.specs.Lookups.{patron_at, item_at, borrower_at, ask_after}
+use Rattle.read_set.specs.Owing.{owed_from, owed_at, owing_tests}
+use Rattle.read_set.specs.RenewAlls.{turn_rule_known, turn_rule, turns_rule, renew_all_rule_known, renew_all_rule, by_renew_all, one_left, turn_by, none_renewed, all_renewed}
+use Rattle.read_set.specs.Checkins.{checkin_rule, checked_in, loan_of}
 use Rattle.read_set.specs.Asks.{Give, ◌>>=◌}
 use Rattle.read_set.specs.Effects.{written}
 use Rattle.read_set.specs.Fees.{rest_of, owing_verdict}
 use Rattle.read_set.specs.Ids.{same}
 use Rattle.read_set.specs.Known.{as_article, as_fee}
-use Rattle.read_set.specs.Checkouts.{lending_made}
 use Rattle.read_set.specs.Loans.{by_checkout, by_renew, is_lent, lent_to, refused, due_for}
-use Rattle.read_set.specs.Renewals.{may_renew, renewals_of, renewed, renewal_by}
 use Rattle.read_set.specs.Maps.{Part}
 use Rattle.read_set.specs.Queues.{has_queue, first_is_another}
-use Rattle.read_set.specs.RenewAlls.{by_renew_all, one_left, turn_by, none_renewed, all_renewed}
-use Rattle.read_set.specs.Checkins.{checked_in, loan_of}
 use Rattle.read_set.specs.declared.known.Article.{Article}
 use Rattle.read_set.specs.declared.known.Member.{Member}
 use Rattle.read_set.specs.declared.progress.Renewals.{Renewals}

@@ -1,11 +1,10 @@
 use Rattle.std.proofs.Common.{◌≡◌, ℕ, ◌+◌, ◌<◌, List, length, get_or, drop, Option, true, false, refl}
 use Rattle.std.specs.Prelude.{◌==◌}
 use Rattle.read_set.specs.Asks.{Done, IsAsked, follow}
-use Rattle.message_meaning.specs.Payments.{pay_rule_each}
-use Rattle.read_set.specs.Payments.{pay_one}
+use Rattle.read_set.specs.Payments.{pay_rule_each, pay_one}
 use Rattle.read_set.specs.Known.{as_fee}
 use Rattle.read_set.specs.Stops.{StopsAt}
-use Rattle.loan_meaning.specs.Lookups.{ask_after}
+use Rattle.read_set.specs.Lookups.{ask_after}
 use Rattle.read_set.specs.declared.progress.Payments.{Payments}
 use Rattle.circ_records.specs.declared.key.Key.{Key}
 use Rattle.circ_records.specs.declared.key.Key.TheVariants as keys

@@ -14,7 +14,7 @@ use Rattle.circ_records.specs.declared.record.Loan.{Loan}
 use Rattle.circ_records.specs.declared.record.Patron.{Patron}
 use Rattle.circ_records.specs.declared.record.Record.{Record}
 use Rattle.circ_records.specs.declared.record.Record.TheVariants as records
-use Rattle.loan_meaning.specs.Lookups.{patron_at, item_at, fee_at, ask_after}
+use Rattle.read_set.specs.Lookups.{patron_at, item_at, fee_at, ask_after}
 use Rattle.read_set.specs.Asks.{Give, Ask}
 use Rattle.read_set.specs.Known.{as_article, as_member, as_fee, in_class, of_media}
 use Rattle.read_set.specs.Maps.{Part}

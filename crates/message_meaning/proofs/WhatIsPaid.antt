@@ -5,11 +5,10 @@ use Rattle.std.proofs.lemmas.Bool.{and_parts, eqb-false, eqb-true, or_left, or_p
 use Rattle.std.proofs.lemmas.List.{take-append-drop}
 use Rattle.std.proofs.lemmas.List.Sums.{sum_by-cons}
 use Rattle.circ_policy.specs.Terms.{Terms}
-use Rattle.circ_records.proofs.Lookups.{same-text}
-use Rattle.circ_records.proofs.RowsKept.{same-itself}
+use Rattle.circ_records.proofs.SameTexts.{same-text, same-itself}
 use Rattle.circ_records.specs.Coherent.{IsCoherentMap, are_distinct, has_id}
 use Rattle.circ_records.specs.Coherent as coherent
-use Rattle.circ_records.specs.Values.{is_same}
+use Rattle.circ_records.specs.Texts.{is_same}
 use Rattle.circ_records.specs.declared.key.Key.TheVariants as keys
 use Rattle.circ_records.specs.declared.record.Fee.{Fee}
 use Rattle.circ_records.specs.declared.record.Patron.{Patron}
@@ -17,19 +16,22 @@ use Rattle.circ_records.specs.declared.record.Record.{Record}
 use Rattle.circ_records.specs.declared.record.Record.TheVariants as records
 use Rattle.sip_reader.specs.declared.request.FeePaid.{FeePaid}
 use Rattle.message_meaning.specs.WhatIsPaid.{IsPayment, PaymentsPayWhatIsMeant, fees_in, owed_by, paid, paid_of}
+use Rattle.read_set.specs.Asks.{Give, over}
 use Rattle.read_set.specs.Effects.{unwritten, written}
 use Rattle.read_set.specs.Fees.{owed, rest_of}
 use Rattle.read_set.specs.Ids.{is_any, without_all}
 use Rattle.read_set.specs.Ids as ids
 use Rattle.read_set.specs.Known.{as_fee, fee_in}
+use Rattle.read_set.specs.Lookups.{patron_at}
 use Rattle.read_set.specs.Maps.{Map, put}
-use Rattle.read_set.specs.Payments.{all_paid, fee_paid_known, meant, only_known, part_of, pay_each, pay_one, payment, payment_answer}
+use Rattle.read_set.specs.Payments.{all_paid, fee_paid_rule, fee_paid_rule_known, meant, only_known, part_of, pay_one, payment_answer, payment_rule}
 use Rattle.read_set.specs.declared.effect.Effect.{Effect}
 use Rattle.read_set.specs.declared.known.Member.{Member}
 use Rattle.read_set.specs.declared.progress.Payments.{Payments}
 use Rattle.read_set.proofs.IdLists.{has-is, has-more, same-turned, without-none}
 use Rattle.read_set.proofs.KnownParts.{fee-there, member-there}
 use Rattle.read_set.proofs.MapParts.{at-fee, at-patron, put-written, put_one}
+use Rattle.read_set.proofs.Overs.{paid-over, pay_each}
 
 -- SUMS OVER A LIST OF IDS
 
@@ -500,10 +502,14 @@ within-at : (p : Terms) (n : ℕ) (M : Map) → IsCoherentMap p n M → AreWithi
 unfolding as_fee
 within-at p n M h id fee e = (h.fees id fee (ap coherent.as_fee (fee-there M id fee e))).paid
 
+abbrev Pays : Map → FeePaid → Member → Effect → Type 0
+Pays M q member x = IsPayment q.amount q.patron (meant M q.fee member.patron.fees) M (put x.writes M)
+
 pub payments-pay : PaymentsPayWhatIsMeant
+unfolding fee_paid_rule patron_at
 payments-pay p n q date M member h e c =
-    subst (λ (o : Option Member). IsPayment q.amount q.patron (meant M q.fee member.patron.fees) M (put (fee_paid_known p q date M o).writes M)) (sym e)
-    (subst (λ (b : Bool). IsPayment q.amount q.patron (meant M q.fee member.patron.fees) M (put (cond (not b) no (cond (q.amount == 0) no (payment p q date M member.patron))).writes M)) (sym c)
+    subst (λ (o : Option Member). Pays M q member (over M (fee_paid_rule_known p q date o))) (sym e)
+    (subst (λ (b : Bool). Pays M q member (over M (cond (not b) (Give no) (cond (q.amount == 0) (Give no) (payment_rule p q date member.patron))))) (sym c)
     (by (q.amount == 0) refl))
   where
     no : Effect
@@ -515,7 +521,8 @@ payments-pay p n q date M member h e c =
     once : are_distinct member.patron.fees ≡ true
     once = (h.patrons q.patron member.patron (ap coherent.as_patron there)).fees_once
 
-    by : (b : Bool) → (q.amount == 0) ≡ b → IsPayment q.amount q.patron (meant M q.fee member.patron.fees) M (put (cond b (unwritten (Some (payment_answer p q date false))) (payment p q date M member.patron)).writes M)
+    by : (b : Bool) → (q.amount == 0) ≡ b → Pays M q member (over M (cond b (Give no) (payment_rule p q date member.patron)))
     by true z = unpaid M q.amount q.patron (meant M q.fee member.patron.fees) (eqb-true q.amount 0 z) (within-at p n M h)
     by false z =
-        list-payment M p q date member.patron (meant M q.fee member.patron.fees) there once (meant-distinct M q.fee member.patron.fees once) (meant-own M q.fee member.patron.fees) (within-at p n M h)
+        subst (Pays M q member) (sym (paid-over M p q date member.patron))
+        (list-payment M p q date member.patron (meant M q.fee member.patron.fees) there once (meant-distinct M q.fee member.patron.fees once) (meant-own M q.fee member.patron.fees) (within-at p n M h))

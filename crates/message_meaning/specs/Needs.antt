@@ -11,7 +11,7 @@ use Rattle.read_set.specs.declared.version.Need.{Need}
 use Rattle.read_set.specs.declared.version.Need.TheVariants as needs
 
 -- what a line needs on its notes: the record at the key for which its rule asks, which is wanted, or nothing any more,
--- and then the version of this line, attempt and notes with just the writes and the answer that its rule comes to
+-- and then the version of this line, attempt and notes with just the writes and the answer that its rule results in
 abbrev pub IsNeed : {J : Type 0} → Planned → ℕ → ℕ → List Note → Need J → Type 0
 IsNeed plan line attempt notes (needs.Key k) = Wanted plan line (noted notes) k × (follow (noted notes) (rule_at plan line) ≡ Wants k)
 IsNeed plan line attempt notes (needs.Done v) =

@@ -1,10 +1,9 @@
 //! Block patron and patron enable.
 
 ghost use Rattle.std.specs.Prelude.{◌≡◌, IfOk, Some};
-ghost use Rattle.message_meaning.specs.Blocks.{block_rule_known, block_rule};
+ghost use Rattle.read_set.specs.Blocks.{block_rule_known, block_rule, status_of, member_status, no_status, patron_answer, block_answer, blocked_by, block};
 ghost use Rattle.read_set.specs.Asks.{follow, Gains};
 ghost use Rattle.read_set.specs.Maps.{Map, Agrees};
-ghost use Rattle.read_set.specs.Blocks.{status_of, member_status, no_status, patron_answer, block_answer, blocked_by, block};
 ghost use Rattle.read_set.specs.Stops.{Follows};
 
 use circ_policy::Policy;
@@ -144,7 +143,7 @@ fn block_any<S: Source>(
 }
 
 /// A block patron (message 01), where it blocks, or a patron enable (message 25).
-#[tactic(auto, unfolding(crate::specs::Blocks::block_rule), using(read_set::proofs::Gaining::gains_none, read_set::proofs::Gaining::gains_first, read_set::proofs::Following::follow_wants))]
+#[tactic(auto, unfolding(read_set::specs::Blocks::block_rule), using(read_set::proofs::Gaining::gains_none, read_set::proofs::Gaining::gains_first, read_set::proofs::Following::follow_wants))]
 pub fn block<S: Source>(
     alloc: Global,
     policy: &Policy,

@@ -1,9 +1,8 @@
 //! Hold.
 
 ghost use Rattle.std.specs.Prelude.{◌≡◌, ◌++◌, ◌∷◌, [], IfOk, option_map};
-ghost use Rattle.message_meaning.specs.Holds.{hold_rule};
+ghost use Rattle.read_set.specs.Holds.{hold_rule, refuses_hold, queue_after, hold_position, is_available, hold_answer, hold_kept, hold_known, held, hold};
 ghost use Rattle.read_set.specs.Asks.{follow, Gains};
-ghost use Rattle.read_set.specs.Holds.{refuses_hold, queue_after, hold_position, is_available, hold_answer, hold_kept, hold_known, held, hold};
 ghost use Rattle.read_set.specs.Maps.{Map, Agrees};
 ghost use Rattle.read_set.specs.Stops.{Follows};
 
@@ -202,7 +201,7 @@ fn hold_both(
 }
 
 /// A hold (message 15).
-#[tactic(auto, unfolding(crate::specs::Holds::hold_rule), using(read_set::proofs::Gaining::gains_none, read_set::proofs::Gaining::gains_first, read_set::proofs::Following::follow_wants))]
+#[tactic(auto, unfolding(read_set::specs::Holds::hold_rule), using(read_set::proofs::Gaining::gains_none, read_set::proofs::Gaining::gains_first, read_set::proofs::Following::follow_wants))]
 pub fn hold<S: Source>(
     alloc: Global,
     policy: &Policy,

@@ -1,7 +1,6 @@
 ghost use Rattle.std.specs.Prelude.{◌≡◌, IfOk};
-ghost use Rattle.message_meaning.specs.ItemStatuses.{item_status_rule};
+ghost use Rattle.read_set.specs.ItemStatuses.{item_status_rule, updated, status_answer, titled, item_status};
 ghost use Rattle.read_set.specs.Asks.{follow, Gains};
-ghost use Rattle.read_set.specs.ItemStatuses.{updated, status_answer, titled, item_status};
 ghost use Rattle.read_set.specs.Maps.{Map, Agrees};
 ghost use Rattle.read_set.specs.Stops.{Follows};
 
@@ -14,7 +13,7 @@ use sip_reader::{ItemStatus, Stamp};
 use std::alloc::{AllocError, Global};
 
 /// An item status update (message 19).
-#[tactic(auto, unfolding(crate::specs::ItemStatuses::item_status_rule), using(read_set::proofs::Gaining::gains_none, read_set::proofs::Gaining::gains_first, read_set::proofs::Following::follow_wants))]
+#[tactic(auto, unfolding(read_set::specs::ItemStatuses::item_status_rule), using(read_set::proofs::Gaining::gains_none, read_set::proofs::Gaining::gains_first, read_set::proofs::Following::follow_wants))]
 pub fn update<S: Source>(
     alloc: Global,
     policy: &Policy,

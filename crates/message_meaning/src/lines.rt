@@ -1,8 +1,9 @@
 ghost use Rattle.std.specs.Prelude.{◌≡◌, ◌⊎◌, IfOk, IfErr};
 ghost use Rattle.circ_records.specs.declared.key.Key.{Key};
-ghost use Rattle.message_meaning.specs.Rules.{rule_of, rule_at};
+ghost use Rattle.message_meaning.specs.Rules.{rule_at};
 ghost use Rattle.read_set.specs.Asks.{follow, Gains, IsAsked};
 ghost use Rattle.read_set.specs.Maps.{Map, Agrees, Grows};
+ghost use Rattle.read_set.specs.Meaning.{rule_of};
 ghost use Rattle.read_set.specs.Replay.{GivesAt};
 ghost use Rattle.read_set.specs.Stops.{Follows, LacksAt};
 ghost use Rattle.read_set.specs.Wanted.{WantsAt};
@@ -36,7 +37,7 @@ pub fn perform<S: Source>(
     follow_line(alloc, plan, line, source)
 }
 
-/// The same over a source that comes to have nothing but what it is asked for: what it has anew is what the line's rule asks for.
+/// The same over a source that fetches nothing but what it is asked for: all that it has fetched after the call is what the line's rule asks for.
 #[inline(always)]
 pub fn perform_one_by_one<S: OneByOne>(
     alloc: Global,
@@ -54,7 +55,7 @@ pub fn perform_one_by_one<S: OneByOne>(
     perform(alloc, plan, line, source)
 }
 
-#[tactic(auto, unfolding(crate::specs::Rules::rule_at, crate::specs::Rules::rule), using(read_set::proofs::Gaining::gains_none))]
+#[tactic(auto, unfolding(crate::specs::Rules::rule_at, read_set::specs::Meaning::rule), using(read_set::proofs::Gaining::gains_none))]
 fn follow_line<S: Source>(
     alloc: Global,
     plan: &Plan,
@@ -79,7 +80,7 @@ fn follow_line<S: Source>(
 
 /// In line, so that what the line does isn't moved again.
 #[inline(always)]
-#[tactic(auto, unfolding(crate::specs::Rules::rule_of), using(read_set::proofs::Gaining::gains_none))]
+#[tactic(auto, unfolding(read_set::specs::Meaning::rule_of), using(read_set::proofs::Gaining::gains_none))]
 fn follow_request<S: Source>(
     alloc: Global,
     policy: &Policy,

@@ -10,8 +10,8 @@ use read_set::{Effect, Need, Notes, NotesName, NotesSource, Plan, PlanName, Stop
 use std::alloc::{AllocError, Global};
 use std::marker::Brand;
 
-/// What a line needs on what it has read: the record for which its rule asks next, or nothing any more, and then the
-/// version that its rule comes to. The rule is followed from its beginning: to see all that a line wants, run
+/// What a line needs after what it has read: the record for which its rule asks next, or nothing more, and then the
+/// version that its rule results in. The rule is followed from its beginning: to see all that a line wants, run
 /// `perform` once over a source that notes what it sees.
 pub fn need<J: PlanName>(
     alloc: Global,
@@ -46,7 +46,7 @@ fn need_on<J: PlanName, N: NotesName>(
     }
 }
 
-/// The version that the rule came to.
+/// The version that the rule resulted in.
 fn end<J: PlanName>(
     alloc: Global,
     line: u64,

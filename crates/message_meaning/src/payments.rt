@@ -1,12 +1,11 @@
 //! Fee paid.
 
 ghost use Rattle.std.specs.Prelude.{◌≡◌, ◌≤◌, ◌<◌, ◌-◌, ◌+◌, [], not, IfOk, Some, true, false};
-ghost use Rattle.message_meaning.specs.Payments.{pay_rule_each, named, meant_at, payment_rule, fee_paid_rule_known, fee_paid_rule};
+ghost use Rattle.read_set.specs.Payments.{pay_rule_each, named, meant_at, payment_rule, fee_paid_rule_known, fee_paid_rule, part_of, part_paid, pay_one, only_known, payment_answer, all_paid, fee_paid};
 ghost use Rattle.read_set.specs.Asks.{follow, Gains};
 ghost use Rattle.read_set.specs.Effects.{unwritten};
 ghost use Rattle.read_set.specs.Ids.{same, is_any, without_all};
 ghost use Rattle.read_set.specs.Maps.{Map, Agrees};
-ghost use Rattle.read_set.specs.Payments.{part_of, part_paid, pay_one, only_known, payment_answer, all_paid, fee_paid};
 ghost use Rattle.read_set.specs.Stops.{Follows};
 
 use circ_policy::Policy;
@@ -117,7 +116,7 @@ fn only(alloc: Global, id: &Id, fees: &Ids, fee: Option<Shared<Fee>>) -> Result<
 }
 
 /// The fees that are meant.
-#[tactic(auto, unfolding(crate::specs::Payments::meant_at), using(read_set::proofs::Gaining::gains_none, read_set::proofs::Gaining::gains_first))]
+#[tactic(auto, unfolding(read_set::specs::Payments::meant_at), using(read_set::proofs::Gaining::gains_none, read_set::proofs::Gaining::gains_first))]
 fn meant_ids<S: Source>(
     alloc: Global,
     fee: &Option<Id>,
@@ -234,7 +233,7 @@ fn finish(
     })
 }
 
-#[tactic(auto, unfolding(crate::specs::Payments::payment_rule), using(read_set::proofs::Gaining::gains_none, read_set::proofs::Gaining::gains_first, read_set::proofs::Following::follow_wants))]
+#[tactic(auto, unfolding(read_set::specs::Payments::payment_rule), using(read_set::proofs::Gaining::gains_none, read_set::proofs::Gaining::gains_first, read_set::proofs::Following::follow_wants))]
 fn pay_fees<S: Source>(
     alloc: Global,
     policy: &Policy,
@@ -282,7 +281,7 @@ fn pay_known<S: Source>(
 }
 
 /// A payment (message 37).
-#[tactic(auto, unfolding(crate::specs::Payments::fee_paid_rule), using(read_set::proofs::Gaining::gains_none, read_set::proofs::Gaining::gains_first, read_set::proofs::Following::follow_wants))]
+#[tactic(auto, unfolding(read_set::specs::Payments::fee_paid_rule), using(read_set::proofs::Gaining::gains_none, read_set::proofs::Gaining::gains_first, read_set::proofs::Following::follow_wants))]
 pub fn take_payment<S: Source>(
     alloc: Global,
     policy: &Policy,

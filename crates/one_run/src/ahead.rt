@@ -113,7 +113,7 @@ impl<'t> Ahead<'t> {
         }
     }
 
-    /// What is told where the next row can't be said of its line.
+    /// What is said where the next row can't be that of its line.
     fn other(&self) -> &'static str {
         match self.says {
             Says::Answer => "its row of answers.csv answers another request",

@@ -1,7 +1,7 @@
 //! Whether what a table says of a line can be said of this request. Of another journal with the same lines and connections it
 //! mostly can't.
 
-/// Where the date stands in a request and in its answer, by the first two bytes of both (3M's SIP 2.00).
+/// Where the date is in a request and in its answer, by the first two bytes of both (3M's SIP 2.00).
 struct Shape {
     asks: &'static [u8],
     asked_at: usize,

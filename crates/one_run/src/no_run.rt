@@ -27,7 +27,7 @@ impl<T: Drop> From<AllocFailed<T>> for NoRun {
 }
 
 impl NoRun {
-    /// What a table that can't be read comes to.
+    /// The error of a table that can't be read.
     pub(crate) fn of_table(error: TableError, file: &'static str) -> NoRun {
         match error {
             TableError::Table => NoRun::Table(file),
@@ -35,7 +35,7 @@ impl NoRun {
         }
     }
 
-    /// What is said against the line whose number stands in a field.
+    /// The error of the line whose number is in a field.
     pub(crate) fn of_line(alloc: Global, number: &[u8], says: &'static str) -> NoRun {
         match String::from_utf8_lossy(alloc, number) {
             Ok(text) => match String::from_str(alloc, text.as_str()) {

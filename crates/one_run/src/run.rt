@@ -34,15 +34,15 @@ pub struct RunTexts<'t> {
 }
 
 /// The rows of the output that no line had yet.
-struct Output<'t> {
+struct RowsAhead<'t> {
     answers: Ahead<'t>,
     passed: Ahead<'t>,
     report: Ahead<'t>,
 }
 
-impl Drop for Output<'_> {
+impl Drop for RowsAhead<'_> {
     fn drop(self) {
-        let Output {
+        let RowsAhead {
             answers: _,
             passed: _,
             report: _,
@@ -50,7 +50,7 @@ impl Drop for Output<'_> {
     }
 }
 
-impl Output<'_> {
+impl RowsAhead<'_> {
     /// Takes the rows of the next line of the journal, and says what became of it.
     fn take(&mut self, alloc: Global, line: &ByteRecord) -> Result<Fate, NoRun>
         ensures answers { IfOk result (λ fate. Taken (is_answered fate) (fields_of line.now) self.old.answers self.new.answers) }
@@ -67,7 +67,7 @@ impl Output<'_> {
     }
 }
 
-/// What is told of a line that has rows in these tables and no fate.
+/// What is said of a line that has rows in these tables and no fate.
 fn clash(answered: bool, passed: bool) -> &'static str {
     if answered && passed {
         "it stands in answers.csv and in passed.csv"
@@ -94,7 +94,7 @@ fn next_line(journal: &mut RowReader<'_>, line: &mut ByteRecord) -> Result<bool,
 fn read_fates(
     alloc: Global,
     journal: &mut RowReader<'_>,
-    output: &mut Output<'_>,
+    output: &mut RowsAhead<'_>,
 ) -> Result<Vec<Fate>, NoRun>
     ensures { IfOk result (λ fates. are_of output.new.answers [] ≡ true → are_of output.new.passed [] ≡ true → are_of output.new.report [] ≡ true → is_one_run fates.items journal.old.rows output.old.answers output.old.passed output.old.report ≡ true) }
 {
@@ -106,12 +106,12 @@ fn read_fates(
     Ok(fates)
 }
 
-/// What became of each line of the journal, where all tables are of one run: each line stands either in the answers or in what was passed
-/// over, those of the report stand in the answers, and no table has another row.
+/// What became of each line of the journal, where all tables are of one run: each line is either in the answers or in what was passed
+/// over, those of the report are in the answers, and no table has another row.
 pub fn fates(alloc: Global, texts: &RunTexts<'_>) -> Result<Vec<Fate>, NoRun>
     ensures { IfOk result (λ fates. is_one_run fates.items (rows_under journal_header texts.now.journal.now) (rows_under answers_header texts.now.answers.now) (rows_under passed_header texts.now.passed.now) (rows_under report_header texts.now.report.now) ≡ true) }
 {
-    let mut output = Output {
+    let mut output = RowsAhead {
         answers: Ahead::under(alloc, "answers.csv", &ANSWERS, Says::Answer, texts.answers)?,
         passed: Ahead::under(alloc, "passed.csv", &PASSED, Says::Passed, texts.passed)?,
         report: Ahead::under(alloc, "report.csv", &REPORT, Says::Differs, texts.report)?,

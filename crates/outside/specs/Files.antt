@@ -7,7 +7,7 @@ use Rattle.outside.specs.declared.failure.Failure.{Failure}
 abbrev pub in_folder : List ℕ → List ℕ → List ℕ
 in_folder folder name = folder ++ (codes "/" ++ name)
 
--- a file that is to be written: where it is to stand, where it stands until it is whole, and its bytes
+-- a file that is to be written: its path, its temporary path until it is whole, and its bytes
 pub record Place : Type 0 where
   pub path : List ℕ
   pub part : List ℕ
@@ -37,7 +37,7 @@ StopsWriting places path failure events =
     (before : List Place) × (p : Place) × (behind : List Place) × (failed : List Event)
     × (places ≡ before ++ p ∷ behind) × (events ≡ all_written before ++ failed) × FailsToPlace p failure failed × (path ≡ p.path)
 
--- the same of one file, before what stands beside its place is taken away
+-- the same of one file, before its temporary file is removed
 abbrev pub StopsMaking : Place → Failure → Option (List Event) → Option (List Event) → Type 0
 StopsMaking p failure old new =
     (new ≡ after (Create p.part p.text (Err failure) ∷ []) old)

@@ -9,7 +9,7 @@ use std::alloc::Global;
 use std::fmt::Display;
 
 /// The outside of a program: files, standard output and standard error. What is asked of it, and what it answers, is noted in a log, which
-/// stands in contracts alone.
+/// exists in contracts alone.
 pub trait Outside {
     /// What was asked so far, and what was answered, where that is known.
     ghost log: { Self → Option (List Event) };
@@ -22,15 +22,15 @@ pub trait Outside {
     fn read(&mut self, alloc: Global, path: &str) -> Result<Vec<u8>, Failure>
         ensures { log self.new ≡ noted (Read path.now (answer_of result)) (log self.old) };
 
-    /// Makes a file of these bytes, or puts them in the place of what the file had.
+    /// Makes a file of these bytes, or replaces the contents of the file with them.
     fn create(&mut self, path: &str, text: &[u8]) -> Result<(), Failure>
         ensures { log self.new ≡ noted (Create path.now text.now result) (log self.old) };
 
-    /// Gives a file another path, in the place of what stood there.
+    /// Gives a file another path, and replaces the file there, if there is one.
     fn rename(&mut self, from: &str, to: &str) -> Result<(), Failure>
         ensures { log self.new ≡ noted (Rename from.now to.now result) (log self.old) };
 
-    /// Takes a file away, if that can be done.
+    /// Removes a file, if that can be done.
     fn remove(&mut self, path: &str)
         ensures { log self.new ≡ noted (Remove path.now) (log self.old) };
 

@@ -19,8 +19,8 @@ const INPUT: &str = "-";
 /// Standard input among the files of the system.
 const INPUT_FILE: &str = "/dev/stdin";
 
-/// The outside itself: files by a runtime, and three streams. What was asked of it isn't known to contracts: it has to be read here that each method
-/// asks what it is called for, and answers what it was answered.
+/// The outside itself: files by a runtime, and three streams. No contract says what the system was asked: that each method asks the system for what
+/// it is called for, and returns what the system returned, has to be checked by reading this file.
 pub struct System<'a, R, I, W, E> {
     pub rt: &'a R,
     pub input: I,

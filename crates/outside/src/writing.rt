@@ -1,4 +1,4 @@
-//! Files that are written: each stands under its name only when it is whole.
+//! Files that are written: each gets its name only when it is whole.
 
 ghost use Rattle.std.specs.Prelude.{◌≡◌, IfErr, IfOk, OnOk, map, string_bytes};
 ghost use Rattle.outside.specs.Events.{Did, after};
@@ -18,9 +18,9 @@ pub fn file_in_folder(alloc: Global, folder: &str, name: &str) -> Result<String,
 
 /// A file that isn't written yet.
 pub struct Unwritten<'a> {
-    /// Where it is to stand.
+    /// Its path.
     path: String,
-    /// Where it stands until it is whole, beside that place.
+    /// Its temporary path until it is whole, in the same folder.
     part: String,
     text: &'a [u8],
 }
@@ -60,7 +60,7 @@ pub struct Unplaced<'a> {
     pub failure: Failure,
 }
 
-/// Writes these files, one after the other. Each stands under its name only when it is whole; of one that fails nothing stays, and those before it stay.
+/// Writes these files, one after the other. Each gets its name only when it is whole. Of one that fails nothing is left; those before it stay.
 pub fn write_files<'a, O: Outside>(
     outside: &mut O,
     files: &'a [Unwritten<'_>],
@@ -93,7 +93,7 @@ fn write_whole<O: Outside>(outside: &mut O, file: &Unwritten<'_>) -> Result<(), 
     }
 }
 
-/// The same; what stands beside its place stays.
+/// The same; after a failure its temporary file is left.
 fn make_whole<O: Outside>(outside: &mut O, file: &Unwritten<'_>) -> Result<(), Failure>
     ensures written { OnOk result (O.log outside.new ≡ after (written (place_of file.now)) (O.log outside.old)) }
     ensures stops { IfErr result (λ e. StopsMaking (place_of file.now) e (O.log outside.old) (O.log outside.new)) }

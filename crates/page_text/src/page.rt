@@ -65,7 +65,7 @@ impl Page {
         }
     }
 
-    /// The page as it is written: the markup as it stands, and each text with those characters spelled that mean something
+    /// The page as it is written: the markup as it is, and each text with those characters spelled that mean something
     /// in HTML. So all tags and quotes of the page are those of its markup.
     pub fn bytes(&self) -> Result<Vec<u8>, AllocError>
         ensures whole { IfOk result (λ page. page.items ≡ written self.now) }

@@ -1,12 +1,12 @@
 //! Why a response was wrong: the record by which the rules decided, and since when it was so.
 
-use crate::case::Names;
+use crate::case::CaseNames;
 use crate::days::put_day;
-use crate::lists::cut;
+use crate::lists::{cut, fits};
 use crate::sayings::{put_item, put_patron};
 use std::alloc::AllocError;
 
-/// A record that a line read, as `sip_why` tells of it.
+/// A record that a line read, as `sip_why` describes it.
 #[derive(Clone, Copy)]
 pub struct Origin<'w> {
     /// `patron`, `item` or `fee`; nothing where the line read no record.
@@ -14,8 +14,15 @@ pub struct Origin<'w> {
     pub id: &'w [u8],
     /// What of it mattered: words with their values, with `; ` between them.
     pub said: &'w [u8],
-    /// Since when it was so, in words.
+    /// Since when it was so: `base`, or the number of a line.
     pub since: &'w [u8],
+}
+
+/// Why a response was wrong: a saying, and the record that it is about.
+#[derive(Clone, Copy)]
+pub struct Because<'w> {
+    saying: &'static [u8],
+    pub origin: Origin<'w>,
 }
 
 /// What is said of why a response was wrong: the word of the report, the reason of the answer, what is said of the record, the kind of the record, and
@@ -57,51 +64,39 @@ accepted|*|owed|patron|{id} owed {owed}{since}
 *|done|borrower|item|{id} is in the tables{since}
 ";
 
-/// Writes why a response is wrong in a word of the report, where that is known. Returns whether it is.
-pub fn put_because(
-    out: &mut Vec<u8>,
-    word: &[u8],
-    reason: &[u8],
-    origins: &[Origin<'_>],
-    names: &Names,
-) -> Result<bool, AllocError> {
+/// Why a response is wrong in a word of the report, where that is known.
+pub fn because_of<'w>(word: &[u8], reason: &[u8], origins: &[Origin<'w>]) -> Option<Because<'w>> {
     let mut rest = BECAUSES.as_bytes();
     for _ in 0..BECAUSES.len() {
         if rest.is_empty() {
             break;
         }
-        let (line, behind) = cut(rest, b'\n');
+        let (line, after) = cut(rest, b'\n');
         let (about, line) = cut(line, b'|');
         let (why, line) = cut(line, b'|');
-        if fits(about, word) && fits(why, reason) && put_of(out, line, origins, names)? {
-            return Ok(true);
+        if fits(about, word) && fits(why, reason) {
+            if let Some(because) = said_by(line, origins) {
+                return Some(because);
+            }
         }
-        rest = behind;
+        rest = after;
     }
-    Ok(false)
+    None
 }
 
-/// Whether a part of a line fits.
-fn fits(part: &[u8], text: &[u8]) -> bool {
-    part.starts_with(b"*") || part == text
-}
-
-/// Writes what the rest of a line says of the first record that it fits. Returns whether there is one.
-fn put_of(
-    out: &mut Vec<u8>,
-    line: &'static [u8],
-    origins: &[Origin<'_>],
-    names: &Names,
-) -> Result<bool, AllocError> {
+/// What the rest of a line says of the first record that it fits.
+fn said_by<'w>(line: &'static [u8], origins: &[Origin<'w>]) -> Option<Because<'w>> {
     let (has, line) = cut(line, b'|');
     let (kind, saying) = cut(line, b'|');
     for origin in origins {
         if origin.kind == kind && (has.starts_with(b"*") || said_of(origin.said, has).is_some()) {
-            put_saying(out, saying, origin, names)?;
-            return Ok(true);
+            return Some(Because {
+                saying,
+                origin: *origin,
+            });
         }
     }
-    Ok(false)
+    None
 }
 
 /// What is said of a word of a record: `due` in `borrower P1; due 20260316`.
@@ -122,38 +117,41 @@ fn said_of<'w>(said: &'w [u8], word: &[u8]) -> Option<&'w [u8]> {
     None
 }
 
-/// Writes a saying, and in each place in braces what stands for it.
-fn put_saying(
-    out: &mut Vec<u8>,
-    saying: &[u8],
-    origin: &Origin<'_>,
-    names: &Names,
-) -> Result<(), AllocError> {
-    let mut rest = saying;
-    for _ in 0..saying.len() {
-        if rest.is_empty() {
-            break;
+impl Because<'_> {
+    /// Writes it; `since` says in words since when it was so.
+    pub fn put(
+        &self,
+        out: &mut Vec<u8>,
+        since: &[u8],
+        names: &CaseNames,
+    ) -> Result<(), AllocError> {
+        let mut rest = self.saying;
+        for _ in 0..self.saying.len() {
+            if rest.is_empty() {
+                break;
+            }
+            let (before, after) = cut(rest, b'{');
+            out.extend_from_slice(before)?;
+            let (place, after) = cut(after, b'}');
+            put_place(out, place, &self.origin, since, names)?;
+            rest = after;
         }
-        let (before, behind) = cut(rest, b'{');
-        out.extend_from_slice(before)?;
-        let (place, behind) = cut(behind, b'}');
-        put_place(out, place, origin, names)?;
-        rest = behind;
+        Ok(())
     }
-    Ok(())
 }
 
-/// Writes what stands for a place.
+/// Writes the value of a place.
 fn put_place(
     out: &mut Vec<u8>,
     place: &[u8],
     origin: &Origin<'_>,
-    names: &Names,
+    since: &[u8],
+    names: &CaseNames,
 ) -> Result<(), AllocError> {
     let value = said_of(origin.said, place).unwrap_or(b"");
     match place {
         b"" => Ok(()),
-        b"since" => out.extend_from_slice(origin.since),
+        b"since" => out.extend_from_slice(since),
         b"id" if origin.kind == b"item".as_slice() => put_item(out, origin.id, names),
         b"id" => put_patron(out, origin.id, names),
         b"borrower" | b"first" => put_patron(out, value, names),

@@ -1,20 +1,20 @@
 //! A line with its messages, field by field.
 
-use crate::fields::Field;
+use crate::fields::ShownField;
 use std::collections::BTreeMap;
 
 /// Texts by the ids that they belong to.
-pub type Texts = BTreeMap<Vec<u8>, Vec<u8>>;
+pub type TextsById = BTreeMap<Vec<u8>, Vec<u8>>;
 
 /// What items and patrons are called, by their ids.
-pub struct Names {
-    pub titles: Texts,
-    pub patrons: Texts,
+pub struct CaseNames {
+    pub titles: TextsById,
+    pub patrons: TextsById,
 }
 
-impl Drop for Names {
+impl Drop for CaseNames {
     fn drop(self) {
-        let Names {
+        let CaseNames {
             titles: _,
             patrons: _,
         } = self;
@@ -27,9 +27,9 @@ pub struct Case<'m> {
     pub kind: &'m [u8],
     /// What the recorded response is called.
     pub recorded_name: &'static [u8],
-    pub asked: Vec<Field<'m>>,
-    pub recorded: Vec<Field<'m>>,
-    pub right: Vec<Field<'m>>,
+    pub asked: Vec<ShownField<'m>>,
+    pub recorded: Vec<ShownField<'m>>,
+    pub right: Vec<ShownField<'m>>,
 }
 
 impl Drop for Case<'_> {

@@ -4,7 +4,7 @@ use crate::lists::{MONTHS, known};
 use std::alloc::AllocError;
 
 /// Writes a day in words, as 28 March 2026, from a text that begins with it in one of the three forms of a due date. A text without a
-/// day stands as it is, and none as `no day`.
+/// day is written as it is, and an empty one as `no day`.
 pub fn put_day(out: &mut Vec<u8>, text: &[u8]) -> Result<(), AllocError> {
     if text.is_empty() {
         return out.extend_from_slice(b"no day");

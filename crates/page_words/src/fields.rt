@@ -3,18 +3,18 @@
 use crate::lists::{KINDS, cut, known};
 use std::alloc::{AllocError, Global};
 
-/// How many variable fields of a message are told one by one.
-const TOLD: usize = 100;
+/// How many variable fields of a message are kept apart.
+const MOST: usize = 100;
 
 /// A field: a fixed one by its name, another by its identifier of two characters.
-pub struct Field<'m> {
+pub struct ShownField<'m> {
     pub name: &'m [u8],
     pub value: &'m [u8],
 }
 
-impl Drop for Field<'_> {
+impl Drop for ShownField<'_> {
     fn drop(self) {
-        let Field { name: _, value: _ } = self;
+        let ShownField { name: _, value: _ } = self;
     }
 }
 
@@ -35,16 +35,19 @@ pub fn name_of(message: &[u8]) -> &'static [u8] {
     }
 }
 
-/// The fields of a message, in its order. Of a very long one, what stands behind the first is told as one field.
-pub fn fields_of<'m>(alloc: Global, message: &'m [u8]) -> Result<Vec<Field<'m>>, AllocError> {
+/// The fields of a message, in its order. Of a very long one, all that comes after the first `MOST` is one field.
+pub fn fields_of<'m>(alloc: Global, message: &'m [u8]) -> Result<Vec<ShownField<'m>>, AllocError> {
     let mut fields = Vec::new(alloc);
     let behind = add_fixed(&mut fields, message.trim_ascii_end())?;
     add_variable(&mut fields, behind)?;
     Ok(fields)
 }
 
-/// Adds the fixed fields of a message, and gives what stands behind them.
-fn add_fixed<'m>(fields: &mut Vec<Field<'m>>, message: &'m [u8]) -> Result<&'m [u8], AllocError> {
+/// Adds the fixed fields of a message, and gives what is after them.
+fn add_fixed<'m>(
+    fields: &mut Vec<ShownField<'m>>,
+    message: &'m [u8],
+) -> Result<&'m [u8], AllocError> {
     let mut rest = message.get(2..).unwrap_or(b"");
     let (_, mut layout) = cut(kind_of(message), b';');
     for _ in 0..layout.len() {
@@ -54,7 +57,7 @@ fn add_fixed<'m>(fields: &mut Vec<Field<'m>>, message: &'m [u8]) -> Result<&'m [
             break;
         }
         let (value, behind) = rest.split_at(rest.len().min(picture.len()));
-        fields.push(Field { name, value })?;
+        fields.push(ShownField { name, value })?;
         rest = behind;
         layout = more;
     }
@@ -62,17 +65,17 @@ fn add_fixed<'m>(fields: &mut Vec<Field<'m>>, message: &'m [u8]) -> Result<&'m [
 }
 
 /// Adds the variable fields, each of which ends at a `|`.
-fn add_variable<'m>(fields: &mut Vec<Field<'m>>, text: &'m [u8]) -> Result<(), AllocError> {
+fn add_variable<'m>(fields: &mut Vec<ShownField<'m>>, text: &'m [u8]) -> Result<(), AllocError> {
     let mut rest = text;
-    for count in 1..=TOLD {
-        let (field, behind) = if count == TOLD {
+    for count in 1..=MOST {
+        let (field, behind) = if count == MOST {
             (rest, b"".as_slice())
         } else {
             cut(rest, b'|')
         };
         if field.len() >= 2 {
             let (name, value) = field.split_at(2);
-            fields.push(Field { name, value })?;
+            fields.push(ShownField { name, value })?;
         }
         rest = behind;
     }
@@ -80,7 +83,7 @@ fn add_variable<'m>(fields: &mut Vec<Field<'m>>, text: &'m [u8]) -> Result<(), A
 }
 
 /// The value of the first field of a name; empty where there is none.
-pub fn value_in<'m>(fields: &[Field<'m>], name: &[u8]) -> &'m [u8] {
+pub fn value_in<'m>(fields: &[ShownField<'m>], name: &[u8]) -> &'m [u8] {
     for field in fields {
         if field.name == name {
             return field.value;
@@ -90,7 +93,11 @@ pub fn value_in<'m>(fields: &[Field<'m>], name: &[u8]) -> &'m [u8] {
 }
 
 /// Writes the values of all fields of a name, one after the other; `none` where there is none.
-pub fn values_in(out: &mut Vec<u8>, fields: &[Field<'_>], name: &[u8]) -> Result<(), AllocError> {
+pub fn values_in(
+    out: &mut Vec<u8>,
+    fields: &[ShownField<'_>],
+    name: &[u8],
+) -> Result<(), AllocError> {
     let mut before = b"".as_slice();
     for field in fields {
         if field.name == name {
@@ -107,7 +114,10 @@ pub fn values_in(out: &mut Vec<u8>, fields: &[Field<'_>], name: &[u8]) -> Result
 
 /// The field that stands for this one in another message: the first of its name, and where a name can come more often,
 /// that of the same value.
-pub fn other_of<'f, 'm>(fields: &'f [Field<'m>], field: &Field<'_>) -> Option<&'f Field<'m>> {
+pub fn other_of<'f, 'm>(
+    fields: &'f [ShownField<'m>],
+    field: &ShownField<'_>,
+) -> Option<&'f ShownField<'m>> {
     let often = field.name == b"BM".as_slice() || field.name == b"BN".as_slice();
     for other in fields {
         if other.name == field.name && (!often || other.value == field.value) {

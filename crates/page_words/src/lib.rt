@@ -1,5 +1,5 @@
-//! What a page says of a run, in words: what messages and fields are called, what was wrong with a response, what was told and what
-//! is right, and why. Here are lists of words and how they are filled in; what is shown where stands in `sip_page`.
+//! What a page says of a run, in words: what messages and fields are called, what was wrong with a response, what was recorded and
+//! what is right, and why. Here are lists of words and how they are filled in; `sip_page` decides what is shown where.
 #![tactic(auto)]
 
 mod because;
@@ -10,10 +10,10 @@ mod lists;
 mod sayings;
 mod sides;
 
-pub use because::{Origin, put_because};
-pub use case::{Case, Names, Texts};
+pub use because::{Because, Origin, because_of};
+pub use case::{Case, CaseNames, TextsById};
 pub use days::{put_day, put_moment, put_time};
-pub use fields::{Field, fields_of, name_of, other_of, value_in, values_in};
+pub use fields::{ShownField, fields_of, name_of, other_of, value_in, values_in};
 pub use lists::{
     ANSWERED, BLOCKED, FEE_TYPES, FIELDS, PLURALS, REASONS, SECRETS, WEIGHTS, WORDS, cut, known,
 };

@@ -127,7 +127,7 @@ pub const PLURALS: &str = "\
 ";
 
 /// How much each word of the report weighs: 1 where the server did another thing than the rules, so that its records may be wrong; 2
-/// where it told something wrong; 3 where nobody can read what it did.
+/// where only what it said is wrong; 3 where nobody can read what it did.
 pub const WEIGHTS: &str = "\
 ok=1
 accepted=1
@@ -208,7 +208,7 @@ Y=blocked
 N=free
 ";
 
-/// What stands before the first `mark` of a text and what stands behind it; without one it is the text and nothing.
+/// What is before the first `mark` of a text and what is after it; without one the text and nothing.
 pub fn cut(text: &[u8], mark: u8) -> (&[u8], &[u8]) {
     for (position, byte) in text.iter().enumerate() {
         if *byte == mark {
@@ -216,6 +216,11 @@ pub fn cut(text: &[u8], mark: u8) -> (&[u8], &[u8]) {
         }
     }
     (text, b"")
+}
+
+/// Whether a part of a line of a list fits a text: `*` fits any.
+pub(crate) fn fits(part: &[u8], text: &[u8]) -> bool {
+    part.starts_with(b"*") || part == text
 }
 
 /// What stands for a code in a list; nothing where the list doesn't have it.

@@ -1,9 +1,9 @@
 //! What went wrong, and what changed, in words.
 
-use crate::case::{Case, Names, Texts};
+use crate::case::{Case, CaseNames, TextsById};
 use crate::days::put_day;
-use crate::fields::{Field, value_in, values_in};
-use crate::lists::{BLOCKED, FEE_TYPES, cut, known};
+use crate::fields::{ShownField, value_in, values_in};
+use crate::lists::{BLOCKED, FEE_TYPES, cut, fits, known};
 use std::alloc::AllocError;
 
 /// What is said of a word of the report: the word, the identifier of the request, a field of the right response with its
@@ -111,22 +111,30 @@ pub fn group_saying(word: &[u8], case: &Case<'_>) -> Saying {
     }
 }
 
-/// Says what a word of the report tells of a case.
+/// Says what a word of the report means for a case.
 pub fn say(
     out: &mut Vec<u8>,
     word: &[u8],
     case: &Case<'_>,
-    names: &Names,
+    names: &CaseNames,
 ) -> Result<(), AllocError> {
-    let saying = saying_of(SAYINGS, word, case, &case.right);
-    fill(out, saying, case, &case.right, names)?;
-    if saying.ends_with(b"{}") {
-        let asked = saying_of(SAYINGS, b"asked", case, &case.right);
-        fill(out, asked, case, &case.right, names)?;
-        let right = saying_of(SAYINGS, b"right", case, &case.right);
-        fill(out, right, case, &case.right, names)?;
+    if put_saying(out, word, case, names)? {
+        put_saying(out, b"asked", case, names)?;
+        put_saying(out, b"right", case, names)?;
     }
     Ok(())
+}
+
+/// Writes what is said of a word. Returns whether the request and what is right are said after it.
+fn put_saying(
+    out: &mut Vec<u8>,
+    word: &[u8],
+    case: &Case<'_>,
+    names: &CaseNames,
+) -> Result<bool, AllocError> {
+    let saying = saying_of(SAYINGS, word, case, &case.right);
+    fill(out, saying, case, &case.right, names)?;
+    Ok(saying.ends_with(b"{}"))
 }
 
 /// What a list says of a word, where a message has these fields; nothing where no line fits.
@@ -134,7 +142,7 @@ pub(crate) fn saying_of(
     list: &'static str,
     word: &[u8],
     case: &Case<'_>,
-    fields: &[Field<'_>],
+    fields: &[ShownField<'_>],
 ) -> &'static [u8] {
     let mut rest = list.as_bytes();
     for _ in 0..list.len() {
@@ -145,7 +153,7 @@ pub(crate) fn saying_of(
         let (about, line) = cut(line, b'|');
         let (kind, line) = cut(line, b'|');
         let (when, saying) = cut(line, b'|');
-        if about == word && (kind == case.kind || kind.starts_with(b"*")) && is_so(when, fields) {
+        if about == word && fits(kind, case.kind) && is_so(when, fields) {
             return saying;
         }
         rest = behind;
@@ -153,10 +161,10 @@ pub(crate) fn saying_of(
     b""
 }
 
-/// Whether a message has a field of this value, as in `ok=1`.
-fn is_so(when: &[u8], fields: &[Field<'_>]) -> bool {
+/// Whether a message has a field of this value, as in `ok=1`; `*` is so of any, since no field has that name.
+fn is_so(when: &[u8], fields: &[ShownField<'_>]) -> bool {
     let (name, value) = cut(when, b'=');
-    name.starts_with(b"*") || value_in(fields, name) == value
+    value_in(fields, name) == value
 }
 
 /// Writes words, and in each place in braces what stands for it: a field of the request (`?`), of the recorded response (`-`), of the
@@ -165,8 +173,8 @@ pub fn fill<'m>(
     out: &mut Vec<u8>,
     words: &[u8],
     case: &Case<'m>,
-    meant: &[Field<'m>],
-    names: &Names,
+    meant: &[ShownField<'m>],
+    names: &CaseNames,
 ) -> Result<(), AllocError> {
     let mut rest = words;
     for _ in 0..words.len() {
@@ -187,8 +195,8 @@ fn put_place<'m>(
     out: &mut Vec<u8>,
     place: &[u8],
     case: &Case<'m>,
-    meant: &[Field<'m>],
-    names: &Names,
+    meant: &[ShownField<'m>],
+    names: &CaseNames,
 ) -> Result<(), AllocError> {
     let Some((side, name)) = place.split_first() else {
         return Ok(());
@@ -211,7 +219,7 @@ fn put_value(
     out: &mut Vec<u8>,
     name: &[u8],
     value: &[u8],
-    names: &Names,
+    names: &CaseNames,
 ) -> Result<(), AllocError> {
     match name {
         b"AH" | b"due" => put_day(out, value),
@@ -252,35 +260,39 @@ fn put_status(out: &mut Vec<u8>, status: &[u8]) -> Result<(), AllocError> {
 
 /// A count without the zeros before it, of which the last one stays.
 fn without_zeros(count: &[u8]) -> &[u8] {
-    let mut rest = count;
-    for _ in 1..count.len() {
-        match rest.strip_prefix(b"0") {
-            Some(behind) => rest = behind,
-            None => break,
+    for (position, digit) in count.iter().enumerate() {
+        if *digit != b'0' || position + 1 == count.len() {
+            return &count[position..];
         }
     }
-    rest
+    count
 }
 
 /// Writes an item, and its title in brackets where it has one.
-pub fn put_item(out: &mut Vec<u8>, item: &[u8], names: &Names) -> Result<(), AllocError> {
+pub fn put_item(out: &mut Vec<u8>, item: &[u8], names: &CaseNames) -> Result<(), AllocError> {
     put_named(out, item, &names.titles)
 }
 
 /// Writes a patron, and the name in brackets where there is one.
-pub fn put_patron(out: &mut Vec<u8>, patron: &[u8], names: &Names) -> Result<(), AllocError> {
+pub fn put_patron(out: &mut Vec<u8>, patron: &[u8], names: &CaseNames) -> Result<(), AllocError> {
     put_named(out, patron, &names.patrons)
 }
 
-fn put_named(out: &mut Vec<u8>, id: &[u8], texts: &Texts) -> Result<(), AllocError> {
+fn put_named(out: &mut Vec<u8>, id: &[u8], texts: &TextsById) -> Result<(), AllocError> {
     out.extend_from_slice(id)?;
-    let Some(text) = texts.get(id) else {
-        return Ok(());
-    };
+    let text = text_in(texts, id);
     if text.is_empty() {
         return Ok(());
     }
     out.extend_from_slice(b" (")?;
     out.extend_from_slice(text)?;
     Ok(out.push(b')')?)
+}
+
+/// The text that belongs to an id; nothing where there is none.
+fn text_in<'t>(texts: &'t TextsById, id: &[u8]) -> &'t [u8] {
+    match texts.get(id) {
+        Some(text) => text,
+        None => b"",
+    }
 }

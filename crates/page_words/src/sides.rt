@@ -1,7 +1,8 @@
-//! What was told and what is right, each in few words.
+//! What was recorded and what is right, each in few words.
 
-use crate::case::{Case, Names};
-use crate::fields::Field;
+use crate::case::{Case, CaseNames};
+use crate::fields::ShownField;
+use crate::lists::known;
 use crate::sayings::{fill, saying_of};
 use std::alloc::AllocError;
 
@@ -35,12 +36,21 @@ whole|*|BL=N|no patron
 whole|*|*|another response
 ";
 
-/// Writes what was told where the report has this word.
+/// The words of the report that are about the whole response.
+const OF_ALL: &str = "\
+ok=whole
+accepted=whole
+missing=whole
+unreadable=whole
+kind=whole
+";
+
+/// Writes what was recorded where the report has this word.
 pub fn put_recorded(
     out: &mut Vec<u8>,
     word: &[u8],
     case: &Case<'_>,
-    names: &Names,
+    names: &CaseNames,
 ) -> Result<(), AllocError> {
     match word {
         b"missing" => out.extend_from_slice(b"nothing"),
@@ -55,30 +65,20 @@ pub fn put_right(
     out: &mut Vec<u8>,
     word: &[u8],
     case: &Case<'_>,
-    names: &Names,
+    names: &CaseNames,
 ) -> Result<(), AllocError> {
-    match word {
-        b"missing" | b"unreadable" | b"kind" => put_side(out, b"whole", case, &case.right, names),
-        _ => put_side(out, word, case, &case.right, names),
-    }
+    put_side(out, word, case, &case.right, names)
 }
 
 fn put_side<'m>(
     out: &mut Vec<u8>,
     word: &[u8],
     case: &Case<'m>,
-    fields: &[Field<'m>],
-    names: &Names,
+    fields: &[ShownField<'m>],
+    names: &CaseNames,
 ) -> Result<(), AllocError> {
-    let about = match word {
-        b"ok" | b"accepted" => b"whole".as_slice(),
-        _ => word,
-    };
-    fill(
-        out,
-        saying_of(SIDES, about, case, fields),
-        case,
-        fields,
-        names,
-    )
+    let whole = known(OF_ALL, word);
+    let about = if whole.is_empty() { word } else { whole };
+    let saying = saying_of(SIDES, about, case, fields);
+    fill(out, saying, case, fields, names)
 }

@@ -12,7 +12,7 @@ use Rattle.sip_reader.specs.Amounts.{whole_len}
 use Rattle.sip_reader.specs.Texts.{fee_id}
 use Rattle.sip_reader.proofs.AmountTexts.{digits_all}
 use Rattle.circ_records.specs.MadeFees.{is_count, line_before, line_of, is_from, may_be_made}
-use Rattle.circ_records.specs.Values.{decimal_of, has_leading_zero, is_decimal}
+use Rattle.circ_records.specs.Texts.{decimal_of, has_leading_zero, is_decimal}
 
 and-false : (b : Bool) → (b && false) ≡ false
 and-false true = refl

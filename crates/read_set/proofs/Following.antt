@@ -1,9 +1,9 @@
-use Rattle.std.proofs.Common.{◌≡◌, Option, Some, None, refl, ap, ◌∙◌, Result, Ok, Err, IfOk, sym}
+use Rattle.std.proofs.Common.{◌≡◌, Bool, true, false, cond, Option, Some, None, refl, ap, ◌∙◌, Result, Ok, Err, IfOk, sym}
 use Rattle.std.specs.Prelude.{IfErr}
 use Rattle.std.specs.Option.{option_map_or}
 use Rattle.read_set.specs.Asks.{Asks, Give, Ask, ◌>>=◌, Done, Wants, follow, over}
 use Rattle.read_set.specs.Stops.{StopsAt, Follows, LacksAt}
-use Rattle.read_set.specs.Maps.{Part, Agrees, Grows}
+use Rattle.read_set.specs.Maps.{Map, Part, Agrees, Grows}
 use Rattle.read_set.specs.declared.source.Stop.{Stop}
 use Rattle.read_set.specs.declared.source.Stop.TheVariants.{Unnoted, Memory}
 use Rattle.circ_records.specs.declared.key.Key.{Key}
@@ -17,7 +17,7 @@ met : {A B : Type 0} (has : Key → Option (Option Record)) (o : Option (Option 
 met has None k rule f x ih e = cc
 met has (Some r) k rule f x ih e = ih r e
 
--- a rule that comes to its end goes on with the next
+-- a rule that ends goes on with the next
 pub follow_done : {A B : Type 0} (has : Key → Option (Option Record)) (m : Asks A) (f : A → Asks B) (x : A) → follow has m ≡ Done x → follow has (m >>= f) ≡ follow has (f x)
 follow_done has (Give y) f x e = let same : y ≡ x = cc in ap (λ v. follow has (f v)) same
 follow_done has (Ask k rule) f x e = met has (has k) k rule f x (λ r. follow_done has (rule r) f x) e
@@ -46,12 +46,12 @@ more_met : {A : Type 0} (old new : Part) (o : Option (Option Record)) (k : Key) 
 more_met old new None k rule x ih grows e = cc
 more_met old new (Some r) k rule x ih grows e = rw (grows r refl) (ih r e)
 
--- What a rule comes to on less it comes to on more.
+-- What a rule results in on less it results in on more.
 pub follow_more : {A : Type 0} (old new : Part) (m : Asks A) (x : A) → Grows old new → follow old m ≡ Done x → follow new m ≡ Done x
 follow_more old new (Give y) x grows e = e
 follow_more old new (Ask k rule) x grows e = more_met old new (old k) k rule x (λ r. follow_more old new (rule r) x grows) (grows k) e
 
--- one that came to its end on less, and then the next to its end on more
+-- one that ended on less, and then the next, which ends on more
 pub follow_next : {A B : Type 0} (old new : Part) (m : Asks A) (f : A → Asks B) (x : A) (y : B) → Grows old new → follow old m ≡ Done x → follow new (f x) ≡ Done y → follow new (m >>= f) ≡ Done y
 follow_next old new m f x y grows first second = follow_then new m f x y (follow_more old new m x grows first) second
 
@@ -63,7 +63,7 @@ ends : {A : Type 0} (has : Key → Option (Option Record)) (M : Key → Option R
 ends has M k rule x None ih a e = cc
 ends has M k rule x (Some r) ih a e = rw (a r refl) (ih r e)
 
--- A rule that comes to its end on what is had gives its outcome over every map that has it.
+-- A rule that ends on what is had gives its outcome over every map that has it.
 pub settles : {A : Type 0} (has : Key → Option (Option Record)) (M : Key → Option Record) (m : Asks A) (x : A) → Agrees has M → follow has m ≡ Done x → over M m ≡ x
 settles has M (Give y) x a e = cc
 settles has M (Ask k rule) x a e = ends has M k rule x (has k) (λ r. settles has M (rule r) x a) (a k) e
@@ -105,6 +105,21 @@ pub over_then : {A B : Type 0} (M : Key → Option Record) (m : Asks A) (f : A �
 over_then M (Give x) f = refl
 over_then M (Ask k rule) f = over_then M (rule (M k)) f
 
--- one that comes to its end goes on with what a call returned of the next, on more
+-- what holds whatever a first part gives
+pub over_all : {A B : Type 0} (M : Map) (m : Asks A) (f : A → Asks B) (P : B → Type 0) → ((x : A) → P (over M (f x))) → P (over M (m >>= f))
+over_all M (Give x) f P h = h x
+over_all M (Ask k rule) f P h = over_all M (rule (M k)) f P h
+
+-- of two ways, the one that is taken
+pub over_either : {A : Type 0} (M : Map) (b : Bool) (m n : Asks A) (P : A → Type 0) → (b ≡ true → P (over M m)) → (b ≡ false → P (over M n)) → P (over M (cond b m n))
+over_either M true m n P h k = h refl
+over_either M false m n P h k = k refl
+
+-- what a call returned that followed a rule is what the rule gives over every map that has what is had
+pub meant : {A : Type 0} (has : Part) (m : Asks A) (r : Result A Stop) → Follows r (follow has m) → IfOk r (λ x. (M : Map) → Agrees has M → x ≡ over M m)
+meant has m (Ok x) h = λ M a. sym (settles has M m x a h)
+meant has m (Err stop) h = tt
+
+-- one that ends goes on with what a call returned of the next, on more
 pub goes_on : {A B : Type 0} (old new : Part) (m : Asks A) (f : A → Asks B) (x : A) (r : Result B Stop) → Grows old new → follow old m ≡ Done x → Follows r (follow new (f x)) → Follows r (follow new (m >>= f))
 goes_on old new m f x r grows first second = rw (follow_done new m f x (follow_more old new m x grows first)) second

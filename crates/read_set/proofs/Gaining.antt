@@ -1,4 +1,4 @@
--- What comes to be had while rules are followed, one after another.
+-- What a source gains while rules are followed, one after another.
 use Rattle.std.proofs.Common.{◌≡◌, inl, inr, Option, Some, None, refl, subst, ◌∙◌}
 use Rattle.std.specs.Option.{option_map_or}
 use Rattle.circ_records.specs.declared.key.Key.{Key}
@@ -84,7 +84,7 @@ gains_step first now last m whole h g within = record {
   ];
 }
 
--- a part that came to its end, and then the next
+-- a part that ended, and then the next
 pub gains_then : {A B P : Type 0} (first now last : Part) (m : Asks A) (f : A → Asks B) (x : A) → follow now m ≡ Done x → Gains P first now m → Gains P now last (f x) → Gains P first last (m >>= f)
 gains_then first now last m f x e h g =
     gains_step first now last (f x) (m >>= f) (gains_first first now m f h) g

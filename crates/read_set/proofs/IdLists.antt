@@ -2,10 +2,9 @@
 use Rattle.std.proofs.Common.{◌≡◌, ◌≤◌, ◌<◌, ℕ, suc, List, [], ◌∷◌, ◌++◌, Bool, true, false, cond, not, length, refl, subst, ap, ◌∙◌, arith}
 use Rattle.std.specs.Prelude.{◌&&◌, ◌||◌, filter}
 use Rattle.std.proofs.lemmas.Bool.{and_parts}
-use Rattle.circ_records.proofs.Lookups.{same-text, tie-text}
-use Rattle.circ_records.proofs.RowsKept.{same-itself}
+use Rattle.circ_records.proofs.SameTexts.{same-text, tie-text, same-itself}
 use Rattle.circ_records.specs.Coherent.{are_distinct, has_id}
-use Rattle.circ_records.specs.Values.{is_same}
+use Rattle.circ_records.specs.Texts.{is_same}
 use Rattle.read_set.specs.Ids as ids
 
 -- two ids are one, whichever comes first

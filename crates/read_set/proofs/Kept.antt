@@ -5,11 +5,11 @@ use Rattle.std.specs.List.{AllByRecursion}
 use Rattle.std.specs.Ordering.{is_eq}
 use Rattle.circ_policy.specs.Ranges.{FitsPolicy}
 use Rattle.circ_policy.specs.Terms.{Terms}
-use Rattle.circ_records.proofs.RowsKept.{same-itself}
+use Rattle.circ_records.proofs.SameTexts.{same-itself}
 use Rattle.circ_records.specs.Coherent.{AreOfKind, IsCoherentMap, as_item, has_id}
 use Rattle.circ_records.specs.Keys.{id_of, key_cmp}
 use Rattle.circ_records.specs.Records.{Entries, record_at}
-use Rattle.circ_records.specs.Values.{is_same}
+use Rattle.circ_records.specs.Texts.{is_same}
 use Rattle.circ_records.specs.declared.key.Key.{Key}
 use Rattle.circ_records.specs.declared.key.Key.TheVariants as keys
 use Rattle.circ_records.specs.declared.record.Record.{Record}
@@ -18,9 +18,10 @@ use Rattle.sip_reader.specs.declared.request.Act.{Act}
 use Rattle.sip_reader.specs.declared.request.Act.TheVariants as acts
 use Rattle.sip_reader.specs.declared.request.Reading.{Reading}
 use Rattle.sip_reader.specs.declared.request.Reading.TheVariants as readings
+use Rattle.read_set.specs.Asks.{over}
 use Rattle.read_set.specs.Coherence.{FitsAct, FitsPlan, FitsReading, HasFewItems, MeaningKeepsCoherence, ReplayKeepsCoherence}
 use Rattle.read_set.specs.Maps.{Map, put}
-use Rattle.read_set.specs.Meaning.{effect, effect_of, one}
+use Rattle.read_set.specs.Meaning.{effect, one, rule, rule_of}
 use Rattle.read_set.specs.Plans.{Planned, reading_at}
 use Rattle.read_set.specs.Replay.{after, one_at, one_by}
 use Rattle.read_set.proofs.Keeping.{one-key}
@@ -38,8 +39,8 @@ use Rattle.read_set.proofs.States.{Parts, coherent-parts, parts-later}
 line-begins : (p : Terms) (n : ℕ) (M : Map) → FitsPolicy p → n ≤ 9999999999 → HasFewItems M → IsCoherentMap p n M → Line p n M
 line-begins p n M fits low few h = record { low = low; policy = fits; parts = parts-later p n M h few; free = free p n M h low }
 
-act-keeps : (p : Terms) (n : ℕ) (M : Map) → Line p n M → (date : List ℕ) (act : Act) → is_stamp date ≡ true → FitsAct act → Parts p (n + 1) M (put (effect_of p n date act M).writes M)
-unfolding effect_of
+act-keeps : (p : Terms) (n : ℕ) (M : Map) → Line p n M → (date : List ℕ) (act : Act) → is_stamp date ≡ true → FitsAct act → Parts p (n + 1) M (put (over M (rule_of p n date act)).writes M)
+unfolding rule_of
 act-keeps p n M line date (acts.BlockPatron q) stamp fits = block-keeps p (n + 1) true q.patron date M line.parts
 act-keeps p n M line date (acts.Checkin q) stamp fits = checkin-keeps p n M line q date
 act-keeps p n M line date (acts.Checkout q) stamp fits = checkout-keeps p n M line q date stamp fits
@@ -51,7 +52,7 @@ act-keeps p n M line date (acts.FeePaid q) stamp fits = payment-keeps p n M line
 act-keeps p n M line date (acts.RenewAll q) stamp fits = renew-all-keeps p n M line q date stamp
 
 line-keeps : (p : Terms) (n : ℕ) (M : Map) → Line p n M → (r : Reading) → FitsReading r → Parts p (n + 1) M (put (effect p n r M).writes M)
-unfolding effect
+unfolding rule
 line-keeps p n M line (readings.Asked q) fits = act-keeps p n M line q.date q.act fits.0 fits.1
 line-keeps p n M line readings.BadSum fits = nothing p (n + 1) M line.parts
 line-keeps p n M line (readings.Passed why) fits = nothing p (n + 1) M line.parts

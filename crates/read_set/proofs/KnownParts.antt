@@ -7,7 +7,7 @@ use Rattle.circ_policy.specs.Terms.{Terms}
 use Rattle.circ_policy.specs.declared.class.Class.{Class}
 use Rattle.circ_policy.specs.declared.media.Media.{Media}
 use Rattle.circ_records.specs.Coherent.{as_item, as_patron, is_known}
-use Rattle.circ_records.specs.Rules.{has_class}
+use Rattle.circ_records.specs.Classes.{has_class}
 use Rattle.circ_records.specs.declared.key.Key.TheVariants as keys
 use Rattle.circ_records.specs.declared.record.Fee.{Fee}
 use Rattle.circ_records.specs.declared.record.Item.{Item}

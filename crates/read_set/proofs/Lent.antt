@@ -4,8 +4,8 @@ use Rattle.std.specs.Prelude.{◌&&◌, IfSome}
 use Rattle.circ_policy.specs.Terms.{Terms}
 use Rattle.circ_records.specs.declared.holds.TheConstants.{QUEUE_MAX}
 use Rattle.circ_records.specs.Coherent.{IsCoherentItem, IsCoherentLoan, is_hold, is_known}
-use Rattle.circ_records.specs.Values.{is_same}
-use Rattle.circ_records.proofs.Lookups.{same-text}
+use Rattle.circ_records.specs.Texts.{is_same}
+use Rattle.circ_records.proofs.SameTexts.{same-text}
 use Rattle.circ_records.specs.declared.key.Key.TheVariants as keys
 use Rattle.circ_records.specs.declared.record.FeeType.TheVariants as fee_types
 use Rattle.circ_records.specs.declared.record.Item.{Item}
@@ -16,20 +16,24 @@ use Rattle.sip_reader.specs.Dates.{is_stamp}
 use Rattle.sip_reader.specs.declared.request.Checkout.{Checkout}
 use Rattle.sip_reader.specs.declared.request.Renew.{Renew}
 use Rattle.circ_policy.specs.Ranges.{FitsMedia}
+use Rattle.read_set.specs.Asks.{Give, over}
 use Rattle.read_set.specs.Coherence.{IsDay}
 use Rattle.read_set.specs.Fees.{fee_made}
 use Rattle.read_set.specs.Ids.{same, without}
 use Rattle.read_set.specs.Known.{item_in, patron_in}
-use Rattle.read_set.specs.Checkouts.{checkout, checkout_known, loan_ended, loan_ended_by, lending, lending_by, lending_made, lending_patron, lending_records, lending_verdict, lending_writes, lent, other_in}
+use Rattle.read_set.specs.Checkouts.{checkout, checkout_rule, checkout_rule_known, loan_ended, loan_ended_by, lending_made, lending_of, lending_patron, lending_records, lending_rule, lending_rule_by, lending_tests, lending_writes, lent, other_at}
 use Rattle.read_set.specs.Loans.{by_checkout, by_renew, charge_for, due_for, lent_to, refused}
-use Rattle.read_set.specs.Renewals.{renew, renew_known, renewal}
+use Rattle.read_set.specs.Renewals.{renew, renew_rule, renew_rule_known, renewal_rule}
+use Rattle.read_set.specs.Lookups.{item_at, patron_at}
 use Rattle.read_set.specs.Maps.{Map, put}
 use Rattle.read_set.specs.Queues.{without_hold}
+use Rattle.read_set.specs.declared.effect.Effect.{Effect}
 use Rattle.read_set.specs.declared.known.Article.{Article}
 use Rattle.read_set.specs.declared.known.Member.{Member}
 use Rattle.read_set.specs.declared.verdict.LoanRequest.{LoanRequest}
 use Rattle.read_set.specs.declared.verdict.Verdict.{Verdict}
 use Rattle.read_set.specs.declared.verdict.Verdict.TheVariants as verdicts
+use Rattle.read_set.proofs.Following.{over_all, over_either, over_then}
 use Rattle.read_set.proofs.IdLists.{same-is, same-turned}
 use Rattle.read_set.proofs.KnownParts.{article-known, article-there, known-member, member-known, member-there}
 use Rattle.read_set.proofs.Line.{Line, charge-most, due-day, put-three, renewal-keeps}
@@ -37,7 +41,7 @@ use Rattle.read_set.proofs.Listing.{IsListed, listed-less, listed-more, set-othe
 use Rattle.read_set.proofs.MapParts.{borrower_of, fees_of, lent_by, loans_of, owed_by, put_one, puts, sound-in}
 use Rattle.read_set.proofs.OneRecord.{lent-at, listed-made, put-made, same-fees, same-patron}
 use Rattle.read_set.proofs.QueueLists.{all-less, distinct-less, gone-less, no-longer}
-use Rattle.read_set.proofs.SimpleKinds.{either-keeps, nothing}
+use Rattle.read_set.proofs.SimpleKinds.{nothing}
 use Rattle.read_set.proofs.States.{Parts, State, ends, fees-at, loans-at, put-item, put-patron, start}
 
 -- THE ITEM THAT IS LENT
@@ -86,10 +90,11 @@ lent-from p n M N line a due charge member article L day most e f s listed =
 
 lending-writes : (p : Terms) (n : ℕ) (M : Map) → Line p n M → (a : LoanRequest) (due charge : ℕ) (member : Member) (article : Article) → IsDay due → charge ≤ 99999999999
     → M (keys.Patron a.patron) ≡ Some (records.Patron member.patron) → M (keys.Item a.item) ≡ Some (records.Item article.item)
-    → Parts p (n + 1) M (put (lending_writes n a due charge member article (other_in p M a.patron article.item.loan)) M)
+    → Parts p (n + 1) M (put (lending_writes n a due charge member article (over M (other_at p a.patron article.item.loan))) M)
+unfolding patron_at
 lending-writes p n M line a due charge member article day most e f =
     subst (λ (N : Map). Parts p (n + 1) M N)
-    (sym (put-three (loan_ended_by a.item article.item.loan (other_in p M a.patron article.item.loan)) (lending_records n a due charge member article) (fee_made n 0 a.patron fee_types.Rental charge) M))
+    (sym (put-three (loan_ended_by a.item article.item.loan (over M (other_at p a.patron article.item.loan))) (lending_records n a due charge member article) (fee_made n 0 a.patron fee_types.Rental charge) M))
     (by article.item.loan refl)
   where
     own : loans_of M a.patron ≡ Some member.patron.loans
@@ -106,7 +111,7 @@ lending-writes p n M line a due charge member article day most e f =
         (subst (λ (x : Option Loan). IsListed (set_at a.patron (Some (kept_list a x member.patron.loans)) L) (set_at a.item None (lent_by M))) (sym l) listed)
 
     lent-to : (loan : Loan) → article.item.loan ≡ Some loan → (b : Bool) → same loan.patron a.patron ≡ b
-        → Parts p (n + 1) M (puts (fee_made n 0 a.patron fee_types.Rental charge) (puts (lending_records n a due charge member article) (puts (loan_ended a.item loan.patron (cond b None (patron_in p M loan.patron))) M)))
+        → Parts p (n + 1) M (puts (fee_made n 0 a.patron fee_types.Rental charge) (puts (lending_records n a due charge member article) (puts (loan_ended a.item loan.patron (over M (cond b (Give None) (patron_at p loan.patron)))) M)))
     lent-to loan l true t =
         let one : loan.patron ≡ a.patron = same-text loan.patron a.patron (sym (same-is loan.patron a.patron) ∙ t) in
         let has : lent_by M a.item ≡ Some a.patron = lent-at M a.item article.item f ∙ ap borrower_of l ∙ ap Some one in
@@ -133,7 +138,7 @@ lending-writes p n M line a due charge member article day most e f =
         (subst (λ (x : List ℕ → Option (List (List ℕ))). IsListed x (set_at a.item None (lent_by M))) (sym (set-same a.patron (Some member.patron.loans) L kept)) less)))
 
     by : (o : Option Loan) → article.item.loan ≡ o
-        → Parts p (n + 1) M (puts (fee_made n 0 a.patron fee_types.Rental charge) (puts (lending_records n a due charge member article) (puts (loan_ended_by a.item o (other_in p M a.patron o)) M)))
+        → Parts p (n + 1) M (puts (fee_made n 0 a.patron fee_types.Rental charge) (puts (lending_records n a due charge member article) (puts (loan_ended_by a.item o (over M (other_at p a.patron o))) M)))
     by None l =
         let none : lent_by M a.item ≡ None = lent-at M a.item article.item f ∙ ap borrower_of l in
         from M (loans_of M) None l begin
@@ -142,40 +147,43 @@ lending-writes p n M line a due charge member article day most e f =
     by (Some loan) l = lent-to loan l (same loan.patron a.patron) refl
 
 pub lending-keeps : (p : Terms) (n : ℕ) (M : Map) → Line p n M → (a : LoanRequest) (date : List ℕ) (member : Member) (article : Article) → is_stamp date ≡ true → IfSome a.given IsDay
-    → patron_in p M a.patron ≡ Some member → item_in p M a.item ≡ Some article → Parts p (n + 1) M (put (lending p n a date M member article).writes M)
-unfolding refused lending_made
-lending-keeps p n M line a date member article stamp fits e f = by (lending_verdict M a member article)
+    → patron_in p M a.patron ≡ Some member → item_in p M a.item ≡ Some article → Parts p (n + 1) M (put (over M (lending_rule p n a date member article)).writes M)
+unfolding refused lending_made lending_of lending_rule
+lending-keeps p n M line a date member article stamp fits e f =
+    over_all M (lending_tests a member article) (λ v. lending_rule_by p n a date member article v) (λ (x : Effect). Parts p (n + 1) M (put x.writes M)) by
   where
-    by : (v : Verdict) → Parts p (n + 1) M (put (lending_by p n a date M member article v).writes M)
+    by : (v : Verdict) → Parts p (n + 1) M (put (over M (lending_rule_by p n a date member article v)).writes M)
     by verdicts.Refused = nothing p (n + 1) M line.parts
     by verdicts.Unpaid = nothing p (n + 1) M line.parts
     by verdicts.Made =
         let there = article-there p M a.item article f in
         let terms : FitsMedia article.media = line.policy article.item.media article.media there.1 in
-        lending-writes p n M line a (due_for p a date article.media) (charge_for a article.media) member article (due-day p a date article.media stamp terms.days fits) (charge-most a article.media terms.rental)
-        (member-there p M a.patron member e) there.0
+        subst (λ (x : Effect). Parts p (n + 1) M (put x.writes M)) (sym (over_then M (other_at p a.patron article.item.loan) (λ other. Give (lending_made p n a date member article other))))
+        (lending-writes p n M line a (due_for p a date article.media) (charge_for a article.media) member article (due-day p a date article.media stamp terms.days fits) (charge-most a article.media terms.rental)
+        (member-there p M a.patron member e) there.0)
 
 -- THE TWO REQUESTS
 
 pub renew-keeps : (p : Terms) (n : ℕ) (M : Map) → Line p n M → (q : Renew) (date : List ℕ) → is_stamp date ≡ true → IfSome q.due IsDay → Parts p (n + 1) M (put (renew p n q date M).writes M)
-unfolding refused
+unfolding refused renew_rule patron_at item_at
 renew-keeps p n M line q date stamp fits = by (patron_in p M q.patron) refl (item_in p M q.item) refl
   where
-    by : (o : Option Member) → patron_in p M q.patron ≡ o → (x : Option Article) → item_in p M q.item ≡ x → Parts p (n + 1) M (put (renew_known p n (by_renew q) date M o x).writes M)
+    by : (o : Option Member) → patron_in p M q.patron ≡ o → (x : Option Article) → item_in p M q.item ≡ x → Parts p (n + 1) M (put (over M (renew_rule_known p n (by_renew q) date o x)).writes M)
     by None e None f = nothing p (n + 1) M line.parts
     by None e (Some article) f = nothing p (n + 1) M line.parts
     by (Some member) e None f = nothing p (n + 1) M line.parts
     by (Some member) e (Some article) f = renewal-keeps p n M line (by_renew q) date member article stamp fits e f
 
 pub checkout-keeps : (p : Terms) (n : ℕ) (M : Map) → Line p n M → (q : Checkout) (date : List ℕ) → is_stamp date ≡ true → IfSome q.due IsDay → Parts p (n + 1) M (put (checkout p n q date M).writes M)
-unfolding refused
+unfolding refused checkout_rule patron_at item_at
 checkout-keeps p n M line q date stamp fits = by (patron_in p M q.patron) refl (item_in p M q.item) refl
   where
-    by : (o : Option Member) → patron_in p M q.patron ≡ o → (x : Option Article) → item_in p M q.item ≡ x → Parts p (n + 1) M (put (checkout_known p n q date M o x).writes M)
+    by : (o : Option Member) → patron_in p M q.patron ≡ o → (x : Option Article) → item_in p M q.item ≡ x → Parts p (n + 1) M (put (over M (checkout_rule_known p n q date o x)).writes M)
     by None e None f = nothing p (n + 1) M line.parts
     by None e (Some article) f = nothing p (n + 1) M line.parts
     by (Some member) e None f = nothing p (n + 1) M line.parts
     by (Some member) e (Some article) f =
-        either-keeps p (n + 1) M (q.renewal && lent_to q.patron article.item.loan) (renewal p n (by_checkout q) date M member article) (lending p n (by_checkout q) date M member article)
+        over_either M (q.renewal && lent_to q.patron article.item.loan) (renewal_rule p n (by_checkout q) date member article) (lending_rule p n (by_checkout q) date member article)
+        (λ (x : Effect). Parts p (n + 1) M (put x.writes M))
         (λ t. renewal-keeps p n M line (by_checkout q) date member article stamp fits e f)
         (λ t. lending-keeps p n M line (by_checkout q) date member article stamp fits e f)

@@ -13,6 +13,7 @@ pub mod MapParts
 pub mod More
 pub mod Numbers
 pub mod OneRecord
+pub mod Overs
 pub mod Paid
 pub mod PlanFits
 pub mod Putting

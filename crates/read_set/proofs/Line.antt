@@ -17,19 +17,22 @@ use Rattle.circ_records.specs.declared.record.Record.TheVariants as records
 use Rattle.sip_reader.specs.Dates.{day_of, is_stamp}
 use Rattle.sip_reader.specs.Texts.{fee_id}
 use Rattle.circ_policy.specs.Ranges.{FitsMedia, FitsPolicy}
+use Rattle.read_set.specs.Asks.{Give, over}
 use Rattle.read_set.specs.Coherence.{IsDay}
 use Rattle.read_set.specs.Effects.{written}
 use Rattle.read_set.specs.Fees.{fee_made, with_fee}
 use Rattle.read_set.specs.Known.{item_in, patron_in}
 use Rattle.read_set.specs.Loans.{charge_for, due_for, given_or, refused}
-use Rattle.read_set.specs.Renewals.{charged, one_more, renewal, renewal_by, renewal_made, renewal_verdict, renewal_writes, renewed, renewed_loan}
+use Rattle.read_set.specs.Renewals.{charged, one_more, renewal_by, renewal_made, renewal_rule, renewal_tests, renewal_writes, renewed, renewed_loan}
 use Rattle.read_set.specs.Maps.{Map, put}
+use Rattle.read_set.specs.declared.effect.Effect.{Effect}
 use Rattle.read_set.specs.declared.known.Article.{Article}
 use Rattle.read_set.specs.declared.known.Member.{Member}
 use Rattle.read_set.specs.declared.verdict.LoanRequest.{LoanRequest}
 use Rattle.read_set.specs.declared.verdict.Verdict.{Verdict}
 use Rattle.read_set.specs.declared.verdict.Verdict.TheVariants as verdicts
 use Rattle.read_set.proofs.DueDays.{due-real}
+use Rattle.read_set.proofs.Following.{over_all}
 use Rattle.read_set.proofs.KnownParts.{article-known, article-there, member-known, member-there}
 use Rattle.read_set.proofs.Listing.{IsListed, set_at}
 use Rattle.read_set.proofs.MapParts.{borrower_of, fees_of, lent_by, loans_of, owed_by, put-none, put-written, put_one, puts, sound-in}
@@ -135,9 +138,10 @@ renewal-writes p n M line a due charge member article day most e f =
     (listed-made n 0 a.patron charge (fees_of M) (owed_by M) member.patron.fees line.parts.fees (fees-at M a.patron member.patron e) (line.free 0 (omega arith))))
 
 pub renewal-keeps : (p : Terms) (n : ℕ) (M : Map) → Line p n M → (a : LoanRequest) (date : List ℕ) (member : Member) (article : Article) → is_stamp date ≡ true → IfSome a.given IsDay
-    → patron_in p M a.patron ≡ Some member → item_in p M a.item ≡ Some article → Parts p (n + 1) M (put (renewal p n a date M member article).writes M)
-unfolding refused renewal_made
-renewal-keeps p n M line a date member article stamp fits e f = by (renewal_verdict M a member article)
+    → patron_in p M a.patron ≡ Some member → item_in p M a.item ≡ Some article → Parts p (n + 1) M (put (over M (renewal_rule p n a date member article)).writes M)
+unfolding refused renewal_made renewal_rule
+renewal-keeps p n M line a date member article stamp fits e f =
+    over_all M (renewal_tests [] a member article) (λ v. Give (renewal_by p n a date member article v)) (λ (x : Effect). Parts p (n + 1) M (put x.writes M)) by
   where
     by : (v : Verdict) → Parts p (n + 1) M (put (renewal_by p n a date member article v).writes M)
     by verdicts.Refused = nothing p (n + 1) M line.parts

@@ -2,10 +2,9 @@
 use Rattle.std.proofs.Common.{◌≡◌, ℕ, List, [], ◌∷◌, ◌++◌, Bool, true, false, cond, not, Option, Some, None, refl, sym, ap, ◌∙◌}
 use Rattle.std.specs.Prelude.{◌&&◌, ◌||◌}
 use Rattle.std.proofs.Math.Path.{fun_ext}
-use Rattle.circ_records.proofs.Lookups.{same-text}
-use Rattle.circ_records.proofs.RowsKept.{same-itself}
+use Rattle.circ_records.proofs.SameTexts.{same-text, same-itself}
 use Rattle.circ_records.specs.Coherent.{are_distinct, has_id}
-use Rattle.circ_records.specs.Values.{is_same}
+use Rattle.circ_records.specs.Texts.{is_same}
 use Rattle.read_set.specs.Ids.{without}
 use Rattle.read_set.proofs.IdLists.{distinct-more, distinct-without, has-more, has-without}
 

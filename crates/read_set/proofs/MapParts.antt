@@ -11,8 +11,8 @@ use Rattle.circ_policy.specs.Terms.{Terms}
 use Rattle.circ_records.specs.Coherent.{AreOfKind, IsCoherentFee, IsCoherentItem, IsCoherentLoan, as_fee, as_item, as_patron, is_hold, is_known, is_of_kind}
 use Rattle.circ_records.specs.Keys.{key_cmp}
 use Rattle.circ_records.specs.Records.{Entries, record_at}
-use Rattle.circ_records.specs.Rules.{has_class}
-use Rattle.circ_records.specs.Values.{is_same}
+use Rattle.circ_records.specs.Classes.{has_class}
+use Rattle.circ_records.specs.Texts.{is_same}
 use Rattle.circ_records.specs.declared.holds.Hold.{Hold}
 use Rattle.circ_records.specs.declared.key.Key.{Key}
 use Rattle.circ_records.specs.declared.key.Key.TheVariants as keys

@@ -35,7 +35,7 @@ noted_more notes note fresh k r e = by (is_at (key_cmp k) note.key) refl
 pub asked_there : (notes : List Note) (note : Note) → note_of notes note.key ≡ None → follow (noted (notes ++ note ∷ [])) (Ask note.key Give) ≡ Done note.found
 asked_there notes note fresh = ap (λ (o : Option (Option Record)). option_map_or (λ r. Done r) o (Wants note.key)) (noted_there notes note fresh)
 
--- no other key comes to be had
+-- no other key is gained
 pub noted_gains : {P : Type 0} (notes : List Note) (note : Note) → note_of notes note.key ≡ None → Gains P (noted notes) (noted (notes ++ note ∷ [])) (Ask note.key Give)
 noted_gains notes note fresh = record { grows = noted_more notes note fresh; asked = λ p k. by k (is_at (key_cmp k) note.key) refl }
   where

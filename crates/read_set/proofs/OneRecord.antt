@@ -11,7 +11,7 @@ use Rattle.circ_records.specs.declared.record.Patron.{Patron}
 use Rattle.circ_records.specs.declared.record.Record.TheVariants as records
 use Rattle.sip_reader.proofs.FeeIds.{is_id-fee}
 use Rattle.sip_reader.specs.Texts.{fee_id, is_text}
-use Rattle.circ_records.specs.Rules.{has_class}
+use Rattle.circ_records.specs.Classes.{has_class}
 use Rattle.circ_records.specs.MadeFees.{may_be_made}
 use Rattle.read_set.specs.Fees.{fee_made, with_fee}
 use Rattle.read_set.specs.Maps.{Map}

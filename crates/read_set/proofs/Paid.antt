@@ -4,30 +4,34 @@ use Rattle.std.specs.Prelude.{◌&&◌, ◌||◌, ◌==◌}
 use Rattle.std.proofs.Math.Path.{fun_ext}
 use Rattle.std.proofs.lemmas.Bool.{eqb-false, eqb-true, le-ltb, lt-ltb}
 use Rattle.circ_policy.specs.Terms.{Terms}
-use Rattle.circ_records.proofs.Lookups.{same-text}
-use Rattle.circ_records.proofs.RowsKept.{same-itself}
+use Rattle.circ_records.proofs.SameTexts.{same-text, same-itself}
 use Rattle.circ_records.specs.Coherent.{IsCoherentFee, as_fee, has_id}
-use Rattle.circ_records.specs.Values.{is_same}
+use Rattle.circ_records.specs.Texts.{is_same}
 use Rattle.circ_records.specs.declared.key.Key.TheVariants as keys
 use Rattle.circ_records.specs.declared.record.Fee.{Fee}
 use Rattle.circ_records.specs.declared.record.Patron.{Patron}
 use Rattle.circ_records.specs.declared.record.Record.TheVariants as records
 use Rattle.sip_reader.specs.declared.request.FeePaid.{FeePaid}
+use Rattle.read_set.specs.Asks.{over}
 use Rattle.read_set.specs.Effects.{written}
 use Rattle.read_set.specs.Ids.{is_any, without_all}
 use Rattle.read_set.specs.Ids as ids
 use Rattle.read_set.specs.Known.{fee_in, patron_in}
+use Rattle.read_set.specs.Lookups.{patron_at}
 use Rattle.read_set.specs.Maps.{Map, put}
-use Rattle.read_set.specs.Payments.{all_paid, fee_paid, fee_paid_known, meant, only_known, part_of, pay_each, pay_one, payment}
+use Rattle.read_set.specs.Payments.{all_paid, fee_paid, fee_paid_rule, fee_paid_rule_known, meant, only_known, part_of, pay_one, payment_rule}
+use Rattle.read_set.specs.declared.effect.Effect.{Effect}
 use Rattle.read_set.specs.declared.known.Member.{Member}
 use Rattle.read_set.specs.declared.progress.Payments.{Payments}
+use Rattle.read_set.proofs.Following.{over_either}
 use Rattle.read_set.proofs.IdLists.{distinct-without-all, has-is, has-more, has-without-all}
 use Rattle.read_set.proofs.KnownParts.{fee-there, member-there}
 use Rattle.read_set.proofs.Line.{Line}
 use Rattle.read_set.proofs.Listing.{IsListed, listed-changed, owned_by, set-same, set_at}
 use Rattle.read_set.proofs.MapParts.{debtor, fees_of, lent_by, loans_of, owed_by, owed_fee, put-none, put-written, put_one}
 use Rattle.read_set.proofs.OneRecord.{same-loans, same-patron}
-use Rattle.read_set.proofs.SimpleKinds.{either-keeps, nothing}
+use Rattle.read_set.proofs.Overs.{paid-over, pay_each}
+use Rattle.read_set.proofs.SimpleKinds.{nothing}
 use Rattle.read_set.proofs.States.{Parts, State, ends, fees-at, put-fee, put-patron, start}
 
 -- how far it came: only closed fees have nobody who owes them, and they were the patron's
@@ -207,14 +211,18 @@ module _ (p : Terms) (n : ℕ) (M : Map) (line : Line p n M) (id : List ℕ) (pa
           (less-listed done t)))
 
 pub payment-keeps : (p : Terms) (n : ℕ) (M : Map) → Line p n M → (q : FeePaid) (date : List ℕ) → Parts p (n + 1) M (put (fee_paid p q date M).writes M)
+unfolding fee_paid_rule patron_at payment_rule
 payment-keeps p n M line q date = by (patron_in p M q.patron) refl
   where
-    by : (o : Option Member) → patron_in p M q.patron ≡ o → Parts p (n + 1) M (put (fee_paid_known p q date M o).writes M)
+    by : (o : Option Member) → patron_in p M q.patron ≡ o → Parts p (n + 1) M (put (over M (fee_paid_rule_known p q date o)).writes M)
     by None e = nothing p (n + 1) M line.parts
     by (Some member) e =
         let there = member-there p M q.patron member e in
-        either-keeps p (n + 1) M (not (ids.same q.currency p.currency)) _ _ (λ t. nothing p (n + 1) M line.parts)
-        (λ t. either-keeps p (n + 1) M (q.amount == 0) _ (payment p q date M member.patron) (λ s. nothing p (n + 1) M line.parts)
-        (λ s. ends-paid p n M line q.patron member.patron there q date refl (pay_each M (meant M q.fee member.patron.fees) (record { left = q.amount; writes = []; closed = [] }))
-        (paid-each p n M line q.patron member.patron there (meant M q.fee member.patron.fees) (record { left = q.amount; writes = []; closed = [] }) (begins p n M line q.patron member.patron there q.amount)
-        (meant-own p n M line q.patron member.patron there q.fee))))
+        let after : Effect → Type 0 = λ x. Parts p (n + 1) M (put x.writes M) in
+        let begun : Payments = record { left = q.amount; writes = []; closed = [] } in
+        over_either M (not (ids.same q.currency p.currency)) _ _ after (λ t. nothing p (n + 1) M line.parts)
+        (λ t. over_either M (q.amount == 0) _ (payment_rule p q date member.patron) after (λ s. nothing p (n + 1) M line.parts)
+        (λ s. subst after (sym (paid-over M p q date member.patron))
+        (ends-paid p n M line q.patron member.patron there q date refl (pay_each M (meant M q.fee member.patron.fees) begun)
+        (paid-each p n M line q.patron member.patron there (meant M q.fee member.patron.fees) begun (begins p n M line q.patron member.patron there q.amount)
+        (meant-own p n M line q.patron member.patron there q.fee)))))

@@ -7,18 +7,15 @@ use Rattle.circ_policy.specs.Ranges.{FitsPolicy}
 use Rattle.circ_policy.specs.Reading.{policy_of}
 use Rattle.circ_policy.specs.Terms.{Terms}
 use Rattle.read_set.specs.Replay.{last}
-use Rattle.read_set.specs.Maps.{Map}
-use Rattle.circ_records.proofs.ReadAgain.{read-again}
-use Rattle.std.proofs.Math.Path.{fun_ext}
-use Rattle.circ_records.specs.Coherent.{AreOfKind, Coherent, number_before, IsCoherentMap}
-use Rattle.circ_records.specs.Records.{Entries, record_at}
+use Rattle.circ_records.specs.Coherent.{Coherent, number_before}
+use Rattle.circ_records.specs.Records.{Entries}
 use Rattle.journal_table.proofs.Ends.{ends-lines}
 use Rattle.journal_table.specs.Entry.{Entry, first_number}
 use Rattle.journal_table.specs.Journal.{journal_of, header}
 use Rattle.journal_table.specs.Readings.{EndInTime, IsRead, NumberedReading, first_read, reading_at}
 use Rattle.sip_reader.specs.declared.request.Reading.{Reading}
 use Rattle.csv_table.specs.Rows.{rows_under}
-use Rattle.read_set.specs.Coherence.{FitsPlan, FitsReading, ReadPlansStayCoherent, FinalTablesReadBack, StaysCoherent}
+use Rattle.read_set.specs.Coherence.{FitsPlan, FitsReading, ReadPlansStayCoherent}
 use Rattle.read_set.specs.Plans.{beginning, plan_over, plan_of, plan_read, readings_of, Planned}
 use Rattle.read_set.proofs.Kept.{replay-keeps}
 use Rattle.read_set.proofs.ReadingFits.{reading-fits}
@@ -84,12 +81,3 @@ bare-fits plan fits = record { policy = fits.policy; readings = fits.readings; b
 
 pub read-plans : (base : Entries) → length base ≤ 2 ^ 64 → ReadPlansStayCoherent base
 read-plans base few text bytes policy lines p j h = replay-keeps (plan_of policy base lines) (plan-fits text bytes policy base lines p j few h)
-
--- the tables of the last records are read again
-pub final-tables : (base : Entries) → length base ≤ 2 ^ 64 → FinalTablesReadBack base
-final-tables base few text bytes policy lines p j h kinds entries rising tells =
-    let plan : Planned = plan_of policy base lines in
-    let stays : StaysCoherent plan = read-plans base few text bytes policy lines p j h in
-    let same : record_at entries ≡ last plan = fun_ext tells in
-    read-again policy (plan.first + length plan.readings) entries rising (subst (λ (m : Map). IsCoherentMap policy (plan.first + length plan.readings) m) (sym same) stays.last)
-    (subst (λ (m : Map). AreOfKind m) (sym same) (stays.kinds kinds))

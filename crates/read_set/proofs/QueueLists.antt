@@ -3,9 +3,9 @@ use Rattle.std.proofs.Common.{◌≡◌, ◌≤◌, ◌+◌, ℕ, suc, List, [],
 use Rattle.std.specs.Prelude.{◌&&◌, ◌||◌}
 use Rattle.std.specs.List.{list_all}
 use Rattle.std.proofs.lemmas.Bool.{and_from, and_parts}
-use Rattle.circ_records.proofs.Lookups.{same-text, tie-text}
+use Rattle.circ_records.proofs.SameTexts.{same-text, tie-text}
 use Rattle.circ_records.specs.Coherent.{are_distinct, has_id, is_hold, is_known}
-use Rattle.circ_records.specs.Values.{is_same}
+use Rattle.circ_records.specs.Texts.{is_same}
 use Rattle.circ_records.specs.declared.holds.Hold.{Hold}
 use Rattle.sip_reader.specs.Texts.{is_text}
 use Rattle.read_set.specs.Ids.{same}

@@ -3,9 +3,9 @@ use Rattle.std.proofs.Common.{◌≡◌, ◌≤◌, ◌<◌, ◌^◌, ◌+◌, �
 use Rattle.std.specs.Prelude.{is_some, nat_lt}
 use Rattle.std.proofs.lemmas.Bool.{ltb-false}
 use Rattle.circ_policy.specs.Terms.{Terms}
-use Rattle.circ_records.proofs.Lookups.{same-text}
+use Rattle.circ_records.proofs.SameTexts.{same-text}
 use Rattle.circ_records.specs.Coherent.{as_item, has_id, is_lent_to}
-use Rattle.circ_records.specs.Values.{is_same}
+use Rattle.circ_records.specs.Texts.{is_same}
 use Rattle.circ_records.specs.declared.key.Key.TheVariants as keys
 use Rattle.circ_records.specs.declared.record.FeeType.TheVariants as fee_types
 use Rattle.circ_records.specs.declared.record.Item.{Item}
@@ -14,13 +14,16 @@ use Rattle.sip_reader.specs.Dates.{is_stamp}
 use Rattle.sip_reader.specs.Texts.{fee_id}
 use Rattle.sip_reader.specs.declared.request.RenewAll.{RenewAll}
 use Rattle.circ_policy.specs.Ranges.{FitsMedia}
+use Rattle.read_set.specs.Asks.{Give, over}
 use Rattle.read_set.specs.Effects.{written}
 use Rattle.read_set.specs.Fees.{fee_made, with_fee}
-use Rattle.read_set.specs.Known.{item_in, patron_in}
+use Rattle.read_set.specs.Known.{as_article, item_in, patron_in}
 use Rattle.read_set.specs.Loans.{due_for}
-use Rattle.read_set.specs.Renewals.{renewal_verdict, renewed}
+use Rattle.read_set.specs.Lookups.{ask_after, patron_at}
 use Rattle.read_set.specs.Maps.{Map, put}
-use Rattle.read_set.specs.RenewAlls.{all_renewed, by_renew_all, none_renewed, one_left, one_renewed, renew_all, renew_all_known, turn, turn_by, turn_known, turns}
+use Rattle.read_set.specs.Renewals.{renewal_tests, renewed}
+use Rattle.read_set.specs.RenewAlls.{all_renewed, by_renew_all, none_renewed, one_left, one_renewed, renew_all, renew_all_rule, renew_all_rule_known, turn_by, turn_rule, turn_rule_known, turns_rule}
+use Rattle.read_set.specs.declared.effect.Effect.{Effect}
 use Rattle.read_set.specs.declared.known.Article.{Article}
 use Rattle.read_set.specs.declared.known.Member.{Member}
 use Rattle.read_set.specs.declared.progress.Renewals.{Renewals}
@@ -28,12 +31,14 @@ use Rattle.read_set.specs.declared.verdict.LoanRequest.{LoanRequest}
 use Rattle.read_set.specs.declared.verdict.Verdict.{Verdict}
 use Rattle.read_set.specs.declared.verdict.Verdict.TheVariants as verdicts
 use Rattle.read_set.proofs.FeeNumbers.{one-count}
+use Rattle.read_set.proofs.Following.{over_all, over_then}
 use Rattle.read_set.proofs.IdLists.{no-more}
 use Rattle.read_set.proofs.KnownParts.{article-known, article-there, member-known, member-there}
 use Rattle.read_set.proofs.Line.{Line, due-day, right-renewed, same-renewed}
 use Rattle.read_set.proofs.Listing.{IsListed, set-other, set-same, set-there, set-twice, set_at}
 use Rattle.read_set.proofs.MapParts.{borrower_of, fees_of, lent_by, loans_of, owed_by, put-none, put-written, put_one, puts}
 use Rattle.read_set.proofs.OneRecord.{lent-at, listed-made, owed_after, put-made, same-fees, same-loans, same-patron}
+use Rattle.read_set.proofs.Overs.{asked}
 use Rattle.read_set.proofs.SimpleKinds.{nothing}
 use Rattle.read_set.proofs.States.{Parts, State, ends, lent-is, loans-at, put-item, put-patron, start}
 
@@ -130,25 +135,33 @@ module _ (p : Terms) (n : ℕ) (M : Map) (line : Line p n M) (q : RenewAll) (dat
         few = more-most done.made article.media.rental most few;
       }
 
-  one-turn : (id : List ℕ) (most : ℕ) (done : Renewals) → Turned p n M q.patron member most done → most < 2 ^ 64 → Turned p n M q.patron member (most + 1) (turn p n (by_renew_all q id) date M done)
-  unfolding turn_by
-  one-turn id most done t small = by (item_in p (put done.writes M) id) refl
+  one-turn : (id : List ℕ) (most : ℕ) (done : Renewals) → Turned p n M q.patron member most done → most < 2 ^ 64 → Turned p n M q.patron member (most + 1) (over M (turn_rule p n (by_renew_all q id) date done))
+  unfolding turn_by turn_rule
+  one-turn id most done t small =
+      subst (Turned p n M q.patron member (most + 1))
+      (sym (over_then M (ask_after done.writes (keys.Item id)) (λ found. turn_rule_known p n (by_renew_all q id) date done (as_article p found))
+      ∙ ap (λ found. over M (turn_rule_known p n (by_renew_all q id) date done (as_article p found))) (asked done.writes M (keys.Item id))))
+      (by (item_in p (put done.writes M) id) refl)
     where
       verdict : (article : Article) → item_in p (put done.writes M) id ≡ Some article → (v : Verdict) → Turned p n M q.patron member (most + 1) (turn_by p n (by_renew_all q id) date article done v)
       verdict article e verdicts.Made = made-turn id most done article t small e
       verdict article e verdicts.Refused = left id most done t
       verdict article e verdicts.Unpaid = left id most done t
 
-      by : (o : Option Article) → item_in p (put done.writes M) id ≡ o → Turned p n M q.patron member (most + 1) (turn_known p n (by_renew_all q id) date M done o)
+      by : (o : Option Article) → item_in p (put done.writes M) id ≡ o → Turned p n M q.patron member (most + 1) (over M (turn_rule_known p n (by_renew_all q id) date done o))
       by None e = left id most done t
-      by (Some article) e = verdict article e (renewal_verdict (put done.writes M) (by_renew_all q id) done.member article)
+      by (Some article) e =
+          over_all M (renewal_tests done.writes (by_renew_all q id) done.member article) (λ v. Give (turn_by p n (by_renew_all q id) date article done v)) (Turned p n M q.patron member (most + 1))
+          (verdict article e)
 
-  all-turns : (ids : List (List ℕ)) (most : ℕ) (done : Renewals) → Turned p n M q.patron member most done → most + length ids ≤ 2 ^ 64 → Turned p n M q.patron member (most + length ids) (turns p n q date M ids done)
+  all-turns : (ids : List (List ℕ)) (most : ℕ) (done : Renewals) → Turned p n M q.patron member most done → most + length ids ≤ 2 ^ 64 → Turned p n M q.patron member (most + length ids) (over M (turns_rule p n q date ids done))
   all-turns [] most done t small = let same : most ≡ most + 0 = omega arith in subst (λ (x : ℕ). Turned p n M q.patron member x done) same t
   all-turns (id ∷ more) most done t small =
       let same : most + 1 + length more ≡ most + suc (length more) = omega arith in
-      subst (λ (x : ℕ). Turned p n M q.patron member x (turns p n q date M more (turn p n (by_renew_all q id) date M done))) same
-      (all-turns more (most + 1) (turn p n (by_renew_all q id) date M done) (one-turn id most done t (omega arith)) (omega arith))
+      let next : Renewals = over M (turn_rule p n (by_renew_all q id) date done) in
+      subst (λ (x : ℕ). Turned p n M q.patron member x (over M (turns_rule p n q date (id ∷ more) done))) same
+      (subst (Turned p n M q.patron member (most + 1 + length more)) (sym (over_then M (turn_rule p n (by_renew_all q id) date done) (λ done. turns_rule p n q date more done)))
+      (all-turns more (most + 1) next (one-turn id most done t (omega arith)) (omega arith)))
 
   first : Turned p n M q.patron member 0 (none_renewed member)
   first = record {
@@ -193,12 +206,14 @@ module _ (p : Terms) (n : ℕ) (M : Map) (line : Line p n M) (q : RenewAll) (dat
           (subst (λ (x : List ℕ → Option (List (List ℕ))). IsListed x t.owners) (ap (λ l. set_at q.patron (Some l) (fees_of M)) (t.none e) ∙ same-fees M q.patron member.patron there) t.listed)
 
 pub renew-all-keeps : (p : Terms) (n : ℕ) (M : Map) → Line p n M → (q : RenewAll) (date : List ℕ) → is_stamp date ≡ true → Parts p (n + 1) M (put (renew_all p n q date M).writes M)
+unfolding renew_all_rule patron_at
 renew-all-keeps p n M line q date stamp = by (patron_in p M q.patron) refl
   where
-    by : (o : Option Member) → patron_in p M q.patron ≡ o → Parts p (n + 1) M (put (renew_all_known p n q date M o).writes M)
+    by : (o : Option Member) → patron_in p M q.patron ≡ o → Parts p (n + 1) M (put (over M (renew_all_rule_known p n q date o)).writes M)
     by None e = nothing p (n + 1) M line.parts
     by (Some member) e =
         let there = member-there p M q.patron member e in
         let few : length member.patron.loans ≤ 2 ^ 64 = few-loans p n M line q date stamp member there in
-        end p n M line q date stamp member there (turns p n q date M member.patron.loans (none_renewed member)) (0 + length member.patron.loans)
-        (all-turns p n M line q date stamp member there member.patron.loans 0 (none_renewed member) (first p n M line q date stamp member there) (omega arith))
+        subst (λ (x : Effect). Parts p (n + 1) M (put x.writes M)) (sym (over_then M (turns_rule p n q date member.patron.loans (none_renewed member)) (λ done. Give (all_renewed p q date done))))
+        (end p n M line q date stamp member there (over M (turns_rule p n q date member.patron.loans (none_renewed member))) (0 + length member.patron.loans)
+        (all-turns p n M line q date stamp member there member.patron.loans 0 (none_renewed member) (first p n M line q date stamp member there) (omega arith)))

@@ -13,11 +13,15 @@ use Rattle.circ_records.specs.declared.record.Record.TheVariants as records
 use Rattle.sip_reader.specs.declared.request.Checkin.{Checkin}
 use Rattle.circ_policy.specs.Ranges.{FitsMedia}
 use Rattle.read_set.specs.Fees.{fee_made}
-use Rattle.read_set.specs.Known.{borrower_in, item_in}
+use Rattle.read_set.specs.Asks.{Give, over, ◌>>=◌}
+use Rattle.read_set.specs.Known.{item_in}
+use Rattle.read_set.specs.Lookups.{borrower_at, item_at, patron_at}
 use Rattle.read_set.specs.Maps.{Map, put}
-use Rattle.read_set.specs.Checkins.{checked_in, checkin, day_back, lateness, loan_of, returned, returned_by, returned_writes, returner}
+use Rattle.read_set.specs.Checkins.{checked_in, checkin, checkin_rule, day_back, lateness, loan_of, returned, returned_by, returned_writes, returner}
+use Rattle.read_set.specs.declared.effect.Effect.{Effect}
 use Rattle.read_set.specs.declared.known.Article.{Article}
 use Rattle.read_set.specs.declared.known.Member.{Member}
+use Rattle.read_set.proofs.Following.{over_then}
 use Rattle.read_set.proofs.KnownParts.{article-known, article-there, known-member, member-known, member-there}
 use Rattle.read_set.proofs.Line.{Line, put-two}
 use Rattle.read_set.proofs.Listing.{listed-less}
@@ -65,10 +69,10 @@ returned-writes p n M line item fee article member loan most f l e =
     (listed-made n 0 b fee (fees_of M) (owed_by M) member.patron.fees line.parts.fees (fees-at M b member.patron e) (line.free 0 (omega arith))))
 
 pub checkin-keeps : (p : Terms) (n : ℕ) (M : Map) → Line p n M → (q : Checkin) (date : List ℕ) → Parts p (n + 1) M (put (checkin p n q date M).writes M)
-unfolding checked_in
+unfolding checked_in checkin_rule item_at borrower_at patron_at
 checkin-keeps p n M line q date = by (item_in p M q.item) refl
   where
-    by-loan : (article : Article) → item_in p M q.item ≡ Some article → (l : Option Loan) → article.item.loan ≡ l → Parts p (n + 1) M (put (returned p n q date article (borrower_in p M l) l).writes M)
+    by-loan : (article : Article) → item_in p M q.item ≡ Some article → (l : Option Loan) → article.item.loan ≡ l → Parts p (n + 1) M (put (returned p n q date article (over M (borrower_at p l)) l).writes M)
     by-loan article e None f = nothing p (n + 1) M line.parts
     by-loan article e (Some loan) f =
         let there = article-there p M q.item article e in
@@ -79,6 +83,8 @@ checkin-keeps p n M line q date = by (item_in p M q.item) refl
         subst (λ (o : Option Member). Parts p (n + 1) M (put (returned p n q date article o (Some loan)).writes M)) (sym m.1)
         (returned-writes p n M line q.item (lateness q date loan article.media) article m.0 loan (late-most q date loan article.media terms.cap) there.0 f (member-there p M loan.patron m.0 m.1))
 
-    by : (o : Option Article) → item_in p M q.item ≡ o → Parts p (n + 1) M (put (checked_in p n q date o (borrower_in p M (loan_of o))).writes M)
+    by : (o : Option Article) → item_in p M q.item ≡ o → Parts p (n + 1) M (put (over M (borrower_at p (loan_of o) >>= λ b. Give (checked_in p n q date o b))).writes M)
     by None e = nothing p (n + 1) M line.parts
-    by (Some article) e = by-loan article e article.item.loan refl
+    by (Some article) e =
+        subst (λ (x : Effect). Parts p (n + 1) M (put x.writes M)) (sym (over_then M (borrower_at p article.item.loan) (λ b. Give (checked_in p n q date (Some article) b))))
+        (by-loan article e article.item.loan refl)

@@ -6,7 +6,7 @@ use Rattle.std.proofs.lemmas.Bool.{and_from, leb-false}
 use Rattle.circ_policy.specs.Terms.{Terms}
 use Rattle.circ_records.specs.declared.holds.TheConstants.{QUEUE_MAX}
 use Rattle.circ_records.specs.Coherent.{IsCoherentItem, IsCoherentLoan, are_distinct, has_id, is_hold, is_known}
-use Rattle.circ_records.specs.Values.{is_same}
+use Rattle.circ_records.specs.Texts.{is_same}
 use Rattle.circ_records.specs.declared.holds.Hold.{Hold}
 use Rattle.circ_records.specs.declared.key.Key.TheVariants as keys
 use Rattle.circ_records.specs.declared.record.Item.{Item}
@@ -17,16 +17,20 @@ use Rattle.sip_reader.specs.declared.request.HoldMode.{HoldMode}
 use Rattle.sip_reader.specs.declared.request.HoldMode.TheVariants as modes
 use Rattle.sip_reader.specs.declared.request.HoldRequest.{HoldRequest}
 use Rattle.sip_reader.specs.declared.request.ItemStatus.{ItemStatus}
-use Rattle.read_set.specs.Holds.{held, hold, hold_kept, queue_after, refuses_hold}
-use Rattle.read_set.specs.ItemStatuses.{item_status, relabelled, updated}
+use Rattle.read_set.specs.Asks.{Give, over}
+use Rattle.read_set.specs.Holds.{held, hold, hold_kept, hold_rule, queue_after, refuses_hold}
+use Rattle.read_set.specs.ItemStatuses.{item_status, item_status_rule, relabelled, updated}
 use Rattle.read_set.specs.Known.{item_in, patron_in}
 use Rattle.read_set.specs.Loans.{lent_to}
+use Rattle.read_set.specs.Lookups.{item_at, patron_at}
 use Rattle.read_set.specs.Maps.{Map, put}
-use Rattle.read_set.specs.Blocks.{block, block_known, blocked_by}
+use Rattle.read_set.specs.Blocks.{block, block_rule, block_rule_known, blocked_by}
+use Rattle.read_set.specs.Owing.{owed_at}
 use Rattle.read_set.specs.Queues.{waits, with_pickup, without_hold}
 use Rattle.read_set.specs.declared.effect.Effect.{Effect}
 use Rattle.read_set.specs.declared.known.Article.{Article}
 use Rattle.read_set.specs.declared.known.Member.{Member}
+use Rattle.read_set.proofs.Following.{over_all}
 use Rattle.read_set.proofs.IdLists.{distinct-more, has-more, same-is}
 use Rattle.read_set.proofs.KnownParts.{article-there, member-known, member-there}
 use Rattle.read_set.proofs.MapParts.{put-none, put-single}
@@ -41,14 +45,15 @@ nothing p n M h = subst (λ (N : Map). Parts p n M N) (sym (put-none M)) h
 -- BLOCK AND ENABLE
 
 pub block-keeps : (p : Terms) (n : ℕ) (blocks : Bool) (id date : List ℕ) (M : Map) → Parts p n M M → Parts p n M (put (block p blocks id date M).writes M)
-unfolding blocked_by
+unfolding blocked_by block_rule patron_at
 block-keeps p n blocks id date M h = by (patron_in p M id) refl
   where
-    by : (o : Option Member) → patron_in p M id ≡ o → Parts p n M (put (block_known p blocks id date M o).writes M)
+    by : (o : Option Member) → patron_in p M id ≡ o → Parts p n M (put (over M (block_rule_known p blocks id date o)).writes M)
     by None e = nothing p n M h
     by (Some member) e =
-        subst (λ (N : Map). Parts p n M N) (sym (put-single (keys.Patron id) (records.Patron (record member.patron { blocked = blocks })) M))
-        (keeps-lists p n M h id member.patron (record member.patron { blocked = blocks }) (member-there p M id member e) refl refl refl refl)
+        over_all M (owed_at [] member.patron.fees) (λ owes. Give (blocked_by p blocks id date member owes)) (λ (x : Effect). Parts p n M (put x.writes M))
+        (λ owes. subst (λ (N : Map). Parts p n M N) (sym (put-single (keys.Patron id) (records.Patron (record member.patron { blocked = blocks })) M))
+        (keeps-lists p n M h id member.patron (record member.patron { blocked = blocks }) (member-there p M id member e) refl refl refl refl))
 
 -- ITEM STATUS
 
@@ -66,7 +71,7 @@ relabelled-item p M id i given h t = record {
 }
 
 pub status-keeps : (p : Terms) (n : ℕ) (q : ItemStatus) (date : List ℕ) (M : Map) → Parts p n M M → IfSome q.properties (λ t. is_text t ≡ true) → Parts p n M (put (item_status p q date M).writes M)
-unfolding updated
+unfolding updated item_status_rule item_at
 status-keeps p n q date M h fits = by (item_in p M q.item) refl
   where
     given : (article : Article) → item_in p M q.item ≡ Some article → (o : Option (List ℕ)) → IfSome o (λ t. is_text t ≡ true) → Parts p n M (put (relabelled q date article.item o).writes M)
@@ -140,7 +145,7 @@ either-keeps p n M true x y h k = h refl
 either-keeps p n M false x y h k = k refl
 
 pub hold-keeps : (p : Terms) (n : ℕ) (q : HoldRequest) (date : List ℕ) (M : Map) → Parts p n M M → is_text q.pickup ≡ true → Parts p n M (put (hold p q date M).writes M)
-unfolding held hold_kept
+unfolding held hold_kept hold_rule patron_at item_at
 hold-keeps p n q date M h text = by (patron_in p M q.patron) refl (item_in p M q.item) refl
   where
     kept : (member : Member) (article : Article) → patron_in p M q.patron ≡ Some member → item_in p M q.item ≡ Some article → refuses_hold q.mode q.patron member.patron.blocked article.item ≡ false

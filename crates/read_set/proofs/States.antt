@@ -2,9 +2,9 @@
 use Rattle.std.proofs.Common.{◌≡◌, ◌+◌, ℕ, List, Bool, true, false, cond, Option, Some, None, refl, subst, sym, ap, ◌∙◌}
 use Rattle.std.specs.Prelude.{◌&&◌, is_some, nat_lt, option_map}
 use Rattle.circ_policy.specs.Terms.{Terms}
-use Rattle.circ_records.proofs.Lookups.{same-text}
+use Rattle.circ_records.proofs.SameTexts.{same-text}
 use Rattle.circ_records.specs.Coherent.{AreOfKind, IsCoherentFee, IsCoherentMap, IsCoherentPatron, are_distinct, as_fee, as_item, as_patron, has_id, is_lent_to, is_loan_of, is_owed_by}
-use Rattle.circ_records.specs.Values.{is_same}
+use Rattle.circ_records.specs.Texts.{is_same}
 use Rattle.circ_records.specs.declared.key.Key.{Key}
 use Rattle.circ_records.specs.declared.key.Key.TheVariants as keys
 use Rattle.circ_records.specs.declared.record.Fee.{Fee}

@@ -40,7 +40,7 @@ abbrev pub IsAsked : {A : Type 0} → Part → Asks A → Key → Type 0
 IsAsked has (Give x) k = ⊥
 IsAsked has (Ask j rule) k = (k ≡ j) ⊎ OnHad (has j) (λ r. IsAsked has (rule r) k)
 
--- What comes to be had of a source while a rule is followed: what was had stays. Where the source fetches one by one, what is new is what the rule asks for.
+-- What a source gains while a rule is followed: it keeps what it had. Where it fetches one by one, what is new is what the rule asks for.
 pub record Gains {A : Type 0} (one_by_one : Type 0) (old new : Part) (m : Asks A) : Type 0 where
   pub grows : Grows old new
   pub asked : one_by_one → (k : Key) → (new k ≡ old k) ⊎ IsAsked new m k

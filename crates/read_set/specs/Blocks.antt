@@ -8,10 +8,11 @@ use Rattle.sip_answer.specs.declared.answer.Answer.TheVariants as answers
 use Rattle.sip_answer.specs.declared.answer.KnownPatron.{KnownPatron}
 use Rattle.sip_answer.specs.declared.answer.PatronAnswer.{PatronAnswer}
 use Rattle.sip_answer.specs.declared.answer.PatronStatus.{PatronStatus}
+use Rattle.read_set.specs.Asks.{Asks, Give, over, ◌>>=◌}
 use Rattle.read_set.specs.Effects.{unwritten, writing}
-use Rattle.read_set.specs.Fees.{owed}
-use Rattle.read_set.specs.Known.{patron_in}
+use Rattle.read_set.specs.Lookups.{patron_at}
 use Rattle.read_set.specs.Maps.{Map}
+use Rattle.read_set.specs.Owing.{owed_at}
 use Rattle.read_set.specs.declared.effect.Effect.{Effect}
 use Rattle.read_set.specs.declared.known.Member.{Member}
 
@@ -42,15 +43,23 @@ block_answer true a = answers.BlockPatron a
 block_answer false a = answers.PatronEnable a
 
 -- the block is set or cleared, and the status is that after the change; a known patron is written also where the block
--- stood so
+-- was so before
 unfoldable pub blocked_by : Terms → Bool → List ℕ → List ℕ → Member → ℕ → Effect
 blocked_by p blocks id date member owes = writing
     ((keys.Patron id, records.Patron (record member.patron { blocked = blocks })) ∷ [])
     (block_answer blocks (patron_answer p id date (member_status blocks member owes) (Some (record { name = member.patron.name; owed = owes }))))
 
-abbrev pub block_known : Terms → Bool → List ℕ → List ℕ → Map → Option Member → Effect
-block_known p blocks id date M None = unwritten (Some (block_answer blocks (patron_answer p id date no_status None)))
-block_known p blocks id date M (Some member) = blocked_by p blocks id date member (owed M member.patron.fees)
+abbrev pub block_rule_known : Terms → Bool → List ℕ → List ℕ → Option Member → Asks Effect
+block_rule_known p blocks id date None = Give (unwritten (Some (block_answer blocks (patron_answer p id date no_status None))))
+block_rule_known p blocks id date (Some member) = do
+  owes ← owed_at [] member.patron.fees
+  Give (blocked_by p blocks id date member owes)
+
+-- asks for the patron, then for the fees in the order of its list
+unfoldable pub block_rule : Terms → Bool → List ℕ → List ℕ → Asks Effect
+block_rule p blocks id date = do
+  patron ← patron_at p id
+  block_rule_known p blocks id date patron
 
 abbrev pub block : Terms → Bool → List ℕ → List ℕ → Map → Effect
-block p blocks id date M = block_known p blocks id date M (patron_in p M id)
+block p blocks id date M = over M (block_rule p blocks id date)

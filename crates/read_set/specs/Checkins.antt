@@ -16,10 +16,11 @@ use Rattle.sip_answer.specs.declared.answer.Answer.TheVariants as answers
 use Rattle.sip_answer.specs.declared.answer.ReturnedItem.{ReturnedItem}
 use Rattle.sip_reader.specs.Dates.{day_of}
 use Rattle.sip_reader.specs.declared.request.Checkin.{Checkin}
+use Rattle.read_set.specs.Asks.{Asks, Give, over, ◌>>=◌}
 use Rattle.read_set.specs.Effects.{unwritten, writing, ◌⊕◌}
 use Rattle.read_set.specs.Fees.{fee_made, with_fee}
 use Rattle.read_set.specs.Ids.{without}
-use Rattle.read_set.specs.Known.{item_in, borrower_in}
+use Rattle.read_set.specs.Lookups.{item_at, borrower_at}
 use Rattle.read_set.specs.Maps.{Map}
 use Rattle.read_set.specs.Queues.{has_queue}
 use Rattle.read_set.specs.declared.effect.Effect.{Effect}
@@ -78,5 +79,12 @@ abbrev pub loan_of : Option Article → Option Loan
 loan_of None = None
 loan_of (Some article) = article.item.loan
 
+-- asks for the item, then for the borrower where it is on loan
+unfoldable pub checkin_rule : Terms → ℕ → Checkin → List ℕ → Asks Effect
+checkin_rule p n q date = do
+  item ← item_at p q.item
+  borrower ← borrower_at p (loan_of item)
+  Give (checked_in p n q date item borrower)
+
 abbrev pub checkin : Terms → ℕ → Checkin → List ℕ → Map → Effect
-checkin p n q date M = checked_in p n q date (item_in p M q.item) (borrower_in p M (loan_of (item_in p M q.item)))
+checkin p n q date M = over M (checkin_rule p n q date)

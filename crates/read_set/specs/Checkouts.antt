@@ -9,14 +9,16 @@ use Rattle.circ_records.specs.declared.record.Loan.{Loan}
 use Rattle.circ_records.specs.declared.record.Patron.{Patron}
 use Rattle.circ_records.specs.declared.record.Record.TheVariants as records
 use Rattle.sip_reader.specs.declared.request.Checkout.{Checkout}
+use Rattle.read_set.specs.Asks.{Asks, Give, over, ◌>>=◌}
 use Rattle.read_set.specs.Effects.{writing, ◌⊕◌}
-use Rattle.read_set.specs.Fees.{owed, owing_verdict, fee_made, with_fee}
+use Rattle.read_set.specs.Fees.{fee_made, with_fee}
 use Rattle.read_set.specs.Ids.{same, without}
-use Rattle.read_set.specs.Known.{item_in, patron_in}
 use Rattle.read_set.specs.Loans.{by_checkout, charge_for, due_for, is_lent, lent_to, loan_answer, refused}
+use Rattle.read_set.specs.Lookups.{item_at, patron_at}
 use Rattle.read_set.specs.Maps.{Map}
+use Rattle.read_set.specs.Owing.{owing_tests}
 use Rattle.read_set.specs.Queues.{first_is_another, without_hold}
-use Rattle.read_set.specs.Renewals.{renewal}
+use Rattle.read_set.specs.Renewals.{renewal_rule}
 use Rattle.read_set.specs.declared.effect.Effect.{Effect}
 use Rattle.read_set.specs.declared.known.Article.{Article}
 use Rattle.read_set.specs.declared.known.Member.{Member}
@@ -25,20 +27,20 @@ use Rattle.read_set.specs.declared.verdict.Verdict.{Verdict}
 use Rattle.read_set.specs.declared.verdict.Verdict.TheVariants as verdicts
 
 -- refused, where it isn't forced, at the first of
-unfoldable pub lending_verdict : Map → LoanRequest → Member → Article → Verdict
-lending_verdict M a member article =
-    if a.forced then verdicts.Made
-    else if lent_to a.patron article.item.loan then verdicts.Refused  -- on loan to the same patron
-    else if is_lent article.item.loan then verdicts.Refused  -- on loan to another
-    else if first_is_another a.patron article.item.holds then verdicts.Refused  -- the queue's first entry is another's
-    else if member.patron.blocked then verdicts.Refused  -- blocked
-    else if nat_le member.class.max_loans (length member.patron.loans) then verdicts.Refused  -- loans at least max_loans
-    else owing_verdict (owed M member.patron.fees) a.agreed member article  -- owed above max_fees; a rental
+unfoldable pub lending_tests : LoanRequest → Member → Article → Asks Verdict
+lending_tests a member article =
+    if a.forced then Give verdicts.Made
+    else if lent_to a.patron article.item.loan then Give verdicts.Refused  -- on loan to the same patron
+    else if is_lent article.item.loan then Give verdicts.Refused  -- on loan to another
+    else if first_is_another a.patron article.item.holds then Give verdicts.Refused  -- the queue's first entry is another's
+    else if member.patron.blocked then Give verdicts.Refused  -- blocked
+    else if nat_le member.class.max_loans (length member.patron.loans) then Give verdicts.Refused  -- loans at least max_loans
+    else owing_tests [] a.agreed member article  -- owed above max_fees; a rental
 
 -- the other patron whose loan ends
-abbrev pub other_in : Terms → Map → List ℕ → Option Loan → Option Member
-other_in p M patron None = None
-other_in p M patron (Some loan) = if same loan.patron patron then None else patron_in p M loan.patron
+abbrev pub other_at : Terms → List ℕ → Option Loan → Asks (Option Member)
+other_at p patron None = Give None
+other_at p patron (Some loan) = if same loan.patron patron then Give None else patron_at p loan.patron
 
 -- the item leaves the other's list; a borrower that counts as unknown isn't written
 abbrev pub loan_ended : List ℕ → List ℕ → Option Member → Entries
@@ -76,20 +78,34 @@ lending_made p n a date member article other = writing
     (lending_writes n a (due_for p a date article.media) (charge_for a article.media) member article other)
     (loan_answer p a date (Some article.item) (Some (due_for p a date article.media)) false (charge_for a article.media))
 
-abbrev pub lending_by : Terms → ℕ → LoanRequest → List ℕ → Map → Member → Article → Verdict → Effect
-lending_by p n a date M member article verdicts.Refused = refused p a date (Some article) 0
-lending_by p n a date M member article verdicts.Unpaid = refused p a date (Some article) article.media.rental
-lending_by p n a date M member article verdicts.Made = lending_made p n a date member article (other_in p M a.patron article.item.loan)
+unfoldable pub lending_of : Terms → ℕ → LoanRequest → List ℕ → Member → Article → Asks Effect
+lending_of p n a date member article = do
+  other ← other_at p a.patron article.item.loan
+  Give (lending_made p n a date member article other)
 
-abbrev pub lending : Terms → ℕ → LoanRequest → List ℕ → Map → Member → Article → Effect
-lending p n a date M member article = lending_by p n a date M member article (lending_verdict M a member article)
+abbrev pub lending_rule_by : Terms → ℕ → LoanRequest → List ℕ → Member → Article → Verdict → Asks Effect
+lending_rule_by p n a date member article verdicts.Refused = Give (refused p a date (Some article) 0)
+lending_rule_by p n a date member article verdicts.Unpaid = Give (refused p a date (Some article) article.media.rental)
+lending_rule_by p n a date member article verdicts.Made = lending_of p n a date member article
+
+unfoldable pub lending_rule : Terms → ℕ → LoanRequest → List ℕ → Member → Article → Asks Effect
+lending_rule p n a date member article = do
+  verdict ← lending_tests a member article
+  lending_rule_by p n a date member article verdict
 
 -- a checkout of what is on loan to the same patron is a renewal, where the terminal allows it
-abbrev pub checkout_known : Terms → ℕ → Checkout → List ℕ → Map → Option Member → Option Article → Effect
-checkout_known p n q date M (Some member) (Some article) =
-    if q.renewal && lent_to q.patron article.item.loan then renewal p n (by_checkout q) date M member article
-    else lending p n (by_checkout q) date M member article
-checkout_known p n q date M _ article = refused p (by_checkout q) date article 0
+abbrev pub checkout_rule_known : Terms → ℕ → Checkout → List ℕ → Option Member → Option Article → Asks Effect
+checkout_rule_known p n q date (Some member) (Some article) =
+    if q.renewal && lent_to q.patron article.item.loan then renewal_rule p n (by_checkout q) date member article
+    else lending_rule p n (by_checkout q) date member article
+checkout_rule_known p n q date _ article = Give (refused p (by_checkout q) date article 0)
+
+-- asks for the patron, then for the item, then for the fees where they matter, then for the other patron whose loan ends
+unfoldable pub checkout_rule : Terms → ℕ → Checkout → List ℕ → Asks Effect
+checkout_rule p n q date = do
+  patron ← patron_at p q.patron
+  item ← item_at p q.item
+  checkout_rule_known p n q date patron item
 
 abbrev pub checkout : Terms → ℕ → Checkout → List ℕ → Map → Effect
-checkout p n q date M = checkout_known p n q date M (patron_in p M q.patron) (item_in p M q.item)
+checkout p n q date M = over M (checkout_rule p n q date)

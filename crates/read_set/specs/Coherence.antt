@@ -1,14 +1,10 @@
 -- The meaning of a line keeps records coherent (circulation rules, records of any moment): what a line leaves of coherent records is coherent
 -- before the next line, the ids of the fees that it made included.
-use Rattle.std.specs.Prelude.{◌≡◌, ◌≤◌, ◌+◌, ◌^◌, ℕ, true, List, length, Some, Ok, IfSome, is_some, None}
+use Rattle.std.specs.Prelude.{◌≡◌, ◌≤◌, ◌+◌, ◌^◌, ℕ, true, List, length, Some, Ok, IfSome, is_some}
 use Rattle.std.specs.List.{AllByRecursion}
 use Rattle.circ_policy.specs.Ranges.{FitsPolicy}
 use Rattle.circ_policy.specs.Reading.{policy_of}
 use Rattle.circ_policy.specs.Terms.{Terms}
-use Rattle.circ_records.specs.Base.{base_of}
-use Rattle.circ_records.specs.Laws.{AreRising}
-use Rattle.circ_records.specs.Written.{tables_of}
-use Rattle.circ_records.specs.declared.key.Key.{Key}
 use Rattle.circ_records.specs.Coherent.{AreOfKind, Coherent, IsCoherentMap, as_item, has_id, number_before}
 use Rattle.circ_records.specs.Records.{Entries, record_at}
 use Rattle.circ_records.specs.declared.key.Key.TheVariants as keys
@@ -75,9 +71,3 @@ ReplayKeepsCoherence = (plan : Planned) → FitsPlan plan → StaysCoherent plan
 abbrev pub ReadPlansStayCoherent : Entries → Type 0
 ReadPlansStayCoherent base = (text bytes : List ℕ) (policy : Terms) (lines : List Entry) → policy_of text ≡ Ok policy → journal_of bytes ≡ Ok lines
     → Coherent policy (number_before (first_number lines)) base → StaysCoherent (plan_of policy base lines)
-
--- and then the six final tables, which state the records after the last line, are read again as these records, as a base before a journal without lines
-abbrev pub FinalTablesReadBack : Entries → Type 0
-FinalTablesReadBack base = (text bytes : List ℕ) (policy : Terms) (lines : List Entry) → policy_of text ≡ Ok policy → journal_of bytes ≡ Ok lines
-    → Coherent policy (number_before (first_number lines)) base → AreOfKind (record_at base)
-    → (entries : Entries) → AreRising entries → ((k : Key) → record_at entries k ≡ last (plan_of policy base lines) k) → base_of policy (tables_of entries) None ≡ Ok entries

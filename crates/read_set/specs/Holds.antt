@@ -12,9 +12,10 @@ use Rattle.sip_answer.specs.declared.answer.QueuePosition.{QueuePosition}
 use Rattle.sip_reader.specs.declared.request.HoldMode.{HoldMode}
 use Rattle.sip_reader.specs.declared.request.HoldMode.TheVariants as modes
 use Rattle.sip_reader.specs.declared.request.HoldRequest.{HoldRequest}
+use Rattle.read_set.specs.Asks.{Asks, Give, over, ◌>>=◌}
 use Rattle.read_set.specs.Effects.{unwritten, writing}
-use Rattle.read_set.specs.Known.{item_in, patron_in}
 use Rattle.read_set.specs.Loans.{is_lent, lent_to}
+use Rattle.read_set.specs.Lookups.{item_at, patron_at}
 use Rattle.read_set.specs.Maps.{Map}
 use Rattle.read_set.specs.Queues.{waits, position_from, first_is_another, has_queue, without_hold, with_pickup}
 use Rattle.read_set.specs.declared.effect.Effect.{Effect}
@@ -75,5 +76,12 @@ unfoldable pub held : Terms → HoldRequest → List ℕ → Option Member → O
 held p q date (Some member) (Some article) = hold_known p q date member.patron.blocked article.item
 held p q date _ article = unwritten (Some (hold_answer p q date (option_map (λ a. a.item.title) article) false false None))
 
+-- asks for the patron, then for the item
+unfoldable pub hold_rule : Terms → HoldRequest → List ℕ → Asks Effect
+hold_rule p q date = do
+  patron ← patron_at p q.patron
+  item ← item_at p q.item
+  Give (held p q date patron item)
+
 abbrev pub hold : Terms → HoldRequest → List ℕ → Map → Effect
-hold p q date M = held p q date (patron_in p M q.patron) (item_in p M q.item)
+hold p q date M = over M (hold_rule p q date)

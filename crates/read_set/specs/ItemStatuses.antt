@@ -9,8 +9,9 @@ use Rattle.sip_answer.specs.declared.answer.Answer.{Answer}
 use Rattle.sip_answer.specs.declared.answer.Answer.TheVariants as answers
 use Rattle.sip_answer.specs.declared.answer.TitledItem.{TitledItem}
 use Rattle.sip_reader.specs.declared.request.ItemStatus.{ItemStatus}
+use Rattle.read_set.specs.Asks.{Asks, Give, over, ◌>>=◌}
 use Rattle.read_set.specs.Effects.{unwritten, writing}
-use Rattle.read_set.specs.Known.{item_in}
+use Rattle.read_set.specs.Lookups.{item_at}
 use Rattle.read_set.specs.Maps.{Map}
 use Rattle.read_set.specs.declared.effect.Effect.{Effect}
 use Rattle.read_set.specs.declared.known.Article.{Article}
@@ -33,6 +34,11 @@ unfoldable pub updated : ItemStatus → List ℕ → Option Article → Effect
 updated q date None = unwritten (Some (status_answer q date None))
 updated q date (Some article) = relabelled q date article.item q.properties
 
--- over the records as they are
+-- asks for the item alone
+unfoldable pub item_status_rule : Terms → ItemStatus → List ℕ → Asks Effect
+item_status_rule p q date = do
+  item ← item_at p q.item
+  Give (updated q date item)
+
 abbrev pub item_status : Terms → ItemStatus → List ℕ → Map → Effect
-item_status p q date M = updated q date (item_in p M q.item)
+item_status p q date M = over M (item_status_rule p q date)

@@ -11,9 +11,11 @@ pub mod Ids
 pub mod ItemStatuses
 pub mod Known
 pub mod Loans
+pub mod Lookups
 pub mod Maps
 pub mod Meaning
 pub mod Notes
+pub mod Owing
 pub mod Payments
 pub mod Plans
 pub mod Queues

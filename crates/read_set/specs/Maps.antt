@@ -21,6 +21,6 @@ Part = Key → Option (Option Record)
 abbrev pub Agrees : Part → Map → Type 0
 Agrees has M = (k : Key) (r : Option Record) → has k ≡ Some r → M k ≡ r
 
--- What is had stays had, and more may come to be had.
+-- What is had stays, and more may be added.
 abbrev pub Grows : Part → Part → Type 0
 Grows old new = (k : Key) (r : Option Record) → old k ≡ Some r → new k ≡ Some r

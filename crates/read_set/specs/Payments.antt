@@ -8,10 +8,12 @@ use Rattle.circ_records.specs.declared.record.Record.TheVariants as records
 use Rattle.sip_answer.specs.declared.answer.Answer.{Answer}
 use Rattle.sip_answer.specs.declared.answer.Answer.TheVariants as answers
 use Rattle.sip_reader.specs.declared.request.FeePaid.{FeePaid}
+use Rattle.read_set.specs.Asks.{Asks, Give, over, ◌>>=◌}
 use Rattle.read_set.specs.Effects.{unwritten, ◌⊕◌}
 use Rattle.read_set.specs.Ids.{same, has_id, is_any, without_all}
-use Rattle.read_set.specs.Known.{fee_in, patron_in}
-use Rattle.read_set.specs.Maps.{Map, put}
+use Rattle.read_set.specs.Known.{as_fee, fee_in}
+use Rattle.read_set.specs.Lookups.{ask_after, fee_at, patron_at}
+use Rattle.read_set.specs.Maps.{Map}
 use Rattle.read_set.specs.declared.effect.Effect.{Effect}
 use Rattle.read_set.specs.declared.known.Member.{Member}
 use Rattle.read_set.specs.declared.progress.Payments.{Payments}
@@ -35,15 +37,29 @@ unfoldable pub pay_one : List ℕ → Payments → Option Fee → Payments
 pay_one id done None = done
 pay_one id done (Some fee) = part_paid id (part_of done.left fee) fee done
 
--- the fees of a list in order, each after the ones before it
-abbrev pub pay_each : Map → List (List ℕ) → Payments → Payments
-pay_each M [] done = done
-pay_each M (id ∷ more) done = pay_each M more (pay_one id done (fee_in (put done.writes M) id))
+-- the fees of a list in order, each after the ones before it, until nothing is left of the money
+abbrev pub pay_rule_each : List (List ℕ) → Payments → Asks Payments
+pay_rule_each [] done = Give done
+pay_rule_each (id ∷ more) done =
+    if done.left == 0 then Give done
+    else do
+      found ← ask_after done.writes (keys.Fee id)
+      pay_rule_each more (pay_one id done (as_fee found))
 
 -- the fee that is named, where it is in the patron's list and has a record; else the whole list
 abbrev pub only_known : List ℕ → List (List ℕ) → Option Fee → List (List ℕ)
 only_known id fees None = fees
 only_known id fees (Some fee) = id ∷ []
+
+abbrev pub named : Bool → List ℕ → List (List ℕ) → Asks (List (List ℕ))
+named false id fees = Give fees
+named true id fees = do
+  fee ← fee_at id
+  Give (only_known id fees fee)
+
+unfoldable pub meant_at : Option (List ℕ) → List (List ℕ) → Asks (List (List ℕ))
+meant_at None fees = Give fees
+meant_at (Some id) fees = named (has_id id fees) id fees
 
 abbrev pub meant : Map → Option (List ℕ) → List (List ℕ) → List (List ℕ)
 meant M None fees = fees
@@ -59,16 +75,25 @@ all_paid p q date patron done = record {
   answer = Some (payment_answer p q date true);
 }
 
-abbrev pub payment : Terms → FeePaid → List ℕ → Map → Patron → Effect
-payment p q date M patron = all_paid p q date patron (pay_each M (meant M q.fee patron.fees) (record { left = q.amount; writes = []; closed = [] }))
+unfoldable pub payment_rule : Terms → FeePaid → List ℕ → Patron → Asks Effect
+payment_rule p q date patron = do
+  ids ← meant_at q.fee patron.fees
+  done ← pay_rule_each ids (record { left = q.amount; writes = []; closed = [] })
+  Give (all_paid p q date patron done)
 
 -- refused at the first of: an unknown patron, a currency other than the policy's, amount 0
-abbrev pub fee_paid_known : Terms → FeePaid → List ℕ → Map → Option Member → Effect
-fee_paid_known p q date M None = unwritten (Some (payment_answer p q date false))
-fee_paid_known p q date M (Some member) =
-    if not (same q.currency p.currency) then unwritten (Some (payment_answer p q date false))
-    else if q.amount == 0 then unwritten (Some (payment_answer p q date false))
-    else payment p q date M member.patron
+abbrev pub fee_paid_rule_known : Terms → FeePaid → List ℕ → Option Member → Asks Effect
+fee_paid_rule_known p q date None = Give (unwritten (Some (payment_answer p q date false)))
+fee_paid_rule_known p q date (Some member) =
+    if not (same q.currency p.currency) then Give (unwritten (Some (payment_answer p q date false)))
+    else if q.amount == 0 then Give (unwritten (Some (payment_answer p q date false)))
+    else payment_rule p q date member.patron
+
+-- asks for the patron, then for the named fee, then for the fees until nothing is left of the money
+unfoldable pub fee_paid_rule : Terms → FeePaid → List ℕ → Asks Effect
+fee_paid_rule p q date = do
+  patron ← patron_at p q.patron
+  fee_paid_rule_known p q date patron
 
 abbrev pub fee_paid : Terms → FeePaid → List ℕ → Map → Effect
-fee_paid p q date M = fee_paid_known p q date M (patron_in p M q.patron)
+fee_paid p q date M = over M (fee_paid_rule p q date)

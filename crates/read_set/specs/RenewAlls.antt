@@ -7,12 +7,14 @@ use Rattle.circ_records.specs.declared.record.Record.TheVariants as records
 use Rattle.sip_answer.specs.declared.answer.Answer.{Answer}
 use Rattle.sip_answer.specs.declared.answer.Answer.TheVariants as answers
 use Rattle.sip_reader.specs.declared.request.RenewAll.{RenewAll}
+use Rattle.read_set.specs.Asks.{Asks, Give, over, ◌>>=◌}
 use Rattle.read_set.specs.Effects.{unwritten, ◌⊕◌}
 use Rattle.read_set.specs.Fees.{fee_made, with_fee}
-use Rattle.read_set.specs.Known.{item_in, patron_in}
+use Rattle.read_set.specs.Known.{as_article}
 use Rattle.read_set.specs.Loans.{due_for}
-use Rattle.read_set.specs.Renewals.{renewal_verdict, renewed}
-use Rattle.read_set.specs.Maps.{Map, put}
+use Rattle.read_set.specs.Lookups.{ask_after, patron_at}
+use Rattle.read_set.specs.Maps.{Map}
+use Rattle.read_set.specs.Renewals.{renewal_tests, renewed}
 use Rattle.read_set.specs.declared.effect.Effect.{Effect}
 use Rattle.read_set.specs.declared.known.Article.{Article}
 use Rattle.read_set.specs.declared.known.Member.{Member}
@@ -42,17 +44,23 @@ unfoldable pub turn_by : Terms → ℕ → LoanRequest → List ℕ → Article 
 turn_by p n a date article done verdicts.Made = one_renewed p n a date article done
 turn_by p n a date article done _ = one_left a.item done
 
-abbrev pub turn_known : Terms → ℕ → LoanRequest → List ℕ → Map → Renewals → Option Article → Renewals
-turn_known p n a date M done None = one_left a.item done
-turn_known p n a date M done (Some article) = turn_by p n a date article done (renewal_verdict (put done.writes M) a done.member article)
+abbrev pub turn_rule_known : Terms → ℕ → LoanRequest → List ℕ → Renewals → Option Article → Asks Renewals
+turn_rule_known p n a date done None = Give (one_left a.item done)
+turn_rule_known p n a date done (Some article) = do
+  verdict ← renewal_tests done.writes a done.member article
+  Give (turn_by p n a date article done verdict)
 
-abbrev pub turn : Terms → ℕ → LoanRequest → List ℕ → Map → Renewals → Renewals
-turn p n a date M done = turn_known p n a date M done (item_in p (put done.writes M) a.item)
+unfoldable pub turn_rule : Terms → ℕ → LoanRequest → List ℕ → Renewals → Asks Renewals
+turn_rule p n a date done = do
+  found ← ask_after done.writes (keys.Item a.item)
+  turn_rule_known p n a date done (as_article p found)
 
 -- the items of a list, each on the records as the ones before it left them
-abbrev pub turns : Terms → ℕ → RenewAll → List ℕ → Map → List (List ℕ) → Renewals → Renewals
-turns p n q date M [] done = done
-turns p n q date M (id ∷ more) done = turns p n q date M more (turn p n (by_renew_all q id) date M done)
+abbrev pub turns_rule : Terms → ℕ → RenewAll → List ℕ → List (List ℕ) → Renewals → Asks Renewals
+turns_rule p n q date [] done = Give done
+turns_rule p n q date (id ∷ more) done = do
+  next ← turn_rule p n (by_renew_all q id) date done
+  turns_rule p n q date more next
 
 abbrev pub none_renewed : Member → Renewals
 none_renewed member = record { writes = []; member = member; made = 0; renewed = []; others = [] }
@@ -67,10 +75,18 @@ all_renewed p q date done = record {
   answer = Some (renew_all_answer p date true done.renewed done.others);
 }
 
--- ok is 1 where the patron is known; then each item of the patron's list, as it stood at entry
-abbrev pub renew_all_known : Terms → ℕ → RenewAll → List ℕ → Map → Option Member → Effect
-renew_all_known p n q date M None = unwritten (Some (renew_all_answer p date false [] []))
-renew_all_known p n q date M (Some member) = all_renewed p q date (turns p n q date M member.patron.loans (none_renewed member))
+-- ok is 1 where the patron is known; then each item of the patron's list, as it was at entry
+abbrev pub renew_all_rule_known : Terms → ℕ → RenewAll → List ℕ → Option Member → Asks Effect
+renew_all_rule_known p n q date None = Give (unwritten (Some (renew_all_answer p date false [] [])))
+renew_all_rule_known p n q date (Some member) = do
+  done ← turns_rule p n q date member.patron.loans (none_renewed member)
+  Give (all_renewed p q date done)
+
+-- asks for the patron, then for each item of its list
+unfoldable pub renew_all_rule : Terms → ℕ → RenewAll → List ℕ → Asks Effect
+renew_all_rule p n q date = do
+  patron ← patron_at p q.patron
+  renew_all_rule_known p n q date patron
 
 abbrev pub renew_all : Terms → ℕ → RenewAll → List ℕ → Map → Effect
-renew_all p n q date M = renew_all_known p n q date M (patron_in p M q.patron)
+renew_all p n q date M = over M (renew_all_rule p n q date)

@@ -10,12 +10,14 @@ use Rattle.circ_records.specs.declared.record.Loan.{Loan}
 use Rattle.circ_records.specs.declared.record.Patron.{Patron}
 use Rattle.circ_records.specs.declared.record.Record.TheVariants as records
 use Rattle.sip_reader.specs.declared.request.Renew.{Renew}
+use Rattle.read_set.specs.Asks.{Asks, Give, over, ◌>>=◌}
 use Rattle.read_set.specs.Effects.{writing, ◌⊕◌}
-use Rattle.read_set.specs.Fees.{owed, owing_verdict, fee_made, with_fee}
+use Rattle.read_set.specs.Fees.{fee_made, with_fee}
 use Rattle.read_set.specs.Ids.{same}
-use Rattle.read_set.specs.Known.{item_in, patron_in}
 use Rattle.read_set.specs.Loans.{by_renew, charge_for, due_for, loan_answer, refused}
+use Rattle.read_set.specs.Lookups.{item_at, patron_at}
 use Rattle.read_set.specs.Maps.{Map}
+use Rattle.read_set.specs.Owing.{owing_tests}
 use Rattle.read_set.specs.Queues.{has_queue}
 use Rattle.read_set.specs.declared.effect.Effect.{Effect}
 use Rattle.read_set.specs.declared.known.Article.{Article}
@@ -32,15 +34,15 @@ may_renew a (Some loan) = same loan.patron a.patron || a.third_party
 abbrev pub renewals_of : Option Loan → ℕ
 renewals_of loan = option_map_or (λ l. l.renewals) loan 0
 
--- refused at the first of; where it is forced, only at the first
-unfoldable pub renewal_verdict : Map → LoanRequest → Member → Article → Verdict
-renewal_verdict M a member article =
-    if not (may_renew a article.item.loan) then verdicts.Refused  -- no loan, or another's
-    else if a.forced then verdicts.Made
-    else if member.patron.blocked then verdicts.Refused  -- blocked
-    else if has_queue article.item.holds then verdicts.Refused  -- somebody waits
-    else if nat_le member.class.max_renewals (renewals_of article.item.loan) then verdicts.Refused  -- renewals at least max_renewals
-    else owing_verdict (owed M member.patron.fees) a.agreed member article  -- owed above max_fees; a rental
+-- refused at the first of, after the writes so far; where it is forced, only at the first
+unfoldable pub renewal_tests : Entries → LoanRequest → Member → Article → Asks Verdict
+renewal_tests w a member article =
+    if not (may_renew a article.item.loan) then Give verdicts.Refused  -- no loan, or another's
+    else if a.forced then Give verdicts.Made
+    else if member.patron.blocked then Give verdicts.Refused  -- blocked
+    else if has_queue article.item.holds then Give verdicts.Refused  -- somebody waits
+    else if nat_le member.class.max_renewals (renewals_of article.item.loan) then Give verdicts.Refused  -- renewals at least max_renewals
+    else owing_tests w a.agreed member article  -- owed above max_fees; a rental
 
 -- renewals plus one; they stay at their greatest number
 abbrev pub one_more : ℕ → ℕ
@@ -72,13 +74,22 @@ renewal_by p n a date member article verdicts.Refused = refused p a date (Some a
 renewal_by p n a date member article verdicts.Unpaid = refused p a date (Some article) article.media.rental
 renewal_by p n a date member article verdicts.Made = renewal_made p n a date member article
 
-abbrev pub renewal : Terms → ℕ → LoanRequest → List ℕ → Map → Member → Article → Effect
-renewal p n a date M member article = renewal_by p n a date member article (renewal_verdict M a member article)
+unfoldable pub renewal_rule : Terms → ℕ → LoanRequest → List ℕ → Member → Article → Asks Effect
+renewal_rule p n a date member article = do
+  verdict ← renewal_tests [] a member article
+  Give (renewal_by p n a date member article verdict)
 
 -- an unknown patron or item is refused
-abbrev pub renew_known : Terms → ℕ → LoanRequest → List ℕ → Map → Option Member → Option Article → Effect
-renew_known p n a date M (Some member) (Some article) = renewal p n a date M member article
-renew_known p n a date M _ article = refused p a date article 0
+abbrev pub renew_rule_known : Terms → ℕ → LoanRequest → List ℕ → Option Member → Option Article → Asks Effect
+renew_rule_known p n a date (Some member) (Some article) = renewal_rule p n a date member article
+renew_rule_known p n a date _ article = Give (refused p a date article 0)
+
+-- asks for the patron, then for the item, then for the fees where they matter
+unfoldable pub renew_rule : Terms → ℕ → Renew → List ℕ → Asks Effect
+renew_rule p n q date = do
+  patron ← patron_at p q.patron
+  item ← item_at p q.item
+  renew_rule_known p n (by_renew q) date patron item
 
 abbrev pub renew : Terms → ℕ → Renew → List ℕ → Map → Effect
-renew p n q date M = renew_known p n (by_renew q) date M (patron_in p M q.patron) (item_in p M q.item)
+renew p n q date M = over M (renew_rule p n q date)

@@ -19,7 +19,7 @@ use std::marker::Model;
 /// Up to this many records are a list, which costs less than a map.
 const LIST_MAX: usize = 8;
 
-/// The first allocation has room for this many records: most lines that write any write two.
+/// The first allocation has capacity for this many records: most lines that write any write two.
 const USUAL: usize = 2;
 
 /// The records that a line writes so far. Of several under one key the newest counts.
@@ -70,7 +70,7 @@ impl Draft {
         }
     }
 
-    /// No records, with room for `count`.
+    /// No records, with capacity for `count`.
     pub fn with_room(alloc: Global, count: usize) -> Result<Draft, AllocError>
         ensures { IfOk result (λ d. d ≡ []) }
     {
@@ -101,7 +101,7 @@ impl Draft {
         }
     }
 
-    /// Makes room for the first records, and a map of the records once the list has its most. The map is made of copies, so that
+    /// Allocates memory for the first records, and replaces the list by a map once it has `LIST_MAX`. The map is made of copies, so that
     /// out of memory the list stays whole.
     fn make_room(&mut self) -> Result<(), AllocError>
         ensures { self.new ≡ self.old }
@@ -206,7 +206,7 @@ impl Writes {
         self.entries.as_slice()
     }
 
-    /// Gives back the room for more records.
+    /// Frees the capacity for more records.
     pub(crate) fn shrink_to_fit(&mut self)
         ensures { self.new ≡ self.old }
     {

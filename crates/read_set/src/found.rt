@@ -11,7 +11,7 @@ use std::marker::Model;
 
 /// A record, or none, in a note: versions stay until the run ends, and this takes a word less than an `Option<Record>`.
 pub struct NotedRecord {
-    held: Held,
+    held: SharedRecord,
 }
 
 impl Drop for NotedRecord {
@@ -20,20 +20,20 @@ impl Drop for NotedRecord {
     }
 }
 
-enum Held {
+enum SharedRecord {
     Nothing,
     Patron(Shared<Patron>),
     Item(Shared<Item>),
     Fee(Shared<Fee>),
 }
 
-impl Drop for Held {
+impl Drop for SharedRecord {
     fn drop(self) {
         match self {
-            Held::Nothing => {}
-            Held::Patron(_) => {}
-            Held::Item(_) => {}
-            Held::Fee(_) => {}
+            SharedRecord::Nothing => {}
+            SharedRecord::Patron(_) => {}
+            SharedRecord::Item(_) => {}
+            SharedRecord::Fee(_) => {}
         }
     }
 }
@@ -59,7 +59,7 @@ impl NotedRecord {
                 held: holding(record),
             },
             None => NotedRecord {
-                held: Held::Nothing,
+                held: SharedRecord::Nothing,
             },
         }
     }
@@ -69,10 +69,10 @@ impl NotedRecord {
         ensures { IfOk result (λ r. r ≡ self.now) }
     {
         match &self.held {
-            Held::Nothing => Ok(None),
-            Held::Patron(patron) => Ok(Some(Record::Patron(patron.copy()?))),
-            Held::Item(item) => Ok(Some(Record::Item(item.copy()?))),
-            Held::Fee(fee) => Ok(Some(Record::Fee(fee.copy()?))),
+            SharedRecord::Nothing => Ok(None),
+            SharedRecord::Patron(patron) => Ok(Some(Record::Patron(patron.copy()?))),
+            SharedRecord::Item(item) => Ok(Some(Record::Item(item.copy()?))),
+            SharedRecord::Fee(fee) => Ok(Some(Record::Fee(fee.copy()?))),
         }
     }
 
@@ -97,16 +97,16 @@ impl NotedRecord {
         ensures { Decides result (self.now ≡ Some other.now) }
     {
         match &self.held {
-            Held::Nothing => false,
-            Held::Patron(ours) => match other {
+            SharedRecord::Nothing => false,
+            SharedRecord::Patron(ours) => match other {
                 Record::Patron(theirs) => ours.get().is_same(theirs.get()),
                 _ => false,
             },
-            Held::Item(ours) => match other {
+            SharedRecord::Item(ours) => match other {
                 Record::Item(theirs) => ours.get().is_same(theirs.get()),
                 _ => false,
             },
-            Held::Fee(ours) => match other {
+            SharedRecord::Fee(ours) => match other {
                 Record::Fee(theirs) => ours.get().is_same(theirs.get()),
                 _ => false,
             },
@@ -117,18 +117,18 @@ impl NotedRecord {
         ensures { Decides result (self.now ≡ None) }
     {
         match &self.held {
-            Held::Nothing => true,
+            SharedRecord::Nothing => true,
             _ => false,
         }
     }
 }
 
-fn holding(found: Record) -> Held
+fn holding(found: Record) -> SharedRecord
     ensures { record_in result ≡ Some found }
 {
     match found {
-        Record::Patron(patron) => Held::Patron(patron),
-        Record::Item(item) => Held::Item(item),
-        Record::Fee(fee) => Held::Fee(fee),
+        Record::Patron(patron) => SharedRecord::Patron(patron),
+        Record::Item(item) => SharedRecord::Item(item),
+        Record::Fee(fee) => SharedRecord::Fee(fee),
     }
 }

@@ -1,8 +1,8 @@
 //! Laws of the definitions: functions without code, whose contracts are proved of every value.
 
-ghost use Rattle.read_set.specs.Coherence.{FinalTablesReadBack, MeaningKeepsCoherence, ReadPlansStayCoherent, ReplayKeepsCoherence};
+ghost use Rattle.read_set.specs.Coherence.{MeaningKeepsCoherence, ReadPlansStayCoherent, ReplayKeepsCoherence};
 
-use circ_records::Base;
+use circ_records::Records;
 
 /// The meaning of a line keeps records coherent.
 pub fn meaning_keeps_coherence()
@@ -14,16 +14,9 @@ pub fn replay_keeps_coherence()
     ensures { ReplayKeepsCoherence }
 {}
 
-/// So are those of the plan of a policy and a journal that were read, over a base. What fits a plan is asked of nobody: it is proved of what is read.
-pub fn read_plans_stay_coherent(base: &Base)
+/// So are those of the plan of a policy and a journal that were read, over a base. No caller has to show that they fit each other: it is proved of what is read.
+pub fn read_plans_stay_coherent(base: &Records)
     ensures { ReadPlansStayCoherent base.now }
-{
-    let _records = base.as_slice();
-}
-
-/// The six tables of the records after the last line are read again as these records, as a base before a journal without lines.
-pub fn final_tables_read_back(base: &Base)
-    ensures { FinalTablesReadBack base.now }
 {
     let _records = base.as_slice();
 }

@@ -56,7 +56,7 @@ impl Note {
 /// The keys of this many notes are compared one by one: most lines have no more, and a map takes more memory than they do.
 const LIST_MAX: usize = 8;
 
-/// The first allocation has room for this many notes: most lines have two, and versions stay until the run ends.
+/// The first allocation has capacity for this many notes: most lines have two, and versions stay until the run ends.
 const USUAL: usize = 2;
 
 /// What a line has read, in the order of reading. No key is noted twice.
@@ -140,7 +140,7 @@ impl Notes {
         }
     }
 
-    /// Gives back the room for more notes.
+    /// Frees the capacity for more notes.
     pub(crate) fn shrink_to_fit(&mut self)
         ensures { self.new ≡ self.old }
     {
@@ -163,7 +163,7 @@ impl Notes {
     }
 }
 
-/// Makes room for the first notes. Out of memory, nothing changes.
+/// Allocates memory for the first notes. Out of memory, nothing changes.
 fn make_first_room(notes: &mut Vec<Note>) -> Result<(), AllocError>
     ensures { notes.new.items ≡ notes.old.items }
 {

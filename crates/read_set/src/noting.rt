@@ -12,7 +12,7 @@ use circ_records::{Key, Record};
 use std::alloc::{AllocError, Global};
 use std::marker::{Brand, PhantomData};
 
-/// Which notes they are. Each use picks it.
+/// Names some notes in a type, for contracts alone. Each use chooses a name.
 pub trait NotesName {
     ghost use Rattle.std.specs.Prelude.{List};
     ghost use Rattle.read_set.specs.declared.notes.Note.{Note};

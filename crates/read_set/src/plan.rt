@@ -13,7 +13,7 @@ ghost use Rattle.read_set.specs.Coherence.{StaysCoherent};
 ghost use Rattle.read_set.specs.Plans.{plan_over, plan_of, plan_read, reading_at};
 
 use circ_policy::Policy;
-use circ_records::{Base, Key, Record, RecordMap};
+use circ_records::{Key, Record, RecordMap, Records};
 use journal_table::{Journal, Readings, read_in_turn};
 use sip_reader::{LINE_NUMBER_END, Reading};
 use std::alloc::{AllocError, Global};
@@ -23,7 +23,7 @@ use std::ops::Range;
 /// The policy, the records before the first line, and the reading of each line.
 pub struct Plan {
     policy: Policy,
-    base: Base,
+    base: Records,
     first: u64,
     readings: Readings,
 }
@@ -59,7 +59,7 @@ impl Plan {
     pub fn new(
         alloc: Global,
         policy: Policy,
-        base: Base,
+        base: Records,
         journal: &Journal,
     ) -> Result<Plan, AllocError>
         requires { Coherent policy (number_before (first_number journal.now)) base }
@@ -70,7 +70,7 @@ impl Plan {
     }
 
     /// The plan of what the requests of a journal were read as, over a base that is coherent before the first of them.
-    pub fn from_readings(policy: Policy, base: Base, readings: Readings) -> Plan
+    pub fn from_readings(policy: Policy, base: Records, readings: Readings) -> Plan
         requires { Coherent policy (number_before (first_read readings)) base }
         ensures value { result ≡ plan_read policy base readings }
         ensures journal { (lines : List Entry) → readings ≡ all_read lines → result ≡ plan_of policy base lines }
@@ -166,7 +166,7 @@ impl Plan {
     }
 }
 
-/// Which plan it is. Each run picks it.
+/// Names one plan in a type, for contracts alone. Each run chooses a name.
 pub trait PlanName {
     ghost use Rattle.read_set.specs.Plans.{Planned};
 

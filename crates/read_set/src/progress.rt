@@ -1,4 +1,4 @@
-//! How far a request came that goes along a list, each position after the ones before it.
+//! The progress of a request that goes through a list in its order.
 
 use crate::effect::Draft;
 use crate::known::Member;

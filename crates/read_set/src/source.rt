@@ -29,13 +29,13 @@ impl From<AllocError> for Stop {
     }
 }
 
-/// Where the meaning of a line reads the records that it asks for. It gives at a key what it has there, and never loses it. It may come to
-/// have more, also at keys that nobody asked for, as one that fetches a page of records at once.
+/// Where the meaning of a line reads the records that it asks for. It returns at a key what it has there, and never loses it. It may fetch
+/// more, also at keys that nobody asked for, such as a source that fetches a page of records at once.
 pub trait Source {
     /// What it has at each key: nothing, or the record there, or that there is none.
     ghost has: { Self → Key → Option (Option Record) };
 
-    /// What holds where it comes to have nothing but what it is asked for. A source that has to promise so is `OneByOne`.
+    /// What holds where it fetches nothing but what it is asked for. A source that has to promise so is `OneByOne`.
     ghost one_by_one: { Type 0 };
 
     /// The record at a key, or that there is none; a stop where the source has nothing there.
@@ -60,7 +60,7 @@ pub trait Source {
     }
 }
 
-/// A source that comes to have nothing but what it is asked for.
+/// A source that fetches nothing but what it is asked for.
 pub trait OneByOne: Source {
     ghost fetches: { Self.one_by_one };
 }

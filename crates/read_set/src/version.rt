@@ -12,7 +12,7 @@ use circ_records::{Key, Record};
 use sip_answer::Answer;
 use std::marker::{Model, PhantomData};
 
-/// What a line of a plan writes and answers, and the notes that settle it.
+/// What a line of a plan writes and answers, and the notes that determine it.
 pub struct Version<J: PlanName> {
     line: u64,
     attempt: u32,
@@ -85,7 +85,7 @@ impl<J: PlanName> Version<J> {
         self.attempt
     }
 
-    /// What it has read. This settles what it writes and answers.
+    /// What it has read. This determines what it writes and answers.
     pub fn reads(&self) -> &Notes
         ensures reads { result.now ≡ self.now.reads }
         ensures settles { Settles J.plan self.now.line self.now.reads self.now.writes self.now.answer }
@@ -114,6 +114,6 @@ impl<J: PlanName> Version<J> {
 pub enum Need<J: PlanName> {
     /// The record at a key that isn't noted.
     Key(Key),
-    /// Nothing any more.
+    /// Nothing more: this is the line's version.
     Done(Version<J>),
 }

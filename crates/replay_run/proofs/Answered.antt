@@ -7,6 +7,7 @@ use Rattle.std.proofs.lemmas.List.{map-append, take_all}
 use Rattle.circ_policy.specs.Terms.{Terms}
 use Rattle.circ_records.specs.declared.record.Item.{Item}
 use Rattle.circ_records.specs.declared.record.Loan.{Loan}
+use Rattle.circ_records.specs.declared.record.Patron.{Patron}
 use Rattle.sip_reader.specs.declared.request.Act.{Act}
 use Rattle.sip_reader.specs.declared.request.Act.TheVariants as acts
 use Rattle.sip_reader.specs.declared.request.Checkin.{Checkin}
@@ -17,28 +18,33 @@ use Rattle.sip_reader.specs.declared.request.ItemStatus.{ItemStatus}
 use Rattle.sip_reader.specs.declared.request.Reading.{Reading}
 use Rattle.sip_reader.specs.declared.request.Reading.TheVariants as readings
 use Rattle.sip_reader.specs.declared.request.RenewAll.{RenewAll}
+use Rattle.read_set.specs.Asks.{Asks, Give, over, ◌>>=◌}
 use Rattle.read_set.specs.Effects.{unwritten}
-use Rattle.read_set.specs.Holds.{held, hold_kept, hold_known, queue_after, refuses_hold}
-use Rattle.read_set.specs.ItemStatuses.{relabelled, updated}
+use Rattle.read_set.specs.Holds.{held, hold_kept, hold_known, hold_rule, queue_after, refuses_hold}
+use Rattle.read_set.specs.ItemStatuses.{item_status_rule, relabelled, updated}
 use Rattle.read_set.specs.Ids.{same}
-use Rattle.read_set.specs.Known.{borrower_in, item_in, patron_in}
-use Rattle.read_set.specs.Checkouts.{checkout_known, lending, lending_by, lending_made, lending_verdict}
+use Rattle.read_set.specs.Known.{item_in, patron_in}
+use Rattle.read_set.specs.Checkouts.{checkout_rule, checkout_rule_known, lending_made, lending_of, lending_rule, lending_rule_by, lending_tests, other_at}
 use Rattle.read_set.specs.Loans.{by_checkout, by_renew, refused}
-use Rattle.read_set.specs.Renewals.{renew_known, renewal, renewal_by, renewal_made, renewal_verdict}
+use Rattle.read_set.specs.Renewals.{renew_rule, renew_rule_known, renewal_by, renewal_made, renewal_rule, renewal_tests}
+use Rattle.read_set.specs.Lookups.{borrower_at, item_at, patron_at}
 use Rattle.read_set.specs.Maps.{Map}
-use Rattle.read_set.specs.Meaning.{effect, effect_of, one}
-use Rattle.read_set.specs.Blocks.{block_known, blocked_by}
-use Rattle.read_set.specs.Payments.{all_paid, fee_paid_known, payment, payment_answer}
+use Rattle.read_set.specs.Meaning.{one, rule, rule_of}
+use Rattle.read_set.specs.Owing.{owed_at}
+use Rattle.read_set.specs.Blocks.{block_rule, block_rule_known, blocked_by}
+use Rattle.read_set.specs.Payments.{all_paid, fee_paid_rule, fee_paid_rule_known, meant_at, pay_rule_each, payment_answer, payment_rule}
 use Rattle.read_set.specs.Plans.{Planned, reading_at}
-use Rattle.read_set.specs.RenewAlls.{all_renewed, renew_all_known}
+use Rattle.read_set.specs.RenewAlls.{all_renewed, none_renewed, renew_all_rule, renew_all_rule_known, turns_rule}
 use Rattle.read_set.specs.Replay.{after, one_at, one_by}
-use Rattle.read_set.specs.Checkins.{checked_in, loan_of, returned}
+use Rattle.read_set.specs.Checkins.{checked_in, checkin_rule, loan_of, returned}
 use Rattle.read_set.specs.declared.effect.Effect.{Effect}
 use Rattle.read_set.specs.declared.known.Article.{Article}
 use Rattle.read_set.specs.declared.known.Member.{Member}
+use Rattle.read_set.specs.declared.progress.Payments.{Payments}
 use Rattle.read_set.specs.declared.verdict.LoanRequest.{LoanRequest}
 use Rattle.read_set.specs.declared.verdict.Verdict.{Verdict}
 use Rattle.read_set.specs.declared.verdict.Verdict.TheVariants as verdicts
+use Rattle.read_set.proofs.Following.{over_all, over_either}
 use Rattle.result_report.specs.Report.{is_answered}
 use Rattle.replay_run.specs.Answers.{answers_of, first_answers}
 
@@ -50,10 +56,10 @@ either : (b : Bool) (x y : Effect) → Tells x → Tells y → Tells (cond b x y
 either true x y f g = f
 either false x y f g = g
 
-block-tells : (p : Terms) (blocks : Bool) (id date : List ℕ) (M : Map) (member : Option Member) → Tells (block_known p blocks id date M member)
+block-tells : (p : Terms) (blocks : Bool) (id date : List ℕ) (M : Map) (member : Option Member) → Tells (over M (block_rule_known p blocks id date member))
 unfolding blocked_by
 block-tells p blocks id date M None = refl
-block-tells p blocks id date M (Some member) = refl
+block-tells p blocks id date M (Some member) = over_all M (owed_at [] member.patron.fees) (λ owes. Give (blocked_by p blocks id date member owes)) Tells (λ owes. refl)
 
 returned-tells : (p : Terms) (n : ℕ) (q : Checkin) (date : List ℕ) (article : Article) (borrower : Option Member) (loan : Option Loan) → Tells (returned p n q date article borrower loan)
 returned-tells p n q date article borrower None = refl
@@ -64,11 +70,12 @@ unfolding checked_in
 checkin-tells p n q date None borrower = refl
 checkin-tells p n q date (Some article) borrower = returned-tells p n q date article borrower article.item.loan
 
-lending-tells : (p : Terms) (n : ℕ) (a : LoanRequest) (date : List ℕ) (M : Map) (member : Member) (article : Article) (v : Verdict) → Tells (lending_by p n a date M member article v)
-unfolding refused lending_made
+lending-tells : (p : Terms) (n : ℕ) (a : LoanRequest) (date : List ℕ) (M : Map) (member : Member) (article : Article) (v : Verdict) → Tells (over M (lending_rule_by p n a date member article v))
+unfolding refused lending_made lending_of
 lending-tells p n a date M member article verdicts.Refused = refl
 lending-tells p n a date M member article verdicts.Unpaid = refl
-lending-tells p n a date M member article verdicts.Made = refl
+lending-tells p n a date M member article verdicts.Made =
+    over_all M (other_at p a.patron article.item.loan) (λ other. Give (lending_made p n a date member article other)) Tells (λ other. refl)
 
 renewal-tells : (p : Terms) (n : ℕ) (a : LoanRequest) (date : List ℕ) (member : Member) (article : Article) (v : Verdict) → Tells (renewal_by p n a date member article v)
 unfolding refused renewal_made
@@ -76,18 +83,28 @@ renewal-tells p n a date member article verdicts.Refused = refl
 renewal-tells p n a date member article verdicts.Unpaid = refl
 renewal-tells p n a date member article verdicts.Made = refl
 
-checkout-tells : (p : Terms) (n : ℕ) (q : Checkout) (date : List ℕ) (M : Map) (member : Option Member) (article : Option Article) → Tells (checkout_known p n q date M member article)
+renewed-tells : (p : Terms) (n : ℕ) (a : LoanRequest) (date : List ℕ) (M : Map) (member : Member) (article : Article) → Tells (over M (renewal_rule p n a date member article))
+unfolding renewal_rule
+renewed-tells p n a date M member article =
+    over_all M (renewal_tests [] a member article) (λ v. Give (renewal_by p n a date member article v)) Tells (renewal-tells p n a date member article)
+
+lent-tells : (p : Terms) (n : ℕ) (a : LoanRequest) (date : List ℕ) (M : Map) (member : Member) (article : Article) → Tells (over M (lending_rule p n a date member article))
+unfolding lending_rule
+lent-tells p n a date M member article =
+    over_all M (lending_tests a member article) (λ v. lending_rule_by p n a date member article v) Tells (lending-tells p n a date M member article)
+
+checkout-tells : (p : Terms) (n : ℕ) (q : Checkout) (date : List ℕ) (M : Map) (member : Option Member) (article : Option Article) → Tells (over M (checkout_rule_known p n q date member article))
 unfolding refused
 checkout-tells p n q date M (Some member) (Some article) =
-    either _ (renewal p n (by_checkout q) date M member article) (lending p n (by_checkout q) date M member article)
-    (renewal-tells p n (by_checkout q) date member article (renewal_verdict M (by_checkout q) member article))
-    (lending-tells p n (by_checkout q) date M member article (lending_verdict M (by_checkout q) member article))
+    over_either M _ (renewal_rule p n (by_checkout q) date member article) (lending_rule p n (by_checkout q) date member article) Tells
+    (λ e. renewed-tells p n (by_checkout q) date M member article)
+    (λ e. lent-tells p n (by_checkout q) date M member article)
 checkout-tells p n q date M (Some member) None = refl
 checkout-tells p n q date M None article = refl
 
-renew-tells : (p : Terms) (n : ℕ) (a : LoanRequest) (date : List ℕ) (M : Map) (member : Option Member) (article : Option Article) → Tells (renew_known p n a date M member article)
+renew-tells : (p : Terms) (n : ℕ) (a : LoanRequest) (date : List ℕ) (M : Map) (member : Option Member) (article : Option Article) → Tells (over M (renew_rule_known p n a date member article))
 unfolding refused
-renew-tells p n a date M (Some member) (Some article) = renewal-tells p n a date member article (renewal_verdict M a member article)
+renew-tells p n a date M (Some member) (Some article) = renewed-tells p n a date M member article
 renew-tells p n a date M (Some member) None = refl
 renew-tells p n a date M None article = refl
 
@@ -110,23 +127,31 @@ unfolding updated
 item-status-tells q date None = refl
 item-status-tells q date (Some article) = relabelled-tells q date article.item q.properties
 
-fee-paid-tells : (p : Terms) (q : FeePaid) (date : List ℕ) (M : Map) (member : Option Member) → Tells (fee_paid_known p q date M member)
-unfolding all_paid
+payment-tells : (p : Terms) (q : FeePaid) (date : List ℕ) (M : Map) (patron : Patron) → Tells (over M (payment_rule p q date patron))
+unfolding all_paid payment_rule
+payment-tells p q date M patron =
+    let begun : Payments = record { left = q.amount; writes = []; closed = [] } in
+    over_all M (meant_at q.fee patron.fees) (λ ids. pay_rule_each ids begun >>= λ done. Give (all_paid p q date patron done)) Tells
+    (λ ids. over_all M (pay_rule_each ids begun) (λ done. Give (all_paid p q date patron done)) Tells (λ done. refl))
+
+fee-paid-tells : (p : Terms) (q : FeePaid) (date : List ℕ) (M : Map) (member : Option Member) → Tells (over M (fee_paid_rule_known p q date member))
 fee-paid-tells p q date M None = refl
 fee-paid-tells p q date M (Some member) =
-    let refusal = unwritten (Some (payment_answer p q date false)) in
-    let paid = payment p q date M member.patron in
-    either (not (same q.currency p.currency)) refusal (cond (q.amount == 0) refusal paid) refl (either (q.amount == 0) refusal paid refl refl)
+    let refusal : Asks Effect = Give (unwritten (Some (payment_answer p q date false))) in
+    over_either M (not (same q.currency p.currency)) refusal _ Tells (λ e. refl)
+    (λ e. over_either M (q.amount == 0) refusal (payment_rule p q date member.patron) Tells (λ d. refl) (λ d. payment-tells p q date M member.patron))
 
-renew-all-tells : (p : Terms) (n : ℕ) (q : RenewAll) (date : List ℕ) (M : Map) (member : Option Member) → Tells (renew_all_known p n q date M member)
+renew-all-tells : (p : Terms) (n : ℕ) (q : RenewAll) (date : List ℕ) (M : Map) (member : Option Member) → Tells (over M (renew_all_rule_known p n q date member))
 unfolding all_renewed
 renew-all-tells p n q date M None = refl
-renew-all-tells p n q date M (Some member) = refl
+renew-all-tells p n q date M (Some member) =
+    over_all M (turns_rule p n q date member.patron.loans (none_renewed member)) (λ done. Give (all_renewed p q date done)) Tells (λ done. refl)
 
-act-tells : (p : Terms) (n : ℕ) (date : List ℕ) (act : Act) (M : Map) → Tells (effect_of p n date act M)
-unfolding effect_of
+act-tells : (p : Terms) (n : ℕ) (date : List ℕ) (act : Act) (M : Map) → Tells (over M (rule_of p n date act))
+unfolding rule_of block_rule checkin_rule checkout_rule hold_rule item_status_rule renew_rule fee_paid_rule renew_all_rule patron_at item_at
 act-tells p n date (acts.BlockPatron q) M = block-tells p true q.patron date M (patron_in p M q.patron)
-act-tells p n date (acts.Checkin q) M = checkin-tells p n q date (item_in p M q.item) (borrower_in p M (loan_of (item_in p M q.item)))
+act-tells p n date (acts.Checkin q) M =
+    over_all M (borrower_at p (loan_of (item_in p M q.item))) (λ b. Give (checked_in p n q date (item_in p M q.item) b)) Tells (checkin-tells p n q date (item_in p M q.item))
 act-tells p n date (acts.Checkout q) M = checkout-tells p n q date M (patron_in p M q.patron) (item_in p M q.item)
 act-tells p n date (acts.Hold q) M = hold-tells p q date (patron_in p M q.patron) (item_in p M q.item)
 act-tells p n date (acts.ItemStatus q) M = item-status-tells q date (item_in p M q.item)
@@ -137,7 +162,7 @@ act-tells p n date (acts.RenewAll q) M = renew-all-tells p n q date M (patron_in
 
 -- a line has an answer just where its reading is answered
 line-tells : (p : Terms) (n : ℕ) (r : Reading) (M : Map) → is_some (one p n r M).1 ≡ is_answered r
-unfolding effect
+unfolding rule
 line-tells p n (readings.Asked q) M = act-tells p n q.date q.act M
 line-tells p n (readings.Passed why) M = refl
 line-tells p n readings.BadSum M = refl

@@ -2,10 +2,10 @@
 use Rattle.std.proofs.Common.{◌≡◌, ℕ, List, Result, Ok, Err, IfOk, refl, subst}
 use Rattle.circ_policy.specs.Reading.{Refusal, policy_of}
 use Rattle.circ_policy.specs.Terms.{Terms}
-use Rattle.circ_records.specs.Base.{base_of}
+use Rattle.record_tables.specs.Base.{base_of}
 use Rattle.circ_records.specs.Records.{Entries}
-use Rattle.circ_records.specs.Tables.{Texts}
-use Rattle.circ_records.specs.declared.fault.BaseError.{BaseError}
+use Rattle.record_tables.specs.Tables.{Texts}
+use Rattle.record_tables.specs.declared.fault.BaseError.{BaseError}
 use Rattle.journal_table.specs.Entry.{Entry}
 use Rattle.journal_table.specs.Journal.{journal_of}
 use Rattle.journal_table.specs.declared.error.JournalError.{JournalError}

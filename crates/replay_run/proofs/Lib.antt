@@ -1,7 +1,8 @@
-mod Replayed
-mod Fitting
 mod Answered
 mod Ended
+pub mod FinalTables
+mod Fitting
 mod Outputs
-mod Stepping
+mod Replayed
 mod Spans
+mod Stepping

@@ -2,9 +2,10 @@
 use Rattle.std.specs.Prelude.{ℕ, List, ◌++◌, codes, decimal, string_bytes}
 use Rattle.circ_policy.specs.declared.error.PolicyError.{PolicyError}
 use Rattle.circ_policy.specs.declared.error.PolicyError.TheVariants as policy
-use Rattle.circ_records.specs.Words.{rule_word, table_word}
-use Rattle.circ_records.specs.declared.fault.BaseError.{BaseError}
-use Rattle.circ_records.specs.declared.fault.BaseError.TheVariants as base
+use Rattle.circ_records.specs.Words.{rule_word}
+use Rattle.record_tables.specs.Words.{table_word}
+use Rattle.record_tables.specs.declared.fault.BaseError.{BaseError}
+use Rattle.record_tables.specs.declared.fault.BaseError.TheVariants as base
 use Rattle.journal_table.specs.Words as journal_words
 use Rattle.journal_table.specs.declared.error.JournalError.{JournalError}
 use Rattle.journal_table.specs.declared.error.JournalError.TheVariants as journal

@@ -2,11 +2,11 @@
 use Rattle.std.specs.Prelude.{◌≡◌, ℕ, List, Option, None, Result, Ok, Err, string_bytes}
 use Rattle.circ_policy.specs.Reading.{Refusal, breaks, not_toml, policy_of}
 use Rattle.circ_policy.specs.Terms.{Terms}
-use Rattle.circ_records.specs.Base.{base_of}
+use Rattle.record_tables.specs.Base.{base_of}
 use Rattle.circ_records.specs.Records.{Entries}
-use Rattle.circ_records.specs.Tables.{Texts}
-use Rattle.circ_records.specs.declared.fault.BaseError.{BaseError}
-use Rattle.circ_records.specs.declared.fault.BaseError.TheVariants as base
+use Rattle.record_tables.specs.Tables.{Texts}
+use Rattle.record_tables.specs.declared.fault.BaseError.{BaseError}
+use Rattle.record_tables.specs.declared.fault.BaseError.TheVariants as base
 use Rattle.journal_table.specs.Entry.{Entry, first_number}
 use Rattle.journal_table.specs.Journal.{journal_of}
 use Rattle.journal_table.specs.declared.error.JournalError.{JournalError}

@@ -5,6 +5,7 @@ pub mod ByWorkers
 pub mod Devices
 pub mod Entries
 pub mod Faults
+pub mod FinalTables
 pub mod Judgements
 pub mod OneThread
 pub mod Prepared

@@ -2,15 +2,15 @@
 -- the journal.
 use Rattle.std.specs.Prelude.{◌≡◌, ◌+◌, ℕ, List, length, replicate, Result, Ok, Err}
 use Rattle.circ_records.specs.Records.{Entries}
-use Rattle.circ_records.specs.Tables.{Texts, texts_of}
-use Rattle.circ_records.specs.Written.{tables_of}
+use Rattle.record_tables.specs.Tables.{Texts, texts_of}
+use Rattle.record_tables.specs.Written.{tables_of}
 use Rattle.journal_table.specs.Entry.{Entry}
 use Rattle.read_set.specs.Maps.{Map}
 use Rattle.read_set.specs.Plans.{Planned}
 use Rattle.read_set.specs.Replay.{last}
 use Rattle.result_report.specs.Report.{LineResult, line_results}
 use Rattle.result_report.specs.Tables.{AreTexts}
-use Rattle.result_report.specs.declared.texts.Texts.{Texts as Results}
+use Rattle.result_report.specs.declared.texts.ResultTexts.{ResultTexts as Results}
 use Rattle.replay_run.specs.Answers.{answers_of}
 use Rattle.replay_run.specs.Entries.{AreEntries}
 use Rattle.replay_run.specs.Judgements.{Accepted, Refused, Fails, judgement_on}

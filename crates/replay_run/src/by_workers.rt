@@ -17,9 +17,10 @@ use crate::inputs::{Inputs, Output};
 use crate::prepared::Prepared;
 use crate::run::{judge_parallel, put_together};
 use board_steps::WORKERS_MAX;
-use circ_records::{RecordMap, Records, write_records};
+use circ_records::{RecordMap, Records};
 use journal_table::Journal;
 use read_set::{Plan, PlanName};
+use record_tables::write_records;
 use result_report::{LastRecords, Outcome, collect, report_parallel};
 use speculate::{Board, Finished, Open, drive_in_order};
 use std::alloc::{AllocError, Global};
@@ -34,7 +35,7 @@ use worker_pool::{Gate, SharedBoard, run_workers};
 /// the number of workers, then those of the inputs, then the first that a worker meets. The gate is called after each worker's
 /// steps.
 ///
-/// What an output was made of isn't dropped: its memory stays taken until the process ends, which frees all of it at once.
+/// What an output was made of isn't dropped: its memory stays allocated until the process ends, which frees all of it at once.
 pub fn rebuild<G: Gate + Sync, R: Threads + Wait + Sync>(
     rt: &R,
     alloc: Global,

@@ -5,8 +5,9 @@ ghost use Rattle.replay_run.specs.Faults.{base_fault, board_fault, fault_number,
 ghost use Rattle.replay_run.specs.declared.fault.Fault.TheVariants as faults;
 
 use circ_policy::PolicyError;
-use circ_records::{BaseError, BaseRule, TableName};
+use circ_records::BaseRule;
 use journal_table::{JournalError, JournalRule};
+use record_tables::{BaseError, TableName};
 use speculate::BoardFault;
 use std::alloc::AllocError;
 use std::fmt;
@@ -44,7 +45,7 @@ pub enum Fault {
     Attempts {
         line: u64,
     },
-    /// The clock of the board is at its end.
+    /// The clock of the board can't be raised: it is the greatest 64-bit number.
     ClockSpent,
     /// Memory ran out.
     Memory,

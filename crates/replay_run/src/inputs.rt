@@ -1,6 +1,6 @@
 //! What a run is given, and what it gives.
 
-use circ_records::Tables;
+use record_tables::Tables;
 use result_report::Sizes;
 
 /// What a run is given, as the bytes of its files.

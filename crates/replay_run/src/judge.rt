@@ -2,8 +2,8 @@
 
 ghost use Rattle.std.specs.Prelude.{◌≡◌, Ok, Err, None};
 ghost use Rattle.circ_policy.specs.Reading.{policy_of};
-ghost use Rattle.circ_records.specs.Base.{base_of};
-ghost use Rattle.circ_records.specs.Tables.{texts_of};
+ghost use Rattle.record_tables.specs.Base.{base_of};
+ghost use Rattle.record_tables.specs.Tables.{texts_of};
 ghost use Rattle.journal_table.specs.Entry.{first_number};
 ghost use Rattle.journal_table.specs.Journal.{journal_of};
 ghost use Rattle.replay_run.specs.Judgements.{Fails, first_read, with_base, with_policy};
@@ -14,8 +14,9 @@ use crate::fault::Fault;
 use crate::inputs::Inputs;
 use crate::prepared::Sound;
 use circ_policy::Policy;
-use circ_records::{Base, Tables};
+use circ_records::Records;
 use journal_table::{Journal, JournalError};
+use record_tables::{Tables, read_base};
 use std::alloc::Global;
 
 /// The policy, the base and the journal that the inputs give, or their first fault.
@@ -54,7 +55,7 @@ fn judge_base<'i>(
 ) -> Result<Sound<'i>, Fault>
     ensures { IsSound result (with_base policy (Ok journal.entry) (base_of policy (texts_of tables.now) (first_number journal.entry))) }
 {
-    match Base::read(alloc, &policy, tables, journal.first()) {
+    match read_base(alloc, &policy, tables, journal.first()) {
         Ok(base) => Ok(Sound {
             policy,
             base,
@@ -68,7 +69,7 @@ fn judge_base<'i>(
 fn refuse_journal(alloc: Global, policy: &Policy, tables: &Tables, refused: JournalError) -> Fault
     ensures { Fails result (with_base policy.now (Err refused) (base_of policy.now (texts_of tables.now) None)) }
 {
-    match Base::read(alloc, policy, tables, None) {
+    match read_base(alloc, policy, tables, None) {
         Ok(_) => Fault::from(refused),
         Err(error) => Fault::from(error),
     }

@@ -1,7 +1,7 @@
 //! Inputs that no rule refuses. The journal borrows from their bytes.
 
 use circ_policy::Policy;
-use circ_records::Base;
+use circ_records::Records;
 use journal_table::Journal;
 use read_set::Plan;
 
@@ -9,13 +9,15 @@ use read_set::Plan;
 #[derive(Drop)]
 pub struct Sound<'i> {
     pub policy: Policy,
-    pub base: Base,
+    pub base: Records,
     pub journal: Journal<'i>,
 }
 
-/// The plan that the inputs make, and the journal that it is the plan of.
+/// What a run begins with: the plan that the inputs make, and the journal that it is the plan of.
 #[derive(Drop)]
 pub struct Prepared<'i> {
+    /// The policy, the records before the first line, and the reading of each line.
     pub plan: Plan,
+    /// The lines, in the order of their numbers.
     pub journal: Journal<'i>,
 }

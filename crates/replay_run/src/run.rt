@@ -15,10 +15,10 @@ use crate::judge::judge;
 use crate::prepared::{Prepared, Sound};
 use crate::replay::replay;
 use crate::replay_end::ReplayEnd;
-use circ_records::{Tables, write_records};
 use journal_table::{Journal, read_all};
 use read_set::Plan;
-use result_report::{Outcome, Texts, collect, report};
+use record_tables::{Tables, write_records};
+use result_report::{Outcome, ResultTexts, collect, report};
 use std::alloc::{AllocError, Global};
 use std::mem::forget;
 use std::thread::Threads;
@@ -26,7 +26,7 @@ use std::thread::Threads;
 /// The output of one thread that takes the lines in the order of the journal, or the first fault of the inputs: first
 /// the policy, then the tables, then the journal. Each line is attempted once.
 ///
-/// What an output was made of isn't dropped: its memory stays taken until the process ends, which frees all of it at once.
+/// What an output was made of isn't dropped: its memory stays allocated until the process ends, which frees all of it at once.
 pub fn one_thread(alloc: Global, inputs: &Inputs) -> Result<Output, Fault>
     ensures { IsOneThread inputs.now result }
 {
@@ -41,7 +41,7 @@ pub fn one_thread(alloc: Global, inputs: &Inputs) -> Result<Output, Fault>
     }
 }
 
-/// The plan and the journal that inputs make, or their first fault.
+/// The plan and the journal that inputs make, or their first fault: first of the policy, then of the tables, then of the journal.
 pub fn judge_inputs(alloc: Global, inputs: &Inputs) -> Result<Prepared<'_>, Fault>
     ensures due { IsJudgement result (judgement inputs.now) }
     ensures fits { IfOk result (λ j. j.plan.readings ≡ readings_of j.journal) }
@@ -123,12 +123,12 @@ pub fn output_of(
 }
 
 /// The output of these tables and texts.
-pub fn put_together(tables: Tables, texts: Texts, attempts: Vec<u32>) -> Output
+pub fn put_together(tables: Tables, texts: ResultTexts, attempts: Vec<u32>) -> Output
     ensures tables { result.tables ≡ tables }
     ensures results { results_of result ≡ texts }
     ensures attempts { result.attempts ≡ attempts }
 {
-    let Texts {
+    let ResultTexts {
         answers,
         report,
         passed,

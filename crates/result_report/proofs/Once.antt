@@ -10,7 +10,7 @@ use Rattle.sip_reader.specs.declared.request.Reading.{Reading}
 use Rattle.sip_reader.specs.declared.request.Reading.TheVariants as readings
 use Rattle.result_report.specs.Report.{AreAnswers, Row, answer_row, is_answered, passed_row, line_results}
 use Rattle.result_report.specs.Tables.{AreTexts}
-use Rattle.result_report.specs.declared.texts.Texts.{Texts}
+use Rattle.result_report.specs.declared.texts.ResultTexts.{ResultTexts}
 
 one-row : (line : Entry) (r : Reading) (a : Option Answer) (xs ys : List Row) → is_some a ≡ is_answered r
     → length (cons_option (answer_row (line, r, a)) xs) + length (cons_option (passed_row (line, r, a)) ys) ≡ length xs + length ys + 1
@@ -32,6 +32,6 @@ rows (line ∷ lines) (a ∷ answers) e =
     let more = rows lines answers rest in
     omega (arith, one, more)
 
-pub each-once : (lines : List Entry) (answers : List (Option Answer)) (t : Texts) → AreAnswers (readings_of lines) answers → AreTexts (line_results lines (readings_of lines) answers) t
+pub each-once : (lines : List Entry) (answers : List (Option Answer)) (t : ResultTexts) → AreAnswers (readings_of lines) answers → AreTexts (line_results lines (readings_of lines) answers) t
     → t.sizes.answered + t.sizes.passed ≡ length lines
 each-once lines answers t each line_results = rw line_results.sizes (rows lines answers each)

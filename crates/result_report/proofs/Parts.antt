@@ -18,7 +18,7 @@ use Rattle.result_report.specs.Stretches.{AreParts, between, stretch}
 use Rattle.result_report.specs.Tables.{AreHeads, AreTexts, sizes_of}
 use Rattle.result_report.specs.declared.texts.Heads.{Heads}
 use Rattle.result_report.specs.declared.texts.Sizes.{Sizes}
-use Rattle.result_report.specs.declared.texts.Texts.{Texts}
+use Rattle.result_report.specs.declared.texts.ResultTexts.{ResultTexts}
 use Rattle.result_report.proofs.TellingLines.{few-rows}
 
 -- what a call of `get` lends
@@ -121,7 +121,7 @@ same-sizes s t a p d = λ i. record { answered = a i; passed = p i; differences 
 rows-behind : (row : LineResult → Option Row) (front back : List LineResult) → length (filter_map row (front ++ back)) ≡ length (filter_map row front) + length (filter_map row back)
 rows-behind row front back = ap length (filter_map-append row front back) ∙ length-append (filter_map row front) (filter_map row back)
 
-pub texts-behind : (h : Heads) (front back : List LineResult) (s t u : Texts) → length front + length back < 2 ^ 64 → AreHeads h → AreTexts front s → AreTexts back t
+pub texts-behind : (h : Heads) (front back : List LineResult) (s t u : ResultTexts) → length front + length back < 2 ^ 64 → AreHeads h → AreTexts front s → AreTexts back t
     → u.answers.items ≡ s.answers.items ++ drop h.answers t.answers.items
     → u.report.items ≡ s.report.items ++ drop h.report t.report.items
     → u.passed.items ≡ s.passed.items ++ drop h.passed t.passed.items
@@ -181,8 +181,8 @@ stretch-between size k from to most xs few f t = elim (cases_lt (k * size) (leng
 ]
 
 -- what each thread wrote of each stretch
-each-part : (lines : List LineResult) (a n : ℕ) (ys : List Texts) (E : Type 0) → AllZip (λ (k : ℕ) (r : Result Texts E). IfOk r (AreTexts (stretch k lines))) (range_with_len a n) (map Ok ys)
-    → (length ys ≡ n) × ((k : ℕ) (t : Texts) → slice_get ys k ≡ Some t → AreTexts (stretch (a + k) lines) t)
+each-part : (lines : List LineResult) (a n : ℕ) (ys : List ResultTexts) (E : Type 0) → AllZip (λ (k : ℕ) (r : Result ResultTexts E). IfOk r (AreTexts (stretch k lines))) (range_with_len a n) (map Ok ys)
+    → (length ys ≡ n) × ((k : ℕ) (t : ResultTexts) → slice_get ys k ≡ Some t → AreTexts (stretch (a + k) lines) t)
 each-part lines a zero [] E h = (refl, λ k t e. cc e)
 each-part lines a zero (y ∷ ys) E h = absurd h
 each-part lines a (suc n) [] E h = absurd h
@@ -190,12 +190,12 @@ each-part lines a (suc n) (y ∷ ys) E h =
     let more = each-part lines (a + 1) n ys E h.1 in
     (ap suc more.0, at more.1)
   where
-    at : ((k : ℕ) (t : Texts) → slice_get ys k ≡ Some t → AreTexts (stretch (a + 1 + k) lines) t) → (k : ℕ) (t : Texts) → slice_get (y ∷ ys) k ≡ Some t → AreTexts (stretch (a + k) lines) t
+    at : ((k : ℕ) (t : ResultTexts) → slice_get ys k ≡ Some t → AreTexts (stretch (a + 1 + k) lines) t) → (k : ℕ) (t : ResultTexts) → slice_get (y ∷ ys) k ≡ Some t → AreTexts (stretch (a + k) lines) t
     at rest zero t e = let same : y ≡ t = cc e in let here : a + zero ≡ a = omega arith in rw (here, ← same) h.0
     at rest (suc k) t e = let here : a + suc k ≡ a + 1 + k = omega arith in rw here (rest k t e)
 
-pub are-parts : (lines : List LineResult) (told n : ℕ) (ks : List ℕ) (ys : List Texts) (E : Type 0) → ks ≡ range_with_len told n
-    → AllZip (λ (k : ℕ) (r : Result Texts E). IfOk r (AreTexts (stretch k lines))) ks (map Ok ys) → (length ys ≡ n) × AreParts told lines ys
+pub are-parts : (lines : List LineResult) (told n : ℕ) (ks : List ℕ) (ys : List ResultTexts) (E : Type 0) → ks ≡ range_with_len told n
+    → AllZip (λ (k : ℕ) (r : Result ResultTexts E). IfOk r (AreTexts (stretch k lines))) ks (map Ok ys) → (length ys ≡ n) × AreParts told lines ys
 are-parts lines told n ks ys E positions h = each-part lines told n ys E (rw positions at h)
 
 -- that number is taken, or all are

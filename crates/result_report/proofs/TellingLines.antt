@@ -86,7 +86,7 @@ room row h i lines l three small lists = record {
   few = rw lists.count (omega (arith, small, few-rows row (take i lines), few-taken i lines));
 }
 
--- for each line there is room
+-- each line's rows can be added
 pub has-room : (i : ℕ) (lines : List LineResult) (t : Telling) → i < 2 ^ 64 - 1 → Tells (take i lines) t → HasRoom t
 has-room i lines t small tells = record {
   answers = room answer_row answers_header i lines t.answers refl small tells.answers;

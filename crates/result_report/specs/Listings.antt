@@ -5,7 +5,7 @@ use Rattle.csv_table.specs.Text.{Written, with_row, written}
 use Rattle.result_report.specs.Report.{Row}
 use Rattle.result_report.specs.declared.listing.Listing.{Listing}
 
--- a table of three columns has room for one row more
+-- a table has three columns, and one more row can be counted
 pub record HasRoomFor (l : Listing) : Type 0 where
   pub wide : IfSome l.table (λ t. t.width ≡ 3)
   pub few : l.rows < 2 ^ 64 - 1

@@ -3,7 +3,7 @@ use Rattle.std.specs.Prelude.{◌≡◌, ◌+◌, ◌-◌, ◌*◌, ℕ, List, S
 use Rattle.journal_table.specs.declared.readings.TheConstants.{STRETCH}
 use Rattle.result_report.specs.Report.{LineResult}
 use Rattle.result_report.specs.Tables.{AreTexts}
-use Rattle.result_report.specs.declared.texts.Texts.{Texts}
+use Rattle.result_report.specs.declared.texts.ResultTexts.{ResultTexts}
 
 -- from one position on up to another
 abbrev pub between : {X : Type 0} → ℕ → ℕ → List X → List X
@@ -14,5 +14,5 @@ abbrev pub stretch : {X : Type 0} → ℕ → List X → List X
 stretch k lines = take STRETCH (drop (k * STRETCH) lines)
 
 -- the result tables of stretches of these lines, after the given number of stretches
-abbrev pub AreParts : ℕ → List LineResult → List Texts → Type 0
-AreParts told lines parts = (k : ℕ) (t : Texts) → slice_get parts k ≡ Some t → AreTexts (stretch (told + k) lines) t
+abbrev pub AreParts : ℕ → List LineResult → List ResultTexts → Type 0
+AreParts told lines parts = (k : ℕ) (t : ResultTexts) → slice_get parts k ≡ Some t → AreTexts (stretch (told + k) lines) t

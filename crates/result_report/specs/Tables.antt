@@ -4,7 +4,7 @@ use Rattle.csv_table.specs.Text.{table_text}
 use Rattle.result_report.specs.Report.{LineResult, answers_header, answers_rows, passed_header, passed_rows, report_header, report_rows}
 use Rattle.result_report.specs.declared.texts.Heads.{Heads}
 use Rattle.result_report.specs.declared.texts.Sizes.{Sizes}
-use Rattle.result_report.specs.declared.texts.Texts.{Texts}
+use Rattle.result_report.specs.declared.texts.ResultTexts.{ResultTexts}
 
 -- the numbers of rows
 abbrev pub sizes_of : List LineResult → Sizes
@@ -15,7 +15,7 @@ sizes_of lines = record {
 }
 
 -- the result tables of lines
-pub record AreTexts (lines : List LineResult) (t : Texts) : Type 0 where
+pub record AreTexts (lines : List LineResult) (t : ResultTexts) : Type 0 where
   pub answers : t.answers.items ≡ table_text (answers_header ∷ answers_rows lines)
   pub report : t.report.items ≡ table_text (report_header ∷ report_rows lines)
   pub passed : t.passed.items ≡ table_text (passed_header ∷ passed_rows lines)

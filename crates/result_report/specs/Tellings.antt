@@ -4,7 +4,7 @@ use Rattle.result_report.specs.Report.{LineResult, answer_row, answers_header, a
 use Rattle.result_report.specs.Listings.{Gains, HasRoomFor, Lists}
 use Rattle.result_report.specs.declared.telling.Telling.{Telling}
 
--- each has room for one row more
+-- to each one more row can be added
 pub record HasRoom (t : Telling) : Type 0 where
   pub answers : HasRoomFor t.answers
   pub report : HasRoomFor t.report

@@ -11,4 +11,4 @@ mod words;
 
 pub use ends::{End, collect};
 pub use outcome::{LastRecords, Outcome};
-pub use texts::{Sizes, Texts, report, report_parallel};
+pub use texts::{ResultTexts, Sizes, report, report_parallel};

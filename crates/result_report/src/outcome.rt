@@ -16,14 +16,14 @@ pub struct Outcome<'e> {
     pub attempts: Vec<u32>,
 }
 
-/// The records after the last line, by their keys: lent by the end of the run, or collected from it.
+/// The records after the last line, by their keys: borrowed from the end of the run, or collected from it.
 #[derive(Drop)]
 pub struct LastRecords<'e> {
-    held: Held<'e>,
+    held: RecordsFrom<'e>,
 }
 
 #[derive(Drop)]
-enum Held<'e> {
+enum RecordsFrom<'e> {
     Lent(&'e Records),
     Collected(Records),
 }
@@ -43,7 +43,7 @@ impl<'e> LastRecords<'e> {
         ensures { result ≡ records.now }
     {
         LastRecords {
-            held: Held::Lent(records),
+            held: RecordsFrom::Lent(records),
         }
     }
 
@@ -52,7 +52,7 @@ impl<'e> LastRecords<'e> {
         ensures { result ≡ records }
     {
         LastRecords {
-            held: Held::Collected(records),
+            held: RecordsFrom::Collected(records),
         }
     }
 
@@ -61,8 +61,8 @@ impl<'e> LastRecords<'e> {
         ensures { result.now ≡ self.now }
     {
         match &self.held {
-            Held::Lent(records) => records,
-            Held::Collected(records) => records,
+            RecordsFrom::Lent(records) => records,
+            RecordsFrom::Collected(records) => records,
         }
     }
 }

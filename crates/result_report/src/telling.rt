@@ -7,7 +7,7 @@ ghost use Rattle.sip_answer.specs.Differ.{differ};
 ghost use Rattle.sip_answer.specs.Texts.{answer_text};
 
 use crate::listing::Listing;
-use crate::texts::{Sizes, Texts};
+use crate::texts::{ResultTexts, Sizes};
 use crate::words::{joined_words, reason_of, sequence_of};
 use journal_table::Line;
 use sip_answer::{Answer, differences, is_own_text, put_answer};
@@ -59,7 +59,7 @@ impl Telling {
     }
 
     /// The finished tables.
-    pub fn finish(self) -> Result<Texts, AllocError>
+    pub fn finish(self) -> Result<ResultTexts, AllocError>
         ensures { IfOk result (λ t. (lines : List LineResult) → Tells lines self → AreTexts lines t) }
     {
         let Telling {
@@ -68,7 +68,7 @@ impl Telling {
             passed,
             text: _,
         } = self;
-        Ok(Texts {
+        Ok(ResultTexts {
             sizes: Sizes {
                 answered: answers.rows,
                 passed: passed.rows,

@@ -29,7 +29,7 @@ pub struct Sizes {
 
 /// The result tables as csv prints them, and the numbers of their rows.
 #[derive(Drop)]
-pub struct Texts {
+pub struct ResultTexts {
     pub answers: Vec<u8>,
     pub report: Vec<u8>,
     pub passed: Vec<u8>,
@@ -43,7 +43,7 @@ pub fn report(
     journal: &Journal,
     plan: &Plan,
     outcome: &Outcome<'_>,
-) -> Result<Texts, AllocError>
+) -> Result<ResultTexts, AllocError>
     requires planned { plan.now.readings ≡ readings_of journal.now }
     requires answered { AreAnswers (readings_of journal.now) (answers_behind outcome.now.answers.items) }
     ensures texts { IfOk result (AreTexts (line_results journal.now (readings_of journal.now) (answers_behind outcome.now.answers.items))) }
@@ -64,7 +64,7 @@ pub fn report_parallel(
     journal: &Journal,
     plan: &Plan,
     outcome: &Outcome<'_>,
-) -> Result<Texts, AllocError>
+) -> Result<ResultTexts, AllocError>
     requires planned { plan.now.readings ≡ readings_of journal.now }
     requires answered { AreAnswers (readings_of journal.now) (answers_behind outcome.now.answers.items) }
     ensures texts { IfOk result (AreTexts (line_results journal.now (readings_of journal.now) (answers_behind outcome.now.answers.items))) }
@@ -81,10 +81,10 @@ pub fn report_parallel(
     let stretches = lines.len() / STRETCH + 1;
     for batch in 0..stretches / BATCH + 1 {
         let from = batch * BATCH;
-        let parts: Result<Vec<Texts>, AllocError> = (from..stretches.min(from + BATCH))
+        let parts: Result<Vec<ResultTexts>, AllocError> = (from..stretches.min(from + BATCH))
             .into_par_iter()
             .map(
-                |k: usize| -> Result<Texts, AllocError>
+                |k: usize| -> Result<ResultTexts, AllocError>
                     ensures { IfOk result (AreTexts (stretch k (line_results lines.entry.now plan.entry.now.readings (answers_behind answers.entry.now)))) }
                 { tell_stretch(alloc, lines, plan, answers, k) },
             )
@@ -102,7 +102,7 @@ fn tell_stretch<'e>(
     plan: &Plan,
     answers: &[Option<&'e Answer>],
     k: usize,
-) -> Result<Texts, AllocError>
+) -> Result<ResultTexts, AllocError>
     ensures { IfOk result (AreTexts (stretch k (line_results lines.now plan.now.readings (answers_behind answers.now)))) }
 {
     let from = k.saturating_mul(STRETCH);
@@ -160,7 +160,11 @@ fn reading_at(plan: &Plan, position: usize) -> Option<&Reading>
 }
 
 /// The result tables with those of the next stretches after them. A part is freed once it is joined.
-fn join(whole: Texts, heads: Heads, parts: Vec<Texts>) -> Result<Texts, AllocError>
+fn join(
+    whole: ResultTexts,
+    heads: Heads,
+    parts: Vec<ResultTexts>,
+) -> Result<ResultTexts, AllocError>
     ensures { IfOk result (λ t. (lines : List LineResult) (told : ℕ) → length lines < 2 ^ 64 → AreHeads heads
         → AreTexts (take (told * STRETCH) lines) whole → AreParts told lines parts.items → AreTexts (take ((told + length parts.items) * STRETCH) lines) t) }
 {
@@ -179,9 +183,9 @@ pub(crate) struct Heads {
     pub(crate) passed: usize,
 }
 
-impl Texts {
+impl ResultTexts {
     /// Appends the rows of more lines. Out of memory, the caller drops them all.
-    fn add(&mut self, heads: Heads, more: &Texts) -> Result<(), AllocError>
+    fn add(&mut self, heads: Heads, more: &ResultTexts) -> Result<(), AllocError>
         ensures { OnOk result ((front back : List LineResult) → length front + length back < 2 ^ 64 → AreHeads heads
             → AreTexts front self.old → AreTexts back more.now → AreTexts (front ++ back) self.new) }
     {

@@ -1,4 +1,4 @@
--- The end of what is written: error detection is taken off, and nothing else.
+-- The end of what is written: error detection is removed, and nothing else.
 use Rattle.std.proofs.Common.{◌≡◌, ℕ, ◌+◌, ◌-◌, ◌/◌, ◌%◌, ◌≤◌, ◌<◌, Bool, true, false, ◌&&◌, leb, ltb, List, [], ◌∷◌, ◌++◌, length, take, drop, Option, Some, None, cond, refl, sym, append_assoc, arith}
 use Rattle.std.specs.Prelude.{IfSome}
 use Rattle.std.specs.Char.{is_ascii_digit, is_ascii_hexdigit}
@@ -22,7 +22,7 @@ pub record EndsIn (y : ℕ) (t : List ℕ) : Type 0 where
 less_none : (n : ℕ) → n - 0 ≡ n
 less_none n = omega arith
 
--- no CR or LF is taken off
+-- no CR or LF is removed
 pub untrimmed : (y : ℕ) (t : List ℕ) → EndsIn y t → is_line_end y ≡ false → trimmed t ≡ t
 unfolding trimmed
 untrimmed y t end other = rw (end.is) (same end.front)
@@ -75,7 +75,7 @@ unfolding nine is_trailer hex_digits
 nine_fits s v digit small =
     rw (digit, (hex_fits (v / 4096) (omega arith)).0, (hex_fits (v / 256 % 16) (omega arith)).0, (hex_fits (v / 16 % 16) (omega arith)).0, (hex_fits (v % 16) (omega arith)).0) refl
 
--- error detection as it is written is taken off
+-- error detection as it is written is removed
 framed : (t : List ℕ) (s v : ℕ) → is_ascii_digit s ≡ true → v < 65536 → body (t ++ nine s v) ≡ t
 unfolding body has_trailer nine hex_digits
 framed t s v digit small =

@@ -19,7 +19,7 @@ use responses::{
 };
 use sip_reader::{unsummed, without_line_end};
 use std::alloc::{AllocError, Global};
-use words::Words;
+use words::ReportWords;
 
 /// In what a recorded response differs from an answer, in the order of the report's words; nothing where it agrees.
 /// `Missing`, `Unreadable` and `Kind` come alone. The response may have error detection, whose sum isn't looked at, and
@@ -91,7 +91,11 @@ fn is_of_kind(answer: &Answer, response: &[u8]) -> bool
 }
 
 /// The words for a response of the right kind; none where what is compared can't be read.
-fn compare(alloc: Global, answer: &Answer, response: &[u8]) -> Result<Option<Words>, AllocError>
+fn compare(
+    alloc: Global,
+    answer: &Answer,
+    response: &[u8],
+) -> Result<Option<ReportWords>, AllocError>
     ensures { IfOk result (λ w. w ≡ words_of answer.now response.now) }
 {
     match answer {
@@ -104,6 +108,6 @@ fn compare(alloc: Global, answer: &Answer, response: &[u8]) -> Result<Option<Wor
         Answer::Renew(a) => compare_loan(alloc, a, response),
         Answer::FeePaid(a) => compare_fee_paid(alloc, a, response),
         Answer::RenewAll(a) => compare_renew_all(alloc, a, response),
-        Answer::Resend => Ok(Some(Words::new(alloc))),
+        Answer::Resend => Ok(Some(ReportWords::new(alloc))),
     }
 }

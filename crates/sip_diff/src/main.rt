@@ -1,15 +1,13 @@
-//! The program `sip_diff`: what differs between two folders of tables. Which rows are the same and what differs in them stands in
-//! `table_diff`; here are the words of the command line, the files and the forms of the six tables.
+//! The program `sip_diff`: what differs between two folders of tables. `command_line` reads its words, and `table_diff` finds which rows
+//! are the same and what differs in them; here are the files and the forms of the six tables.
 #![tactic(auto)]
 
-mod chosen;
-mod command_line;
 mod reading;
 mod run;
 mod stop;
 mod tables;
 
-use crate::stop::Stop;
+use crate::stop::DiffError;
 use std::env::Env;
 use std::process::ExitCode;
 use std::{env, io};
@@ -19,7 +17,7 @@ fn main(rt: HostRuntime) -> ExitCode {
     let mut err = rt.stderr();
     match words(&rt) {
         Ok(words) => ExitCode::from(run::run(&rt, words.as_slice(), &mut out, &mut err)),
-        Err(error) => ExitCode::from(Stop::of_words(&error).tell(&mut err)),
+        Err(error) => ExitCode::from(DiffError::of_words(&error).tell(&mut err)),
     }
 }
 

@@ -1,26 +1,29 @@
 //! The rows of a table of a folder.
 
-use crate::stop::Stop;
-use crate::tables::{Column, Source, Table};
+use crate::stop::DiffError;
+use crate::tables::{ComparedColumn, ComparedTable, ValueSource};
 use csv::ByteRecord;
-use csv_table::{RowReader, column};
+use csv_table::{RowReader, TableError, column};
 use sip_reader::{Amount, push_amount};
 use std::alloc::{AllocError, AllocFailed, Global};
 use std::collections::BTreeMap;
 use std::rt::Files;
 use std::{fs, io};
-use table_diff::Row;
+use table_diff::DiffRow;
 
 /// What no text of a table has, as it ends a field of a message: so it joins fields.
 const BAR: u8 = b'|';
+
+/// What is said of a file that has no such table.
+const NO_TABLE: &str = "its header is missing or another, or its rows aren't of one length";
 
 /// The rows of a table of a folder, in the order of their names, with these columns. No `holds.csv` counts as one without rows.
 pub fn read_rows<R: Files + AllocGlobal>(
     rt: &R,
     folder: &str,
-    table: &Table,
-    columns: &[&Column],
-) -> Result<Vec<Row>, Stop> {
+    table: &ComparedTable,
+    columns: &[&ComparedColumn],
+) -> Result<Vec<DiffRow>, DiffError> {
     let alloc = rt.alloc();
     let name = table.file;
     let path = format!(in alloc; "{folder}/{name}")?;
@@ -29,7 +32,7 @@ pub fn read_rows<R: Files + AllocGlobal>(
         Err(error) if error.kind() == io::ErrorKind::NotFound && name == "holds.csv" => Ok(Vec::new(
             alloc,
         )),
-        Err(error) => Err(Stop::of_file(alloc, &error, path.as_str())),
+        Err(error) => Err(DiffError::of_file(alloc, &error, path.as_str())),
     }
 }
 
@@ -37,47 +40,29 @@ pub fn read_rows<R: Files + AllocGlobal>(
 fn rows_of(
     alloc: Global,
     path: &str,
-    table: &Table,
-    columns: &[&Column],
+    table: &ComparedTable,
+    columns: &[&ComparedColumn],
     text: &[u8],
-) -> Result<Vec<Row>, Stop> {
+) -> Result<Vec<DiffRow>, DiffError> {
     let mut reader = match RowReader::under(alloc, table.header, text) {
         Ok(reader) => reader,
-        Err(error) => return Err(Stop::of_table(alloc, error, path)),
+        Err(error) => return Err(Broken::from(error).stop(alloc, path, 0)),
     };
-    let mut fields = ByteRecord::new(alloc);
-    let mut places = BTreeMap::new(alloc);
-    let mut rows = BTreeMap::new(alloc);
+    let mut rows = Rows::new(alloc);
     for number in 1..u64::MAX {
-        match reader.next(&mut fields) {
+        match rows.read_next(alloc, &mut reader, table, columns) {
             Ok(true) => {}
             Ok(false) => break,
-            Err(error) => return Err(Stop::of_table(alloc, error, path)),
-        }
-        let row = match row_of(alloc, table, columns, &fields, &mut places) {
-            Ok(row) => row,
-            Err(Broken::Memory) => return Err(Stop::Memory),
-            Err(Broken::Row(why)) => return Err(Stop::of_row(alloc, path, number, why)),
-        };
-        let name = Vec::from_slice(alloc, row.name())?;
-        if rows.insert(name, row)?.is_some() {
-            return Err(Stop::of_row(alloc, path, number, "its id came before"));
+            Err(broken) => return Err(broken.stop(alloc, path, number)),
         }
     }
-    in_order(alloc, rows)
-}
-
-fn in_order(alloc: Global, rows: BTreeMap<Vec<u8>, Row>) -> Result<Vec<Row>, Stop> {
-    let mut found = Vec::new(alloc);
-    for (_, row) in rows {
-        found.push(row)?;
-    }
-    Ok(found)
+    Ok(rows.into_list(alloc)?)
 }
 
 /// Why fields make no row.
 enum Broken {
     Memory,
+    Table,
     Row(&'static str),
 }
 
@@ -93,33 +78,116 @@ impl<T: Drop> From<AllocFailed<T>> for Broken {
     }
 }
 
-/// The row that fields make.
+impl From<TableError> for Broken {
+    fn from(error: TableError) -> Broken {
+        match error {
+            TableError::Table => Broken::Table,
+            TableError::Memory => Broken::Memory,
+        }
+    }
+}
+
+impl Broken {
+    /// The stop of a file in which this is met, in a row that counts from 1 under the header.
+    fn stop(self, alloc: Global, path: &str, row: u64) -> DiffError {
+        match self {
+            Broken::Memory => DiffError::Memory,
+            Broken::Table => DiffError::refused(alloc, path, NO_TABLE),
+            Broken::Row(why) => DiffError::of_row(alloc, path, row, why),
+        }
+    }
+}
+
+/// The rows of a table that are read so far.
+#[derive(Drop)]
+struct Rows {
+    /// The fields of the last row.
+    fields: ByteRecord,
+    /// How many rows have had each first field.
+    places: BTreeMap<Vec<u8>, u64>,
+    /// The rows by their names.
+    by_name: BTreeMap<Vec<u8>, DiffRow>,
+}
+
+impl Rows {
+    fn new(alloc: Global) -> Rows {
+        Rows {
+            fields: ByteRecord::new(alloc),
+            places: BTreeMap::new(alloc),
+            by_name: BTreeMap::new(alloc),
+        }
+    }
+
+    /// Reads the next row, with these columns. Whether there was one.
+    fn read_next(
+        &mut self,
+        alloc: Global,
+        reader: &mut RowReader<'_>,
+        table: &ComparedTable,
+        columns: &[&ComparedColumn],
+    ) -> Result<bool, Broken> {
+        if !reader.next(&mut self.fields)? {
+            return Ok(false);
+        }
+        if has_broken_text(&self.fields, table) {
+            return Err(Broken::Row("a text has a bar or a line end"));
+        }
+        let place = next_place(alloc, &mut self.places, column(&self.fields, 0))?;
+        let row = row_of(alloc, table, columns, &self.fields, place)?;
+        self.add(alloc, row)?;
+        Ok(true)
+    }
+
+    fn add(&mut self, alloc: Global, row: DiffRow) -> Result<(), Broken> {
+        let name = Vec::from_slice(alloc, row.name())?;
+        match self.by_name.insert(name, row)? {
+            None => Ok(()),
+            Some(_) => Err(Broken::Row("its id came before")),
+        }
+    }
+
+    /// The rows in the order of their names.
+    fn into_list(self, alloc: Global) -> Result<Vec<DiffRow>, AllocError> {
+        let Rows { by_name, .. } = self;
+        let mut rows = Vec::new(alloc);
+        for (_, row) in by_name {
+            rows.push(row)?;
+        }
+        Ok(rows)
+    }
+}
+
+/// The row that fields make, which is in this place among those of the same first field.
 fn row_of(
     alloc: Global,
-    table: &Table,
-    columns: &[&Column],
+    table: &ComparedTable,
+    columns: &[&ComparedColumn],
     fields: &ByteRecord,
-    places: &mut BTreeMap<Vec<u8>, u64>,
-) -> Result<Row, Broken> {
-    if has_broken_text(fields, table) {
-        return Err(Broken::Row("a text has a bar or a line end"));
-    }
-    let place = next_place(alloc, places, column(fields, 0))?;
+    place: u64,
+) -> Result<DiffRow, Broken> {
+    let values = values_of(alloc, columns, fields, place)?;
+    let name = name_of(alloc, table, fields)?;
+    Ok(DiffRow::new(name, values))
+}
+
+fn values_of(
+    alloc: Global,
+    columns: &[&ComparedColumn],
+    fields: &ByteRecord,
+    place: u64,
+) -> Result<Vec<Vec<u8>>, Broken> {
     let mut values = Vec::new(alloc);
     for wanted in columns {
         values.push(value_of(alloc, &wanted.source, fields, place)?)?;
     }
-    let name = name_of(alloc, table, fields)?;
-    Ok(Row::new(name, values))
+    Ok(values)
 }
 
 /// Whether a field has what no text of a table may have.
-fn has_broken_text(fields: &ByteRecord, table: &Table) -> bool {
+fn has_broken_text(fields: &ByteRecord, table: &ComparedTable) -> bool {
     for at in 0..table.header.len() {
-        if column(fields, at)
-            .iter()
-            .any(|byte| matches!(*byte, BAR | b'\r' | b'\n'))
-        {
+        let text = column(fields, at);
+        if text.contains(&BAR) || text.contains(&b'\r') || text.contains(&b'\n') {
             return true;
         }
     }
@@ -138,7 +206,11 @@ fn next_place(
 }
 
 /// The fields that make the name, joined by bars.
-fn name_of(alloc: Global, table: &Table, fields: &ByteRecord) -> Result<Vec<u8>, AllocError> {
+fn name_of(
+    alloc: Global,
+    table: &ComparedTable,
+    fields: &ByteRecord,
+) -> Result<Vec<u8>, AllocError> {
     let mut name = Vec::new(alloc);
     for (position, at) in table.named_by.iter().enumerate() {
         if position > 0 {
@@ -152,17 +224,17 @@ fn name_of(alloc: Global, table: &Table, fields: &ByteRecord) -> Result<Vec<u8>,
 /// The value of a column, an amount as it is written.
 fn value_of(
     alloc: Global,
-    source: &Source,
+    source: &ValueSource,
     fields: &ByteRecord,
     place: u64,
 ) -> Result<Vec<u8>, Broken> {
     match source {
-        Source::Field(at) => Ok(Vec::from_slice(alloc, column(fields, *at))?),
-        Source::Amount(at) => match Amount::read(column(fields, *at)) {
+        ValueSource::Field(at) => Ok(Vec::from_slice(alloc, column(fields, *at))?),
+        ValueSource::Amount(at) => match Amount::read(column(fields, *at)) {
             Some(amount) => Ok(amount_text(alloc, amount)?),
             None => Err(Broken::Row("an amount isn't one")),
         },
-        Source::Place => Ok(place_text(alloc, place)?),
+        ValueSource::Place => Ok(place_text(alloc, place)?),
     }
 }
 

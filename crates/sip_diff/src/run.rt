@@ -1,16 +1,13 @@
 //! The whole run: words, files, what differs and the status.
 
-use crate::chosen::Options;
-use crate::command_line::options;
 use crate::reading::read_rows;
-use crate::stop::{FAILED, REFUSED, Stop};
-use crate::tables::{Column, TABLES, Table, is_column};
-use clap::error::ErrorKind;
+use crate::stop::{DiffError, FAILED};
+use crate::tables::{ComparedColumn, ComparedTable, TABLES, has_column, is_column};
+use command_line::{DiffOptions, Refusal, diff_options};
 use std::alloc::{AllocError, Global};
-use std::convert::AsStr;
 use std::io::Write;
 use std::rt::Files;
-use table_diff::{Form, Report};
+use table_diff::{DiffFault, DiffRow, Report, TableForm};
 
 /// The status of two folders in which nothing differs.
 const SAME: u8 = 0;
@@ -26,103 +23,154 @@ const DIFFERS: u8 = 1;
 /// - 2 where the command line or a table is refused;
 /// - 3 where a file can't be read, `out` takes no text, or memory ran out.
 ///
-/// What stopped the run is told on `err`.
-pub fn run<R: Files + AllocGlobal, S: AsStr, W: Write, E: Write>(
+/// What stopped the run is printed on `err`.
+pub fn run<R: Files + AllocGlobal, W: Write, E: Write>(
     rt: &R,
-    words: &[S],
+    words: &[String],
     out: &mut W,
     err: &mut E,
 ) -> u8 {
-    let compared = match options(rt.alloc(), words) {
+    let ended = match diff_options(rt.alloc(), words) {
         Ok(options) => compare(rt, &options, out),
-        Err(Stop::Words(error)) => return refuse(&error, out, err),
-        Err(stop) => Err(stop),
+        Err(Refusal::Help(text)) => Ok(print_help(out, text.as_str())),
+        Err(Refusal::Words(text)) => Err(DiffError::Refused(text)),
+        Err(Refusal::Memory) => Err(DiffError::Memory),
     };
-    match compared {
-        Ok(true) => DIFFERS,
-        Ok(false) => SAME,
+    match ended {
+        Ok(status) => status,
         Err(stop) => stop.tell(err),
     }
 }
 
-/// Prints what clap says of the words: help to `out`, a refusal to `err`.
-fn refuse<W: Write, E: Write>(error: &clap::Error, out: &mut W, err: &mut E) -> u8 {
-    if error.kind() == ErrorKind::OutOfMemory {
-        return Stop::Memory.tell(err);
-    }
-    if error.use_stderr() {
-        let _ = write!(err, "{error}");
-        return REFUSED;
-    }
-    match write!(out, "{error}") {
+fn print_help<W: Write>(out: &mut W, text: &str) -> u8 {
+    match out.write_all(text.as_bytes()) {
         Ok(()) => SAME,
         Err(_) => FAILED,
     }
 }
 
-/// Compares two folders, writes what differs, and says whether anything does.
+/// Compares two folders, writes what differs, and gives the status that says whether anything does.
 fn compare<R: Files + AllocGlobal, W: Write>(
     rt: &R,
-    options: &Options,
+    options: &DiffOptions,
     out: &mut W,
-) -> Result<bool, Stop> {
-    let head = Report::new(rt.alloc())?.finish()?;
+) -> Result<u8, DiffError> {
+    check_columns(rt.alloc(), &options.leave)?;
+    let text = differences(rt, options)?;
+    if text == Report::new(rt.alloc())?.finish()? {
+        return Ok(SAME);
+    }
+    match out.write_all(&text) {
+        Ok(()) => Ok(DIFFERS),
+        Err(_) => Err(DiffError::Output),
+    }
+}
+
+/// Refuses the first word that names no column.
+fn check_columns(alloc: Global, leave: &[String]) -> Result<(), DiffError> {
+    for word in leave {
+        if !has_column(word.as_str()) {
+            return Err(DiffError::refused(alloc, "no such column is compared", word.as_str()));
+        }
+    }
+    Ok(())
+}
+
+/// The text of what differs in any table.
+fn differences<R: Files + AllocGlobal>(
+    rt: &R,
+    options: &DiffOptions,
+) -> Result<Vec<u8>, DiffError> {
     let mut report = Report::new(rt.alloc())?;
     for table in &TABLES {
         report = with_table(rt, report, options, table)?;
     }
-    let text = report.finish()?;
-    if text == head {
-        return Ok(false);
-    }
-    match out.write_all(&text) {
-        Ok(()) => Ok(true),
-        Err(_) => Err(Stop::Output),
-    }
+    Ok(report.finish()?)
 }
 
 /// The report with what differs in a table.
 fn with_table<R: Files + AllocGlobal>(
     rt: &R,
     report: Report,
-    options: &Options,
-    table: &Table,
-) -> Result<Report, Stop> {
-    let alloc = rt.alloc();
-    let columns = columns_compared(alloc, table, &options.leave)?;
-    let names = names_of(alloc, &columns)?;
-    let left = read_rows(rt, options.left.as_str(), table, &columns)?;
-    let right = read_rows(rt, options.right.as_str(), table, &columns)?;
-    let form = Form {
+    options: &DiffOptions,
+    table: &ComparedTable,
+) -> Result<Report, DiffError> {
+    let columns = columns_compared(rt.alloc(), table, &options.leave)?;
+    let sides = Sides::read(rt, options, table, &columns)?;
+    with_sides(rt.alloc(), report, table, &columns, &sides)
+}
+
+/// The rows of a table in both folders.
+struct Sides {
+    left: Vec<DiffRow>,
+    right: Vec<DiffRow>,
+}
+
+impl Drop for Sides {
+    fn drop(self) {
+        let Sides { left: _, right: _ } = self;
+    }
+}
+
+impl Sides {
+    fn read<R: Files + AllocGlobal>(
+        rt: &R,
+        options: &DiffOptions,
+        table: &ComparedTable,
+        columns: &[&ComparedColumn],
+    ) -> Result<Sides, DiffError> {
+        let left = read_rows(rt, options.left.as_str(), table, columns)?;
+        let right = read_rows(rt, options.right.as_str(), table, columns)?;
+        Ok(Sides { left, right })
+    }
+}
+
+/// The report with what differs between the rows of a table.
+fn with_sides(
+    alloc: Global,
+    report: Report,
+    table: &ComparedTable,
+    columns: &[&ComparedColumn],
+    sides: &Sides,
+) -> Result<Report, DiffError> {
+    let names = names_of(alloc, columns)?;
+    let form = TableForm {
         table: table.name,
         columns: &names,
         renamed: table.renamed,
     };
-    match report.with(alloc, &form, &left, &right) {
+    match report.with(alloc, &form, &sides.left, &sides.right) {
         Ok(report) => Ok(report),
-        Err(fault) => Err(Stop::of_fault(alloc, fault, table.name)),
+        Err(DiffFault::Memory) => Err(DiffError::Memory),
+        Err(DiffFault::Double) => Err(DiffError::refused(alloc, table.name, "an id stands twice")),
     }
 }
 
 /// The columns of a table but those that are left.
 fn columns_compared<'t>(
     alloc: Global,
-    table: &'t Table,
+    table: &'t ComparedTable,
     leave: &[String],
-) -> Result<Vec<&'t Column>, AllocError> {
+) -> Result<Vec<&'t ComparedColumn>, AllocError> {
     let mut columns = Vec::new(alloc);
     for column in table.columns {
-        if !leave
-            .iter()
-            .any(|word| is_column(word.as_str(), table, column))
-        {
+        if !is_left(leave, table, column) {
             columns.push(column)?;
         }
     }
     Ok(columns)
 }
 
-fn names_of(alloc: Global, columns: &[&Column]) -> Result<Vec<&'static str>, AllocError> {
+fn is_left(leave: &[String], table: &ComparedTable, column: &ComparedColumn) -> bool {
+    for word in leave {
+        if is_column(word.as_str(), table, column) {
+            return true;
+        }
+    }
+    false
+}
+
+fn names_of(alloc: Global, columns: &[&ComparedColumn]) -> Result<Vec<&'static str>, AllocError> {
     let mut names = Vec::new(alloc);
     for column in columns {
         names.push(column.name)?;

@@ -1,7 +1,7 @@
 //! The forms of the six tables: what makes the name of a row, and what of it is compared.
 
-/// Where a value stands in a row.
-pub enum Source {
+/// Where a row has a value.
+pub enum ValueSource {
     /// In this field, from 0.
     Field(usize),
     /// In this field, an amount: 1.5 is the same as 1.50.
@@ -11,149 +11,149 @@ pub enum Source {
 }
 
 /// A column that is compared.
-pub struct Column {
+pub struct ComparedColumn {
     pub name: &'static str,
-    pub source: Source,
+    pub source: ValueSource,
 }
 
 /// A table: its header, the fields that make the name of a row, and the columns that are compared.
-pub struct Table {
+pub struct ComparedTable {
     pub name: &'static str,
     pub file: &'static str,
     pub header: &'static [&'static str],
     pub named_by: &'static [usize],
-    pub columns: &'static [Column],
+    pub columns: &'static [ComparedColumn],
     /// Whether a server makes the names itself, as those of fees.
     pub renamed: bool,
 }
 
-pub static TABLES: [Table; 6] = [
-    Table {
+pub static TABLES: [ComparedTable; 6] = [
+    ComparedTable {
         name: "patrons",
         file: "patrons.csv",
         header: &["id", "name", "class", "blocked"],
         named_by: &[0],
         columns: &[
-            Column {
+            ComparedColumn {
                 name: "name",
-                source: Source::Field(1),
+                source: ValueSource::Field(1),
             },
-            Column {
+            ComparedColumn {
                 name: "class",
-                source: Source::Field(2),
+                source: ValueSource::Field(2),
             },
-            Column {
+            ComparedColumn {
                 name: "blocked",
-                source: Source::Field(3),
+                source: ValueSource::Field(3),
             },
         ],
         renamed: false,
     },
-    Table {
+    ComparedTable {
         name: "items",
         file: "items.csv",
         header: &["id", "title", "media", "location", "properties"],
         named_by: &[0],
         columns: &[
-            Column {
+            ComparedColumn {
                 name: "title",
-                source: Source::Field(1),
+                source: ValueSource::Field(1),
             },
-            Column {
+            ComparedColumn {
                 name: "media",
-                source: Source::Field(2),
+                source: ValueSource::Field(2),
             },
-            Column {
+            ComparedColumn {
                 name: "location",
-                source: Source::Field(3),
+                source: ValueSource::Field(3),
             },
-            Column {
+            ComparedColumn {
                 name: "properties",
-                source: Source::Field(4),
+                source: ValueSource::Field(4),
             },
         ],
         renamed: false,
     },
-    Table {
+    ComparedTable {
         name: "loans",
         file: "loans.csv",
         header: &["patron", "item", "due", "renewals"],
         named_by: &[1],
         columns: &[
-            Column {
+            ComparedColumn {
                 name: "patron",
-                source: Source::Field(0),
+                source: ValueSource::Field(0),
             },
-            Column {
+            ComparedColumn {
                 name: "due",
-                source: Source::Field(2),
+                source: ValueSource::Field(2),
             },
-            Column {
+            ComparedColumn {
                 name: "renewals",
-                source: Source::Field(3),
+                source: ValueSource::Field(3),
             },
         ],
         renamed: false,
     },
-    Table {
+    ComparedTable {
         name: "fees",
         file: "fees.csv",
         header: &["id", "patron", "type", "amount", "paid"],
         named_by: &[0],
         columns: &[
-            Column {
+            ComparedColumn {
                 name: "patron",
-                source: Source::Field(1),
+                source: ValueSource::Field(1),
             },
-            Column {
+            ComparedColumn {
                 name: "type",
-                source: Source::Field(2),
+                source: ValueSource::Field(2),
             },
-            Column {
+            ComparedColumn {
                 name: "amount",
-                source: Source::Amount(3),
+                source: ValueSource::Amount(3),
             },
-            Column {
+            ComparedColumn {
                 name: "paid",
-                source: Source::Amount(4),
+                source: ValueSource::Amount(4),
             },
         ],
         renamed: true,
     },
-    Table {
+    ComparedTable {
         name: "closed",
         file: "closed.csv",
         header: &["id", "patron", "type", "amount"],
         named_by: &[0],
         columns: &[
-            Column {
+            ComparedColumn {
                 name: "patron",
-                source: Source::Field(1),
+                source: ValueSource::Field(1),
             },
-            Column {
+            ComparedColumn {
                 name: "type",
-                source: Source::Field(2),
+                source: ValueSource::Field(2),
             },
-            Column {
+            ComparedColumn {
                 name: "amount",
-                source: Source::Amount(3),
+                source: ValueSource::Amount(3),
             },
         ],
         renamed: true,
     },
-    Table {
+    ComparedTable {
         name: "holds",
         file: "holds.csv",
         header: &["item", "patron", "pickup"],
         named_by: &[0, 1],
         columns: &[
-            Column {
+            ComparedColumn {
                 name: "pickup",
-                source: Source::Field(2),
+                source: ValueSource::Field(2),
             },
-            Column {
+            ComparedColumn {
                 name: "place",
-                source: Source::Place,
+                source: ValueSource::Place,
             },
         ],
         renamed: false,
@@ -173,7 +173,7 @@ pub fn has_column(word: &str) -> bool {
 }
 
 /// Whether a word names this column: its table, a point, and its name.
-pub fn is_column(word: &str, table: &Table, column: &Column) -> bool {
+pub fn is_column(word: &str, table: &ComparedTable, column: &ComparedColumn) -> bool {
     match word.split_once('.') {
         Some((first, second)) => first == table.name && second == column.name,
         None => false,

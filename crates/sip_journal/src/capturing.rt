@@ -3,33 +3,34 @@
 use crate::connection::{Half, Heard};
 use crate::connections::{Client, Connection, Connections, Ends};
 use crate::headers::TcpSegment;
-use crate::judging::Place;
-use crate::reading::Reading;
-use crate::stop::Stop;
-use capture_streams::Piece;
-use log_pairs::{Odd, Side, odd_of};
+use crate::judging::LogPlace;
+use crate::reading::JournalReader;
+use crate::stop::MakingError;
+use capture_streams::StreamPiece;
+use log_pairs::{Direction, Odd, odd_of};
 use sip_reader::{unsummed, without_line_end};
 use std::alloc::{AllocError, Global};
+use std::net::SocketAddr;
 
 /// The port of a server, where none is named.
 const PORT: u16 = 6001;
 
 /// Which of the two ends sends.
 #[derive(Clone, Copy)]
-struct Turn {
+struct SendingEnd {
     ends: Ends,
     is_first: bool,
 }
 
-impl Turn {
-    fn of(segment: &TcpSegment<'_>) -> Turn {
+impl SendingEnd {
+    fn of(segment: &TcpSegment<'_>) -> SendingEnd {
         if segment.from <= segment.to {
-            Turn {
+            SendingEnd {
                 ends: (segment.from, segment.to),
                 is_first: true,
             }
         } else {
-            Turn {
+            SendingEnd {
                 ends: (segment.to, segment.from),
                 is_first: false,
             }
@@ -37,19 +38,10 @@ impl Turn {
     }
 
     /// The turn of the other end.
-    fn other(self) -> Turn {
-        Turn {
+    fn other(self) -> SendingEnd {
+        SendingEnd {
             ends: self.ends,
             is_first: !self.is_first,
-        }
-    }
-
-    /// What the end sends whose turn it is.
-    fn half_of(self, connection: &Connection) -> &Half {
-        if self.is_first {
-            &connection.first
-        } else {
-            &connection.second
         }
     }
 }
@@ -85,11 +77,11 @@ impl Capturing {
     pub fn take<'l>(
         &mut self,
         segment: &TcpSegment<'_>,
-        reading: &mut Reading<'l>,
-        place: Place<'l>,
-    ) -> Result<(), Stop> {
+        reading: &mut JournalReader<'l>,
+        place: LogPlace<'l>,
+    ) -> Result<(), MakingError> {
         self.settle(reading, place)?;
-        let turn = Turn::of(segment);
+        let turn = SendingEnd::of(segment);
         let mut connection = match self.connections.take(&turn.ends) {
             Some(connection) => connection,
             None => match self.begun(segment, turn.ends) {
@@ -97,24 +89,40 @@ impl Capturing {
                 None => return Ok(()),
             },
         };
-        self.begin_again(&mut connection, turn, segment, reading)?;
-        let was_over = connection.is_over;
-        if !matches!(connection.client, Client::Nobody) {
-            self.hear(&mut connection, turn, segment, reading, place)?;
-        }
+        let was_over = self.go_on(&mut connection, turn, segment, reading, place)?;
         self.connections.keep(turn.ends, connection, was_over)?;
         Ok(())
     }
 
+    /// Takes a segment of a connection; gives whether the connection was over before.
+    fn go_on<'l>(
+        &self,
+        connection: &mut Connection,
+        turn: SendingEnd,
+        segment: &TcpSegment<'_>,
+        reading: &mut JournalReader<'l>,
+        place: LogPlace<'l>,
+    ) -> Result<bool, MakingError> {
+        begin_again(connection, turn, segment, reading)?;
+        let was_over = connection.is_over;
+        if !matches!(connection.client, Client::Nobody) {
+            self.hear(connection, turn, segment, reading, place)?;
+        }
+        Ok(was_over)
+    }
+
     /// A segment comes: lets go of what no segment can change any more.
-    fn settle<'l>(&mut self, reading: &mut Reading<'l>, place: Place<'l>) -> Result<(), Stop> {
+    fn settle<'l>(
+        &mut self,
+        reading: &mut JournalReader<'l>,
+        place: LogPlace<'l>,
+    ) -> Result<(), MakingError> {
         self.connections.count();
         if let Some(client) = self.connections.settle()? {
-            let name = format!(in self.alloc; "{client}")?;
-            reading.over(name.as_str())?;
+            reading.over(client)?;
         }
-        if let Some((ends, connection)) = self.connections.take_idle() {
-            self.finish(ends, connection, reading, place)?;
+        if let Some((ends, mut connection)) = self.connections.take_idle() {
+            self.finish(ends, &mut connection, reading, place)?;
         }
         Ok(())
     }
@@ -135,34 +143,15 @@ impl Capturing {
         Some(Connection::new(self.alloc, client))
     }
 
-    /// Where a segment begins the stream of one end anew, the connection isn't over; where that is the client's, what it asked before is.
-    fn begin_again(
-        &self,
-        connection: &mut Connection,
-        turn: Turn,
-        segment: &TcpSegment<'_>,
-        reading: &mut Reading<'_>,
-    ) -> Result<(), Stop> {
-        let is_new = segment.begins && !turn.half_of(connection).is_begun_at(segment.number);
-        if !is_new || matches!(connection.client, Client::Nobody) {
-            return Ok(());
-        }
-        connection.is_over = false;
-        if let Some((Side::Request, name)) = self.speaker(connection.client, turn)? {
-            reading.over(name.as_str())?;
-        }
-        Ok(())
-    }
-
     /// Hears a segment of a connection: first what it acknowledges, then what it says.
     fn hear<'l>(
         &self,
         connection: &mut Connection,
-        turn: Turn,
+        turn: SendingEnd,
         segment: &TcpSegment<'_>,
-        reading: &mut Reading<'l>,
-        place: Place<'l>,
-    ) -> Result<(), Stop> {
+        reading: &mut JournalReader<'l>,
+        place: LogPlace<'l>,
+    ) -> Result<(), MakingError> {
         let (mut answered, mut said) = (Vec::new(self.alloc), Vec::new(self.alloc));
         let is_over = if turn.is_first {
             exchange(
@@ -182,16 +171,16 @@ impl Capturing {
             )?
         };
         connection.is_over = connection.is_over || is_over;
-        self.tell(connection, turn.other(), &answered, reading, place)?;
-        self.tell(connection, turn, &said, reading, place)?;
+        self.hand_on(connection, turn.other(), &answered, reading, place)?;
+        self.hand_on(connection, turn, &said, reading, place)?;
         self.look(connection, turn)?;
         Ok(())
     }
 
     /// Looks who is the client, as soon as a message has begun. Where nobody is, nothing is kept of the connection.
-    fn look(&self, connection: &mut Connection, turn: Turn) -> Result<(), AllocError> {
+    fn look(&self, connection: &mut Connection, turn: SendingEnd) -> Result<(), AllocError> {
         if matches!(connection.client, Client::Unknown) {
-            let message = without_line_feeds(turn.half_of(connection).open());
+            let message = without_line_feeds(connection.half(turn.is_first).open());
             if let Some(identifier) = message.get(..2) {
                 connection.client = client_by(self.alloc, identifier, turn.is_first)?;
             }
@@ -205,39 +194,39 @@ impl Capturing {
     }
 
     /// Hands on what was heard of one end.
-    fn tell<'l>(
+    fn hand_on<'l>(
         &self,
         connection: &mut Connection,
-        turn: Turn,
+        turn: SendingEnd,
         heard: &[Heard],
-        reading: &mut Reading<'l>,
-        place: Place<'l>,
-    ) -> Result<(), Stop> {
+        reading: &mut JournalReader<'l>,
+        place: LogPlace<'l>,
+    ) -> Result<(), MakingError> {
         for one in heard {
             match one {
                 Heard::Missing(count) => {
-                    if let Some((side, name)) = self.speaker(connection.client, turn)? {
-                        reading.missing(*count, side, name.as_str(), place)?;
-                        if matches!(side, Side::Request) {
+                    if let Some((side, client)) = speaker(connection.client, turn) {
+                        reading.missing(*count, side, client, place)?;
+                        if matches!(side, Direction::Request) {
                             connection.lacks_request = true;
                         }
                     }
                 }
-                Heard::Piece(piece) => self.tell_piece(connection, turn, piece, reading, place)?,
+                Heard::Piece(piece) => self.hand_on_piece(connection, turn, piece, reading, place)?,
             }
         }
         Ok(())
     }
 
     /// Hands on a piece of what one end sends, if that is a message.
-    fn tell_piece<'l>(
+    fn hand_on_piece<'l>(
         &self,
         connection: &mut Connection,
-        turn: Turn,
-        piece: &Piece,
-        reading: &mut Reading<'l>,
-        place: Place<'l>,
-    ) -> Result<(), Stop> {
+        turn: SendingEnd,
+        piece: &StreamPiece,
+        reading: &mut JournalReader<'l>,
+        place: LogPlace<'l>,
+    ) -> Result<(), MakingError> {
         let message = without_line_feeds(piece.bytes());
         if message.is_empty() {
             return Ok(());
@@ -245,71 +234,90 @@ impl Capturing {
         if matches!(connection.client, Client::Unknown) {
             connection.client = client_by(self.alloc, message, turn.is_first)?;
         }
-        let Some((side, name)) = self.speaker(connection.client, turn)? else {
+        let Some((side, client)) = speaker(connection.client, turn) else {
             return Ok(());
         };
         let is_message = is_whole(self.alloc, piece, side, message)?;
-        if matches!(side, Side::Request) {
+        if matches!(side, Direction::Request) {
             connection.lacks_request = !is_message;
         }
         if !is_message {
-            reading.broken(side, name.as_str(), message, place)?;
+            reading.broken(side, client, message, place)?;
         } else if connection.lacks_request {
-            // (no request has a connection without a name: this response is told as one without a request)
+            // (no request has a connection without a name: this response is reported as one without a request)
             reading.message(b"", side, message, place)?;
         } else {
+            let name = format!(in self.alloc; "{client}")?;
             reading.message(name.as_str().as_bytes(), side, message, place)?;
         }
         Ok(())
-    }
-
-    /// Whose messages an end sends, and the name of the connection: the client's address and port.
-    fn speaker(&self, client: Client, turn: Turn) -> Result<Option<(Side, String)>, AllocError> {
-        let Some(address) = client.address(turn.ends) else {
-            return Ok(None);
-        };
-        let side = if matches!(client, Client::First) == turn.is_first {
-            Side::Request
-        } else {
-            Side::Response
-        };
-        let name = format!(in self.alloc; "{address}")?;
-        Ok(Some((side, name)))
     }
 
     /// Nothing more comes of a connection: hands on what waits for its end.
     fn finish<'l>(
         &self,
         ends: Ends,
-        mut connection: Connection,
-        reading: &mut Reading<'l>,
-        place: Place<'l>,
-    ) -> Result<(), Stop> {
-        let (mut first, mut second) = (Vec::new(self.alloc), Vec::new(self.alloc));
-        connection.first.close(&mut first)?;
-        connection.second.close(&mut second)?;
-        let turn = Turn {
+        connection: &mut Connection,
+        reading: &mut JournalReader<'l>,
+        place: LogPlace<'l>,
+    ) -> Result<(), MakingError> {
+        let mut heard = Vec::new(self.alloc);
+        let first = SendingEnd {
             ends,
             is_first: true,
         };
-        self.tell(&mut connection, turn, &first, reading, place)?;
-        self.tell(&mut connection, turn.other(), &second, reading, place)?;
-        if let Some(client) = connection.client.address(ends) {
-            let name = format!(in self.alloc; "{client}")?;
-            reading.over(name.as_str())?;
+        connection.first.close(&mut heard)?;
+        self.hand_on(connection, first, &heard, reading, place)?;
+        heard.clear();
+        connection.second.close(&mut heard)?;
+        self.hand_on(connection, first.other(), &heard, reading, place)?;
+        match connection.client.address(ends) {
+            Some(client) => reading.over(client),
+            None => Ok(()),
         }
-        Ok(())
     }
 
     /// The capture is at its end.
-    pub fn end<'l>(&mut self, reading: &mut Reading<'l>, place: Place<'l>) -> Result<(), Stop> {
+    pub fn end<'l>(
+        &mut self,
+        reading: &mut JournalReader<'l>,
+        place: LogPlace<'l>,
+    ) -> Result<(), MakingError> {
         for _ in 0..u64::MAX {
-            let Some((ends, connection)) = self.connections.take_first() else {
+            let Some((ends, mut connection)) = self.connections.take_first() else {
                 break;
             };
-            self.finish(ends, connection, reading, place)?;
+            self.finish(ends, &mut connection, reading, place)?;
         }
         Ok(())
+    }
+}
+
+/// Where a segment begins the stream of one end anew, the connection isn't over; where that is the client's, what it asked before is.
+fn begin_again(
+    connection: &mut Connection,
+    turn: SendingEnd,
+    segment: &TcpSegment<'_>,
+    reading: &mut JournalReader<'_>,
+) -> Result<(), MakingError> {
+    let is_new = segment.begins && !connection.half(turn.is_first).is_begun_at(segment.number);
+    if !is_new || matches!(connection.client, Client::Nobody) {
+        return Ok(());
+    }
+    connection.is_over = false;
+    match speaker(connection.client, turn) {
+        Some((Direction::Request, client)) => reading.over(client),
+        _ => Ok(()),
+    }
+}
+
+/// Whose messages an end sends, and the client's address and port, which name the connection.
+fn speaker(client: Client, turn: SendingEnd) -> Option<(Direction, SocketAddr)> {
+    let address = client.address(turn.ends)?;
+    if matches!(client, Client::First) == turn.is_first {
+        Some((Direction::Request, address))
+    } else {
+        Some((Direction::Response, address))
     }
 }
 
@@ -343,7 +351,12 @@ fn without_line_feeds(bytes: &[u8]) -> &[u8] {
 }
 
 /// Whether a piece is a whole message: none that ends in a gap; after a gap one with a right checksum.
-fn is_whole(alloc: Global, piece: &Piece, side: Side, message: &[u8]) -> Result<bool, AllocError> {
+fn is_whole(
+    alloc: Global,
+    piece: &StreamPiece,
+    side: Direction,
+    message: &[u8],
+) -> Result<bool, AllocError> {
     if piece.is_before_gap() {
         return Ok(false);
     }
@@ -356,9 +369,9 @@ fn is_whole(alloc: Global, piece: &Piece, side: Side, message: &[u8]) -> Result<
 
 /// Who is the client, by the first message of a connection and the end that sends it.
 fn client_by(alloc: Global, message: &[u8], is_first: bool) -> Result<Client, AllocError> {
-    let is_client = if has_identifier(alloc, Side::Request, message)? {
+    let is_client = if has_identifier(alloc, Direction::Request, message)? {
         is_first
-    } else if has_identifier(alloc, Side::Response, message)? {
+    } else if has_identifier(alloc, Direction::Response, message)? {
         !is_first
     } else {
         return Ok(Client::Nobody);
@@ -370,7 +383,7 @@ fn client_by(alloc: Global, message: &[u8], is_first: bool) -> Result<Client, Al
     })
 }
 
-fn has_identifier(alloc: Global, side: Side, message: &[u8]) -> Result<bool, AllocError> {
+fn has_identifier(alloc: Global, side: Direction, message: &[u8]) -> Result<bool, AllocError> {
     match odd_of(alloc, side, message)? {
         Some(Odd::UnknownIdentifier) => Ok(false),
         _ => Ok(true),

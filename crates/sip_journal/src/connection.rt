@@ -1,7 +1,7 @@
 //! A captured connection: two streams, each cut into pieces.
 
 use crate::headers::TcpSegment;
-use capture_streams::{Cutter, Piece, Stream, position_near};
+use capture_streams::{Cutter, Stream, StreamPiece, position_near};
 use std::alloc::{AllocError, Global};
 
 /// A segment or an acknowledgement that lies further ahead than this many bytes is damaged, and passed.
@@ -15,8 +15,8 @@ const LONGEST: usize = 64 * 1024;
 
 /// What is heard of one end of a connection.
 pub enum Heard {
-    Piece(Piece),
-    /// So many bytes are missing.
+    Piece(StreamPiece),
+    /// This number of bytes is missing.
     Missing(u64),
 }
 
@@ -36,9 +36,9 @@ pub struct Half {
     begun_at: Option<u32>,
     stream: Option<Stream>,
     cutter: Cutter,
-    /// The position behind the last byte, once it is known.
+    /// The position after the last byte, once it is known.
     end: Option<u64>,
-    /// The position behind the last byte that came.
+    /// The position after the last byte that came.
     last: u64,
 }
 
@@ -128,7 +128,7 @@ impl Half {
         Ok(())
     }
 
-    /// The stream begins with the byte behind this number; what came before belongs to another connection.
+    /// The stream begins with the byte after this number; what came before belongs to another connection.
     fn begin(&mut self, number: u32, heard: &mut Vec<Heard>) -> Result<(), AllocError> {
         if self.is_begun_at(number) {
             return Ok(());

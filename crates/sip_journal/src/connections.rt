@@ -76,6 +76,11 @@ impl Connection {
             heard_at: 0,
         }
     }
+
+    /// What one of its ends sends.
+    pub fn half(&self, is_first: bool) -> &Half {
+        if is_first { &self.first } else { &self.second }
+    }
 }
 
 /// A connection that is over, and the segment that ended it.

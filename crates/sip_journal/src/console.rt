@@ -1,7 +1,7 @@
-//! Standard output and standard error of a run: the journal goes to the one, what is told and how far it has come to the other.
+//! Standard output and standard error of a run: the journal goes to the one, reports and progress to the other.
 
-use crate::reading::Reading;
-use crate::stop::Stop;
+use crate::reading::JournalReader;
+use crate::stop::MakingError;
 use std::io::{IsTerminal, Write};
 use std::rt::Clock;
 
@@ -50,10 +50,10 @@ impl<'a, R: Clock + Eprint, W: Write, E: Write + IsTerminal> Console<'a, R, W, E
         }
     }
 
-    /// Follows the reading of a log: shows how far it has come, tells what is to be told, and writes the rows that are whole.
-    pub fn follow(&mut self, reading: &mut Reading<'_>) -> Result<(), Stop> {
+    /// Follows the reading of a log: shows how far it has come, writes its reports, and the rows that are whole.
+    pub fn follow(&mut self, reading: &mut JournalReader<'_>) -> Result<(), MakingError> {
         self.show(reading.lines());
-        self.tell_of(reading);
+        self.report(reading);
         if reading.is_full() {
             reading.write(&mut self.out)?;
         }
@@ -61,27 +61,27 @@ impl<'a, R: Clock + Eprint, W: Write, E: Write + IsTerminal> Console<'a, R, W, E
     }
 
     /// The log is at its end: writes what is left.
-    pub fn finish(&mut self, reading: &mut Reading<'_>) -> Result<(), Stop> {
+    pub fn finish(&mut self, reading: &mut JournalReader<'_>) -> Result<(), MakingError> {
         reading.close()?;
         reading.write(&mut self.out)
     }
 
-    /// Tells what a reading has to tell.
-    pub fn tell_of(&mut self, reading: &mut Reading<'_>) {
-        if !reading.told().is_empty() {
-            self.tell(reading.told());
-            reading.forget_told();
+    /// Writes what a reading has to report.
+    pub fn report(&mut self, reading: &mut JournalReader<'_>) {
+        if !reading.notes().is_empty() {
+            self.write_error(reading.notes());
+            reading.clear_notes();
         }
     }
 
-    /// Tells what stopped a run, and gives the status of that.
-    pub fn tell_stop(&mut self, stop: &Stop) -> u8 {
+    /// Reports what stopped a run, and gives the status of that.
+    pub fn report_stop(&mut self, stop: &MakingError) -> u8 {
         self.clear();
-        stop.tell(&mut self.err)
+        stop.print(&mut self.err)
     }
 
-    /// Tells a text on standard error.
-    pub fn tell(&mut self, text: &str) {
+    /// Writes a text to standard error.
+    pub fn write_error(&mut self, text: &str) {
         self.clear();
         let _ = self.err.write_all(text.as_bytes());
     }

@@ -1,37 +1,49 @@
 //! What a line of a log says, by the expressions of the command line.
 
-use crate::chosen::{Form, Layout};
-use crate::stop::Stop;
+use crate::chosen::{LogForm, LogLayout};
+use crate::stop::MakingError;
 use log_pairs::{Escapes, unescaped};
 use regex::RegexBuilder;
 use regex::bytes::{Matcher, Regex};
 use std::alloc::{AllocError, Global};
 
 /// The expressions of a run. `.` and the classes stand for bytes, whatever text they are of.
-#[derive(Drop)]
 pub struct Expressions {
     request: Regex,
     response: Regex,
     connection: Option<Regex>,
     mark: Option<Regex>,
-    layout: Layout,
+    layout: LogLayout,
     escapes: Escapes,
+}
+
+impl Drop for Expressions {
+    fn drop(self) {
+        let Expressions {
+            request: _,
+            response: _,
+            connection: _,
+            mark: _,
+            layout: _,
+            escapes: _,
+        } = self;
+    }
 }
 
 impl Expressions {
     /// Compiles those of a form; each has one group, but for a mark's.
-    pub fn new(alloc: Global, form: &Form) -> Result<Expressions, Stop> {
-        let connection = match &form.connection {
-            Some(text) => Some(with_group(alloc, "--connection", text.as_str())?),
+    pub fn new(alloc: Global, form: LogForm<'_>) -> Result<Expressions, MakingError> {
+        let connection = match form.connection {
+            Some(text) => Some(with_group(alloc, "--connection", text)?),
             None => None,
         };
-        let mark = match &form.mark {
-            Some(text) => Some(compiled(alloc, "--mark", text.as_str())?),
+        let mark = match form.mark {
+            Some(text) => Some(compiled(alloc, "--mark", text)?),
             None => None,
         };
         Ok(Expressions {
-            request: with_group(alloc, "--request", form.request.as_str())?,
-            response: with_group(alloc, "--response", form.response.as_str())?,
+            request: with_group(alloc, "--request", form.request)?,
+            response: with_group(alloc, "--response", form.response)?,
             connection,
             mark,
             layout: form.layout,
@@ -59,17 +71,17 @@ fn matcher_of(alloc: Global, regex: &Option<Regex>) -> Result<Option<Matcher<'_>
     }
 }
 
-fn compiled(alloc: Global, option: &str, text: &str) -> Result<Regex, Stop> {
+fn compiled(alloc: Global, option: &str, text: &str) -> Result<Regex, MakingError> {
     match RegexBuilder::new(text).unicode(false).build_bytes(alloc) {
         Ok(regex) => Ok(regex),
-        Err(error) => Err(Stop::of_expression(alloc, option, &error)),
+        Err(error) => Err(MakingError::of_expression(alloc, option, &error)),
     }
 }
 
-fn with_group(alloc: Global, option: &str, text: &str) -> Result<Regex, Stop> {
+fn with_group(alloc: Global, option: &str, text: &str) -> Result<Regex, MakingError> {
     let regex = compiled(alloc, option, text)?;
     if regex.captures_len() != 2 {
-        return Err(Stop::refused(
+        return Err(MakingError::refused(
             alloc,
             "there must be just one group in the expression of",
             option,
@@ -103,7 +115,7 @@ pub struct Finder<'r> {
     response: Matcher<'r>,
     connection: Option<Matcher<'r>>,
     mark: Option<Matcher<'r>>,
-    layout: Layout,
+    layout: LogLayout,
     escapes: Escapes,
 }
 
@@ -132,7 +144,7 @@ impl<'r> Finder<'r> {
     /// Whether lines are JSON objects.
     pub fn reads_json(&self) -> bool {
         match self.layout {
-            Layout::Json => true,
+            LogLayout::Json => true,
             _ => false,
         }
     }
@@ -170,7 +182,7 @@ impl<'r> Finder<'r> {
     fn texts<'l>(&mut self, line: &'l [u8]) -> (Option<&'l [u8]>, Option<&'l [u8]>) {
         let request = group(&mut self.request, line);
         match self.layout {
-            Layout::Pair => (
+            LogLayout::Pair => (
                 request,
                 group(&mut self.response, line).filter(|text| !text.is_empty()),
             ),

@@ -1,10 +1,11 @@
-//! The TCP segment of a packet: behind the header of its link and that of IPv4 or IPv6.
+//! The TCP segment of a packet: after the header of its link and that of IPv4 or IPv6.
 
 use std::net::{IpAddr, Ipv4Addr, Ipv6Addr, SocketAddr};
 
 const TCP: u8 = 6;
 
 /// A TCP segment.
+#[derive(Clone, Copy)]
 pub struct TcpSegment<'p> {
     pub from: SocketAddr,
     pub to: SocketAddr,
@@ -17,21 +18,6 @@ pub struct TcpSegment<'p> {
     pub ends: bool,
     pub resets: bool,
     pub payload: &'p [u8],
-}
-
-impl Drop for TcpSegment<'_> {
-    fn drop(self) {
-        let TcpSegment {
-            from: _,
-            to: _,
-            number: _,
-            acknowledged: _,
-            begins: _,
-            ends: _,
-            resets: _,
-            payload: _,
-        } = self;
-    }
 }
 
 /// The TCP segment of a packet of a link: Ethernet, Linux cooked, loopback, or bare IP. Nothing where it has none, or a part of one.

@@ -1,37 +1,42 @@
-//! What is told of lines and messages that are none, or that a log has damaged.
+//! Reports of lines and messages that are none, or that a log has damaged.
 
-use log_pairs::{Odd, Side, odd_of};
+use log_pairs::{Direction, Odd, odd_of};
 use std::alloc::{AllocError, Global};
 use std::collections::BTreeMap;
 
-/// How many skipped lines, and how many odd messages, are told.
+/// How many skipped lines, and how many odd messages, are reported.
 const TOLD: usize = 3;
 
 /// How many bytes of a line are shown.
 const WIDTH: usize = 80;
 
-/// More than one odd message in so many is too much.
+/// More than one odd message in this number is too much.
 const TOLERATED: u64 = 10;
 
-/// How many clients are told apart.
+/// How many clients are distinguished.
 const CLIENTS: usize = 65_536;
 
-/// Where a line stands: its log, and its number there, from 1 on.
+/// The place of a line: its log, and its number there, from 1 on.
 #[derive(Clone, Copy)]
-pub struct Place<'a> {
+pub struct LogPlace<'a> {
     pub log: &'a str,
     pub line: u64,
 }
 
-/// A line that is told, with the number that it has in all logs together.
-#[derive(Drop)]
+/// A line that is reported, with the number that it has in all logs together.
 struct Shown {
     number: u64,
     text: String,
 }
 
+impl Drop for Shown {
+    fn drop(self) {
+        let Shown { number: _, text: _ } = self;
+    }
+}
+
 /// What was odd in the logs so far.
-pub struct Judge {
+pub struct JournalJudge {
     alloc: Global,
     /// Messages that were judged.
     messages: u64,
@@ -76,9 +81,9 @@ impl Sums {
     }
 }
 
-impl Drop for Judge {
+impl Drop for JournalJudge {
     fn drop(self) {
-        let Judge {
+        let JournalJudge {
             alloc: _,
             messages: _,
             unknown: _,
@@ -92,9 +97,9 @@ impl Drop for Judge {
     }
 }
 
-impl Judge {
-    pub fn new(alloc: Global) -> Judge {
-        Judge {
+impl JournalJudge {
+    pub fn new(alloc: Global) -> JournalJudge {
+        JournalJudge {
             alloc,
             messages: 0,
             unknown: 0,
@@ -144,7 +149,12 @@ impl Judge {
     }
 
     /// Notes a line that says nothing.
-    pub fn skip(&mut self, number: u64, place: Place<'_>, line: &[u8]) -> Result<(), AllocError> {
+    pub fn skip(
+        &mut self,
+        number: u64,
+        place: LogPlace<'_>,
+        line: &[u8],
+    ) -> Result<(), AllocError> {
         note(
             self.alloc,
             &mut self.skipped,
@@ -159,9 +169,9 @@ impl Judge {
     pub fn judge(
         &mut self,
         number: u64,
-        place: Place<'_>,
+        place: LogPlace<'_>,
         connection: &[u8],
-        side: Side,
+        side: Direction,
         message: &[u8],
     ) -> Result<(), AllocError> {
         self.messages = self.messages.saturating_add(1);
@@ -188,7 +198,7 @@ impl Judge {
                     "wrong checksum",
                     message,
                 )?;
-                if matches!(side, Side::Request) {
+                if matches!(side, Direction::Request) {
                     self.count_sum(connection, None)?;
                 }
             }
@@ -196,8 +206,8 @@ impl Judge {
                 let text = shown_text(self.alloc, place, "no checksum", message)?;
                 self.count_sum(connection, Some(Shown { number, text }))?;
             }
-            (Side::Request, None) => self.count_sum(connection, None)?,
-            (Side::Response, None) => {}
+            (Direction::Request, None) => self.count_sum(connection, None)?,
+            (Direction::Response, None) => {}
         }
         Ok(())
     }
@@ -250,17 +260,17 @@ impl Judge {
         Ok(())
     }
 
-    /// Tells the first skipped lines, and the first odd messages.
-    pub fn tell(&self, told: &mut String) -> Result<(), AllocError> {
+    /// Reports the first skipped lines, and the first odd messages.
+    pub fn report(&self, told: &mut String) -> Result<(), AllocError> {
         for shown in &self.skipped {
-            tell_line(shown, told)?;
+            push_line(shown, told)?;
         }
         let mut after = 0;
         for _ in 0..TOLD {
             let Some(shown) = self.first_odd(after) else {
                 break;
             };
-            tell_line(shown, told)?;
+            push_line(shown, told)?;
             after = shown.number.saturating_add(1);
         }
         Ok(())
@@ -295,17 +305,17 @@ fn earlier<'s>(first: Option<&'s Shown>, other: &'s Shown, from: u64) -> Option<
     }
 }
 
-fn tell_line(shown: &Shown, told: &mut String) -> Result<(), AllocError> {
+fn push_line(shown: &Shown, told: &mut String) -> Result<(), AllocError> {
     told.push_str(shown.text.as_str())?;
     told.push('\n')
 }
 
-/// Notes a line among those that are told, where these are too few.
+/// Notes a line among those that are reported, where these are too few.
 fn note(
     alloc: Global,
     told: &mut Vec<Shown>,
     number: u64,
-    place: Place<'_>,
+    place: LogPlace<'_>,
     what: &str,
     line: &[u8],
 ) -> Result<(), AllocError> {
@@ -317,14 +327,14 @@ fn note(
     Ok(())
 }
 
-/// A line as it is told: its place, what it is, and its first bytes.
+/// A line as it is reported: its place, what it is, and its first bytes.
 fn shown_text(
     alloc: Global,
-    place: Place<'_>,
+    place: LogPlace<'_>,
     what: &str,
     line: &[u8],
 ) -> Result<String, AllocError> {
-    let Place { log, line: number } = place;
+    let LogPlace { log, line: number } = place;
     let mut text = format!(in alloc; "{log}:{number}: {what}: ")?;
     push_cut(&mut text, line)?;
     Ok(text)

@@ -1,10 +1,9 @@
-//! The program `sip_journal`: makes a journal from a server's log. What is a pair, and what a journal's rows are, stands in
-//! `log_pairs`; here are the words of the command line, the expressions that find messages in lines, and the files.
+//! The program `sip_journal`: makes a journal from a server's log. `log_pairs` defines what is a pair, and what a journal's rows
+//! are; `command_line` reads the options; here are the expressions that find messages in lines, and the files.
 #![tactic(auto)]
 
 mod capturing;
 mod chosen;
-mod command_line;
 mod connection;
 mod connections;
 mod console;
@@ -25,7 +24,7 @@ mod times;
 mod trying;
 
 use crate::console::Console;
-use crate::stop::Stop;
+use crate::stop::MakingError;
 use std::env::Env;
 use std::process::ExitCode;
 use std::{env, io};
@@ -34,7 +33,7 @@ fn main(rt: HostRuntime) -> ExitCode {
     let mut console = Console::new(&rt, rt.stdout(), rt.stderr());
     let status = match words(&rt) {
         Ok(words) => run::run(&mut console, words.as_slice()),
-        Err(error) => console.tell_stop(&Stop::of_words(&error)),
+        Err(error) => console.report_stop(&MakingError::of_words(&error)),
     };
     ExitCode::from(status)
 }

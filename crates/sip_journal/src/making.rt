@@ -1,8 +1,8 @@
 //! A journal while it is made: exchanges leave it as soon as they are whole.
 
-use crate::stop::Stop;
+use crate::stop::MakingError;
 use journal_table::{CONNECTION_LIMIT, LINE_LIMIT};
-use log_pairs::{Exchange, Pairing, Side, head_text, rows_text};
+use log_pairs::{Direction, Exchange, Pairing, head_text, rows_text};
 use sip_reader::LINE_NUMBER_END;
 use std::alloc::{AllocError, Global};
 use std::io::Write;
@@ -10,7 +10,7 @@ use std::io::Write;
 /// How many exchanges are written at once.
 const ROWS: usize = 4096;
 
-/// After so many further requests, of all connections, no response comes to a request any more.
+/// A request that has no response after this number of further requests, of all connections, gets none any more.
 const PATIENCE: usize = 16_384;
 
 /// The journal that is made. What isn't written yet is kept.
@@ -75,18 +75,23 @@ impl Making {
         self.unasked
     }
 
-    /// Whether so many exchanges are whole that they should be written.
+    /// Whether there are enough whole exchanges to write them.
     pub fn is_full(&self) -> bool {
         self.ready.len() >= ROWS
     }
 
     /// Takes the next message.
-    pub fn take(&mut self, connection: &[u8], side: Side, message: &[u8]) -> Result<Taken, Stop> {
+    pub fn take(
+        &mut self,
+        connection: &[u8],
+        side: Direction,
+        message: &[u8],
+    ) -> Result<Taken, MakingError> {
         if connection.len() > CONNECTION_LIMIT {
             return Ok(Taken::Refused("the name of the connection has more than 64 bytes"));
         }
         match side {
-            Side::Request => {
+            Direction::Request => {
                 if self.pairing.asked() >= LINE_LIMIT {
                     return Ok(Taken::Refused(
                         "more than 1,000,000 requests: a journal has no more lines",
@@ -95,7 +100,7 @@ impl Making {
                 self.pairing.ask(self.alloc, connection, message)?;
                 self.give_up()?;
             }
-            Side::Response => {
+            Direction::Response => {
                 if !self.pairing.answer(self.alloc, connection, message)? {
                     self.unasked = self.unasked.saturating_add(1);
                     return Ok(Taken::Unasked);
@@ -107,7 +112,7 @@ impl Making {
     }
 
     /// Nothing more comes of a connection: its open request stays without a response.
-    pub fn over(&mut self, connection: &[u8]) -> Result<(), Stop> {
+    pub fn over(&mut self, connection: &[u8]) -> Result<(), MakingError> {
         self.pairing.over(connection);
         self.collect()
     }
@@ -125,13 +130,13 @@ impl Making {
     }
 
     /// No message comes any more: requests that are open stay without a response.
-    pub fn close(&mut self) -> Result<(), Stop> {
+    pub fn close(&mut self) -> Result<(), MakingError> {
         self.pairing.close();
         self.collect()
     }
 
     /// Takes what can't change any more from what waits.
-    fn collect(&mut self) -> Result<(), Stop> {
+    fn collect(&mut self) -> Result<(), MakingError> {
         for _ in 0..self.pairing.waiting() {
             let Some(exchange) = self.pairing.next() else {
                 break;
@@ -141,14 +146,14 @@ impl Making {
                 self.unanswered = self.unanswered.saturating_add(1);
             }
             if self.ready.push(exchange).is_err() {
-                return Err(Stop::Memory);
+                return Err(MakingError::Memory);
             }
         }
         Ok(())
     }
 
     /// Writes the exchanges that are whole, under the header where nothing was written yet.
-    pub fn write<W: Write>(&mut self, out: &mut W) -> Result<(), Stop> {
+    pub fn write<W: Write>(&mut self, out: &mut W) -> Result<(), MakingError> {
         if !self.begun {
             write_to(out, head_text(self.alloc)?.as_slice())?;
             self.begun = true;
@@ -156,7 +161,7 @@ impl Making {
         let count = self.ready.len() as u64;
         let after = self.number.saturating_add(count);
         if after > LINE_NUMBER_END {
-            return Err(Stop::refused(
+            return Err(MakingError::refused(
                 self.alloc,
                 "the number of a row would be past",
                 "9999999999",
@@ -180,9 +185,9 @@ pub enum Taken {
     Refused(&'static str),
 }
 
-fn write_to<W: Write>(out: &mut W, text: &[u8]) -> Result<(), Stop> {
+fn write_to<W: Write>(out: &mut W, text: &[u8]) -> Result<(), MakingError> {
     match out.write_all(text) {
         Ok(()) => Ok(()),
-        Err(_) => Err(Stop::Output),
+        Err(_) => Err(MakingError::Output),
     }
 }

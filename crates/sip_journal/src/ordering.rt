@@ -1,17 +1,17 @@
 //! Messages whose times fall back.
 
-use crate::judging::{Place, push_cut};
+use crate::judging::{LogPlace, push_cut};
 use crate::times::{MINUTE, Onward, SECOND, Time};
 use std::alloc::{AllocError, Global};
 
-/// How many falls are told.
+/// How many falls are reported.
 const TOLD: u64 = 3;
 
 /// The last message with a time, and how often times fell back by more than a minute.
 pub struct Order<'l> {
     alloc: Global,
     clock: Onward,
-    last: Option<(u64, Place<'l>)>,
+    last: Option<(u64, LogPlace<'l>)>,
     line: Vec<u8>,
     falls: u64,
 }
@@ -44,10 +44,10 @@ impl<'l> Order<'l> {
         self.falls
     }
 
-    /// Takes the next message, and tells it with the one before where its time is more than a minute earlier.
+    /// Takes the next message, and reports it with the one before where its time is more than a minute earlier.
     pub fn take(
         &mut self,
-        place: Place<'l>,
+        place: LogPlace<'l>,
         time: Time,
         line: &[u8],
         told: &mut String,
@@ -58,7 +58,7 @@ impl<'l> Order<'l> {
             if fall > MINUTE {
                 self.falls = self.falls.saturating_add(1);
                 if self.falls <= TOLD {
-                    let Place { log, line: number } = place;
+                    let LogPlace { log, line: number } = place;
                     let seconds = fall / SECOND;
                     let old = place_text(self.alloc, last_place, &self.line)?;
                     let new = place_text(self.alloc, place, line)?;
@@ -75,8 +75,8 @@ impl<'l> Order<'l> {
     }
 }
 
-fn place_text(alloc: Global, place: Place<'_>, line: &[u8]) -> Result<String, AllocError> {
-    let Place { log, line: number } = place;
+fn place_text(alloc: Global, place: LogPlace<'_>, line: &[u8]) -> Result<String, AllocError> {
+    let LogPlace { log, line: number } = place;
     let mut text = format!(in alloc; "{log}:{number}: ")?;
     push_cut(&mut text, line)?;
     Ok(text)

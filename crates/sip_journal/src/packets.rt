@@ -1,7 +1,8 @@
 //! The packets of a capture, as tcpdump writes them: pcap and pcapng.
 
-use crate::stop::Stop;
+use crate::stop::MakingError;
 use std::alloc::Global;
+use std::io;
 use std::io::BufRead;
 
 /// The longest packet or block that is read, in bytes.
@@ -60,7 +61,7 @@ impl<B: Drop> Drop for Packets<B> {
 
 impl<B: BufRead + Drop> Packets<B> {
     /// Reads the head of a capture; nothing where the file is none.
-    pub fn new(alloc: Global, name: &str, reader: B) -> Result<Option<Packets<B>>, Stop> {
+    pub fn new(alloc: Global, name: &str, reader: B) -> Result<Option<Packets<B>>, MakingError> {
         let mut packets = Packets {
             alloc,
             reader,
@@ -77,7 +78,7 @@ impl<B: BufRead + Drop> Packets<B> {
     }
 
     /// Reads the head of the file; false where it is none of a capture.
-    fn begin(&mut self, name: &str) -> Result<bool, Stop> {
+    fn begin(&mut self, name: &str) -> Result<bool, MakingError> {
         if !self.fill(name, 4)? {
             return Ok(false);
         }
@@ -103,14 +104,14 @@ impl<B: BufRead + Drop> Packets<B> {
     }
 
     /// Reads the next packet.
-    pub fn next(&mut self, name: &str) -> Result<Next, Stop> {
+    pub fn next(&mut self, name: &str) -> Result<Next, MakingError> {
         match self.format {
             Format::Pcap(link) => self.next_pcap(name, link),
             Format::PcapNg => self.next_block(name),
         }
     }
 
-    fn next_pcap(&mut self, name: &str, link: u32) -> Result<Next, Stop> {
+    fn next_pcap(&mut self, name: &str, link: u32) -> Result<Next, MakingError> {
         if !self.fill(name, 16)? {
             return Ok(self.end());
         }
@@ -129,7 +130,7 @@ impl<B: BufRead + Drop> Packets<B> {
     }
 
     /// Reads blocks up to the next one with a packet.
-    fn next_block(&mut self, name: &str) -> Result<Next, Stop> {
+    fn next_block(&mut self, name: &str) -> Result<Next, MakingError> {
         for _ in 0..u64::MAX {
             if !self.fill(name, 4)? {
                 return Ok(self.end());
@@ -154,7 +155,7 @@ impl<B: BufRead + Drop> Packets<B> {
     }
 
     /// Reads what follows the kind of a block, up to its end; `bytes` are its body then.
-    fn read_block(&mut self, name: &str) -> Result<bool, Stop> {
+    fn read_block(&mut self, name: &str) -> Result<bool, MakingError> {
         if !self.fill(name, 4)? {
             return Ok(false);
         }
@@ -166,12 +167,12 @@ impl<B: BufRead + Drop> Packets<B> {
     }
 
     /// What the block of this kind says, whose body was read: a packet, an interface, or what isn't needed.
-    fn block(&mut self, kind: u32) -> Result<Option<Next>, Stop> {
+    fn block(&mut self, kind: u32) -> Result<Option<Next>, MakingError> {
         match kind {
             1 => {
                 let link = self.short(0).unwrap_or(0);
                 if self.links.push(link).is_err() {
-                    return Err(Stop::Memory);
+                    return Err(MakingError::Memory);
                 }
                 Ok(None)
             }
@@ -186,7 +187,7 @@ impl<B: BufRead + Drop> Packets<B> {
         }
     }
 
-    /// The packet of an interface, whose length stands at a place.
+    /// The packet of an interface, whose length is at a place.
     fn packet(&self, interface: Option<u32>, from: usize, len_at: usize) -> Next {
         match self.long(len_at) {
             Some(len) => self.packet_at(interface, from, len as usize),
@@ -210,8 +211,8 @@ impl<B: BufRead + Drop> Packets<B> {
         }
     }
 
-    /// Reads the head of a section behind its kind.
-    fn begin_section(&mut self, name: &str) -> Result<bool, Stop> {
+    /// Reads the head of a section after its kind.
+    fn begin_section(&mut self, name: &str) -> Result<bool, MakingError> {
         if !self.fill(name, 8)? {
             return Ok(false);
         }
@@ -237,26 +238,30 @@ impl<B: BufRead + Drop> Packets<B> {
         }
     }
 
-    /// Reads so many bytes; false where the file has fewer.
-    fn fill(&mut self, name: &str, count: usize) -> Result<bool, Stop> {
+    /// Reads this number of bytes; false where the file has fewer.
+    fn fill(&mut self, name: &str, count: usize) -> Result<bool, MakingError> {
         self.bytes.clear();
         for _ in 0..u64::MAX {
             let left = count.saturating_sub(self.bytes.len());
             if left == 0 {
                 return Ok(true);
             }
-            let chunk = match self.reader.fill_buf() {
-                Ok(chunk) => chunk,
-                Err(error) => return Err(Stop::of_file(self.alloc, &error, name)),
-            };
-            let some = chunk.len().min(left);
-            if some == 0 {
-                return Ok(false);
+            match self.read_some(left) {
+                Ok(true) => {}
+                Ok(false) => return Ok(false),
+                Err(error) => return Err(MakingError::of_file(self.alloc, &error, name)),
             }
-            self.bytes.extend_from_slice(&chunk[..some])?;
-            self.reader.consume(some);
         }
         Ok(false)
+    }
+
+    /// Reads some bytes, at most this number; false at the end of the file.
+    fn read_some(&mut self, most: usize) -> io::Result<bool> {
+        let chunk = self.reader.fill_buf()?;
+        let some = chunk.len().min(most);
+        self.bytes.extend_from_slice(&chunk[..some])?;
+        self.reader.consume(some);
+        Ok(some > 0)
     }
 
     /// The number of four bytes at a place.

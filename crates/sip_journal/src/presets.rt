@@ -1,9 +1,8 @@
 //! Forms of lines that logs have, by a name. They are written from memory of such logs: docs/MAKE-A-JOURNAL.md.
 //! Each expression begins at the line's head, so that no text of a message is taken for the mark of a side.
 
-use crate::chosen::{Form, Layout};
+use crate::chosen::{LogForm, LogLayout};
 use log_pairs::Escapes;
-use std::alloc::{AllocError, Global};
 
 /// How a log writes messages.
 #[derive(Clone, Copy)]
@@ -13,7 +12,7 @@ pub struct Preset {
     pub response: &'static str,
     pub connection: &'static str,
     pub mark: Option<&'static str>,
-    pub layout: Layout,
+    pub layout: LogLayout,
     pub escapes: Escapes,
 }
 
@@ -26,7 +25,7 @@ pub static PRESETS: [Preset; 11] = [
         response: r"^\[[^\]]*\] \[[^\]]*\] \S+: OUTPUT MSG: '(.*)'",
         connection: r"^\[[^\]]*\] \[[^\]]*\] (\S+): ",
         mark: None,
-        layout: Layout::Single,
+        layout: LogLayout::Single,
         escapes: Escapes::Bare,
     },
     // Mar  7 09:02:10 host koha_sip[1234]: INPUT MSG: '2300120260307    090210AO..|AA..|'
@@ -36,7 +35,7 @@ pub static PRESETS: [Preset; 11] = [
         response: r"^\w+ +\d+ [0-9:]+ \S+ \S+\[\d+\]: OUTPUT MSG: '(.*)'",
         connection: r"^[^\[]*\[(\d+)\]:",
         mark: None,
-        layout: Layout::Single,
+        layout: LogLayout::Single,
         escapes: Escapes::Bare,
     },
     // 2026-03-07T09:02:10-05:00 brick1 SIPServer[1234]: [INFO] INPUT MSG: '2300120260307    090210AO..|AA..|'
@@ -46,7 +45,7 @@ pub static PRESETS: [Preset; 11] = [
         response: r"^\d+-\d+-\d+T\S+ \S+ \S+\[\d+\]: (?:\[\w+\] )?OUTPUT MSG: '(.*)'",
         connection: r"^[^\[]*\[(\d+)\]:",
         mark: None,
-        layout: Layout::Single,
+        layout: LogLayout::Single,
         escapes: Escapes::Bare,
     },
     // Mar  7 09:02:10 host sipserver[1234]: recv: 2300120260307    090210AO..|AA..|#015
@@ -56,7 +55,7 @@ pub static PRESETS: [Preset; 11] = [
         response: r"^[^\[]*\[\d+\]: (?i:send|sent|write|out|->|>>|>):? ?(.*?)(?:#01[25])*$",
         connection: r"^[^\[]*\[(\d+)\]:",
         mark: None,
-        layout: Layout::Single,
+        layout: LogLayout::Single,
         escapes: Escapes::Octal,
     },
     // 2026-03-07 09:02:10,120 INFO mediator: 10.0.0.7:49152 >>> 2300120260307    090210AO..|AA..|<CR>
@@ -66,7 +65,7 @@ pub static PRESETS: [Preset; 11] = [
         response: r"^\S+ \S+ \w+ [^:]*: \S+ (?:<<<|(?i:sent|wrote)):? ?(.*?)(?:<CR>|<LF>)*$",
         connection: r"^\S+ \S+ \w+ [^:]*: (\S+) ",
         mark: None,
-        layout: Layout::Single,
+        layout: LogLayout::Single,
         escapes: Escapes::Angle,
     },
     // {"__REALTIME_TIMESTAMP":"1772874130120000","_HOSTNAME":"host","_PID":"1234","MESSAGE":"INPUT MSG: '23001..|AA..|'"}
@@ -76,7 +75,7 @@ pub static PRESETS: [Preset; 11] = [
         response: r"^\S+ \S+ \S+\[\d+\]: OUTPUT MSG: '(.*)'",
         connection: r"^[^\[]*\[(\d+)\]:",
         mark: None,
-        layout: Layout::Json,
+        layout: LogLayout::Json,
         escapes: Escapes::Bare,
     },
     // 2026-03-07T09:02:10.120 DESK2 received, and the message on the next line
@@ -86,7 +85,7 @@ pub static PRESETS: [Preset; 11] = [
         response: r"^\S+ \S+ (?i:sent|response)[^\n]*\n(.*)$",
         connection: r"^\S+ (\S+) ",
         mark: Some(r"^\S+ \S+ (?i:received|request|sent|response)[: ]*$"),
-        layout: Layout::Single,
+        layout: LogLayout::Single,
         escapes: Escapes::Bare,
     },
     // 2026-03-07T09:02:10.120 DESK2 [2300120260307    090210AO..|AA..|] => [24..]
@@ -96,7 +95,7 @@ pub static PRESETS: [Preset; 11] = [
         response: r"\] => \[(.*)\]$",
         connection: r"^\S+ (\S+) ",
         mark: None,
-        layout: Layout::Pair,
+        layout: LogLayout::Pair,
         escapes: Escapes::Bare,
     },
     // 2026-03-07T09:02:10.120 DESK2 <- 2300120260307    090210AO..|AA..|
@@ -106,7 +105,7 @@ pub static PRESETS: [Preset; 11] = [
         response: r"^\S+ \S+ -> (.*)$",
         connection: r"^\S+ (\S+) ",
         mark: None,
-        layout: Layout::Single,
+        layout: LogLayout::Single,
         escapes: Escapes::Backslash,
     },
     // Mar  7 09:02:10 host sip[1234]: INPUT MSG: '2300120260307    090210AO..|AA..|'
@@ -116,7 +115,7 @@ pub static PRESETS: [Preset; 11] = [
         response: "^[^']*OUTPUT MSG: '(.*)'",
         connection: r"^[^']*?\[([0-9]+)\]:",
         mark: None,
-        layout: Layout::Single,
+        layout: LogLayout::Single,
         escapes: Escapes::Bare,
     },
     // 09:02:10 [10.0.0.7:49152] received: 2300120260307    090210AO..|AA..|<CR>
@@ -126,7 +125,7 @@ pub static PRESETS: [Preset; 11] = [
         response: r"(?i)^[^\]]*\] sent: ?(.*)$",
         connection: r"^[^\[]*\[([^\]]+)\]",
         mark: None,
-        layout: Layout::Single,
+        layout: LogLayout::Single,
         escapes: Escapes::Angle,
     },
 ];
@@ -138,18 +137,14 @@ pub fn preset_named(name: &str) -> Option<&'static Preset> {
 
 impl Preset {
     /// The form of its lines.
-    pub fn form(&self, alloc: Global) -> Result<Form, AllocError> {
-        let mark = match self.mark {
-            Some(text) => Some(String::from_str(alloc, text)?),
-            None => None,
-        };
-        Ok(Form {
-            request: String::from_str(alloc, self.request)?,
-            response: String::from_str(alloc, self.response)?,
-            connection: Some(String::from_str(alloc, self.connection)?),
-            mark,
+    pub fn form(&self) -> LogForm<'static> {
+        LogForm {
+            request: self.request,
+            response: self.response,
+            connection: Some(self.connection),
+            mark: self.mark,
             layout: self.layout,
             escapes: self.escapes,
-        })
+        }
     }
 }

@@ -1,14 +1,15 @@
 //! What is done with each record of a log, until the journal is whole.
 
 use crate::finder::{Finder, Said};
-use crate::judging::{Judge, Place, push_cut};
+use crate::judging::{JournalJudge, LogPlace, push_cut};
 use crate::making::{Making, Taken};
 use crate::ordering::Order;
-use crate::source::Record;
-use crate::stop::Stop;
-use log_pairs::Side;
+use crate::source::LogRecord;
+use crate::stop::MakingError;
+use log_pairs::Direction;
 use std::alloc::{AllocError, Global};
 use std::io::Write;
+use std::net::SocketAddr;
 
 const NOTHING_IN_LINES: &str =
     "no exchange was found: no line has a request. The first lines that were skipped stand above; \
@@ -31,22 +32,35 @@ const OUT_OF_ORDER: &str =
 
 /// What a journal is made of.
 #[derive(Clone, Copy)]
-pub enum Kind {
+pub enum InputKind {
     Lines,
     Packets,
+    /// The lines on which a form is tried: none is refused.
+    Trial,
 }
 
-/// A journal that is made of records, and what is to be told of them.
-pub struct Reading<'l> {
+/// What a preset finds in lines.
+#[derive(Clone, Copy)]
+pub struct Fit {
+    pub name: &'static str,
+    pub exchanges: u64,
+    pub odd: u64,
+    pub skipped: u64,
+    /// Messages that aren't odd.
+    pub good: u64,
+}
+
+/// A journal that is made of records, and what is to be reported of them.
+pub struct JournalReader<'l> {
     alloc: Global,
     making: Making,
-    judge: Judge,
+    judge: JournalJudge,
     order: Order<'l>,
-    kind: Kind,
+    kind: InputKind,
     /// Whether a journal of no use is written, too.
     force: bool,
-    /// What is to be told, and wasn't yet.
-    told: String,
+    /// What is to be reported, and wasn't yet.
+    notes: String,
     /// Lines or packets that were read, and those of them that say nothing.
     lines: u64,
     skipped: u64,
@@ -55,16 +69,16 @@ pub struct Reading<'l> {
     broken: u64,
 }
 
-impl Drop for Reading<'_> {
+impl Drop for JournalReader<'_> {
     fn drop(self) {
-        let Reading {
+        let JournalReader {
             alloc: _,
             making: _,
             judge: _,
             order: _,
             kind: _,
             force: _,
-            told: _,
+            notes: _,
             lines: _,
             skipped: _,
             gaps: _,
@@ -73,21 +87,32 @@ impl Drop for Reading<'_> {
     }
 }
 
-impl<'l> Reading<'l> {
+impl<'l> JournalReader<'l> {
     /// Before the first line or packet.
-    pub fn new(alloc: Global, kind: Kind, first: u64, force: bool) -> Reading<'l> {
-        Reading {
+    pub fn new(alloc: Global, kind: InputKind, first: u64, force: bool) -> JournalReader<'l> {
+        JournalReader {
             alloc,
             making: Making::new(alloc, first),
-            judge: Judge::new(alloc),
+            judge: JournalJudge::new(alloc),
             order: Order::new(alloc),
             kind,
             force,
-            told: String::new(alloc),
+            notes: String::new(alloc),
             lines: 0,
             skipped: 0,
             gaps: 0,
             broken: 0,
+        }
+    }
+
+    /// What was found in lines on which a form is tried.
+    pub fn fit(&self, name: &'static str) -> Fit {
+        Fit {
+            name,
+            exchanges: self.making.exchanges(),
+            odd: self.judge.odd(),
+            skipped: self.skipped,
+            good: self.judge.good(),
         }
     }
 
@@ -96,17 +121,17 @@ impl<'l> Reading<'l> {
         self.lines
     }
 
-    /// What is to be told, and wasn't yet.
-    pub fn told(&self) -> &str {
-        self.told.as_str()
+    /// What is to be reported, and wasn't yet.
+    pub fn notes(&self) -> &str {
+        self.notes.as_str()
     }
 
-    /// All that was to be told was told.
-    pub fn forget_told(&mut self) {
-        self.told.clear();
+    /// All that was to be reported was reported.
+    pub fn clear_notes(&mut self) {
+        self.notes.clear();
     }
 
-    /// Whether so many exchanges are whole that they should be written.
+    /// Whether there are enough whole exchanges to write them.
     pub fn is_full(&self) -> bool {
         self.making.is_full()
     }
@@ -115,9 +140,9 @@ impl<'l> Reading<'l> {
     pub fn take(
         &mut self,
         finder: &mut Finder<'_>,
-        record: &Record,
-        place: Place<'l>,
-    ) -> Result<(), Stop> {
+        record: &LogRecord,
+        place: LogPlace<'l>,
+    ) -> Result<(), MakingError> {
         self.lines = self.lines.saturating_add(record.lines);
         let Some(said) = finder.find(self.alloc, &record.text)? else {
             self.skipped = self.skipped.saturating_add(record.lines);
@@ -125,18 +150,18 @@ impl<'l> Reading<'l> {
             return Ok(());
         };
         if let Some(time) = record.time {
-            self.order.take(place, time, &record.text, &mut self.told)?;
+            self.order.take(place, time, &record.text, &mut self.notes)?;
         }
         self.hear(&said, place)
     }
 
     /// Takes what a record says.
-    fn hear(&mut self, said: &Said<'_>, place: Place<'l>) -> Result<(), Stop> {
+    fn hear(&mut self, said: &Said<'_>, place: LogPlace<'l>) -> Result<(), MakingError> {
         if let Some(request) = &said.request {
-            self.message(said.connection, Side::Request, request, place)?;
+            self.message(said.connection, Direction::Request, request, place)?;
         }
         if let Some(response) = &said.response {
-            self.message(said.connection, Side::Response, response, place)?;
+            self.message(said.connection, Direction::Response, response, place)?;
         }
         Ok(())
     }
@@ -145,27 +170,30 @@ impl<'l> Reading<'l> {
     pub fn message(
         &mut self,
         connection: &[u8],
-        side: Side,
+        side: Direction,
         message: &[u8],
-        place: Place<'l>,
-    ) -> Result<(), Stop> {
+        place: LogPlace<'l>,
+    ) -> Result<(), MakingError> {
         self.judge
             .judge(self.lines, place, connection, side, message)?;
-        let Place { log, line } = place;
+        let LogPlace { log, line } = place;
         match self.making.take(connection, side, message)? {
             Taken::Paired => {}
             Taken::Unasked => {
-                write!(self.told, "{log}:{line}: a response without a request\n")?;
+                write!(self.notes, "{log}:{line}: a response without a request\n")?;
             }
-            Taken::Refused(why) => return Err(Stop::of_line(self.alloc, log, line, why)),
+            Taken::Refused(_) if matches!(self.kind, InputKind::Trial) => {}
+            Taken::Refused(why) => return Err(MakingError::of_line(self.alloc, log, line, why)),
         }
         Ok(())
     }
 
-    /// Nothing more comes of a connection.
-    pub fn over(&mut self, connection: &str) -> Result<(), Stop> {
-        self.judge.over(connection.as_bytes())?;
-        self.making.over(connection.as_bytes())
+    /// Nothing more comes of the connection of a client.
+    pub fn over(&mut self, client: SocketAddr) -> Result<(), MakingError> {
+        let name = format!(in self.alloc; "{client}")?;
+        let connection = name.as_str().as_bytes();
+        self.judge.over(connection)?;
+        self.making.over(connection)
     }
 
     /// A packet was read.
@@ -182,83 +210,83 @@ impl<'l> Reading<'l> {
     pub fn missing(
         &mut self,
         count: u64,
-        side: Side,
-        name: &str,
-        place: Place<'l>,
+        side: Direction,
+        client: SocketAddr,
+        place: LogPlace<'l>,
     ) -> Result<(), AllocError> {
         self.gaps = self.gaps.saturating_add(1);
-        let Place { log, line } = place;
+        let LogPlace { log, line } = place;
         let from = speaker(side);
         write!(
-            self.told,
-            "{log}:{line}: {count} bytes from the {from} are missing, of {name}\n"
+            self.notes,
+            "{log}:{line}: {count} bytes from the {from} are missing, of {client}\n"
         )
     }
 
     /// A piece of a captured message is no message: a gap took its beginning or its end.
     pub fn broken(
         &mut self,
-        side: Side,
-        name: &str,
+        side: Direction,
+        client: SocketAddr,
         piece: &[u8],
-        place: Place<'l>,
+        place: LogPlace<'l>,
     ) -> Result<(), AllocError> {
         self.broken = self.broken.saturating_add(1);
-        let Place { log, line } = place;
+        let LogPlace { log, line } = place;
         let from = speaker(side);
         write!(
-            self.told,
-            "{log}:{line}: a part of a message from the {from}, of {name}: "
+            self.notes,
+            "{log}:{line}: a part of a message from the {from}, of {client}: "
         )?;
-        push_cut(&mut self.told, piece)?;
-        self.told.push('\n')
+        push_cut(&mut self.notes, piece)?;
+        self.notes.push('\n')
     }
 
     /// A capture ends within a packet, or goes on with what is none.
-    pub fn cut(&mut self, place: Place<'l>) -> Result<(), AllocError> {
+    pub fn cut(&mut self, place: LogPlace<'l>) -> Result<(), AllocError> {
         self.broken = self.broken.saturating_add(1);
-        let Place { log, line } = place;
+        let LogPlace { log, line } = place;
         write!(
-            self.told,
+            self.notes,
             "{log}:{line}: what follows this packet is none, and isn't read\n"
         )
     }
 
     /// The logs are at their end: requests that are open stay without a response.
-    pub fn close(&mut self) -> Result<(), Stop> {
+    pub fn close(&mut self) -> Result<(), MakingError> {
         self.making.close()
     }
 
     /// Writes what is whole, where it is a journal of use or is wanted all the same.
-    pub fn write<W: Write>(&mut self, out: &mut W) -> Result<(), Stop> {
+    pub fn write<W: Write>(&mut self, out: &mut W) -> Result<(), MakingError> {
         if !self.force {
             if self.making.exchanges() == 0 {
-                return Err(Stop::Useless(match self.kind {
-                    Kind::Lines => NOTHING_IN_LINES,
-                    Kind::Packets => NOTHING_IN_PACKETS,
+                return Err(MakingError::Useless(match self.kind {
+                    InputKind::Packets => NOTHING_IN_PACKETS,
+                    InputKind::Lines | InputKind::Trial => NOTHING_IN_LINES,
                 }));
             }
             if self.judge.is_too_odd() {
-                return Err(Stop::Useless(match self.kind {
-                    Kind::Lines => ODD_LINES,
-                    Kind::Packets => ODD_PACKETS,
+                return Err(MakingError::Useless(match self.kind {
+                    InputKind::Packets => ODD_PACKETS,
+                    InputKind::Lines | InputKind::Trial => ODD_LINES,
                 }));
             }
         }
         self.making.write(out)
     }
 
-    /// Tells what was odd.
-    pub fn tell(&mut self) -> Result<(), AllocError> {
-        self.judge.tell(&mut self.told)?;
+    /// Reports what was odd.
+    pub fn report(&mut self) -> Result<(), AllocError> {
+        self.judge.report(&mut self.notes)?;
         if self.order.falls() > 0 {
-            self.told.push_str(OUT_OF_ORDER)?;
+            self.notes.push_str(OUT_OF_ORDER)?;
         }
         Ok(())
     }
 
-    /// Tells what was counted.
-    pub fn tell_counts(&mut self) -> Result<(), AllocError> {
+    /// Reports what was counted.
+    pub fn report_counts(&mut self) -> Result<(), AllocError> {
         let (lines, skipped) = (self.lines, self.skipped);
         let exchanges = self.making.exchanges();
         let unanswered = self.making.unanswered();
@@ -267,22 +295,22 @@ impl<'l> Reading<'l> {
         let wrong = self.judge.wrong();
         let lacking = self.judge.lacking();
         let what = match self.kind {
-            Kind::Lines => "lines",
-            Kind::Packets => "packets",
+            InputKind::Packets => "packets",
+            InputKind::Lines | InputKind::Trial => "lines",
         };
         write!(
-            self.told,
+            self.notes,
             "{what} {lines} exchanges {exchanges} without-response {unanswered} without-request {unasked} skipped {skipped} \
 unknown {unknown} wrong-checksum {wrong} without-checksum {lacking}"
         )?;
-        if matches!(self.kind, Kind::Packets) {
+        if matches!(self.kind, InputKind::Packets) {
             let (gaps, broken) = (self.gaps, self.broken);
-            write!(self.told, " gaps {gaps} parts {broken}")?;
+            write!(self.notes, " gaps {gaps} parts {broken}")?;
         }
-        self.told.push('\n')
+        self.notes.push('\n')
     }
 
-    /// Whether something was told that a reader of the journal should know.
+    /// Whether something was reported that a reader of the journal should know.
     pub fn is_odd(&self) -> bool {
         self.making.exchanges() == 0
             || self.making.unanswered() > 0
@@ -295,9 +323,9 @@ unknown {unknown} wrong-checksum {wrong} without-checksum {lacking}"
 }
 
 /// Who sends messages of a side.
-fn speaker(side: Side) -> &'static str {
+fn speaker(side: Direction) -> &'static str {
     match side {
-        Side::Request => "client",
-        Side::Response => "server",
+        Direction::Request => "client",
+        Direction::Response => "server",
     }
 }

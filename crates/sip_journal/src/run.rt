@@ -1,31 +1,26 @@
 //! The whole run: words, logs line by line, the journal, one line and the status.
 
 use crate::capturing::Capturing;
-use crate::chosen::{Captures, Options, Task};
-use crate::command_line::task;
+use crate::chosen::{JournalTask, LogForm, Wrong, task_of};
 use crate::console::Console;
 use crate::finder::{Expressions, Finder};
 use crate::headers::segment_of;
-use crate::judging::Place;
+use crate::judging::LogPlace;
 use crate::packets::{Next, Packets};
-use crate::reading::{Kind, Reading};
-use crate::source::Source;
-use crate::stop::{FAILED, REFUSED, Stop};
-use crate::trying::{path_of, try_presets};
-use clap::error::ErrorKind;
+use crate::reading::{InputKind, JournalReader};
+use crate::source::{LogSource, file_of};
+use crate::stop::{FAILED, MakingError, REFUSED};
+use crate::trying::try_presets;
+use command_line::{JournalOptions, Refusal, journal_options};
 use std::convert::AsStr;
-use std::fs;
 use std::io::{BufRead, BufReader, IsTerminal, Write};
 use std::rt::{Clock, Files};
 
-/// The status of a run that has nothing to tell of its journal.
+/// The status of a run that has nothing to report of its journal.
 const WHOLE: u8 = 0;
 
 /// The status of a run whose journal lacks something, or has something odd.
 const ODD: u8 = 1;
-
-/// How many bytes of a capture are read at once.
-const CHUNK: usize = 64 * 1024;
 
 /// Reads the words, of which the first is the program's name, then the logs, and writes the journal to standard output. Gives the
 /// status of the program:
@@ -36,43 +31,42 @@ const CHUNK: usize = 64 * 1024;
 /// - 2 where the command line, a log or a line is refused, no exchange was found, or more than one message in ten is odd;
 /// - 3 where a file can't be read, standard output takes no text, or memory ran out.
 ///
-/// What stopped the run, each response without a request, what is odd, and the counts are told on standard error.
+/// What stopped the run, each response without a request, what is odd, and the counts are written to standard error.
 pub fn run<R: Files + AllocGlobal + Clock + Eprint, S: AsStr, W: Write, E: Write + IsTerminal>(
     console: &mut Console<'_, R, W, E>,
     words: &[S],
 ) -> u8 {
-    let alloc = console.rt.alloc();
-    let done = match task(alloc, words) {
-        Ok(Task::Logs(options)) => make(console, &options),
-        Ok(Task::Captures(captures)) => make_of_captures(console, &captures),
-        Ok(Task::Try(log)) => show_presets(console, log.as_str()),
-        Err(stop) => Err(stop),
+    let options = match journal_options(console.rt.alloc(), words) {
+        Ok(options) => options,
+        Err(Refusal::Help(text)) => {
+            return if console.print(text.as_str()) {
+                WHOLE
+            } else {
+                FAILED
+            };
+        }
+        Err(Refusal::Words(text)) => {
+            console.write_error(text.as_str());
+            return REFUSED;
+        }
+        Err(Refusal::Memory) => return console.report_stop(&MakingError::Memory),
     };
-    match done {
+    match perform(console, &options) {
         Ok(status) => status,
-        Err(Stop::Words(error)) => refuse(console, &error),
-        Err(stop) => console.tell_stop(&stop),
+        Err(stop) => console.report_stop(&stop),
     }
 }
 
-/// Prints what clap says of the words: help to standard output, a refusal to standard error.
-fn refuse<R: AllocGlobal + Clock + Eprint, W: Write, E: Write + IsTerminal>(
+/// Does what the options ask for.
+fn perform<R: Files + AllocGlobal + Clock + Eprint, W: Write, E: Write + IsTerminal>(
     console: &mut Console<'_, R, W, E>,
-    error: &clap::Error,
-) -> u8 {
-    if error.kind() == ErrorKind::OutOfMemory {
-        return console.tell_stop(&Stop::Memory);
-    }
-    let Ok(text) = format!(in console.rt.alloc(); "{error}") else {
-        return console.tell_stop(&Stop::Memory);
-    };
-    if error.use_stderr() {
-        console.tell(text.as_str());
-        REFUSED
-    } else if console.print(text.as_str()) {
-        WHOLE
-    } else {
-        FAILED
+    options: &JournalOptions,
+) -> Result<u8, MakingError> {
+    match task_of(options) {
+        Ok(JournalTask::Logs(form)) => make(console, options, form),
+        Ok(JournalTask::Captures) => make_of_captures(console, options),
+        Ok(JournalTask::Try(log)) => show_presets(console, log),
+        Err(Wrong { what, word }) => Err(MakingError::refused(console.rt.alloc(), what, word)),
     }
 }
 
@@ -80,24 +74,25 @@ fn refuse<R: AllocGlobal + Clock + Eprint, W: Write, E: Write + IsTerminal>(
 fn show_presets<R: Files + AllocGlobal + Clock + Eprint, W: Write, E: Write + IsTerminal>(
     console: &mut Console<'_, R, W, E>,
     log: &str,
-) -> Result<u8, Stop> {
+) -> Result<u8, MakingError> {
     let table = try_presets(console.rt, log)?;
     if console.print(table.as_str()) {
         Ok(WHOLE)
     } else {
-        Err(Stop::Output)
+        Err(MakingError::Output)
     }
 }
 
 /// Reads the logs and writes the journal.
 fn make<R: Files + AllocGlobal + Clock + Eprint, W: Write, E: Write + IsTerminal>(
     console: &mut Console<'_, R, W, E>,
-    options: &Options,
-) -> Result<u8, Stop> {
+    options: &JournalOptions,
+    form: LogForm<'_>,
+) -> Result<u8, MakingError> {
     let alloc = console.rt.alloc();
-    let expressions = Expressions::new(alloc, &options.form)?;
+    let expressions = Expressions::new(alloc, form)?;
     let mut finder = expressions.finder(alloc)?;
-    let mut reading = Reading::new(alloc, Kind::Lines, options.first, options.force);
+    let mut reading = JournalReader::new(alloc, InputKind::Lines, options.first, options.force);
     let read = if options.merge {
         read_merged(console, options, &mut finder, &mut reading)
     } else {
@@ -109,23 +104,23 @@ fn make<R: Files + AllocGlobal + Clock + Eprint, W: Write, E: Write + IsTerminal
 /// Reads the captures and writes the journal.
 fn make_of_captures<R: Files + AllocGlobal + Clock + Eprint, W: Write, E: Write + IsTerminal>(
     console: &mut Console<'_, R, W, E>,
-    captures: &Captures,
-) -> Result<u8, Stop> {
+    options: &JournalOptions,
+) -> Result<u8, MakingError> {
     let alloc = console.rt.alloc();
-    let mut reading = Reading::new(alloc, Kind::Packets, captures.first, captures.force);
-    let read = read_captures(console, captures, &mut reading);
+    let mut reading = JournalReader::new(alloc, InputKind::Packets, options.first, options.force);
+    let read = read_captures(console, options, &mut reading);
     end(console, &mut reading, read)
 }
 
 /// Reads captures one after the other; a connection may go on from one to the next.
 fn read_captures<'l, R: Files + AllocGlobal + Clock + Eprint, W: Write, E: Write + IsTerminal>(
     console: &mut Console<'_, R, W, E>,
-    captures: &'l Captures,
-    reading: &mut Reading<'l>,
-) -> Result<(), Stop> {
-    let mut capturing = Capturing::new(console.rt.alloc(), captures.port);
-    let mut last = Place { log: "", line: 0 };
-    for path in &captures.paths {
+    options: &'l JournalOptions,
+    reading: &mut JournalReader<'l>,
+) -> Result<(), MakingError> {
+    let mut capturing = Capturing::new(console.rt.alloc(), options.port);
+    let mut last = LogPlace { log: "", line: 0 };
+    for path in &options.captures {
         last = read_capture(console, path.as_str(), &mut capturing, reading)?;
     }
     capturing.end(reading, last)?;
@@ -137,44 +132,54 @@ fn read_capture<'l, R: Files + AllocGlobal + Clock + Eprint, W: Write, E: Write 
     console: &mut Console<'_, R, W, E>,
     path: &'l str,
     capturing: &mut Capturing,
-    reading: &mut Reading<'l>,
-) -> Result<Place<'l>, Stop> {
+    reading: &mut JournalReader<'l>,
+) -> Result<LogPlace<'l>, MakingError> {
     let mut packets = packets_of(console.rt, path)?;
-    let mut place = Place { log: path, line: 0 };
-    for number in 1..u64::MAX {
-        let (link, from, to) = match packets.next(path)? {
-            Next::Packet { link, from, to } => (link, from, to),
-            Next::End => break,
-            Next::Broken => {
-                reading.cut(place)?;
-                break;
-            }
-        };
-        place.line = number;
-        reading.count_packet();
-        let packet = packets.bytes().get(from..to).unwrap_or(&[]);
-        match segment_of(link, packet) {
-            Some(segment) => capturing.take(&segment, reading, place)?,
-            None => reading.skip_packet(),
+    let mut place = LogPlace { log: path, line: 0 };
+    for _ in 0..u64::MAX {
+        if !read_packet(&mut packets, &mut place, capturing, reading)? {
+            break;
         }
         console.follow(reading)?;
     }
     Ok(place)
 }
 
+/// Reads the packet after a place, and moves the place there; false where there is none.
+fn read_packet<'l, B: BufRead + Drop>(
+    packets: &mut Packets<B>,
+    place: &mut LogPlace<'l>,
+    capturing: &mut Capturing,
+    reading: &mut JournalReader<'l>,
+) -> Result<bool, MakingError> {
+    let (link, from, to) = match packets.next(place.log)? {
+        Next::Packet { link, from, to } => (link, from, to),
+        Next::End => return Ok(false),
+        Next::Broken => {
+            reading.cut(*place)?;
+            return Ok(false);
+        }
+    };
+    place.line = place.line.saturating_add(1);
+    reading.count_packet();
+    let packet = packets.bytes().get(from..to).unwrap_or(&[]);
+    match segment_of(link, packet) {
+        Some(segment) => capturing.take(&segment, reading, *place)?,
+        None => reading.skip_packet(),
+    }
+    Ok(true)
+}
+
 /// A capture, open before its first packet.
 fn packets_of<R: Files + AllocGlobal>(
     rt: &R,
     path: &str,
-) -> Result<Packets<BufReader<R::File>>, Stop> {
+) -> Result<Packets<BufReader<R::File>>, MakingError> {
     let alloc = rt.alloc();
-    let file = fs::open(rt, path_of(path)).map_err(|error| Stop::of_file(alloc, &error, path))?;
-    let reader = BufReader::with_capacity(alloc, CHUNK, file).map_err(|error| Stop::of_file(
-        alloc, &error, path,
-    ))?;
+    let reader = file_of(rt, path)?;
     match Packets::new(alloc, path, reader)? {
         Some(packets) => Ok(packets),
-        None => Err(Stop::refused(
+        None => Err(MakingError::refused(
             alloc,
             path,
             "is no capture of packets, as tcpdump writes it",
@@ -185,33 +190,42 @@ fn packets_of<R: Files + AllocGlobal>(
 /// Ends a journal whose logs were read, or one that was stopped.
 fn end<R: Clock + Eprint, W: Write, E: Write + IsTerminal>(
     console: &mut Console<'_, R, W, E>,
-    reading: &mut Reading<'_>,
-    read: Result<(), Stop>,
-) -> Result<u8, Stop> {
+    reading: &mut JournalReader<'_>,
+    read: Result<(), MakingError>,
+) -> Result<u8, MakingError> {
     let ended = match read {
         Ok(()) => console.finish(reading),
         Err(stop) => Err(stop),
     };
     match ended {
         Ok(()) => {
-            reading.tell()?;
-            reading.tell_counts()?;
-            console.tell_of(reading);
+            reading.report()?;
+            reading.report_counts()?;
+            console.report(reading);
             Ok(if reading.is_odd() { ODD } else { WHOLE })
         }
-        Err(Stop::Useless(why)) => {
-            reading.tell()?;
-            console.tell_of(reading);
-            let status = console.tell_stop(&Stop::Useless(why));
-            reading.tell_counts()?;
-            console.tell_of(reading);
-            Ok(status)
-        }
-        Err(stop) => {
-            console.tell_of(reading);
-            Err(stop)
-        }
+        Err(stop) => match stop.useless() {
+            Some(why) => end_useless(console, reading, why),
+            None => {
+                console.report(reading);
+                Err(stop)
+            }
+        },
     }
+}
+
+/// Ends a journal that would be of no use, for this reason.
+fn end_useless<R: Clock + Eprint, W: Write, E: Write + IsTerminal>(
+    console: &mut Console<'_, R, W, E>,
+    reading: &mut JournalReader<'_>,
+    why: &'static str,
+) -> Result<u8, MakingError> {
+    reading.report()?;
+    console.report(reading);
+    let status = console.report_stop(&MakingError::Useless(why));
+    reading.report_counts()?;
+    console.report(reading);
+    Ok(status)
 }
 
 /// A log, open before its first line.
@@ -219,11 +233,8 @@ fn opened<'l, R: Files + AllocGlobal>(
     rt: &R,
     log: &'l str,
     force: bool,
-) -> Result<Source<'l, BufReader<R::File>>, Stop> {
-    let alloc = rt.alloc();
-    let file = fs::open(rt, path_of(log)).map_err(|error| Stop::of_file(alloc, &error, log))?;
-    let reader = BufReader::new(alloc, file).map_err(|error| Stop::of_file(alloc, &error, log))?;
-    let mut source = Source::new(alloc, log, reader);
+) -> Result<LogSource<'l, BufReader<R::File>>, MakingError> {
+    let mut source = LogSource::new(rt.alloc(), log, file_of(rt, log)?);
     if !force {
         source.look()?;
     }
@@ -233,10 +244,10 @@ fn opened<'l, R: Files + AllocGlobal>(
 /// Reads the logs one after the other.
 fn read_in_turn<'l, R: Files + AllocGlobal + Clock + Eprint, W: Write, E: Write + IsTerminal>(
     console: &mut Console<'_, R, W, E>,
-    options: &'l Options,
+    options: &'l JournalOptions,
     finder: &mut Finder<'_>,
-    reading: &mut Reading<'l>,
-) -> Result<(), Stop> {
+    reading: &mut JournalReader<'l>,
+) -> Result<(), MakingError> {
     for log in &options.logs {
         let mut source = opened(console.rt, log.as_str(), options.force)?;
         read_whole(console, &mut source, finder, reading)?;
@@ -247,10 +258,10 @@ fn read_in_turn<'l, R: Files + AllocGlobal + Clock + Eprint, W: Write, E: Write 
 /// Reads a log to its end.
 fn read_whole<'l, B: BufRead, R: Clock + Eprint, W: Write, E: Write + IsTerminal>(
     console: &mut Console<'_, R, W, E>,
-    source: &mut Source<'l, B>,
+    source: &mut LogSource<'l, B>,
     finder: &mut Finder<'_>,
-    reading: &mut Reading<'l>,
-) -> Result<(), Stop> {
+    reading: &mut JournalReader<'l>,
+) -> Result<(), MakingError> {
     for _ in 0..u64::MAX {
         let Some(record) = source.next(finder)? else {
             break;
@@ -265,18 +276,12 @@ fn read_whole<'l, B: BufRead, R: Clock + Eprint, W: Write, E: Write + IsTerminal
 /// Reads the logs side by side, the record that is due first before the others.
 fn read_merged<'l, R: Files + AllocGlobal + Clock + Eprint, W: Write, E: Write + IsTerminal>(
     console: &mut Console<'_, R, W, E>,
-    options: &'l Options,
+    options: &'l JournalOptions,
     finder: &mut Finder<'_>,
-    reading: &mut Reading<'l>,
-) -> Result<(), Stop> {
+    reading: &mut JournalReader<'l>,
+) -> Result<(), MakingError> {
     let mut sources = Vec::new(console.rt.alloc());
-    for log in &options.logs {
-        let mut source = opened(console.rt, log.as_str(), options.force)?;
-        source.prepare(finder)?;
-        if sources.push(source).is_err() {
-            return Err(Stop::Memory);
-        }
-    }
+    open_all(console.rt, options, finder, &mut sources)?;
     for _ in 0..u64::MAX {
         let Some(first) = first_due(&sources) else {
             break;
@@ -284,17 +289,43 @@ fn read_merged<'l, R: Files + AllocGlobal + Clock + Eprint, W: Write, E: Write +
         let Some(source) = sources.get_mut(first) else {
             break;
         };
-        if let Some(record) = source.take(finder)? {
-            let place = source.place(record.line);
-            reading.take(finder, &record, place)?;
-            console.follow(reading)?;
+        read_due(source, finder, reading)?;
+        console.follow(reading)?;
+    }
+    Ok(())
+}
+
+/// Opens the logs, and reads the first record of each ahead.
+fn open_all<'l, R: Files + AllocGlobal>(
+    rt: &R,
+    options: &'l JournalOptions,
+    finder: &mut Finder<'_>,
+    sources: &mut Vec<LogSource<'l, BufReader<R::File>>>,
+) -> Result<(), MakingError> {
+    for log in &options.logs {
+        let mut source = opened(rt, log.as_str(), options.force)?;
+        source.prepare(finder)?;
+        if sources.push(source).is_err() {
+            return Err(MakingError::Memory);
         }
     }
     Ok(())
 }
 
+/// Takes the record of a log that was read ahead.
+fn read_due<'l, B: BufRead>(
+    source: &mut LogSource<'l, B>,
+    finder: &mut Finder<'_>,
+    reading: &mut JournalReader<'l>,
+) -> Result<(), MakingError> {
+    match source.take(finder)? {
+        Some(record) => reading.take(finder, &record, source.place(record.line)),
+        None => Ok(()),
+    }
+}
+
 /// The position of the log whose next record is due first; of several, the first.
-fn first_due<B: BufRead>(sources: &[Source<'_, B>]) -> Option<usize> {
+fn first_due<B: BufRead>(sources: &[LogSource<'_, B>]) -> Option<usize> {
     let mut least: Option<(usize, u64)> = None;
     for (at, source) in sources.iter().enumerate() {
         if let Some(due) = source.due() {

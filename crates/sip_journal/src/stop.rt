@@ -1,4 +1,4 @@
-//! What ends a run before its last line is printed, and the status that tells it.
+//! What ends a run before its last line is printed, and the status of that.
 
 use std::alloc::{AllocError, Global};
 use std::io;
@@ -11,12 +11,9 @@ pub const REFUSED: u8 = 2;
 pub const FAILED: u8 = 3;
 
 /// Why a run ends before its last line is printed.
-#[derive(Drop)]
-pub enum Stop {
+pub enum MakingError {
     /// Memory ran out.
     Memory,
-    /// `clap` refuses the words, or help is asked for.
-    Words(clap::Error),
     /// A word of the command line isn't text.
     NoText,
     /// What is refused, and why.
@@ -29,77 +26,96 @@ pub enum Stop {
     Output,
 }
 
-impl From<AllocError> for Stop {
-    fn from(_error: AllocError) -> Stop {
-        Stop::Memory
+impl Drop for MakingError {
+    fn drop(self) {
+        match self {
+            MakingError::Refused(_) | MakingError::File(_) => {}
+            MakingError::Memory
+            | MakingError::NoText
+            | MakingError::Useless(_)
+            | MakingError::Output => {}
+        }
     }
 }
 
-impl Stop {
+impl From<AllocError> for MakingError {
+    fn from(_error: AllocError) -> MakingError {
+        MakingError::Memory
+    }
+}
+
+impl MakingError {
     /// The stop of words that the system gave with an error.
-    pub fn of_words(error: &io::Error) -> Stop {
+    pub fn of_words(error: &io::Error) -> MakingError {
         if error.kind() == io::ErrorKind::OutOfMemory {
-            Stop::Memory
+            MakingError::Memory
         } else {
-            Stop::NoText
+            MakingError::NoText
         }
     }
 
     /// The stop of a log that answered with an error. Where memory is what it lacked, the file isn't to blame.
-    pub fn of_file(alloc: Global, error: &io::Error, path: &str) -> Stop {
+    pub fn of_file(alloc: Global, error: &io::Error, path: &str) -> MakingError {
         if error.kind() == io::ErrorKind::OutOfMemory {
-            return Stop::Memory;
+            return MakingError::Memory;
         }
         match format!(in alloc; "{path}: {error}") {
-            Ok(text) => Stop::File(text),
-            Err(_) => Stop::Memory,
+            Ok(text) => MakingError::File(text),
+            Err(_) => MakingError::Memory,
         }
     }
 
     /// What is refused, and the word that is to blame.
-    pub fn refused(alloc: Global, what: &str, word: &str) -> Stop {
+    pub fn refused(alloc: Global, what: &str, word: &str) -> MakingError {
         match format!(in alloc; "{what} {word}") {
-            Ok(text) => Stop::Refused(text),
-            Err(_) => Stop::Memory,
+            Ok(text) => MakingError::Refused(text),
+            Err(_) => MakingError::Memory,
         }
     }
 
     /// The expression of an option is none.
-    pub fn of_expression(alloc: Global, option: &str, error: &regex::Error) -> Stop {
+    pub fn of_expression(alloc: Global, option: &str, error: &regex::Error) -> MakingError {
         if *error == regex::Error::OutOfMemory {
-            return Stop::Memory;
+            return MakingError::Memory;
         }
         match format!(in alloc; "the expression of {option}: {error}") {
-            Ok(text) => Stop::Refused(text),
-            Err(_) => Stop::Memory,
+            Ok(text) => MakingError::Refused(text),
+            Err(_) => MakingError::Memory,
         }
     }
 
     /// A line of a log that is refused. Lines count from 1.
-    pub fn of_line(alloc: Global, path: &str, line: u64, why: &str) -> Stop {
+    pub fn of_line(alloc: Global, path: &str, line: u64, why: &str) -> MakingError {
         match format!(in alloc; "{path}:{line}: {why}") {
-            Ok(text) => Stop::Refused(text),
-            Err(_) => Stop::Memory,
+            Ok(text) => MakingError::Refused(text),
+            Err(_) => MakingError::Memory,
+        }
+    }
+
+    /// Why the journal would be of no use, where that is what stopped the run.
+    pub fn useless(&self) -> Option<&'static str> {
+        match self {
+            MakingError::Useless(why) => Some(*why),
+            _ => None,
         }
     }
 
     /// Prints what stopped the run, and gives its status. A failed write to `err` changes no status.
-    pub fn tell<E: Write>(&self, err: &mut E) -> u8 {
+    pub fn print<E: Write>(&self, err: &mut E) -> u8 {
         let _ = match self {
-            Stop::Memory => writeln!(err, "error: out of memory"),
-            Stop::Words(error) => write!(err, "{error}"),
-            Stop::NoText => writeln!(err, "error: a word of the command line isn't text"),
-            Stop::Refused(text) => writeln!(err, "error: {text}"),
-            Stop::Useless(text) => writeln!(err, "error: {text}"),
-            Stop::File(text) => writeln!(err, "file: {text}"),
-            Stop::Output => writeln!(err, "error: standard output takes nothing more"),
+            MakingError::Memory => writeln!(err, "error: out of memory"),
+            MakingError::NoText => writeln!(err, "error: a word of the command line isn't text"),
+            MakingError::Refused(text) => writeln!(err, "error: {text}"),
+            MakingError::Useless(text) => writeln!(err, "error: {text}"),
+            MakingError::File(text) => writeln!(err, "file: {text}"),
+            MakingError::Output => writeln!(err, "error: standard output takes nothing more"),
         };
         self.status()
     }
 
     fn status(&self) -> u8 {
         match self {
-            Stop::Words(_) | Stop::NoText | Stop::Refused(_) | Stop::Useless(_) => REFUSED,
+            MakingError::NoText | MakingError::Refused(_) | MakingError::Useless(_) => REFUSED,
             _ => FAILED,
         }
     }

@@ -31,7 +31,7 @@ pub struct Time {
     pub micros: u64,
 }
 
-/// The time at the head of a line: hours, minutes and seconds with two digits each, behind a date if there is one, with a
+/// The time at the head of a line: hours, minutes and seconds with two digits each, after a date if there is one, with a
 /// fraction and a zone if they follow; or the microseconds since 1970 in 16 digits.
 pub fn time_of(line: &[u8]) -> Option<Time> {
     let head = &line[..line.len().min(HEAD)];
@@ -50,7 +50,7 @@ pub fn time_of(line: &[u8]) -> Option<Time> {
     None
 }
 
-/// The time of a clock, in seconds, with what stands before it and behind it.
+/// The time of a clock, in seconds, with what is before it and after it.
 fn dated(before: &[u8], seconds: u64, after: &[u8]) -> Time {
     let (fraction, rest) = fraction(after);
     let of_day = seconds.saturating_mul(SECOND).saturating_add(fraction);
@@ -112,7 +112,7 @@ fn clock(text: &[u8]) -> Option<u64> {
     }
 }
 
-/// The number of the day whose date a text ends with, with a space or a T behind it: year, month and day.
+/// The number of the day whose date a text ends with, with a space or a T after it: year, month and day.
 fn whole_date(text: &[u8]) -> Option<u64> {
     let date = text.get(text.len().checked_sub(11)?..)?;
     let year = number(date.get(..4)?)?;
@@ -159,7 +159,7 @@ fn month_named(name: &[u8]) -> Option<u64> {
     })
 }
 
-/// The microseconds of a fraction that a text begins with, behind a point or a comma, and what follows it.
+/// The microseconds of a fraction that a text begins with, after a point or a comma, and what follows it.
 fn fraction(text: &[u8]) -> (u64, &[u8]) {
     match text.split_first() {
         Some((b'.' | b',', rest)) => {

@@ -1,61 +1,61 @@
 //! What changed: the tables that a run began with against those that it wrote.
 
-use crate::files::{Rows, Table, read_in};
+use crate::files::{FileRows, TableFile, read_in};
 use crate::findings::Findings;
-use crate::stop::Stop;
-use crate::subjects::{Change, Subjects};
+use crate::stop::PageError;
+use crate::subjects::{SubjectChange, Subjects};
 use csv::ByteRecord;
 use csv_table::column;
-use page_words::{Case, Field, Names, Texts, cut, fill};
+use page_words::{Case, CaseNames, ShownField, TextsById, cut, fill};
 use std::alloc::{AllocError, Global};
 use std::collections::BTreeMap;
 use std::rt::Files;
 
 /// What a table says: of whom and of what, on two lines, and what of it.
-struct Source {
-    table: Table,
+struct TableSentence {
+    table: TableFile,
     about: &'static str,
     says: &'static str,
 }
 
-static PATRONS: Table = Table {
+static PATRONS: TableFile = TableFile {
     file: "patrons.csv",
     header: &["id", "name", "class", "blocked"],
 };
 
-static ITEMS: Table = Table {
+static ITEMS: TableFile = TableFile {
     file: "items.csv",
     header: &["id", "title", "media", "location", "properties"],
 };
 
 /// What is said of patrons.
-static OF_PATRONS: [Source; 4] = [
-    Source {
-        table: Table {
+static OF_PATRONS: [TableSentence; 4] = [
+    TableSentence {
+        table: TableFile {
             file: "patrons.csv",
             header: &["id", "name", "class", "blocked"],
         },
         about: "{~id}\nblock",
         says: "{~blocked}",
     },
-    Source {
-        table: Table {
+    TableSentence {
+        table: TableFile {
             file: "loans.csv",
             header: &["patron", "item", "due", "renewals"],
         },
         about: "{~patron}\nloan of {~item}",
         says: "until {~due}, renewals {~renewals}",
     },
-    Source {
-        table: Table {
+    TableSentence {
+        table: TableFile {
             file: "fees.csv",
             header: &["id", "patron", "type", "amount", "paid"],
         },
         about: "{~patron}\nfee {~id}",
         says: "{~type} {~amount}, paid {~paid}",
     },
-    Source {
-        table: Table {
+    TableSentence {
+        table: TableFile {
             file: "holds.csv",
             header: &["item", "patron", "pickup"],
         },
@@ -65,25 +65,25 @@ static OF_PATRONS: [Source; 4] = [
 ];
 
 /// What is said of items.
-static OF_ITEMS: [Source; 3] = [
-    Source {
-        table: Table {
+static OF_ITEMS: [TableSentence; 3] = [
+    TableSentence {
+        table: TableFile {
             file: "items.csv",
             header: &["id", "title", "media", "location", "properties"],
         },
         about: "{~id}\nproperties",
         says: "{~properties}",
     },
-    Source {
-        table: Table {
+    TableSentence {
+        table: TableFile {
             file: "loans.csv",
             header: &["patron", "item", "due", "renewals"],
         },
         about: "{~thing}\nloan",
         says: "to {~AA} until {~due}, renewals {~renewals}",
     },
-    Source {
-        table: Table {
+    TableSentence {
+        table: TableFile {
             file: "holds.csv",
             header: &["item", "patron", "pickup"],
         },
@@ -93,54 +93,84 @@ static OF_ITEMS: [Source; 3] = [
 ];
 
 /// The texts of a column of a table of a folder, by the ids of the rows.
-fn texts_of<R: Files + AllocGlobal>(rt: &R, folder: &str, table: &Table) -> Result<Texts, Stop> {
-    let alloc = rt.alloc();
+fn texts_of<R: Files + AllocGlobal>(
+    rt: &R,
+    folder: &str,
+    table: &TableFile,
+) -> Result<TextsById, PageError> {
+    let mut texts = BTreeMap::new(rt.alloc());
     let text = read_in(rt, folder, table)?;
-    let mut rows = Rows::under(alloc, table, &text)?;
+    put_texts(rt.alloc(), &mut texts, table, &text)?;
+    Ok(texts)
+}
+
+/// Puts the texts of the rows of a table at their ids.
+fn put_texts(
+    alloc: Global,
+    texts: &mut TextsById,
+    table: &TableFile,
+    text: &[u8],
+) -> Result<(), PageError> {
+    let mut rows = FileRows::under(alloc, table, text)?;
     let mut row = ByteRecord::new(alloc);
-    let mut texts = BTreeMap::new(alloc);
     for _ in 0..u64::MAX {
         if !rows.next(&mut row)? {
             break;
         }
-        put_text(alloc, &mut texts, &row)?;
+        put_text(alloc, texts, &row)?;
     }
-    Ok(texts)
+    Ok(())
 }
 
 /// Puts the second field of a row at its first.
-fn put_text(alloc: Global, texts: &mut Texts, row: &ByteRecord) -> Result<(), AllocError> {
+fn put_text(alloc: Global, texts: &mut TextsById, row: &ByteRecord) -> Result<(), AllocError> {
     let id = Vec::from_slice(alloc, column(row, 0))?;
     let text = Vec::from_slice(alloc, column(row, 1))?;
     put(texts, id, text)
 }
 
 /// What the items and the patrons of a folder are called.
-pub fn names_of<R: Files + AllocGlobal>(rt: &R, folder: &str) -> Result<Names, Stop> {
-    Ok(Names {
+pub fn names_of<R: Files + AllocGlobal>(rt: &R, folder: &str) -> Result<CaseNames, PageError> {
+    Ok(CaseNames {
         titles: texts_of(rt, folder, &ITEMS)?,
         patrons: texts_of(rt, folder, &PATRONS)?,
     })
 }
 
 /// Refuses tables of a base that has other patrons or items than the output: no message makes or removes one.
-pub fn check_base<R: Files + AllocGlobal>(rt: &R, base: &str, names: &Names) -> Result<(), Stop> {
-    let patrons = texts_of(rt, base, &PATRONS)?;
-    let items = texts_of(rt, base, &ITEMS)?;
-    check_same(rt.alloc(), PATRONS.file, &patrons, &names.patrons)?;
-    check_same(rt.alloc(), ITEMS.file, &items, &names.titles)
+pub fn check_base<R: Files + AllocGlobal>(
+    rt: &R,
+    base: &str,
+    names: &CaseNames,
+) -> Result<(), PageError> {
+    let base = CaseNames {
+        patrons: texts_of(rt, base, &PATRONS)?,
+        titles: texts_of(rt, base, &ITEMS)?,
+    };
+    check_names(rt.alloc(), &base, names)
+}
+
+/// Refuses patrons or items that aren't those of the output.
+fn check_names(alloc: Global, base: &CaseNames, out: &CaseNames) -> Result<(), PageError> {
+    check_same(alloc, PATRONS.file, &base.patrons, &out.patrons)?;
+    check_same(alloc, ITEMS.file, &base.titles, &out.titles)
 }
 
 /// Refuses rows of which one isn't in the output, or another is.
-fn check_same(alloc: Global, file: &'static str, base: &Texts, out: &Texts) -> Result<(), Stop> {
+fn check_same(
+    alloc: Global,
+    file: &'static str,
+    base: &TextsById,
+    out: &TextsById,
+) -> Result<(), PageError> {
     for (id, text) in base {
         if out.get(id.as_slice()).map(|it| it.as_slice()) != Some(text.as_slice()) {
-            return Err(Stop::of_row(alloc, file, id));
+            return Err(PageError::of_row(alloc, file, id));
         }
     }
     for id in out.keys() {
         if !base.contains_key(id.as_slice()) {
-            return Err(Stop::of_row(alloc, file, id));
+            return Err(PageError::of_row(alloc, file, id));
         }
     }
     Ok(())
@@ -153,11 +183,11 @@ type Changes = BTreeMap<Vec<u8>, Vec<u8>>;
 /// What the tables of the output say other than those of the base.
 fn changes_of<R: Files + AllocGlobal>(
     rt: &R,
-    sources: &[Source],
+    sources: &[TableSentence],
     base: &str,
     out: &str,
-    names: &Names,
-) -> Result<Changes, Stop> {
+    names: &CaseNames,
+) -> Result<Changes, PageError> {
     let mut changes = BTreeMap::new(rt.alloc());
     for source in sources {
         note_table(rt, &mut changes, source, base, out, names)?;
@@ -169,11 +199,11 @@ fn changes_of<R: Files + AllocGlobal>(
 fn note_table<R: Files + AllocGlobal>(
     rt: &R,
     changes: &mut Changes,
-    source: &Source,
+    source: &TableSentence,
     base: &str,
     out: &str,
-    names: &Names,
-) -> Result<(), Stop> {
+    names: &CaseNames,
+) -> Result<(), PageError> {
     let before = read_in(rt, base, &source.table)?;
     note_rows(rt.alloc(), changes, source, &before, names, false)?;
     let after = read_in(rt, out, &source.table)?;
@@ -184,15 +214,15 @@ fn note_table<R: Files + AllocGlobal>(
 fn note_rows(
     alloc: Global,
     changes: &mut Changes,
-    source: &Source,
+    source: &TableSentence,
     text: &[u8],
-    names: &Names,
+    names: &CaseNames,
     after: bool,
-) -> Result<(), Stop> {
+) -> Result<(), PageError> {
     if text.is_empty() {
         return Ok(());
     }
-    let mut rows = Rows::under(alloc, &source.table, text)?;
+    let mut rows = FileRows::under(alloc, &source.table, text)?;
     let mut row = ByteRecord::new(alloc);
     for _ in 0..u64::MAX {
         if !rows.next(&mut row)? {
@@ -207,17 +237,14 @@ fn note_rows(
 fn note_row(
     alloc: Global,
     changes: &mut Changes,
-    source: &Source,
+    source: &TableSentence,
     row: &ByteRecord,
-    names: &Names,
+    names: &CaseNames,
     after: bool,
 ) -> Result<(), AllocError> {
-    let case = no_case(alloc);
-    let fields = fields_of_row(alloc, &source.table, row)?;
-    let mut about = Vec::new(alloc);
-    fill(&mut about, source.about.as_bytes(), &case, &fields, names)?;
-    let mut says = Vec::new(alloc);
-    fill(&mut says, source.says.as_bytes(), &case, &fields, names)?;
+    let case = case_of_row(alloc, &source.table, row)?;
+    let about = filled(alloc, source.about, &case, names)?;
+    let says = filled(alloc, source.says, &case, names)?;
     if after {
         compare(alloc, changes, about, &says)
     } else {
@@ -225,37 +252,45 @@ fn note_row(
     }
 }
 
-fn no_case<'r>(alloc: Global) -> Case<'r> {
-    Case {
+/// Words with their places filled in.
+fn filled(
+    alloc: Global,
+    words: &str,
+    case: &Case<'_>,
+    names: &CaseNames,
+) -> Result<Vec<u8>, AllocError> {
+    let mut out = Vec::new(alloc);
+    fill(&mut out, words.as_bytes(), case, &case.right, names)?;
+    Ok(out)
+}
+
+/// The columns of a row as the fields of a case. An item is there a second time to be written as its id alone, and a patron to be written
+/// with the name.
+fn case_of_row<'r>(
+    alloc: Global,
+    table: &TableFile,
+    row: &'r ByteRecord,
+) -> Result<Case<'r>, AllocError> {
+    let mut case = Case {
         kind: b"",
         recorded_name: b"",
         asked: Vec::new(alloc),
         recorded: Vec::new(alloc),
         right: Vec::new(alloc),
-    }
-}
-
-/// The columns of a row as fields. An item is there a second time to be written as its id alone, and a patron to be written with the name.
-fn fields_of_row<'r>(
-    alloc: Global,
-    table: &Table,
-    row: &'r ByteRecord,
-) -> Result<Vec<Field<'r>>, AllocError> {
-    let mut fields = Vec::new(alloc);
+    };
     for (position, name) in table.header.iter().enumerate() {
-        let value = column(row, position);
-        push_fields(&mut fields, name, value)?;
+        push_fields(&mut case.right, name, column(row, position))?;
     }
-    Ok(fields)
+    Ok(case)
 }
 
 /// Adds a column as a field, and once more under the name by which it is written.
 fn push_fields<'r>(
-    fields: &mut Vec<Field<'r>>,
+    fields: &mut Vec<ShownField<'r>>,
     name: &'static str,
     value: &'r [u8],
 ) -> Result<(), AllocError> {
-    fields.push(Field {
+    fields.push(ShownField {
         name: name.as_bytes(),
         value,
     })?;
@@ -264,7 +299,7 @@ fn push_fields<'r>(
         "patron" => b"AA",
         _ => return Ok(()),
     };
-    fields.push(Field { name: again, value })?;
+    fields.push(ShownField { name: again, value })?;
     Ok(())
 }
 
@@ -294,31 +329,25 @@ fn compare(
     put(changes, about, both)
 }
 
-/// A change of somebody or something that no wrong response is about.
-#[derive(Drop)]
-pub struct OtherChange {
-    pub id: Vec<u8>,
-    pub change: Change,
-}
-
 /// Gives each change to whom or what it is of, and returns those of others.
 fn share_out(
     alloc: Global,
     changes: &Changes,
     subjects: &mut Subjects,
-) -> Result<Vec<OtherChange>, AllocError> {
+) -> Result<Vec<SubjectChange>, AllocError> {
     let mut others = Vec::new(alloc);
     for (about, says) in changes {
-        let (id, what) = cut(about, b'\n');
-        give(subjects, &mut others, id, change_of(alloc, what, says)?)?;
+        give(subjects, &mut others, change_of(alloc, about, says)?)?;
     }
     Ok(others)
 }
 
 /// What was said before and after of something.
-fn change_of(alloc: Global, what: &[u8], says: &[u8]) -> Result<Change, AllocError> {
+fn change_of(alloc: Global, about: &[u8], says: &[u8]) -> Result<SubjectChange, AllocError> {
+    let (id, what) = cut(about, b'\n');
     let (before, after) = cut(says, b'\n');
-    Ok(Change {
+    Ok(SubjectChange {
+        id: Vec::from_slice(alloc, id)?,
         what: Vec::from_slice(alloc, what)?,
         before: Vec::from_slice(alloc, before)?,
         after: Vec::from_slice(alloc, if after.is_empty() { b"none" } else { after })?,
@@ -328,21 +357,16 @@ fn change_of(alloc: Global, what: &[u8], says: &[u8]) -> Result<Change, AllocErr
 /// Gives a change to whom or what it is of, or to the others.
 fn give(
     subjects: &mut Subjects,
-    others: &mut Vec<OtherChange>,
-    id: &[u8],
-    change: Change,
+    others: &mut Vec<SubjectChange>,
+    change: SubjectChange,
 ) -> Result<(), AllocError> {
-    if let Some(subject) = subjects.get_mut(id) {
-        return add_change(&mut subject.changes, change);
-    }
-    let id = Vec::from_slice(*others.allocator(), id)?;
-    match others.push(OtherChange { id, change }) {
-        Ok(()) => Ok(()),
-        Err(_) => Err(AllocError),
+    match subjects.get_mut(change.id.as_slice()) {
+        Some(subject) => add_change(&mut subject.changes, change),
+        None => add_change(others, change),
     }
 }
 
-fn add_change(changes: &mut Vec<Change>, change: Change) -> Result<(), AllocError> {
+fn add_change(changes: &mut Vec<SubjectChange>, change: SubjectChange) -> Result<(), AllocError> {
     match changes.push(change) {
         Ok(()) => Ok(()),
         Err(_) => Err(AllocError),
@@ -354,11 +378,22 @@ pub fn note_changes<R: Files + AllocGlobal>(
     rt: &R,
     base: &str,
     out: &str,
-    names: &Names,
+    names: &CaseNames,
     findings: &mut Findings,
-) -> Result<Vec<OtherChange>, Stop> {
-    let of_items = changes_of(rt, &OF_ITEMS, base, out, names)?;
-    let _ = share_out(rt.alloc(), &of_items, &mut findings.items)?;
-    let of_patrons = changes_of(rt, &OF_PATRONS, base, out, names)?;
-    Ok(share_out(rt.alloc(), &of_patrons, &mut findings.patrons)?)
+) -> Result<Vec<SubjectChange>, PageError> {
+    share(rt, &OF_ITEMS, base, out, names, &mut findings.items)?;
+    share(rt, &OF_PATRONS, base, out, names, &mut findings.patrons)
+}
+
+/// Gives each change that these tables show to whom or what it is of, and returns those of others.
+fn share<R: Files + AllocGlobal>(
+    rt: &R,
+    sources: &[TableSentence],
+    base: &str,
+    out: &str,
+    names: &CaseNames,
+    subjects: &mut Subjects,
+) -> Result<Vec<SubjectChange>, PageError> {
+    let changes = changes_of(rt, sources, base, out, names)?;
+    Ok(share_out(rt.alloc(), &changes, subjects)?)
 }

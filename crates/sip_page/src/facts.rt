@@ -1,12 +1,13 @@
 //! What a wrong line is put in order by.
 
-use crate::reading::Line;
+use crate::reading::LineRows;
 use crate::whys::Whys;
-use page_words::{ANSWERED, Case, Field, Names, WEIGHTS, cut, fill, group_saying, known, value_in};
+use page_words::{
+    ANSWERED, Case, CaseNames, ShownField, WEIGHTS, cut, fill, group_saying, known, value_in,
+};
 use std::alloc::{AllocError, Global};
 
 /// What is known of a wrong line before it is put into a group.
-#[derive(Drop)]
 pub struct Facts {
     pub alloc: Global,
     /// How much its words weigh, as in `WEIGHTS`.
@@ -22,40 +23,72 @@ pub struct Facts {
     /// What can be said of a group of such lines where all are the same, and where they aren't.
     pub same: Vec<u8>,
     pub other: Vec<u8>,
-    pub patrons: Vec<Vec<u8>>,
-    pub items: Vec<Vec<u8>>,
+}
+
+impl Drop for Facts {
+    fn drop(self) {
+        let Facts {
+            alloc: _,
+            weight: _,
+            words: _,
+            reason: _,
+            kind: _,
+            connection: _,
+            date: _,
+            same: _,
+            other: _,
+        } = self;
+    }
+}
+
+impl Facts {
+    /// Of a line of which nothing is known.
+    fn none(alloc: Global) -> Facts {
+        Facts {
+            alloc,
+            weight: 0,
+            words: Vec::new(alloc),
+            reason: Vec::new(alloc),
+            kind: Vec::new(alloc),
+            connection: Vec::new(alloc),
+            date: Vec::new(alloc),
+            same: Vec::new(alloc),
+            other: Vec::new(alloc),
+        }
+    }
+
+    /// Takes in a line, and what can be said of it.
+    fn read(&mut self, line: &LineRows, names: &CaseNames, whys: &Whys) -> Result<(), AllocError> {
+        let case: Case<'_> = line.case(self.alloc)?;
+        let words = line.words();
+        put_sayings(&mut self.same, &mut self.other, words, &case, names)?;
+        let date = value_in(&case.asked, b"date");
+        whys.put(&mut self.same, line.number, words, date, names)?;
+        self.kind.extend_from_slice(case.kind)?;
+        self.date.extend_from_slice(date)
+    }
+
+    /// Takes in what needs no message of the line.
+    fn read_words(&mut self, line: &LineRows, reason: &[u8]) -> Result<(), AllocError> {
+        self.weight = weight_of(line.words());
+        self.words.extend_from_slice(line.words())?;
+        self.connection.extend_from_slice(line.connection())?;
+        self.reason.extend_from_slice(reason)?;
+        put_reason(&mut self.other, reason)
+    }
 }
 
 /// What is known of a line whose response is wrong.
 pub fn facts_of(
     alloc: Global,
-    number: u64,
-    line: &Line,
-    names: &Names,
+    line: &LineRows,
+    names: &CaseNames,
     whys: &Whys,
 ) -> Result<Facts, AllocError> {
-    let case: Case<'_> = line.case(alloc)?;
-    let words = line.words();
-    let date = value_in(&case.asked, b"date");
-    let reason = whys.reason_of(number);
-    let mut same = Vec::new(alloc);
-    let mut other = Vec::new(alloc);
-    put_sayings(&mut same, &mut other, words, &case, names)?;
-    whys.put(&mut same, number, words, date, names)?;
-    put_reason(&mut other, reason)?;
-    Ok(Facts {
-        alloc,
-        weight: weight_of(words),
-        words: Vec::from_slice(alloc, words)?,
-        reason: Vec::from_slice(alloc, reason)?,
-        kind: Vec::from_slice(alloc, case.kind)?,
-        connection: Vec::from_slice(alloc, line.connection())?,
-        date: Vec::from_slice(alloc, date)?,
-        same,
-        other,
-        patrons: patrons_of(alloc, &case)?,
-        items: items_of(alloc, &case)?,
-    })
+    let mut facts = Facts::none(alloc);
+    facts.read(line, names, whys)?;
+    facts.read_words(line, whys.reason_of(line.number))?;
+    Ok(facts)
 }
 
 /// Writes what a reason says in general, after a colon, where it says something.
@@ -89,7 +122,7 @@ fn put_sayings(
     other: &mut Vec<u8>,
     words: &[u8],
     case: &Case<'_>,
-    names: &Names,
+    names: &CaseNames,
 ) -> Result<(), AllocError> {
     let mut rest = words;
     for _ in 0..words.len() {
@@ -110,47 +143,43 @@ fn put_sayings(
 }
 
 /// The patrons of a case: who asked, and whom a response names.
-pub fn patrons_of(alloc: Global, case: &Case<'_>) -> Result<Vec<Vec<u8>>, AllocError> {
+pub fn patrons_of<'m>(alloc: Global, case: &Case<'m>) -> Result<Vec<&'m [u8]>, AllocError> {
     let mut ids = Vec::new(alloc);
-    add_id(alloc, &mut ids, value_in(&case.asked, b"AA"))?;
-    add_id(alloc, &mut ids, value_in(&case.right, b"AA"))?;
-    add_id(alloc, &mut ids, value_in(&case.recorded, b"AA"))?;
+    add_id(&mut ids, value_in(&case.asked, b"AA"))?;
+    add_id(&mut ids, value_in(&case.right, b"AA"))?;
+    add_id(&mut ids, value_in(&case.recorded, b"AA"))?;
     Ok(ids)
 }
 
 /// The items of a case: what was asked about, and those that a renewal of all loans names.
-pub fn items_of(alloc: Global, case: &Case<'_>) -> Result<Vec<Vec<u8>>, AllocError> {
+pub fn items_of<'m>(alloc: Global, case: &Case<'m>) -> Result<Vec<&'m [u8]>, AllocError> {
     let mut ids = Vec::new(alloc);
-    add_id(alloc, &mut ids, value_in(&case.asked, b"AB"))?;
-    add_renewed(alloc, &mut ids, &case.right)?;
-    add_renewed(alloc, &mut ids, &case.recorded)?;
+    add_id(&mut ids, value_in(&case.asked, b"AB"))?;
+    add_renewed(&mut ids, &case.right)?;
+    add_renewed(&mut ids, &case.recorded)?;
     Ok(ids)
 }
 
 /// Adds the items that a response to a renewal of all loans names.
-fn add_renewed(
-    alloc: Global,
-    ids: &mut Vec<Vec<u8>>,
-    fields: &[Field<'_>],
-) -> Result<(), AllocError> {
+fn add_renewed<'m>(ids: &mut Vec<&'m [u8]>, fields: &[ShownField<'m>]) -> Result<(), AllocError> {
     for field in fields {
         if field.name == b"BM".as_slice() || field.name == b"BN".as_slice() {
-            add_id(alloc, ids, field.value)?;
+            add_id(ids, field.value)?;
         }
     }
     Ok(())
 }
 
 /// Adds an id to those that don't have it yet.
-fn add_id(alloc: Global, ids: &mut Vec<Vec<u8>>, id: &[u8]) -> Result<(), AllocError> {
+fn add_id<'m>(ids: &mut Vec<&'m [u8]>, id: &'m [u8]) -> Result<(), AllocError> {
     if id.is_empty() {
         return Ok(());
     }
     for known in ids.as_slice() {
-        if known.as_slice() == id {
+        if *known == id {
             return Ok(());
         }
     }
-    ids.push(Vec::from_slice(alloc, id)?)?;
+    ids.push(id)?;
     Ok(())
 }

@@ -1,6 +1,6 @@
 //! The files of a run, and the rows of its tables.
 
-use crate::stop::Stop;
+use crate::stop::PageError;
 use csv::ByteRecord;
 use csv_table::RowReader;
 use std::alloc::Global;
@@ -8,16 +8,16 @@ use std::rt::Files;
 use std::{fs, io};
 
 /// A table: the name of its file, and its header.
-pub struct Table {
+pub struct TableFile {
     pub file: &'static str,
     pub header: &'static [&'static str],
 }
 
 /// The bytes of a file.
-pub fn read<R: Files + AllocGlobal>(rt: &R, path: &str) -> Result<Vec<u8>, Stop> {
+pub fn read<R: Files + AllocGlobal>(rt: &R, path: &str) -> Result<Vec<u8>, PageError> {
     match fs::read(rt, path) {
         Ok(bytes) => Ok(bytes),
-        Err(error) => Err(Stop::of_file(rt.alloc(), &error, path)),
+        Err(error) => Err(PageError::of_file(rt.alloc(), &error, path)),
     }
 }
 
@@ -25,8 +25,8 @@ pub fn read<R: Files + AllocGlobal>(rt: &R, path: &str) -> Result<Vec<u8>, Stop>
 pub fn read_in<R: Files + AllocGlobal>(
     rt: &R,
     folder: &str,
-    table: &Table,
-) -> Result<Vec<u8>, Stop> {
+    table: &TableFile,
+) -> Result<Vec<u8>, PageError> {
     let name = table.file;
     let path = format!(in rt.alloc(); "{folder}/{name}")?;
     match fs::read(rt, path.as_str()) {
@@ -34,39 +34,43 @@ pub fn read_in<R: Files + AllocGlobal>(
         Err(error) if error.kind() == io::ErrorKind::NotFound && name == "holds.csv" => Ok(Vec::new(
             rt.alloc(),
         )),
-        Err(error) => Err(Stop::of_file(rt.alloc(), &error, path.as_str())),
+        Err(error) => Err(PageError::of_file(rt.alloc(), &error, path.as_str())),
     }
 }
 
 /// The rows of a table under its header, read one at a time.
-pub struct Rows<'t> {
+pub struct FileRows<'t> {
     reader: RowReader<'t>,
     file: &'static str,
 }
 
-impl Drop for Rows<'_> {
+impl Drop for FileRows<'_> {
     fn drop(self) {
-        let Rows { reader: _, file: _ } = self;
+        let FileRows { reader: _, file: _ } = self;
     }
 }
 
-impl<'t> Rows<'t> {
+impl<'t> FileRows<'t> {
     /// The rows that a text spells.
-    pub fn under(alloc: Global, table: &Table, text: &'t [u8]) -> Result<Rows<'t>, Stop> {
+    pub fn under(
+        alloc: Global,
+        table: &TableFile,
+        text: &'t [u8],
+    ) -> Result<FileRows<'t>, PageError> {
         match RowReader::under(alloc, table.header, text) {
-            Ok(reader) => Ok(Rows {
+            Ok(reader) => Ok(FileRows {
                 reader,
                 file: table.file,
             }),
-            Err(error) => Err(Stop::of_table(error, table.file)),
+            Err(error) => Err(PageError::of_table(error, table.file)),
         }
     }
 
     /// Reads the next row. Without one, at the end, `row` means nothing.
-    pub fn next(&mut self, row: &mut ByteRecord) -> Result<bool, Stop> {
+    pub fn next(&mut self, row: &mut ByteRecord) -> Result<bool, PageError> {
         match self.reader.next(row) {
             Ok(found) => Ok(found),
-            Err(error) => Err(Stop::of_table(error, self.file)),
+            Err(error) => Err(PageError::of_table(error, self.file)),
         }
     }
 }

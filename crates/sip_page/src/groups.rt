@@ -1,20 +1,11 @@
 //! Wrong responses of one cause: of the same words, message, connection and reason.
 
 use crate::facts::Facts;
-use crate::reading::Line;
+use crate::reading::LineRows;
 use std::alloc::{AllocError, Global};
 use std::collections::BTreeMap;
 
-/// A wrong response.
-#[derive(Drop)]
-pub struct Finding {
-    /// The number of its line.
-    pub number: u64,
-    pub line: Line,
-}
-
 /// Wrong responses of one cause.
-#[derive(Drop)]
 pub struct Group {
     /// Its number on the page, from 1 in the order of the first lines.
     pub number: u64,
@@ -29,7 +20,22 @@ pub struct Group {
     pub right_at_first: u64,
     pub right_at_last: u64,
     /// The lines that are shown.
-    pub findings: Vec<Finding>,
+    pub shown: Vec<LineRows>,
+}
+
+impl Drop for Group {
+    fn drop(self) {
+        let Group {
+            number: _,
+            facts: _,
+            is_same: _,
+            count: _,
+            last: _,
+            right_at_first: _,
+            right_at_last: _,
+            shown: _,
+        } = self;
+    }
 }
 
 /// The groups in the order in which they are shown.
@@ -63,16 +69,16 @@ pub fn count_in(
     if let Some(group) = groups.get_mut(key) {
         return group.count_one(&facts, right);
     }
-    let number = (groups.len() as u64).saturating_add(1);
     let alloc = facts.alloc;
+    let last = Vec::from_slice(alloc, &facts.date)?;
     let group = Group {
-        number,
+        number: (groups.len() as u64).saturating_add(1),
         is_same: true,
         count: 1,
-        last: Vec::from_slice(alloc, &facts.date)?,
+        last,
         right_at_first: right,
         right_at_last: right,
-        findings: Vec::new(alloc),
+        shown: Vec::new(alloc),
         facts,
     };
     match groups.insert(Vec::from_slice(alloc, key)?, group) {
@@ -82,9 +88,9 @@ pub fn count_in(
 }
 
 /// Shows a line in its group.
-pub fn show_in(groups: &mut Groups, key: &[u8], finding: Finding) -> Result<(), AllocError> {
+pub fn show_in(groups: &mut Groups, key: &[u8], line: &LineRows) -> Result<(), AllocError> {
     match groups.get_mut(key) {
-        Some(group) => Ok(group.findings.push(finding)?),
+        Some(group) => Ok(group.shown.push(line.copy()?)?),
         None => Ok(()),
     }
 }

@@ -1,6 +1,6 @@
 //! The page up to its first sentence.
 
-/// The head of the page up to its title. The policy lets nothing be loaded, whatever the page should come to hold.
+/// The head of the page up to its title. The policy lets nothing be loaded, whatever is written into the page.
 pub const HEAD: &str = "<!DOCTYPE html>
 <html lang=\"en\">
 <head>

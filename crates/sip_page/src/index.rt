@@ -14,22 +14,14 @@ const LONGEST: u64 = 240;
 /// The end of a table.
 const TABLE_END: &str = "</tbody></table></div>\n";
 
-/// A link to a group.
-#[derive(Drop)]
-struct Link {
-    group: u64,
-    count: u64,
-    label: Vec<u8>,
-}
-
 /// How many wrong responses there are of a name, and in which groups.
 #[derive(Drop)]
-struct Entry {
+struct NameCount<'g> {
     count: u64,
-    links: Vec<Link>,
+    groups: Vec<&'g Group>,
 }
 
-type Index = BTreeMap<Vec<u8>, Entry>;
+type Index<'g> = BTreeMap<Vec<u8>, NameCount<'g>>;
 
 /// What a group is put under.
 #[derive(Clone, Copy)]
@@ -51,18 +43,14 @@ impl By {
         }
     }
 
-    /// What a link to the group says.
-    fn label(self, alloc: Global, group: &Group) -> Result<Vec<u8>, AllocError> {
+    /// What a link to the group says, in two parts.
+    fn label(self, group: &Group) -> (&[u8], &[u8]) {
         let facts = &group.facts;
-        let (first, second) = match self {
+        match self {
             By::Word => (plural_of(&facts.kind), facts.connection.as_slice()),
             By::Message => (facts.words.as_slice(), facts.connection.as_slice()),
             By::Connection => (plural_of(&facts.kind), facts.words.as_slice()),
-        };
-        let mut label = Vec::from_slice(alloc, first)?;
-        label.extend_from_slice(b", ")?;
-        label.extend_from_slice(second)?;
-        Ok(label)
+        }
     }
 }
 
@@ -80,59 +68,57 @@ pub fn add_index(sheet: &mut Sheet, view: &View<'_>, by: By) -> Result<(), Alloc
     for (name, entry) in &index {
         add_name(sheet, by, name);
         add_bar(sheet, entry.count, most);
-        add_links(sheet, &entry.links);
+        add_links(sheet, by, &entry.groups);
     }
     sheet.add(TABLE_END, b"");
     Ok(())
 }
 
 /// Puts a group under its words, its message or its connection.
-fn put_group(alloc: Global, index: &mut Index, by: By, group: &Group) -> Result<(), AllocError> {
+fn put_group<'g>(
+    alloc: Global,
+    index: &mut Index<'g>,
+    by: By,
+    group: &'g Group,
+) -> Result<(), AllocError> {
     match by {
         By::Word => put_words(alloc, index, group),
-        By::Message => put(alloc, index, &group.facts.kind, by, group),
-        By::Connection => put(alloc, index, &group.facts.connection, by, group),
+        By::Message => put(alloc, index, &group.facts.kind, group),
+        By::Connection => put(alloc, index, &group.facts.connection, group),
     }
 }
 
 /// Puts a group under each of its words.
-fn put_words(alloc: Global, index: &mut Index, group: &Group) -> Result<(), AllocError> {
+fn put_words<'g>(alloc: Global, index: &mut Index<'g>, group: &'g Group) -> Result<(), AllocError> {
     let mut rest = group.facts.words.as_slice();
     for _ in 0..group.facts.words.len() {
-        let (word, behind) = cut(rest, b' ');
+        let (word, after) = cut(rest, b' ');
         if word.is_empty() {
             break;
         }
-        put(alloc, index, word, By::Word, group)?;
-        rest = behind;
+        put(alloc, index, word, group)?;
+        rest = after;
     }
     Ok(())
 }
 
 /// Puts a group under a name.
-fn put(
+fn put<'g>(
     alloc: Global,
-    index: &mut Index,
+    index: &mut Index<'g>,
     name: &[u8],
-    by: By,
-    group: &Group,
+    group: &'g Group,
 ) -> Result<(), AllocError> {
-    let link = Link {
-        group: group.number,
-        count: group.count,
-        label: by.label(alloc, group)?,
-    };
     if let Some(entry) = index.get_mut(name) {
         entry.count = entry.count.saturating_add(group.count);
-        entry.links.push(link)?;
+        entry.groups.push(group)?;
         return Ok(());
     }
-    let mut links = Vec::new(alloc);
-    links.push(link)?;
-    let entry = Entry {
+    let mut entry = NameCount {
         count: group.count,
-        links,
+        groups: Vec::new(alloc),
     };
+    entry.groups.push(group)?;
     match index.insert(Vec::from_slice(alloc, name)?, entry) {
         Ok(_) => Ok(()),
         Err(_) => Err(AllocError),
@@ -165,12 +151,14 @@ fn add_bar(sheet: &mut Sheet, count: u64, most: u64) {
 }
 
 /// Adds a cell with links to groups, and ends the row.
-fn add_links(sheet: &mut Sheet, links: &[Link]) {
+fn add_links(sheet: &mut Sheet, by: By, groups: &[&Group]) {
     sheet.add("<td>", b"");
-    for link in links {
-        sheet.add_number("<a href=\"#g", link.group);
-        sheet.add("\">", &link.label);
-        sheet.add_number(" (", link.count);
+    for group in groups {
+        let (first, second) = by.label(group);
+        sheet.add_number("<a href=\"#g", group.number);
+        sheet.add("\">", first);
+        sheet.add(", ", second);
+        sheet.add_number(" (", group.count);
         sheet.add(")</a> ", b"");
     }
     sheet.add("</td></tr>\n", b"");

@@ -1,6 +1,6 @@
-//! The program `sip_page`: one page that tells a librarian what a run of `sip_replay` found. How texts are written into a page
-//! stands in `page_text`, what is said in `page_words`, which tables are of one run in `one_run`; here are the files, what is
-//! gathered from them, and what is shown of it.
+//! The program `sip_page`: one page that shows a librarian what a run of `sip_replay` found. `page_text` writes texts into a page,
+//! `page_words` has what is said, `one_run` decides which tables are of one run; here are the files, what is gathered from them, and
+//! what is shown of it.
 #![tactic(auto)]
 
 mod changes;
@@ -21,7 +21,7 @@ mod summary;
 mod tally;
 mod whys;
 
-use crate::stop::Stop;
+use crate::stop::PageError;
 use std::env::Env;
 use std::process::ExitCode;
 use std::{env, io};
@@ -31,7 +31,7 @@ fn main(rt: HostRuntime) -> ExitCode {
     let mut err = rt.stderr();
     match words(&rt) {
         Ok(words) => ExitCode::from(run::run(&rt, words.as_slice(), &mut out, &mut err)),
-        Err(error) => ExitCode::from(Stop::of_words(&error).tell(&mut err)),
+        Err(error) => ExitCode::from(PageError::of_words(&error).tell(&mut err)),
     }
 }
 

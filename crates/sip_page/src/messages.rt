@@ -1,14 +1,14 @@
 //! The messages of a line: the fields in which the responses differ, and after one more opening the others.
 
-use crate::groups::Finding;
+use crate::reading::LineRows;
 use crate::sheet::Sheet;
 use csv_table::column;
-use page_words::{Case, FIELDS, Field, SECRETS, known, name_of, other_of};
+use page_words::{Case, FIELDS, SECRETS, ShownField, known, name_of, other_of};
 
 /// Adds the messages of a line. Each list of fields is one text, so that a page of many lines stays light.
-pub fn add_messages(sheet: &mut Sheet, finding: &Finding, case: &Case<'_>) {
-    let recorded = name_of(column(&finding.line.journal, 3));
-    let right = name_of(column(&finding.line.answer, 2));
+pub fn add_messages(sheet: &mut Sheet, line: &LineRows, case: &Case<'_>) {
+    let recorded = name_of(column(&line.journal, 3));
+    let right = name_of(column(&line.answer, 2));
     sheet.add("<ul>", b"");
     if recorded != right {
         sheet.add("<li>message: ", recorded);
@@ -18,7 +18,7 @@ pub fn add_messages(sheet: &mut Sheet, finding: &Finding, case: &Case<'_>) {
     add_differing(sheet, case);
     sheet.add(
         "</ul><details><summary>Other fields</summary><p>Request (",
-        name_of(column(&finding.line.journal, 2)),
+        name_of(column(&line.journal, 2)),
     );
     sheet.add(")", b"");
     for field in &case.asked {
@@ -47,9 +47,9 @@ fn add_differing(sheet: &mut Sheet, case: &Case<'_>) {
 /// Adds a field as it was recorded and as it is right. Checksums differ with whatever else does, so they are left out.
 fn add_both(
     sheet: &mut Sheet,
-    named: &Field<'_>,
-    recorded: Option<&Field<'_>>,
-    right: Option<&Field<'_>>,
+    named: &ShownField<'_>,
+    recorded: Option<&ShownField<'_>>,
+    right: Option<&ShownField<'_>>,
 ) {
     if named.name == b"AY".as_slice() {
         return;
@@ -72,13 +72,13 @@ fn add_agreeing(sheet: &mut Sheet, case: &Case<'_>) {
 }
 
 /// Adds a field with its value.
-fn add_pair(sheet: &mut Sheet, field: &Field<'_>) {
+fn add_pair(sheet: &mut Sheet, field: &ShownField<'_>) {
     add_name(sheet, "; ", field);
     sheet.add(": ", shown(Some(field)));
 }
 
 /// Adds markup and what a field is called.
-fn add_name(sheet: &mut Sheet, markup: &'static str, field: &Field<'_>) {
+fn add_name(sheet: &mut Sheet, markup: &'static str, field: &ShownField<'_>) {
     sheet.add(markup, field.name);
     let words = known(FIELDS, field.name);
     if !words.is_empty() {
@@ -87,7 +87,7 @@ fn add_name(sheet: &mut Sheet, markup: &'static str, field: &Field<'_>) {
 }
 
 /// What is shown of a field.
-fn shown<'m>(field: Option<&Field<'m>>) -> &'m [u8] {
+fn shown<'m>(field: Option<&ShownField<'m>>) -> &'m [u8] {
     let Some(field) = field else {
         return b"(none)";
     };
@@ -104,7 +104,7 @@ fn shown<'m>(field: Option<&Field<'m>>) -> &'m [u8] {
 }
 
 /// Whether a field is in both messages, with the same bytes.
-fn agree(one: Option<&Field<'_>>, other: Option<&Field<'_>>) -> bool {
+fn agree(one: Option<&ShownField<'_>>, other: Option<&ShownField<'_>>) -> bool {
     match (one, other) {
         (Some(told), Some(due)) => told.value == due.value,
         _ => false,

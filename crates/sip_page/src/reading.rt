@@ -1,45 +1,56 @@
 //! The journal, the answers and the report, read side by side.
 
-use crate::files::{Rows, Table};
-use crate::stop::Stop;
+use crate::files::{FileRows, TableFile};
+use crate::stop::PageError;
 use csv::ByteRecord;
 use csv_table::column;
 use one_run::RunTexts;
 use page_words::{Case, fields_of, name_of};
 use std::alloc::{AllocError, Global};
-use std::mem;
 
-pub static JOURNAL: Table = Table {
+pub static JOURNAL: TableFile = TableFile {
     file: "journal.csv",
     header: &["line", "connection", "request", "response"],
 };
 
-pub static ANSWERS: Table = Table {
+pub static ANSWERS: TableFile = TableFile {
     file: "answers.csv",
     header: &["line", "connection", "response"],
 };
 
-pub static REPORT: Table = Table {
+pub static REPORT: TableFile = TableFile {
     file: "report.csv",
     header: &["line", "connection", "fields"],
 };
 
-pub static PASSED: Table = Table {
+pub static PASSED: TableFile = TableFile {
     file: "passed.csv",
     header: &["line", "connection", "why"],
 };
 
 /// A line of the journal with its rows of the answers and of the report.
-#[derive(Drop)]
-pub struct Line {
+pub struct LineRows {
+    pub number: u64,
     pub journal: ByteRecord,
     pub answer: ByteRecord,
     pub report: ByteRecord,
 }
 
-impl Line {
-    fn none(alloc: Global) -> Line {
-        Line {
+impl Drop for LineRows {
+    fn drop(self) {
+        let LineRows {
+            number: _,
+            journal: _,
+            answer: _,
+            report: _,
+        } = self;
+    }
+}
+
+impl LineRows {
+    fn none(alloc: Global) -> LineRows {
+        LineRows {
+            number: 0,
             journal: ByteRecord::new(alloc),
             answer: ByteRecord::new(alloc),
             report: ByteRecord::new(alloc),
@@ -54,6 +65,16 @@ impl Line {
     /// The words of the report.
     pub fn words(&self) -> &[u8] {
         column(&self.report, 2)
+    }
+
+    /// A copy of it.
+    pub fn copy(&self) -> Result<LineRows, AllocError> {
+        Ok(LineRows {
+            number: self.number,
+            journal: self.journal.clone()?,
+            answer: self.answer.clone()?,
+            report: self.report.clone()?,
+        })
     }
 
     /// What was asked, recorded and right.
@@ -71,65 +92,58 @@ impl Line {
 }
 
 /// The three tables of a run, read side by side; each has its rows in the order of the lines.
-pub struct Reading<'t> {
-    alloc: Global,
-    journal: Rows<'t>,
-    answers: Rows<'t>,
-    report: Rows<'t>,
-    line: Line,
-    /// The number of `line`.
-    number: u64,
+pub struct RunReader<'t> {
+    journal: FileRows<'t>,
+    answers: FileRows<'t>,
+    report: FileRows<'t>,
+    line: LineRows,
 }
 
-impl Drop for Reading<'_> {
+impl Drop for RunReader<'_> {
     fn drop(self) {
-        let Reading {
-            alloc: _,
+        let RunReader {
             journal: _,
             answers: _,
             report: _,
             line: _,
-            number: _,
         } = self;
     }
 }
 
-impl<'t> Reading<'t> {
+impl<'t> RunReader<'t> {
     /// Begins before the first line.
-    pub fn of(alloc: Global, texts: &RunTexts<'t>) -> Result<Reading<'t>, Stop> {
-        Ok(Reading {
-            alloc,
-            journal: Rows::under(alloc, &JOURNAL, texts.journal)?,
-            answers: Rows::under(alloc, &ANSWERS, texts.answers)?,
-            report: Rows::under(alloc, &REPORT, texts.report)?,
-            line: Line::none(alloc),
-            number: 0,
+    pub fn of(alloc: Global, texts: &RunTexts<'t>) -> Result<RunReader<'t>, PageError> {
+        Ok(RunReader {
+            journal: FileRows::under(alloc, &JOURNAL, texts.journal)?,
+            answers: FileRows::under(alloc, &ANSWERS, texts.answers)?,
+            report: FileRows::under(alloc, &REPORT, texts.report)?,
+            line: LineRows::none(alloc),
         })
     }
 
     /// Reads the next line of the journal, and gives its number, which is that of the line before plus one.
-    pub fn next_line(&mut self) -> Result<u64, Stop> {
+    pub fn next_line(&mut self) -> Result<u64, PageError> {
         self.journal.next(&mut self.line.journal)?;
         let Some(number) = number_of(column(&self.line.journal, 0)) else {
-            return Err(Stop::Table(JOURNAL.file));
+            return Err(PageError::Table(JOURNAL.file));
         };
-        if self.number > 0 && number != self.number.saturating_add(1) {
-            return Err(Stop::Table(JOURNAL.file));
+        if self.line.number > 0 && number != self.line.number.saturating_add(1) {
+            return Err(PageError::Table(JOURNAL.file));
         }
-        self.number = number;
+        self.line.number = number;
         Ok(number)
     }
 
     /// Reads the answer of the line.
-    pub fn next_answer(&mut self) -> Result<&Line, Stop> {
+    pub fn next_answer(&mut self) -> Result<&LineRows, PageError> {
         self.answers.next(&mut self.line.answer)?;
         Ok(&self.line)
     }
 
-    /// Reads the row of the report of the line, and gives all that is known of the line away.
-    pub fn next_wrong(&mut self) -> Result<Line, Stop> {
+    /// Reads the row of the report of the line.
+    pub fn next_wrong(&mut self) -> Result<&LineRows, PageError> {
         self.report.next(&mut self.line.report)?;
-        Ok(mem::replace(&mut self.line, Line::none(self.alloc)))
+        Ok(&self.line)
     }
 }
 

@@ -1,13 +1,13 @@
 //! The whole run: words, files, the page and the status.
 
-use crate::changes::{OtherChange, check_base, names_of, note_changes};
-use crate::files::{Rows, read, read_in};
+use crate::changes::{check_base, names_of, note_changes};
+use crate::files::{FileRows, read, read_in};
 use crate::findings::Findings;
 use crate::reading::{ANSWERS, PASSED, REPORT};
 use crate::sheet::Sheet;
 use crate::shown::{View, add_groups};
-use crate::stop::Stop;
-use crate::subjects::{ITEMS, PATRONS, add_subjects};
+use crate::stop::PageError;
+use crate::subjects::{ITEMS, PATRONS, SubjectChange, add_subjects};
 use crate::summary::{add_head, add_summary};
 use crate::tally::{Tally, count};
 use crate::whys::Whys;
@@ -15,7 +15,7 @@ use command_line::{PageOptions, Refusal, page_options};
 use csv::ByteRecord;
 use csv_table::column;
 use one_run::{RunTexts, fates};
-use page_words::{Names, REASONS, known};
+use page_words::{CaseNames, REASONS, known};
 use std::alloc::Global;
 use std::collections::BTreeMap;
 use std::env;
@@ -23,7 +23,7 @@ use std::env::Env;
 use std::io::Write;
 use std::rt::Files;
 
-/// Up to so many wrong responses the patrons and items that they are about stand open.
+/// Up to this many wrong responses the patrons and items that they are about are shown open.
 const OPEN: u64 = 100;
 
 /// The head of the table of what changed of others.
@@ -47,7 +47,7 @@ const REASONS_HEAD: &str =
 /// - 2 where the command line or a table is refused, or the tables aren't of one run;
 /// - 3 where a file can't be read, `out` takes no text, or memory ran out.
 ///
-/// What stopped the run is told on `err`.
+/// What stopped the run is printed on `err`.
 pub fn run<R: Files + Env + AllocGlobal, W: Write, E: Write>(
     rt: &R,
     words: &[String],
@@ -57,8 +57,8 @@ pub fn run<R: Files + Env + AllocGlobal, W: Write, E: Write>(
     let ended = match page_options(rt.alloc(), words) {
         Ok(options) => write_page(rt, &options, out),
         Err(Refusal::Help(text)) => write_to(out, text.as_bytes()),
-        Err(Refusal::Words(text)) => Err(Stop::Words(text)),
-        Err(Refusal::Memory) => Err(Stop::Memory),
+        Err(Refusal::Words(text)) => Err(PageError::Words(text)),
+        Err(Refusal::Memory) => Err(PageError::Memory),
     };
     match ended {
         Ok(()) => 0,
@@ -66,10 +66,10 @@ pub fn run<R: Files + Env + AllocGlobal, W: Write, E: Write>(
     }
 }
 
-fn write_to<W: Write>(out: &mut W, text: &[u8]) -> Result<(), Stop> {
+fn write_to<W: Write>(out: &mut W, text: &[u8]) -> Result<(), PageError> {
     match out.write_all(text) {
         Ok(()) => Ok(()),
-        Err(_) => Err(Stop::Output),
+        Err(_) => Err(PageError::Output),
     }
 }
 
@@ -77,7 +77,7 @@ fn write_page<R: Files + Env + AllocGlobal, W: Write>(
     rt: &R,
     options: &PageOptions,
     out: &mut W,
-) -> Result<(), Stop> {
+) -> Result<(), PageError> {
     let mut sheet = Sheet::new(rt.alloc());
     add_all(rt, &mut sheet, options)?;
     let bytes = sheet.bytes()?;
@@ -89,16 +89,28 @@ fn add_all<R: Files + Env + AllocGlobal>(
     rt: &R,
     sheet: &mut Sheet,
     options: &PageOptions,
-) -> Result<(), Stop> {
+) -> Result<(), PageError> {
     let made_by = made_by(rt)?;
-    let run = read_run(rt, options)?;
+    let mut run = RunSummary::none(rt.alloc(), u64::from(options.limit));
+    run.read(rt, options)?;
+    add_parts(rt.alloc(), sheet, &run, options, made_by.as_str())
+}
+
+/// Adds the parts of the page.
+fn add_parts(
+    alloc: Global,
+    sheet: &mut Sheet,
+    run: &RunSummary,
+    options: &PageOptions,
+    made_by: &str,
+) -> Result<(), PageError> {
     let view = View {
-        alloc: rt.alloc(),
+        alloc,
         names: &run.names,
         findings: &run.findings,
         whys: &run.whys,
     };
-    add_what_is_wrong(sheet, &view, options, made_by.as_str())?;
+    add_what_is_wrong(sheet, &view, options, made_by)?;
     add_people(sheet, &view, &run.others, u64::from(options.limit));
     add_things(sheet, &view, run.others.is_some());
     add_passed(sheet, &run.passed);
@@ -111,14 +123,14 @@ fn add_what_is_wrong(
     view: &View<'_>,
     options: &PageOptions,
     made_by: &str,
-) -> Result<(), Stop> {
+) -> Result<(), PageError> {
     add_head(sheet, view)?;
     add_summary(sheet, view, options, made_by)?;
     add_wrong(sheet, view, u64::from(options.limit))
 }
 
 /// By which program the page is made, where who called it says so.
-fn made_by<R: Env + AllocGlobal>(rt: &R) -> Result<String, Stop> {
+fn made_by<R: Env + AllocGlobal>(rt: &R) -> Result<String, PageError> {
     match env::var(rt, "SIP_PAGE_BUILD") {
         Ok(text) => Ok(text),
         Err(_) => Ok(String::from_str(
@@ -129,49 +141,99 @@ fn made_by<R: Env + AllocGlobal>(rt: &R) -> Result<String, Stop> {
 }
 
 /// What the tables of a run say.
-#[derive(Drop)]
 struct RunSummary {
-    names: Names,
+    names: CaseNames,
     findings: Findings,
     /// How many lines were passed over for each reason.
     passed: Tally,
     whys: Whys,
     /// What changed for others, where base tables were given.
-    others: Option<Vec<OtherChange>>,
+    others: Option<Vec<SubjectChange>>,
 }
 
-/// What the tables of the run say. Its names are those of the base, too, where there is one.
-fn read_run<R: Files + AllocGlobal>(rt: &R, options: &PageOptions) -> Result<RunSummary, Stop> {
-    let names = names_of(rt, options.out.as_str())?;
-    let Some(base) = &options.base else {
-        return read_result(rt, options, names);
-    };
-    check_base(rt, base.as_str(), &names)?;
-    let mut run = read_result(rt, options, names)?;
-    run.others = Some(note_changes(
-        rt,
-        base.as_str(),
-        options.out.as_str(),
-        &run.names,
-        &mut run.findings,
-    )?);
-    Ok(run)
+impl Drop for RunSummary {
+    fn drop(self) {
+        let RunSummary {
+            names: _,
+            findings: _,
+            passed: _,
+            whys: _,
+            others: _,
+        } = self;
+    }
 }
 
-/// What the journal and the result tables say, without what changed.
-fn read_result<R: Files + AllocGlobal>(
-    rt: &R,
-    options: &PageOptions,
-    names: Names,
-) -> Result<RunSummary, Stop> {
-    let files = RunFiles {
-        journal: read(rt, options.journal.as_str())?,
-        answers: read_in(rt, options.out.as_str(), &ANSWERS)?,
-        passed: read_in(rt, options.out.as_str(), &PASSED)?,
-        report: read_in(rt, options.out.as_str(), &REPORT)?,
-    };
-    let whys = whys_of(rt, options, &files.report)?;
-    summary_of(rt.alloc(), &files, names, whys, u64::from(options.limit))
+impl RunSummary {
+    /// Of no table; `limit` wrong responses are shown at most.
+    fn none(alloc: Global, limit: u64) -> RunSummary {
+        RunSummary {
+            names: CaseNames {
+                titles: BTreeMap::new(alloc),
+                patrons: BTreeMap::new(alloc),
+            },
+            findings: Findings::none(alloc, limit),
+            passed: BTreeMap::new(alloc),
+            whys: Whys::none(alloc),
+            others: None,
+        }
+    }
+
+    /// Takes in the tables of the run. Its names are those of the base, too, where there is one.
+    fn read<R: Files + AllocGlobal>(
+        &mut self,
+        rt: &R,
+        options: &PageOptions,
+    ) -> Result<(), PageError> {
+        self.names = names_of(rt, options.out.as_str())?;
+        let Some(base) = &options.base else {
+            return self.read_result(rt, options);
+        };
+        check_base(rt, base.as_str(), &self.names)?;
+        self.read_result(rt, options)?;
+        self.others = Some(note_changes(
+            rt,
+            base.as_str(),
+            options.out.as_str(),
+            &self.names,
+            &mut self.findings,
+        )?);
+        Ok(())
+    }
+
+    /// Takes in the journal and the result tables.
+    fn read_result<R: Files + AllocGlobal>(
+        &mut self,
+        rt: &R,
+        options: &PageOptions,
+    ) -> Result<(), PageError> {
+        let files = RunFiles {
+            journal: read(rt, options.journal.as_str())?,
+            answers: read_in(rt, options.out.as_str(), &ANSWERS)?,
+            passed: read_in(rt, options.out.as_str(), &PASSED)?,
+            report: read_in(rt, options.out.as_str(), &REPORT)?,
+        };
+        if let Some(path) = &options.why {
+            self.whys.read(&read(rt, path.as_str())?, &files.report)?;
+        }
+        self.note_lines(rt.alloc(), &files)?;
+        count_reasons(rt.alloc(), &mut self.passed, &files.passed)
+    }
+
+    /// Notes the lines.
+    fn note_lines(&mut self, alloc: Global, files: &RunFiles) -> Result<(), PageError> {
+        let texts = RunTexts {
+            journal: &files.journal,
+            answers: &files.answers,
+            passed: &files.passed,
+            report: &files.report,
+        };
+        match fates(alloc, &texts) {
+            Ok(fates) => self
+                .findings
+                .note_lines(&texts, &fates, &self.names, &mut self.whys),
+            Err(error) => Err(PageError::of_no_run(alloc, &error)),
+        }
+    }
 }
 
 /// The bytes of a journal and of the result tables of its run.
@@ -183,59 +245,9 @@ struct RunFiles {
     report: Vec<u8>,
 }
 
-/// What the table of reasons says of the lines of a report, where there is one.
-fn whys_of<R: Files + AllocGlobal>(
-    rt: &R,
-    options: &PageOptions,
-    report: &[u8],
-) -> Result<Whys, Stop> {
-    match &options.why {
-        Some(path) => Whys::of(rt.alloc(), &read(rt, path.as_str())?, report),
-        None => Ok(Whys::none(rt.alloc())),
-    }
-}
-
-/// What these files say; `limit` wrong responses are shown at most.
-fn summary_of(
-    alloc: Global,
-    files: &RunFiles,
-    names: Names,
-    whys: Whys,
-    limit: u64,
-) -> Result<RunSummary, Stop> {
-    let mut run = RunSummary {
-        names,
-        findings: Findings::none(alloc),
-        passed: BTreeMap::new(alloc),
-        whys,
-        others: None,
-    };
-    run.note_lines(alloc, files, limit)?;
-    count_reasons(alloc, &mut run.passed, &files.passed)?;
-    Ok(run)
-}
-
-impl RunSummary {
-    /// Notes the lines; `limit` wrong responses are shown at most.
-    fn note_lines(&mut self, alloc: Global, files: &RunFiles, limit: u64) -> Result<(), Stop> {
-        let texts = RunTexts {
-            journal: &files.journal,
-            answers: &files.answers,
-            passed: &files.passed,
-            report: &files.report,
-        };
-        let fates = match fates(alloc, &texts) {
-            Ok(fates) => fates,
-            Err(error) => return Err(Stop::of_no_run(alloc, &error)),
-        };
-        self.findings
-            .note_lines(alloc, &texts, &fates, &self.names, &mut self.whys, limit)
-    }
-}
-
 /// Counts the reasons of `passed.csv`.
-fn count_reasons(alloc: Global, reasons: &mut Tally, text: &[u8]) -> Result<(), Stop> {
-    let mut rows = Rows::under(alloc, &PASSED, text)?;
+fn count_reasons(alloc: Global, reasons: &mut Tally, text: &[u8]) -> Result<(), PageError> {
+    let mut rows = FileRows::under(alloc, &PASSED, text)?;
     let mut row = ByteRecord::new(alloc);
     for _ in 0..u64::MAX {
         if !rows.next(&mut row)? {
@@ -247,7 +259,7 @@ fn count_reasons(alloc: Global, reasons: &mut Tally, text: &[u8]) -> Result<(), 
 }
 
 /// Adds the wrong responses.
-fn add_wrong(sheet: &mut Sheet, view: &View<'_>, limit: u64) -> Result<(), Stop> {
+fn add_wrong(sheet: &mut Sheet, view: &View<'_>, limit: u64) -> Result<(), PageError> {
     sheet.add("<h2 id=\"wrong\">Wrong responses</h2>\n", b"");
     if view.findings.wrong == 0 {
         sheet.add("<p>No recorded response was wrong.</p>\n", b"");
@@ -266,7 +278,7 @@ fn add_left_out(sheet: &mut Sheet, count: u64) {
 }
 
 /// Adds the patrons that wrong responses are about, and what changed for others.
-fn add_people(sheet: &mut Sheet, view: &View<'_>, others: &Option<Vec<OtherChange>>, limit: u64) {
+fn add_people(sheet: &mut Sheet, view: &View<'_>, others: &Option<Vec<SubjectChange>>, limit: u64) {
     let findings = view.findings;
     sheet.add(
         "<h2 id=\"patrons\">Patrons, and what changed for whom</h2>\n",
@@ -297,7 +309,7 @@ fn add_people(sheet: &mut Sheet, view: &View<'_>, others: &Option<Vec<OtherChang
 }
 
 /// Adds what changed for patrons that no wrong response is about, `limit` changes at most.
-fn add_others(sheet: &mut Sheet, others: &[OtherChange], limit: u64) {
+fn add_others(sheet: &mut Sheet, others: &[SubjectChange], limit: u64) {
     sheet.add_number(
         "<details class=\"x\"><summary>What changed for others: ",
         others.len() as u64,
@@ -311,9 +323,9 @@ fn add_others(sheet: &mut Sheet, others: &[OtherChange], limit: u64) {
         }
         shown += 1;
         sheet.add("<tr><th scope=\"row\">", &other.id);
-        sheet.add("</th><td>", &other.change.what);
-        sheet.add("</td><td>", &other.change.before);
-        sheet.add("</td><td>", &other.change.after);
+        sheet.add("</th><td>", &other.what);
+        sheet.add("</td><td>", &other.before);
+        sheet.add("</td><td>", &other.after);
         sheet.add("</td></tr>\n", b"");
     }
     sheet.add("</tbody></table></div>\n", b"");

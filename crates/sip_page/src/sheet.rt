@@ -1,4 +1,4 @@
-//! The page as it grows. What is added after a failure is lost, and the failure is told when the page is read off.
+//! The page as it grows. What is added after a failure is lost, and the failure is returned when the page is read off.
 
 use page_text::Page;
 use std::alloc::{AllocError, Global};

@@ -2,15 +2,16 @@
 
 use crate::facts::{items_of, patrons_of};
 use crate::findings::{Findings, message_at};
-use crate::groups::{Finding, Group};
+use crate::groups::Group;
 use crate::messages::add_messages;
+use crate::reading::LineRows;
 use crate::sheet::Sheet;
-use crate::subjects::{ITEMS, Kind, PATRONS, Subjects, add_link};
+use crate::subjects::{ITEMS, PATRONS, SubjectKind, Subjects, add_link};
 use crate::tally::counted;
 use crate::whys::Whys;
 use page_words::{
-    Case, Names, PLURALS, Texts, cut, known, put_moment, put_recorded, put_right, put_time, say,
-    value_in,
+    Case, CaseNames, PLURALS, TextsById, cut, known, put_moment, put_recorded, put_right, put_time,
+    say, value_in,
 };
 use std::alloc::{AllocError, Global};
 
@@ -25,10 +26,10 @@ static HEADS: [(u8, &str); 3] = [
 ];
 
 /// What is shown, and by what names.
-#[derive(Drop)]
+#[derive(Clone, Copy)]
 pub struct View<'f> {
     pub alloc: Global,
-    pub names: &'f Names,
+    pub names: &'f CaseNames,
     pub findings: &'f Findings,
     pub whys: &'f Whys,
 }
@@ -67,22 +68,16 @@ fn place_of(weight: u8) -> &'static str {
 /// Adds a group: one sentence for all its lines, then its lines.
 fn add_group(sheet: &mut Sheet, view: &View<'_>, group: &Group) -> Result<(), AllocError> {
     sheet.add_number(place_of(group.facts.weight), group.number);
-    let mut sentence = Vec::new(view.alloc);
-    match group.findings.first() {
-        Some(finding) if group.count == 1 => put_sentence(&mut sentence, view, finding)?,
-        _ => put_group_sentence(&mut sentence, view, group)?,
-    }
-    sheet.add("\" open><summary><h4>", &sentence);
-    sheet.add(".</h4></summary>\n", b"");
+    add_sentence(sheet, view, group)?;
     if group.count == 1 {
-        for finding in &group.findings {
-            add_single(sheet, view, finding)?;
+        for line in &group.shown {
+            add_single(sheet, view, line)?;
         }
     } else {
         add_hours(sheet, view, group)?;
         add_rows(sheet, view, group)?;
     }
-    let left_out = group.count.saturating_sub(group.findings.len() as u64);
+    let left_out = group.count.saturating_sub(group.shown.len() as u64);
     if left_out > 0 {
         sheet.add_number("<p>Left out here: ", left_out);
         sheet.add(" more. The option --limit shows more of them.</p>\n", b"");
@@ -91,31 +86,56 @@ fn add_group(sheet: &mut Sheet, view: &View<'_>, group: &Group) -> Result<(), Al
     Ok(())
 }
 
+/// Adds the sentence of a group.
+fn add_sentence(sheet: &mut Sheet, view: &View<'_>, group: &Group) -> Result<(), AllocError> {
+    let mut sentence = Vec::new(view.alloc);
+    match group.shown.first() {
+        Some(line) if group.count == 1 => put_sentence(&mut sentence, view, line)?,
+        _ => put_group_sentence(&mut sentence, view, group)?,
+    }
+    sheet.add("\" open><summary><h4>", &sentence);
+    sheet.add(".</h4></summary>\n", b"");
+    Ok(())
+}
+
 /// Writes when and where it was, and what each word of the report says.
-fn put_sentence(out: &mut Vec<u8>, view: &View<'_>, finding: &Finding) -> Result<(), AllocError> {
-    let case = finding.line.case(view.alloc)?;
+fn put_sentence(out: &mut Vec<u8>, view: &View<'_>, line: &LineRows) -> Result<(), AllocError> {
+    let case = line.case(view.alloc)?;
     put_moment(
         out,
         value_in(&case.asked, b"date"),
         view.findings.is_dated(),
     )?;
+    put_place(out, view.alloc, line)?;
+    put_said(out, view, line.words(), &case)?;
+    put_because(out, view, line, &case)
+}
+
+/// Writes where it was.
+fn put_place(out: &mut Vec<u8>, alloc: Global, line: &LineRows) -> Result<(), AllocError> {
     out.extend_from_slice(b", ")?;
-    out.extend_from_slice(finding.line.connection())?;
-    let line = format!(in view.alloc; ", line {}: ", finding.number)?;
-    out.extend_from_slice(line.as_bytes())?;
-    put_said(out, view, finding.line.words(), &case)?;
-    put_because(out, view, finding, &case)
+    out.extend_from_slice(line.connection())?;
+    out.extend_from_slice(b", line ")?;
+    put_number(out, alloc, line.number)?;
+    out.extend_from_slice(b": ")
+}
+
+/// Writes the digits of a number.
+fn put_number(out: &mut Vec<u8>, alloc: Global, number: u64) -> Result<(), AllocError> {
+    let digits = format!(in alloc; "{number}")?;
+    out.extend_from_slice(digits.as_bytes())
 }
 
 /// Writes why it was wrong, after a colon, where that is known.
 fn put_because(
     out: &mut Vec<u8>,
     view: &View<'_>,
-    finding: &Finding,
+    line: &LineRows,
     case: &Case<'_>,
 ) -> Result<(), AllocError> {
     let date = value_in(&case.asked, b"date");
-    view.whys.put(out, finding.number, finding.line.words(), date, view.names)
+    view.whys
+        .put(out, line.number, line.words(), date, view.names)
 }
 
 /// Writes what each word of the report says.
@@ -140,10 +160,10 @@ fn put_said(
     Ok(())
 }
 
-/// Writes one sentence for all lines of a group, as: 9 checkouts at SELF3, 12:18 to 16:25: due 14 March told, 16 March is right.
+/// Writes one sentence for all lines of a group, as: `9 checkouts at SELF3, 12:18 to 16:25: due 14 March told, 16 March is right`.
 fn put_group_sentence(out: &mut Vec<u8>, view: &View<'_>, group: &Group) -> Result<(), AllocError> {
-    let count = format!(in view.alloc; "{} ", group.count)?;
-    out.extend_from_slice(count.as_bytes())?;
+    put_number(out, view.alloc, group.count)?;
+    out.extend_from_slice(b" ")?;
     out.extend_from_slice(plural_of(&group.facts.kind))?;
     out.extend_from_slice(b" at ")?;
     out.extend_from_slice(&group.facts.connection)?;
@@ -172,24 +192,19 @@ fn is_one_day(group: &Group) -> bool {
 
 /// Says of a group that began and ended on one day how many such responses were right before, between and after its lines.
 fn add_hours(sheet: &mut Sheet, view: &View<'_>, group: &Group) -> Result<(), AllocError> {
-    let name = message_at(view.alloc, &group.facts.kind, &group.facts.connection)?;
-    let after = counted(&view.findings.right, &name).saturating_sub(group.right_at_last);
+    let after = right_after(view, group)?;
     if !is_one_day(group) || group.right_at_first == 0 || after == 0 {
         return Ok(());
     }
-    let mut first = Vec::new(view.alloc);
-    put_time(&mut first, &group.facts.date)?;
-    let mut last = Vec::new(view.alloc);
-    put_time(&mut last, &group.last)?;
     sheet.add(
         "<p>It began and ended within hours: of the ",
         plural_of(&group.facts.kind),
     );
     sheet.add(" at ", &group.facts.connection);
     sheet.add_number(", ", group.right_at_first);
-    sheet.add(" before ", &first);
+    add_time(sheet, view.alloc, " before ", &group.facts.date)?;
     sheet.add_number(" and ", after);
-    sheet.add(" after ", &last);
+    add_time(sheet, view.alloc, " after ", &group.last)?;
     sheet.add_number(
         " were right, and ",
         group.right_at_last.saturating_sub(group.right_at_first),
@@ -198,38 +213,69 @@ fn add_hours(sheet: &mut Sheet, view: &View<'_>, group: &Group) -> Result<(), Al
     Ok(())
 }
 
+/// How many responses like those of a group were right after its last line.
+fn right_after(view: &View<'_>, group: &Group) -> Result<u64, AllocError> {
+    let name = message_at(view.alloc, &group.facts.kind, &group.facts.connection)?;
+    Ok(counted(&view.findings.right, &name).saturating_sub(group.right_at_last))
+}
+
+/// Adds markup and the time of a transaction date.
+fn add_time(
+    sheet: &mut Sheet,
+    alloc: Global,
+    markup: &'static str,
+    date: &[u8],
+) -> Result<(), AllocError> {
+    let mut time = Vec::new(alloc);
+    put_time(&mut time, date)?;
+    sheet.add(markup, &time);
+    Ok(())
+}
+
 /// Adds the only line of a group: whom and what it is about, and its messages.
-fn add_single(sheet: &mut Sheet, view: &View<'_>, finding: &Finding) -> Result<(), AllocError> {
-    let case = finding.line.case(view.alloc)?;
-    sheet.add_number("<p id=\"l", finding.number);
+fn add_single(sheet: &mut Sheet, view: &View<'_>, line: &LineRows) -> Result<(), AllocError> {
+    let case = line.case(view.alloc)?;
+    sheet.add_number("<p id=\"l", line.number);
     sheet.add("\">", b"");
-    let patrons = patrons_of(view.alloc, &case)?;
-    add_links(
-        sheet,
-        &PATRONS,
-        &view.findings.patrons,
-        &view.names.patrons,
-        &patrons,
-    );
-    let items = items_of(view.alloc, &case)?;
-    if !patrons.is_empty() && !items.is_empty() {
-        sheet.add(" &middot; ", b"");
-    }
-    add_links(
-        sheet,
-        &ITEMS,
-        &view.findings.items,
-        &view.names.titles,
-        &items,
-    );
+    add_both(sheet, view, &case)?;
     sheet.add("</p><details><summary>Messages</summary>", b"");
-    add_messages(sheet, finding, &case);
+    add_messages(sheet, line, &case);
     sheet.add("</details>\n", b"");
     Ok(())
 }
 
+/// Adds links to the patrons and the items of a line.
+fn add_both(sheet: &mut Sheet, view: &View<'_>, case: &Case<'_>) -> Result<(), AllocError> {
+    let patrons = patrons_of(view.alloc, case)?;
+    let items = items_of(view.alloc, case)?;
+    add_patrons(sheet, view, &patrons);
+    if !patrons.is_empty() && !items.is_empty() {
+        sheet.add(" &middot; ", b"");
+    }
+    add_items(sheet, view, &items);
+    Ok(())
+}
+
+/// Adds links to patrons.
+fn add_patrons(sheet: &mut Sheet, view: &View<'_>, ids: &[&[u8]]) {
+    let subjects = &view.findings.patrons;
+    add_links(sheet, &PATRONS, subjects, &view.names.patrons, ids);
+}
+
+/// Adds links to items.
+fn add_items(sheet: &mut Sheet, view: &View<'_>, ids: &[&[u8]]) {
+    let subjects = &view.findings.items;
+    add_links(sheet, &ITEMS, subjects, &view.names.titles, ids);
+}
+
 /// Adds links to patrons or items.
-fn add_links(sheet: &mut Sheet, kind: &Kind, subjects: &Subjects, texts: &Texts, ids: &[Vec<u8>]) {
+fn add_links(
+    sheet: &mut Sheet,
+    kind: &SubjectKind,
+    subjects: &Subjects,
+    texts: &TextsById,
+    ids: &[&[u8]],
+) {
     let mut before = "";
     for id in ids {
         sheet.add(before, b"");
@@ -241,8 +287,8 @@ fn add_links(sheet: &mut Sheet, kind: &Kind, subjects: &Subjects, texts: &Texts,
 /// Adds the lines of a group as a table of one row each, and its messages after each.
 fn add_rows(sheet: &mut Sheet, view: &View<'_>, group: &Group) -> Result<(), AllocError> {
     sheet.add(ROWS, b"");
-    for finding in &group.findings {
-        add_line(sheet, view, finding, group.is_same)?;
+    for line in &group.shown {
+        add_line(sheet, view, line, group.is_same)?;
     }
     sheet.add("</tbody></table></div>\n", b"");
     Ok(())
@@ -252,20 +298,20 @@ fn add_rows(sheet: &mut Sheet, view: &View<'_>, group: &Group) -> Result<(), All
 fn add_line(
     sheet: &mut Sheet,
     view: &View<'_>,
-    finding: &Finding,
+    line: &LineRows,
     is_same: bool,
 ) -> Result<(), AllocError> {
-    let case = finding.line.case(view.alloc)?;
-    add_row(sheet, view, finding, &case)?;
+    let case = line.case(view.alloc)?;
+    add_row(sheet, view, line, &case)?;
     sheet.add_number(
         "<tr class=\"m\"><td colspan=\"6\"><details><summary>Messages of line ",
-        finding.number,
+        line.number,
     );
     sheet.add("</summary>", b"");
     if !is_same {
-        add_because(sheet, view, finding, &case)?;
+        add_because(sheet, view, line, &case)?;
     }
-    add_messages(sheet, finding, &case);
+    add_messages(sheet, line, &case);
     sheet.add("</details></td></tr>", b"");
     Ok(())
 }
@@ -274,11 +320,11 @@ fn add_line(
 fn add_because(
     sheet: &mut Sheet,
     view: &View<'_>,
-    finding: &Finding,
+    line: &LineRows,
     case: &Case<'_>,
 ) -> Result<(), AllocError> {
     let mut because = Vec::new(view.alloc);
-    put_because(&mut because, view, finding, case)?;
+    put_because(&mut because, view, line, case)?;
     if !because.is_empty() {
         sheet.add("<p>Because", &because);
         sheet.add(".</p>\n", b"");
@@ -286,50 +332,50 @@ fn add_because(
     Ok(())
 }
 
-/// Adds the row of a line: when, who, what, told, right.
+/// Adds the row of a line, of six cells: its number, when, who, what, and what was recorded and is right.
 fn add_row(
     sheet: &mut Sheet,
     view: &View<'_>,
-    finding: &Finding,
+    line: &LineRows,
     case: &Case<'_>,
 ) -> Result<(), AllocError> {
+    sheet.add_number("<tr id=\"l", line.number);
+    sheet.add_number("\"><th scope=\"row\">", line.number);
+    add_moment(sheet, view, value_in(&case.asked, b"date"))?;
+    sheet.add("</td><td>", b"");
+    add_patrons(sheet, view, &patrons_of(view.alloc, case)?);
+    sheet.add("</td><td>", b"");
+    add_items(sheet, view, &items_of(view.alloc, case)?);
+    add_sides(sheet, view, line.words(), case)
+}
+
+/// Adds the cell of a transaction date.
+fn add_moment(sheet: &mut Sheet, view: &View<'_>, date: &[u8]) -> Result<(), AllocError> {
     let mut moment = Vec::new(view.alloc);
-    put_moment(
-        &mut moment,
-        value_in(&case.asked, b"date"),
-        view.findings.is_dated(),
-    )?;
-    sheet.add_number("<tr id=\"l", finding.number);
-    sheet.add_number("\"><th scope=\"row\">", finding.number);
+    put_moment(&mut moment, date, view.findings.is_dated())?;
     sheet.add("</th><td>", &moment);
-    sheet.add("</td><td>", b"");
-    add_links(
-        sheet,
-        &PATRONS,
-        &view.findings.patrons,
-        &view.names.patrons,
-        &patrons_of(view.alloc, case)?,
-    );
-    sheet.add("</td><td>", b"");
-    add_links(
-        sheet,
-        &ITEMS,
-        &view.findings.items,
-        &view.names.titles,
-        &items_of(view.alloc, case)?,
-    );
-    let mut told = Vec::new(view.alloc);
+    Ok(())
+}
+
+/// Adds the cells of what was recorded and what is right, and ends the row.
+fn add_sides(
+    sheet: &mut Sheet,
+    view: &View<'_>,
+    words: &[u8],
+    case: &Case<'_>,
+) -> Result<(), AllocError> {
+    let mut recorded = Vec::new(view.alloc);
     let mut right = Vec::new(view.alloc);
-    put_sides(&mut told, &mut right, view, finding.line.words(), case)?;
-    sheet.add("</td><td>", &told);
+    put_sides(&mut recorded, &mut right, view, words, case)?;
+    sheet.add("</td><td>", &recorded);
     sheet.add("</td><td>", &right);
     sheet.add("</td></tr>", b"");
     Ok(())
 }
 
-/// Writes what was told and what is right, word by word.
+/// Writes what was recorded and what is right, word by word.
 fn put_sides(
-    told: &mut Vec<u8>,
+    recorded: &mut Vec<u8>,
     right: &mut Vec<u8>,
     view: &View<'_>,
     words: &[u8],
@@ -341,11 +387,11 @@ fn put_sides(
         if word.is_empty() {
             break;
         }
-        if !told.is_empty() {
-            told.extend_from_slice(b"; ")?;
+        if !recorded.is_empty() {
+            recorded.extend_from_slice(b"; ")?;
             right.extend_from_slice(b"; ")?;
         }
-        put_recorded(told, word, case, view.names)?;
+        put_recorded(recorded, word, case, view.names)?;
         put_right(right, word, case, view.names)?;
         rest = behind;
     }

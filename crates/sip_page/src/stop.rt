@@ -1,4 +1,4 @@
-//! What ends a run before its page is written, and the status that tells it.
+//! What ends a run before its page is written, and the status for it.
 
 use csv_table::TableError;
 use one_run::NoRun;
@@ -14,10 +14,10 @@ pub const FAILED: u8 = 3;
 
 /// Why there is no page.
 #[derive(Drop)]
-pub enum Stop {
+pub enum PageError {
     /// Memory ran out.
     Memory,
-    /// The words of the command line are refused: what is told of them.
+    /// The words of the command line are refused: the message about them.
     Words(String),
     /// A word of the command line isn't text.
     NoText,
@@ -31,85 +31,89 @@ pub enum Stop {
     Output,
 }
 
-impl From<AllocError> for Stop {
-    fn from(_error: AllocError) -> Stop {
-        Stop::Memory
+impl From<AllocError> for PageError {
+    fn from(_error: AllocError) -> PageError {
+        PageError::Memory
     }
 }
 
-impl<T: Drop> From<AllocFailed<T>> for Stop {
-    fn from(_error: AllocFailed<T>) -> Stop {
-        Stop::Memory
+impl<T: Drop> From<AllocFailed<T>> for PageError {
+    fn from(_error: AllocFailed<T>) -> PageError {
+        PageError::Memory
     }
 }
 
-impl Stop {
+impl PageError {
     /// The stop of words that the system gave with an error.
-    pub fn of_words(error: &io::Error) -> Stop {
+    pub fn of_words(error: &io::Error) -> PageError {
         if error.kind() == io::ErrorKind::OutOfMemory {
-            Stop::Memory
+            PageError::Memory
         } else {
-            Stop::NoText
+            PageError::NoText
         }
     }
 
     /// The stop of a file that answered with an error. Where memory is what it lacked, the file isn't to blame.
-    pub fn of_file(alloc: Global, error: &io::Error, path: &str) -> Stop {
+    pub fn of_file(alloc: Global, error: &io::Error, path: &str) -> PageError {
         if error.kind() == io::ErrorKind::OutOfMemory {
-            return Stop::Memory;
+            return PageError::Memory;
         }
         match format!(in alloc; "{path}: {error}") {
-            Ok(text) => Stop::File(text),
-            Err(_) => Stop::Memory,
+            Ok(text) => PageError::File(text),
+            Err(_) => PageError::Memory,
         }
     }
 
     /// The stop of a table that can't be read.
-    pub fn of_table(error: TableError, file: &'static str) -> Stop {
+    pub fn of_table(error: TableError, file: &'static str) -> PageError {
         match error {
-            TableError::Table => Stop::Table(file),
-            TableError::Memory => Stop::Memory,
+            TableError::Table => PageError::Table(file),
+            TableError::Memory => PageError::Memory,
         }
     }
 
     /// The stop of tables that aren't of one run.
-    pub fn of_no_run(alloc: Global, error: &NoRun) -> Stop {
+    pub fn of_no_run(alloc: Global, error: &NoRun) -> PageError {
         match error {
-            NoRun::Memory => Stop::Memory,
-            NoRun::Table(file) => Stop::Table(*file),
+            NoRun::Memory => PageError::Memory,
+            NoRun::Table(file) => PageError::Table(*file),
             NoRun::Line(line, says) => match format!(in alloc; "line {line}: {says}") {
-                Ok(text) => Stop::NotOneRun(text),
-                Err(_) => Stop::Memory,
+                Ok(text) => PageError::NotOneRun(text),
+                Err(_) => PageError::Memory,
             },
         }
     }
 
     /// The stop of a table of the base that has no such row as that of the output.
-    pub fn of_row(alloc: Global, file: &'static str, id: &[u8]) -> Stop {
+    pub fn of_row(alloc: Global, file: &'static str, id: &[u8]) -> PageError {
         let Ok(id) = String::from_utf8_lossy(alloc, id) else {
-            return Stop::Memory;
+            return PageError::Memory;
         };
         let id = id.as_str();
         match format!(in alloc; "{file} of the base and of the output: other rows of {id}") {
-            Ok(text) => Stop::NotOneRun(text),
-            Err(_) => Stop::Memory,
+            Ok(text) => PageError::NotOneRun(text),
+            Err(_) => PageError::Memory,
         }
     }
 
     /// Prints what stopped the run, and gives its status. A failed write to `err` changes no status.
     pub fn tell<E: Write>(&self, err: &mut E) -> u8 {
         let (status, what, name) = match self {
-            Stop::Memory => (FAILED, "error: out of memory\n", ""),
-            Stop::Words(text) => (REFUSED, text.as_str(), ""),
-            Stop::NoText => (
+            PageError::Memory => (FAILED, "error: out of memory\n", ""),
+            PageError::Words(text) => (REFUSED, text.as_str(), ""),
+            PageError::NoText => (
                 REFUSED,
                 "error: a word of the command line isn't text\n",
                 "",
             ),
-            Stop::Table(file) => (REFUSED, "error: no such table, or not of this run: ", *file),
-            Stop::NotOneRun(text) => (REFUSED, "error: not of one run: ", text.as_str()),
-            Stop::File(text) => (FAILED, "file: ", text.as_str()),
-            Stop::Output => (FAILED, "error: standard output takes nothing more\n", ""),
+            PageError::Table(file) => (
+                REFUSED,
+                "error: no such table, or not of this run: ",
+                *file,
+            ),
+            PageError::NotOneRun(text) => (REFUSED, "error: not of one run: ", text.as_str()),
+            PageError::File(text) => (FAILED, "file: ", text.as_str()),
+            PageError::Output => (FAILED, "error: standard output takes nothing more\n", ""),
         };
         let end = if name.is_empty() { "" } else { "\n" };
         let _ = write!(err, "{what}{name}{end}");

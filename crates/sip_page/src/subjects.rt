@@ -1,16 +1,27 @@
 //! The patrons and the items that wrong responses are about.
 
 use crate::sheet::Sheet;
-use page_words::Texts;
+use page_words::TextsById;
 use std::alloc::{AllocError, Global};
 use std::collections::BTreeMap;
 
-/// What a run changed of a patron or an item: what it is, before and after.
-#[derive(Drop)]
-pub struct Change {
+/// What a run changed of a patron or an item: whose it is, what it is, before and after.
+pub struct SubjectChange {
+    pub id: Vec<u8>,
     pub what: Vec<u8>,
     pub before: Vec<u8>,
     pub after: Vec<u8>,
+}
+
+impl Drop for SubjectChange {
+    fn drop(self) {
+        let SubjectChange {
+            id: _,
+            what: _,
+            before: _,
+            after: _,
+        } = self;
+    }
 }
 
 /// A patron or an item that wrong responses are about.
@@ -20,7 +31,7 @@ pub struct Subject {
     pub number: u64,
     /// The numbers of the lines of those responses, in their order.
     pub lines: Vec<u64>,
-    pub changes: Vec<Change>,
+    pub changes: Vec<SubjectChange>,
 }
 
 /// Patrons or items by their ids.
@@ -57,24 +68,30 @@ pub fn note(
 }
 
 /// How a list of patrons or of items is shown.
-pub struct Kind {
+pub struct SubjectKind {
     /// The markup before the number of one, where it is shown and where it is linked to.
     pub place: &'static str,
     pub link: &'static str,
 }
 
-pub static PATRONS: Kind = Kind {
+pub static PATRONS: SubjectKind = SubjectKind {
     place: "<details class=\"s\" id=\"p",
     link: "<a href=\"#p",
 };
 
-pub static ITEMS: Kind = Kind {
+pub static ITEMS: SubjectKind = SubjectKind {
     place: "<details class=\"s\" id=\"i",
     link: "<a href=\"#i",
 };
 
 /// Adds an id with what it is called, as a link where it is shown on the page.
-pub fn add_link(sheet: &mut Sheet, kind: &Kind, subjects: &Subjects, texts: &Texts, id: &[u8]) {
+pub fn add_link(
+    sheet: &mut Sheet,
+    kind: &SubjectKind,
+    subjects: &Subjects,
+    texts: &TextsById,
+    id: &[u8],
+) {
     match subjects.get(id) {
         Some(subject) => {
             sheet.add_number(kind.link, subject.number);
@@ -91,9 +108,9 @@ pub fn add_link(sheet: &mut Sheet, kind: &Kind, subjects: &Subjects, texts: &Tex
 /// Adds each patron or item that wrong responses are about: what changed of it, where that is `known`, and links to them.
 pub fn add_subjects(
     sheet: &mut Sheet,
-    kind: &Kind,
+    kind: &SubjectKind,
     subjects: &Subjects,
-    texts: &Texts,
+    texts: &TextsById,
     known: bool,
     open: bool,
 ) {
@@ -121,7 +138,7 @@ pub fn add_subjects(
 }
 
 /// What an id is called.
-fn called<'t>(texts: &'t Texts, id: &[u8]) -> &'t [u8] {
+fn called<'t>(texts: &'t TextsById, id: &[u8]) -> &'t [u8] {
     match texts.get(id) {
         Some(text) => text,
         None => b"(in no table)",
@@ -153,7 +170,7 @@ fn add_lines(sheet: &mut Sheet, lines: &[u64]) {
 }
 
 /// Adds a list of changes.
-fn add_changes(sheet: &mut Sheet, changes: &[Change]) {
+fn add_changes(sheet: &mut Sheet, changes: &[SubjectChange]) {
     sheet.add("<ul>", b"");
     for change in changes {
         sheet.add("<li>", &change.what);

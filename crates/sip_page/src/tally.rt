@@ -6,7 +6,7 @@ use std::collections::BTreeMap;
 /// How often each name came.
 pub type Tally = BTreeMap<Vec<u8>, u64>;
 
-/// Counts so many more of a name.
+/// Adds `more` to the count of a name.
 pub fn count(alloc: Global, tally: &mut Tally, name: &[u8], more: u64) -> Result<(), AllocError> {
     if let Some(number) = tally.get_mut(name) {
         *number = number.saturating_add(more);

@@ -1,36 +1,45 @@
-//! What `sip_why` told of the wrong responses of a run.
+//! What `sip_why` says of the wrong responses of a run.
 
-use crate::files::{Rows, Table};
+use crate::files::{FileRows, TableFile};
 use crate::reading::{REPORT, number_of};
-use crate::stop::Stop;
+use crate::stop::PageError;
 use csv::ByteRecord;
 use csv_table::column;
-use page_words::{Names, Origin, cut, put_because, put_moment};
+use page_words::{CaseNames, Origin, because_of, cut, put_moment};
 use std::alloc::{AllocError, Global};
 use std::collections::BTreeMap;
 
-pub static WHY: Table = Table {
+pub static WHY: TableFile = TableFile {
     file: "why.csv",
     header: &["line", "reason", "kind", "id", "since", "said"],
 };
 
 /// When and where a line came.
 #[derive(Drop)]
-struct Moment {
+struct LineMoment {
     date: Vec<u8>,
     connection: Vec<u8>,
 }
 
-/// What was told of wrong lines, by their numbers: the rows of each, and when the lines came that they name.
-#[derive(Drop)]
+/// What is known of wrong lines, by their numbers: the rows of each, and when the lines came that they name.
 pub struct Whys {
     alloc: Global,
     rows: BTreeMap<u64, Vec<ByteRecord>>,
-    moments: BTreeMap<u64, Option<Moment>>,
+    moments: BTreeMap<u64, Option<LineMoment>>,
+}
+
+impl Drop for Whys {
+    fn drop(self) {
+        let Whys {
+            alloc: _,
+            rows: _,
+            moments: _,
+        } = self;
+    }
 }
 
 impl Whys {
-    /// Nothing was told.
+    /// Of no line.
     pub fn none(alloc: Global) -> Whys {
         Whys {
             alloc,
@@ -39,24 +48,23 @@ impl Whys {
         }
     }
 
-    /// What a text tells of the lines of a report.
-    pub fn of(alloc: Global, text: &[u8], report: &[u8]) -> Result<Whys, Stop> {
-        let mut whys = Whys::none(alloc);
-        whys.want(report)?;
-        let mut rows = Rows::under(alloc, &WHY, text)?;
+    /// Takes in what a text says of the lines of a report.
+    pub fn read(&mut self, text: &[u8], report: &[u8]) -> Result<(), PageError> {
+        self.want(report)?;
+        let mut rows = FileRows::under(self.alloc, &WHY, text)?;
         for _ in 0..u64::MAX {
-            let mut row = ByteRecord::new(alloc);
+            let mut row = ByteRecord::new(self.alloc);
             if !rows.next(&mut row)? {
                 break;
             }
-            whys.take(row)?;
+            self.take(row)?;
         }
-        Ok(whys)
+        Ok(())
     }
 
     /// Asks for the lines of a report.
-    fn want(&mut self, report: &[u8]) -> Result<(), Stop> {
-        let mut rows = Rows::under(self.alloc, &REPORT, report)?;
+    fn want(&mut self, report: &[u8]) -> Result<(), PageError> {
+        let mut rows = FileRows::under(self.alloc, &REPORT, report)?;
         let mut row = ByteRecord::new(self.alloc);
         for _ in 0..u64::MAX {
             if !rows.next(&mut row)? {
@@ -70,9 +78,9 @@ impl Whys {
     }
 
     /// Takes in a row, where it is of a wanted line.
-    fn take(&mut self, row: ByteRecord) -> Result<(), Stop> {
+    fn take(&mut self, row: ByteRecord) -> Result<(), PageError> {
         let Some(number) = number_of(column(&row, 0)) else {
-            return Err(Stop::Table(WHY.file));
+            return Err(PageError::Table(WHY.file));
         };
         let since = number_of(column(&row, 4));
         if let Some(rows) = self.rows.get_mut(&number) {
@@ -87,7 +95,7 @@ impl Whys {
     /// Notes when and where a line came, where a row names it.
     pub fn note(&mut self, number: u64, date: &[u8], connection: &[u8]) -> Result<(), AllocError> {
         if let Some(moment) = self.moments.get_mut(&number) {
-            *moment = Some(Moment {
+            *moment = Some(LineMoment {
                 date: Vec::from_slice(self.alloc, date)?,
                 connection: Vec::from_slice(self.alloc, connection)?,
             });
@@ -95,7 +103,7 @@ impl Whys {
         Ok(())
     }
 
-    /// The reason of a line's answer; nothing where none was told.
+    /// The reason of a line's answer; nothing where none is known.
     pub fn reason_of(&self, number: u64) -> &[u8] {
         match self.rows.get(&number) {
             Some(rows) => match rows.first() {
@@ -113,44 +121,20 @@ impl Whys {
         number: u64,
         words: &[u8],
         date: &[u8],
-        names: &Names,
+        names: &CaseNames,
     ) -> Result<(), AllocError> {
         let Some(rows) = self.rows.get(&number) else {
             return Ok(());
         };
-        let sinces = self.sinces_of(rows, date)?;
-        let mut origins = Vec::new(self.alloc);
-        for (row, since) in rows.iter().zip(sinces.iter()) {
-            origins.push(Origin {
-                kind: column(row, 2),
-                id: column(row, 3),
-                said: column(row, 5),
-                since,
-            })?;
-        }
-        let mut because = Vec::new(self.alloc);
+        let origins = origins_of(self.alloc, rows)?;
         let (word, _) = cut(words, b' ');
-        if put_because(&mut because, word, self.reason_of(number), &origins, names)? {
-            out.extend_from_slice(b": ")?;
-            out.extend_from_slice(&because)?;
-        }
-        Ok(())
-    }
-
-    /// Since when each row is so, in words, as told to somebody on a day.
-    fn sinces_of(&self, rows: &[ByteRecord], date: &[u8]) -> Result<Vec<Vec<u8>>, AllocError> {
-        let mut sinces = Vec::new(self.alloc);
-        for row in rows {
-            sinces.push(self.since_of(row, date)?)?;
-        }
-        Ok(sinces)
-    }
-
-    /// Since when a row is so.
-    fn since_of(&self, row: &ByteRecord, date: &[u8]) -> Result<Vec<u8>, AllocError> {
+        let Some(because) = because_of(word, self.reason_of(number), &origins) else {
+            return Ok(());
+        };
+        out.extend_from_slice(b": ")?;
         let mut since = Vec::new(self.alloc);
-        self.put_since(&mut since, column(row, 4), date)?;
-        Ok(since)
+        self.put_since(&mut since, because.origin.since, date)?;
+        because.put(out, &since, names)
     }
 
     /// Writes since when something is so: `, since 09:12 (line 214, SELF2)`.
@@ -172,4 +156,18 @@ impl Whys {
         out.extend_from_slice(&moment.connection)?;
         Ok(out.push(b')')?)
     }
+}
+
+/// The records that these rows are about.
+fn origins_of(alloc: Global, rows: &[ByteRecord]) -> Result<Vec<Origin<'_>>, AllocError> {
+    let mut origins = Vec::new(alloc);
+    for row in rows {
+        origins.push(Origin {
+            kind: column(row, 2),
+            id: column(row, 3),
+            said: column(row, 5),
+            since: column(row, 4),
+        })?;
+    }
+    Ok(origins)
 }

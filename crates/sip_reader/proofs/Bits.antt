@@ -11,7 +11,7 @@ use Rattle.sip_reader.specs.Devices.Bars.{bar_bits, is_bar}
 use lib.Lanes.{Each1, chunk, mask_l, top}
 use lib.Count.{count_trailing_zeros}
 
--- ---- the bits behind the first few
+-- ---- the bits after the first few
 twice : (m : ℕ) → eqb (0 + 2 * m) 0 ≡ eqb m 0
 twice m = elim (cases_eq m 0) [
   | inl none ↦ eq-eqb (0 + 2 * m) 0 (omega arith) ∙ sym (eq-eqb m 0 none)
@@ -89,7 +89,7 @@ no_bits p (x ∷ xs) e = none_stands (p x) _ (length xs) _ (prefix_len-le-length
 cut : (p : ℕ → Bool) (s : List ℕ) (at n : ℕ) → position_or_len p (drop at s) ≡ cond (eqb (position_or_len p (chunk at n s)) (length (chunk at n s))) (length (chunk at n s) + position_or_len p (drop (at + n) s)) (position_or_len p (chunk at n s))
 cut p s at n = ap (position_or_len p) (chunk-drop at n s) ∙ prefix_len-append (λ x. not (p x)) (chunk at n s) (drop (at + n) s)
 
--- no bit is set: the first bar stands behind the block
+-- no bit is set: the first bar is after the block
 pub passed : (p : ℕ → Bool) (s : List ℕ) (at n : ℕ) → at + n ≤ length s → mask_l (map p (chunk at n s)) ≡ 0 → position_or_len p (drop at s) ≡ n + position_or_len p (drop (at + n) s)
 passed p s at n room none =
     let here = chunk at n s in

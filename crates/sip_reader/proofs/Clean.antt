@@ -9,7 +9,7 @@ use Rattle.sip_reader.specs.Texts.{is_line_end, is_barred, is_id, is_text}
 use Rattle.sip_reader.specs.Amounts.{amount_of}
 use Rattle.sip_reader.specs.Fits.{Fits}
 use Rattle.sip_reader.specs.Reading.{has_bad_amount, has_bad_field, lacks_field, is_longer, is_blank}
-use Rattle.sip_reader.specs.declared.kind.Layout.{Layout}
+use Rattle.sip_reader.specs.declared.kind.FieldLayout.{FieldLayout}
 
 -- no piece has a bar, CR or LF
 abbrev AllClean : List (List ℕ) → Type 0
@@ -86,7 +86,7 @@ used true y e h = h
 used false y e h = cc
 
 -- what the tests say
-record Tested (l : Layout) (rest : List ℕ) (t : Texts) : Type 0 where
+record Tested (l : FieldLayout) (rest : List ℕ) (t : Texts) : Type 0 where
   no_end : list_any is_line_end rest ≡ false
   patron : (l.patron && is_longer 64 t.patron) ≡ false
   item : (l.item && is_longer 64 t.item) ≡ false
@@ -95,7 +95,7 @@ record Tested (l : Layout) (rest : List ℕ) (t : Texts) : Type 0 where
   has_patron : (l.patron && is_blank t.patron) ≡ false
   has_item : (l.item && is_blank t.item) ≡ false
 
-tested : (l : Layout) (rest : List ℕ) (t : Texts) → has_bad_field l rest t ≡ false → lacks_field l t ≡ false → Tested l rest t
+tested : (l : FieldLayout) (rest : List ℕ) (t : Texts) → has_bad_field l rest t ≡ false → lacks_field l t ≡ false → Tested l rest t
 unfolding has_bad_field lacks_field
 tested l rest t fine there =
     let ids = (l.patron && is_longer 64 t.patron) || (l.item && is_longer 64 t.item) in
@@ -115,12 +115,12 @@ tested l rest t fine there =
       has_item = (or_parts (l.item && is_blank t.item) (l.amount && is_none t.amount) lacking.1).0;
     }
 
-amount_fits : (l : Layout) (t : Texts) → has_bad_amount l t ≡ false → l.amount ≡ true → is_none (option_and_then amount_of t.amount) ≡ false
+amount_fits : (l : FieldLayout) (t : Texts) → has_bad_amount l t ≡ false → l.amount ≡ true → is_none (option_and_then amount_of t.amount) ≡ false
 unfolding has_bad_amount
 amount_fits l t h uses = used l.amount (is_none (option_and_then amount_of t.amount)) uses h
 
 -- a message that passes the tests of its layout
-pub fits : (l : Layout) (rest : List ℕ) (t : Texts) → t ≡ texts (pieces rest) → has_bad_field l rest t ≡ false → lacks_field l t ≡ false → has_bad_amount l t ≡ false → Fits l t
+pub fits : (l : FieldLayout) (rest : List ℕ) (t : Texts) → t ≡ texts (pieces rest) → has_bad_field l rest t ≡ false → lacks_field l t ≡ false → has_bad_amount l t ≡ false → Fits l t
 fits l rest t e fine there spelt =
     let g = tested l rest t fine there in
     record {

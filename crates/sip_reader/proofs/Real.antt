@@ -39,7 +39,7 @@ is_number : (y m d : ℕ) → IsReal y m d → IsNumberOf (day_number y m d) y m
 unfolding day_number
 is_number y m d h = omega (arith, number_low (pos y) m d (first_of y m d h) (omega (arith, signed_arith, h.0.0)))
 
--- the day that these facts tell
+-- the day that these facts give
 pub day_at-some : (n y m d : ℕ) → IsReal y m d → IsNumberOf n y m d → day_at y m d ≡ Some n
 day_at-some n y m d real number = rw (is_real-true y m d real, number_is n y m d number) refl
 
@@ -51,7 +51,7 @@ day_at-none y m d not_real = by (is_real y m d) refl
     by true e = cc (not_real (is_real-fact y m d e))
     by false e = refl
 
--- the facts that a day tells
+-- the facts that a day gives
 pub day_at-facts : (n y m d : ℕ) → day_at y m d ≡ Some n → IsReal y m d × IsNumberOf n y m d
 day_at-facts n y m d is = by (is_real y m d) refl is
   where

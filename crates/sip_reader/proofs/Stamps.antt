@@ -48,7 +48,7 @@ all_digits (x ∷ xs) = ap₂ (λ a b. a && b) (twice (is_ascii_digit x)) (all_d
     twice true = refl
     twice false = refl
 
--- the eight in front of the zone, and the six behind it
+-- the eight digits before the zone, and the six after it
 pub first_eight : (s : List ℕ) (bits : ℕ) → bits ≡ other_bits s 0 8 → eqb bits 0 ≡ list_all is_ascii_digit (take 8 s)
 first_eight s bits is = ap (λ n. eqb n 0) is ∙ no_bit is_other (take 8 s) ∙ all_digits (take 8 s)
 
@@ -57,7 +57,7 @@ last_six s bits long is =
     ap (λ n. eqb n 0) is ∙ no_bit is_other (chunk 12 6 s) ∙ all_digits (chunk 12 6 s)
     ∙ ap (list_all is_ascii_digit) (take_all 6 (drop 12 s) (omega (arith, length-drop 12 s)))
 
--- ---- two digits in front of the zone, and two behind it
+-- ---- two digits before the zone, and two after it
 low : (b : ℕ) → is_ascii_digit b ≡ true → 48 ≤ b
 low b h = leb-true 48 b (and_parts (leb 48 b) (leb b 57) h).0
 
@@ -88,7 +88,7 @@ front_pair s i long digits small = (front s i long digits (omega arith), front s
 pub back_pair : (s : List ℕ) (i : ℕ) → length s ≡ 18 → has_digits s ≡ true → 12 ≤ i → i + 1 < 18 → ArePair s i
 back_pair s i long digits large small = (back s i long digits large (omega arith), back s (i + 1) long digits (omega arith) small)
 
--- two digits behind the zone spell less than 60 where the first is less than a 6
+-- two digits after the zone spell less than 60 where the first is less than a 6
 pub sixtieth : (s : List ℕ) (i : ℕ) → length s ≡ 18 → has_digits s ≡ true → 12 ≤ i → i + 1 < 18 → ltb (get_or s i 0) 54 ≡ ltb (two_at i s) 60
 sixtieth s i long digits behind within = by (ltb (get_or s i 0) 54) refl
   where

@@ -4,10 +4,10 @@ use Rattle.std.specs.Option.{is_none, option_and_then}
 use Rattle.sip_reader.specs.Amounts.{amount_of}
 use Rattle.sip_reader.specs.Fields.{Texts}
 use Rattle.sip_reader.specs.Texts.{is_id, is_text}
-use Rattle.sip_reader.specs.declared.kind.Layout.{Layout}
+use Rattle.sip_reader.specs.declared.kind.FieldLayout.{FieldLayout}
 
 -- each field that is used holds what it is used for
-pub record Fits (l : Layout) (t : Texts) : Type 0 where
+pub record Fits (l : FieldLayout) (t : Texts) : Type 0 where
   pub patron : l.patron ≡ true → is_id (unwrap_or t.patron []) ≡ true
   pub item : l.item ≡ true → is_id (unwrap_or t.item []) ≡ true
   pub properties : l.properties ≡ true → is_text (unwrap_or t.properties []) ≡ true

@@ -5,7 +5,7 @@ use Rattle.sip_reader.specs.Bytes as byte
 use Rattle.sip_reader.specs.Dates.{stamp_len}
 use Rattle.sip_reader.specs.declared.kind.Command.{Command}
 use Rattle.sip_reader.specs.declared.kind.Command.TheVariants.{Request, Passed}
-use Rattle.sip_reader.specs.declared.kind.Layout.{Layout}
+use Rattle.sip_reader.specs.declared.kind.FieldLayout.{FieldLayout}
 use Rattle.sip_reader.specs.declared.request.Kind.{Kind}
 use Rattle.sip_reader.specs.declared.request.Kind.TheVariants as kinds
 use Rattle.sip_reader.specs.declared.request.Passed.TheVariants as passed
@@ -36,7 +36,7 @@ unfoldable pub command_at : ℕ → ℕ → Option Command
 command_at a b = if is_ascii_digit a && is_ascii_digit b then command_numbered ((a - byte.zero) * 10 + (b - byte.zero)) else None
 
 -- The layouts: how many flags come before the transaction date, how many bytes after it, and which variable fields the rules use.
-abbrev pub layout_of : Kind → Layout
+abbrev pub layout_of : Kind → FieldLayout
 layout_of kinds.BlockPatron = record { flags = 1; hold_mode = false; after = 0; patron = true; item = false; amount = false; properties = false; pickup = false; title = false }
 layout_of kinds.Checkin = record { flags = 1; hold_mode = false; after = stamp_len; patron = false; item = true; amount = false; properties = false; pickup = false; title = false }
 layout_of kinds.Checkout = record { flags = 2; hold_mode = false; after = stamp_len; patron = true; item = true; amount = false; properties = false; pickup = false; title = false }

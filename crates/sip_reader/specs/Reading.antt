@@ -12,7 +12,7 @@ use Rattle.sip_reader.specs.Texts.{is_id, is_line_end}
 use Rattle.sip_reader.specs.declared.id.TheConstants.{ID_MAX}
 use Rattle.sip_reader.specs.declared.kind.Command.{Command}
 use Rattle.sip_reader.specs.declared.kind.Command.TheVariants as commands
-use Rattle.sip_reader.specs.declared.kind.Layout.{Layout}
+use Rattle.sip_reader.specs.declared.kind.FieldLayout.{FieldLayout}
 use Rattle.sip_reader.specs.declared.read.TheConstants.{MESSAGE_MAX}
 use Rattle.sip_reader.specs.declared.request.Act.{Act}
 use Rattle.sip_reader.specs.declared.request.Act.TheVariants as acts
@@ -31,16 +31,16 @@ unfoldable pub trimmed : List ℕ → List ℕ
 trimmed m = take (length m - suffix_len is_line_end m) m
 
 -- Of a message with this layout: its flags, its transaction date, the length of its fixed part, and what follows that.
-abbrev pub flags_at : Layout → List ℕ → List ℕ
+abbrev pub flags_at : FieldLayout → List ℕ → List ℕ
 flags_at l m = slice_range m 2 (2 + l.flags)
 
-abbrev pub date_at : Layout → List ℕ → List ℕ
+abbrev pub date_at : FieldLayout → List ℕ → List ℕ
 date_at l m = slice_range m (2 + l.flags) (2 + l.flags + stamp_len)
 
-abbrev pub fixed_len : Layout → ℕ
+abbrev pub fixed_len : FieldLayout → ℕ
 fixed_len l = 2 + l.flags + stamp_len + l.after
 
-abbrev pub rest_after : Layout → List ℕ → List ℕ
+abbrev pub rest_after : FieldLayout → List ℕ → List ℕ
 rest_after l m = drop (fixed_len l) m
 
 -- a flag is Y or N, a hold mode + or - or * (SIP 2.00, fixed-length fields)
@@ -50,7 +50,7 @@ is_yes_or_no b = (b == byte.Y) || (b == byte.N)
 abbrev pub is_hold_mode : ℕ → Bool
 is_hold_mode b = (b == byte.plus) || ((b == byte.hyphen) || (b == byte.star))
 
-unfoldable pub has_bad_flag : Layout → List ℕ → Bool
+unfoldable pub has_bad_flag : FieldLayout → List ℕ → Bool
 has_bad_flag l flags = not (if l.hold_mode then list_all is_hold_mode flags else list_all is_yes_or_no flags)
 
 -- a text of more bytes than these
@@ -62,22 +62,22 @@ abbrev pub is_blank : Option (List ℕ) → Bool
 is_blank text = length (unwrap_or text []) == 0
 
 -- a CR or LF, a piece of one byte, or a field that is used and too long
-unfoldable pub has_bad_field : Layout → List ℕ → Texts → Bool
+unfoldable pub has_bad_field : FieldLayout → List ℕ → Texts → Bool
 has_bad_field l rest t =
     (list_any is_line_end rest || t.short)
     || (((l.patron && is_longer ID_MAX t.patron) || (l.item && is_longer ID_MAX t.item))
     || ((l.properties && is_longer TEXT_MAX t.properties) || (l.pickup && is_longer TEXT_MAX t.pickup)))
 
 -- a title where the item's id should be
-unfoldable pub names_title : Layout → Texts → Bool
+unfoldable pub names_title : FieldLayout → Texts → Bool
 names_title l t = l.title && (is_blank t.item && not (is_blank t.title))
 
 -- a required id that is missing or empty, or a required amount that is missing
-unfoldable pub lacks_field : Layout → Texts → Bool
+unfoldable pub lacks_field : FieldLayout → Texts → Bool
 lacks_field l t = (l.patron && is_blank t.patron) || ((l.item && is_blank t.item) || (l.amount && is_none t.amount))
 
 -- a required amount that isn't one
-unfoldable pub has_bad_amount : Layout → Texts → Bool
+unfoldable pub has_bad_amount : FieldLayout → Texts → Bool
 has_bad_amount l t = l.amount && is_none (option_and_then amount_of t.amount)
 
 -- a yes is Y, all else no (the profile of this project)
@@ -152,7 +152,7 @@ act_of kinds.FeePaid m t = acts.FeePaid (record {
 act_of kinds.RenewAll m t = acts.RenewAll (record { patron = unwrap_or t.patron []; agreed = says_yes t.agreed })
 
 -- of a request of a kind, by its layout and its fields
-unfoldable pub reading_by : Option ℕ → Kind → Layout → List ℕ → Texts → Reading
+unfoldable pub reading_by : Option ℕ → Kind → FieldLayout → List ℕ → Texts → Reading
 reading_by s k l m t =
     if nat_lt (length m) (fixed_len l) then Unread why.TooShort
     else if not (is_stamp (date_at l m)) then Unread why.BadDate

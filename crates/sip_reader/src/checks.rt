@@ -10,7 +10,7 @@ ghost use Rattle.sip_reader.specs.Texts.{is_line_end};
 ghost use Rattle.sip_reader.specs.Views.{texts_behind};
 
 use crate::fields::Fields;
-use crate::kind::Layout;
+use crate::kind::FieldLayout;
 use crate::{Amount, ID_MAX, TEXT_MAX};
 use std::simd::prelude::*;
 
@@ -19,7 +19,7 @@ pub(crate) const BLOCK: usize = 16;
 
 /// Whether a flag isn't one.
 #[tactic(auto, unfolding(crate::specs::Reading::has_bad_flag))]
-pub fn is_bad_flag(layout: &Layout, flags: &[u8]) -> bool
+pub fn is_bad_flag(layout: &FieldLayout, flags: &[u8]) -> bool
     ensures { result ≡ has_bad_flag layout.now flags.now }
 {
     if layout.hold_mode {
@@ -43,7 +43,7 @@ fn are_hold_modes(flags: &[u8]) -> bool
 
 /// Whether the variable part has a CR or LF, a piece of one byte, or a field that is used and too long.
 #[tactic(auto, unfolding(crate::specs::Reading::has_bad_field))]
-pub fn is_bad_field(layout: &Layout, rest: &[u8], fields: &Fields<'_>) -> bool
+pub fn is_bad_field(layout: &FieldLayout, rest: &[u8], fields: &Fields<'_>) -> bool
     ensures { result ≡ has_bad_field layout.now rest.now (texts_behind fields.now) }
 {
     has_line_end(rest)
@@ -106,7 +106,7 @@ fn is_missing_or_empty(text: Option<&[u8]>) -> bool
 
 /// Whether a title names the item, in place of its id.
 #[tactic(auto, unfolding(crate::specs::Reading::names_title))]
-pub fn is_by_title(layout: &Layout, fields: &Fields<'_>) -> bool
+pub fn is_by_title(layout: &FieldLayout, fields: &Fields<'_>) -> bool
     ensures { result ≡ names_title layout.now (texts_behind fields.now) }
 {
     layout.title && is_missing_or_empty(fields.item) && !is_missing_or_empty(fields.title)
@@ -114,7 +114,7 @@ pub fn is_by_title(layout: &Layout, fields: &Fields<'_>) -> bool
 
 /// Whether a required id is missing or empty, or a required amount is missing.
 #[tactic(auto, unfolding(crate::specs::Reading::lacks_field))]
-pub fn is_lacking(layout: &Layout, fields: &Fields<'_>) -> bool
+pub fn is_lacking(layout: &FieldLayout, fields: &Fields<'_>) -> bool
     ensures { result ≡ lacks_field layout.now (texts_behind fields.now) }
 {
     layout.patron && is_missing_or_empty(fields.patron)
@@ -125,7 +125,7 @@ pub fn is_lacking(layout: &Layout, fields: &Fields<'_>) -> bool
 /// Whether a required amount isn't one. Inlined, since few requests have an amount.
 #[inline(always)]
 #[tactic(auto, unfolding(crate::specs::Reading::has_bad_amount))]
-pub fn is_bad_amount(layout: &Layout, fields: &Fields<'_>) -> bool
+pub fn is_bad_amount(layout: &FieldLayout, fields: &Fields<'_>) -> bool
     ensures { result ≡ has_bad_amount layout.now (texts_behind fields.now) }
 {
     layout.amount && amount_in(fields.amount).is_none()

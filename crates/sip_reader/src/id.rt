@@ -118,7 +118,7 @@ impl Id {
     }
 }
 
-/// Appends bytes for which there is room.
+/// Appends bytes that fit: with them there are at most `ID_MAX`.
 fn append(bytes: &mut ArrayVec<u8, ID_MAX>, more: &[u8])
     requires { length bytes.old.items + length more.now ≤ ID_MAX }
     ensures { bytes.new.items ≡ bytes.old.items ++ more.now }

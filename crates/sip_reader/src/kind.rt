@@ -55,7 +55,7 @@ impl Command {
 
 /// The fixed part of a request after its identifier, and which variable fields the rules use.
 #[derive(Clone, Copy)]
-pub struct Layout {
+pub struct FieldLayout {
     /// The number of flags before the date, each of one byte.
     pub flags: usize,
     /// Whether the flag is a hold mode; others are yes or no.
@@ -77,7 +77,7 @@ pub struct Layout {
 }
 
 /// A transaction date after the identifier and nothing else.
-const DATE_ALONE: Layout = Layout {
+const DATE_ALONE: FieldLayout = FieldLayout {
     flags: 0,
     hold_mode: false,
     after: 0,
@@ -90,19 +90,19 @@ const DATE_ALONE: Layout = Layout {
 };
 
 /// A patron's id after the date.
-const PATRON_ALONE: Layout = Layout {
+const PATRON_ALONE: FieldLayout = FieldLayout {
     patron: true,
     ..DATE_ALONE
 };
 
 /// One flag, and a patron's id.
-const BLOCK_PATRON: Layout = Layout {
+const BLOCK_PATRON: FieldLayout = FieldLayout {
     flags: 1,
     ..PATRON_ALONE
 };
 
 /// One flag and a return date, and an item's id.
-const CHECKIN: Layout = Layout {
+const CHECKIN: FieldLayout = FieldLayout {
     flags: 1,
     after: STAMP_LEN,
     item: true,
@@ -110,7 +110,7 @@ const CHECKIN: Layout = Layout {
 };
 
 /// Two flags and a no block due date, a patron's id and an item's.
-const CHECKOUT: Layout = Layout {
+const CHECKOUT: FieldLayout = FieldLayout {
     flags: 2,
     after: STAMP_LEN,
     patron: true,
@@ -119,13 +119,13 @@ const CHECKOUT: Layout = Layout {
 };
 
 /// The same, where a title may name the item.
-const RENEW: Layout = Layout {
+const RENEW: FieldLayout = FieldLayout {
     title: true,
     ..CHECKOUT
 };
 
 /// A hold mode, a patron's id and an item's or its title, and where it is picked up.
-const HOLD: Layout = Layout {
+const HOLD: FieldLayout = FieldLayout {
     flags: 1,
     hold_mode: true,
     patron: true,
@@ -136,14 +136,14 @@ const HOLD: Layout = Layout {
 };
 
 /// An item's id and its properties.
-const ITEM_STATUS: Layout = Layout {
+const ITEM_STATUS: FieldLayout = FieldLayout {
     item: true,
     properties: true,
     ..DATE_ALONE
 };
 
 /// The types of fee, of payment and of currency, and a patron's id and an amount.
-const FEE_PAID: Layout = Layout {
+const FEE_PAID: FieldLayout = FieldLayout {
     after: 7,
     amount: true,
     ..PATRON_ALONE
@@ -151,7 +151,7 @@ const FEE_PAID: Layout = Layout {
 
 impl Kind {
     /// The layout of its requests.
-    pub fn layout(self) -> Layout
+    pub fn layout(self) -> FieldLayout
         ensures { result ≡ layout_of self }
     {
         match self {

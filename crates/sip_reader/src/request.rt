@@ -266,7 +266,7 @@ pub enum HoldMode {
     Change,
 }
 
-/// A patron's place in an item's queue is made, taken away or changed (SIP 2.00, Hold).
+/// A patron's place in an item's queue is added, removed or changed (SIP 2.00, Hold).
 pub struct HoldRequest {
     pub mode: HoldMode,
     pub patron: Id,
@@ -302,7 +302,7 @@ impl Drop for ItemStatus {
     }
 }
 
-/// A patron's block is taken away (SIP 2.00, Patron Enable).
+/// A patron's block is removed (SIP 2.00, Patron Enable).
 pub struct PatronEnable {
     pub patron: Id,
 }

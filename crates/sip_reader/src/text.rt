@@ -20,7 +20,7 @@ const BLOCK_MAX: usize = 32;
 
 /// A text of a record or a message: at most 1,024 bytes without a bar, CR or LF.
 pub struct Text {
-    held: Held,
+    held: TextBytes,
 }
 
 impl Drop for Text {
@@ -30,7 +30,7 @@ impl Drop for Text {
 }
 
 /// Where the bytes of a text are.
-enum Held {
+enum TextBytes {
     /// Inline, as those of most ids.
     Inline(Inline),
     /// In a block of memory that it shares with its clones, as those of most titles.
@@ -39,12 +39,12 @@ enum Held {
     Many(ArcSlice<u8>),
 }
 
-impl Drop for Held {
+impl Drop for TextBytes {
     fn drop(self) {
         match self {
-            Held::Inline(_) => {}
-            Held::Block(_) => {}
-            Held::Many(_) => {}
+            TextBytes::Inline(_) => {}
+            TextBytes::Block(_) => {}
+            TextBytes::Many(_) => {}
         }
     }
 }
@@ -67,7 +67,7 @@ impl Text {
         requires { is_text bytes.now ≡ true }
         ensures { IfOk result (λ t. t ≡ bytes.now) }
     {
-        let held = Held::of(alloc, bytes)?;
+        let held = TextBytes::of(alloc, bytes)?;
         Ok(Text { held })
     }
 
@@ -123,8 +123,8 @@ impl Text {
         ensures { IfSome result (λ inline. inline.now ≡ self.now) }
     {
         match &self.held {
-            Held::Inline(inline) => Some(inline),
-            Held::Block(_) | Held::Many(_) => None,
+            TextBytes::Inline(inline) => Some(inline),
+            TextBytes::Block(_) | TextBytes::Many(_) => None,
         }
     }
 }
@@ -141,34 +141,34 @@ impl Clone for Text {
     }
 }
 
-impl Held {
-    fn of(alloc: Global, bytes: &[u8]) -> Result<Held, AllocError>
+impl TextBytes {
+    fn of(alloc: Global, bytes: &[u8]) -> Result<TextBytes, AllocError>
         ensures { IfOk result (λ held. bytes_held held ≡ bytes.now) }
     {
         if bytes.len() <= INLINE_MAX {
-            return Ok(Held::Inline(Inline::of(bytes)));
+            return Ok(TextBytes::Inline(Inline::of(bytes)));
         }
-        Held::of_more(alloc, bytes)
+        TextBytes::of_more(alloc, bytes)
     }
 
     /// Bytes that take memory.
     #[inline(never)]
-    fn of_more(alloc: Global, bytes: &[u8]) -> Result<Held, AllocError>
+    fn of_more(alloc: Global, bytes: &[u8]) -> Result<TextBytes, AllocError>
         ensures { IfOk result (λ held. bytes_held held ≡ bytes.now) }
     {
         if let Ok(block) = ArrayVec::try_from(bytes) {
-            return Held::block(alloc, block);
+            return TextBytes::block(alloc, block);
         }
         let bytes = ArcSlice::from_slice(alloc, bytes)?;
-        Ok(Held::Many(bytes))
+        Ok(TextBytes::Many(bytes))
     }
 
     /// Bytes that one block of memory holds.
-    fn block(alloc: Global, bytes: ArrayVec<u8, BLOCK_MAX>) -> Result<Held, AllocError>
+    fn block(alloc: Global, bytes: ArrayVec<u8, BLOCK_MAX>) -> Result<TextBytes, AllocError>
         ensures { IfOk result (λ held. bytes_held held ≡ bytes.items) }
     {
         match Arc::new(alloc, bytes) {
-            Ok(block) => Ok(Held::Block(block)),
+            Ok(block) => Ok(TextBytes::Block(block)),
             Err(_) => Err(AllocError),
         }
     }
@@ -177,31 +177,31 @@ impl Held {
         ensures { result.now ≡ bytes_held self.now }
     {
         match self {
-            Held::Inline(inline) => inline.as_bytes(),
-            Held::Block(block) => Deref::deref(block).as_slice(),
-            Held::Many(bytes) => bytes.as_slice(),
+            TextBytes::Inline(inline) => inline.as_bytes(),
+            TextBytes::Block(block) => Deref::deref(block).as_slice(),
+            TextBytes::Many(bytes) => bytes.as_slice(),
         }
     }
 
     /// The same bytes. Most are inline, and this path copies those alone, so that the compiler copies two words.
-    fn copy(&self) -> Result<Held, AllocError>
+    fn copy(&self) -> Result<TextBytes, AllocError>
         ensures { IfOk result (λ held. bytes_held held ≡ bytes_held self.now) }
     {
-        if let Held::Inline(inline) = self {
-            return Ok(Held::Inline(*inline));
+        if let TextBytes::Inline(inline) = self {
+            return Ok(TextBytes::Inline(*inline));
         }
         self.copy_any()
     }
 
     /// The same, wherever they are.
     #[inline(never)]
-    fn copy_any(&self) -> Result<Held, AllocError>
+    fn copy_any(&self) -> Result<TextBytes, AllocError>
         ensures { IfOk result (λ held. bytes_held held ≡ bytes_held self.now) }
     {
         match self {
-            Held::Inline(inline) => Ok(Held::Inline(*inline)),
-            Held::Block(block) => Ok(Held::Block(Arc::try_clone(block)?)),
-            Held::Many(bytes) => Ok(Held::Many(bytes.clone()?)),
+            TextBytes::Inline(inline) => Ok(TextBytes::Inline(*inline)),
+            TextBytes::Block(block) => Ok(TextBytes::Block(Arc::try_clone(block)?)),
+            TextBytes::Many(bytes) => Ok(TextBytes::Many(bytes.clone()?)),
         }
     }
 }

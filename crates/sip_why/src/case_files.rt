@@ -1,70 +1,76 @@
 //! The folder of a test case.
 
 use crate::files::write_file;
-use crate::stop::Stop;
+use crate::stop::WhyError;
 use line_cases::LineCase;
+use replay_run::Tables;
 use std::rt::Files;
 use std::{fs, io};
 
-/// Writes a case into a folder of its own, which is named by the line's number and must not be there. It stands there only when it is whole.
+/// Writes a case into a folder of its own, which is named by the line's number and must not be there. It gets that name only when it is whole.
 pub fn write_case<R: Files + AllocGlobal>(
     rt: &R,
     folder: &str,
     number: u64,
     case: &LineCase,
-) -> Result<(), Stop> {
-    let alloc = rt.alloc();
-    let place = format!(in alloc; "{folder}/{number}")?;
-    let part = format!(in alloc; "{folder}/{number}.part")?;
-    refuse_existing(rt, place.as_str())?;
-    refuse_existing(rt, part.as_str())?;
-    match write_whole(rt, part.as_str(), place.as_str(), case) {
+) -> Result<(), WhyError> {
+    let place = format!(in rt.alloc(); "{folder}/{number}")?;
+    write_at(rt, place.as_str(), case)
+}
+
+/// Writes a folder beside its place, and gives it its name when it is whole.
+fn write_at<R: Files + AllocGlobal>(rt: &R, place: &str, case: &LineCase) -> Result<(), WhyError> {
+    let part = format!(in rt.alloc(); "{place}.part")?;
+    let part = part.as_str();
+    refuse_existing(rt, place)?;
+    refuse_existing(rt, part)?;
+    match write_whole(rt, part, place, case) {
         Ok(()) => Ok(()),
         Err(stop) => {
-            let _ = fs::remove_dir_all(rt, part.as_str());
+            let _ = fs::remove_dir_all(rt, part);
             Err(stop)
         }
     }
 }
 
 /// Nothing is written over.
-fn refuse_existing<R: Files + AllocGlobal>(rt: &R, path: &str) -> Result<(), Stop> {
+fn refuse_existing<R: Files + AllocGlobal>(rt: &R, path: &str) -> Result<(), WhyError> {
     match fs::exists(rt, path) {
         Ok(false) => Ok(()),
-        Ok(true) => Err(Stop::there_already(rt.alloc(), path)),
-        Err(error) => Err(Stop::of_file(rt.alloc(), &error, path)),
+        Ok(true) => Err(WhyError::there_already(rt.alloc(), path)),
+        Err(error) => Err(WhyError::of_file(rt.alloc(), &error, path)),
     }
 }
 
-/// Writes a folder beside its place, and gives it its name when it is whole.
 fn write_whole<R: Files + AllocGlobal>(
     rt: &R,
     part: &str,
     place: &str,
     case: &LineCase,
-) -> Result<(), Stop> {
-    let alloc = rt.alloc();
-    let base = format!(in alloc; "{part}/base")?;
-    let expected = format!(in alloc; "{part}/expected")?;
-    for path in [part, base.as_str(), expected.as_str()] {
-        done(rt, fs::create_dir(rt, path), path)?;
-    }
+) -> Result<(), WhyError> {
+    done(rt, fs::create_dir(rt, part), part)?;
+    make_in(rt, part, "base")?;
+    make_in(rt, part, "expected")?;
     write_in(rt, part, "policy.toml", &case.inputs.policy)?;
     write_in(rt, part, "journal.csv", &case.inputs.journal)?;
-    write_in(rt, expected.as_str(), "answers.csv", &case.answers)?;
-    write_base(rt, base.as_str(), case)?;
+    write_in(rt, part, "expected/answers.csv", &case.answers)?;
+    write_base(rt, part, &case.inputs.tables)?;
     done(rt, fs::rename(rt, part, place), place)
 }
 
 /// Writes the six tables.
-fn write_base<R: Files + AllocGlobal>(rt: &R, folder: &str, case: &LineCase) -> Result<(), Stop> {
-    let tables = &case.inputs.tables;
-    write_in(rt, folder, "patrons.csv", &tables.patrons)?;
-    write_in(rt, folder, "items.csv", &tables.items)?;
-    write_in(rt, folder, "loans.csv", &tables.loans)?;
-    write_in(rt, folder, "fees.csv", &tables.fees)?;
-    write_in(rt, folder, "closed.csv", &tables.closed)?;
-    write_in(rt, folder, "holds.csv", &tables.holds)
+fn write_base<R: Files + AllocGlobal>(rt: &R, part: &str, tables: &Tables) -> Result<(), WhyError> {
+    write_in(rt, part, "base/patrons.csv", &tables.patrons)?;
+    write_in(rt, part, "base/items.csv", &tables.items)?;
+    write_in(rt, part, "base/loans.csv", &tables.loans)?;
+    write_in(rt, part, "base/fees.csv", &tables.fees)?;
+    write_in(rt, part, "base/closed.csv", &tables.closed)?;
+    write_in(rt, part, "base/holds.csv", &tables.holds)
+}
+
+fn make_in<R: Files + AllocGlobal>(rt: &R, folder: &str, name: &str) -> Result<(), WhyError> {
+    let path = format!(in rt.alloc(); "{folder}/{name}")?;
+    done(rt, fs::create_dir(rt, path.as_str()), path.as_str())
 }
 
 fn write_in<R: Files + AllocGlobal>(
@@ -72,15 +78,15 @@ fn write_in<R: Files + AllocGlobal>(
     folder: &str,
     name: &str,
     text: &[u8],
-) -> Result<(), Stop> {
+) -> Result<(), WhyError> {
     let path = format!(in rt.alloc(); "{folder}/{name}")?;
     write_file(rt, path.as_str(), text)
 }
 
 /// What the system did, or the stop of the path that it is about.
-fn done<R: AllocGlobal>(rt: &R, outcome: io::Result<()>, path: &str) -> Result<(), Stop> {
+fn done<R: AllocGlobal>(rt: &R, outcome: io::Result<()>, path: &str) -> Result<(), WhyError> {
     match outcome {
         Ok(()) => Ok(()),
-        Err(error) => Err(Stop::of_file(rt.alloc(), &error, path)),
+        Err(error) => Err(WhyError::of_file(rt.alloc(), &error, path)),
     }
 }

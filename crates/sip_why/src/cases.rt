@@ -1,14 +1,13 @@
 //! The test cases of lines.
 
 use crate::case_files::write_case;
-use crate::prepared::Prepared;
 use crate::run::reach;
-use crate::stop::{REFUSED, Stop, WHOLE};
+use crate::stop::{REFUSED, WHOLE, WhyError};
 use crate::wanted::line_of;
 use journal_table::Line;
 use line_cases::{LineCase, line_case};
 use line_origins::Tracer;
-use replay_run::Inputs;
+use replay_run::{Inputs, Prepared};
 use std::alloc::{AllocError, Global};
 use std::io::Write;
 use std::rt::Files;
@@ -22,7 +21,7 @@ pub fn write_cases<R: Files + AllocGlobal, E: Write>(
     prepared: &Prepared<'_>,
     wanted: &[u64],
     err: &mut E,
-) -> Result<u8, Stop> {
+) -> Result<u8, WhyError> {
     let alloc = rt.alloc();
     let mut tracer = Tracer::new(alloc, &prepared.plan)?;
     let mut status = WHOLE;
@@ -31,24 +30,42 @@ pub fn write_cases<R: Files + AllocGlobal, E: Write>(
             continue;
         };
         tracer = reach(alloc, tracer, number)?;
-        if tracer.see(alloc)?.answer.is_none() {
-            continue;
-        }
-        match case_at(alloc, inputs, &tracer, line)? {
-            Some(case) => write_case(rt, folder, number, &case)?,
-            None => {
-                let _ = writeln!(
-                    err,
-                    "error: line {number} gives no case: alone it is answered otherwise"
-                );
-                status = REFUSED;
-            }
+        if !write_line(rt, folder, inputs, &tracer, line)? {
+            let _ = writeln!(
+                err,
+                "error: line {number} gives no case: alone it is answered otherwise"
+            );
+            status = REFUSED;
         }
     }
     Ok(status)
 }
 
-/// The case of the line before which a replay stands.
+/// Writes the case of the line that a replay is before, where it has an answer. Whether nothing was wrong with that.
+fn write_line<R: Files + AllocGlobal>(
+    rt: &R,
+    folder: &str,
+    inputs: &Inputs,
+    tracer: &Tracer<'_>,
+    line: &Line<'_>,
+) -> Result<bool, WhyError> {
+    if !has_answer(rt.alloc(), tracer)? {
+        return Ok(true);
+    }
+    match case_at(rt.alloc(), inputs, tracer, line)? {
+        Some(case) => {
+            write_case(rt, folder, line.number(), &case)?;
+            Ok(true)
+        }
+        None => Ok(false),
+    }
+}
+
+fn has_answer(alloc: Global, tracer: &Tracer<'_>) -> Result<bool, AllocError> {
+    Ok(tracer.see(alloc)?.answer.is_some())
+}
+
+/// The case of the line that a replay is before.
 fn case_at(
     alloc: Global,
     inputs: &Inputs,

@@ -1,11 +1,13 @@
 //! What to change in the live system: one JSON object a line for each record that isn't as it was.
 
 use crate::files::read_tables;
-use crate::stop::Stop;
-use circ_records::{Tables, write_records};
-use line_origins::Tracer;
+use crate::stop::WhyError;
+use circ_records::Records;
+use line_origins::{TraceEnd, Tracer};
 use read_set::Plan;
-use record_changes::{change_text, changes};
+use record_changes::{Change, change_text, changes};
+use record_tables::{Tables, write_records};
+use std::alloc::{AllocError, Global};
 use std::rt::Files;
 
 /// The text of the changes from the base to the records after the last line. The tables of a folder must be these.
@@ -13,22 +15,31 @@ pub fn changes_text<R: Files + AllocGlobal>(
     rt: &R,
     plan: &Plan,
     folder: &str,
-) -> Result<Vec<u8>, Stop> {
+) -> Result<Vec<u8>, WhyError> {
     let alloc = rt.alloc();
-    let base = Tracer::new(alloc, plan)?.into_end(alloc)?;
-    let tracer = Tracer::new(alloc, plan)?.pass_to(alloc, plan.numbers().end)?;
-    let end = tracer.into_end(alloc)?;
-    let told = read_tables(rt, folder)?;
-    if !are_same(&told, &write_records(alloc, &end.records)?) {
-        return Err(Stop::refused(alloc, "not the tables of a run of this journal:", folder));
+    let end = Tracer::new(alloc, plan)?
+        .pass_to(alloc, plan.numbers().end)?
+        .into_end(alloc)?;
+    check_tables(rt, folder, &end.records)?;
+    Ok(text_from_base(alloc, plan, &end)?)
+}
+
+/// Refuses a folder whose tables aren't these records.
+fn check_tables<R: Files + AllocGlobal>(
+    rt: &R,
+    folder: &str,
+    records: &Records,
+) -> Result<(), WhyError> {
+    let given = read_tables(rt, folder)?;
+    if are_same(&given, &write_records(rt.alloc(), records)?) {
+        Ok(())
+    } else {
+        Err(WhyError::refused(
+            rt.alloc(),
+            "not the tables of a run of this journal:",
+            folder,
+        ))
     }
-    let mut out = Vec::new(alloc);
-    for change in &changes(alloc, &base.records, &end.records)? {
-        let text = change_text(alloc, end.writer(&change.key), change)?;
-        out.extend_from_slice(text.as_bytes())?;
-        out.push(b'\n')?;
-    }
-    Ok(out)
 }
 
 fn are_same(a: &Tables, b: &Tables) -> bool {
@@ -39,4 +50,26 @@ fn are_same(a: &Tables, b: &Tables) -> bool {
         && a.fees == b.fees
         && a.closed == b.closed
         && holds
+}
+
+/// The changes from the base to an end, a line for each.
+fn text_from_base(alloc: Global, plan: &Plan, end: &TraceEnd) -> Result<Vec<u8>, AllocError> {
+    let base = Tracer::new(alloc, plan)?.into_end(alloc)?;
+    let mut text = Vec::new(alloc);
+    for change in &changes(alloc, &base.records, &end.records)? {
+        add_change(alloc, end, change, &mut text)?;
+    }
+    Ok(text)
+}
+
+fn add_change(
+    alloc: Global,
+    end: &TraceEnd,
+    change: &Change,
+    text: &mut Vec<u8>,
+) -> Result<(), AllocError> {
+    let line = change_text(alloc, end.writer(&change.key), change)?;
+    text.extend_from_slice(line.as_bytes())?;
+    text.push(b'\n')?;
+    Ok(())
 }

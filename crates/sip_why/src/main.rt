@@ -1,19 +1,16 @@
-//! The program `sip_why`: why the answers of a journal are what they are, since when each record stood so, and what to do about it. What is
-//! computed stands in `line_origins` and below; here are the words of the command line and the files.
+//! The program `sip_why`: why the answers of a journal are what they are, since when each record has been so, and what to do about it.
+//! `command_line` reads its words, and `line_origins` and the crates that it uses compute; here are the files and what is written.
 #![tactic(auto)]
 
 mod case_files;
 mod cases;
 mod changes;
-mod chosen;
-mod command_line;
 mod files;
-mod prepared;
 mod run;
 mod stop;
 mod wanted;
 
-use crate::stop::Stop;
+use crate::stop::WhyError;
 use std::env::Env;
 use std::process::ExitCode;
 use std::{env, io};
@@ -23,7 +20,7 @@ fn main(rt: HostRuntime) -> ExitCode {
     let mut err = rt.stderr();
     match words(&rt) {
         Ok(words) => ExitCode::from(run::run(&rt, words.as_slice(), &mut out, &mut err)),
-        Err(error) => ExitCode::from(Stop::of_words(&error).tell(&mut err)),
+        Err(error) => ExitCode::from(WhyError::of_words(&error).tell(&mut err)),
     }
 }
 

@@ -1,11 +1,11 @@
-//! What ends a run before its end, and the status that tells it.
+//! What ends a run before its end, and the status that it gives.
 
 use replay_run::Fault;
 use std::alloc::{AllocError, AllocFailed, Global};
 use std::io;
 use std::io::Write;
 
-/// The status of a run that told all.
+/// The status of a run that did all that was wanted.
 pub const WHOLE: u8 = 0;
 
 /// The status of a command line, an input or a line that is refused.
@@ -16,101 +16,90 @@ pub const FAILED: u8 = 3;
 
 /// Why a run ends before its end.
 #[derive(Drop)]
-pub enum Stop {
+pub enum WhyError {
     /// Memory ran out.
     Memory,
-    /// `clap` refuses the words, or help is asked for.
-    Words(clap::Error),
     /// A word of the command line isn't text.
     NoText,
-    /// What is refused, and why.
+    /// The words of the command line or an input are refused: what is printed of them.
     Refused(String),
-    /// The policy, a table or the journal is refused.
-    Fault(Fault),
-    /// The file of this path can't be read or written.
+    /// A file can't be read or written: what is printed of it.
     File(String),
     /// Standard output takes nothing more.
     Output,
 }
 
-impl From<AllocError> for Stop {
-    fn from(_error: AllocError) -> Stop {
-        Stop::Memory
+impl From<AllocError> for WhyError {
+    fn from(_error: AllocError) -> WhyError {
+        WhyError::Memory
     }
 }
 
-impl<T: Drop> From<AllocFailed<T>> for Stop {
-    fn from(_error: AllocFailed<T>) -> Stop {
-        Stop::Memory
+impl<T: Drop> From<AllocFailed<T>> for WhyError {
+    fn from(_error: AllocFailed<T>) -> WhyError {
+        WhyError::Memory
     }
 }
 
-impl From<Fault> for Stop {
-    fn from(fault: Fault) -> Stop {
-        Stop::Fault(fault)
-    }
-}
-
-impl Stop {
+impl WhyError {
     /// The stop of words that the system gave with an error.
-    pub fn of_words(error: &io::Error) -> Stop {
+    pub fn of_words(error: &io::Error) -> WhyError {
         if error.kind() == io::ErrorKind::OutOfMemory {
-            Stop::Memory
+            WhyError::Memory
         } else {
-            Stop::NoText
+            WhyError::NoText
+        }
+    }
+
+    /// The stop of the first fault of the policy, the tables and the journal.
+    pub fn of_fault(alloc: Global, fault: &Fault) -> WhyError {
+        if let Fault::Memory = fault {
+            return WhyError::Memory;
+        }
+        let number = fault.number();
+        match format!(in alloc; "fault {number}: {fault}\n") {
+            Ok(text) => WhyError::Refused(text),
+            Err(_) => WhyError::Memory,
         }
     }
 
     /// The stop of a file that answered with an error. Where memory is what it lacked, the file isn't to blame.
-    pub fn of_file(alloc: Global, error: &io::Error, path: &str) -> Stop {
+    pub fn of_file(alloc: Global, error: &io::Error, path: &str) -> WhyError {
         if error.kind() == io::ErrorKind::OutOfMemory {
-            return Stop::Memory;
+            return WhyError::Memory;
         }
-        match format!(in alloc; "{path}: {error}") {
-            Ok(text) => Stop::File(text),
-            Err(_) => Stop::Memory,
+        match format!(in alloc; "file: {path}: {error}\n") {
+            Ok(text) => WhyError::File(text),
+            Err(_) => WhyError::Memory,
         }
     }
 
-    /// The stop of a folder that is there, where one is to be made.
-    pub fn there_already(alloc: Global, path: &str) -> Stop {
-        match format!(in alloc; "{path}: there is one already") {
-            Ok(text) => Stop::File(text),
-            Err(_) => Stop::Memory,
+    /// The stop of a folder that exists, where one is to be made.
+    pub fn there_already(alloc: Global, path: &str) -> WhyError {
+        match format!(in alloc; "file: {path}: there is one already\n") {
+            Ok(text) => WhyError::File(text),
+            Err(_) => WhyError::Memory,
         }
     }
 
     /// What is refused, and the word that is to blame.
-    pub fn refused(alloc: Global, what: &str, word: &str) -> Stop {
-        match format!(in alloc; "{what} {word}") {
-            Ok(text) => Stop::Refused(text),
-            Err(_) => Stop::Memory,
+    pub fn refused(alloc: Global, what: &str, word: &str) -> WhyError {
+        match format!(in alloc; "error: {what} {word}\n") {
+            Ok(text) => WhyError::Refused(text),
+            Err(_) => WhyError::Memory,
         }
     }
 
     /// Prints what stopped the run, and gives its status. A failed write to `err` changes no status.
     pub fn tell<E: Write>(&self, err: &mut E) -> u8 {
-        let _ = match self {
-            Stop::Memory => writeln!(err, "fault 10: memory"),
-            Stop::Words(error) => write!(err, "{error}"),
-            Stop::NoText => writeln!(err, "error: a word of the command line isn't text"),
-            Stop::Refused(text) => writeln!(err, "error: {text}"),
-            Stop::Fault(fault) => {
-                let number = fault.number();
-                writeln!(err, "fault {number}: {fault}")
-            }
-            Stop::File(text) => writeln!(err, "file: {text}"),
-            Stop::Output => writeln!(err, "error: standard output takes nothing more"),
+        let (status, text) = match self {
+            WhyError::Memory => (FAILED, "fault 10: memory\n"),
+            WhyError::NoText => (REFUSED, "error: a word of the command line isn't text\n"),
+            WhyError::Refused(text) => (REFUSED, text.as_str()),
+            WhyError::File(text) => (FAILED, text.as_str()),
+            WhyError::Output => (FAILED, "error: standard output takes nothing more\n"),
         };
-        self.status()
-    }
-
-    fn status(&self) -> u8 {
-        match self {
-            Stop::Words(_) | Stop::NoText | Stop::Refused(_) => REFUSED,
-            Stop::Fault(Fault::Memory) => FAILED,
-            Stop::Fault(_) => REFUSED,
-            Stop::Memory | Stop::File(_) | Stop::Output => FAILED,
-        }
+        let _ = err.write_all(text.as_bytes());
+        status
     }
 }

@@ -1,8 +1,7 @@
 //! The lines that are wanted.
 
-use crate::chosen::Options;
 use crate::files::read_file;
-use crate::stop::Stop;
+use crate::stop::WhyError;
 use csv::ByteRecord;
 use csv_table::{RowReader, TableError, column};
 use journal_table::{Journal, Line, number_of};
@@ -11,34 +10,54 @@ use std::rt::Files;
 
 const REPORT_HEADER: [&str; 3] = ["line", "connection", "fields"];
 
-/// The numbers of the lines that are wanted, rising, each once; and whether each answered line is, without a word said of the others.
+/// The numbers that words spell.
+pub fn numbers_of(alloc: Global, words: &[String]) -> Result<Vec<u64>, WhyError> {
+    let mut numbers = Vec::new(alloc);
+    for word in words {
+        match number_of(word.as_bytes()) {
+            Some(number) => numbers.push(number)?,
+            None => return Err(WhyError::refused(alloc, "no number of a line is", word.as_str())),
+        }
+    }
+    Ok(numbers)
+}
+
+/// The numbers of the lines that are wanted, rising, each once: these and those of a report. Nothing where there are neither, since then each answered
+/// line is wanted.
 pub fn wanted_lines<R: Files + AllocGlobal>(
     rt: &R,
-    options: &Options,
+    report: &Option<String>,
+    given: &[u64],
     journal: &Journal<'_>,
-) -> Result<Option<Vec<u64>>, Stop> {
-    let mut numbers = Vec::new(rt.alloc());
-    if let Some(path) = &options.report {
-        let text = read_file(rt, path.as_str())?;
-        lines_of_report(rt.alloc(), &text, journal, &mut numbers)?;
-    } else if options.lines.is_empty() {
-        return Ok(None);
-    }
-    for &number in &options.lines {
-        numbers.push(number)?;
+) -> Result<Option<Vec<u64>>, WhyError> {
+    let mut numbers = Vec::from_slice(rt.alloc(), given)?;
+    match report {
+        Some(path) => add_report(rt, path.as_str(), journal, &mut numbers)?,
+        None if given.is_empty() => return Ok(None),
+        None => {}
     }
     numbers.sort_unstable();
     numbers.dedup();
     Ok(Some(numbers))
 }
 
-/// The lines of a report. One that isn't of this journal is refused by its first line whose number or connection the journal lacks.
+/// Adds the lines of a report. One that isn't of this journal is refused by its first line whose number or connection the journal lacks.
+fn add_report<R: Files + AllocGlobal>(
+    rt: &R,
+    path: &str,
+    journal: &Journal<'_>,
+    numbers: &mut Vec<u64>,
+) -> Result<(), WhyError> {
+    let text = read_file(rt, path)?;
+    lines_of_report(rt.alloc(), &text, journal, numbers)
+}
+
 fn lines_of_report(
     alloc: Global,
     text: &[u8],
     journal: &Journal<'_>,
     numbers: &mut Vec<u64>,
-) -> Result<(), Stop> {
+) -> Result<(), WhyError> {
     let mut rows = match RowReader::under(alloc, &REPORT_HEADER, text) {
         Ok(rows) => rows,
         Err(error) => return Err(refused_table(alloc, error)),
@@ -46,7 +65,7 @@ fn lines_of_report(
     let mut row = ByteRecord::new(alloc);
     for _ in 0..u64::MAX {
         match rows.next(&mut row) {
-            Ok(true) => numbers.push(number_in(alloc, &row, journal)?)?,
+            Ok(true) => add_row(alloc, &row, journal, numbers)?,
             Ok(false) => break,
             Err(error) => return Err(refused_table(alloc, error)),
         }
@@ -54,37 +73,51 @@ fn lines_of_report(
     Ok(())
 }
 
-fn refused_table(alloc: Global, error: TableError) -> Stop {
+fn refused_table(alloc: Global, error: TableError) -> WhyError {
     match error {
-        TableError::Table => Stop::refused(
+        TableError::Table => WhyError::refused(
             alloc,
             "the report is no table with the columns",
             "line,connection,fields",
         ),
-        TableError::Memory => Stop::Memory,
+        TableError::Memory => WhyError::Memory,
     }
 }
 
-/// The number of a row of a report, where the journal has that line over that connection.
-fn number_in(alloc: Global, row: &ByteRecord, journal: &Journal<'_>) -> Result<u64, Stop> {
-    if let Some(number) = number_of(column(row, 0)) {
-        if let Some(line) = line_of(journal, number) {
-            if line.connection() == column(row, 1) {
-                return Ok(number);
-            }
-        }
+/// Adds the number of a row of a report, where the journal has that line over that connection.
+fn add_row(
+    alloc: Global,
+    row: &ByteRecord,
+    journal: &Journal<'_>,
+    numbers: &mut Vec<u64>,
+) -> Result<(), WhyError> {
+    match number_of(column(row, 0)) {
+        Some(number) if has_line(journal, number, column(row, 1)) => Ok(numbers.push(number)?),
+        _ => Err(other_journal(alloc, column(row, 0))),
     }
-    let text = String::from_utf8_lossy(alloc, column(row, 0))?;
-    Err(Stop::refused(
-        alloc,
-        "the report is of another journal: line",
-        text.as_str(),
-    ))
+}
+
+fn has_line(journal: &Journal<'_>, number: u64, connection: &[u8]) -> bool {
+    match line_of(journal, number) {
+        Some(line) => line.connection() == connection,
+        None => false,
+    }
+}
+
+/// The stop of a report whose line of this number the journal lacks.
+fn other_journal(alloc: Global, number: &[u8]) -> WhyError {
+    match String::from_utf8_lossy(alloc, number) {
+        Ok(text) => WhyError::refused(
+            alloc,
+            "the report is of another journal: line",
+            text.as_str(),
+        ),
+        Err(_) => WhyError::Memory,
+    }
 }
 
 /// The line of a number.
 pub fn line_of<'j, 't>(journal: &'j Journal<'t>, number: u64) -> Option<&'j Line<'t>> {
-    let first = journal.first()?;
-    let place = number.checked_sub(first)?;
+    let place = number.checked_sub(journal.first()?)?;
     journal.lines().get(place as usize)
 }

@@ -178,7 +178,7 @@ pub runs_there : (b : Board) (w : ℕ) (h p : Hand) → IsHand b w (Some h) → 
 runs_there b w h p hand none (there, inl run, attempt) = (hand, (p.line, notes_at b p.line, run))
 runs_there b w h p hand none (there, inr (last, is), attempt) = absurd (none p.line (notes_at b p.line) last is)
 
--- where the rule of a line comes to its end on its notes, the line has a version
+-- where the rule of a line ends on its notes, the line has a version
 has_version : (plan : Planned) (b : Board) (w n a : ℕ) (notes : List Note) (e : Effect) → InHand b w n a notes → stands_at plan n notes ≡ EndsIn e
     → HasVersion plan b w (record { line = n; attempt = a; reads = notes; writes = e.writes; answer = e.answer })
 has_version plan b w n a notes e hand ends = (n, a, notes, hand, refl, refl, refl, ends, λ M true. given_all (noted notes) plan n (Ok e) ends M (true-agrees notes M true))

@@ -37,7 +37,7 @@ abbrev pub Wants : Planned → Board → ℕ → Key → Type 0
 Wants plan b w k =
     (n : ℕ) × (a : ℕ) × (notes : List Note) × InHand b w n a notes × (stands_at plan n notes ≡ AsksFor k) × Wanted plan n (noted notes) k
 
--- The version of the line in hand: its number, its attempt, its notes, and what its rule comes to on them. So it settles.
+-- The version of the line in hand: its number, its attempt, its notes, and what its rule results in on them. So it settles.
 abbrev pub HasVersion : Planned → Board → ℕ → Contents → Type 0
 HasVersion plan b w v =
     (n : ℕ) × (a : ℕ) × (notes : List Note) × InHand b w n a notes
@@ -56,7 +56,7 @@ ToPublish plan b w v = HasLast b w v ⊎ (((u : Contents) → HasLast b w u → 
 abbrev pub Rests : Planned → Board → ℕ → Type 0
 Rests plan b w = HasNoLine b w ⊎ (((u : Contents) → HasLast b w u → ⊥) × (k : Key) × Wants plan b w k)
 
--- A look: at the wanted key for which the rule of the line in hand asks. It is idle where nothing is in hand, or the rule has come to its end.
+-- A look: at the wanted key for which the rule of the line in hand asks. It is idle where nothing is in hand, or the rule has ended.
 abbrev pub Looks : Planned → Board → ℕ → Reply → Board → Type 0
 Looks plan old w reply new =
     ((k : Key) × Wants plan old w k × Step plan old (Look w k) reply new)
@@ -100,7 +100,7 @@ abbrev pub WouldPlace : Planned → Board → ℕ → Type 0
 WouldPlace plan b w = (v : Contents) × HasLast b w v × IsVersion plan v × Grows plan b (Publish w v)
 
 -- Where a step can run out of memory: where the worker's line runs, a look and a publication ask what it needs, and to follow its rule
--- over what it has noted takes memory, whatever the rule comes to. Nothing else asks: a publication that is to go on takes memory
+-- over what it has noted takes memory, whatever the rule results in. Nothing else asks: a publication that is to go on takes memory
 -- just where it would place an entry, and a step for a line that is published in part or is being checked takes none.
 abbrev pub MayWant : Planned → Board → WorkerStep → Type 0
 MayWant plan b (steps.Look w) = HasRunning b w

@@ -25,7 +25,7 @@ use std::marker::Model;
 use version_store::Place;
 
 /// The lines of a plan while workers run them, and which of them a free worker chooses. Each call is one step of the
-/// board's rules; none looks at more lines than its own and those whose stamps it ends.
+/// board's rules; none looks at more lines than its own and those whose stamps it makes invalid.
 pub struct Board<'p, 't, J: PlanName> {
     pub(crate) lines: Lines<'p, 't, J>,
     ready: Ready,
@@ -81,7 +81,7 @@ impl<'p, 't, J: PlanName> Board<'p, 't, J> {
         })
     }
 
-    /// The plan. The board is one that steps of its rules lead to.
+    /// The plan. The contract also gives `Reached`, which holds of every board that steps of its rules lead to.
     pub fn plan(&self) -> &'p Plan
         ensures plan { result.now ≡ J.plan }
         ensures reached { Reached J.plan self.now }

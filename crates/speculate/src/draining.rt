@@ -1,4 +1,4 @@
-//! What workers have in hand, brought to its end.
+//! Finishing the lines that workers have in hand.
 
 ghost use Rattle.std.specs.Prelude.{◌≡◌, ◌<◌, IfErr, IfOk, OnErr, OnOk, Some};
 ghost use Rattle.board_steps.specs.Board.{holder, row_at};

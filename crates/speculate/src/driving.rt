@@ -25,7 +25,7 @@ use std::sync::Wait;
 use version_store::{Place, VersionTable};
 
 /// Commits each line that isn't committed, in the order of the journal, and each before the next begins. Worker 0 does it, once what
-/// the workers have in hand is brought to its end. Of a new board it runs each line once.
+/// the workers have in hand is finished. On a new board it runs each line once.
 pub fn drive_in_order<'t, J: PlanName + 'static, R: Wait>(
     rt: &R,
     alloc: Global,

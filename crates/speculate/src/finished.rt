@@ -8,7 +8,7 @@ use crate::board::Board;
 use read_set::{Plan, PlanName};
 use std::marker::Model;
 
-/// A board on which all lines are committed: what a replay has come to.
+/// A board on which all lines are committed: the outcome of a replay.
 pub struct Finished<'p, 't, J: PlanName> {
     pub(crate) board: Board<'p, 't, J>,
 }
@@ -64,7 +64,7 @@ impl<'p, 't, J: PlanName> Open<'p, 't, J> {
 }
 
 impl<'p, 't, J: PlanName> Board<'p, 't, J> {
-    /// What the replay has come to, where all lines are committed; else the board as it was, with the number of those
+    /// The outcome of the replay, where all lines are committed; else the board as it was, with the number of those
     /// that are.
     pub fn finish(self) -> Result<Finished<'p, 't, J>, Open<'p, 't, J>>
         ensures finished { IfOk result (λ finished. (finished ≡ self.entry) × IsWhole self.entry) }
@@ -84,7 +84,8 @@ impl<'p, 't, J: PlanName> Board<'p, 't, J> {
 }
 
 impl<'p, 't, J: PlanName> Finished<'p, 't, J> {
-    /// The plan. The board is one that steps of its rules lead to, and all its lines are committed.
+    /// The plan. The contract also gives `Reached`, which holds of every board that steps of its rules lead to, and that all lines are
+    /// committed.
     pub fn plan(&self) -> &'p Plan
         ensures plan { result.now ≡ J.plan }
         ensures reached { Reached J.plan self.now }

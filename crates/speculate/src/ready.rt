@@ -1,4 +1,4 @@
-//! Which lines wait, which need a check, and whose stamp counts.
+//! Which lines wait, which need a check, and which have a valid stamp.
 
 ghost use Rattle.std.specs.Prelude.{◌≡◌, ◌+◌, ◌<◌, ◌≤◌, ◌||◌, IfOk, length, slice_set};
 ghost use Rattle.journal_table.specs.declared.TheConstants.{LINE_LIMIT};
@@ -13,11 +13,11 @@ pub enum Mark {
     /// A worker has it in hand, or it is committed.
     Nowhere,
     Waiting,
-    /// It is done, and its last check is missing or counts no longer.
+    /// It is done, and was not checked yet, or its last check is no longer valid.
     Unchecked,
-    /// It is done, and the stamp of its last check counts: no line below has changed since.
+    /// It is done, and the stamp of its last check is valid: no line below has changed since.
     Checked,
-    /// It is being checked, and the stamp of that check counts so far.
+    /// It is being checked, and the stamp of that check is valid so far.
     Checking,
 }
 
@@ -103,7 +103,8 @@ impl Ready {
         put_flag(&mut self.checking, position, mark.is_in_check());
     }
 
-    /// The line at a position has changed: the stamps of the lines above it count no more. Each was given by a check, which pays for this.
+    /// The line at a position has changed: the stamps of the lines above it are no longer valid. Each of these stamps was
+    /// given by a check: so the number of checks bounds the work of all these calls.
     pub fn lose_above(&mut self, position: usize)
         requires { IsPosition self.old position }
         ensures { Loses self.old self.new position }

@@ -25,7 +25,7 @@ pub count-after : {A : Type 0} (bs : List ℕ) (m n : BTreeMap (Vec ℕ A) ℕ) 
     → (cs : List ℕ) → count_in n cs ≡ (if bytes_eq bs cs then w else count_in m cs)
 count-after bs m n w up cs = ap (λ (o : Option ℕ). unwrap_or o 0) (after bs m n (Some w) up cs) ∙ pick (bytes_eq bs cs) w (in_map m cs)
 
--- one taken off at a text
+-- one fewer at a text
 pub one-off : {A : Type 0} (bs : List ℕ) (m n : BTreeMap (Vec ℕ A) ℕ) (w : ℕ) → w ≡ count_in m bs - 1
     → UpdatesBy (λ (x y : Vec ℕ A). slice_cmp nat_cmp x.items y.items) (λ (k : Vec ℕ A). slice_cmp nat_cmp bs k.items) m n (Some w)
     → (cs : List ℕ) → count_in n cs ≡ (if bytes_eq bs cs then count_in m cs - 1 else count_in m cs)
@@ -90,7 +90,7 @@ still b o count is = elim (cases_Bool (nat_lt b o)) [
   | inr e ↦ let h : o ≤ b = ltb-false b o e in le-ltb 0 count (omega arith) ∙ sym e
 ]
 
--- what is left of a count tells whether a row is left over
+-- by what is left of a count a row is left over or not
 pub decided : (columns : List (List ℕ)) (xs others : List RowTexts) (x : RowTexts) (count : ℕ) → count ≡ copies columns (says columns x) others - copies columns (says columns x) xs
     → (if nat_lt 0 count then [] else x ∷ []) ≡ left_over columns xs others x
 decided columns xs others x count left = ap (λ (t : Bool). if t then [] else x ∷ []) (still (copies columns (says columns x) xs) (copies columns (says columns x) others) count left)

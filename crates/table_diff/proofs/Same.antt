@@ -9,7 +9,7 @@ use Rattle.std.proofs.lemmas.Slice.Eq.{bytes_eq-Decides}
 use Rattle.table_diff.specs.Rows.{RowTexts, alone, copies, each_from, left_over, named, nobody, says, surplus, value_at}
 use Rattle.table_diff.specs.Differences.{change_at, changes_to, changes_where, differences, lacking, only_in}
 use Rattle.table_diff.specs.Same.{HasEach, IsLike, IsSame}
-use Rattle.table_diff.specs.declared.differences.Side.TheVariants as side
+use Rattle.table_diff.specs.declared.differences.TableSide.TheVariants as side
 use Rattle.table_diff.proofs.Counts.{copies-push, copies-take}
 
 -- LISTS WITHOUT ELEMENTS

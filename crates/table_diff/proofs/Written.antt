@@ -7,7 +7,7 @@ use Rattle.csv.specs.Writing.{default_writer, row_text}
 use Rattle.csv_table.specs.Text.{Written, table_text, with_row}
 use Rattle.table_diff.specs.Differences.{changes_to, differences, lacking, only_in, with_rows}
 use Rattle.table_diff.specs.Rows.{RowTexts, alone, surplus}
-use Rattle.table_diff.specs.declared.differences.Side.TheVariants as side
+use Rattle.table_diff.specs.declared.differences.TableSide.TheVariants as side
 
 text-append : (xs ys : List (List (List ℕ))) → table_text (xs ++ ys) ≡ table_text xs ++ table_text ys
 text-append [] ys = refl

@@ -5,7 +5,7 @@ use Rattle.std.specs.BTreeMap.{BTreeMap, get_by}
 use Rattle.std.specs.Cmp.Lexicographic.{slice_cmp}
 use Rattle.std.specs.Ordering.{nat_cmp}
 use Rattle.table_diff.specs.Rows.{RowTexts, named}
-use Rattle.table_diff.specs.declared.names.Names.TheInside.{Inside}
+use Rattle.table_diff.specs.declared.names.ColumnNames.TheInside.{Inside}
 
 -- what a map has for a text
 abbrev pub in_map : {A X : Type 0} → BTreeMap (Vec ℕ A) X → List ℕ → Option X

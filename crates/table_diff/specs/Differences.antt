@@ -4,8 +4,8 @@ use Rattle.std.specs.List.{flat_map}
 use Rattle.std.specs.Str.{bytes_eq}
 use Rattle.csv_table.specs.Text.{Written, table_text}
 use Rattle.table_diff.specs.Rows.{RowTexts, alone, each, named, says, surplus, value_at}
-use Rattle.table_diff.specs.declared.differences.Side.{Side}
-use Rattle.table_diff.specs.declared.differences.Side.TheVariants as side
+use Rattle.table_diff.specs.declared.differences.TableSide.{TableSide}
+use Rattle.table_diff.specs.declared.differences.TableSide.TheVariants as side
 
 abbrev pub header : List (List ℕ)
 header = codes "table" ∷ codes "id" ∷ codes "column" ∷ codes "left" ∷ codes "right" ∷ []
@@ -28,11 +28,11 @@ abbrev pub changes_to : List ℕ → List (List ℕ) → List RowTexts → RowTe
 changes_to table columns right row = changes_where table columns row (named right row.name)
 
 -- a row that only one side has: its name, and what it says on that side
-abbrev pub one_sided : Side → List ℕ → List ℕ → List ℕ → List (List ℕ)
+abbrev pub one_sided : TableSide → List ℕ → List ℕ → List ℕ → List (List ℕ)
 one_sided side.Left table name text = table ∷ name ∷ codes "(row)" ∷ text ∷ [] ∷ []
 one_sided side.Right table name text = table ∷ name ∷ codes "(row)" ∷ [] ∷ text ∷ []
 
-abbrev pub only_in : Side → List ℕ → List (List ℕ) → RowTexts → List (List ℕ)
+abbrev pub only_in : TableSide → List ℕ → List (List ℕ) → RowTexts → List (List ℕ)
 only_in s table columns row = one_sided s table row.name (says columns row)
 
 -- the rows of one side that the other lacks. Where names are made by whoever keeps the table, a row whose name the other side

@@ -5,17 +5,17 @@ ghost use Rattle.std.specs.List.{flat_map};
 ghost use Rattle.csv_table.specs.Text.{bytes_of};
 ghost use Rattle.table_diff.specs.Differences.{change_at, changes, changes_to, changes_where, with_rows};
 
-use crate::names::Names;
-use crate::row::{Form, Row};
+use crate::names::ColumnNames;
+use crate::row::{DiffRow, TableForm};
 use csv_table::TableText;
 use std::alloc::AllocError;
 
 /// Writes each column in which a row of the left and the right's row of the same name differ.
 pub(crate) fn add_changes(
     out: &mut TableText,
-    form: &Form<'_>,
-    left: &[Row],
-    right: &Names<'_>,
+    form: &TableForm<'_>,
+    left: &[DiffRow],
+    right: &ColumnNames<'_>,
 ) -> Result<(), AllocError>
     requires { IfSome out.old (λ t. t.width ≡ 5) }
     ensures { OnOk result (out.new ≡ option_map (with_rows (flat_map (changes_to form.now.table.now (bytes_of form.now.columns.now) right.now) left.now)) out.old) }
@@ -29,9 +29,9 @@ pub(crate) fn add_changes(
 /// Writes each column in which a row and the other side's row of its name, where it has one, differ.
 fn add_changes_of(
     out: &mut TableText,
-    form: &Form<'_>,
-    left: &Row,
-    right: Option<&Row>,
+    form: &TableForm<'_>,
+    left: &DiffRow,
+    right: Option<&DiffRow>,
 ) -> Result<(), AllocError>
     requires { IfSome out.old (λ t. t.width ≡ 5) }
     ensures { OnOk result (out.new ≡ option_map (with_rows (changes_where form.now.table.now (bytes_of form.now.columns.now) left.now (option_map (λ r. r.now) right.entry))) out.old) }
@@ -45,9 +45,9 @@ fn add_changes_of(
 /// Writes each column in which two rows of one name differ.
 fn add_changes_between(
     out: &mut TableText,
-    form: &Form<'_>,
-    left: &Row,
-    right: &Row,
+    form: &TableForm<'_>,
+    left: &DiffRow,
+    right: &DiffRow,
 ) -> Result<(), AllocError>
     requires { IfSome out.old (λ t. t.width ≡ 5) }
     ensures { OnOk result (out.new ≡ option_map (with_rows (changes form.now.table.now (bytes_of form.now.columns.now) left.now right.now)) out.old) }
@@ -64,8 +64,8 @@ fn add_change(
     table: &str,
     column: &str,
     place: usize,
-    left: &Row,
-    right: &Row,
+    left: &DiffRow,
+    right: &DiffRow,
 ) -> Result<(), AllocError>
     requires { IfSome out.old (λ t. t.width ≡ 5) }
     ensures { OnOk result (out.new ≡ option_map (with_rows (change_at table.now left.now right.now place column.now)) out.old) }

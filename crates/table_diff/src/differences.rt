@@ -3,12 +3,12 @@
 ghost use Rattle.std.specs.Prelude.{◌≡◌, ◌⊎◌, [], Some, IfErr, IfOk, IfSome, OnOk, map, option_map};
 ghost use Rattle.csv_table.specs.Text.{bytes_of, text_of, with_row, written};
 ghost use Rattle.table_diff.specs.Rows.{HasDouble};
-ghost use Rattle.table_diff.specs.declared.names.Fault.TheVariants as faults;
+ghost use Rattle.table_diff.specs.declared.names.DiffFault.TheVariants as faults;
 ghost use Rattle.table_diff.specs.Differences.{differences, header, lacking, one_sided, only_in, with_rows};
 
 use crate::changes::add_changes;
-use crate::names::{Fault, Names, rows_alone};
-use crate::row::{Form, Row};
+use crate::names::{ColumnNames, DiffFault, rows_alone};
+use crate::row::{DiffRow, TableForm};
 use crate::surplus::rows_left_over;
 use csv_table::TableText;
 use std::alloc::{AllocError, Global};
@@ -17,7 +17,7 @@ use std::marker::Model;
 /// The columns of what is written.
 const HEADER: [&str; 5] = ["table", "id", "column", "left", "right"];
 
-/// What stands in place of a column where only one side has the row.
+/// What is written in place of a column where only one side has the row.
 const WHOLE_ROW: &[u8] = b"(row)";
 
 /// What the side that lacks the row says.
@@ -25,7 +25,7 @@ const NOTHING: &[u8] = b"";
 
 /// One of the two sides.
 #[derive(Clone, Copy)]
-pub enum Side {
+pub enum TableSide {
     Left,
     Right,
 }
@@ -66,10 +66,10 @@ impl Report {
     pub fn with(
         self,
         alloc: Global,
-        form: &Form<'_>,
-        left: &[Row],
-        right: &[Row],
-    ) -> Result<Report, Fault>
+        form: &TableForm<'_>,
+        left: &[DiffRow],
+        right: &[DiffRow],
+    ) -> Result<Report, DiffFault>
         ensures double { IfErr result (λ e. e ≡ faults.Double → HasDouble left.now ⊎ HasDouble right.now) }
         ensures ok { IfOk result (λ r. r ≡ option_map (with_rows (differences form.now.table.now (bytes_of form.now.columns.now) form.now.renamed left.now right.now)) self) }
     {
@@ -94,25 +94,32 @@ impl Report {
 fn add_differences(
     alloc: Global,
     out: &mut TableText,
-    form: &Form<'_>,
-    left: &[Row],
-    right: &[Row],
-) -> Result<(), Fault>
+    form: &TableForm<'_>,
+    left: &[DiffRow],
+    right: &[DiffRow],
+) -> Result<(), DiffFault>
     requires { IfSome out.old (λ t. t.width ≡ 5) }
     ensures ok { OnOk result (out.new ≡ option_map (with_rows (differences form.now.table.now (bytes_of form.now.columns.now) form.now.renamed left.now right.now)) out.old) }
     ensures double { IfErr result (λ e. e ≡ faults.Double → HasDouble left.now ⊎ HasDouble right.now) }
 {
-    let left_names = match Names::of(alloc, left) {
+    let left_names = match ColumnNames::of(alloc, left) {
         Ok(names) => names,
         Err(fault) => return Err(fault),
     };
-    let right_names = match Names::of(alloc, right) {
+    let right_names = match ColumnNames::of(alloc, right) {
         Ok(names) => names,
         Err(fault) => return Err(fault),
     };
     add_changes(out, form, left, &right_names)?;
-    add_side(alloc, out, form, Side::Left, &left_names, &right_names)?;
-    add_side(alloc, out, form, Side::Right, &right_names, &left_names)?;
+    add_side(alloc, out, form, TableSide::Left, &left_names, &right_names)?;
+    add_side(
+        alloc,
+        out,
+        form,
+        TableSide::Right,
+        &right_names,
+        &left_names,
+    )?;
     Ok(())
 }
 
@@ -120,10 +127,10 @@ fn add_differences(
 fn add_side(
     alloc: Global,
     out: &mut TableText,
-    form: &Form<'_>,
-    side: Side,
-    rows: &Names<'_>,
-    others: &Names<'_>,
+    form: &TableForm<'_>,
+    side: TableSide,
+    rows: &ColumnNames<'_>,
+    others: &ColumnNames<'_>,
 ) -> Result<(), AllocError>
     requires { IfSome out.old (λ t. t.width ≡ 5) }
     ensures { OnOk result (out.new ≡ option_map (with_rows (map (only_in side form.now.table.now (bytes_of form.now.columns.now)) (lacking (bytes_of form.now.columns.now) form.now.renamed rows.now others.now))) out.old) }
@@ -135,10 +142,10 @@ fn add_side(
 /// The rows of one side that the other lacks.
 fn rows_lacking<'a>(
     alloc: Global,
-    form: &Form<'_>,
-    rows: &Names<'a>,
-    others: &Names<'_>,
-) -> Result<Vec<&'a Row>, AllocError>
+    form: &TableForm<'_>,
+    rows: &ColumnNames<'a>,
+    others: &ColumnNames<'_>,
+) -> Result<Vec<&'a DiffRow>, AllocError>
     ensures { IfOk result (λ v. map (λ r. r.now) v.items ≡ lacking (bytes_of form.now.columns.now) form.now.renamed rows.now others.now) }
 {
     let alone = rows_alone(alloc, rows.rows(), others)?;
@@ -158,9 +165,9 @@ fn rows_lacking<'a>(
 fn add_rows(
     alloc: Global,
     out: &mut TableText,
-    form: &Form<'_>,
-    side: Side,
-    rows: &[&Row],
+    form: &TableForm<'_>,
+    side: TableSide,
+    rows: &[&DiffRow],
 ) -> Result<(), AllocError>
     requires { IfSome out.old (λ t. t.width ≡ 5) }
     ensures { OnOk result (out.new ≡ option_map (with_rows (map (only_in side form.now.table.now (bytes_of form.now.columns.now)) (map (λ r. r.now) rows.now))) out.old) }
@@ -175,9 +182,9 @@ fn add_rows(
 fn add_row(
     alloc: Global,
     out: &mut TableText,
-    form: &Form<'_>,
-    side: Side,
-    row: &Row,
+    form: &TableForm<'_>,
+    side: TableSide,
+    row: &DiffRow,
 ) -> Result<(), AllocError>
     requires { IfSome out.old (λ t. t.width ≡ 5) }
     ensures { OnOk result (out.new ≡ option_map (with_row (only_in side form.now.table.now (bytes_of form.now.columns.now) row.now)) out.old) }
@@ -190,7 +197,7 @@ fn add_row(
 fn add_one_sided(
     out: &mut TableText,
     table: &str,
-    side: Side,
+    side: TableSide,
     name: &[u8],
     text: &[u8],
 ) -> Result<(), AllocError>
@@ -198,7 +205,7 @@ fn add_one_sided(
     ensures { OnOk result (out.new ≡ option_map (with_row (one_sided side table.now name.now text.now)) out.old) }
 {
     match side {
-        Side::Left => out.row(&[table.as_bytes(), name, WHOLE_ROW, text, NOTHING]),
-        Side::Right => out.row(&[table.as_bytes(), name, WHOLE_ROW, NOTHING, text]),
+        TableSide::Left => out.row(&[table.as_bytes(), name, WHOLE_ROW, text, NOTHING]),
+        TableSide::Right => out.row(&[table.as_bytes(), name, WHOLE_ROW, NOTHING, text]),
     }
 }

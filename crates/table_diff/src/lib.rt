@@ -1,4 +1,4 @@
-//! The room where two folders of tables are compared: rows of one name against one another, and of what only one side has
+//! How two folders of tables are compared: rows of one name against one another, and of what only one side has
 //! which rows the other lacks. What differs becomes the rows of a table.
 #![tactic(auto)]
 
@@ -11,5 +11,5 @@ mod surplus;
 
 pub use differences::Report;
 pub use laws::lists_nothing_where_same;
-pub use names::Fault;
-pub use row::{Form, Row};
+pub use names::DiffFault;
+pub use row::{DiffRow, TableForm};

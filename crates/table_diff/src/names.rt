@@ -4,54 +4,54 @@ ghost use Rattle.std.specs.Prelude.{◌≡◌, ◌∷◌, ◌++◌, [], ℕ, Lis
 ghost use Rattle.std.specs.Str.{bytes_eq};
 ghost use Rattle.table_diff.specs.Devices.{in_map};
 ghost use Rattle.table_diff.specs.Rows.{HasDouble, alone, named};
-ghost use Rattle.table_diff.specs.declared.names.Fault.TheVariants as faults;
+ghost use Rattle.table_diff.specs.declared.names.DiffFault.TheVariants as faults;
 
-use crate::row::Row;
+use crate::row::DiffRow;
 use std::alloc::{AllocError, AllocFailed, Global};
 use std::collections::BTreeMap;
 use std::marker::Model;
 
 /// Why two sides aren't compared.
 #[derive(Clone, Copy, Debug, PartialEq, Eq)]
-pub enum Fault {
+pub enum DiffFault {
     /// Memory ran out.
     Memory,
     /// A row has the name of one before it.
     Double,
 }
 
-impl From<AllocError> for Fault {
+impl From<AllocError> for DiffFault {
     ghost from_gives = { λ e r. r ≡ faults.Memory };
 
-    fn from(_error: AllocError) -> Fault {
-        Fault::Memory
+    fn from(_error: AllocError) -> DiffFault {
+        DiffFault::Memory
     }
 }
 
-impl<T: Drop> From<AllocFailed<T>> for Fault {
+impl<T: Drop> From<AllocFailed<T>> for DiffFault {
     ghost from_gives = { λ e r. r ≡ faults.Memory };
 
-    fn from(_error: AllocFailed<T>) -> Fault {
-        Fault::Memory
+    fn from(_error: AllocFailed<T>) -> DiffFault {
+        DiffFault::Memory
     }
 }
 
 /// The rows of a side, each of which has a name of its own, and by their names.
-pub(crate) struct Names<'a> {
-    rows: &'a [Row],
-    by_name: BTreeMap<Vec<u8>, &'a Row>,
+pub(crate) struct ColumnNames<'a> {
+    rows: &'a [DiffRow],
+    by_name: BTreeMap<Vec<u8>, &'a DiffRow>,
 }
 
-impl Drop for Names<'_> {
+impl Drop for ColumnNames<'_> {
     fn drop(self) {
-        let Names {
+        let ColumnNames {
             rows: _,
             by_name: _,
         } = self;
     }
 }
 
-impl<'a> Model for Names<'a> {
+impl<'a> Model for ColumnNames<'a> {
     ghost use Rattle.std.specs.Prelude.{List};
     ghost use Rattle.table_diff.specs.Rows.{RowTexts};
 
@@ -64,9 +64,9 @@ impl<'a> Model for Names<'a> {
     ghost invariant = { IsByName };
 }
 
-impl<'a> Names<'a> {
+impl<'a> ColumnNames<'a> {
     /// The rows by their names.
-    pub(crate) fn of(alloc: Global, rows: &'a [Row]) -> Result<Names<'a>, Fault>
+    pub(crate) fn of(alloc: Global, rows: &'a [DiffRow]) -> Result<ColumnNames<'a>, DiffFault>
         ensures ok { IfOk result (λ names. names ≡ rows.now) }
         ensures double { IfErr result (λ e. e ≡ faults.Double → HasDouble rows.now) }
     {
@@ -77,18 +77,18 @@ impl<'a> Names<'a> {
                 Err(fault) => return Err(fault),
             }
         }
-        Ok(Names { rows, by_name })
+        Ok(ColumnNames { rows, by_name })
     }
 
     /// The rows.
-    pub(crate) fn rows(&self) -> &'a [Row]
+    pub(crate) fn rows(&self) -> &'a [DiffRow]
         ensures { result.now ≡ self.now }
     {
         self.rows
     }
 
     /// The row of a name.
-    pub(crate) fn find(&self, name: &[u8]) -> Option<&'a Row>
+    pub(crate) fn find(&self, name: &[u8]) -> Option<&'a DiffRow>
         ensures { option_map (λ r. r.now) result ≡ named self.now name.now }
     {
         self.by_name.get(name).copied()
@@ -105,9 +105,9 @@ impl<'a> Names<'a> {
 /// Puts a row under its name, which no other has.
 fn put_by_name<'a>(
     alloc: Global,
-    by_name: &mut BTreeMap<Vec<u8>, &'a Row>,
-    row: &'a Row,
-) -> Result<(), Fault>
+    by_name: &mut BTreeMap<Vec<u8>, &'a DiffRow>,
+    row: &'a DiffRow,
+) -> Result<(), DiffFault>
     ensures first { OnOk result (option_map (λ r. r.now) (in_map by_name.old row.now.name) ≡ None) }
     ensures double { IfErr result (λ e. e ≡ faults.Double → is_some (option_map (λ r. r.now) (in_map by_name.old row.now.name)) ≡ true) }
     ensures after { OnOk result ((name : List ℕ) → option_map (λ r. r.now) (in_map by_name.new name)
@@ -116,16 +116,16 @@ fn put_by_name<'a>(
     let name = Vec::from_slice(alloc, row.name())?;
     match by_name.insert(name, row)? {
         None => Ok(()),
-        Some(_) => Err(Fault::Double),
+        Some(_) => Err(DiffFault::Double),
     }
 }
 
 /// The rows whose names aren't among those of the other side.
 pub(crate) fn rows_alone<'a>(
     alloc: Global,
-    rows: &'a [Row],
-    others: &Names<'_>,
-) -> Result<Vec<&'a Row>, AllocError>
+    rows: &'a [DiffRow],
+    others: &ColumnNames<'_>,
+) -> Result<Vec<&'a DiffRow>, AllocError>
     ensures { IfOk result (λ v. map (λ r. r.now) v.items ≡ alone rows.now others.now) }
 {
     let mut found = Vec::new(alloc);
@@ -137,9 +137,9 @@ pub(crate) fn rows_alone<'a>(
 
 /// Adds a row whose name isn't among those of the other side.
 fn push_alone<'a>(
-    found: &mut Vec<&'a Row>,
-    row: &'a Row,
-    others: &Names<'_>,
+    found: &mut Vec<&'a DiffRow>,
+    row: &'a DiffRow,
+    others: &ColumnNames<'_>,
 ) -> Result<(), AllocError>
     ensures { OnOk result (map (λ r. r.now) found.new.items ≡ map (λ r. r.now) found.old.items ++ (if is_none (named others.now row.now.name) then row.now ∷ [] else [])) }
 {

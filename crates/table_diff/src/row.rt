@@ -9,7 +9,7 @@ use std::marker::Model;
 
 /// What is compared of a table.
 #[derive(Clone, Copy)]
-pub struct Form<'a> {
+pub struct TableForm<'a> {
     /// Its name.
     pub table: &'a str,
     /// The columns that are compared: all but those that make the name of a row.
@@ -20,18 +20,18 @@ pub struct Form<'a> {
 }
 
 /// A row: the name by which it is found again, and its values in the columns that are compared.
-pub struct Row {
+pub struct DiffRow {
     name: Vec<u8>,
     values: Vec<Vec<u8>>,
 }
 
-impl Drop for Row {
+impl Drop for DiffRow {
     fn drop(self) {
-        let Row { name: _, values: _ } = self;
+        let DiffRow { name: _, values: _ } = self;
     }
 }
 
-impl Model for Row {
+impl Model for DiffRow {
     ghost use Rattle.std.specs.Prelude.{map};
     ghost use Rattle.table_diff.specs.Rows.{RowTexts};
 
@@ -40,12 +40,12 @@ impl Model for Row {
     ghost view = { λ r. record { name = r.name.items; values = map (λ v. v.items) r.values.items } };
 }
 
-impl Row {
+impl DiffRow {
     /// The row of this name with these values.
-    pub fn new(name: Vec<u8>, values: Vec<Vec<u8>>) -> Row
+    pub fn new(name: Vec<u8>, values: Vec<Vec<u8>>) -> DiffRow
         ensures { result ≡ record { name = name.items; values = map (λ v. v.items) values.items } }
     {
-        Row { name, values }
+        DiffRow { name, values }
     }
 
     /// Its name.
@@ -78,7 +78,12 @@ impl Row {
 }
 
 /// Writes a column and its value at the end.
-fn push_piece(text: &mut Vec<u8>, column: &str, row: &Row, place: usize) -> Result<(), AllocError>
+fn push_piece(
+    text: &mut Vec<u8>,
+    column: &str,
+    row: &DiffRow,
+    place: usize,
+) -> Result<(), AllocError>
     ensures { OnOk result (text.new.items ≡ text.old.items ++ piece column.now (value_at place row.now)) }
 {
     text.extend_from_slice(column.as_bytes())?;

@@ -6,20 +6,20 @@ ghost use Rattle.csv_table.specs.Text.{bytes_of};
 ghost use Rattle.table_diff.specs.Rows.{copies, says, surplus};
 ghost use Rattle.table_diff.specs.Devices.{count_in};
 
-use crate::row::Row;
+use crate::row::DiffRow;
 use std::alloc::{AllocError, Global};
 use std::collections::BTreeMap;
 
 /// How many rows say a text.
-type Counts = BTreeMap<Vec<u8>, usize>;
+type RowCounts = BTreeMap<Vec<u8>, usize>;
 
 /// The rows of one side that the other has no copy of: each copy stands for one row.
 pub(crate) fn rows_left_over<'a>(
     alloc: Global,
     columns: &[&str],
-    rows: &[&'a Row],
-    others: &[&Row],
-) -> Result<Vec<&'a Row>, AllocError>
+    rows: &[&'a DiffRow],
+    others: &[&DiffRow],
+) -> Result<Vec<&'a DiffRow>, AllocError>
     ensures { IfOk result (λ v. map (λ r. r.now) v.items
         ≡ surplus (bytes_of columns.now) (map (λ r. r.now) rows.now) (map (λ r. r.now) others.now)) }
 {
@@ -31,13 +31,13 @@ pub(crate) fn rows_left_over<'a>(
     Ok(found)
 }
 
-/// Adds a row unless there is one left that says the same, which then is taken off the counts.
+/// Adds a row unless there is one left that says the same, which is then removed from the counts.
 fn push_left_over<'a>(
     alloc: Global,
-    found: &mut Vec<&'a Row>,
-    counts: &mut Counts,
+    found: &mut Vec<&'a DiffRow>,
+    counts: &mut RowCounts,
     columns: &[&str],
-    row: &'a Row,
+    row: &'a DiffRow,
 ) -> Result<(), AllocError>
     ensures found { OnOk result (map (λ r. r.now) found.new.items
         ≡ map (λ r. r.now) found.old.items ++ (if nat_lt 0 (count_in counts.old (says (bytes_of columns.now) row.now)) then [] else row.now ∷ [])) }
@@ -52,7 +52,7 @@ fn push_left_over<'a>(
 }
 
 /// How many of the rows say each text.
-fn counts_of(alloc: Global, columns: &[&str], rows: &[&Row]) -> Result<Counts, AllocError>
+fn counts_of(alloc: Global, columns: &[&str], rows: &[&DiffRow]) -> Result<RowCounts, AllocError>
     ensures { IfOk result (λ counts. (text : List ℕ) → count_in counts text ≡ copies (bytes_of columns.now) text (map (λ r. r.now) rows.now)) }
 {
     number_fits(rows);
@@ -64,7 +64,7 @@ fn counts_of(alloc: Global, columns: &[&str], rows: &[&Row]) -> Result<Counts, A
 }
 
 /// The rows are fewer than `usize` counts, as their number shows.
-fn number_fits(rows: &[&Row])
+fn number_fits(rows: &[&DiffRow])
     ensures { length rows.now < 2 ^ 64 }
 {
     let _count = rows.len();
@@ -73,9 +73,9 @@ fn number_fits(rows: &[&Row])
 /// Counts a row by what it says.
 fn count_row(
     alloc: Global,
-    counts: &mut Counts,
+    counts: &mut RowCounts,
     columns: &[&str],
-    row: &Row,
+    row: &DiffRow,
 ) -> Result<(), AllocError>
     requires { count_in counts.old (says (bytes_of columns.now) row.now) + 1 < 2 ^ 64 }
     ensures { OnOk result ((text : List ℕ) → count_in counts.new text
@@ -86,7 +86,7 @@ fn count_row(
 }
 
 /// Adds one to the count of a text.
-fn add_one(counts: &mut Counts, text: Vec<u8>) -> Result<(), AllocError>
+fn add_one(counts: &mut RowCounts, text: Vec<u8>) -> Result<(), AllocError>
     requires { count_in counts.old text.items + 1 < 2 ^ 64 }
     ensures { OnOk result ((t : List ℕ) → count_in counts.new t
         ≡ (if bytes_eq text.items t then count_in counts.old t + 1 else count_in counts.old t)) }
@@ -97,7 +97,7 @@ fn add_one(counts: &mut Counts, text: Vec<u8>) -> Result<(), AllocError>
 }
 
 /// Takes one off the count of a text, and says whether there was one.
-fn take_one(counts: &mut Counts, text: Vec<u8>) -> Result<bool, AllocError>
+fn take_one(counts: &mut RowCounts, text: Vec<u8>) -> Result<bool, AllocError>
     ensures taken { IfOk result (λ was. was ≡ nat_lt 0 (count_in counts.old text.items)) }
     ensures rest { IfOk result (λ _. (t : List ℕ) → count_in counts.new t
         ≡ (if bytes_eq text.items t then count_in counts.old t - 1 else count_in counts.old t)) }

@@ -7,14 +7,14 @@ use Rattle.std.proofs.lemmas.Bool.{eqb-true}
 use Rattle.std.proofs.lemmas.List.{append-nil, append_assoc}
 use Rattle.csv_table.specs.Rows.{rows_under}
 use Rattle.circ_policy.specs.Terms.{Terms}
-use Rattle.circ_records.specs.Base.{holds_rows_of, rows_of}
-use Rattle.circ_records.specs.Read.{AreTables, rows_in, some_rows}
-use Rattle.circ_records.specs.Tables.{Row, Rows, Texts, closed_header, fees_header, holds_header, items_header, loans_header, patrons_header, texts_of}
-use Rattle.circ_records.specs.declared.fault.BaseError.{BaseError}
-use Rattle.circ_records.specs.declared.tables.TableName.{TableName}
-use Rattle.circ_records.specs.declared.tables.TableName.TheVariants as table
-use Rattle.circ_records.specs.declared.tables.Tables.{Tables}
-use Rattle.circ_records.proofs.Reading.{holds-read}
+use Rattle.record_tables.specs.Base.{holds_rows_of, rows_of}
+use Rattle.record_tables.specs.Read.{AreTables, rows_in, some_rows}
+use Rattle.record_tables.specs.Tables.{Row, Rows, Texts, closed_header, fees_header, holds_header, items_header, loans_header, patrons_header, texts_of}
+use Rattle.record_tables.specs.declared.fault.BaseError.{BaseError}
+use Rattle.record_tables.specs.declared.tables.TableName.{TableName}
+use Rattle.record_tables.specs.declared.tables.TableName.TheVariants as table
+use Rattle.record_tables.specs.declared.tables.Tables.{Tables}
+use Rattle.record_tables.proofs.Reading.{holds-read}
 use Rattle.table_rules.specs.AllBroken.{all_broken_rows, broken_in, broken_rules, no_tables, text_fault}
 use Rattle.table_rules.specs.Sizes.{AreSizes, sizes_of}
 use Rattle.table_rules.specs.declared.sizes.TableSizes.{TableSizes}

@@ -6,16 +6,16 @@ use Rattle.std.specs.Option.{option_or}
 use Rattle.std.specs.Result.{result_err}
 use Rattle.csv_table.specs.Rows.{rows_under}
 use Rattle.circ_policy.specs.Terms.{Terms}
-use Rattle.circ_records.specs.Base.{base_of, first_broken, holds_rows_of, rows_of, table_rows, unless_broken, ◌>>=◌}
+use Rattle.record_tables.specs.Base.{base_of, first_broken, holds_rows_of, rows_of, table_rows, unless_broken, ◌>>=◌}
 use Rattle.circ_records.specs.Records.{Entries}
-use Rattle.circ_records.specs.Rules.{broken, broken_from, closed_rule, fee_rule, hold_rule, item_rule, loan_rule, patron_rule}
-use Rattle.circ_records.specs.Tables.{Row, Rows, Texts, closed_header, fees_header, items_header, loans_header, patrons_header}
-use Rattle.circ_records.specs.Told.{entries_told}
-use Rattle.circ_records.specs.declared.fault.BaseError.{BaseError}
-use Rattle.circ_records.specs.declared.fault.BaseError.TheVariants as error
-use Rattle.circ_records.specs.declared.fault.BaseRule.{BaseRule}
-use Rattle.circ_records.specs.declared.tables.TableName.{TableName}
-use Rattle.circ_records.specs.declared.tables.TableName.TheVariants as table
+use Rattle.record_tables.specs.Rules.{broken, broken_from, closed_rule, fee_rule, hold_rule, item_rule, loan_rule, patron_rule}
+use Rattle.record_tables.specs.Tables.{Row, Rows, Texts, closed_header, fees_header, items_header, loans_header, patrons_header}
+use Rattle.record_tables.specs.Told.{entries_told}
+use Rattle.record_tables.specs.declared.fault.BaseError.{BaseError}
+use Rattle.record_tables.specs.declared.fault.BaseError.TheVariants as error
+use Rattle.circ_records.specs.declared.rule.BaseRule.{BaseRule}
+use Rattle.record_tables.specs.declared.tables.TableName.{TableName}
+use Rattle.record_tables.specs.declared.tables.TableName.TheVariants as table
 use Rattle.table_rules.specs.AllBroken.{all_broken_rows, broken_in, broken_rows, broken_rows_from, broken_rules, no_tables, row_fault, text_fault}
 use Rattle.table_rules.specs.Laws.{FirstIsTheFault}
 

@@ -2,10 +2,10 @@
 use Rattle.std.proofs.Common.{◌≡◌, ℕ, suc, ◌+◌, List, [], ◌∷◌, ◌++◌, Some, None, Option, length, refl, sym, ap, ◌∙◌, arith, subst}
 use Rattle.std.specs.Prelude.{option_map}
 use Rattle.std.proofs.lemmas.List.{append_assoc, append-nil, length-append}
-use Rattle.circ_records.specs.Tables.{Row}
-use Rattle.circ_records.specs.declared.fault.BaseError.{BaseError}
-use Rattle.circ_records.specs.declared.fault.BaseRule.{BaseRule}
-use Rattle.circ_records.specs.declared.tables.TableName.{TableName}
+use Rattle.record_tables.specs.Tables.{Row}
+use Rattle.record_tables.specs.declared.fault.BaseError.{BaseError}
+use Rattle.circ_records.specs.declared.rule.BaseRule.{BaseRule}
+use Rattle.record_tables.specs.declared.tables.TableName.{TableName}
 use Rattle.table_rules.specs.AllBroken.{broken_rows, broken_rows_from, row_fault}
 
 -- Within a table: some rows were judged, by this rule, and the others are left. What is listed, with what these add, is all that is due.

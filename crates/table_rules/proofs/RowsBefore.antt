@@ -15,13 +15,14 @@ use Rattle.std.proofs.lemmas.List.{length-append}
 use Rattle.std.proofs.lemmas.List.Elements.{filter-append}
 use Rattle.std.proofs.lemmas.List.Folds.{list_any-append}
 use Rattle.sip_reader.specs.Texts.{is_id}
-use Rattle.circ_records.specs.Read.{pair_cmp}
-use Rattle.circ_records.specs.Rules.{has_hold, has_row, is_borrower, is_of_patron}
-use Rattle.circ_records.specs.Tables.{Row, field}
-use Rattle.circ_records.specs.Told.{row_with, rows_with}
-use Rattle.circ_records.specs.Values.{is_same}
+use Rattle.record_tables.specs.Read.{pair_cmp}
+use Rattle.record_tables.specs.Rules.{has_hold, has_row, is_borrower, is_of_patron}
+use Rattle.record_tables.specs.Tables.{Row, field}
+use Rattle.record_tables.specs.Told.{row_with, rows_with}
+use Rattle.circ_records.specs.Texts.{is_same}
 use Rattle.circ_records.specs.declared.holds.TheConstants.{QUEUE_MAX}
-use Rattle.circ_records.proofs.Lookups.{find-append, is_some-map, same-text, tie-text}
+use Rattle.record_tables.proofs.Lookups.{find-append, is_some-map}
+use Rattle.circ_records.proofs.SameTexts.{same-text, tie-text}
 use Rattle.table_rules.specs.Devices.RowsBefore.{HasHolds, HasIds, HasLoans, HasQueues, as_far, id_in}
 
 abbrev pub id_cmp : List ℕ → List ℕ → Ordering

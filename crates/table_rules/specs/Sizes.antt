@@ -1,7 +1,7 @@
 -- How many rows the tables have.
 use Rattle.std.specs.Prelude.{◌≡◌, length, Ok}
-use Rattle.circ_records.specs.Base.{rows_of}
-use Rattle.circ_records.specs.Tables.{Rows, Texts}
+use Rattle.record_tables.specs.Base.{rows_of}
+use Rattle.record_tables.specs.Tables.{Rows, Texts}
 use Rattle.table_rules.specs.declared.sizes.TableSizes.{TableSizes}
 
 abbrev pub sizes_of : Rows → TableSizes

@@ -3,21 +3,22 @@
 ghost use Rattle.std.specs.Prelude.{◌++◌, ◌≡◌, if◌then◌else◌, is_some, length, not, true, IfErr, IfOk, IfSome, IsSome, List, OnOk, Option, Some};
 ghost use Rattle.csv.specs.Records.{fields_of};
 ghost use Rattle.csv_table.specs.Rows.{rows_under};
-ghost use Rattle.circ_records.specs.Rules as Rules;
-ghost use Rattle.circ_records.specs.Tables.{Row, field, closed_header, fees_header};
-ghost use Rattle.circ_records.specs.Values.{hundredths};
-ghost use Rattle.circ_records.specs.declared.fault.BaseRule.{BaseRule};
-ghost use Rattle.circ_records.specs.declared.fault.BaseRule.TheVariants as rule;
-ghost use Rattle.circ_records.specs.declared.tables.TableName.TheVariants as table;
+ghost use Rattle.record_tables.specs.Rules as Rules;
+ghost use Rattle.record_tables.specs.Tables.{Row, field, closed_header, fees_header};
+ghost use Rattle.record_tables.specs.Values.{hundredths};
+ghost use Rattle.circ_records.specs.declared.rule.BaseRule.{BaseRule};
+ghost use Rattle.circ_records.specs.declared.rule.BaseRule.TheVariants as rule;
+ghost use Rattle.record_tables.specs.declared.tables.TableName.TheVariants as table;
 ghost use Rattle.table_rules.specs.AllBroken.{broken_rows};
 ghost use Rattle.table_rules.specs.Devices.RowsBefore.{HasIds};
 
 use crate::judge::{Judge, judge_rows};
 use crate::line_fees::is_taken;
 use crate::seen_ids::{TableIds, add_id, has_id};
-use circ_records::{BaseError, BaseRule, FeeType, TableName};
+use circ_records::{BaseRule, FeeType};
 use csv::ByteRecord;
 use csv_table::column;
+use record_tables::{BaseError, TableName};
 use sip_reader::{Amount, Id};
 use std::alloc::{AllocError, Global};
 use std::collections::BTreeSet;
@@ -150,7 +151,7 @@ pub(crate) fn judge_closed(
 }
 
 /// The first rule that a row of open fees breaks after such with these ids, with patrons of these.
-#[tactic(auto, unfolding(circ_records::specs::Rules::fee_rule, circ_records::specs::Rules::has_fee_values))]
+#[tactic(auto, unfolding(record_tables::specs::Rules::fee_rule, record_tables::specs::Rules::has_fee_values))]
 fn broken_open(
     alloc: Global,
     first: Option<u64>,
@@ -184,7 +185,7 @@ fn broken_open(
 
 impl ClosedJudge<'_> {
     /// The first rule that a row breaks.
-    #[tactic(auto, unfolding(circ_records::specs::Rules::closed_rule))]
+    #[tactic(auto, unfolding(record_tables::specs::Rules::closed_rule))]
     fn broken_rule(&self, alloc: Global, row: &ByteRecord) -> Result<Option<BaseRule>, AllocError>
         ensures { IfOk result (λ broken. (patrons fees before : List Row) → HasIds 0 patrons self.now.patrons.now → HasIds 0 fees self.now.fees.now → HasIds 0 before self.now.ids
             → broken ≡ Rules.closed_rule self.now.first patrons fees before (fields_of row.now)) }
@@ -209,7 +210,7 @@ impl ClosedJudge<'_> {
 }
 
 /// The ids of a row's fee and of its patron, where both are ids.
-#[tactic(auto, unfolding(circ_records::specs::Rules::has_fee_texts))]
+#[tactic(auto, unfolding(record_tables::specs::Rules::has_fee_texts))]
 fn ids_of(alloc: Global, row: &ByteRecord) -> Result<Option<(Id, Id)>, AllocError>
     ensures texts { IfOk result (λ ids. is_some ids ≡ Rules.has_fee_texts (fields_of row.now)) }
     ensures fee { IfOk result (λ ids. IfSome ids (λ it. it.0 ≡ field 0 (fields_of row.now))) }
@@ -225,7 +226,7 @@ fn ids_of(alloc: Global, row: &ByteRecord) -> Result<Option<(Id, Id)>, AllocErro
 }
 
 /// Whether a row has a fee type and an amount.
-#[tactic(auto, unfolding(circ_records::specs::Rules::has_closed_values))]
+#[tactic(auto, unfolding(record_tables::specs::Rules::has_closed_values))]
 fn has_closed_values(row: &ByteRecord) -> bool
     ensures { result ≡ Rules.has_closed_values (fields_of row.now) }
 {
@@ -233,7 +234,7 @@ fn has_closed_values(row: &ByteRecord) -> bool
 }
 
 /// Whether what is paid is below the amount.
-#[tactic(auto, unfolding(circ_records::specs::Rules::is_owing))]
+#[tactic(auto, unfolding(record_tables::specs::Rules::is_owing))]
 fn is_owing(row: &ByteRecord) -> bool
     ensures { result ≡ Rules.is_owing (fields_of row.now) }
 {

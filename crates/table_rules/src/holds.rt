@@ -5,19 +5,20 @@ ghost use Rattle.std.specs.Cmp.Lexicographic.{slice_cmp};
 ghost use Rattle.std.specs.Ordering.{nat_cmp};
 ghost use Rattle.std.specs.Prelude.{◌&&◌, ◌++◌, ◌∷◌, ◌≡◌, [], is_some, length, unwrap_or, IfOk, IfSome, IsSome, List, OnOk, Some};
 ghost use Rattle.csv.specs.Records.{fields_of};
-ghost use Rattle.circ_records.specs.Base.{holds_rows_of};
+ghost use Rattle.record_tables.specs.Base.{holds_rows_of};
 ghost use Rattle.sip_reader.specs.Texts.{is_id};
-ghost use Rattle.circ_records.specs.Rules as Rules;
-ghost use Rattle.circ_records.specs.Tables.{Row, field};
-ghost use Rattle.circ_records.specs.declared.tables.TableName.TheVariants as table;
+ghost use Rattle.record_tables.specs.Rules as Rules;
+ghost use Rattle.record_tables.specs.Tables.{Row, field};
+ghost use Rattle.record_tables.specs.declared.tables.TableName.TheVariants as table;
 ghost use Rattle.table_rules.specs.AllBroken.{broken_rows};
 ghost use Rattle.table_rules.specs.Devices.RowsBefore.{HasHolds, HasIds, HasLoans, HasQueues};
 
 use crate::judge::{Judge, judge_rows};
 use crate::seen_ids::has_id;
-use circ_records::{BaseError, BaseRule, QUEUE_MAX, TableName};
+use circ_records::{BaseRule, QUEUE_MAX};
 use csv::ByteRecord;
 use csv_table::column;
+use record_tables::{BaseError, TableName};
 use sip_reader::{Id, is_text};
 use std::alloc::{AllocError, Global};
 use std::collections::{BTreeMap, BTreeSet};
@@ -89,7 +90,7 @@ pub(crate) fn judge_holds(
 
 impl HoldJudge<'_> {
     /// The first rule that a row breaks.
-    #[tactic(auto, unfolding(circ_records::specs::Rules::hold_rule))]
+    #[tactic(auto, unfolding(record_tables::specs::Rules::hold_rule))]
     fn broken_rule(&self, alloc: Global, row: &ByteRecord) -> Result<Option<BaseRule>, AllocError>
         ensures { IfOk result (λ broken. (patrons items loans before : List Row) → HasIds 0 patrons self.now.patrons.now → HasIds 0 items self.now.items.now → HasLoans loans self.now.lent.now
             → HasHolds before self.now.waiting → HasQueues before self.now.lengths → broken ≡ Rules.hold_rule patrons items loans before (fields_of row.now)) }
@@ -118,7 +119,7 @@ impl HoldJudge<'_> {
 }
 
 /// The item and the patron of a row, where all texts of the row are valid.
-#[tactic(auto, unfolding(circ_records::specs::Rules::has_hold_texts))]
+#[tactic(auto, unfolding(record_tables::specs::Rules::has_hold_texts))]
 fn ids_of(alloc: Global, row: &ByteRecord) -> Result<Option<(Id, Id)>, AllocError>
     ensures texts { IfOk result (λ ids. is_some ids ≡ Rules.has_hold_texts (fields_of row.now)) }
     ensures item { IfOk result (λ ids. IfSome ids (λ it. it.0 ≡ field 0 (fields_of row.now))) }
@@ -155,7 +156,7 @@ fn is_waiting(waiting: &BTreeSet<(Id, Id)>, hold: &(Id, Id)) -> bool
 }
 
 /// Whether the first loan of an item is this patron's.
-#[tactic(auto, unfolding(circ_records::specs::Rules::is_borrower))]
+#[tactic(auto, unfolding(record_tables::specs::Rules::is_borrower))]
 fn is_borrower(lent: &BTreeMap<Id, Option<Id>>, item: &Id, patron: &Id) -> bool
     ensures { (loans : List Row) → HasLoans loans lent.now → result ≡ Rules.is_borrower patron.now item.now loans }
 {
@@ -168,7 +169,7 @@ fn is_borrower(lent: &BTreeMap<Id, Option<Id>>, item: &Id, patron: &Id) -> bool
 }
 
 /// Whether as many wait for an item as a queue takes.
-#[tactic(auto, unfolding(circ_records::specs::Rules::is_full))]
+#[tactic(auto, unfolding(record_tables::specs::Rules::is_full))]
 fn is_full(lengths: &BTreeMap<Id, usize>, item: &Id) -> bool
     ensures { (holds : List Row) → HasQueues holds lengths.now → result ≡ Rules.is_full item.now holds }
 {

@@ -3,18 +3,19 @@
 ghost use Rattle.std.specs.Prelude.{◌++◌, ◌≡◌, is_some, length, IfOk, IfSome, IsSome, List, OnOk, Some};
 ghost use Rattle.csv.specs.Records.{fields_of};
 ghost use Rattle.csv_table.specs.Rows.{rows_under};
-ghost use Rattle.circ_records.specs.Rules as Rules;
-ghost use Rattle.circ_records.specs.Tables.{Row, field, items_header};
-ghost use Rattle.circ_records.specs.declared.tables.TableName.TheVariants as table;
+ghost use Rattle.record_tables.specs.Rules as Rules;
+ghost use Rattle.record_tables.specs.Tables.{Row, field, items_header};
+ghost use Rattle.record_tables.specs.declared.tables.TableName.TheVariants as table;
 ghost use Rattle.table_rules.specs.AllBroken.{broken_rows};
 ghost use Rattle.table_rules.specs.Devices.RowsBefore.{HasIds};
 
 use crate::judge::{Judge, judge_rows};
 use crate::seen_ids::{TableIds, add_id, has_id};
 use circ_policy::{MediaType, Policy};
-use circ_records::{BaseError, BaseRule, TableName};
+use circ_records::BaseRule;
 use csv::ByteRecord;
 use csv_table::column;
+use record_tables::{BaseError, TableName};
 use sip_reader::{Id, is_text};
 use std::alloc::{AllocError, Global};
 use std::collections::BTreeSet;
@@ -75,7 +76,7 @@ pub(crate) fn judge_items(
 }
 
 /// The first rule that a row of items breaks after rows with these ids.
-#[tactic(auto, unfolding(circ_records::specs::Rules::item_rule))]
+#[tactic(auto, unfolding(record_tables::specs::Rules::item_rule))]
 fn broken_rule(
     alloc: Global,
     policy: &Policy,
@@ -97,7 +98,7 @@ fn broken_rule(
 }
 
 /// The id of a row's item, where all texts of the row are valid.
-#[tactic(auto, unfolding(circ_records::specs::Rules::has_item_texts))]
+#[tactic(auto, unfolding(record_tables::specs::Rules::has_item_texts))]
 fn id_of(alloc: Global, row: &ByteRecord) -> Result<Option<Id>, AllocError>
     ensures texts { IfOk result (λ id. is_some id ≡ Rules.has_item_texts (fields_of row.now)) }
     ensures id { IfOk result (λ id. IfSome id (λ it. it ≡ field 0 (fields_of row.now))) }
@@ -114,7 +115,7 @@ fn id_of(alloc: Global, row: &ByteRecord) -> Result<Option<Id>, AllocError>
 }
 
 /// Whether the policy has the media type of this code.
-#[tactic(auto, unfolding(circ_records::specs::Rules::has_media))]
+#[tactic(auto, unfolding(record_tables::specs::Rules::has_media))]
 fn has_media(policy: &Policy, code: &[u8]) -> bool
     ensures { result ≡ Rules.has_media policy.now code.now }
 {

@@ -4,13 +4,14 @@ ghost use Rattle.std.specs.Prelude.{◌≡◌, ◌<◌, ◌++◌, ◌∷◌, [],
 ghost use Rattle.csv.specs.Records.{fields_of};
 ghost use Rattle.csv_table.specs.Rows.{rows_under};
 ghost use Rattle.csv_table.specs.Text.{bytes_of};
-ghost use Rattle.circ_records.specs.Tables.{Row};
-ghost use Rattle.circ_records.specs.declared.fault.BaseRule.{BaseRule};
+ghost use Rattle.record_tables.specs.Tables.{Row};
+ghost use Rattle.circ_records.specs.declared.rule.BaseRule.{BaseRule};
 ghost use Rattle.table_rules.specs.AllBroken.{broken_rows, row_fault};
 
-use circ_records::{BaseError, BaseRule, TableName};
+use circ_records::BaseRule;
 use csv::ByteRecord;
 use csv_table::RowReader;
+use record_tables::{BaseError, TableName};
 use std::alloc::{AllocError, Global};
 
 /// The rule of a table, and what it needs of the rows that came before.

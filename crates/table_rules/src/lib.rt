@@ -1,6 +1,6 @@
 //! All rules that the tables of a base break: each row that breaks one, in the order in which a run looks for the first of them.
 //!
-//! `check_tables` lists them. `Base::read` of `circ_records` stops at the first; its definitions of the rules are those that are judged by here.
+//! `check_tables` lists them. `read_base` of `record_tables` stops at the first; its definitions of the rules are those that are judged by here.
 #![tactic(auto)]
 
 mod check;

@@ -40,7 +40,7 @@ fn line_of(id: &[u8]) -> Option<u64>
 }
 
 /// The number before a dash and a count.
-#[tactic(auto, unfolding(circ_records::specs::MadeFees::line_before, circ_records::specs::Values::decimal_of))]
+#[tactic(auto, unfolding(circ_records::specs::MadeFees::line_before, circ_records::specs::Texts::decimal_of))]
 fn line_before(text: &[u8]) -> Option<u64>
     ensures { result ≡ MadeFees.line_before text.now }
 {

@@ -3,18 +3,19 @@
 ghost use Rattle.std.specs.Prelude.{◌++◌, ◌∷◌, ◌≡◌, [], is_some, length, IfOk, IfSome, IsSome, List, OnOk, Some};
 ghost use Rattle.csv.specs.Records.{fields_of};
 ghost use Rattle.csv_table.specs.Rows.{rows_under};
-ghost use Rattle.circ_records.specs.Rules as Rules;
-ghost use Rattle.circ_records.specs.Tables.{Row, field, loans_header};
-ghost use Rattle.circ_records.specs.declared.tables.TableName.TheVariants as table;
+ghost use Rattle.record_tables.specs.Rules as Rules;
+ghost use Rattle.record_tables.specs.Tables.{Row, field, loans_header};
+ghost use Rattle.record_tables.specs.declared.tables.TableName.TheVariants as table;
 ghost use Rattle.table_rules.specs.AllBroken.{broken_rows};
 ghost use Rattle.table_rules.specs.Devices.RowsBefore.{HasIds, HasLoans};
 
 use crate::judge::{Judge, judge_rows};
 use crate::seen_ids::has_id;
 use crate::values::{is_due, is_renewals};
-use circ_records::{BaseError, BaseRule, TableName};
+use circ_records::BaseRule;
 use csv::ByteRecord;
 use csv_table::column;
+use record_tables::{BaseError, TableName};
 use sip_reader::Id;
 use std::alloc::{AllocError, Global};
 use std::collections::{BTreeMap, BTreeSet};
@@ -104,7 +105,7 @@ pub(crate) fn judge_loans(
 }
 
 /// The first rule that a row of loans breaks after such loans, with patrons and items of these ids.
-#[tactic(auto, unfolding(circ_records::specs::Rules::loan_rule, circ_records::specs::Rules::has_loan_texts, circ_records::specs::Rules::has_loan_values))]
+#[tactic(auto, unfolding(record_tables::specs::Rules::loan_rule, record_tables::specs::Rules::has_loan_texts, record_tables::specs::Rules::has_loan_values))]
 fn broken_rule(
     alloc: Global,
     patrons: &BTreeSet<Id>,

@@ -3,9 +3,10 @@
 ghost use Rattle.std.specs.Prelude.{◌++◌, ◌≡◌, is_some, length, IfOk, IfSome, IsSome, List, OnOk, Some};
 ghost use Rattle.csv.specs.Records.{fields_of};
 ghost use Rattle.csv_table.specs.Rows.{rows_under};
-ghost use Rattle.circ_records.specs.Rules as Rules;
-ghost use Rattle.circ_records.specs.Tables.{Row, field, patrons_header};
-ghost use Rattle.circ_records.specs.declared.tables.TableName.TheVariants as table;
+ghost use Rattle.record_tables.specs.Rules as Rules;
+ghost use Rattle.circ_records.specs.Classes as Classes;
+ghost use Rattle.record_tables.specs.Tables.{Row, field, patrons_header};
+ghost use Rattle.record_tables.specs.declared.tables.TableName.TheVariants as table;
 ghost use Rattle.table_rules.specs.AllBroken.{broken_rows};
 ghost use Rattle.table_rules.specs.Devices.RowsBefore.{HasIds};
 
@@ -13,9 +14,10 @@ use crate::judge::{Judge, judge_rows};
 use crate::seen_ids::{TableIds, add_id, has_id};
 use crate::values::is_flag;
 use circ_policy::Policy;
-use circ_records::{BaseError, BaseRule, TableName};
+use circ_records::BaseRule;
 use csv::ByteRecord;
 use csv_table::column;
+use record_tables::{BaseError, TableName};
 use sip_reader::{Id, is_text};
 use std::alloc::{AllocError, Global};
 use std::collections::BTreeSet;
@@ -83,7 +85,7 @@ pub(crate) fn judge_patrons(
 }
 
 /// The first rule that a row of patrons breaks after rows with these ids.
-#[tactic(auto, unfolding(circ_records::specs::Rules::patron_rule))]
+#[tactic(auto, unfolding(record_tables::specs::Rules::patron_rule))]
 fn broken_rule(
     alloc: Global,
     policy: &Policy,
@@ -108,7 +110,7 @@ fn broken_rule(
 }
 
 /// The id of a row's patron, where all texts of the row are valid.
-#[tactic(auto, unfolding(circ_records::specs::Rules::has_patron_texts))]
+#[tactic(auto, unfolding(record_tables::specs::Rules::has_patron_texts))]
 fn id_of(alloc: Global, row: &ByteRecord) -> Result<Option<Id>, AllocError>
     ensures texts { IfOk result (λ id. is_some id ≡ Rules.has_patron_texts (fields_of row.now)) }
     ensures id { IfOk result (λ id. IfSome id (λ it. it ≡ field 0 (fields_of row.now))) }
@@ -121,9 +123,9 @@ fn id_of(alloc: Global, row: &ByteRecord) -> Result<Option<Id>, AllocError>
 }
 
 /// Whether the policy has a class of this name.
-#[tactic(auto, unfolding(circ_records::specs::Rules::has_class))]
+#[tactic(auto, unfolding(circ_records::specs::Classes::has_class))]
 fn has_class(alloc: Global, policy: &Policy, name: &[u8]) -> Result<bool, AllocError>
-    ensures { IfOk result (λ has. has ≡ Rules.has_class policy.now name.now) }
+    ensures { IfOk result (λ has. has ≡ Classes.has_class policy.now name.now) }
 {
     let Some(class) = Id::read(alloc, name)? else {
         return Ok(false);

@@ -1,8 +1,8 @@
 //! The ids that rows have in a column.
 
 ghost use Rattle.std.specs.Prelude.{◌≡◌, ◌++◌, ◌∷◌, [], ℕ, List, OnOk};
-ghost use Rattle.circ_records.specs.Rules.{has_row};
-ghost use Rattle.circ_records.specs.Tables.{Row, field};
+ghost use Rattle.record_tables.specs.Rules.{has_row};
+ghost use Rattle.record_tables.specs.Tables.{Row, field};
 ghost use Rattle.table_rules.specs.Devices.RowsBefore.{HasIds};
 
 use sip_reader::Id;

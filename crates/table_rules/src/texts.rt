@@ -4,9 +4,9 @@ ghost use Rattle.std.specs.Prelude.{◌≡◌, ◌++◌, IsSome, None, is_some, 
 ghost use Rattle.csv_table.specs.Rows.{rows_under};
 ghost use Rattle.csv_table.specs.Text.{bytes_of};
 ghost use Rattle.csv_table.specs.declared.TableError.TheVariants as refusal;
-ghost use Rattle.circ_records.specs.Base.{holds_rows_of};
-ghost use Rattle.circ_records.specs.Tables.{texts_of};
-ghost use Rattle.circ_records.specs.declared.tables.TableName.TheVariants as table;
+ghost use Rattle.record_tables.specs.Base.{holds_rows_of};
+ghost use Rattle.record_tables.specs.Tables.{texts_of};
+ghost use Rattle.record_tables.specs.declared.tables.TableName.TheVariants as table;
 ghost use Rattle.table_rules.specs.AllBroken.{no_tables, text_fault};
 
 use crate::fees::{CLOSED, FEES};
@@ -14,9 +14,9 @@ use crate::holds::HOLDS;
 use crate::items::ITEMS;
 use crate::loans::LOANS;
 use crate::patrons::PATRONS;
-use circ_records::{BaseError, TableName, Tables};
 use csv::ByteRecord;
 use csv_table::{RowReader, TableError};
+use record_tables::{BaseError, TableName, Tables};
 use std::alloc::{AllocError, Global};
 
 /// Each text that is no table under its header, by the table's name.

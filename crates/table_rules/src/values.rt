@@ -5,7 +5,8 @@ ghost use Rattle.std.specs.Char.{is_ascii_digit};
 ghost use Rattle.std.specs.List.{list_all};
 ghost use Rattle.sip_reader.specs.Dates.{two_at, year_at};
 ghost use Rattle.sip_reader.specs.Days.{day_at};
-ghost use Rattle.circ_records.specs.Values as Values;
+ghost use Rattle.record_tables.specs.Values as Values;
+ghost use Rattle.circ_records.specs.Texts as Texts;
 
 use sip_reader::{Day, all_digits, number_of_digits};
 
@@ -13,7 +14,7 @@ use sip_reader::{Day, all_digits, number_of_digits};
 const RENEWALS_MAX: u64 = 4_294_967_295;
 
 /// Whether a text is a flag: `Y` or `N`.
-#[tactic(auto, unfolding(circ_records::specs::Values::flag_of))]
+#[tactic(auto, unfolding(record_tables::specs::Values::flag_of))]
 pub fn is_flag(text: &[u8]) -> bool
     ensures { result ≡ is_some (Values.flag_of text.now) }
 {
@@ -21,7 +22,7 @@ pub fn is_flag(text: &[u8]) -> bool
 }
 
 /// Whether a text says how often a loan was renewed: 0 to 4,294,967,295 in decimal without leading zeros.
-#[tactic(auto, unfolding(circ_records::specs::Values::renewals_of, circ_records::specs::Values::decimal_of))]
+#[tactic(auto, unfolding(record_tables::specs::Values::renewals_of, circ_records::specs::Texts::decimal_of))]
 pub fn is_renewals(text: &[u8]) -> bool
     ensures { result ≡ is_some (Values.renewals_of text.now) }
 {
@@ -29,9 +30,9 @@ pub fn is_renewals(text: &[u8]) -> bool
 }
 
 /// Whether a text has at least one digit and at most `most`, without leading zeros.
-#[tactic(auto, unfolding(circ_records::specs::Values::is_decimal))]
+#[tactic(auto, unfolding(circ_records::specs::Texts::is_decimal))]
 pub(crate) fn is_decimal(text: &[u8], most: usize) -> bool
-    ensures value { result ≡ Values.is_decimal most text.now }
+    ensures value { result ≡ Texts.is_decimal most text.now }
     ensures digits { IsTrue result → list_all is_ascii_digit text.now ≡ true }
     ensures few { IsTrue result → length text.now ≤ most }
 {
@@ -39,13 +40,13 @@ pub(crate) fn is_decimal(text: &[u8], most: usize) -> bool
 }
 
 fn has_leading_zero(text: &[u8]) -> bool
-    ensures { result ≡ Values.has_leading_zero text.now }
+    ensures { result ≡ Texts.has_leading_zero text.now }
 {
     text.len() >= 2 && text[0] == b'0'
 }
 
 /// Whether a text is a due day: eight digits of a real day in the years 1900 to 9999.
-#[tactic(auto, unfolding(circ_records::specs::Values::due_of))]
+#[tactic(auto, unfolding(record_tables::specs::Values::due_of))]
 pub fn is_due(text: &[u8]) -> bool
     ensures { result ≡ is_some (Values.due_of text.now) }
 {
@@ -53,7 +54,7 @@ pub fn is_due(text: &[u8]) -> bool
 }
 
 /// Whether a text has eight digits.
-#[tactic(auto, unfolding(circ_records::specs::Values::is_date))]
+#[tactic(auto, unfolding(record_tables::specs::Values::is_date))]
 fn is_date(text: &[u8]) -> bool
     ensures { result ≡ Values.is_date text.now }
 {
@@ -65,7 +66,7 @@ fn is_date(text: &[u8]) -> bool
 }
 
 /// Whether eight digits are a real day.
-#[tactic(auto, unfolding(circ_records::specs::Values::is_date))]
+#[tactic(auto, unfolding(record_tables::specs::Values::is_date))]
 fn is_day(text: &[u8]) -> bool
     requires { Values.is_date text.now ≡ true }
     ensures { result ≡ is_some (day_at (year_at text.now) (two_at 4 text.now) (two_at 6 text.now)) }

@@ -1,5 +1,4 @@
-//! Tests of whole runs of `sip_replay`, from the words of the command line on: over an outside in memory of which each call fails in turn, and
-//! on files that a test writes.
+//! Tests of whole runs of `sip_replay`, from the words of the command line on, over an outside in memory of which each call fails in turn.
 #![tactic(auto)]
 
 mod asked;

@@ -82,7 +82,7 @@ impl<'a, R: Abort> Memory<'a, R> {
         self.calls.len()
     }
 
-    /// What was told last.
+    /// What was written to standard error last.
     pub(crate) fn told(&self) -> &str {
         match self.calls.last() {
             Some(Call::Tell { text, .. }) => text.as_str(),
@@ -130,7 +130,7 @@ impl<'a, R: Abort> Memory<'a, R> {
         }
     }
 
-    /// Puts a file in the place of what stood there.
+    /// Puts a file in place of what was there.
     fn replace(&mut self, path: &str, text: &[u8])
         ensures { self.new.calls ≡ self.old.calls }
     {

@@ -1,13 +1,11 @@
-//! Whole runs from the words of the command line on: over an outside in memory of which each call fails in turn, and on files that a test writes.
+//! Whole runs from the words of the command line on, over an outside in memory of which each call fails in turn.
 
 use crate::memory::Memory;
-use outside::{Outside, System};
-use std::io::{IsTerminal, Write};
+use outside::Outside;
 use std::process::Abort;
-use std::rt::{Clock, Files};
+use std::rt::Clock;
 use std::sync::Wait;
 use std::thread::Threads;
-use std::{fs, io};
 use whole_run::run;
 
 const POLICY: &str = "institution = \"L1\"
@@ -28,12 +26,6 @@ cap = 500
 /// An item status update that was answered as it should be, and a message that is passed over.
 const JOURNAL: &str = "line,connection,request,response
 1,C1,1920260302    101500AOL1|ABI1|CHtorn|,20120260302    101500ABI1|AJOne|CHtorn|
-2,C1,9900302.00,
-";
-
-/// The same, with another response.
-const OTHER_JOURNAL: &str = "line,connection,request,response
-1,C1,1920260302    101500AOL1|ABI1|CHtorn|,20020260302    101500ABI1|
 2,C1,9900302.00,
 ";
 
@@ -145,53 +137,4 @@ fn try_each_call<R: Threads + Wait + Sync + Clock + Eprint + AllocGlobal + Abort
 #[test]
 fn each_call_of_the_outside_fails_in_turn(rt: HostRuntime) {
     try_each_call(&rt);
-}
-
-/// Writes the files, of which one has this text in place of its own, or is missing.
-fn write_given<R: Files>(rt: &R, changed: &str, text: Option<&str>) -> io::Result<()> {
-    fs::create_dir_all(rt, "base")?;
-    fs::create_dir_all(rt, "out")?;
-    for (path, given) in GIVEN {
-        write_one(rt, path, if path == changed { text } else { Some(given) })?;
-    }
-    Ok(())
-}
-
-/// Writes a file, or takes it away where it has no text.
-fn write_one<R: Files>(rt: &R, path: &str, text: Option<&str>) -> io::Result<()> {
-    match text {
-        Some(text) => fs::write(rt, path, text),
-        None => fs::remove_file(rt, path),
-    }
-}
-
-/// The status of a run of these words on the files.
-fn status_on_files<
-    R: Files + Threads + Wait + Sync + Clock + Eprint + AllocGlobal,
-    E: Write + IsTerminal + Drop,
->(rt: &R, err: E, words: &[&str]) -> u8 {
-    let mut system = System {
-        rt,
-        input: io::empty(),
-        out: io::sink(),
-        err,
-    };
-    status_of(rt, &mut system, words)
-}
-
-#[test]
-fn each_status_is_that_of_a_run_on_files(rt: HostRuntime) {
-    let runs = [
-        ("journal.csv", Some(JOURNAL), 0),
-        ("journal.csv", Some(OTHER_JOURNAL), 1),
-        ("policy.toml", Some("a ="), 2),
-        ("journal.csv", None, 3),
-    ];
-    for (changed, text, status) in runs {
-        write_given(&rt, changed, text).expect(&rt, "files");
-        assert!(rt;
-            status_on_files(&rt, rt.stderr(), &WORDS) == status,
-            "another status"
-        );
-    }
 }

@@ -1,14 +1,9 @@
-//! Tests of single crates. Of those that read and write (`sip_reader`, `sip_answer`, `csv_table`, `circ_policy`): messages beside their
-//! readings, and what no run of the program shows; what one shows is in `books` and `cases`. Of `version_store`: the store beside a
-//! plain list of entries.
+//! Tests of single crates. Of those that read and write (`sip_reader`, `sip_answer`, `csv_table`): what no run of the program shows; what one shows is
+//! in `books` and `cases`. Of `version_store`: the store beside a plain list of entries.
 #![tactic(auto)]
 
 #[cfg(test)]
 mod own_texts;
-#[cfg(test)]
-mod policies;
-#[cfg(test)]
-mod requests;
 #[cfg(test)]
 mod tables;
 #[cfg(test)]

@@ -16,7 +16,7 @@ use std::marker::Brand;
 use std::process::Abort;
 use std::sync::Wait;
 use std::test::Fail;
-use version_store::{EntryStore, Found, Place, Seen, VersionTable};
+use version_store::{EntryStore, Found, Place, SeenEntry, VersionTable};
 
 const FIRST: u64 = 9_999_999_990;
 
@@ -88,9 +88,9 @@ fn agree_at<J: PlanName>(
     let name = plain.name(key, line);
     assert!(rt; store.name(key, line) == name);
     match store.see(key, line) {
-        Seen::Base => assert!(rt; name == Found::Named(Name::Base)),
-        Seen::Suspect { line } => assert!(rt; name == Found::Suspect { line }),
-        Seen::Made { name: made, .. } => assert!(rt; name == Found::Named(made)),
+        SeenEntry::Base => assert!(rt; name == Found::Named(Name::Base)),
+        SeenEntry::Suspect { line } => assert!(rt; name == Found::Suspect { line }),
+        SeenEntry::Made { name: made, .. } => assert!(rt; name == Found::Named(made)),
     }
     let shown = match store.shown_at(key, line) {
         None => None,

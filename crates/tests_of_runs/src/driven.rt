@@ -7,9 +7,9 @@ ghost use Rattle.sip_reader.specs.declared.request.Reading.{Reading};
 ghost use Rattle.result_report.specs.Report.{AreAnswers, is_answered, answers_behind};
 
 use crate::row::{Prepared, prepare};
-use circ_records::write_records;
 use journal_table::Journal;
 use read_set::{Plan, PlanName};
+use record_tables::write_records;
 use replay_run::{Fault, Inputs, Output};
 use result_report::{Outcome, collect, report};
 use sip_answer::Answer;

@@ -1,6 +1,6 @@
-//! Tests of whole runs: worked examples, written in books of texts; runs by workers in threads, whose gate is called at each step; what the steps of
-//! a shared board give; boards that are driven to their end from wherever steps leave them; faults that were left; inputs that are cut; and runs of which one growth of the heap is refused, by `.ci/growths`. What a run of the built program shows
-//! is in `books` and `cases`.
+//! Tests of whole runs: what rules do over records that need not fit together, and days by one thread, in books of texts; runs by workers in threads,
+//! whose gate is called at each step; what the steps of a shared board give; boards that are driven to their end from wherever steps leave them; faults
+//! that were left; and runs of which one growth of the heap is refused, by `.ci/growths`. What a run of the built program shows is in `books` and `cases`.
 //!
 //! A book is a text. A row begins with `#` and its title; each line after it says one thing:
 //!
@@ -16,18 +16,17 @@
 //! | `after TABLE ROW` | a row of a table after the last line, all of whose rows are given so; `after TABLE` says that it has none |
 //! | `fault TEXT` | the run gives this fault |
 //! | `policy TEXT` | another policy |
-//! | `waiting NUMBER` | this many patrons more, W1 and so on, all of whom wait for the book |
 //! | `list WORKERS: STEPS => TEXT` | what a run by this list of steps gives: `output` and the attempts, `unfinished` and how many lines are committed, or the fault |
 //!
 //! Each run begins with the same library: patrons P1 (Ann) and P2 (Bob) of class A, the book I1 and the video tapes V1
-//! and V2, closed on Sundays. Whoever is of class C borrows nothing.
+//! and V2, closed on Sundays.
 //!
 //! Each row is run by one thread, and driven in order through a board. Both must give the same tables and the same report.
 //!
-//! A script of the board begins as a row does. `starting ATTEMPT CLOCK` tells with which
+//! A script of the board begins as a row does. `starting ATTEMPT CLOCK` says with which
 //! attempt and at which clock its board begins, else 0 and 0. Then come calls, each with the reply that must come after ` = `,
-//! and what is refused must leave the board as it was. `given TEXT` tells, of a script that is steps alone, what the run by them gives
-//! as soon as all lines are committed; each beginning of the script is run. `halts NUMBER: FAULT` tells after how many steps the script halts as a
+//! and what is refused must leave the board as it was. `given TEXT` says, of a script that is steps alone, what the run by them gives
+//! as soon as all lines are committed; each beginning of the script is run. `halts NUMBER: FAULT` says after how many steps the script halts as a
 //! list:
 //!
 //! | Call | What it does |
@@ -43,7 +42,7 @@
 //! | `does WORKER` | what the version does that the line needs: its answer, then each record that it writes |
 //! | `clock`, `committed`, `counts` | the board's; of the counts takes, failed checks, stops, commits and live lines |
 //!
-//! A single line tells records that need not fit together, one line, the records for which it asks (`wants`), in the order of
+//! A single line names records that need not fit together, one line, the records for which it asks (`wants`), in the order of
 //! asking, and what it does. `{9998}` means that many places of P2 in a queue.
 #![tactic(auto)]
 
@@ -57,8 +56,6 @@ mod books;
 mod calls;
 #[cfg(test)]
 mod checked;
-#[cfg(test)]
-mod cut;
 #[cfg(test)]
 mod driven;
 #[cfg(test)]

@@ -43,7 +43,7 @@ fn is_given<R: Abort>(rt: &R, run: Result<Output, Fault>, row: &Row) -> bool {
     }
 }
 
-/// Tells what the two runs of a call gave, of which one may have been out of memory.
+/// Prints what the two runs of a call gave, of which one may have been out of memory.
 fn tell<R: Abort + Print>(rt: &R, one: bool, other: bool) {
     assert!(rt; one || other, "out of memory twice");
     if one && other {

@@ -4,9 +4,9 @@ ghost use Rattle.std.specs.Prelude.{◌≡◌, IfOk};
 ghost use Rattle.read_set.specs.Plans.{readings_of};
 
 use circ_policy::Policy;
-use circ_records::Base;
 use journal_table::Journal;
 use read_set::Plan;
+use record_tables::read_base;
 use replay_run::{Fault, Inputs, Tables};
 use std::alloc::{AllocError, Global};
 use std::mem::replace;
@@ -21,10 +21,6 @@ closed_weekdays = ["sunday"]
 max_loans = 2
 max_fees = 1000
 max_renewals = 1
-[class.C]
-max_loans = 0
-max_fees = 0
-max_renewals = 0
 [media.001]
 days = 14
 rental = 0
@@ -69,7 +65,7 @@ fn header(table: &str) -> &'static str {
 }
 
 /// A table by its name.
-pub(crate) fn table_of<'a>(tables: &'a mut Tables, table: &str) -> &'a mut Vec<u8> {
+fn table_of<'a>(tables: &'a mut Tables, table: &str) -> &'a mut Vec<u8> {
     match table {
         "patrons" => &mut tables.patrons,
         "items" => &mut tables.items,
@@ -101,7 +97,7 @@ fn no_inputs(alloc: Global) -> Inputs {
 }
 
 /// A row more of a table, or that it has none.
-pub(crate) fn add_row(tables: &mut Tables, rest: &str) -> Result<(), AllocError> {
+fn add_row(tables: &mut Tables, rest: &str) -> Result<(), AllocError> {
     let (table, row) = rest.split_once(' ').unwrap_or((rest, ""));
     let rows = table_of(tables, table);
     if rows.is_empty() {
@@ -110,15 +106,6 @@ pub(crate) fn add_row(tables: &mut Tables, rest: &str) -> Result<(), AllocError>
     if !row.is_empty() {
         rows.extend_from_slice(row.as_bytes())?;
         rows.extend_from_slice(b"\n")?;
-    }
-    Ok(())
-}
-
-/// A number of patrons, all of whom wait for the item I1; their ids are a W and a number.
-fn add_waiting(alloc: Global, tables: &mut Tables, count: &str) -> Result<(), AllocError> {
-    for n in 1..=count.parse::<u32>().unwrap_or(0) {
-        add_row(tables, format!(in alloc; "patrons W{n},Wes,A,N")?.as_str())?;
-        add_row(tables, format!(in alloc; "holds I1,W{n},Main")?.as_str())?;
     }
     Ok(())
 }
@@ -136,7 +123,7 @@ pub(crate) fn prepare(alloc: Global, inputs: &Inputs) -> Result<Prepared<'_>, Fa
 {
     let policy = Policy::read(alloc, inputs.policy.as_slice())?;
     let journal = Journal::read(alloc, inputs.journal.as_slice())?;
-    let base = Base::read(alloc, &policy, &inputs.tables, journal.first())?;
+    let base = read_base(alloc, &policy, &inputs.tables, journal.first())?;
     let plan = Plan::new(alloc, policy, base, &journal)?;
     Ok(Prepared { plan, journal })
 }
@@ -222,7 +209,6 @@ impl Row {
                 self.inputs.policy.extend_from_slice(rest.as_bytes())?;
             }
             "base" => add_row(&mut self.inputs.tables, rest)?,
-            "waiting" => add_waiting(alloc, &mut self.inputs.tables, rest)?,
             "after" => add_row(&mut self.after, rest)?,
             "first" => self.line = rest.parse::<u64>().unwrap_or(1).saturating_sub(1),
             "asked" => self.ask(alloc, rest)?,

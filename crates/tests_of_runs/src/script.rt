@@ -19,7 +19,7 @@ use version_store::{Place, VersionTable};
 /// How many workers each script has: 0, 1 and 2.
 pub(crate) const WORKERS: u32 = 3;
 
-/// A script: the inputs of its run, its calls, and what else it tells.
+/// A script: the inputs of its run, its calls, and what else it says.
 pub(crate) struct Script<'a> {
     pub(crate) title: &'a str,
     pub(crate) row: Row,
@@ -48,7 +48,7 @@ impl Drop for Script<'_> {
 }
 
 impl<'a> Script<'a> {
-    /// The script that a text tells.
+    /// The script of a text.
     pub(crate) fn read<R: AllocGlobal + Abort>(
         rt: &R,
         title: &'a str,
@@ -136,7 +136,7 @@ pub(crate) fn run_script<R: Wait + AllocGlobal + Abort>(
     run_beginnings(rt, title, &script.row, lines, script.given)
 }
 
-/// Plays the calls of a script one after another on a new board, and its steps as a list on another one where it tells where that halts.
+/// Plays the calls of a script one after another on a new board, and its steps as a list on another one where it says where that halts.
 fn play_on_boards<J: PlanName, R: Wait + AllocGlobal + Abort>(
     rt: &R,
     plan: &Plan,

@@ -1,4 +1,4 @@
-//! Records that need not fit together, told in lines, as a source of the meaning of a line.
+//! Records that need not fit together, one a line, as a source of the meaning of a line.
 //!
 //! A record is written as its key, a colon and its fields: `patron P1: patron, Ann, A, N, I1+V1, F1` (name, class, blocked,
 //! loans, open fees), `item I1: item, One, 001, Main, P2 20260316 0, P1+P2` (title, media type, location, loan, queue),
@@ -68,7 +68,7 @@ impl Shelf {
         }
     }
 
-    /// Takes in a record. False where the line tells none.
+    /// Takes in a record. False where the line has none.
     pub(crate) fn take(&mut self, alloc: Global, line: &str) -> Result<bool, AllocError> {
         let (key, fields) = line.split_once(": ").unwrap_or((line, ""));
         match (key_in(alloc, key)?, record_in(alloc, fields)?) {
@@ -235,13 +235,13 @@ fn until_in(text: &str) -> Option<(Day, u32)> {
     Some((Day::of(year, month, day)?, renewals.parse().ok()?))
 }
 
-/// Tells a record as a line.
+/// Writes a record as a line.
 pub(crate) fn tell(out: &mut String, key: &Key, record: &Record) -> Result<(), AllocError> {
     tell_record(out, key, record)?;
     out.push('\n')
 }
 
-/// Tells a record by its key and its fields.
+/// Writes a record by its key and its fields.
 pub(crate) fn tell_record(out: &mut String, key: &Key, record: &Record) -> Result<(), AllocError> {
     let kind = match key {
         Key::Patron(_) => "patron",

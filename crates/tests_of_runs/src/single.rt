@@ -94,7 +94,7 @@ impl Single {
     }
 }
 
-/// What the one run of the line 1 tells over records at which it looks. Their ids, joined by blanks, are appended to `seen`.
+/// What the one run of the line 1 does over records at which it looks. Their ids, joined by blanks, are appended to `seen`.
 fn look_once(
     alloc: Global,
     plan: &Plan,
@@ -112,7 +112,7 @@ fn look_once(
     told(alloc, &effect.answer, effect.writes.as_slice())
 }
 
-/// What the version of the line 1 tells. The ids of the records for which the line asks, joined by blanks, are appended to `wants`.
+/// What the version of the line 1 does. The ids of the records for which the line asks, joined by blanks, are appended to `wants`.
 fn ask<J: PlanName>(
     alloc: Global,
     plan: &Plan,

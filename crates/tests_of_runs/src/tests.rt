@@ -1,9 +1,6 @@
 //! The tests that run the books.
 
-use crate::books::{
-    checkins, checkouts, driving, fees, holds, odd, patrons, recorded, renewals, tables, unread,
-    wants,
-};
+use crate::books::{driving, odd, wants};
 use crate::row::Row;
 use crate::runs::run_row;
 use crate::script::run_script;
@@ -37,7 +34,7 @@ fn run_lines<R: Wait + AllocGlobal + Abort>(rt: &R, title: &str, lines: &str) ->
     }
 }
 
-/// The row that a text tells.
+/// The row of a text.
 pub(crate) fn row_of<R: AllocGlobal + Abort>(
     rt: &R,
     title: &str,
@@ -67,34 +64,8 @@ fn run_single(rt: &impl Abort, alloc: Global, title: &str, lines: &str) -> Resul
 }
 
 #[test]
-fn rows_of_loans(rt: HostRuntime) -> Result<(), Fail> {
-    let books = [
-        checkins::BACK,
-        checkouts::MADE,
-        checkouts::REFUSED,
-        checkouts::OWN,
-        renewals::ONE,
-        renewals::ALL,
-    ];
-    run_books(&rt, &books)
-}
-
-#[test]
-fn rows_of_patrons(rt: HostRuntime) -> Result<(), Fail> {
-    let books = [
-        fees::PAID,
-        holds::QUEUES,
-        patrons::STATUS,
-        patrons::ITEMS,
-        recorded::RESPONSES,
-    ];
-    run_books(&rt, &books)
-}
-
-#[test]
 fn rows_of_runs(rt: HostRuntime) -> Result<(), Fail> {
-    let books = [driving::DAYS, tables::BROKEN, unread::PASSED, lists::LISTS];
-    run_books(&rt, &books)
+    run_books(&rt, &[driving::DAYS, lists::LISTS])
 }
 
 #[test]

@@ -12,7 +12,7 @@ use Rattle.circ_records.specs.Keys.{key_cmp}
 use Rattle.circ_records.specs.declared.key.Key.{Key}
 use Rattle.version_store.specs.Entries.{keyed}
 use Rattle.version_store.specs.Devices.Positions.{all_marked, marked}
-use Rattle.version_store.specs.declared.entry.Entry.{Entry}
+use Rattle.version_store.specs.declared.entry.StoredEntry.{StoredEntry}
 
 module _ {X : Type 0} where
   abbrev keyed_one : Bor Key × X → Key × X
@@ -69,9 +69,9 @@ pub missed_next : {X : Type 0} (es rest : List (Key × X)) (k : Key) (e : Key ×
 missed_next es rest k e more is = ap (find key_cmp k) more ∙ ap (λ b. cond b (Some e.1) (find key_cmp k rest)) is
 
 -- ---- all entries are marked
-pub keyed_marked : {J : Type 0} (es : List (Bor Key × Entry J)) → keyed (all_marked es) ≡ all_marked (keyed es)
+pub keyed_marked : {J : Type 0} (es : List (Bor Key × StoredEntry J)) → keyed (all_marked es) ≡ all_marked (keyed es)
 keyed_marked [] = refl
-keyed_marked (e ∷ es) = ap (λ (l : List (Key × Entry _)). (e.0.now, marked e.1) ∷ l) (keyed_marked es)
+keyed_marked (e ∷ es) = ap (λ (l : List (Key × StoredEntry _)). (e.0.now, marked e.1) ∷ l) (keyed_marked es)
 
 -- ---- the last of some entries of which one is that of the key
 pub one_has : {X : Type 0} (es : List (Key × X)) (k : Key) → is_some (find key_cmp k es) ≡ true → 0 < length es

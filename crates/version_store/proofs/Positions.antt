@@ -12,7 +12,7 @@ use Rattle.std.proofs.lemmas.List.Sorted.{searchable_from_sorted}
 use Rattle.circ_records.specs.Keys.{key_cmp, key_cmp_total, key_cmp-IsAntisymmetric}
 use Rattle.circ_records.specs.declared.key.Key.{Key}
 use Rattle.version_store.specs.Devices.Positions.{IsAt, IsGap, Rise, all_marked, marked}
-use Rattle.version_store.specs.declared.entry.Entry.{Entry}
+use Rattle.version_store.specs.declared.entry.StoredEntry.{StoredEntry}
 
 pub first : (a b : Bool) → T (a && b) → T a
 first true b p = tt
@@ -201,13 +201,13 @@ module _ {X : Type 0} where
       ap (λ (l : List (Key × X)). e ∷ l) (at_out es k i (second _ _ s) later) ∙ sym (out_step Greater k e es (at_later e es k i s later))
 
 -- ---- entries that are marked one by one
-mark_at : {K J : Type 0} (es : List (K × Entry J)) (i : ℕ) (e : K × Entry J) → i < length es
+mark_at : {K J : Type 0} (es : List (K × StoredEntry J)) (i : ℕ) (e : K × StoredEntry J) → i < length es
     → e ≡ get_or (all_marked (take i es) ++ drop i es) i e
     → set (all_marked (take i es) ++ drop i es) i (e.0, marked e.1) ≡ all_marked (take (suc i) es) ++ drop (suc i) es
 mark_at [] i e lt is = absurd (omega (arith, lt))
-mark_at {K} {J} (x ∷ es) zero e lt is = ap (λ (y : K × Entry J). (y.0, marked y.1) ∷ es) is
-mark_at {K} {J} (x ∷ es) (suc i) e lt is = ap (λ (l : List (K × Entry J)). (x.0, marked x.1) ∷ l) (mark_at es i e (omega (arith, lt)) is)
+mark_at {K} {J} (x ∷ es) zero e lt is = ap (λ (y : K × StoredEntry J). (y.0, marked y.1) ∷ es) is
+mark_at {K} {J} (x ∷ es) (suc i) e lt is = ap (λ (l : List (K × StoredEntry J)). (x.0, marked x.1) ∷ l) (mark_at es i e (omega (arith, lt)) is)
 
-pub mark_next : {K J : Type 0} (es ls : List (K × Entry J)) (i n : ℕ) (e : K × Entry J) → ls ≡ all_marked (take i es) ++ drop i es → n ≡ suc i → i < length es
+pub mark_next : {K J : Type 0} (es ls : List (K × StoredEntry J)) (i n : ℕ) (e : K × StoredEntry J) → ls ≡ all_marked (take i es) ++ drop i es → n ≡ suc i → i < length es
     → e ≡ get_or ls i e → set ls i (e.0, marked e.1) ≡ all_marked (take n es) ++ drop n es
 mark_next es ls i n e so_far next lt is = rw (so_far, next) (mark_at es i e lt (is ∙ ap (λ l. get_or l i e) so_far))

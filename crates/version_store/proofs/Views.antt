@@ -11,7 +11,7 @@ use Rattle.circ_records.specs.Keys.{key_cmp, key_cmp_total, key_cmp-IsAntisymmet
 use Rattle.circ_records.specs.declared.key.Key.{Key}
 use Rattle.version_store.specs.Entries.{Line, shown, shown_pair, line_of, as_suspect, suspected}
 use Rattle.version_store.specs.Devices.Positions.{Rise, all_marked, marked}
-use Rattle.version_store.specs.declared.entry.Entry.{Entry}
+use Rattle.version_store.specs.declared.entry.StoredEntry.{StoredEntry}
 use Rattle.version_store.proofs.Positions.{others}
 
 -- ---- look-ups where the values are changed
@@ -26,7 +26,7 @@ find_map f q (e ∷ es) =
     ∙ sym (map_cond f (eq_by_cmp key_cmp q e.0) (Some e.1) (find key_cmp q es))
 
 -- what a line's entries are at a key
-pub get_shown : {J : Type 0} (es : List (Key × Entry J)) (q : Key) → get (line_of es) q ≡ option_map shown (find key_cmp q es)
+pub get_shown : {J : Type 0} (es : List (Key × StoredEntry J)) (q : Key) → get (line_of es) q ≡ option_map shown (find key_cmp q es)
 get_shown es q = get-from_entries key_cmp_total (map shown_pair es) q ∙ find_map shown q es
 
 is_some_map : {A B : Type 0} (f : A → B) (o : Option A) → is_some (option_map f o) ≡ is_some o
@@ -34,7 +34,7 @@ is_some_map f None = refl
 is_some_map f (Some x) = refl
 
 -- and where there is one
-pub some_shown : {J : Type 0} (es : List (Key × Entry J)) (q : Key) → is_some (get (line_of es) q) ≡ true → is_some (find key_cmp q es) ≡ true
+pub some_shown : {J : Type 0} (es : List (Key × StoredEntry J)) (q : Key) → is_some (get (line_of es) q) ≡ true → is_some (find key_cmp q es) ≡ true
 some_shown es q h = sym (is_some_map shown (find key_cmp q es)) ∙ sym (ap (λ o. is_some o) (get_shown es q)) ∙ h
 
 -- a line whose entries are suspect
@@ -47,7 +47,7 @@ pub turn : (k q : Key) → eq_by_cmp key_cmp k q ≡ eq_by_cmp key_cmp q k
 turn k q = (eq_by_cmp_equiv key_cmp_total).symm k q
 
 -- ---- one entry put in or taken out, and all made suspect
-pub line_put : {J : Type 0} (es : List (Key × Entry J)) (k : Key) (e : Entry J) → line_of (put key_cmp k e es) ≡ insert (line_of es) k (shown e)
+pub line_put : {J : Type 0} (es : List (Key × StoredEntry J)) (k : Key) (e : StoredEntry J) → line_of (put key_cmp k e es) ≡ insert (line_of es) k (shown e)
 line_put es k e = same_map key_cmp_total key_cmp-IsAntisymmetric _ _ (λ q.
     get_shown (put key_cmp k e es) q
     ∙ ap (option_map shown) (find-put key_cmp key_cmp_total q k e es)
@@ -65,7 +65,7 @@ out_find es k q =
     ∙ turned (eq_by_cmp key_cmp k q) (find key_cmp q es)
     ∙ ap (λ b. cond b None (find key_cmp q es)) (turn k q)
 
-pub line_out : {J : Type 0} (es : List (Key × Entry J)) (k : Key) → line_of (where_key key_cmp (others k) es) ≡ remove (line_of es) k
+pub line_out : {J : Type 0} (es : List (Key × StoredEntry J)) (k : Key) → line_of (where_key key_cmp (others k) es) ≡ remove (line_of es) k
 line_out es k = same_map key_cmp_total key_cmp-IsAntisymmetric _ _ (λ q.
     get_shown (where_key key_cmp (others k) es) q
     ∙ ap (option_map shown) (out_find es k q)
@@ -78,7 +78,7 @@ twice f g h e None = refl
 twice f g h e (Some x) = ap (λ y. Some y) (e x)
 
 -- each entry is suspect now
-pub line_marked : {J : Type 0} (es : List (Key × Entry J)) → line_of (all_marked es) ≡ suspected (line_of es)
+pub line_marked : {J : Type 0} (es : List (Key × StoredEntry J)) → line_of (all_marked es) ≡ suspected (line_of es)
 line_marked es = same_map key_cmp_total key_cmp-IsAntisymmetric _ _ (λ q.
     get_shown (all_marked es) q
     ∙ ap (option_map shown) (find_map marked q es)
@@ -96,7 +96,7 @@ sorted_map f [] = refl
 sorted_map f (e ∷ es) = ap₂ (λ a b. a && b) (below_map f e.0 es) (sorted_map f es)
 
 -- entries whose keys rise are those of their map
-entries-shown : {J : Type 0} (es : List (Key × Entry J)) → Rise es → entries (from_entries {R = key_cmp} (map shown_pair es)) ≡ map shown_pair es
+entries-shown : {J : Type 0} (es : List (Key × StoredEntry J)) → Rise es → entries (from_entries {R = key_cmp} (map shown_pair es)) ≡ map shown_pair es
 entries-shown es h =
     let s : T (is_sorted key_cmp (map shown_pair es)) = subst T (sym (sorted_map shown es)) h in
     let e : from_entries {R = key_cmp} (map shown_pair es) ≡ from_sorted (map shown_pair es) =
@@ -104,10 +104,10 @@ entries-shown es h =
     ap entries e ∙ entries-from_sorted key_cmp (map shown_pair es) s
 
 -- a line has as many entries as are stored
-pub entries_count : {J : Type 0} (es : List (Key × Entry J)) → Rise es → length (entries (line_of es)) ≡ length es
+pub entries_count : {J : Type 0} (es : List (Key × StoredEntry J)) → Rise es → length (entries (line_of es)) ≡ length es
 entries_count es s = ap (λ l. length l) (entries-shown es s) ∙ length-map es shown_pair
 
-pub entry_at : {J : Type 0} (es : List (Key × Entry J)) (i : ℕ) (o : Option (Key × Entry J))
+pub entry_at : {J : Type 0} (es : List (Key × StoredEntry J)) (i : ℕ) (o : Option (Key × StoredEntry J))
     → Rise es → o ≡ slice_get es i
     → slice_get (entries (line_of es)) i ≡ option_map shown_pair o
 entry_at es i o s e = ap (λ l. slice_get l i) (entries-shown es s) ∙ slice_get-map shown_pair es i ∙ ap (option_map shown_pair) (sym e)

@@ -11,7 +11,7 @@ use Rattle.std.specs.FinMap.Entries.{below_all, find}
 use Rattle.circ_records.specs.Keys.{key_cmp, key_cmp_total, key_cmp-IsAntisymmetric}
 use Rattle.circ_records.specs.declared.key.Key.{Key}
 use Rattle.version_store.specs.Entries.{Shown, shown, line_of, AllOf, IsLeastLeft}
-use Rattle.version_store.specs.declared.entry.Entry.{Entry}
+use Rattle.version_store.specs.declared.entry.StoredEntry.{StoredEntry}
 use Rattle.version_store.specs.Devices.Positions.{Rise}
 use Rattle.version_store.proofs.Positions.{first, second, less}
 use Rattle.version_store.proofs.Views.{get_shown}
@@ -113,22 +113,22 @@ module _ {X : Type 0} where
     ]
 
 -- ---- entries of an attempt
-shown_some : {J : Type 0} (o : Option (Entry J)) (s : Shown) → option_map shown o ≡ Some s → (e : Entry J) × (o ≡ Some e) × (shown e ≡ s)
+shown_some : {J : Type 0} (o : Option (StoredEntry J)) (s : Shown) → option_map shown o ≡ Some s → (e : StoredEntry J) × (o ≡ Some e) × (shown e ≡ s)
 shown_some None s h = absurd (none-some s h)
 shown_some (Some e) s h = (e, refl, same_Some (shown e) s h)
 
-abbrev pub IsOwn : {J : Type 0} → ℕ → Key → Entry J → Type 0
+abbrev pub IsOwn : {J : Type 0} → ℕ → Key → StoredEntry J → Type 0
 IsOwn a q e = e.attempt ≡ a
 
-own_shown : {J : Type 0} (es : List (Key × Entry J)) (a : ℕ) (q : Key) → ((e : Entry J) → look q es ≡ Some e → e.attempt ≡ a) → (s : Shown) → get (line_of es) q ≡ Some s → s.attempt ≡ a
+own_shown : {J : Type 0} (es : List (Key × StoredEntry J)) (a : ℕ) (q : Key) → ((e : StoredEntry J) → look q es ≡ Some e → e.attempt ≡ a) → (s : Shown) → get (line_of es) q ≡ Some s → s.attempt ≡ a
 own_shown es a q own s h =
     let x = shown_some (look q es) s (sym (get_shown es q) ∙ h) in
     ap (λ (y : Shown). y.attempt) (sym x.2) ∙ own x.0 x.1
 
-pub all_own : {J : Type 0} (es : List (Key × Entry J)) (a : ℕ) → ((q : Key) (e : Entry J) → look q es ≡ Some e → e.attempt ≡ a) → AllOf (line_of es) a
+pub all_own : {J : Type 0} (es : List (Key × StoredEntry J)) (a : ℕ) → ((q : Key) (e : StoredEntry J) → look q es ≡ Some e → e.attempt ≡ a) → AllOf (line_of es) a
 all_own es a own = λ q s h. own_shown es a q (own q) s h
 
-pub least_left : {J : Type 0} (es : List (Key × Entry J)) (a : ℕ) (k : Key) (e : Entry J) → look k es ≡ Some e → e.attempt ≢ a
-    → ((q : Key) (u : Entry J) → key_cmp q k ≡ Less → look q es ≡ Some u → u.attempt ≡ a) → IsLeastLeft (line_of es) a k
+pub least_left : {J : Type 0} (es : List (Key × StoredEntry J)) (a : ℕ) (k : Key) (e : StoredEntry J) → look k es ≡ Some e → e.attempt ≢ a
+    → ((q : Key) (u : StoredEntry J) → key_cmp q k ≡ Less → look q es ≡ Some u → u.attempt ≡ a) → IsLeastLeft (line_of es) a k
 least_left es a k e here apart below =
     ((shown e, get_shown es k ∙ ap (option_map shown) here, apart), λ q s lt h. own_shown es a q (λ u g. below q u lt g) s h)

@@ -8,11 +8,11 @@ use Rattle.circ_records.specs.declared.key.Key.{Key}
 use Rattle.read_set.specs.Settling.{Contents}
 use Rattle.read_set.specs.declared.notes.Name.{Name}
 use Rattle.read_set.specs.declared.notes.Name.TheVariants as names
-use Rattle.version_store.specs.declared.entry.Entry.{Entry}
+use Rattle.version_store.specs.declared.entry.StoredEntry.{StoredEntry}
 use Rattle.version_store.specs.declared.entry.Found.{Found}
 use Rattle.version_store.specs.declared.entry.Found.TheVariants as found
-use Rattle.version_store.specs.declared.entry.Seen.{Seen}
-use Rattle.version_store.specs.declared.entry.Seen.TheVariants as sees
+use Rattle.version_store.specs.declared.entry.SeenEntry.{SeenEntry}
+use Rattle.version_store.specs.declared.entry.SeenEntry.TheVariants as sees
 use Rattle.version_store.specs.declared.table.Place.{Place}
 
 -- an entry of a line at a key: the attempt that placed it, whether it is suspect, and what the version at its place says
@@ -118,7 +118,7 @@ abbrev pub sight_at : (ℕ → Line) → ℕ → Key → Sight
 sight_at lines n k = sight_of (visible lines n k)
 
 -- ---- values of the code
-abbrev pub shown : {J : Type 0} → Entry J → Shown
+abbrev pub shown : {J : Type 0} → StoredEntry J → Shown
 shown e = record { attempt = e.attempt; suspect = e.suspect; contents = e.place.version.now }
 
 -- what the version at a place says
@@ -129,10 +129,10 @@ contents_in place = place.version.now
 abbrev pub keyed : {X : Type 0} → List (Bor Key × X) → List (Key × X)
 keyed es = map (λ e. (e.0.now, e.1)) es
 
-abbrev pub shown_pair : {J : Type 0} → Key × Entry J → Key × Shown
+abbrev pub shown_pair : {J : Type 0} → Key × StoredEntry J → Key × Shown
 shown_pair e = (e.0, shown e.1)
 
-abbrev pub line_of : {J : Type 0} → List (Key × Entry J) → Line
+abbrev pub line_of : {J : Type 0} → List (Key × StoredEntry J) → Line
 line_of es = from_entries (map shown_pair es)
 
 -- the key and the attempt of an entry
@@ -140,7 +140,7 @@ abbrev pub IsNamedAt : Option (Key × Shown) → Option (Bor Key × ℕ) → Typ
 IsNamedAt None r = r ≡ None
 IsNamedAt (Some e) r = option_map {U = Key × ℕ} (λ p. (p.0.now, p.1)) r ≡ Some (e.0, e.1.attempt)
 
-abbrev pub seen : {J : Type 0} → Seen J → Sight
+abbrev pub seen : {J : Type 0} → SeenEntry J → Sight
 seen sees.Base = SeesBase
 seen (sees.Made name place) = Sees name place.version.now
 seen (sees.Suspect line) = SeesSuspect line

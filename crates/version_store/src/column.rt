@@ -9,15 +9,15 @@ ghost use Rattle.version_store.specs.Devices.Columns.{AreBelow, GoesTo, Rising, 
 use std::alloc::{AllocError, Global};
 use std::marker::Model;
 
-/// A vector of fewer lines than this grows by one line, so that it takes no more room than it needs.
+/// A vector of fewer lines than this grows by one line, so that it takes no more memory than it needs.
 const EXACT_BELOW: usize = 8;
 
-/// The first room is for this many lines: the least block of memory has it.
+/// The first allocation has capacity for this many lines, which fit in the smallest block of memory.
 const FIRST_ROOM: usize = 3;
 
 /// The lines that have an entry at one key. The greatest is inline, since mostly it is the one that is looked for. The others
 /// are on the heap, as a vector that rises: most keys have few lines, for which the least node of a tree would take more memory.
-/// Lines mostly come rising, and mostly a late one is removed, so few others are moved.
+/// Lines are mostly added in rising order, and mostly a late one is removed, so few others are moved.
 pub struct Column {
     /// The greatest; none only where there are no lines.
     newest: Option<u64>,
@@ -46,7 +46,7 @@ impl Model for Column {
 }
 
 impl Column {
-    /// One line.
+    /// A column of one line.
     pub fn of(alloc: Global, line: u64) -> Column
         ensures { result ≡ line ∷ [] }
     {
@@ -56,7 +56,7 @@ impl Column {
         }
     }
 
-    /// The line is in it.
+    /// Adds a line.
     pub fn insert(&mut self, line: u64) -> Result<(), AllocError>
         ensures put { OnOk result ((m : ℕ) → has self.new m ≡ cond (eq_by_cmp nat_cmp line m) true (has self.old m)) }
         ensures same { OnErr result (self.new ≡ self.old) }
@@ -80,7 +80,7 @@ impl Column {
         insert_at(&mut self.older, position, line)
     }
 
-    /// The line isn't in it.
+    /// Removes a line, if it is there.
     pub fn remove(&mut self, line: u64)
         ensures { (m : ℕ) → has self.new m ≡ cond (eq_by_cmp nat_cmp line m) false (has self.old m) }
     {
@@ -139,7 +139,7 @@ fn count_below(lines: &[u64], line: u64) -> usize
     }
 }
 
-/// Puts a line at a position. While there are few lines, it makes no more room than they need: a column stays until the run ends.
+/// Puts a line at a position. While there are few lines, it allocates no more memory than they need: a column stays until the run ends.
 fn insert_at(lines: &mut Vec<u64>, position: usize, line: u64) -> Result<(), AllocError>
     requires { position ≤ length lines.old.items }
     ensures items { OnOk result (lines.new.items ≡ insert lines.old.items position line) }

@@ -3,30 +3,30 @@ use read_set::{Name, PlanName};
 use std::alloc::AllocError;
 
 /// What an attempt at a line placed at a key: its record is in the version at the place.
-pub struct Entry<'t, J: PlanName> {
+pub struct StoredEntry<'t, J: PlanName> {
     pub attempt: u32,
     /// Whether a check of the line has failed since it was placed.
     pub suspect: bool,
     pub place: Place<'t, J>,
 }
 
-impl<'t, J: PlanName> Clone for Entry<'t, J> {
+impl<'t, J: PlanName> Clone for StoredEntry<'t, J> {
     ghost use Rattle.std.specs.Prelude.{◌≡◌, ⊤};
 
     ghost is_clone = { λ x y. y ≡ x };
 
     ghost is_infallible = { λ _. ⊤ };
 
-    fn clone(&self) -> Result<Entry<'t, J>, AllocError> {
+    fn clone(&self) -> Result<StoredEntry<'t, J>, AllocError> {
         Ok(*self)
     }
 }
 
-impl<'t, J: PlanName> Copy for Entry<'t, J> {}
+impl<'t, J: PlanName> Copy for StoredEntry<'t, J> {}
 
 /// What a line sees at a key.
 #[derive(Drop)]
-pub enum Seen<'t, J: PlanName> {
+pub enum SeenEntry<'t, J: PlanName> {
     /// No line below has an entry: the base's record, or that there is none.
     Base,
     /// The record that the version at the place writes.

@@ -38,7 +38,7 @@ impl KeyIndex {
         Ok(KeyIndex { parts })
     }
 
-    /// The line has an entry at the key.
+    /// Notes that the line has an entry at the key.
     pub fn set(&mut self, alloc: Global, key: &Key, line: u64) -> Result<(), AllocError>
         ensures put { OnOk result ((q : Key) (m : ℕ) → at self.new q m ≡ with_at key.now line true (at self.old) q m) }
         ensures same { OnErr result ((q : Key) (m : ℕ) → at self.new q m ≡ at self.old q m) }
@@ -54,7 +54,7 @@ impl KeyIndex {
         }
     }
 
-    /// The line has no entry at the key.
+    /// Notes that the line has no entry at the key.
     pub fn clear(&mut self, key: &Key, line: u64)
         ensures { (q : Key) (m : ℕ) → at self.new q m ≡ with_at key.now line false (at self.old) q m }
     {

@@ -16,6 +16,6 @@ mod slot;
 mod store;
 mod table;
 
-pub use entry::{Found, Seen};
+pub use entry::{Found, SeenEntry};
 pub use store::EntryStore;
 pub use table::{Place, VersionTable};

@@ -6,7 +6,7 @@ ghost use Rattle.circ_records.specs.Keys.{key_cmp};
 ghost use Rattle.version_store.specs.Entries.{AllOf, IsLeastLeft, IsNamedAt, keyed, line_of, no_entries, shown, suspected};
 ghost use Rattle.version_store.specs.Devices.Positions.{IsAt, IsGap, Rise, all_marked};
 
-use crate::entry::Entry;
+use crate::entry::StoredEntry;
 use crate::short_list::ShortList;
 use circ_records::Key;
 use read_set::PlanName;
@@ -15,7 +15,7 @@ use std::cmp::Ordering;
 use std::marker::Model;
 
 /// An entry, and its key, borrowed from the writes of the version at its place: with a key of its own it would take more memory.
-type Placed<'t, J> = (&'t Key, Entry<'t, J>);
+type Placed<'t, J> = (&'t Key, StoredEntry<'t, J>);
 
 /// Up to this many entries are searched one by one: whether two keys are the same costs less than their order.
 const SCANNED_MAX: usize = 4;
@@ -60,7 +60,7 @@ impl<'t, J: PlanName> LineEntries<'t, J> {
     }
 
     /// The entry at a key.
-    pub fn get(&self, key: &Key) -> Option<Entry<'t, J>>
+    pub fn get(&self, key: &Key) -> Option<StoredEntry<'t, J>>
         ensures { option_map shown result ≡ fin.get self.now key.now }
     {
         if self.entries.len() <= SCANNED_MAX {
@@ -73,7 +73,7 @@ impl<'t, J: PlanName> LineEntries<'t, J> {
     }
 
     /// The entry at a key that has one. Where a line has no other, no key is looked at.
-    pub fn known(&self, key: &Key) -> Entry<'t, J>
+    pub fn known(&self, key: &Key) -> StoredEntry<'t, J>
         requires { is_some (fin.get self.now key.now) ≡ true }
         ensures { Some (shown result) ≡ fin.get self.now key.now }
     {
@@ -87,7 +87,12 @@ impl<'t, J: PlanName> LineEntries<'t, J> {
     }
 
     /// Puts an entry at a key, and borrows the key.
-    pub fn put(&mut self, alloc: Global, key: &'t Key, made: Entry<'t, J>) -> Result<(), AllocError>
+    pub fn put(
+        &mut self,
+        alloc: Global,
+        key: &'t Key,
+        made: StoredEntry<'t, J>,
+    ) -> Result<(), AllocError>
         ensures put { OnOk result (self.new ≡ fin.insert self.old key.now (shown made.entry)) }
         ensures same { OnErr result (self.new ≡ self.old) }
         ensures absent { OnErr result (fin.get self.old key.now ≡ None) }
@@ -95,7 +100,7 @@ impl<'t, J: PlanName> LineEntries<'t, J> {
         put_entry(&mut self.entries, alloc, key, made)
     }
 
-    /// Takes the entry at a key out.
+    /// Removes the entry at a key.
     pub fn take_out(&mut self, key: &Key)
         ensures { self.new ≡ fin.remove self.old key.now }
     {
@@ -141,7 +146,7 @@ impl<'t, J: PlanName> LineEntries<'t, J> {
 fn entry_among<'t, J: PlanName>(
     entries: &ShortList<Placed<'t, J>>,
     key: &Key,
-) -> Option<Entry<'t, J>>
+) -> Option<StoredEntry<'t, J>>
     ensures { result ≡ fin.find key_cmp key.now (keyed entries.now) }
 {
     for i in 0..entries.len() {
@@ -154,7 +159,7 @@ fn entry_among<'t, J: PlanName>(
 }
 
 /// The entry at a key of which a few have one: what none of the others has, the last has.
-fn known_among<'t, J: PlanName>(entries: &ShortList<Placed<'t, J>>, key: &Key) -> Entry<'t, J>
+fn known_among<'t, J: PlanName>(entries: &ShortList<Placed<'t, J>>, key: &Key) -> StoredEntry<'t, J>
     requires { is_some (fin.find key_cmp key.now (keyed entries.now)) ≡ true }
     ensures { Some result ≡ fin.find key_cmp key.now (keyed entries.now) }
 {
@@ -191,7 +196,7 @@ fn put_entry<'t, J: PlanName>(
     entries: &mut ShortList<Placed<'t, J>>,
     alloc: Global,
     key: &'t Key,
-    made: Entry<'t, J>,
+    made: StoredEntry<'t, J>,
 ) -> Result<(), AllocError>
     requires { Rise (keyed entries.old) }
     ensures put { OnOk result (keyed entries.new ≡ fin.put key_cmp key.now made.entry (keyed entries.old)) }

@@ -139,7 +139,7 @@ impl IndexPart {
     }
 }
 
-/// Adds a slot, and makes little more room than it needs: a part stays until the run ends.
+/// Adds a slot, and allocates little more memory than it needs: a part stays until the run ends.
 fn add(slots: &mut Vec<Slot>, slot: Slot) -> Result<(), AllocError>
     ensures put { OnOk result (slots.new.items ≡ slots.old.items ++ slot ∷ []) }
     ensures same { OnErr result (slots.new.items ≡ slots.old.items) }

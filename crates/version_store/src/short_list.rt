@@ -9,15 +9,15 @@ use std::collections::VecDeque;
 use std::marker::Model;
 use std::ops::Index;
 
-/// A list of fewer elements than this grows by one element, so that it takes no more room than it needs.
+/// A list of fewer elements than this grows by one element, so that it takes no more memory than it needs.
 const EXACT_BELOW: usize = 8;
 
-/// The first room on the heap is for this many elements: one more than are inline.
+/// The first allocation on the heap has capacity for this many elements: one more than are inline.
 const FIRST_ROOM: usize = 3;
 
 /// A list of which up to two elements are inline. A longer one is on the heap.
 pub struct ShortList<T: Copy> {
-    held: Held<T>,
+    held: ShortItems<T>,
 }
 
 impl<T: Copy> Drop for ShortList<T> {
@@ -27,7 +27,7 @@ impl<T: Copy> Drop for ShortList<T> {
 }
 
 /// Where the elements are.
-enum Held<T: Copy> {
+enum ShortItems<T: Copy> {
     Nothing,
     One(T),
     Two(T, T),
@@ -35,13 +35,13 @@ enum Held<T: Copy> {
     Many(VecDeque<T>),
 }
 
-impl<T: Copy> Drop for Held<T> {
+impl<T: Copy> Drop for ShortItems<T> {
     fn drop(self) {
         match self {
-            Held::Nothing => {}
-            Held::One(_) => {}
-            Held::Two(_, _) => {}
-            Held::Many(_) => {}
+            ShortItems::Nothing => {}
+            ShortItems::One(_) => {}
+            ShortItems::Two(_, _) => {}
+            ShortItems::Many(_) => {}
         }
     }
 }
@@ -56,12 +56,12 @@ impl<T: Copy> Model for ShortList<T> {
 }
 
 impl<T: Copy> ShortList<T> {
-    /// The empty list.
+    /// An empty list.
     pub fn new() -> ShortList<T>
         ensures { result ≡ [] }
     {
         ShortList {
-            held: Held::Nothing,
+            held: ShortItems::Nothing,
         }
     }
 
@@ -70,66 +70,66 @@ impl<T: Copy> ShortList<T> {
         ensures { result ≡ length self.now }
     {
         match &self.held {
-            Held::Nothing => 0,
-            Held::One(_) => 1,
-            Held::Two(_, _) => 2,
-            Held::Many(many) => many.len(),
+            ShortItems::Nothing => 0,
+            ShortItems::One(_) => 1,
+            ShortItems::Two(_, _) => 2,
+            ShortItems::Many(many) => many.len(),
         }
     }
 
-    /// Another element at a position.
+    /// Replaces the element at a position.
     pub fn set(&mut self, position: usize, value: T)
         requires { position < length self.old }
         ensures { self.new ≡ slice_set self.old position value }
     {
         match &mut self.held {
-            Held::Nothing => {}
-            Held::One(first) => *first = value,
-            Held::Two(first, second) => {
+            ShortItems::Nothing => {}
+            ShortItems::One(first) => *first = value,
+            ShortItems::Two(first, second) => {
                 if position == 0 {
                     *first = value;
                 } else {
                     *second = value;
                 }
             }
-            Held::Many(many) => many[position] = value,
+            ShortItems::Many(many) => many[position] = value,
         }
     }
 
-    /// One more element at a position. Out of memory, nothing changes.
+    /// Inserts an element at a position. Out of memory, nothing changes.
     pub fn insert(&mut self, alloc: Global, position: usize, value: T) -> Result<(), AllocError>
         requires { position ≤ length self.old }
         ensures put { OnOk result (self.new ≡ insert self.old position value) }
         ensures same { OnErr result (self.new ≡ self.old) }
     {
         match &mut self.held {
-            Held::Nothing => self.held = Held::One(value),
-            Held::One(first) => {
+            ShortItems::Nothing => self.held = ShortItems::One(value),
+            ShortItems::One(first) => {
                 let first = *first;
                 self.held = two_of(first, position, value);
             }
-            Held::Two(first, second) => {
+            ShortItems::Two(first, second) => {
                 let (first, second) = (*first, *second);
-                self.held = Held::Many(three_of(alloc, first, second, position, value)?);
+                self.held = ShortItems::Many(three_of(alloc, first, second, position, value)?);
             }
-            Held::Many(many) => return insert_among(many, position, value),
+            ShortItems::Many(many) => return insert_among(many, position, value),
         }
         Ok(())
     }
 
-    /// The element at a position leaves.
+    /// Removes the element at a position.
     pub fn remove(&mut self, position: usize)
         requires { position < length self.old }
         ensures { self.new ≡ remove self.old position }
     {
         match &mut self.held {
-            Held::Nothing => {}
-            Held::One(_) => self.held = Held::Nothing,
-            Held::Two(first, second) => {
+            ShortItems::Nothing => {}
+            ShortItems::One(_) => self.held = ShortItems::Nothing,
+            ShortItems::Two(first, second) => {
                 let other = if position == 0 { *second } else { *first };
-                self.held = Held::One(other);
+                self.held = ShortItems::One(other);
             }
-            Held::Many(many) => {
+            ShortItems::Many(many) => {
                 let _ = many.remove(position);
             }
         }
@@ -150,27 +150,27 @@ impl<T: Copy> Index<usize> for ShortList<T> {
         ensures { result.now ≡ slice_index_or self.now position result.now }
     {
         match &self.held {
-            Held::Nothing => unreachable!(),
-            Held::One(first) => first,
-            Held::Two(first, second) => { if position == 0 { first } else { second } }
-            Held::Many(many) => &many[position],
+            ShortItems::Nothing => unreachable!(),
+            ShortItems::One(first) => first,
+            ShortItems::Two(first, second) => { if position == 0 { first } else { second } }
+            ShortItems::Many(many) => &many[position],
         }
     }
 }
 
 /// One element, and another that goes before or after it.
-fn two_of<T: Copy>(first: T, position: usize, value: T) -> Held<T>
+fn two_of<T: Copy>(first: T, position: usize, value: T) -> ShortItems<T>
     requires { position ≤ 1 }
     ensures { listed result ≡ insert (first ∷ []) position value }
 {
     if position == 0 {
-        Held::Two(value, first)
+        ShortItems::Two(value, first)
     } else {
-        Held::Two(first, value)
+        ShortItems::Two(first, value)
     }
 }
 
-/// Two elements, and another that goes to a position, with room for no more.
+/// Two elements, and another that goes to a position, with capacity for no more.
 fn three_of<T: Copy>(
     alloc: Global,
     first: T,
@@ -188,7 +188,7 @@ fn three_of<T: Copy>(
     Ok(many)
 }
 
-/// One more element at a position. While there are few, it makes no more room than they need: a list stays until the run ends.
+/// Inserts one more element at a position. While there are few, it allocates no more memory than they need: a list stays until the run ends.
 fn insert_among<T: Copy>(
     many: &mut VecDeque<T>,
     position: usize,

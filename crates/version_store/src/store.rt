@@ -4,7 +4,7 @@ ghost use Rattle.std.specs.Prelude.{◌≡◌, ◌^◌, ◌<◌, ℕ, OnOk, OnEr
 ghost use Rattle.std.specs.FinMap as fin;
 ghost use Rattle.version_store.specs.Entries.{AllOf, IsLeastLeft, IsLine, IsNamedAt, attempt_at, found_at, line_at, no_rows, none_placed, position_of, seen, shown, shown_by, sight_at, suspected, contents_in, contents_seen, visible, with_line};
 
-use crate::entry::{Entry, Found, Seen};
+use crate::entry::{Found, SeenEntry, StoredEntry};
 use crate::index::KeyIndex;
 use crate::line::LineEntries;
 use crate::table::Place;
@@ -47,7 +47,7 @@ impl<'t, J: PlanName> Model for EntryStore<'t, J> {
 }
 
 impl<'t, J: PlanName> EntryStore<'t, J> {
-    /// This many lines from the first number on, none of which has an entry.
+    /// A store for this many lines from the number `first` on, none of which has an entry.
     pub fn new(alloc: Global, first: u64, lines: usize) -> Result<EntryStore<'t, J>, AllocError>
         ensures { IfOk result (λ s. s ≡ none_placed first lines) }
     {
@@ -59,16 +59,16 @@ impl<'t, J: PlanName> EntryStore<'t, J> {
     }
 
     /// What a line sees at a key: the entry of the greatest line below it that has one, else the base.
-    pub fn see(&self, key: &Key, below: u64) -> Seen<'t, J>
+    pub fn see(&self, key: &Key, below: u64) -> SeenEntry<'t, J>
         ensures { seen result ≡ sight_at (line_at self.now) below key.now }
     {
         let Some((line, made)) = self.latest(key, below) else {
-            return Seen::Base;
+            return SeenEntry::Base;
         };
         if made.suspect {
-            return Seen::Suspect { line };
+            return SeenEntry::Suspect { line };
         }
-        Seen::Made {
+        SeenEntry::Made {
             name: Name::Made {
                 line,
                 attempt: made.attempt,
@@ -144,7 +144,7 @@ impl<'t, J: PlanName> EntryStore<'t, J> {
         self.lines[position].left(attempt)
     }
 
-    /// The entry of a line at a key is of this attempt and at this place, and isn't suspect. It borrows the key. Out of memory,
+    /// Puts an entry of a line at a key: it is of this attempt and at this place, isn't suspect, and borrows the key. Out of memory,
     /// nothing changes.
     pub fn place(
         &mut self,
@@ -158,7 +158,7 @@ impl<'t, J: PlanName> EntryStore<'t, J> {
         ensures placed { OnOk result (self.new ≡ with_line self.old line (fin.insert (line_at self.old line) key.now (shown_by attempt place.entry.version.now))) }
         ensures same { OnErr result (self.new ≡ self.old) }
     {
-        let made = Entry {
+        let made = StoredEntry {
             attempt,
             suspect: false,
             place,
@@ -176,7 +176,7 @@ impl<'t, J: PlanName> EntryStore<'t, J> {
         }
     }
 
-    /// A line has no entry at a key any more.
+    /// Removes the entry of a line at a key, if it has one.
     pub fn lift(&mut self, line: u64, key: &Key)
         ensures { self.new ≡ with_line self.old line (fin.remove (line_at self.old line) key.now) }
     {
@@ -188,7 +188,7 @@ impl<'t, J: PlanName> EntryStore<'t, J> {
         self.index.clear(key, line);
     }
 
-    /// Each entry of a line is suspect.
+    /// Makes each entry of a line suspect.
     pub fn suspect_all(&mut self, line: u64)
         ensures { self.new ≡ with_line self.old line (suspected (line_at self.old line)) }
     {
@@ -214,7 +214,7 @@ impl<'t, J: PlanName> EntryStore<'t, J> {
     }
 
     /// The visible entry: that of the greatest line below this one that has one at the key.
-    fn latest(&self, key: &Key, below: u64) -> Option<(u64, Entry<'t, J>)>
+    fn latest(&self, key: &Key, below: u64) -> Option<(u64, StoredEntry<'t, J>)>
         ensures { option_map (λ p. (p.0, shown p.1)) result ≡ visible (line_at self.now) below key.now }
     {
         let Some(line) = self.index.latest_below(key, below) else {

@@ -6,19 +6,19 @@ use read_set::{PlanName, Version};
 use std::alloc::{AllocError, Global};
 use std::sync::Wait;
 
-/// There is a shelf for each 57,000 lines. A shelf makes room for twice as many versions as it has when seven eighths of its room are
-/// taken, and writes to all of it: this many lines, and a few that are run again, stay below such a mark.
+/// There is a shelf for each 57,000 lines. A shelf doubles its capacity when seven eighths of it are used, and writes to all of the
+/// new memory: this many lines, and a few that are run again, stay below such a mark.
 const LINES_A_SHELF: usize = 57_000;
 
-/// The versions that were made. None is changed or leaves before the table does. Each has memory of its own, since a shelf makes
-/// more room than it needs: so its elements are to be small.
+/// The versions that were made. None is changed, and none is dropped before the table is. Each is in a box, since a shelf allocates
+/// more memory than it needs: so its elements have to be small.
 pub struct VersionTable<J: PlanName> {
-    shelves: Vec<Shelf<J>>,
+    shelves: Vec<LineVersions<J>>,
     alloc: Global,
 }
 
 /// Some of the versions.
-type Shelf<J> = boxcar::Vec<Box<Version<J>>>;
+type LineVersions<J> = boxcar::Vec<Box<Version<J>>>;
 
 impl<J: PlanName> Drop for VersionTable<J> {
     fn drop(self) {
@@ -49,7 +49,7 @@ impl<'t, J: PlanName> Clone for Place<'t, J> {
 impl<'t, J: PlanName> Copy for Place<'t, J> {}
 
 impl<J: PlanName> VersionTable<J> {
-    /// A table with no version, for the versions of a few lines. More of them only take more room than they need.
+    /// A table with no version, for the versions of a few lines. With more lines it only takes more memory than they need.
     pub fn new(alloc: Global) -> Result<VersionTable<J>, AllocError> {
         VersionTable::for_lines(alloc, 1)
     }
@@ -59,7 +59,7 @@ impl<J: PlanName> VersionTable<J> {
         let count = lines / LINES_A_SHELF + 1;
         let mut shelves = Vec::with_capacity(alloc, count)?;
         for _i in 0..count {
-            shelves.push(Shelf::new(alloc)?)?;
+            shelves.push(LineVersions::new(alloc)?)?;
         }
         Ok(VersionTable { shelves, alloc })
     }
@@ -90,7 +90,7 @@ impl<J: PlanName> VersionTable<J> {
 }
 
 /// The shelf of a line's versions: one line after the other gets the next shelf.
-fn shelf_of<J: PlanName>(shelves: &[Shelf<J>], line: u64) -> Option<&Shelf<J>> {
+fn shelf_of<J: PlanName>(shelves: &[LineVersions<J>], line: u64) -> Option<&LineVersions<J>> {
     if shelves.is_empty() {
         return None;
     }

@@ -6,9 +6,9 @@ use Rattle.std.specs.Result.{result_err}
 use Rattle.std.proofs.lemmas.List.{append_assoc, append-nil}
 use Rattle.command_line.specs.declared.chosen.Options.{Options}
 use Rattle.circ_policy.specs.Terms.{Terms}
-use Rattle.circ_records.specs.Base.{base_of}
+use Rattle.record_tables.specs.Base.{base_of}
 use Rattle.circ_records.specs.Records.{Entries}
-use Rattle.circ_records.specs.declared.fault.BaseError.{BaseError}
+use Rattle.record_tables.specs.declared.fault.BaseError.{BaseError}
 use Rattle.journal_table.specs.Entry.{Entry}
 use Rattle.journal_table.specs.Journal.{journal_of}
 use Rattle.journal_table.specs.declared.error.JournalError.{JournalError}
@@ -21,7 +21,7 @@ use Rattle.table_rules.proofs.First.{first-is-the-fault}
 use Rattle.whole_run.specs.Checking.{AreLines, FirstIsRefused, IsRefusedFor, IsText, checked_line, count_line, faults_of, faults_of_journal, listed}
 use Rattle.whole_run.specs.Seeing.{IsOf}
 use Rattle.whole_run.specs.Telling.{remedy_of}
-use Rattle.whole_run.specs.declared.stop.Stop.{Stop}
+use Rattle.whole_run.specs.declared.stop.RunError.{RunError}
 
 refused-for : (policy : Terms) (read : Result (List Entry) JournalError) (base : Result Entries BaseError) (broken : List BaseError) → slice_get broken 0 ≡ result_err base
     → IsRefusedFor (with_base policy read base) (slice_get (map base_fault broken ++ faults_of_journal read) 0)
@@ -39,7 +39,7 @@ first-is-refused bytes policy texts journal is =
     (refused-for policy read (base_of policy texts (first_read read)) (broken_rules policy texts (first_read read)) (first-is-the-fault policy texts (first_read read)))
 
 -- one line more
-pub lines-more : (o : Options) (faults : List Fault) (fault : Fault) (stop : Stop) (text : List ℕ) → AreLines o faults text → IsOf fault stop
+pub lines-more : (o : Options) (faults : List Fault) (fault : Fault) (stop : RunError) (text : List ℕ) → AreLines o faults text → IsOf fault stop
     → AreLines o (faults ++ fault ∷ []) (text ++ remedy_of o stop)
 lines-more o [] fault stop text are of = (stop, [], of, refl, ap (λ t. t ++ remedy_of o stop) are ∙ sym (append-nil (remedy_of o stop)))
 lines-more o (f ∷ fs) fault stop text (s, more, is, rest, same) of =

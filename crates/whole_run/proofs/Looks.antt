@@ -12,7 +12,7 @@ use Rattle.whole_run.specs.Looking.{AreApart, AreFound, AreLooked, AreLooks, inp
 use Rattle.whole_run.specs.Reading.{AreGiven, AreRead, StopsBefore, StopsReading}
 use Rattle.whole_run.specs.Sources.{files_of, paths_in}
 use Rattle.whole_run.specs.declared.stop.InputName.{InputName}
-use Rattle.whole_run.specs.declared.stop.Stop.{Stop}
+use Rattle.whole_run.specs.declared.stop.RunError.{RunError}
 
 found_more : (paths : List (List ℕ)) (files : List (Option FileId)) (events : List Event) (path : List ℕ) (file : Option FileId)
     → AreFound paths files events → AreFound (paths ++ path ∷ []) (files ++ file ∷ []) (events ++ Find path file ∷ [])
@@ -97,6 +97,6 @@ pub given : (o : Options) (i : Inputs) (old mid new : Option (List Event)) → D
 given o i old mid new (xs, e, a) (ys, g, r) = (xs ++ ys, both xs ys old mid new e g, (xs, ys, a, r, refl))
 
 -- a file can't be read after all were looked up
-pub stopped : (o : Options) (stop : Stop) (old mid new : Option (List Event)) → Did (AreApart o) old mid
+pub stopped : (o : Options) (stop : RunError) (old mid new : Option (List Event)) → Did (AreApart o) old mid
     → Did (λ events. StopsReading (files_of o) events stop) mid new → Did (StopsBefore o stop) old new
 stopped o stop old mid new (xs, e, a) (ys, g, r) = (xs ++ ys, both xs ys old mid new e g, inr (xs, ys, a, r, refl))

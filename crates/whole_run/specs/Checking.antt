@@ -6,7 +6,7 @@ use Rattle.command_line.specs.declared.chosen.Options.{Options}
 use Rattle.circ_policy.specs.Reading.{Fails, policy_of}
 use Rattle.circ_policy.specs.Terms.{Terms}
 use Rattle.circ_policy.specs.declared.error.PolicyError.{PolicyError}
-use Rattle.circ_records.specs.Tables.{Texts, texts_of}
+use Rattle.record_tables.specs.Tables.{Texts, texts_of}
 use Rattle.journal_table.specs.Entry.{Entry}
 use Rattle.journal_table.specs.Journal.{journal_of}
 use Rattle.journal_table.specs.declared.error.JournalError.{JournalError}
@@ -23,8 +23,8 @@ use Rattle.whole_run.specs.Run.{IsAsked}
 use Rattle.whole_run.specs.Seeing.{IsOf}
 use Rattle.whole_run.specs.Statuses.{status_of}
 use Rattle.whole_run.specs.Telling.{remedy_of, stop_text}
-use Rattle.whole_run.specs.declared.stop.Stop.{Stop}
-use Rattle.whole_run.specs.declared.stop.Stop.TheVariants as stops
+use Rattle.whole_run.specs.declared.stop.RunError.{RunError}
+use Rattle.whole_run.specs.declared.stop.RunError.TheVariants as stops
 
 -- the fault of a journal, if it has one
 abbrev pub faults_of_journal : Result (List Entry) JournalError → List Fault
@@ -50,10 +50,10 @@ FirstIsRefused = (bytes : List ℕ) (policy : Terms) (texts : Texts) (journal : 
 abbrev pub listed : List Fault → List Fault
 listed = take 100
 
--- a line for each of these faults, as what to do about it is told: where it is, the values that are seen there, and what to do
+-- a line for each of these faults, in the form of a remedy: where it is, the values that are seen there, and what to do
 abbrev pub AreLines : Options → List Fault → List ℕ → Type 0
 AreLines o [] text = text ≡ []
-AreLines o (fault ∷ rest) text = (stop : Stop) × (more : List ℕ) × IsOf fault stop × AreLines o rest more × (text ≡ remedy_of o stop ++ more)
+AreLines o (fault ∷ rest) text = (stop : RunError) × (more : List ℕ) × IsOf fault stop × AreLines o rest more × (text ≡ remedy_of o stop ++ more)
 
 -- the last line, where there are faults: how many, and how many of them are listed
 abbrev pub count_line : ℕ → ℕ → List ℕ
@@ -87,17 +87,17 @@ IsChecked o faults text reads = (i : Inputs) × (policy : Terms) × (sizes : Tab
     × (faults ≡ faults_of policy (texts_of i.tables) (journal_of i.journal.items)) × AreSizes (texts_of i.tables) sizes
     × IsText o faults sizes (lines_in (journal_of i.journal.items)) text
 
--- The check comes to its end: its text is printed.
+-- The check ends: its text is printed.
 abbrev pub EndsChecking : Options → ℕ → List Event → Type 0
 EndsChecking o status events = (faults : List Fault) × (text : List ℕ) × (reads : List Event) × IsChecked o faults text reads
     × (events ≡ reads ++ Print text true ∷ []) × (status ≡ check_status faults)
 
 -- The policy is refused, so that no row can be judged; or memory runs out.
-abbrev pub HasNoPolicy : Inputs → Stop → Type 0
+abbrev pub HasNoPolicy : Inputs → RunError → Type 0
 HasNoPolicy i stop = ((error : PolicyError) × Fails error (policy_of i.policy.items) × IsOf (policy_fault error) stop) ⊎ (stop ≡ stops.Fault faults.Memory)
 
 -- The check is stopped: before anything is judged, by the policy, or since standard output doesn't take its text.
-abbrev pub StopsChecking : Options → Stop → List Event → Type 0
+abbrev pub StopsChecking : Options → RunError → List Event → Type 0
 StopsChecking o stop events = StopsBefore o stop events
     ⊎ (((i : Inputs) × AreGiven o i events × HasNoPolicy i stop)
     ⊎ ((faults : List Fault) × (text : List ℕ) × (reads : List Event) × IsChecked o faults text reads × (stop ≡ stops.Output) × (events ≡ reads ++ Print text false ∷ [])))
@@ -105,5 +105,5 @@ StopsChecking o stop events = StopsBefore o stop events
 -- A check that ends has the status of its faults; one that is stopped says why, and has the status of that. Nothing else is asked of the outside.
 abbrev pub IsCheck : Options → ℕ → List Event → Type 0
 IsCheck o status events = EndsChecking o status events
-    ⊎ ((stop : Stop) × (before : List Event) × (asked : Option Options) × (taken : Bool) × StopsChecking o stop before × IsAsked o asked
+    ⊎ ((stop : RunError) × (before : List Event) × (asked : Option Options) × (taken : Bool) × StopsChecking o stop before × IsAsked o asked
     × (events ≡ before ++ Tell (stop_text stop asked) taken ∷ []) × (status ≡ status_of stop))

@@ -8,8 +8,8 @@ use Rattle.replay_run.specs.declared.fault.Fault.TheVariants as faults
 use Rattle.whole_run.specs.Sources.{files_of, paths_in}
 use Rattle.whole_run.specs.declared.stop.InputName.{InputName}
 use Rattle.whole_run.specs.declared.stop.InputName.TheVariants as inputs
-use Rattle.whole_run.specs.declared.stop.Stop.{Stop}
-use Rattle.whole_run.specs.declared.stop.Stop.TheVariants as stops
+use Rattle.whole_run.specs.declared.stop.RunError.{RunError}
+use Rattle.whole_run.specs.declared.stop.RunError.TheVariants as stops
 
 -- the paths are looked up, in this order, and these files are found
 abbrev pub AreFound : List (List ℕ) → List (Option FileId) → List Event → Type 0
@@ -46,7 +46,7 @@ abbrev pub AreApart : Options → List Event → Type 0
 AreApart o events = AreLooked o None events
 
 -- The input that would be replaced is named, by the folder of the output, or memory ran out.
-abbrev pub TellsLoss : Options → InputName → Stop → Type 0
+abbrev pub TellsLoss : Options → InputName → RunError → Type 0
 TellsLoss o input (stops.Replaces told named) = (string_bytes told ≡ string_bytes o.out) × (named ≡ input)
 TellsLoss o input (stops.Fault faults.Memory) = Unit {0}
 TellsLoss o input stop = ⊥
@@ -58,6 +58,6 @@ AreLooks (Find path file ∷ events) = AreLooks events
 AreLooks (event ∷ events) = ⊥
 
 -- An output is an input; or memory runs out.
-abbrev pub StopsLooking : Options → Stop → List Event → Type 0
+abbrev pub StopsLooking : Options → RunError → List Event → Type 0
 StopsLooking o stop events = ((input : InputName) × AreLooked o (Some input) events × TellsLoss o input stop)
     ⊎ (AreLooks events × (stop ≡ stops.Fault faults.Memory))

@@ -10,8 +10,8 @@ use Rattle.replay_run.specs.declared.fault.Fault.TheVariants as faults
 use Rattle.replay_run.specs.declared.inputs.Inputs.{Inputs}
 use Rattle.whole_run.specs.Looking.{AreApart, StopsLooking}
 use Rattle.whole_run.specs.Sources.{files_of}
-use Rattle.whole_run.specs.declared.stop.Stop.{Stop}
-use Rattle.whole_run.specs.declared.stop.Stop.TheVariants as stops
+use Rattle.whole_run.specs.declared.stop.RunError.{RunError}
+use Rattle.whole_run.specs.declared.stop.RunError.TheVariants as stops
 
 -- what a file that may be missing answers, and what is taken for its bytes
 abbrev pub IsAbsent : Result (List ℕ) Failure → List ℕ → Type 0
@@ -34,19 +34,19 @@ abbrev pub AreGiven : Options → Inputs → List Event → Type 0
 AreGiven o i events = (looks : List Event) × (reads : List Event) × AreApart o looks × AreRead o i reads × (events ≡ looks ++ reads)
 
 -- A file that fails is named by its path, with the reason that it gave, or memory ran out.
-abbrev pub MayTell : List ℕ → Failure → Stop → Type 0
+abbrev pub MayTell : List ℕ → Failure → RunError → Type 0
 MayTell path failure (stops.File told why) = (string_bytes told ≡ path) × (why ≡ failure)
 MayTell path failure (stops.Fault faults.Memory) = Unit {0}
 MayTell path failure stop = ⊥
 
 -- A folder that isn't there is named by its path, with that of the file that was looked for in it, or memory ran out.
-abbrev pub MayTellFolder : List ℕ → List ℕ → Stop → Type 0
+abbrev pub MayTellFolder : List ℕ → List ℕ → RunError → Type 0
 MayTellFolder folder path (stops.NoFolder told within) = (string_bytes told ≡ path) × (string_bytes within ≡ folder)
 MayTellFolder folder path (stops.Fault faults.Memory) = Unit {0}
 MayTellFolder folder path stop = ⊥
 
 -- what is said of a file that is missing, by what its folder is found to be
-abbrev pub TellsMissing : List ℕ → List ℕ → Option FileId → Stop → Type 0
+abbrev pub TellsMissing : List ℕ → List ℕ → Option FileId → RunError → Type 0
 TellsMissing folder path None stop = MayTellFolder folder path stop
 TellsMissing folder path (Some found) stop = MayTell path Missing stop
 
@@ -55,18 +55,18 @@ is_missing Missing = true
 is_missing failure = false
 
 -- A file of a folder fails, and it is named. Of one that is missing the folder is looked up first: it may be what is missing.
-abbrev pub TellsIn : List ℕ → List ℕ → Failure → Stop → List Event → Type 0
+abbrev pub TellsIn : List ℕ → List ℕ → Failure → RunError → List Event → Type 0
 TellsIn folder path failure stop events =
     ((is_missing failure ≡ true) × ((found : Option FileId) × (events ≡ Find folder found ∷ []) × TellsMissing folder path found stop))
     ⊎ ((is_missing failure ≡ false) × (events ≡ []) × MayTell path failure stop)
 
 -- A file fails, and it is named; of a folder's file as said above.
-abbrev pub TellsFile : List ℕ → Failure → Stop → List Event → Type 0
+abbrev pub TellsFile : List ℕ → Failure → RunError → List Event → Type 0
 TellsFile path failure stop events = ((events ≡ []) × MayTell path failure stop)
     ⊎ ((folder : List ℕ) × (name : List ℕ) × (path ≡ in_folder folder name) × TellsIn folder path failure stop events)
 
 -- Of these files some are read, in this order; then one fails, or memory runs out.
-abbrev pub StopsReading : List (List ℕ × Bool) → List Event → Stop → Type 0
+abbrev pub StopsReading : List (List ℕ × Bool) → List Event → RunError → Type 0
 StopsReading files [] stop = stop ≡ stops.Fault faults.Memory
 StopsReading (file ∷ files) (Read path (Ok bytes) ∷ events) stop = (path ≡ file.0) × StopsReading files events stop
 StopsReading (file ∷ files) (Read path (Err failure) ∷ events) stop = (path ≡ file.0)
@@ -74,6 +74,6 @@ StopsReading (file ∷ files) (Read path (Err failure) ∷ events) stop = (path 
 StopsReading files events stop = ⊥
 
 -- A run that stops before anything is judged: an output is an input, or a file can't be read.
-abbrev pub StopsBefore : Options → Stop → List Event → Type 0
+abbrev pub StopsBefore : Options → RunError → List Event → Type 0
 StopsBefore o stop events = StopsLooking o stop events
     ⊎ ((looks : List Event) × (reads : List Event) × AreApart o looks × StopsReading (files_of o) reads stop × (events ≡ looks ++ reads))

@@ -16,8 +16,8 @@ use Rattle.whole_run.specs.Seeing.{IsOf}
 use Rattle.whole_run.specs.Sources.{places_of}
 use Rattle.whole_run.specs.Statuses.{ended_status, status_of}
 use Rattle.whole_run.specs.Telling.{stop_text}
-use Rattle.whole_run.specs.declared.stop.Stop.{Stop}
-use Rattle.whole_run.specs.declared.stop.Stop.TheVariants as stops
+use Rattle.whole_run.specs.declared.stop.RunError.{RunError}
+use Rattle.whole_run.specs.declared.stop.RunError.TheVariants as stops
 
 -- All files are read, and the replay of exactly these bytes gives this.
 abbrev pub IsReplayed : Options → Result Output Fault → List Event → Type 0
@@ -32,32 +32,32 @@ abbrev pub sizes_line : Sizes → List ℕ
 sizes_line s = codes "lines " ++ (decimal (s.answered + s.passed) ++ (codes " answered " ++ (decimal s.answered
     ++ (codes " passed " ++ (decimal s.passed ++ (codes " differences " ++ (decimal s.differences ++ codes "\n")))))))
 
--- The run comes to its end: it reads, writes all files of the output, and prints its sizes.
+-- The run ends: it reads, writes all files of the output, and prints its sizes.
 abbrev pub HasEnded : Options → Sizes → List Event → Type 0
 HasEnded o sizes events = (output : Output) × (reads : List Event) × IsReplayed o (Ok output) reads × (sizes ≡ output.sizes)
     × (events ≡ reads ++ (writes_of o output ++ Print (sizes_line sizes) true ∷ []))
 
 -- The replay of what was read gives a fault; nothing is written.
-abbrev pub IsRefused : Options → Stop → List Event → Type 0
+abbrev pub IsRefused : Options → RunError → List Event → Type 0
 IsRefused o stop events = (fault : Fault) × IsReplayed o (Err fault) events × IsOf fault stop
 
 -- It gives an output, of which a file can't be written.
-abbrev pub StopsAt : List ℕ → Output → Stop → List Event → Type 0
+abbrev pub StopsAt : List ℕ → Output → RunError → List Event → Type 0
 StopsAt folder output stop events = (path : List ℕ) × (failure : Failure) × (writes : List Event) × (looks : List Event)
     × StopsWriting (places_of folder output) path failure writes × TellsIn folder path failure stop looks × (events ≡ writes ++ looks)
 
 -- It gives an output, of which not all files can be written: memory runs out before the first one is touched, or one fails.
-abbrev pub IsCutShort : Options → Stop → List Event → Type 0
+abbrev pub IsCutShort : Options → RunError → List Event → Type 0
 IsCutShort o stop events = (output : Output) × (reads : List Event) × (writes : List Event) × IsReplayed o (Ok output) reads
     × (((writes ≡ []) × (stop ≡ stops.Fault faults.Memory)) ⊎ StopsAt (string_bytes o.out) output stop writes) × (events ≡ reads ++ writes)
 
 -- All are written, and standard output doesn't take the line.
-abbrev pub IsUnprinted : Options → Stop → List Event → Type 0
+abbrev pub IsUnprinted : Options → RunError → List Event → Type 0
 IsUnprinted o stop events = (output : Output) × (reads : List Event) × IsReplayed o (Ok output) reads × (stop ≡ stops.Output)
     × (events ≡ reads ++ (writes_of o output ++ Print (sizes_line output.sizes) false ∷ []))
 
 -- The run is stopped: before anything is judged, by the replay, in writing or in printing.
-abbrev pub HasStopped : Options → Stop → List Event → Type 0
+abbrev pub HasStopped : Options → RunError → List Event → Type 0
 HasStopped o stop events = StopsBefore o stop events ⊎ (IsRefused o stop events ⊎ (IsCutShort o stop events ⊎ IsUnprinted o stop events))
 
 -- what to do is printed where the words ask for it, and may be printed where they don't
@@ -71,5 +71,5 @@ abbrev pub IsRun : Options → ℕ → List Event → Type 0
 IsRun o status events =
     ((sizes : Sizes) × (ended : List Event) × (told : List Event) × HasEnded o sizes ended × TellsDoubt o sizes told × (events ≡ ended ++ told)
     × (status ≡ ended_status sizes.differences))
-    ⊎ ((stop : Stop) × (before : List Event) × (asked : Option Options) × (taken : Bool) × HasStopped o stop before × IsAsked o asked
+    ⊎ ((stop : RunError) × (before : List Event) × (asked : Option Options) × (taken : Bool) × HasStopped o stop before × IsAsked o asked
     × (events ≡ before ++ Tell (stop_text stop asked) taken ∷ []) × (status ≡ status_of stop))

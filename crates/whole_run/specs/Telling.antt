@@ -2,9 +2,9 @@
 -- that says what to do.
 use Rattle.std.specs.Prelude.{◌==◌, ◌++◌, ℕ, List, [], Option, None, Some, codes, decimal, string_bytes, if◌then◌else◌}
 use Rattle.std.specs.Cmp.Lexicographic.{pointwise}
-use Rattle.circ_records.specs.Words.{table_word}
-use Rattle.circ_records.specs.declared.fault.BaseRule.{BaseRule}
-use Rattle.circ_records.specs.declared.fault.BaseRule.TheVariants as base
+use Rattle.record_tables.specs.Words.{table_word}
+use Rattle.circ_records.specs.declared.rule.BaseRule.{BaseRule}
+use Rattle.circ_records.specs.declared.rule.BaseRule.TheVariants as base
 use Rattle.journal_table.specs.declared.error.JournalRule.{JournalRule}
 use Rattle.journal_table.specs.declared.error.JournalRule.TheVariants as journal
 use Rattle.command_line.specs.declared.chosen.Options.{Options}
@@ -12,14 +12,14 @@ use Rattle.replay_run.specs.Faults.{fault_number, fault_text}
 use Rattle.replay_run.specs.declared.fault.Fault.{Fault}
 use Rattle.replay_run.specs.declared.fault.Fault.TheVariants as faults
 use Rattle.outside.specs.Reasons.{reason_of}
-use Rattle.whole_run.specs.declared.values.Form.{Form}
-use Rattle.whole_run.specs.declared.values.Form.TheVariants as form
-use Rattle.whole_run.specs.declared.seen.Seen.{Seen}
-use Rattle.whole_run.specs.declared.seen.Seen.TheVariants as seen
+use Rattle.whole_run.specs.declared.values.ValueForm.{ValueForm}
+use Rattle.whole_run.specs.declared.values.ValueForm.TheVariants as form
+use Rattle.whole_run.specs.declared.seen.FaultDetail.{FaultDetail}
+use Rattle.whole_run.specs.declared.seen.FaultDetail.TheVariants as seen
 use Rattle.whole_run.specs.declared.stop.InputName.{InputName}
 use Rattle.whole_run.specs.declared.stop.InputName.TheVariants as inputs
-use Rattle.whole_run.specs.declared.stop.Stop.{Stop}
-use Rattle.whole_run.specs.declared.stop.Stop.TheVariants as stops
+use Rattle.whole_run.specs.declared.stop.RunError.{RunError}
+use Rattle.whole_run.specs.declared.stop.RunError.TheVariants as stops
 
 -- which files of the output would replace which input
 abbrev pub loss_of : InputName → List ℕ
@@ -28,7 +28,7 @@ loss_of inputs.Base = codes "tables would replace those of --base"
 loss_of inputs.Journal = codes "files would replace that of --journal"
 
 -- the line of a stop, where an output is an input in the form of clap's own refusals; none where standard output fails
-abbrev pub line_of : Stop → List ℕ
+abbrev pub line_of : RunError → List ℕ
 line_of (stops.Fault fault) = codes "fault " ++ decimal (fault_number fault) ++ codes ": " ++ fault_text fault ++ codes "\n"
 line_of (stops.Seen fault what) = codes "fault " ++ decimal (fault_number fault) ++ codes ": " ++ fault_text fault ++ codes "\n"
 line_of (stops.Replaces out input) = codes "error: invalid value '" ++ (string_bytes out ++ (codes "' for '--out <DIR>': its " ++ (loss_of input
@@ -96,7 +96,7 @@ words_of faults.ClockSpent = codes "its lines were tried too often. Run again wi
 words_of faults.Memory = codes "there is too little memory. Cut the journal, and give each part the tables that the part before it wrote."
 
 -- the form that a value should have
-abbrev pub form_words : Form → List ℕ
+abbrev pub form_words : ValueForm → List ℕ
 form_words form.Flag = codes "blocked is Y or N"
 form_words form.Day = codes "a due day is eight digits of a day of the calendar, as 20260316"
 form_words form.Number = codes "renewals are a whole number, in digits without leading zeros"
@@ -107,7 +107,7 @@ form_words form.Amount = codes "an amount is up to nine digits, with up to two a
 abbrev pub fault_remedy : Options → Fault → List ℕ
 fault_remedy o fault = place_of o fault ++ (codes ": " ++ (words_of fault ++ codes "\n"))
 
-abbrev pub seen_remedy : Options → Fault → Seen → List ℕ
+abbrev pub seen_remedy : Options → Fault → FaultDetail → List ℕ
 seen_remedy o fault (seen.Uneven row) = codes "Row " ++ (decimal row ++ (codes " below the first one has another number of fields. " ++ fault_remedy o fault))
 seen_remedy o fault (seen.Line line) = place_of o fault ++ (codes ", line " ++ (decimal line ++ (codes ": " ++ (words_of fault ++ codes "\n"))))
 seen_remedy o fault (seen.Form text form) = place_of o fault ++ (codes ": " ++ (string_bytes text ++ (codes ": " ++ (form_words form ++ codes ".\n"))))
@@ -116,7 +116,7 @@ seen_remedy o fault seen.Packed = place_of o fault ++ codes ": this is compresse
 seen_remedy o fault seen.Wide = place_of o fault ++ codes ": this is UTF-16. Save it as UTF-8.\n"
 
 -- what to do about a stop, in words
-abbrev pub remedy_of : Options → Stop → List ℕ
+abbrev pub remedy_of : Options → RunError → List ℕ
 remedy_of o (stops.Fault fault) = fault_remedy o fault
 remedy_of o (stops.Seen fault what) = seen_remedy o fault what
 remedy_of o (stops.Replaces out input) = []
@@ -126,6 +126,6 @@ remedy_of o (stops.NoFolder path folder) = codes "no folder '" ++ (string_bytes 
 remedy_of o stops.Output = []
 
 -- what is printed: the line, and after it what to do just where that is asked for
-abbrev pub stop_text : Stop → Option Options → List ℕ
+abbrev pub stop_text : RunError → Option Options → List ℕ
 stop_text stop None = line_of stop
 stop_text stop (Some options) = line_of stop ++ remedy_of options stop

@@ -1,4 +1,4 @@
--- The whole program: what its words come to, what it asks of the outside, in this order, and its status.
+-- The whole program: what its words ask for, what it asks of the outside, in this order, and its status.
 use Rattle.std.specs.Prelude.{◌≡◌, ◌∷◌, ◌⊎◌, ℕ, [], Bool, List, None, false, if◌then◌else◌, string_bytes, true}
 use Rattle.outside.specs.Events.{Event, Print, Tell}
 use Rattle.command_line.specs.CommandLine.{AreAskedBy, AreTaken}
@@ -9,7 +9,7 @@ use Rattle.replay_run.specs.declared.fault.Fault.TheVariants as faults
 use Rattle.whole_run.specs.Checking.{IsCheck}
 use Rattle.whole_run.specs.Run.{IsRun}
 use Rattle.whole_run.specs.Telling.{stop_text}
-use Rattle.whole_run.specs.declared.stop.Stop.TheVariants as stops
+use Rattle.whole_run.specs.declared.stop.RunError.TheVariants as stops
 
 -- Words that give no options: one text is printed, and nothing else is asked of the outside.
 abbrev pub TellsRefusal : Refusal → ℕ → List Event → Type 0

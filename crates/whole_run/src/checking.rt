@@ -4,26 +4,26 @@ ghost use Rattle.std.specs.Prelude.{◌≡◌, ◌++◌, ◌∷◌, [], ℕ, Lis
 ghost use Rattle.outside.specs.Events.{Did};
 ghost use Rattle.circ_policy.specs.Reading.{policy_of};
 ghost use Rattle.circ_policy.specs.Terms.{Terms};
-ghost use Rattle.circ_records.specs.Tables.{texts_of};
-ghost use Rattle.circ_records.specs.declared.fault.BaseError.{BaseError};
+ghost use Rattle.record_tables.specs.Tables.{texts_of};
+ghost use Rattle.record_tables.specs.declared.fault.BaseError.{BaseError};
 ghost use Rattle.journal_table.specs.Journal.{journal_of};
 ghost use Rattle.replay_run.specs.Faults.{base_fault};
 ghost use Rattle.replay_run.specs.declared.fault.Fault.{Fault};
 ghost use Rattle.table_rules.specs.Sizes.{AreSizes};
 ghost use Rattle.whole_run.specs.Seeing.{IsOf};
 ghost use Rattle.whole_run.specs.Telling.{remedy_of};
-ghost use Rattle.whole_run.specs.declared.stop.Stop.{Stop};
+ghost use Rattle.whole_run.specs.declared.stop.RunError.{RunError};
 ghost use Rattle.whole_run.specs.Checking.{AreLines, EndsChecking, FirstIsRefused, HasNoPolicy, IsText, StopsChecking, check_status, checked_line, count_line, faults_of, lines_in, listed};
 
 use crate::files::read_inputs;
 use crate::remedy::Remedy;
 use crate::seen::{TableRow, stop_beside, stop_of};
-use crate::stop::{REFUSED, Stop};
+use crate::stop::{REFUSED, RunError};
 use circ_policy::Policy;
-use circ_records::BaseError;
 use command_line::Options;
 use journal_table::{Journal, JournalError};
 use outside::Outside;
+use record_tables::BaseError;
 use replay_run::{Fault, Inputs};
 use std::alloc::{AllocError, Global};
 use std::fmt;
@@ -37,7 +37,7 @@ const TAKEN: u8 = 0;
 
 /// All that is to be said of inputs.
 #[derive(Drop)]
-struct Found {
+struct FoundFaults {
     /// Those of the tables, and after them that of the journal.
     faults: Vec<Fault>,
     /// How many rows the tables have, where all texts are tables.
@@ -46,7 +46,7 @@ struct Found {
     lines: usize,
 }
 
-impl Found {
+impl FoundFaults {
     fn status(&self) -> u8
         ensures { result ≡ check_status self.now.faults.items }
     {
@@ -61,7 +61,7 @@ impl Found {
 /// Reads all inputs as a run does, and prints each fault of the tables and the journal on a line, the first 100 of them; where there is none, one line
 /// that says what was read. Returns the status: 2 where there is a fault, else 0. A policy that is refused is a stop, since no row can be judged
 /// without it.
-pub fn check<O: Outside>(outside: &mut O, alloc: Global, options: &Options) -> Result<u8, Stop>
+pub fn check<O: Outside>(outside: &mut O, alloc: Global, options: &Options) -> Result<u8, RunError>
     ensures ended { IfOk result (λ status. Did (EndsChecking options.now status) (O.log outside.old) (O.log outside.new)) }
     ensures stops { IfErr result (λ stop. Did (StopsChecking options.now stop) (O.log outside.old) (O.log outside.new)) }
 {
@@ -72,12 +72,12 @@ pub fn check<O: Outside>(outside: &mut O, alloc: Global, options: &Options) -> R
     if outside.print(&text) {
         Ok(status)
     } else {
-        Err(Stop::Output)
+        Err(RunError::Output)
     }
 }
 
 /// The faults of the tables and the journal of these inputs, under their policy.
-fn find_faults(alloc: Global, inputs: &Inputs) -> Result<Found, Stop>
+fn find_faults(alloc: Global, inputs: &Inputs) -> Result<FoundFaults, RunError>
     ensures found { IfOk result (λ found. (policy : Terms) × (policy_of inputs.now.policy.items ≡ Ok policy)
         × (found.faults.items ≡ faults_of policy (texts_of inputs.now.tables) (journal_of inputs.now.journal.items))
         × AreSizes (texts_of inputs.now.tables) found.sizes × (found.lines ≡ lines_in (journal_of inputs.now.journal.items))) }
@@ -90,7 +90,7 @@ fn find_faults(alloc: Global, inputs: &Inputs) -> Result<Found, Stop>
 }
 
 /// The same under a policy.
-fn judge_inputs(alloc: Global, policy: &Policy, inputs: &Inputs) -> Result<Found, AllocError>
+fn judge_inputs(alloc: Global, policy: &Policy, inputs: &Inputs) -> Result<FoundFaults, AllocError>
     ensures faults { IfOk result (λ found. found.faults.items ≡ faults_of policy.now (texts_of inputs.now.tables) (journal_of inputs.now.journal.items)) }
     ensures sizes { IfOk result (λ found. AreSizes (texts_of inputs.now.tables) found.sizes) }
     ensures lines { IfOk result (λ found. found.lines ≡ lines_in (journal_of inputs.now.journal.items)) }
@@ -105,7 +105,7 @@ fn judge_inputs(alloc: Global, policy: &Policy, inputs: &Inputs) -> Result<Found
                 journal.first(),
             )?;
             let faults = faults_of_tables(alloc, broken)?;
-            Ok(Found {
+            Ok(FoundFaults {
                 faults,
                 sizes,
                 lines,
@@ -116,7 +116,7 @@ fn judge_inputs(alloc: Global, policy: &Policy, inputs: &Inputs) -> Result<Found
             let TableCheck { broken, sizes } = check_tables(alloc, policy, &inputs.tables, None)?;
             let mut faults = faults_of_tables(alloc, broken)?;
             faults.push(Fault::from(error))?;
-            Ok(Found {
+            Ok(FoundFaults {
                 faults,
                 sizes,
                 lines: 0,
@@ -141,11 +141,11 @@ fn text_of(
     alloc: Global,
     options: &Options,
     inputs: &Inputs,
-    found: Found,
+    found: FoundFaults,
 ) -> Result<String, AllocError>
     ensures { IfOk result (λ text. IsText options.now found.faults.items found.sizes found.lines (string_bytes text)) }
 {
-    let Found {
+    let FoundFaults {
         faults,
         sizes,
         lines,
@@ -189,7 +189,7 @@ fn line_of<'i>(
     read: &mut TableRow<'i>,
     fault: Fault,
 ) -> Result<String, AllocError>
-    ensures { IfOk result (λ line. (stop : Stop) × IsOf fault stop × (string_bytes line ≡ remedy_of options.now stop)) }
+    ensures { IfOk result (λ line. (stop : RunError) × IsOf fault stop × (string_bytes line ≡ remedy_of options.now stop)) }
 {
     let stop = stop_beside(alloc, fault, inputs, read);
     format!(in alloc;

@@ -1,4 +1,4 @@
-//! Results that can't be meant: what is said of a run that came to its end, where its inputs don't go together.
+//! Doubtful results: the warning after a run that ended without a fault, but whose inputs don't fit each other.
 
 ghost use Rattle.std.specs.Prelude.{◌≡◌, IfSome, Some};
 ghost use Rattle.whole_run.specs.Doubting.{IsDoubt, IsOfNames, doubt_of_sizes, doubt_text};
@@ -16,7 +16,7 @@ use std::fmt;
 /// A doubt is printed where more than one in this many requests names an unknown patron, or an unknown item.
 const QUARTER: u64 = 4;
 
-/// Why a result can't be meant.
+/// Why a result is doubtful.
 #[derive(Drop)]
 pub enum Doubt {
     /// The journal has no line.
@@ -57,7 +57,7 @@ impl fmt::Display for Doubt {
     }
 }
 
-/// Why the result of a run over these inputs can't be meant, if it can't. What its requests name is passed over where memory runs out.
+/// Why the result of a run over these inputs is doubtful, if it is. Out of memory, only `sizes` is judged.
 pub fn doubt_of(alloc: Global, inputs: &Inputs, sizes: Sizes) -> Option<Doubt>
     ensures { IsDoubt sizes result }
 {

@@ -9,10 +9,10 @@ ghost use Rattle.replay_run.specs.declared.fault.Fault.TheVariants as faults;
 ghost use Rattle.whole_run.specs.Reading.{AreGiven, AreRead, IsAbsent, StopsBefore, StopsReading, TellsIn, TellsMissing, is_missing};
 ghost use Rattle.whole_run.specs.Run.{StopsAt};
 ghost use Rattle.whole_run.specs.Sources.{files_of, places_of};
-ghost use Rattle.whole_run.specs.declared.stop.Stop.TheVariants as stops;
+ghost use Rattle.whole_run.specs.declared.stop.RunError.TheVariants as stops;
 
 use crate::looking::refuse_loss;
-use crate::stop::Stop;
+use crate::stop::RunError;
 use command_line::Options;
 use outside::{Failure, Outside, Unwritten, file_in_folder, write_files};
 use replay_run::{Inputs, Output, Tables};
@@ -23,7 +23,7 @@ pub fn read_inputs<O: Outside>(
     outside: &mut O,
     alloc: Global,
     options: &Options,
-) -> Result<Inputs, Stop>
+) -> Result<Inputs, RunError>
     ensures given { IfOk result (λ inputs. Did (AreGiven options.now inputs) (O.log outside.old) (O.log outside.new)) }
     ensures stops { IfErr result (λ stop. Did (StopsBefore options.now stop) (O.log outside.old) (O.log outside.new)) }
 {
@@ -32,7 +32,11 @@ pub fn read_inputs<O: Outside>(
 }
 
 /// Reads the policy, the tables of the base and the journal, in this order.
-fn read_all<O: Outside>(outside: &mut O, alloc: Global, options: &Options) -> Result<Inputs, Stop>
+fn read_all<O: Outside>(
+    outside: &mut O,
+    alloc: Global,
+    options: &Options,
+) -> Result<Inputs, RunError>
     ensures given { IfOk result (λ inputs. Did (AreRead options.now inputs) (O.log outside.old) (O.log outside.new)) }
     ensures stops { IfErr result (λ stop. (events : List Event) × (O.log outside.new ≡ after events (O.log outside.old)) × StopsReading (files_of options.now) events stop) }
 {
@@ -60,13 +64,13 @@ fn read_all<O: Outside>(outside: &mut O, alloc: Global, options: &Options) -> Re
     })
 }
 
-fn read_file<O: Outside>(outside: &mut O, alloc: Global, path: &str) -> Result<Vec<u8>, Stop>
+fn read_file<O: Outside>(outside: &mut O, alloc: Global, path: &str) -> Result<Vec<u8>, RunError>
     ensures given { IfOk result (λ text. O.log outside.new ≡ noted (Read path.now (Ok text.items)) (O.log outside.old)) }
     ensures stops { IfErr result (λ stop. (events : List Event) × (O.log outside.new ≡ after events (O.log outside.old)) × StopsReading ((path.now, false) ∷ []) events stop) }
 {
     match outside.read(alloc, path) {
         Ok(text) => Ok(text),
-        Err(failure) => Err(Stop::of_file(alloc, failure, path)),
+        Err(failure) => Err(RunError::of_file(alloc, failure, path)),
     }
 }
 
@@ -75,7 +79,7 @@ fn read_in<O: Outside>(
     alloc: Global,
     folder: &str,
     name: &str,
-) -> Result<Vec<u8>, Stop>
+) -> Result<Vec<u8>, RunError>
     ensures given { IfOk result (λ text. O.log outside.new ≡ noted (Read (in_folder folder.now name.now) (Ok text.items)) (O.log outside.old)) }
     ensures stops { IfErr result (λ stop. (events : List Event) × (O.log outside.new ≡ after events (O.log outside.old)) × StopsReading ((in_folder folder.now name.now, false) ∷ []) events stop) }
 {
@@ -94,23 +98,23 @@ fn stop_in<O: Outside>(
     folder: &str,
     path: &str,
     failure: Failure,
-) -> Stop
+) -> RunError
     ensures { Did (TellsIn folder.now path.now failure result) (O.log outside.old) (O.log outside.new) }
 {
     if is_missing(failure) {
         stop_of_missing(outside, alloc, folder, path)
     } else {
-        Stop::of_file(alloc, failure, path)
+        RunError::of_file(alloc, failure, path)
     }
 }
 
 /// The stop of a file that is missing, or of its folder.
-fn stop_of_missing<O: Outside>(outside: &mut O, alloc: Global, folder: &str, path: &str) -> Stop
+fn stop_of_missing<O: Outside>(outside: &mut O, alloc: Global, folder: &str, path: &str) -> RunError
     ensures { (found : Option FileId) × (O.log outside.new ≡ noted (Find folder.now found) (O.log outside.old)) × TellsMissing folder.now path.now found result }
 {
     match outside.find(folder) {
-        Some(_) => Stop::of_file(alloc, Failure::Missing, path),
-        None => Stop::of_folder(alloc, folder, path),
+        Some(_) => RunError::of_file(alloc, Failure::Missing, path),
+        None => RunError::of_folder(alloc, folder, path),
     }
 }
 
@@ -127,7 +131,7 @@ fn read_if_there<O: Outside>(
     alloc: Global,
     folder: &str,
     name: &str,
-) -> Result<Vec<u8>, Stop>
+) -> Result<Vec<u8>, RunError>
     ensures given { IfOk result (λ text. (answer : _) × IsAbsent answer text.items × (O.log outside.new ≡ noted (Read (in_folder folder.now name.now) answer) (O.log outside.old))) }
     ensures stops { IfErr result (λ stop. (events : List Event) × (O.log outside.new ≡ after events (O.log outside.old)) × StopsReading ((in_folder folder.now name.now, true) ∷ []) events stop) }
 {
@@ -135,7 +139,7 @@ fn read_if_there<O: Outside>(
     match outside.read(alloc, path.as_str()) {
         Ok(text) => Ok(text),
         Err(Failure::Missing) => Ok(Vec::new(alloc)),
-        Err(failure) => Err(Stop::of_file(alloc, failure, path.as_str())),
+        Err(failure) => Err(RunError::of_file(alloc, failure, path.as_str())),
     }
 }
 
@@ -146,7 +150,7 @@ pub fn write_output<O: Outside>(
     alloc: Global,
     folder: &str,
     output: &Output,
-) -> Result<(), Stop>
+) -> Result<(), RunError>
     ensures written { OnOk result (O.log outside.new ≡ after (all_written (places_of folder.now output.now)) (O.log outside.old)) }
     ensures stops { IfErr result (λ stop. Did (λ events. ((events ≡ []) × (stop ≡ stops.Fault faults.Memory)) ⊎ StopsAt folder.now output.now stop events) (O.log outside.old) (O.log outside.new)) }
 {

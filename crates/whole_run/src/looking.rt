@@ -7,7 +7,7 @@ ghost use Rattle.whole_run.specs.Looking.{AreApart, AreFound, AreLooks, StopsLoo
 ghost use Rattle.outside.specs.Files.{in_folder};
 ghost use Rattle.whole_run.specs.Sources.{files_of, paths_in};
 
-use crate::stop::{InputName, Stop};
+use crate::stop::{InputName, RunError};
 use command_line::Options;
 use outside::{FileId, Outside, file_in_folder};
 use std::alloc::{AllocError, Global};
@@ -17,7 +17,7 @@ pub fn refuse_loss<O: Outside>(
     outside: &mut O,
     alloc: Global,
     options: &Options,
-) -> Result<(), Stop>
+) -> Result<(), RunError>
     ensures apart { OnOk result (Did (AreApart options.now) (O.log outside.old) (O.log outside.new)) }
     ensures stops { IfErr result (λ stop. Did (StopsLooking options.now stop) (O.log outside.old) (O.log outside.new)) }
 {
@@ -26,7 +26,7 @@ pub fn refuse_loss<O: Outside>(
     let read = find_all(outside, alloc, inputs.as_slice())?;
     let written = find_all(outside, alloc, outputs.as_slice())?;
     match lost(read.as_slice(), written.as_slice()) {
-        Some(input) => Err(Stop::of_loss(alloc, options, input)),
+        Some(input) => Err(RunError::of_loss(alloc, options, input)),
         None => Ok(()),
     }
 }

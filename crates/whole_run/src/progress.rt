@@ -16,7 +16,7 @@ const BETWEEN: u64 = 200;
 enum Phase {
     /// Files are read and judged.
     Reading,
-    /// So many lines are committed, of all.
+    /// How many lines are committed, of all.
     Running { committed: u64, lines: u64 },
     /// All are committed; tables are made and written.
     Writing,
@@ -98,7 +98,7 @@ impl<'a, R: Clock + Eprint> Progress<'a, R> {
         self.show(Phase::Over);
     }
 
-    /// A text that can't be shown is missed by nobody.
+    /// Prints what the run is at. A failure to print is ignored.
     fn show(&self, phase: Phase) {
         if self.shown {
             let _ = self.rt.eprint(phase);

@@ -3,8 +3,8 @@
 ghost use Rattle.std.specs.Prelude.{◌≡◌, Some, option_map};
 ghost use Rattle.whole_run.specs.Telling.{fault_remedy, key_remedy, line_remedy, place_of, remedy_of, row_remedy, seen_remedy, stop_text, words_of};
 
-use crate::seen::Seen;
-use crate::stop::Stop;
+use crate::seen::FaultDetail;
+use crate::stop::RunError;
 use circ_records::BaseRule;
 use command_line::Options;
 use journal_table::JournalRule;
@@ -14,7 +14,7 @@ use std::fmt;
 /// What is printed for a stop: its line, and after it, where that is asked for, what to do.
 #[derive(Clone, Copy)]
 pub struct StopText<'a> {
-    pub stop: &'a Stop,
+    pub stop: &'a RunError,
     /// What the run was asked for, where what to do is to be printed too.
     pub asked: Option<&'a Options>,
 }
@@ -34,7 +34,7 @@ impl fmt::Display for StopText<'_> {
 /// What to do about a stop, as a line of its own.
 #[derive(Clone, Copy)]
 pub struct Remedy<'a> {
-    pub stop: &'a Stop,
+    pub stop: &'a RunError,
     pub options: &'a Options,
 }
 
@@ -44,8 +44,8 @@ impl fmt::Display for Remedy<'_> {
     fn fmt<W: fmt::Write>(&self, f: &mut fmt::Formatter<W>) -> fmt::Result {
         let options = self.options;
         match self.stop {
-            Stop::Fault(fault) => write!(f, "{}", FaultRemedy { fault, options }),
-            Stop::Seen { fault, seen } => write!(
+            RunError::Fault(fault) => write!(f, "{}", FaultRemedy { fault, options }),
+            RunError::Seen { fault, seen } => write!(
                 f,
                 "{}",
                 SeenRemedy {
@@ -54,16 +54,16 @@ impl fmt::Display for Remedy<'_> {
                     options
                 }
             ),
-            Stop::Replaces { .. } => f.write_str(""),
-            Stop::File { path, failure } => write!(
+            RunError::Replaces { .. } => f.write_str(""),
+            RunError::File { path, failure } => write!(
                 f,
                 "{path}: {failure}. See that it is there, that you may read or write it, and that the disk has room.\n"
             ),
-            Stop::NoFolder { folder, .. } => write!(
+            RunError::NoFolder { folder, .. } => write!(
                 f,
                 "no folder '{folder}'. Make it, or name the one that is meant.\n"
             ),
-            Stop::Output => f.write_str(""),
+            RunError::Output => f.write_str(""),
         }
     }
 }
@@ -72,7 +72,7 @@ impl fmt::Display for Remedy<'_> {
 #[derive(Clone, Copy)]
 struct SeenRemedy<'a> {
     fault: &'a Fault,
-    seen: &'a Seen,
+    seen: &'a FaultDetail,
     options: &'a Options,
 }
 
@@ -85,22 +85,22 @@ impl fmt::Display for SeenRemedy<'_> {
             seen,
             options,
         } = *self;
-        let place = Place { fault, options };
-        let words = Words { fault };
+        let place = FaultPlace { fault, options };
+        let words = RemedyWords { fault };
         match seen {
-            Seen::Uneven { row } => write!(
+            FaultDetail::Uneven { row } => write!(
                 f,
                 "Row {row} below the first one has another number of fields. {}",
                 FaultRemedy { fault, options }
             ),
-            Seen::Line { line } => write!(f, "{place}, line {line}: {words}\n"),
-            Seen::Values { text } => write!(f, "{place}: {text}: {words}\n"),
-            Seen::Form { text, form } => write!(f, "{place}: {text}: {form}.\n"),
-            Seen::Packed => write!(
+            FaultDetail::Line { line } => write!(f, "{place}, line {line}: {words}\n"),
+            FaultDetail::Values { text } => write!(f, "{place}: {text}: {words}\n"),
+            FaultDetail::Form { text, form } => write!(f, "{place}: {text}: {form}.\n"),
+            FaultDetail::Packed => write!(
                 f,
                 "{place}: this is compressed. Unpack it with gunzip, and name what comes out.\n"
             ),
-            Seen::Wide => write!(f, "{place}: this is UTF-16. Save it as UTF-8.\n"),
+            FaultDetail::Wide => write!(f, "{place}: this is UTF-16. Save it as UTF-8.\n"),
         }
     }
 }
@@ -117,18 +117,23 @@ impl fmt::Display for FaultRemedy<'_> {
 
     fn fmt<W: fmt::Write>(&self, f: &mut fmt::Formatter<W>) -> fmt::Result {
         let FaultRemedy { fault, options } = *self;
-        write!(f, "{}: {}\n", Place { fault, options }, Words { fault })
+        write!(
+            f,
+            "{}: {}\n",
+            FaultPlace { fault, options },
+            RemedyWords { fault }
+        )
     }
 }
 
 /// What a fault is about.
 #[derive(Clone, Copy)]
-struct Place<'a> {
+struct FaultPlace<'a> {
     fault: &'a Fault,
     options: &'a Options,
 }
 
-impl fmt::Display for Place<'_> {
+impl fmt::Display for FaultPlace<'_> {
     ghost output = { λ place. Some (place_of place.options.now place.fault.now) };
 
     fn fmt<W: fmt::Write>(&self, f: &mut fmt::Formatter<W>) -> fmt::Result {
@@ -157,11 +162,11 @@ impl fmt::Display for Place<'_> {
 
 /// What to do about a fault.
 #[derive(Clone, Copy)]
-struct Words<'a> {
+struct RemedyWords<'a> {
     fault: &'a Fault,
 }
 
-impl fmt::Display for Words<'_> {
+impl fmt::Display for RemedyWords<'_> {
     ghost output = { λ words. Some (words_of words.fault.now) };
 
     fn fmt<W: fmt::Write>(&self, f: &mut fmt::Formatter<W>) -> fmt::Result {

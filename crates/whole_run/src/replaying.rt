@@ -14,7 +14,7 @@ use crate::doubt::{Doubt, doubt_of};
 use crate::files::{read_inputs, write_output};
 use crate::progress::Progress;
 use crate::seen::stop_of;
-use crate::stop::{FAILED, REFUSED, Stop};
+use crate::stop::{FAILED, REFUSED, RunError};
 use command_line::{Options, Refusal, options};
 use outside::Outside;
 use replay_run::{Fault, Inputs, Sizes, rebuild};
@@ -53,10 +53,10 @@ pub fn run<R: AllocGlobal + Threads + Wait + Sync + Clock + Eprint, S: AsStr, O:
     }
 }
 
-/// Tells that the system gave no words, or none that are text, and gives the status.
+/// Reports that the system gave no words, or none that are text, and returns the status.
 pub fn refuse_words<O: Outside>(outside: &mut O, error: &io::Error) -> u8 {
     if error.kind() == io::ErrorKind::OutOfMemory {
-        return Stop::Fault(Fault::Memory).tell(None, outside);
+        return RunError::Fault(Fault::Memory).tell(None, outside);
     }
     let _taken = outside.tell(&"error: a word of the command line isn't text\n");
     REFUSED
@@ -104,7 +104,7 @@ fn run_with<R: AllocGlobal + Threads + Wait + Sync + Clock + Eprint, O: Outside>
     }
 }
 
-/// Tells why the result can't be meant, where it can't.
+/// Prints why the result is doubtful, where it is.
 fn tell_doubt<O: Outside>(outside: &mut O, doubt: &Option<Doubt>)
     ensures { (taken : Bool) × (O.log outside.new ≡ after (doubt_events doubt.now taken) (O.log outside.old)) }
 {
@@ -134,15 +134,15 @@ fn refuse<O: Outside>(refusal: &Refusal, outside: &mut O) -> u8
             let _taken = outside.tell(text);
             REFUSED
         }
-        Refusal::Memory => Stop::Fault(Fault::Memory).tell(None, outside),
+        Refusal::Memory => RunError::Fault(Fault::Memory).tell(None, outside),
     }
 }
 
-/// What a run comes to that isn't stopped.
+/// The result of a run that isn't stopped.
 #[derive(Drop)]
 struct Ended {
     sizes: Sizes,
-    /// Why its result can't be meant, where that is to be printed.
+    /// Why its result is doubtful, where that is to be printed.
     doubt: Option<Doubt>,
 }
 
@@ -163,7 +163,7 @@ fn replay<R: AllocGlobal + Threads + Wait + Sync + Clock + Eprint, O: Outside>(
     rt: &R,
     outside: &mut O,
     options: &Options,
-) -> Result<Ended, Stop>
+) -> Result<Ended, RunError>
     ensures ended { IfOk result (λ e. Did (HasEnded options.now e.sizes) (O.log outside.old) (O.log outside.new)) }
     ensures doubt { IfOk result (λ e. IsToldDoubt options.now e.sizes e.doubt) }
     ensures stops { IfErr result (λ stop. Did (HasStopped options.now stop) (O.log outside.old) (O.log outside.new)) }
@@ -175,7 +175,7 @@ fn replay<R: AllocGlobal + Threads + Wait + Sync + Clock + Eprint, O: Outside>(
     if outside.print(&SizesLine { sizes: ended.sizes }) {
         Ok(ended)
     } else {
-        Err(Stop::Output)
+        Err(RunError::Output)
     }
 }
 
@@ -185,7 +185,7 @@ fn rewrite<R: AllocGlobal + Threads + Wait + Sync + Clock + Eprint, O: Outside>(
     outside: &mut O,
     options: &Options,
     progress: &Progress<'_, R>,
-) -> Result<Ended, Stop>
+) -> Result<Ended, RunError>
     ensures doubt { IfOk result (λ e. IsToldDoubt options.now e.sizes e.doubt) }
     ensures written { IfOk result (λ e. Did (λ events. (output : Output) × (reads : List Event) × IsReplayed options.now (Ok output) reads × (e.sizes ≡ output.sizes)
         × (events ≡ reads ++ writes_of options.now output)) (O.log outside.old) (O.log outside.new)) }

@@ -3,17 +3,17 @@
 ghost use Rattle.std.specs.Prelude.{IfSome};
 ghost use Rattle.whole_run.specs.Seeing.{IsOf, IsOfPolicy, IsOfTable, MaySee};
 
-use crate::stop::Stop;
-use crate::values::{Form, journal_values, seen_in_row};
-use circ_records::TableName;
+use crate::stop::RunError;
+use crate::values::{ValueForm, journal_values, seen_in_row};
 use csv::{ByteRecord, ErrorKind, Reader, ReaderBuilder};
+use record_tables::TableName;
 use replay_run::{Fault, Inputs, Tables};
 use std::alloc::Global;
 use std::mem::forget;
 
 /// What is seen in the text that a fault is about.
 #[derive(Drop)]
-pub enum Seen {
+pub enum FaultDetail {
     /// A row has another number of fields than the first one, and this many rows are before it.
     Uneven { row: u64 },
     /// The line, from 1, from which on a policy is no TOML.
@@ -21,7 +21,7 @@ pub enum Seen {
     /// The values of the row that is named, by their columns: `patron "P1", item "I9"`.
     Values { text: String },
     /// The one that names the row, and one that should have another form.
-    Form { text: String, form: Form },
+    Form { text: String, form: ValueForm },
     /// The text is compressed.
     Packed,
     /// The text is UTF-16.
@@ -29,7 +29,7 @@ pub enum Seen {
 }
 
 /// The stop of a fault, with what is seen in its text, where there is something to be seen and memory to find it.
-pub fn stop_of(alloc: Global, fault: Fault, inputs: &Inputs) -> Stop
+pub fn stop_of(alloc: Global, fault: Fault, inputs: &Inputs) -> RunError
     ensures { IsOf fault result }
 {
     let mut rows = TableRow::new();
@@ -42,12 +42,12 @@ pub fn stop_beside<'i>(
     fault: Fault,
     inputs: &'i Inputs,
     read: &mut TableRow<'i>,
-) -> Stop
+) -> RunError
     ensures { IsOf fault result }
 {
     match seen_of(alloc, &fault, inputs, read) {
-        Some(seen) => Stop::Seen { fault, seen },
-        None => Stop::Fault(fault),
+        Some(seen) => RunError::Seen { fault, seen },
+        None => RunError::Fault(fault),
     }
 }
 
@@ -56,7 +56,7 @@ fn seen_of<'i>(
     fault: &Fault,
     inputs: &'i Inputs,
     read: &mut TableRow<'i>,
-) -> Option<Seen>
+) -> Option<FaultDetail>
     ensures { IfSome result (MaySee fault.now) }
 {
     match fault {
@@ -70,7 +70,7 @@ fn seen_of<'i>(
         Fault::JournalRule { row, rule } => {
             let row = row_at(alloc, inputs.journal.as_slice(), *row)?;
             let text = journal_values(alloc, *rule, &row)?;
-            Some(Seen::Values { text })
+            Some(FaultDetail::Values { text })
         }
         _ => None,
     }
@@ -88,17 +88,17 @@ fn text_of(tables: &Tables, table: TableName) -> &[u8] {
 }
 
 /// Why a policy is no TOML.
-fn seen_in_policy(alloc: Global, text: &[u8]) -> Option<Seen>
+fn seen_in_policy(alloc: Global, text: &[u8]) -> Option<FaultDetail>
     ensures { IfSome result IsOfPolicy }
 {
     if is_packed(text) {
-        return Some(Seen::Packed);
+        return Some(FaultDetail::Packed);
     }
     if is_wide(text) {
-        return Some(Seen::Wide);
+        return Some(FaultDetail::Wide);
     }
     let line = toml_line(alloc, text)?;
-    Some(Seen::Line { line })
+    Some(FaultDetail::Line { line })
 }
 
 /// The line, from 1, from which on a text is no TOML.
@@ -128,17 +128,17 @@ fn is_wide(text: &[u8]) -> bool {
 }
 
 /// Why a text is no table.
-fn seen_in_table(alloc: Global, text: &[u8]) -> Option<Seen>
+fn seen_in_table(alloc: Global, text: &[u8]) -> Option<FaultDetail>
     ensures { IfSome result IsOfTable }
 {
     if is_packed(text) {
-        return Some(Seen::Packed);
+        return Some(FaultDetail::Packed);
     }
     if is_wide(text) {
-        return Some(Seen::Wide);
+        return Some(FaultDetail::Wide);
     }
     let row = uneven_row(alloc, text)?;
-    Some(Seen::Uneven { row })
+    Some(FaultDetail::Uneven { row })
 }
 
 /// A row of a table that was read last, and the rows after it.

@@ -7,10 +7,10 @@ ghost use Rattle.whole_run.specs.Reading.{MayTell, MayTellFolder};
 ghost use Rattle.whole_run.specs.Looking.{TellsLoss};
 ghost use Rattle.whole_run.specs.Statuses.{status_of};
 ghost use Rattle.whole_run.specs.Telling.{line_of, loss_of, stop_text};
-ghost use Rattle.whole_run.specs.declared.stop.Stop.TheVariants as stops;
+ghost use Rattle.whole_run.specs.declared.stop.RunError.TheVariants as stops;
 
 use crate::remedy::StopText;
-use crate::seen::Seen;
+use crate::seen::FaultDetail;
 use command_line::Options;
 use outside::{Failure, Outside};
 use replay_run::Fault;
@@ -20,7 +20,7 @@ use std::fmt;
 /// The status of a command line, a policy, a table or a journal that is refused.
 pub const REFUSED: u8 = 2;
 
-/// The status of a run that a file, memory or a counter's end stopped.
+/// The status of a run that a file, lack of memory or a counter at its greatest number stopped.
 pub const FAILED: u8 = 3;
 
 /// The last fault that names something in the inputs.
@@ -49,11 +49,11 @@ impl fmt::Display for InputName {
 
 /// Why a run ends before its last line is printed.
 #[derive(Drop)]
-pub enum Stop {
+pub enum RunError {
     /// The replay gave no output.
     Fault(Fault),
     /// The same, and what is seen in the text that this fault is about.
-    Seen { fault: Fault, seen: Seen },
+    Seen { fault: Fault, seen: FaultDetail },
     /// A file of the folder for the output is one that is read.
     Replaces { out: String, input: InputName },
     /// The file of this path can't be read or written.
@@ -65,66 +65,66 @@ pub enum Stop {
 }
 
 /// The line that is printed for a stop; none where standard output fails.
-impl fmt::Display for Stop {
+impl fmt::Display for RunError {
     ghost output = { λ stop. Some (line_of stop) };
 
     fn fmt<W: fmt::Write>(&self, f: &mut fmt::Formatter<W>) -> fmt::Result {
         match self {
-            Stop::Fault(fault) => write!(f, "fault {}: {fault}\n", fault.number()),
-            Stop::Seen { fault, .. } => write!(f, "fault {}: {fault}\n", fault.number()),
-            Stop::Replaces { out, input } => write!(
+            RunError::Fault(fault) => write!(f, "fault {}: {fault}\n", fault.number()),
+            RunError::Seen { fault, .. } => write!(f, "fault {}: {fault}\n", fault.number()),
+            RunError::Replaces { out, input } => write!(
                 f,
                 "error: invalid value '{out}' for '--out <DIR>': its {input}\n\nFor more information, try '--help'.\n"
             ),
-            Stop::File { path, .. } => write!(f, "file: {path}\n"),
-            Stop::NoFolder { path, .. } => write!(f, "file: {path}\n"),
-            Stop::Output => f.write_str(""),
+            RunError::File { path, .. } => write!(f, "file: {path}\n"),
+            RunError::NoFolder { path, .. } => write!(f, "file: {path}\n"),
+            RunError::Output => f.write_str(""),
         }
     }
 }
 
-impl From<AllocError> for Stop {
+impl From<AllocError> for RunError {
     ghost from_gives = { λ _ stop. stop ≡ stops.Fault faults.Memory };
 
-    fn from(_error: AllocError) -> Stop {
-        Stop::Fault(Fault::Memory)
+    fn from(_error: AllocError) -> RunError {
+        RunError::Fault(Fault::Memory)
     }
 }
 
-impl Stop {
-    /// The stop of a file that failed. Where memory is what it lacked, the file isn't to blame.
-    pub fn of_file(alloc: Global, failure: Failure, path: &str) -> Stop
+impl RunError {
+    /// The stop of a file that failed. Where memory ran out, the stop names memory and not the file.
+    pub fn of_file(alloc: Global, failure: Failure, path: &str) -> RunError
         ensures { MayTell path.now failure result }
     {
         if let Failure::Memory = failure {
-            return Stop::Fault(Fault::Memory);
+            return RunError::Fault(Fault::Memory);
         }
         match String::from_str(alloc, path) {
-            Ok(path) => Stop::File { path, failure },
-            Err(error) => Stop::from(error),
+            Ok(path) => RunError::File { path, failure },
+            Err(error) => RunError::from(error),
         }
     }
 
     /// The stop of a file in a folder that isn't there.
-    pub fn of_folder(alloc: Global, folder: &str, path: &str) -> Stop
+    pub fn of_folder(alloc: Global, folder: &str, path: &str) -> RunError
         ensures { MayTellFolder folder.now path.now result }
     {
         match (
             String::from_str(alloc, folder),
             String::from_str(alloc, path),
         ) {
-            (Ok(folder), Ok(path)) => Stop::NoFolder { path, folder },
-            _ => Stop::Fault(Fault::Memory),
+            (Ok(folder), Ok(path)) => RunError::NoFolder { path, folder },
+            _ => RunError::Fault(Fault::Memory),
         }
     }
 
     /// The stop of a run whose output would replace an input.
-    pub fn of_loss(alloc: Global, options: &Options, input: InputName) -> Stop
+    pub fn of_loss(alloc: Global, options: &Options, input: InputName) -> RunError
         ensures { TellsLoss options.now input result }
     {
         match String::from_str(alloc, options.out.as_str()) {
-            Ok(out) => Stop::Replaces { out, input },
-            Err(error) => Stop::from(error),
+            Ok(out) => RunError::Replaces { out, input },
+            Err(error) => RunError::from(error),
         }
     }
 
@@ -142,9 +142,9 @@ impl Stop {
         ensures { result ≡ status_of self.now }
     {
         match self {
-            Stop::Fault(fault) if fault.number() <= LAST_REFUSAL => REFUSED,
-            Stop::Seen { .. } => REFUSED,
-            Stop::Replaces { .. } => REFUSED,
+            RunError::Fault(fault) if fault.number() <= LAST_REFUSAL => REFUSED,
+            RunError::Seen { .. } => REFUSED,
+            RunError::Replaces { .. } => REFUSED,
             _ => FAILED,
         }
     }

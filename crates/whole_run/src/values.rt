@@ -1,14 +1,15 @@
 //! The values of a row that breaks a rule, by the names of their columns.
 
 ghost use Rattle.std.specs.Prelude.{IfSome, Some};
-ghost use Rattle.circ_records.specs.declared.fault.BaseRule.TheVariants as base;
+ghost use Rattle.circ_records.specs.declared.rule.BaseRule.TheVariants as base;
 ghost use Rattle.whole_run.specs.Seeing.{AreValues};
 ghost use Rattle.whole_run.specs.Telling.{form_words};
 
-use crate::seen::Seen;
-use circ_records::{BaseRule, TableName};
+use crate::seen::FaultDetail;
+use circ_records::BaseRule;
 use csv::ByteRecord;
 use journal_table::JournalRule;
+use record_tables::TableName;
 use sip_reader::{Amount, is_id, is_text};
 use std::alloc::Global;
 use std::fmt;
@@ -19,7 +20,7 @@ const TOLD: usize = 60;
 
 /// The form that a value should have.
 #[derive(Clone, Copy)]
-pub enum Form {
+pub enum ValueForm {
     /// Y or N.
     Flag,
     /// A day, as 20260316.
@@ -31,71 +32,72 @@ pub enum Form {
     Amount,
 }
 
-impl fmt::Display for Form {
+impl fmt::Display for ValueForm {
     ghost output = { λ form. Some (form_words form) };
 
     fn fmt<W: fmt::Write>(&self, f: &mut fmt::Formatter<W>) -> fmt::Result {
         f.write_str(match self {
-            Form::Flag => "blocked is Y or N",
-            Form::Day => "a due day is eight digits of a day of the calendar, as 20260316",
-            Form::Number => "renewals are a whole number, in digits without leading zeros",
-            Form::FeeType => "a fee type is 01 to 09",
-            Form::Amount => "an amount is up to nine digits, with up to two after a point, as 1.50",
+            ValueForm::Flag => "blocked is Y or N",
+            ValueForm::Day => "a due day is eight digits of a day of the calendar, as 20260316",
+            ValueForm::Number => "renewals are a whole number, in digits without leading zeros",
+            ValueForm::FeeType => "a fee type is 01 to 09",
+            ValueForm::Amount =>
+                "an amount is up to nine digits, with up to two after a point, as 1.50",
         })
     }
 }
 
 /// What a column has.
 #[derive(Clone, Copy)]
-enum Kind {
+enum ColumnKind {
     /// An id: 1 to 64 bytes.
     Id,
     /// A text.
     Text,
-    Value(Form),
+    Value(ValueForm),
 }
 
 /// A column: its name in the header, and what it has.
-type Column = (&'static str, Kind);
+type TableColumn = (&'static str, ColumnKind);
 
-const PATRONS: &[Column] = &[
-    ("id", Kind::Id),
-    ("name", Kind::Text),
-    ("class", Kind::Text),
-    ("blocked", Kind::Value(Form::Flag)),
+const PATRONS: &[TableColumn] = &[
+    ("id", ColumnKind::Id),
+    ("name", ColumnKind::Text),
+    ("class", ColumnKind::Text),
+    ("blocked", ColumnKind::Value(ValueForm::Flag)),
 ];
 
-const ITEMS: &[Column] = &[
-    ("id", Kind::Id),
-    ("title", Kind::Text),
-    ("media", Kind::Text),
-    ("location", Kind::Text),
-    ("properties", Kind::Text),
+const ITEMS: &[TableColumn] = &[
+    ("id", ColumnKind::Id),
+    ("title", ColumnKind::Text),
+    ("media", ColumnKind::Text),
+    ("location", ColumnKind::Text),
+    ("properties", ColumnKind::Text),
 ];
 
-const LOANS: &[Column] = &[
-    ("patron", Kind::Id),
-    ("item", Kind::Id),
-    ("due", Kind::Value(Form::Day)),
-    ("renewals", Kind::Value(Form::Number)),
+const LOANS: &[TableColumn] = &[
+    ("patron", ColumnKind::Id),
+    ("item", ColumnKind::Id),
+    ("due", ColumnKind::Value(ValueForm::Day)),
+    ("renewals", ColumnKind::Value(ValueForm::Number)),
 ];
 
-const FEES: &[Column] = &[
-    ("id", Kind::Id),
-    ("patron", Kind::Id),
-    ("type", Kind::Value(Form::FeeType)),
-    ("amount", Kind::Value(Form::Amount)),
-    ("paid", Kind::Value(Form::Amount)),
+const FEES: &[TableColumn] = &[
+    ("id", ColumnKind::Id),
+    ("patron", ColumnKind::Id),
+    ("type", ColumnKind::Value(ValueForm::FeeType)),
+    ("amount", ColumnKind::Value(ValueForm::Amount)),
+    ("paid", ColumnKind::Value(ValueForm::Amount)),
 ];
 
-const HOLDS: &[Column] = &[
-    ("item", Kind::Id),
-    ("patron", Kind::Id),
-    ("pickup", Kind::Text),
+const HOLDS: &[TableColumn] = &[
+    ("item", ColumnKind::Id),
+    ("patron", ColumnKind::Id),
+    ("pickup", ColumnKind::Text),
 ];
 
 /// The columns of a table. Those of closed fees are the first four of the open ones.
-fn columns_of(table: TableName) -> &'static [Column] {
+fn columns_of(table: TableName) -> &'static [TableColumn] {
     match table {
         TableName::Patrons => PATRONS,
         TableName::Items => ITEMS,
@@ -111,20 +113,20 @@ pub fn seen_in_row(
     table: TableName,
     rule: BaseRule,
     row: &ByteRecord,
-) -> Option<Seen>
+) -> Option<FaultDetail>
     ensures { IfSome result (AreValues rule) }
 {
     match rule {
         BaseRule::Value => seen_in_values(alloc, table, row),
         _ => {
             let text = row_values(alloc, table, rule, row)?;
-            Some(Seen::Values { text })
+            Some(FaultDetail::Values { text })
         }
     }
 }
 
 /// The first value of a row that has another form than it should, after the one that names the row.
-fn seen_in_values(alloc: Global, table: TableName, row: &ByteRecord) -> Option<Seen>
+fn seen_in_values(alloc: Global, table: TableName, row: &ByteRecord) -> Option<FaultDetail>
     ensures { IfSome result (AreValues base.Value) }
 {
     let (place, form) = wrong_form(table, row)?;
@@ -132,13 +134,13 @@ fn seen_in_values(alloc: Global, table: TableName, row: &ByteRecord) -> Option<S
     let mut text = String::new(alloc);
     tell_value(alloc, &mut text, columns.first()?.0, row.get(0)?)?;
     tell_value(alloc, &mut text, columns.get(place)?.0, row.get(place)?)?;
-    Some(Seen::Form { text, form })
+    Some(FaultDetail::Form { text, form })
 }
 
 /// The place of the first value of a row that has another form than it should, and the right form.
-fn wrong_form(table: TableName, row: &ByteRecord) -> Option<(usize, Form)> {
+fn wrong_form(table: TableName, row: &ByteRecord) -> Option<(usize, ValueForm)> {
     for (place, ((_, kind), value)) in columns_of(table).iter().zip(row.iter()).enumerate() {
-        if let Kind::Value(form) = kind {
+        if let ColumnKind::Value(form) = kind {
             if !has_form(*form, value) {
                 return Some((place, *form));
             }
@@ -169,7 +171,7 @@ pub fn journal_values(alloc: Global, rule: JournalRule, row: &ByteRecord) -> Opt
 }
 
 /// Whether a rule that is broken is about a column with this value.
-fn is_about(rule: BaseRule, column: &Column, value: &[u8]) -> bool {
+fn is_about(rule: BaseRule, column: &TableColumn, value: &[u8]) -> bool {
     let (name, kind) = *column;
     match rule {
         BaseRule::Text => !is_spelt(kind, value),
@@ -184,22 +186,22 @@ fn is_about(rule: BaseRule, column: &Column, value: &[u8]) -> bool {
 }
 
 /// Whether an id or a text is one.
-fn is_spelt(kind: Kind, value: &[u8]) -> bool {
+fn is_spelt(kind: ColumnKind, value: &[u8]) -> bool {
     match kind {
-        Kind::Id => is_id(value),
-        Kind::Text => is_text(value),
-        Kind::Value(_) => true,
+        ColumnKind::Id => is_id(value),
+        ColumnKind::Text => is_text(value),
+        ColumnKind::Value(_) => true,
     }
 }
 
 /// Whether a value has its form.
-fn has_form(form: Form, value: &[u8]) -> bool {
+fn has_form(form: ValueForm, value: &[u8]) -> bool {
     match form {
-        Form::Flag => is_flag(value),
-        Form::Day => is_due(value),
-        Form::Number => is_renewals(value),
-        Form::FeeType => matches!(value, [b'0', b'1'..=b'9']),
-        Form::Amount => Amount::read(value).is_some(),
+        ValueForm::Flag => is_flag(value),
+        ValueForm::Day => is_due(value),
+        ValueForm::Number => is_renewals(value),
+        ValueForm::FeeType => matches!(value, [b'0', b'1'..=b'9']),
+        ValueForm::Amount => Amount::read(value).is_some(),
     }
 }
 

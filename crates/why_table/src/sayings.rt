@@ -9,7 +9,7 @@ use std::alloc::{AllocError, Global};
 
 /// What a line was asked: its message, and why it was answered as it was.
 #[derive(Clone, Copy)]
-pub struct Asked<'l> {
+pub struct AnsweredLine<'l> {
     pub policy: &'l Policy,
     pub reading: Option<&'l Reading>,
     pub reason: Reason,
@@ -64,7 +64,7 @@ fn add_amount(
 /// queue, its rental, and the due day or the late fee that the line made of them; of a fee its patron, its amount and what is paid of it.
 pub fn say(
     alloc: Global,
-    asked: &Asked<'_>,
+    asked: &AnsweredLine<'_>,
     notes: &Notes,
     found: Option<&Record>,
 ) -> Result<Vec<u8>, AllocError> {
@@ -81,7 +81,7 @@ pub fn say(
 fn say_patron(
     alloc: Global,
     out: &mut Vec<u8>,
-    asked: &Asked<'_>,
+    asked: &AnsweredLine<'_>,
     notes: &Notes,
     patron: &Patron,
 ) -> Result<(), AllocError> {
@@ -124,7 +124,7 @@ pub fn owed_by(notes: &Notes, patron: &Patron) -> Result<Option<u128>, AllocErro
 fn say_item(
     alloc: Global,
     out: &mut Vec<u8>,
-    asked: &Asked<'_>,
+    asked: &AnsweredLine<'_>,
     item: &Item,
 ) -> Result<(), AllocError> {
     match &item.loan {
@@ -156,7 +156,7 @@ fn say_item(
 fn say_due(
     alloc: Global,
     out: &mut Vec<u8>,
-    asked: &Asked<'_>,
+    asked: &AnsweredLine<'_>,
     media: &Media,
 ) -> Result<(), AllocError> {
     let Some(Reading::Asked(request)) = asked.reading else {
@@ -195,7 +195,7 @@ fn given_day(act: &Act) -> Option<Day> {
 fn say_late(
     alloc: Global,
     out: &mut Vec<u8>,
-    asked: &Asked<'_>,
+    asked: &AnsweredLine<'_>,
     item: &Item,
     media: &Media,
 ) -> Result<(), AllocError> {

@@ -4,7 +4,7 @@ ghost use Rattle.std.proofs.Props.{props};
 ghost use Rattle.std.specs.Prelude.{◌≡◌, IfSome};
 
 use crate::renewals::item_reasons;
-use crate::sayings::{Asked, say};
+use crate::sayings::{AnsweredLine, say};
 use circ_records::Key;
 use csv_table::TableText;
 use line_reasons::Reason;
@@ -48,7 +48,7 @@ impl WhyTable {
         }
         let items = item_reasons(alloc, plan, line, notes)?;
         for note in notes.as_slice() {
-            let asked = Asked {
+            let asked = AnsweredLine {
                 policy: plan.policy(),
                 reading: plan.reading(line),
                 reason: reason_of(&items, reason, note),

@@ -10,7 +10,7 @@ use Rattle.speculate.specs.declared.choice.Choice.{Choice}
 use Rattle.speculate.specs.declared.steps.BoardFault.{BoardFault}
 use Rattle.speculate.specs.declared.steps.BoardFault.TheVariants as faults
 use Rattle.worker_pool.specs.declared.calls.Left.{Left}
-use Rattle.worker_pool.specs.declared.held.Held.{Held}
+use Rattle.worker_pool.specs.declared.held.FusedBoard.{FusedBoard}
 
 -- the fault for which a reply refuses its call
 abbrev pub fault_of : {J : Type 0} → Reply J → Option BoardFault
@@ -30,14 +30,14 @@ given reply None = Ok reply
 given reply (Some fault) = Err (record { 0 = fault })
 
 -- The board's call is done once. Its reply is given; but the fault for which it refuses the call is left, and given.
-pub record Calls {A J : Type 0} (does : Board → A → Board → Type 0) (fault_by : A → Option BoardFault) (old : Held J) (result : Result A Left) (new : Held J) : Type 0 where
+pub record Calls {A J : Type 0} (does : Board → A → Board → Type 0) (fault_by : A → Option BoardFault) (old : FusedBoard J) (result : Result A Left) (new : FusedBoard J) : Type 0 where
   pub reply : A
   pub done : does old.board reply new.board
   pub leaves : new.left ≡ fault_by reply
   pub gives : result ≡ given reply new.left
 
 -- A hold of the lock.
-pub record Holds {A J : Type 0} (does : Board → A → Board → Type 0) (fault_by : A → Option BoardFault) (old : Held J) (result : Result A Left) (new : Held J) : Type 0 where
+pub record Holds {A J : Type 0} (does : Board → A → Board → Type 0) (fault_by : A → Option BoardFault) (old : FusedBoard J) (result : Result A Left) (new : FusedBoard J) : Type 0 where
   -- where a fault was left before, nothing changes, and that fault is given
   pub stays : (fault : BoardFault) → old.left ≡ Some fault → (new ≡ old) × (result ≡ Err (record { 0 = fault }))
   -- else the call is done

@@ -1,4 +1,4 @@
-//! What a hold of the lock gives.
+//! What is returned after one hold of the lock.
 
 ghost use Rattle.std.specs.Prelude.{◌≡◌};
 ghost use Rattle.worker_pool.specs.Holds.{fault_in, fault_of};
@@ -8,7 +8,7 @@ use read_set::PlanName;
 use speculate::{BoardFault, Choice};
 use std::alloc::AllocError;
 
-/// The first fault that was left: all workers are to end.
+/// The first fault that was stored: all workers are to end.
 #[derive(Clone, Copy)]
 pub struct Left(pub BoardFault);
 

@@ -1,4 +1,4 @@
-//! What lies under the lock, and what one hold of it does.
+//! What the lock guards, and what is done in one hold of it.
 
 ghost use Rattle.std.specs.Prelude.{◌≡◌};
 ghost use Rattle.std.specs.Option.{unwrap_or};
@@ -15,16 +15,16 @@ use read_set::PlanName;
 use speculate::{Board, BoardFault};
 use version_store::Place;
 
-/// The board, and the first fault that was left. Each step is one call of the board, and leaves the fault for which the board
-/// refuses it; where a fault was left before, it does nothing and gives that fault.
+/// The board, and the first fault that was stored. Each step is one call of the board, and stores the fault for which the board
+/// refuses it; where a fault was stored before, it does nothing and returns that fault.
 #[derive(Drop)]
-pub struct Held<'p, 't, J: PlanName> {
+pub struct FusedBoard<'p, 't, J: PlanName> {
     pub board: Board<'p, 't, J>,
     pub left: Option<BoardFault>,
 }
 
-impl<'p, 't, J: PlanName> Held<'p, 't, J> {
-    /// What a free worker does next, done.
+impl<'p, 't, J: PlanName> FusedBoard<'p, 't, J> {
+    /// Chooses what a free worker does next, and does it.
     pub fn begin(&mut self, worker: u32) -> Result<Begun<'t, J>, Left>
         ensures { Holds (BeginsChosen J.plan worker) (λ begun. fault_in begun.1) self.old result self.new }
     {
@@ -99,7 +99,7 @@ impl<'p, 't, J: PlanName> Held<'p, 't, J> {
         }
     }
 
-    /// Leaves a fault, unless one was left before.
+    /// Stores a fault, unless one was stored before.
     pub fn leave(&mut self, fault: BoardFault)
         ensures board { self.new.board ≡ self.old.board }
         ensures first { self.new.left ≡ Some (unwrap_or self.old.left fault) }

@@ -3,7 +3,7 @@
 ghost use Rattle.std.specs.Prelude.{◌≡◌, ◌<◌, IfErr, length};
 
 use crate::calls::{Begun, Left};
-use crate::held::Held;
+use crate::held::FusedBoard;
 use board_lines::Reply;
 use circ_records::Key;
 use read_set::{Plan, PlanName};
@@ -23,7 +23,7 @@ const TRIES: u32 = 1000;
 const TRIES_AT_EASE: u32 = 20;
 
 /// A board under a lock, with the plan and the table of the versions beside it. Each of the five steps `begin`, `look`, `publish`,
-/// `publish_more` and `check` is one hold of the lock: one call of the board, with its reply, or, once a fault was left, no call
+/// `publish_more` and `check` is one hold of the lock: one call of the board, with its reply, or, once a fault was stored, no call
 /// and that fault. The two counters touch no board.
 #[derive(Drop)]
 pub struct SharedBoard<'p, 't, J: PlanName> {
@@ -34,7 +34,7 @@ pub struct SharedBoard<'p, 't, J: PlanName> {
     vain_tries: AtomicU64,
     /// 1 once a worker has ended. Who rests sleeps on it.
     ended: AtomicU64,
-    held: Mutex<Held<'p, 't, J>>,
+    held: Mutex<FusedBoard<'p, 't, J>>,
     ghost named: { plan.now ≡ J.plan },
 }
 
@@ -49,7 +49,7 @@ impl<'p, 't, J: PlanName + 'static> SharedBoard<'p, 't, J> {
             workers,
             vain_tries: AtomicU64::new(0),
             ended: AtomicU64::new(0),
-            held: Mutex::new(Held { board, left: None }),
+            held: Mutex::new(FusedBoard { board, left: None }),
         }
     }
 
@@ -76,7 +76,7 @@ impl<'p, 't, J: PlanName + 'static> SharedBoard<'p, 't, J> {
     }
 
     /// Takes the lock where it is free at one of this number of tries.
-    fn try_hold(&self, tries: u32) -> Option<MutexGuard<'_, Held<'p, 't, J>>> {
+    fn try_hold(&self, tries: u32) -> Option<MutexGuard<'_, FusedBoard<'p, 't, J>>> {
         for tried in 0..tries {
             if let Some(held) = self.held.try_lock() {
                 self.count(tried);
@@ -98,19 +98,19 @@ impl<'p, 't, J: PlanName + 'static> SharedBoard<'p, 't, J> {
     }
 
     /// Takes the lock, where it can without sleeping, also while others sleep: `lock` alone sleeps at once where another sleeps.
-    fn hold<R: Wait>(&self, rt: &R) -> MutexGuard<'_, Held<'p, 't, J>> {
+    fn hold<R: Wait>(&self, rt: &R) -> MutexGuard<'_, FusedBoard<'p, 't, J>> {
         match self.try_hold(TRIES) {
             Some(held) => held,
             None => self.held.lock(rt),
         }
     }
 
-    /// What a free worker does next, done.
+    /// Chooses what a free worker does next, and does it.
     pub fn begin<R: Wait>(&self, rt: &R, worker: u32) -> Result<Begun<'t, J>, Left> {
         self.hold(rt).begin(worker)
     }
 
-    /// The same where the lock is free at one of a few tries; else None: the board wasn't asked, nor whether a fault was left.
+    /// The same where the lock is free at one of a few tries; else None: the board wasn't called, and a stored fault wasn't looked for.
     pub fn try_begin(&self, worker: u32) -> Option<Result<Begun<'t, J>, Left>> {
         let mut held = self.try_hold(TRIES_AT_EASE)?;
         Some(held.begin(worker))
@@ -141,12 +141,12 @@ impl<'p, 't, J: PlanName + 'static> SharedBoard<'p, 't, J> {
         self.hold(rt).check(worker, line)
     }
 
-    /// All workers are to end for this fault, unless one was left before.
+    /// Stores a fault for which all workers are to end, unless one was stored before.
     pub fn leave<R: Wait>(&self, rt: &R, fault: BoardFault) {
         self.hold(rt).leave(fault);
     }
 
-    /// The first fault that was left.
+    /// The first fault that was stored.
     pub fn left<R: Wait>(&self, rt: &R) -> Option<BoardFault> {
         self.hold(rt).left
     }
@@ -156,7 +156,7 @@ impl<'p, 't, J: PlanName + 'static> SharedBoard<'p, 't, J> {
         self.ended.park_timeout(rt, 0, time);
     }
 
-    /// A worker ends. So will all others: none is to sleep on.
+    /// Wakes all workers that sleep, since one has ended: the others are to end too.
     pub fn end_rests(&self) {
         self.ended.store(1, Ordering::SeqCst);
         self.ended.wake_all();
@@ -175,7 +175,7 @@ impl<'p, 't, J: PlanName + 'static> SharedBoard<'p, 't, J> {
             ended: _,
             held,
         } = self;
-        let Held { board, left: _ } = held.into_inner();
+        let FusedBoard { board, left: _ } = held.into_inner();
         board.finish()
     }
 }

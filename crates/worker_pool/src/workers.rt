@@ -40,7 +40,7 @@ const PAUSES: u32 = 5_000;
 
 /// A line that a worker has in hand.
 #[derive(Clone, Copy)]
-struct Task {
+struct WorkerTask {
     worker: u32,
     line: u64,
     attempt: u32,
@@ -50,15 +50,15 @@ struct Task {
 #[derive(Clone, Copy)]
 enum Duty {
     Commit { line: u64 },
-    Check { line: u64, course: Course },
-    Attempt(Task),
+    Check { line: u64, course: StepsLeft },
+    Attempt(WorkerTask),
     Nothing,
     End,
 }
 
 /// How far a publication or a check has come.
 #[derive(Clone, Copy)]
-enum Course {
+enum StepsLeft {
     /// An act was done, and there is more to do.
     More,
     /// All is published, or all was compared.
@@ -69,7 +69,7 @@ enum Course {
 
 /// How a worker goes on.
 #[derive(Clone, Copy)]
-enum Turn {
+enum WorkerTurn {
     /// It chooses again.
     Next,
     /// What it might choose now waits for other workers: it lets them go first.
@@ -78,7 +78,7 @@ enum Turn {
     Last,
 }
 
-/// Runs as many workers as the board was made for, until all lines are committed or a fault was left, which is returned. The
+/// Runs as many workers as the board was made for, until all lines are committed or a fault was stored, which is returned. The
 /// first works in the calling thread; one whose thread can't be made is left out.
 pub fn run_workers<J: PlanName + Send + Sync + 'static, G: Gate + Sync, R: Threads + Wait + Sync>(
     rt: &R,
@@ -122,7 +122,7 @@ fn start_workers<J: PlanName + Send + Sync + 'static, G: Gate + Sync, R: Threads
     );
 }
 
-/// Works until all lines are committed or a fault was left. Whoever rests is woken then.
+/// Works until all lines are committed or a fault was stored. Then all workers that rest are woken.
 fn work<J: PlanName + 'static, G: Gate, R: Wait>(
     rt: &R,
     alloc: Global,
@@ -155,9 +155,9 @@ fn take_turns<J: PlanName + 'static, G: Gate, R: Wait>(
             0
         };
         match turn {
-            Turn::Next if worker == 0 || !is_busy => {}
-            Turn::Next | Turn::Yield => stand_back(rt, shared, worker, busy_turns),
-            Turn::Last => return Ok(()),
+            WorkerTurn::Next if worker == 0 || !is_busy => {}
+            WorkerTurn::Next | WorkerTurn::Yield => stand_back(rt, shared, worker, busy_turns),
+            WorkerTurn::Last => return Ok(()),
         }
     }
     unreachable!()
@@ -189,13 +189,13 @@ fn take_turn<J: PlanName + 'static, G: Gate, R: Wait>(
     shared: &SharedBoard<'_, '_, J>,
     gate: &G,
     worker: u32,
-) -> Result<Turn, Left> {
+) -> Result<WorkerTurn, Left> {
     match begin(rt, shared, worker)? {
-        Duty::End => Ok(Turn::Last),
-        Duty::Nothing => Ok(Turn::Yield),
+        Duty::End => Ok(WorkerTurn::Last),
+        Duty::Nothing => Ok(WorkerTurn::Yield),
         Duty::Commit { line } => {
             gate.at(worker, line, Moment::Committed);
-            Ok(Turn::Next)
+            Ok(WorkerTurn::Next)
         }
         Duty::Check { line, course } => check_line(rt, shared, gate, worker, line, course),
         Duty::Attempt(task) => {
@@ -229,7 +229,7 @@ fn duty_of<J: PlanName>(worker: u32, begun: &Result<Begun<'_, J>, Left>) -> Resu
             line: *line,
             course: course_of(reply),
         }),
-        Ok((Choice::Take(line), Some(Reply::Taken { attempt }))) => Ok(Duty::Attempt(Task {
+        Ok((Choice::Take(line), Some(Reply::Taken { attempt }))) => Ok(Duty::Attempt(WorkerTask {
             worker,
             line: *line,
             attempt: *attempt,
@@ -240,18 +240,18 @@ fn duty_of<J: PlanName>(worker: u32, begun: &Result<Begun<'_, J>, Left>) -> Resu
 }
 
 /// How far the publication or the check of the reply has come.
-fn course_of<J: PlanName>(reply: &Reply<'_, J>) -> Course {
+fn course_of<J: PlanName>(reply: &Reply<'_, J>) -> StepsLeft {
     match reply {
-        Reply::Placed => Course::More,
-        Reply::Lifted => Course::More,
-        Reply::Same => Course::More,
-        Reply::Whole => Course::Whole,
-        _ => Course::Over,
+        Reply::Placed => StepsLeft::More,
+        Reply::Lifted => StepsLeft::More,
+        Reply::Same => StepsLeft::More,
+        Reply::Whole => StepsLeft::Whole,
+        _ => StepsLeft::Over,
     }
 }
 
 /// The same of what a step gave.
-fn course_after<J: PlanName>(given: &Result<Reply<'_, J>, Left>) -> Result<Course, Left> {
+fn course_after<J: PlanName>(given: &Result<Reply<'_, J>, Left>) -> Result<StepsLeft, Left> {
     match given {
         Ok(reply) => Ok(course_of(reply)),
         Err(left) => Err(*left),
@@ -265,17 +265,17 @@ fn check_line<J: PlanName + 'static, G: Gate, R: Wait>(
     gate: &G,
     worker: u32,
     line: u64,
-    begun: Course,
-) -> Result<Turn, Left> {
+    begun: StepsLeft,
+) -> Result<WorkerTurn, Left> {
     let mut course = begun;
     for _ in rt.forever() {
         match course {
-            Course::More => {}
-            Course::Whole => {
+            StepsLeft::More => {}
+            StepsLeft::Whole => {
                 gate.at(worker, line, Moment::Checked);
-                return Ok(Turn::Next);
+                return Ok(WorkerTurn::Next);
             }
-            Course::Over => return Ok(Turn::Yield),
+            StepsLeft::Over => return Ok(WorkerTurn::Yield),
         }
         course = course_after(&shared.check(rt, worker, line))?;
     }
@@ -288,10 +288,10 @@ fn run_line<J: PlanName + 'static, G: Gate, R: Wait>(
     alloc: Global,
     shared: &SharedBoard<'_, '_, J>,
     gate: &G,
-    task: Task,
-) -> Result<Turn, Left> {
+    task: WorkerTask,
+) -> Result<WorkerTurn, Left> {
     let Some(place) = read_line(rt, alloc, shared, task)? else {
-        return Ok(Turn::Yield);
+        return Ok(WorkerTurn::Yield);
     };
     publish_line(rt, shared, gate, task, place)
 }
@@ -302,7 +302,7 @@ fn read_line<'t, J: PlanName + 'static, R: Wait>(
     rt: &R,
     alloc: Global,
     shared: &SharedBoard<'_, 't, J>,
-    task: Task,
+    task: WorkerTask,
 ) -> Result<Option<Place<'t, J>>, Left>
     ensures { IfOk result (λ o. IfSome o (λ p. AreAsked J.plan task.line p.version.now.reads)) }
 {
@@ -332,7 +332,7 @@ fn read_line<'t, J: PlanName + 'static, R: Wait>(
 }
 
 /// The version that a line's rule gives on these notes.
-fn version_of<J: PlanName>(task: Task, notes: Notes, effect: Effect) -> Version<J>
+fn version_of<J: PlanName>(task: WorkerTask, notes: Notes, effect: Effect) -> Version<J>
     requires { Settles J.plan task.line notes effect.writes effect.answer }
     ensures { result ≡ record { line = task.line; attempt = task.attempt; reads = notes; writes = effect.writes; answer = effect.answer } }
 {
@@ -345,22 +345,22 @@ fn publish_line<'t, J: PlanName + 'static, G: Gate, R: Wait>(
     rt: &R,
     shared: &SharedBoard<'_, 't, J>,
     gate: &G,
-    task: Task,
+    task: WorkerTask,
     place: Place<'t, J>,
-) -> Result<Turn, Left> {
+) -> Result<WorkerTurn, Left> {
     let mut course = course_after(&shared.publish(rt, task.worker, place))?;
     for _ in rt.forever() {
         match course {
-            Course::More => {}
-            Course::Whole => {
+            StepsLeft::More => {}
+            StepsLeft::Whole => {
                 gate.at(task.worker, task.line, Moment::Whole);
-                return Ok(Turn::Next);
+                return Ok(WorkerTurn::Next);
             }
-            Course::Over => return Ok(Turn::Yield),
+            StepsLeft::Over => return Ok(WorkerTurn::Yield),
         }
         course = match &shared.publish_more(rt, task.worker) {
             Ok(Some(reply)) => course_of(reply),
-            Ok(None) => Course::Over,
+            Ok(None) => StepsLeft::Over,
             Err(left) => return Err(*left),
         };
     }

@@ -1,9 +1,9 @@
 -- A device of proofs: the ids of a list, however many blocks of memory they are in.
 use Rattle.std.specs.Prelude.{ℕ, List, []}
-use Rattle.circ_records.specs.declared.ids.Held.{Held}
-use Rattle.circ_records.specs.declared.ids.Held.TheVariants as held
+use Rattle.circ_records.specs.declared.ids.IdBlock.{IdBlock}
+use Rattle.circ_records.specs.declared.ids.IdBlock.TheVariants as held
 
-abbrev pub ids_held : Held → List (List ℕ)
+abbrev pub ids_held : IdBlock → List (List ℕ)
 ids_held held.None = []
 ids_held (held.One ids) = ids
 ids_held (held.Two ids) = ids

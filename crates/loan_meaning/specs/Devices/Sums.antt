@@ -3,7 +3,7 @@ use Rattle.std.specs.Prelude.{◌≡◌, ℕ, ◌<◌, ◌≤◌, ◌^◌, ◌+�
 use Rattle.std.specs.List.{list_all, starts_with}
 use Rattle.circ_records.specs.Records.{Entries}
 use Rattle.sip_reader.specs.Texts.{fee_id}
-use Rattle.loan_meaning.specs.Owing.{owed_at}
+use Rattle.read_set.specs.Owing.{owed_at}
 use Rattle.read_set.specs.Asks.{Done, follow}
 use Rattle.read_set.specs.Maps.{Part}
 use Rattle.read_set.specs.declared.progress.Renewals.{Renewals}
@@ -36,12 +36,12 @@ begins_as_made n id = starts_with nat_eq id (fee_front n)
 abbrev pub none_begins_as_made : ℕ → List (List ℕ) → Bool
 none_begins_as_made n fees = list_all (λ id. not (begins_as_made n id)) fees
 
--- a number, where 128 bits have room for it
+-- a number, where it fits in 128 bits
 abbrev pub with_room : ℕ → Option ℕ
 with_room total = if nat_lt total (2 ^ 128) then Some total else None
 
 -- a sum with an amount more: what was unknown stays so; what was known stays known just where the amount is 0, or where the fees of the line are new
--- and there is room for the sum
+-- and the sum fits
 abbrev pub sum_with : Bool → ℕ → Option ℕ → Option ℕ
 sum_with fresh amount None = None
 sum_with fresh amount (Some sum) = if amount == 0 then Some sum else if fresh then with_room (sum + amount) else None

@@ -1,4 +1,4 @@
-//! A recorded response that is the very text of the answer: nothing has to be looked for in it.
+//! A recorded response that equals the text of the answer: none of its fields has to be read.
 //!
 //! The ids and texts of an answer have no bar: their types promise that, so none of them is looked through.
 

@@ -5,7 +5,7 @@ ghost use Rattle.sip_answer.specs.Differ.{capped, checkin_words, due_words, fee_
 
 use super::items::is_same_as_recorded;
 use super::recorded::{count_at, due_and_fee, flag_of, ok_of, valid_in};
-use super::words::Words;
+use super::words::ReportWords;
 use crate::answer::{
     CheckinAnswer, FeePaidAnswer, HoldAnswer, ItemStatusAnswer, LoanAnswer, PatronAnswer,
     PatronStatus, RenewAllAnswer,
@@ -55,7 +55,7 @@ pub fn compare_patron(
     alloc: Global,
     answer: &PatronAnswer,
     response: &[u8],
-) -> Result<Option<Words>, AllocError>
+) -> Result<Option<ReportWords>, AllocError>
     ensures { IfOk result (λ w. w ≡ patron_words answer.now response.now) }
 {
     if response.len() < PATRON_FIXED {
@@ -63,7 +63,7 @@ pub fn compare_patron(
     }
     let (_, rest) = response.split_at(PATRON_FIXED);
     let is_valid = valid_in(rest);
-    let words = Words::new(alloc)
+    let words = ReportWords::new(alloc)
         .unless(Field::Status, is_same_status(answer.status, response))?
         .unless(Field::Valid, is_same(answer.known.is_some(), is_valid))?;
     Ok(Some(words))
@@ -101,7 +101,7 @@ pub fn compare_checkin(
     alloc: Global,
     answer: &CheckinAnswer,
     response: &[u8],
-) -> Result<Option<Words>, AllocError>
+) -> Result<Option<ReportWords>, AllocError>
     ensures { IfOk result (λ w. w ≡ checkin_words answer.now response.now) }
 {
     if response.len() < LOAN_FIXED {
@@ -113,7 +113,7 @@ pub fn compare_checkin(
     let Some(alert) = flag_of(response[ALERT_AT]) else {
         return Ok(None);
     };
-    let words = Words::new(alloc)
+    let words = ReportWords::new(alloc)
         .unless(Field::Ok, is_same(answer.known.is_some(), ok))?
         .unless(Field::Alert, is_same(answer.alert, alert))?;
     Ok(Some(words))
@@ -125,7 +125,7 @@ pub fn compare_loan(
     alloc: Global,
     answer: &LoanAnswer,
     response: &[u8],
-) -> Result<Option<Words>, AllocError>
+) -> Result<Option<ReportWords>, AllocError>
     ensures { IfOk result (λ w. w ≡ loan_words answer.now response.now) }
 {
     if response.len() < LOAN_FIXED {
@@ -139,7 +139,7 @@ pub fn compare_loan(
     let Some(fee) = fee else {
         return Ok(None);
     };
-    let words = Words::new(alloc).unless(Field::Ok, is_same(answer.due.is_some(), ok))?;
+    let words = ReportWords::new(alloc).unless(Field::Ok, is_same(answer.due.is_some(), ok))?;
     let words = compare_due(words, answer.due, ok, recorded)?;
     let words = words.unless(Field::Fee, rental_of(answer.rental) == fee)?;
     Ok(Some(words))
@@ -157,11 +157,11 @@ fn rental_of(rental: Option<Amount>) -> u64
 /// The word for the due day, which is compared where both oks are 1.
 #[tactic(auto, unfolding(crate::specs::Differ::due_words, crate::specs::Differ::word_unless))]
 fn compare_due(
-    words: Words,
+    words: ReportWords,
     due: Option<Day>,
     ok: bool,
     recorded: Option<Day>,
-) -> Result<Words, AllocError>
+) -> Result<ReportWords, AllocError>
     ensures { IfOk result (λ w. w ≡ words ++ due_words due ok recorded) }
 {
     let Some(day) = due else {
@@ -182,14 +182,17 @@ pub fn compare_item_status(
     alloc: Global,
     answer: &ItemStatusAnswer,
     response: &[u8],
-) -> Result<Option<Words>, AllocError>
+) -> Result<Option<ReportWords>, AllocError>
     ensures { IfOk result (λ w. w ≡ item_status_words answer.now response.now) }
 {
     if response.len() < SHORT_FIXED {
         return Ok(None);
     }
     let is_stored = response[OK_AT] == b'1';
-    let words = Words::new(alloc).unless(Field::Ok, is_same(answer.known.is_some(), is_stored))?;
+    let words = ReportWords::new(alloc).unless(
+        Field::Ok,
+        is_same(answer.known.is_some(), is_stored),
+    )?;
     Ok(Some(words))
 }
 
@@ -199,7 +202,7 @@ pub fn compare_fee_paid(
     alloc: Global,
     answer: &FeePaidAnswer,
     response: &[u8],
-) -> Result<Option<Words>, AllocError>
+) -> Result<Option<ReportWords>, AllocError>
     ensures { IfOk result (λ w. w ≡ fee_paid_words answer.now response.now) }
 {
     if response.len() < SHORT_FIXED {
@@ -208,7 +211,10 @@ pub fn compare_fee_paid(
     let Some(accepted) = flag_of(response[OK_AT]) else {
         return Ok(None);
     };
-    let words = Words::new(alloc).unless(Field::Accepted, is_same(answer.accepted, accepted))?;
+    let words = ReportWords::new(alloc).unless(
+        Field::Accepted,
+        is_same(answer.accepted, accepted),
+    )?;
     Ok(Some(words))
 }
 
@@ -218,7 +224,7 @@ pub fn compare_renew_all(
     alloc: Global,
     answer: &RenewAllAnswer,
     response: &[u8],
-) -> Result<Option<Words>, AllocError>
+) -> Result<Option<ReportWords>, AllocError>
     ensures { IfOk result (λ w. w ≡ renew_all_words answer.now response.now) }
 {
     if response.len() < RENEW_ALL_FIXED {
@@ -236,7 +242,7 @@ pub fn compare_renew_all(
     let (_, rest) = response.split_at(RENEW_ALL_FIXED);
     let as_renewed = is_same_as_recorded(alloc, answer.renewed.as_slice(), rest, b'B', b'M')?;
     let as_unrenewed = is_same_as_recorded(alloc, answer.unrenewed.as_slice(), rest, b'B', b'N')?;
-    let words = Words::new(alloc)
+    let words = ReportWords::new(alloc)
         .unless(Field::Ok, is_same(answer.ok, ok))?
         .unless(
             Field::Renewed,
@@ -264,7 +270,7 @@ pub fn compare_hold(
     alloc: Global,
     answer: &HoldAnswer,
     response: &[u8],
-) -> Result<Option<Words>, AllocError>
+) -> Result<Option<ReportWords>, AllocError>
     ensures { IfOk result (λ w. w ≡ hold_words answer.now response.now) }
 {
     if response.len() < HOLD_FIXED {
@@ -276,7 +282,7 @@ pub fn compare_hold(
     let Some(available) = flag_of(response[AVAILABLE_AT]) else {
         return Ok(None);
     };
-    let words = Words::new(alloc)
+    let words = ReportWords::new(alloc)
         .unless(Field::Ok, is_same(answer.ok, ok))?
         .unless(Field::Available, is_same(answer.available, available))?;
     Ok(Some(words))

@@ -6,17 +6,17 @@ use std::alloc::{AllocError, Global};
 use std::marker::Model;
 
 /// The words that were found so far.
-pub struct Words {
+pub struct ReportWords {
     fields: Vec<Field>,
 }
 
-impl Drop for Words {
+impl Drop for ReportWords {
     fn drop(self) {
-        let Words { fields: _ } = self;
+        let ReportWords { fields: _ } = self;
     }
 }
 
-impl Model for Words {
+impl Model for ReportWords {
     ghost use Rattle.std.specs.Prelude.{List};
     ghost use Rattle.sip_answer.specs.declared.field.Field.{Field};
 
@@ -25,33 +25,33 @@ impl Model for Words {
     ghost view = { λ w. w.fields.items };
 }
 
-impl Words {
+impl ReportWords {
     /// None so far.
-    pub fn new(alloc: Global) -> Words
+    pub fn new(alloc: Global) -> ReportWords
         ensures { result ≡ [] }
     {
-        Words {
+        ReportWords {
             fields: Vec::new(alloc),
         }
     }
 
     /// With this word too, unless the two agree.
     #[tactic(auto, unfolding(crate::specs::Differ::word_unless))]
-    pub fn unless(self, field: Field, agree: bool) -> Result<Words, AllocError>
+    pub fn unless(self, field: Field, agree: bool) -> Result<ReportWords, AllocError>
         ensures { IfOk result (λ w. w ≡ self ++ word_unless field agree) }
     {
-        let Words { mut fields } = self;
+        let ReportWords { mut fields } = self;
         if !agree {
             fields.push(field)?;
         }
-        Ok(Words { fields })
+        Ok(ReportWords { fields })
     }
 
     /// The words as a list.
     pub fn into_vec(self) -> Vec<Field>
         ensures { result.items ≡ self }
     {
-        let Words { fields } = self;
+        let ReportWords { fields } = self;
         fields
     }
 }

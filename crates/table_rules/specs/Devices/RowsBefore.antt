@@ -5,10 +5,10 @@ use Rattle.std.specs.BTreeSet.{BTreeSet, contains}
 use Rattle.std.specs.Cmp.Lexicographic.{slice_cmp}
 use Rattle.std.specs.Ordering.{nat_cmp}
 use Rattle.sip_reader.specs.Texts.{is_id}
-use Rattle.circ_records.specs.Read.{pair_cmp}
-use Rattle.circ_records.specs.Rules.{has_hold, has_row}
-use Rattle.circ_records.specs.Tables.{Row, field}
-use Rattle.circ_records.specs.Told.{row_with, rows_with}
+use Rattle.record_tables.specs.Read.{pair_cmp}
+use Rattle.record_tables.specs.Rules.{has_hold, has_row}
+use Rattle.record_tables.specs.Tables.{Row, field}
+use Rattle.record_tables.specs.Told.{row_with, rows_with}
 use Rattle.circ_records.specs.declared.holds.TheConstants.{QUEUE_MAX}
 
 -- a set has just the ids that rows have in a column

@@ -4,7 +4,7 @@ use Rattle.std.specs.FinMap.{is_sorted}
 use Rattle.std.specs.declared.cmp.Ordering.TheVariants.{Less, Greater}
 use Rattle.circ_records.specs.Keys.{key_cmp}
 use Rattle.circ_records.specs.declared.key.Key.{Key}
-use Rattle.version_store.specs.declared.entry.Entry.{Entry}
+use Rattle.version_store.specs.declared.entry.StoredEntry.{StoredEntry}
 
 -- each key is below those after it
 abbrev pub Rise : {X : Type 0} → List (Key × X) → Type 0
@@ -22,8 +22,8 @@ pub record IsGap {X : Type 0} (es : List (Key × X)) (k : Key) (i : ℕ) : Type 
   pub above : (j : ℕ) (d : Key × X) → i ≤ j → j < length es → key_cmp (slice_index_or es j d).0 k ≡ Greater
 
 -- an entry whose line's check has failed
-abbrev pub marked : {J : Type 0} → Entry J → Entry J
+abbrev pub marked : {J : Type 0} → StoredEntry J → StoredEntry J
 marked e = record { attempt = e.attempt; suspect = true; place = e.place }
 
-abbrev pub all_marked : {K J : Type 0} → List (K × Entry J) → List (K × Entry J)
+abbrev pub all_marked : {K J : Type 0} → List (K × StoredEntry J) → List (K × StoredEntry J)
 all_marked es = map (λ e. (e.0, marked e.1)) es

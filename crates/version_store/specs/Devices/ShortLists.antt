@@ -1,9 +1,9 @@
 -- A device of proofs: the list that a short list is.
 use Rattle.std.specs.Prelude.{List, [], ◌∷◌}
-use Rattle.version_store.specs.declared.short_list.Held.{Held}
-use Rattle.version_store.specs.declared.short_list.Held.TheVariants.{Nothing, One, Two, Many}
+use Rattle.version_store.specs.declared.short_list.ShortItems.{ShortItems}
+use Rattle.version_store.specs.declared.short_list.ShortItems.TheVariants.{Nothing, One, Two, Many}
 
-abbrev pub listed : {T : Type 0} → Held T → List T
+abbrev pub listed : {T : Type 0} → ShortItems T → List T
 listed Nothing = []
 listed (One first) = first ∷ []
 listed (Two first second) = first ∷ second ∷ []

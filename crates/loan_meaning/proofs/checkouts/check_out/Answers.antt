@@ -1,9 +1,7 @@
 use Rattle.std.proofs.lemmas.Result.{err_from_is_err_and}
-use Rattle.loan_meaning.specs.Lookups.{patron_at, item_at}
-use Rattle.loan_meaning.specs.Checkouts.{checkout_rule_known, checkout_rule}
-use Rattle.read_set.proofs.Following.{goes_on, stop_next, stop_then}
-use Rattle.read_set.specs.Checkouts.{checkout}
-use Rattle.loan_meaning.proofs.Whole.{meant, checkout_whole}
+use Rattle.read_set.specs.Lookups.{patron_at, item_at}
+use Rattle.read_set.specs.Checkouts.{checkout_rule_known, checkout_rule}
+use Rattle.read_set.proofs.Following.{goes_on, meant, stop_next, stop_then}
 use Rattle.read_set.proofs.Gaining.{gains_first, gains_then}
 use Rattle.loan_meaning.proofs.checkouts.check_out.Goals as goal
 
@@ -23,8 +21,7 @@ returns-clause-gives g c =
 
 pub returns-clause-means : goal.returns-clause-means
 returns-clause-means g c =
-    meant (g.S.Source.has c.lend_both.new.source) (checkout_rule c.args.policy.now c.args.n c.args.request.now c.args.date) (checkout c.args.policy.now c.args.n c.args.request.now c.args.date) c.lend_both.result
-    (λ M. checkout_whole M c.args.policy.now c.args.n c.args.request.now c.args.date) (returns-clause-gives g c)
+    meant (g.S.Source.has c.lend_both.new.source) (checkout_rule c.args.policy.now c.args.n c.args.request.now c.args.date) c.lend_both.result (returns-clause-gives g c)
 
 pub returns-in_err-article-clause-keeps : goal.returns-in_err-article-clause-keeps
 unfolding checkout_rule

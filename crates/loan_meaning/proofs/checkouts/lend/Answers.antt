@@ -1,4 +1,4 @@
-use Rattle.loan_meaning.specs.Checkouts.{lending_tests, lending_rule_by, lending_rule}
+use Rattle.read_set.specs.Checkouts.{lending_tests, lending_rule_by, lending_rule}
 use Rattle.read_set.proofs.Following.{goes_on}
 use Rattle.read_set.proofs.Gaining.{gains_first, gains_then}
 use Rattle.loan_meaning.proofs.checkouts.lend.Goals as goal

@@ -1,8 +1,7 @@
 use Rattle.std.proofs.Common.{refl, subst, sym}
 use Rattle.read_set.specs.Asks.{Give}
 use Rattle.read_set.specs.Stops.{Follows}
-use Rattle.loan_meaning.specs.Checkouts.{other_at, lending_of}
-use Rattle.read_set.specs.Checkouts.{lending_made}
+use Rattle.read_set.specs.Checkouts.{other_at, lending_of, lending_made}
 use Rattle.read_set.proofs.Following.{follow_then}
 use Rattle.read_set.proofs.Gaining.{gains_first}
 use Rattle.loan_meaning.proofs.checkouts.lend_by.Goals as goal

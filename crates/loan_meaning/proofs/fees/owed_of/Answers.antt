@@ -3,8 +3,8 @@ use Rattle.std.proofs.lemmas.Result.{err_from_is_err_and}
 use Rattle.circ_records.specs.declared.key.Key.TheVariants as keys
 use Rattle.read_set.specs.Asks.{IsAsked, follow}
 use Rattle.read_set.specs.Maps.{Part, Grows}
-use Rattle.loan_meaning.specs.Lookups.{ask_after}
-use Rattle.loan_meaning.specs.Owing.{owed_at, owed_from}
+use Rattle.read_set.specs.Lookups.{ask_after}
+use Rattle.read_set.specs.Owing.{owed_at, owed_from}
 use Rattle.read_set.specs.Fees.{rest_of}
 use Rattle.read_set.proofs.Following.{follow_more}
 use Rattle.read_set.proofs.Gaining.{gains_none, gains_step}

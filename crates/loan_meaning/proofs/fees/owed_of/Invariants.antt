@@ -2,7 +2,7 @@ use Rattle.std.proofs.Common.{◌≡◌, ◌≤◌, ◌*◌, ◌^◌, drop}
 use Rattle.circ_records.specs.declared.key.Key.{Key}
 use Rattle.read_set.specs.Asks.{Gains, IsAsked, follow}
 use Rattle.read_set.specs.Maps.{Part, Grows}
-use Rattle.loan_meaning.specs.Owing.{owed_from}
+use Rattle.read_set.specs.Owing.{owed_from}
 use Rattle.loan_meaning.proofs.fees.owed_of.Given as goal
 
 -- what is left gives what all gives, and asks for nothing else, on what is had now and on more

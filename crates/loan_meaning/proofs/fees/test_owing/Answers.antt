@@ -1,6 +1,6 @@
 use Rattle.std.proofs.Common.{ap, sym}
 use Rattle.read_set.specs.Asks.{Give, Done}
-use Rattle.loan_meaning.specs.Owing.{owed_at, owing_tests}
+use Rattle.read_set.specs.Owing.{owed_at, owing_tests}
 use Rattle.read_set.specs.Fees.{owing_verdict}
 use Rattle.read_set.proofs.Following.{follow_then}
 use Rattle.read_set.proofs.Gaining.{gains_first}

@@ -1,8 +1,6 @@
-use Rattle.loan_meaning.specs.Lookups.{patron_at}
-use Rattle.loan_meaning.specs.RenewAlls.{renew_all_rule, renew_all_rule_known}
-use Rattle.read_set.proofs.Following.{goes_on}
-use Rattle.read_set.specs.RenewAlls.{renew_all}
-use Rattle.loan_meaning.proofs.Whole.{meant, renew_all_whole}
+use Rattle.read_set.specs.Lookups.{patron_at}
+use Rattle.read_set.specs.RenewAlls.{renew_all_rule, renew_all_rule_known}
+use Rattle.read_set.proofs.Following.{goes_on, meant}
 use Rattle.read_set.proofs.Gaining.{gains_first, gains_then}
 use Rattle.loan_meaning.proofs.renew_alls.renew_all.Goals as goal
 
@@ -14,8 +12,7 @@ returns-clause-gives g c =
 
 pub returns-clause-means : goal.returns-clause-means
 returns-clause-means g c =
-    meant (g.S.Source.has c.renew_any.new.source) (renew_all_rule c.args.policy.now c.args.n c.args.request.now c.args.date) (renew_all c.args.policy.now c.args.n c.args.request.now c.args.date) c.renew_any.result
-    (λ M. renew_all_whole M c.args.policy.now c.args.n c.args.request.now c.args.date) (returns-clause-gives g c)
+    meant (g.S.Source.has c.renew_any.new.source) (renew_all_rule c.args.policy.now c.args.n c.args.request.now c.args.date) c.renew_any.result (returns-clause-gives g c)
 
 pub returns-clause-keeps : goal.returns-clause-keeps
 unfolding renew_all_rule

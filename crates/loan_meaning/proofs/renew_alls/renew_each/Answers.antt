@@ -1,7 +1,6 @@
 use Rattle.std.proofs.Common.{ap, sym}
-use Rattle.loan_meaning.specs.RenewAlls.{turns_rule}
+use Rattle.read_set.specs.RenewAlls.{turns_rule, none_renewed, all_renewed}
 use Rattle.read_set.specs.Asks.{Give, Done}
-use Rattle.read_set.specs.RenewAlls.{none_renewed, all_renewed}
 use Rattle.read_set.proofs.Following.{follow_then}
 use Rattle.read_set.proofs.Gaining.{gains_first}
 use Rattle.loan_meaning.proofs.renew_alls.renew_each.Goals as goal

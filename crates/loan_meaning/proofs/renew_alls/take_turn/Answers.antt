@@ -1,6 +1,6 @@
 use Rattle.circ_records.specs.declared.key.Key.TheVariants as keys
-use Rattle.loan_meaning.specs.Lookups.{ask_after}
-use Rattle.loan_meaning.specs.RenewAlls.{turn_rule, turn_rule_known}
+use Rattle.read_set.specs.Lookups.{ask_after}
+use Rattle.read_set.specs.RenewAlls.{turn_rule, turn_rule_known}
 use Rattle.loan_meaning.proofs.Sums.{run_more}
 use Rattle.read_set.specs.Known.{as_article}
 use Rattle.read_set.proofs.Following.{goes_on}

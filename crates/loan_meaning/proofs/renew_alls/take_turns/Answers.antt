@@ -2,10 +2,9 @@ use Rattle.std.proofs.Common.{◌≡◌, refl, sym, ◌∙◌, ◌+◌, drop, ar
 use Rattle.std.proofs.lemmas.Result.{err_from_is_err_and}
 use Rattle.read_set.specs.Asks.{follow}
 use Rattle.read_set.specs.Maps.{Part, Grows}
-use Rattle.read_set.specs.RenewAlls.{by_renew_all, none_renewed}
+use Rattle.read_set.specs.RenewAlls.{by_renew_all, none_renewed, turn_rule, turns_rule}
 use Rattle.read_set.proofs.Following.{follow_more}
 use Rattle.read_set.proofs.Gaining.{gains_none, gains_step}
-use Rattle.loan_meaning.specs.RenewAlls.{turn_rule, turns_rule}
 use Rattle.loan_meaning.proofs.Sums.{run_none}
 use Rattle.loan_meaning.proofs.Turning.{step, stop_step, asks_here, asks_after}
 use Rattle.loan_meaning.proofs.renew_alls.take_turns.Goals as goal

@@ -1,10 +1,9 @@
 use Rattle.std.proofs.Common.{◌≡◌, ◌≤◌, drop}
-use Rattle.loan_meaning.specs.RenewAlls.{turns_rule}
+use Rattle.read_set.specs.RenewAlls.{turns_rule, none_renewed}
 use Rattle.loan_meaning.specs.Devices.Sums.{Runs}
 use Rattle.circ_records.specs.declared.key.Key.{Key}
 use Rattle.read_set.specs.Asks.{Gains, IsAsked, follow}
 use Rattle.read_set.specs.Maps.{Part, Grows}
-use Rattle.read_set.specs.RenewAlls.{none_renewed}
 use Rattle.loan_meaning.proofs.renew_alls.take_turns.Given as goal
 
 -- what is left gives what all gives, and asks for nothing else, on what is had now and on more

@@ -1,5 +1,5 @@
 use Rattle.std.proofs.Common.{ap, sym, arith}
-use Rattle.loan_meaning.specs.Renewals.{renewal_tests}
+use Rattle.read_set.specs.Renewals.{renewal_tests}
 use Rattle.read_set.specs.Asks.{Give, Done}
 use Rattle.read_set.specs.RenewAlls.{turn_by}
 use Rattle.loan_meaning.proofs.Sums.{run_turn}

@@ -1,10 +1,8 @@
 use Rattle.std.proofs.lemmas.Result.{err_from_is_err_and}
-use Rattle.loan_meaning.specs.Lookups.{patron_at, item_at}
-use Rattle.loan_meaning.specs.Renewals.{renew_rule_known, renew_rule}
+use Rattle.read_set.specs.Lookups.{patron_at, item_at}
+use Rattle.read_set.specs.Renewals.{renew_rule_known, renew_rule}
 use Rattle.read_set.specs.Loans.{by_renew}
-use Rattle.read_set.proofs.Following.{goes_on, stop_next, stop_then}
-use Rattle.read_set.specs.Renewals.{renew}
-use Rattle.loan_meaning.proofs.Whole.{meant, renew_whole}
+use Rattle.read_set.proofs.Following.{goes_on, meant, stop_next, stop_then}
 use Rattle.read_set.proofs.Gaining.{gains_first, gains_then}
 use Rattle.loan_meaning.proofs.renewals.renew_item.Goals as goal
 
@@ -25,8 +23,7 @@ returns-clause-gives g c =
 
 pub returns-clause-means : goal.returns-clause-means
 returns-clause-means g c =
-    meant (g.S.Source.has c.renew_both.new.source) (renew_rule c.args.policy.now c.args.n c.args.request.now c.args.date) (renew c.args.policy.now c.args.n c.args.request.now c.args.date) c.renew_both.result
-    (λ M. renew_whole M c.args.policy.now c.args.n c.args.request.now c.args.date) (returns-clause-gives g c)
+    meant (g.S.Source.has c.renew_both.new.source) (renew_rule c.args.policy.now c.args.n c.args.request.now c.args.date) c.renew_both.result (returns-clause-gives g c)
 
 pub returns-in_err-article-clause-keeps : goal.returns-in_err-article-clause-keeps
 unfolding renew_rule

@@ -1,7 +1,6 @@
 use Rattle.std.proofs.Common.{[]}
 use Rattle.read_set.specs.Asks.{Give}
-use Rattle.loan_meaning.specs.Renewals.{renewal_tests, renewal_rule}
-use Rattle.read_set.specs.Renewals.{renewal_by}
+use Rattle.read_set.specs.Renewals.{renewal_tests, renewal_rule, renewal_by}
 use Rattle.read_set.proofs.Following.{goes_on}
 use Rattle.read_set.proofs.Gaining.{gains_first}
 use Rattle.loan_meaning.proofs.renewals.renew_one.Goals as goal

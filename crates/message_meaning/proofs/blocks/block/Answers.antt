@@ -1,10 +1,7 @@
-use Rattle.loan_meaning.specs.Lookups.{patron_at}
-use Rattle.message_meaning.specs.Blocks.{block_rule, block_rule_known}
-use Rattle.read_set.specs.Blocks.{block}
-use Rattle.read_set.proofs.Following.{goes_on}
+use Rattle.read_set.specs.Lookups.{patron_at}
+use Rattle.read_set.specs.Blocks.{block_rule, block_rule_known}
+use Rattle.read_set.proofs.Following.{goes_on, meant}
 use Rattle.read_set.proofs.Gaining.{gains_first, gains_then}
-use Rattle.loan_meaning.proofs.Whole.{meant}
-use Rattle.message_meaning.proofs.Whole.{block_whole}
 use Rattle.message_meaning.proofs.blocks.block.Goals as goal
 
 pub returns-clause-gives : goal.returns-clause-gives
@@ -15,8 +12,7 @@ returns-clause-gives g c =
 
 pub returns-clause-means : goal.returns-clause-means
 returns-clause-means g c =
-    meant (g.S.Source.has c.block_any.new.source) (block_rule c.args.policy.now c.args.blocks c.args.id.now c.args.date) (block c.args.policy.now c.args.blocks c.args.id.now c.args.date) c.block_any.result
-    (λ M. block_whole M c.args.policy.now c.args.blocks c.args.id.now c.args.date) (returns-clause-gives g c)
+    meant (g.S.Source.has c.block_any.new.source) (block_rule c.args.policy.now c.args.blocks c.args.id.now c.args.date) c.block_any.result (returns-clause-gives g c)
 
 pub returns-clause-keeps : goal.returns-clause-keeps
 unfolding block_rule

@@ -1,6 +1,6 @@
 use Rattle.std.proofs.Common.{ap, sym, []}
 use Rattle.std.proofs.lemmas.Result.{err_from_is_err_and}
-use Rattle.loan_meaning.specs.Owing.{owed_at}
+use Rattle.read_set.specs.Owing.{owed_at}
 use Rattle.read_set.specs.Asks.{Give, Done}
 use Rattle.read_set.specs.Blocks.{blocked_by}
 use Rattle.read_set.proofs.Following.{follow_then, stop_then}

@@ -1,13 +1,10 @@
 use Rattle.std.proofs.Common.{ap, sym, Ok}
 use Rattle.std.proofs.lemmas.Result.{err_from_is_err_and}
-use Rattle.loan_meaning.specs.Lookups.{patron_at, item_at}
-use Rattle.message_meaning.specs.Holds.{hold_rule}
+use Rattle.read_set.specs.Lookups.{patron_at, item_at}
+use Rattle.read_set.specs.Holds.{hold_rule, held}
 use Rattle.read_set.specs.Asks.{Give, Done}
-use Rattle.read_set.specs.Holds.{held, hold}
-use Rattle.read_set.proofs.Following.{follow_next, follow_then, stop_next, stop_then}
+use Rattle.read_set.proofs.Following.{follow_next, follow_then, meant, stop_next, stop_then}
 use Rattle.read_set.proofs.Gaining.{gains_first, gains_then}
-use Rattle.loan_meaning.proofs.Whole.{meant}
-use Rattle.message_meaning.proofs.Whole.{hold_whole}
 use Rattle.message_meaning.proofs.holds.hold.Goals as goal
 
 pub returns-in_err-article-clause-gives : goal.returns-in_err-article-clause-gives
@@ -25,8 +22,7 @@ returns-clause-gives g c =
 
 pub returns-clause-means : goal.returns-clause-means
 returns-clause-means g c =
-    meant (g.S.Source.has c.item_of.new.source) (hold_rule c.args.policy.now c.args.request.now c.args.date) (hold c.args.policy.now c.args.request.now c.args.date) (Ok c.in_ok-hold_both.field-0)
-    (λ M. hold_whole M c.args.policy.now c.args.request.now c.args.date) (returns-clause-gives g c)
+    meant (g.S.Source.has c.item_of.new.source) (hold_rule c.args.policy.now c.args.request.now c.args.date) (Ok c.in_ok-hold_both.field-0) (returns-clause-gives g c)
 
 pub returns-in_err-article-clause-keeps : goal.returns-in_err-article-clause-keeps
 unfolding hold_rule

@@ -1,12 +1,9 @@
 use Rattle.std.proofs.Common.{ap, sym, Ok}
-use Rattle.loan_meaning.specs.Lookups.{item_at}
-use Rattle.message_meaning.specs.ItemStatuses.{item_status_rule}
+use Rattle.read_set.specs.Lookups.{item_at}
+use Rattle.read_set.specs.ItemStatuses.{item_status_rule, updated}
 use Rattle.read_set.specs.Asks.{Give, Done}
-use Rattle.read_set.specs.ItemStatuses.{updated, item_status}
-use Rattle.read_set.proofs.Following.{follow_then}
+use Rattle.read_set.proofs.Following.{follow_then, meant}
 use Rattle.read_set.proofs.Gaining.{gains_first}
-use Rattle.loan_meaning.proofs.Whole.{meant}
-use Rattle.message_meaning.proofs.Whole.{status_whole}
 use Rattle.message_meaning.proofs.item_statuses.update.Goals as goal
 
 pub returns-clause-gives : goal.returns-clause-gives
@@ -17,8 +14,7 @@ returns-clause-gives g c =
 
 pub returns-clause-means : goal.returns-clause-means
 returns-clause-means g c =
-    meant (g.S.Source.has c.item_of.new.source) (item_status_rule c.args.policy.now c.args.request.now c.args.date) (item_status c.args.policy.now c.args.request.now c.args.date) (Ok c.in_ok-update_found.field-0)
-    (λ M. status_whole M c.args.policy.now c.args.request.now c.args.date) (returns-clause-gives g c)
+    meant (g.S.Source.has c.item_of.new.source) (item_status_rule c.args.policy.now c.args.request.now c.args.date) (Ok c.in_ok-update_found.field-0) (returns-clause-gives g c)
 
 pub returns-in_err-found-clause-keeps : goal.returns-in_err-found-clause-keeps
 unfolding item_status_rule

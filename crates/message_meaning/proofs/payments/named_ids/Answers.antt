@@ -1,6 +1,6 @@
 use Rattle.std.proofs.Common.{ap, sym}
 use Rattle.read_set.specs.Asks.{Give, Done}
-use Rattle.loan_meaning.specs.Lookups.{fee_at}
+use Rattle.read_set.specs.Lookups.{fee_at}
 use Rattle.read_set.specs.Payments.{only_known}
 use Rattle.read_set.proofs.Following.{follow_then}
 use Rattle.read_set.proofs.Gaining.{gains_first}

@@ -2,11 +2,10 @@ use Rattle.std.proofs.Common.{◌≡◌, ap, sym, subst, ◌∙◌, ◌+◌, dro
 use Rattle.std.specs.Prelude.{◌==◌}
 use Rattle.std.proofs.lemmas.Result.{err_from_is_err_and}
 use Rattle.circ_records.specs.declared.key.Key.TheVariants as keys
-use Rattle.loan_meaning.specs.Lookups.{ask_after}
+use Rattle.read_set.specs.Lookups.{ask_after}
 use Rattle.read_set.specs.Asks.{IsAsked, follow}
 use Rattle.read_set.specs.Maps.{Part, Grows}
-use Rattle.message_meaning.specs.Payments.{pay_rule_each}
-use Rattle.read_set.specs.Payments.{pay_one}
+use Rattle.read_set.specs.Payments.{pay_rule_each, pay_one}
 use Rattle.read_set.proofs.Following.{follow_more}
 use Rattle.read_set.proofs.Gaining.{gains_step}
 use Rattle.message_meaning.proofs.Paying.{step, stop_step, asks_here, asks_after}

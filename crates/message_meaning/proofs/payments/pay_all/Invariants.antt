@@ -2,7 +2,7 @@ use Rattle.std.proofs.Common.{◌≡◌, drop, []}
 use Rattle.circ_records.specs.declared.key.Key.{Key}
 use Rattle.read_set.specs.Asks.{Gains, IsAsked, follow}
 use Rattle.read_set.specs.Maps.{Part, Grows}
-use Rattle.message_meaning.specs.Payments.{pay_rule_each}
+use Rattle.read_set.specs.Payments.{pay_rule_each}
 use Rattle.message_meaning.proofs.payments.pay_all.Given as goal
 
 -- what is left gives what all gives, and asks for nothing else, on what is had now and on more

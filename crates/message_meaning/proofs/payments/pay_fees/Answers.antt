@@ -1,8 +1,7 @@
 use Rattle.std.proofs.Common.{ap, sym, []}
 use Rattle.std.proofs.lemmas.Result.{err_from_is_err_and}
 use Rattle.read_set.specs.Asks.{Give, Done}
-use Rattle.message_meaning.specs.Payments.{meant_at, pay_rule_each, payment_rule}
-use Rattle.read_set.specs.Payments.{all_paid}
+use Rattle.read_set.specs.Payments.{meant_at, pay_rule_each, payment_rule, all_paid}
 use Rattle.read_set.proofs.Following.{follow_next, follow_then, stop_next, stop_then}
 use Rattle.read_set.proofs.Gaining.{gains_first, gains_then}
 use Rattle.message_meaning.proofs.payments.pay_fees.Goals as goal

@@ -1,10 +1,7 @@
-use Rattle.loan_meaning.specs.Lookups.{patron_at}
-use Rattle.message_meaning.specs.Payments.{fee_paid_rule, fee_paid_rule_known}
-use Rattle.read_set.specs.Payments.{fee_paid}
-use Rattle.read_set.proofs.Following.{goes_on}
+use Rattle.read_set.specs.Lookups.{patron_at}
+use Rattle.read_set.specs.Payments.{fee_paid_rule, fee_paid_rule_known}
+use Rattle.read_set.proofs.Following.{goes_on, meant}
 use Rattle.read_set.proofs.Gaining.{gains_first, gains_then}
-use Rattle.loan_meaning.proofs.Whole.{meant}
-use Rattle.message_meaning.proofs.Whole.{fee_paid_whole}
 use Rattle.message_meaning.proofs.payments.take_payment.Goals as goal
 
 pub returns-clause-gives : goal.returns-clause-gives
@@ -15,8 +12,7 @@ returns-clause-gives g c =
 
 pub returns-clause-means : goal.returns-clause-means
 returns-clause-means g c =
-    meant (g.S.Source.has c.pay_known.new.source) (fee_paid_rule c.args.policy.now c.args.request.now c.args.date) (fee_paid c.args.policy.now c.args.request.now c.args.date) c.pay_known.result
-    (λ M. fee_paid_whole M c.args.policy.now c.args.request.now c.args.date) (returns-clause-gives g c)
+    meant (g.S.Source.has c.pay_known.new.source) (fee_paid_rule c.args.policy.now c.args.request.now c.args.date) c.pay_known.result (returns-clause-gives g c)
 
 pub returns-clause-keeps : goal.returns-clause-keeps
 unfolding fee_paid_rule

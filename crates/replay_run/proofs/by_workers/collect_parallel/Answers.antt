@@ -1,7 +1,7 @@
 use mathlib.Core.List.{not-mem-nil}
 use Rattle.std.proofs.Common.{◌∙◌, ◌≡◌, ℕ, Vec, ap, map, subst, sym}
 use Rattle.std.specs.Global.{Global}
-use Rattle.circ_records.specs.Written.{tables_of}
+use Rattle.record_tables.specs.Written.{tables_of}
 use Rattle.read_set.specs.Plans.{Planned}
 use Rattle.read_set.specs.Replay.{last}
 use Rattle.speculate.specs.BoardEnds.{attempt_on}

@@ -3,7 +3,7 @@ use Rattle.std.specs.Prelude.{slice_get}
 use Rattle.std.specs.Vec.Iter.{into_iter_items}
 use Rattle.result_report.specs.Stretches.{AreParts, stretch}
 use Rattle.result_report.specs.Tables.{AreTexts}
-use Rattle.result_report.specs.declared.texts.Texts.{Texts}
+use Rattle.result_report.specs.declared.texts.ResultTexts.{ResultTexts}
 use Rattle.result_report.proofs.Parts.{stretch-few, stretch-next}
 use Rattle.result_report.proofs.texts.join.Goals as goal
 
@@ -37,7 +37,7 @@ loop-part-preserved c =
       λ lines told small heads front parts.
           let k = told + length at.yielded in
           let few = stretch-few 4096 k lines in
-          let here : slice_get (into_iter_items c.into_iter-part-iterator.result) (length at.yielded) ≡ Some x = ap (λ (ts : List Texts). slice_get ts (length at.yielded)) (sym all) ∙ at-length at.yielded x (into_iter_items c.next.new.self) in
+          let here : slice_get (into_iter_items c.into_iter-part-iterator.result) (length at.yielded) ≡ Some x = ap (λ (ts : List ResultTexts). slice_get ts (length at.yielded)) (sym all) ∙ at-length at.yielded x (into_iter_items c.next.new.self) in
           let one : told + length (at.yielded ++ x ∷ []) ≡ k + 1 = omega (arith, length-append at.yielded (x ∷ [])) in
           subst (λ n. AreTexts (take (n * 4096) lines) c.add.new.self) (sym one)
           (subst (λ ls. AreTexts ls c.add.new.self) (stretch-next 4096 k lines)
@@ -51,5 +51,5 @@ returns c lines told small heads front parts =
     let empty : into_iter_items at.part-iterator ≡ [] = nothing-left _ (sym at.invariant.1 ∙ none.0) in
     let all = sym (append-nil at.yielded) ∙ rw empty at at.invariant.0 ∙ c.into_iter-part-iterator.ensures.into_iter_gives.0 in
     let first = c.into_iter-part-iterator.ensures.into_iter_gives.0 in
-    let same : AreParts told lines (into_iter_items c.into_iter-part-iterator.result) = subst (λ (ts : List Texts). AreParts told lines ts) (sym first) parts in
+    let same : AreParts told lines (into_iter_items c.into_iter-part-iterator.result) = subst (λ (ts : List ResultTexts). AreParts told lines ts) (sym first) parts in
     subst (λ n. AreTexts (take ((told + n) * 4096) lines) at.joined) (ap length all) (at.invariant.2 lines told small heads front same)

@@ -2,7 +2,7 @@ use Rattle.std.proofs.Common.{ℕ, List, map}
 use Rattle.std.specs.List.{flat_map}
 use Rattle.csv_table.specs.Text.{bytes_of}
 use Rattle.table_diff.specs.Differences.{changes_to, lacking, only_in}
-use Rattle.table_diff.specs.declared.differences.Side.TheVariants as side
+use Rattle.table_diff.specs.declared.differences.TableSide.TheVariants as side
 use Rattle.table_diff.proofs.Written.{whole, wide}
 use Rattle.table_diff.proofs.differences.add_differences.Goals as goal
 

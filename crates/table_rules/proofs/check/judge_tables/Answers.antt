@@ -1,8 +1,8 @@
 use Rattle.std.proofs.Common.{◌∙◌, ap}
 use Rattle.csv_table.specs.Rows.{rows_under}
-use Rattle.circ_records.specs.Base.{holds_rows_of}
-use Rattle.circ_records.specs.Read.{rows_in}
-use Rattle.circ_records.specs.Tables.{closed_header, fees_header, items_header, loans_header, patrons_header}
+use Rattle.record_tables.specs.Base.{holds_rows_of}
+use Rattle.record_tables.specs.Read.{rows_in}
+use Rattle.record_tables.specs.Tables.{closed_header, fees_header, items_header, loans_header, patrons_header}
 use Rattle.table_rules.specs.AllBroken.{all_broken_rows}
 use Rattle.table_rules.proofs.Checked.{same-sizes, six, some-rows}
 use Rattle.table_rules.proofs.check.judge_tables.Goals as goal

@@ -1,6 +1,6 @@
 use Rattle.std.proofs.Common.{refl}
 use Rattle.std.proofs.lemmas.Result.{IfOk-weaker}
-use Rattle.circ_records.specs.Rules.{closed_rule}
+use Rattle.record_tables.specs.Rules.{closed_rule}
 use Rattle.table_rules.proofs.RowsBefore.{no-ids}
 use Rattle.table_rules.proofs.fees.judge_closed.Goals as goal
 

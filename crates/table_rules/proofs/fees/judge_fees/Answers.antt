@@ -1,5 +1,5 @@
 use Rattle.std.proofs.Common.{refl}
-use Rattle.circ_records.specs.Rules.{fee_rule}
+use Rattle.record_tables.specs.Rules.{fee_rule}
 use Rattle.table_rules.proofs.RowsBefore.{no-ids}
 use Rattle.table_rules.proofs.fees.judge_fees.Goals as goal
 

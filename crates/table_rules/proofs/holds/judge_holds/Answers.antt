@@ -1,7 +1,7 @@
 use Rattle.std.proofs.Common.{◌∙◌, length, refl, sym}
 use Rattle.std.proofs.lemmas.Result.{IfOk-weaker}
-use Rattle.circ_records.specs.Rules.{hold_rule}
-use Rattle.circ_records.proofs.Reading.{holds-read}
+use Rattle.record_tables.specs.Rules.{hold_rule}
+use Rattle.record_tables.proofs.Reading.{holds-read}
 use Rattle.table_rules.proofs.RowsBefore.{no-holds, no-queues}
 use Rattle.table_rules.proofs.holds.judge_holds.Goals as goal
 

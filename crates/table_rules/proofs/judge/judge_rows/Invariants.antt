@@ -1,8 +1,8 @@
 use Rattle.std.proofs.Common.{◌≡◌, ◌<◌, ◌+◌, ◌^◌, List, [], Some, Option}
 use Rattle.csv_table.specs.Rows.{rows_under}
 use Rattle.csv_table.specs.Text.{bytes_of}
-use Rattle.circ_records.specs.Tables.{Row}
-use Rattle.circ_records.specs.declared.fault.BaseRule.{BaseRule}
+use Rattle.record_tables.specs.Tables.{Row}
+use Rattle.circ_records.specs.declared.rule.BaseRule.{BaseRule}
 use Rattle.table_rules.proofs.Listing.{IsWithin}
 use Rattle.table_rules.proofs.judge.judge_rows.Given as goal
 

@@ -1,5 +1,5 @@
 use Rattle.std.proofs.Common.{refl}
-use Rattle.circ_records.specs.Rules.{loan_rule}
+use Rattle.record_tables.specs.Rules.{loan_rule}
 use Rattle.table_rules.proofs.RowsBefore.{no-loans}
 use Rattle.table_rules.proofs.loans.judge_loans.Goals as goal
 

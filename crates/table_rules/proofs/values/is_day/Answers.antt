@@ -1,4 +1,4 @@
-use Rattle.circ_records.proofs.Dates.{last-digits}
+use Rattle.record_tables.proofs.Dates.{last-digits}
 use Rattle.table_rules.proofs.values.is_day.Goals as goal
 
 pub two_at-requires-3-clause-digits : goal.two_at-requires-3-clause-digits

@@ -1,4 +1,4 @@
--- Each branch rests on what the comparisons before it came to.
+-- Each branch follows from the results of the comparisons before it.
 use Rattle.std.proofs.Common.{refl, sym, ◌∙◌}
 use Rattle.whole_run.specs.Telling.{key_remedy}
 use Rattle.whole_run.proofs.remedy.key_remedy.Goals as goal

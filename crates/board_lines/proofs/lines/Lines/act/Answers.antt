@@ -1,19 +1,20 @@
-use Rattle.std.proofs.Common.{◌≡◌, map, sym, ap, subst, ◌∙◌}
+use Rattle.std.proofs.Common.{◌≡◌, sym, ap, subst, ◌∙◌}
 use Rattle.read_set.specs.Settling.{Contents}
 use Rattle.version_store.specs.Entries.{Line, line_at}
 use Rattle.board_lines.specs.Acts.{IsAct}
 use Rattle.board_lines.specs.Courses.{ComesTo, FirstPlaced}
+use Rattle.board_lines.proofs.Boards.{parts_of}
 use Rattle.board_lines.proofs.Publications.{entries_there}
 use Rattle.read_set.specs.Plans.{Planned}
 use Rattle.board_steps.specs.Board.{Board, IsLine, row_at}
-use Rattle.board_lines.specs.Parts.{Parts, IsKept, board_of, row_shown}
+use Rattle.board_lines.specs.Parts.{Parts, IsKept, board_of}
 use Rattle.board_lines.proofs.lines.Lines.act.Goals as goal
 
 pub act_of-requires : goal.act_of-requires
 act_of-requires g c =
     let a = c.self.inside in
     let plan = g.J.PlanName.plan in
-    let parts : Parts = record { states = a.attempts; store = a.entries; rows = map row_shown a.rows.items; hands = a.hands.items; clock = a.clock; latest = a.latest } in
+    let parts : Parts = parts_of a in
     let kept : IsKept plan parts = c.self.invariant.1 in
     let is : board_of plan.base parts ≡ c.args.self.now = ap (λ (x : Planned). board_of x.base parts) (sym c.self.invariant.0) ∙ c.self.view_is in
     let n = c.args.line in
@@ -27,7 +28,7 @@ pub returns-clause-comes : goal.returns-clause-comes
 returns-clause-comes g c =
     let a = c.self.inside in
     let plan = g.J.PlanName.plan in
-    let parts : Parts = record { states = a.attempts; store = a.entries; rows = map row_shown a.rows.items; hands = a.hands.items; clock = a.clock; latest = a.latest } in
+    let parts : Parts = parts_of a in
     let kept : IsKept plan parts = c.self.invariant.1 in
     let is : board_of plan.base parts ≡ c.args.self.now = ap (λ (x : Planned). board_of x.base parts) (sym c.self.invariant.0) ∙ c.self.view_is in
     let n = c.args.line in
@@ -40,7 +41,7 @@ pub returns-clause-act : goal.returns-clause-act
 returns-clause-act g c =
     let a = c.self.inside in
     let plan = g.J.PlanName.plan in
-    let parts : Parts = record { states = a.attempts; store = a.entries; rows = map row_shown a.rows.items; hands = a.hands.items; clock = a.clock; latest = a.latest } in
+    let parts : Parts = parts_of a in
     let kept : IsKept plan parts = c.self.invariant.1 in
     let is : board_of plan.base parts ≡ c.args.self.now = ap (λ (x : Planned). board_of x.base parts) (sym c.self.invariant.0) ∙ c.self.view_is in
     let n = c.args.line in

@@ -1,9 +1,10 @@
-use Rattle.std.proofs.Common.{◌≡◌, Some, None, map, sym, ap, subst, ◌∙◌, arith}
+use Rattle.std.proofs.Common.{◌≡◌, Some, None, sym, ap, subst, ◌∙◌, arith}
 use Rattle.read_set.specs.Plans.{Planned}
 use Rattle.board_steps.specs.Board.{Board, row_at, holder}
-use Rattle.board_lines.specs.Parts.{Parts, IsKept, board_of, row_shown}
+use Rattle.board_lines.specs.Parts.{Parts, IsKept, board_of}
 use Rattle.board_lines.specs.Sights.{IsCheck}
 use Rattle.board_lines.specs.Hands.{HasNoLine}
+use Rattle.board_lines.proofs.Boards.{parts_of}
 use Rattle.board_lines.proofs.Checks.{no_hand, no_such_line, not_done, other_worker, goes_on, holds_another, begins}
 use Rattle.board_lines.proofs.lines.Lines.checking.Goals as goal
 
@@ -11,7 +12,7 @@ pub returns-then-worker-len : goal.returns-then-worker-len
 returns-then-worker-len g c =
     let a = c.self.inside in
     let plan = g.J.PlanName.plan in
-    let parts : Parts = record { states = a.attempts; store = a.entries; rows = map row_shown a.rows.items; hands = a.hands.items; clock = a.clock; latest = a.latest } in
+    let parts : Parts = parts_of a in
     let kept : IsKept plan parts = c.self.invariant.1 in
     let is : board_of plan.base parts ≡ c.args.self.now = ap (λ (x : Planned). board_of x.base parts) (sym c.self.invariant.0) ∙ c.self.view_is in
     subst (λ (b : Board). IsCheck b c.args.worker c.args.line None) is
@@ -21,7 +22,7 @@ pub returns-in_default : goal.returns-in_default
 returns-in_default g c =
     let a = c.self.inside in
     let plan = g.J.PlanName.plan in
-    let parts : Parts = record { states = a.attempts; store = a.entries; rows = map row_shown a.rows.items; hands = a.hands.items; clock = a.clock; latest = a.latest } in
+    let parts : Parts = parts_of a in
     let kept : IsKept plan parts = c.self.invariant.1 in
     let is : board_of plan.base parts ≡ c.args.self.now = ap (λ (x : Planned). board_of x.base parts) (sym c.self.invariant.0) ∙ c.self.view_is in
     subst (λ (b : Board). IsCheck b c.args.worker c.args.line None) is
@@ -31,7 +32,7 @@ pub returns-then-holder-worker : goal.returns-then-holder-worker
 returns-then-holder-worker g c =
     let a = c.self.inside in
     let plan = g.J.PlanName.plan in
-    let parts : Parts = record { states = a.attempts; store = a.entries; rows = map row_shown a.rows.items; hands = a.hands.items; clock = a.clock; latest = a.latest } in
+    let parts : Parts = parts_of a in
     let kept : IsKept plan parts = c.self.invariant.1 in
     let is : board_of plan.base parts ≡ c.args.self.now = ap (λ (x : Planned). board_of x.base parts) (sym c.self.invariant.0) ∙ c.self.view_is in
     subst (λ (b : Board). IsCheck b c.args.worker c.args.line None) is
@@ -41,7 +42,7 @@ pub returns-in-Checking : goal.returns-in-Checking
 returns-in-Checking g c =
     let a = c.self.inside in
     let plan = g.J.PlanName.plan in
-    let parts : Parts = record { states = a.attempts; store = a.entries; rows = map row_shown a.rows.items; hands = a.hands.items; clock = a.clock; latest = a.latest } in
+    let parts : Parts = parts_of a in
     let kept : IsKept plan parts = c.self.invariant.1 in
     let is : board_of plan.base parts ≡ c.args.self.now = ap (λ (x : Planned). board_of x.base parts) (sym c.self.invariant.0) ∙ c.self.view_is in
     subst (λ (b : Board). IsCheck b c.args.worker c.args.line (Some (c.in-Checking.stamp, c.in-Checking.compared))) is
@@ -51,7 +52,7 @@ pub returns-in_default-state-2 : goal.returns-in_default-state-2
 returns-in_default-state-2 g c =
     let a = c.self.inside in
     let plan = g.J.PlanName.plan in
-    let parts : Parts = record { states = a.attempts; store = a.entries; rows = map row_shown a.rows.items; hands = a.hands.items; clock = a.clock; latest = a.latest } in
+    let parts : Parts = parts_of a in
     let kept : IsKept plan parts = c.self.invariant.1 in
     let is : board_of plan.base parts ≡ c.args.self.now = ap (λ (x : Planned). board_of x.base parts) (sym c.self.invariant.0) ∙ c.self.view_is in
     subst (λ (b : Board). IsCheck b c.args.worker c.args.line None) is
@@ -61,7 +62,7 @@ pub returns-in_default-in_hand : goal.returns-in_default-in_hand
 returns-in_default-in_hand g c =
     let a = c.self.inside in
     let plan = g.J.PlanName.plan in
-    let parts : Parts = record { states = a.attempts; store = a.entries; rows = map row_shown a.rows.items; hands = a.hands.items; clock = a.clock; latest = a.latest } in
+    let parts : Parts = parts_of a in
     let kept : IsKept plan parts = c.self.invariant.1 in
     let is : board_of plan.base parts ≡ c.args.self.now = ap (λ (x : Planned). board_of x.base parts) (sym c.self.invariant.0) ∙ c.self.view_is in
     let held : holder (row_at (board_of plan.base parts) c.in_default-in_hand.field-0).state ≡ Some c.args.worker =
@@ -73,7 +74,7 @@ pub returns : goal.returns
 returns g c =
     let a = c.self.inside in
     let plan = g.J.PlanName.plan in
-    let parts : Parts = record { states = a.attempts; store = a.entries; rows = map row_shown a.rows.items; hands = a.hands.items; clock = a.clock; latest = a.latest } in
+    let parts : Parts = parts_of a in
     let kept : IsKept plan parts = c.self.invariant.1 in
     let is : board_of plan.base parts ≡ c.args.self.now = ap (λ (x : Planned). board_of x.base parts) (sym c.self.invariant.0) ∙ c.self.view_is in
     subst (λ (b : Board). IsCheck b c.args.worker c.args.line (Some (a.clock, 0))) is

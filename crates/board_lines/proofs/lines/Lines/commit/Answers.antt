@@ -3,12 +3,12 @@ use Rattle.std.proofs.lemmas.List.{get_or-map, length-map, map-set}
 use Rattle.read_set.specs.Plans.{Planned}
 use Rattle.board_steps.specs.Board.{Board, IsLine}
 use Rattle.board_lines.specs.Notes.{Noted}
-use Rattle.board_lines.specs.declared.row.Row.{Row}
+use Rattle.board_lines.specs.declared.row.LineRow.{LineRow}
 use Rattle.board_lines.specs.Parts.{Kept, Parts, IsKept, board_of, row_shown, no_notes}
 use Rattle.attempts.specs.declared.state.LineState.TheVariants as states
 use Rattle.board_steps.specs.Steps.{CommitStep}
 use Rattle.board_steps.specs.Steps.Reply.{Idle, Later, Commits}
-use Rattle.board_lines.proofs.Boards.{place_of}
+use Rattle.board_lines.proofs.Boards.{parts_of, place_of}
 use Rattle.board_lines.proofs.Moves.{state_none}
 use Rattle.board_lines.proofs.Commits.{line_there, idle_committed, later_line, later_state, later_change, commit_returns, commit_kept}
 use Rattle.board_lines.proofs.lines.Lines.commit.Goals as goal
@@ -17,7 +17,7 @@ pub returns-in_default : goal.returns-in_default
 returns-in_default g c =
     let a = c.self.inside in
     let plan = g.J.PlanName.plan in
-    let parts : Parts = record { states = a.attempts; store = a.entries; rows = map row_shown a.rows.items; hands = a.hands.items; clock = a.clock; latest = a.latest } in
+    let parts : Parts = parts_of a in
     let kept : IsKept plan parts = c.self.invariant.1 in
     let is : board_of plan.base parts ≡ c.args.self.now = ap (λ (x : Planned). board_of x.base parts) (sym c.self.invariant.0) ∙ c.self.view_is in
     subst (λ (b : Board). CommitStep b c.args.line Idle b) is (
@@ -29,7 +29,7 @@ pub returns-in-Committed : goal.returns-in-Committed
 returns-in-Committed g c =
     let a = c.self.inside in
     let plan = g.J.PlanName.plan in
-    let parts : Parts = record { states = a.attempts; store = a.entries; rows = map row_shown a.rows.items; hands = a.hands.items; clock = a.clock; latest = a.latest } in
+    let parts : Parts = parts_of a in
     let kept : IsKept plan parts = c.self.invariant.1 in
     let is : board_of plan.base parts ≡ c.args.self.now = ap (λ (x : Planned). board_of x.base parts) (sym c.self.invariant.0) ∙ c.self.view_is in
     subst (λ (b : Board). CommitStep b c.args.line Idle b) is
@@ -39,7 +39,7 @@ pub returns-then-position-counts : goal.returns-then-position-counts
 returns-then-position-counts g c =
     let a = c.self.inside in
     let plan = g.J.PlanName.plan in
-    let parts : Parts = record { states = a.attempts; store = a.entries; rows = map row_shown a.rows.items; hands = a.hands.items; clock = a.clock; latest = a.latest } in
+    let parts : Parts = parts_of a in
     let kept : IsKept plan parts = c.self.invariant.1 in
     let is : board_of plan.base parts ≡ c.args.self.now = ap (λ (x : Planned). board_of x.base parts) (sym c.self.invariant.0) ∙ c.self.view_is in
     let f : c.first.result ≡ parts.states.first = c.first.ensures ∙ ap (λ (x : Planned). x.first) c.self.invariant.0 ∙ sym kept.reached.first in
@@ -51,7 +51,7 @@ pub returns-in_default-state-2 : goal.returns-in_default-state-2
 returns-in_default-state-2 g c =
     let a = c.self.inside in
     let plan = g.J.PlanName.plan in
-    let parts : Parts = record { states = a.attempts; store = a.entries; rows = map row_shown a.rows.items; hands = a.hands.items; clock = a.clock; latest = a.latest } in
+    let parts : Parts = parts_of a in
     let kept : IsKept plan parts = c.self.invariant.1 in
     let is : board_of plan.base parts ≡ c.args.self.now = ap (λ (x : Planned). board_of x.base parts) (sym c.self.invariant.0) ∙ c.self.view_is in
     subst (λ (b : Board). CommitStep b c.args.line Later b) is
@@ -61,7 +61,7 @@ pub returns-in_default-stamp : goal.returns-in_default-stamp
 returns-in_default-stamp g c =
     let a = c.self.inside in
     let plan = g.J.PlanName.plan in
-    let parts : Parts = record { states = a.attempts; store = a.entries; rows = map row_shown a.rows.items; hands = a.hands.items; clock = a.clock; latest = a.latest } in
+    let parts : Parts = parts_of a in
     let kept : IsKept plan parts = c.self.invariant.1 in
     let is : board_of plan.base parts ≡ c.args.self.now = ap (λ (x : Planned). board_of x.base parts) (sym c.self.invariant.0) ∙ c.self.view_is in
     subst (λ (b : Board). CommitStep b c.args.line Later b) is
@@ -72,7 +72,7 @@ pub returns-then-stamp-self : goal.returns-then-stamp-self
 returns-then-stamp-self g c =
     let a = c.self.inside in
     let plan = g.J.PlanName.plan in
-    let parts : Parts = record { states = a.attempts; store = a.entries; rows = map row_shown a.rows.items; hands = a.hands.items; clock = a.clock; latest = a.latest } in
+    let parts : Parts = parts_of a in
     let kept : IsKept plan parts = c.self.invariant.1 in
     let is : board_of plan.base parts ≡ c.args.self.now = ap (λ (x : Planned). board_of x.base parts) (sym c.self.invariant.0) ∙ c.self.view_is in
     subst (λ (b : Board). CommitStep b c.args.line Later b) is
@@ -83,7 +83,7 @@ pub index_mut-row-requires : goal.index_mut-row-requires
 index_mut-row-requires g c =
     let a = c.self.inside in
     let plan = g.J.PlanName.plan in
-    let parts : Parts = record { states = a.attempts; store = a.entries; rows = map row_shown a.rows.items; hands = a.hands.items; clock = a.clock; latest = a.latest } in
+    let parts : Parts = parts_of a in
     let kept : IsKept plan parts = c.self.invariant.1 in
     let is : board_of plan.base parts ≡ c.args.self.now = ap (λ (x : Planned). board_of x.base parts) (sym c.self.invariant.0) ∙ c.self.view_is in
     let f : c.first.result ≡ parts.states.first = c.first.ensures ∙ ap (λ (x : Planned). x.first) c.self.invariant.0 ∙ sym kept.reached.first in
@@ -97,11 +97,11 @@ pub invariant_of-self : goal.invariant_of-self
 invariant_of-self g c =
     let a = c.self.inside in
     let plan = g.J.PlanName.plan in
-    let parts : Parts = record { states = a.attempts; store = a.entries; rows = map row_shown a.rows.items; hands = a.hands.items; clock = a.clock; latest = a.latest } in
+    let parts : Parts = parts_of a in
     let kept : IsKept plan parts = c.self.invariant.1 in
     let is : board_of plan.base parts ≡ c.args.self.now = ap (λ (x : Planned). board_of x.base parts) (sym c.self.invariant.0) ∙ c.self.view_is in
     let spot = c.index_mut-row.result.now in
-    let row : Row g.row.J.Denot = record { notes = c.clear.new.self; version = spot.version; course = spot.course; changed = spot.changed } in
+    let row : LineRow g.row.J.Denot = record { notes = c.clear.new.self; version = spot.version; course = spot.course; changed = spot.changed } in
     let k : Kept = row_shown row in
     let q : Parts = record { states = c.commit.new.self; store = a.entries; rows = map row_shown (set a.rows.items (c.args.line - c.first.result) row); hands = a.hands.items; clock = a.clock; latest = c.later-self-inside.result } in
     let f : c.first.result ≡ parts.states.first = c.first.ensures ∙ ap (λ (x : Planned). x.first) c.self.invariant.0 ∙ sym kept.reached.first in
@@ -128,11 +128,11 @@ pub returns : goal.returns
 returns g c =
     let a = c.self.inside in
     let plan = g.J.PlanName.plan in
-    let parts : Parts = record { states = a.attempts; store = a.entries; rows = map row_shown a.rows.items; hands = a.hands.items; clock = a.clock; latest = a.latest } in
+    let parts : Parts = parts_of a in
     let kept : IsKept plan parts = c.self.invariant.1 in
     let is : board_of plan.base parts ≡ c.args.self.now = ap (λ (x : Planned). board_of x.base parts) (sym c.self.invariant.0) ∙ c.self.view_is in
     let spot = c.index_mut-row.result.now in
-    let row : Row g.row.J.Denot = record { notes = c.clear.new.self; version = spot.version; course = spot.course; changed = spot.changed } in
+    let row : LineRow g.row.J.Denot = record { notes = c.clear.new.self; version = spot.version; course = spot.course; changed = spot.changed } in
     let k : Kept = row_shown row in
     let q : Parts = record { states = c.commit.new.self; store = a.entries; rows = map row_shown (set a.rows.items (c.args.line - c.first.result) row); hands = a.hands.items; clock = a.clock; latest = c.later-self-inside.result } in
     let f : c.first.result ≡ parts.states.first = c.first.ensures ∙ ap (λ (x : Planned). x.first) c.self.invariant.0 ∙ sym kept.reached.first in

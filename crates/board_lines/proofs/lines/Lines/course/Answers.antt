@@ -5,7 +5,7 @@ use Rattle.board_steps.specs.Board.{Board, IsLine, row_at, holder}
 use Rattle.board_steps.specs.Board.State.{Placing}
 use Rattle.board_lines.specs.Courses.{UnderWay}
 use Rattle.board_lines.specs.Parts.{Kept, Parts, IsKept, board_of, kept_at, no_notes, row_shown}
-use Rattle.board_lines.proofs.Boards.{place_of}
+use Rattle.board_lines.proofs.Boards.{parts_of, place_of}
 use Rattle.board_lines.proofs.Publications.{held_line}
 use Rattle.board_lines.proofs.lines.Lines.course.Goals as goal
 
@@ -13,7 +13,7 @@ pub overflow_sub-line : goal.overflow_sub-line
 overflow_sub-line g c =
     let a = c.self.inside in
     let plan = g.J.PlanName.plan in
-    let parts : Parts = record { states = a.attempts; store = a.entries; rows = map row_shown a.rows.items; hands = a.hands.items; clock = a.clock; latest = a.latest } in
+    let parts : Parts = parts_of a in
     let kept : IsKept plan parts = c.self.invariant.1 in
     let is : board_of plan.base parts ≡ c.args.self.now = ap (λ (x : Planned). board_of x.base parts) (sym c.self.invariant.0) ∙ c.self.view_is in
     let n = c.args.line in
@@ -27,7 +27,7 @@ pub index-requires : goal.index-requires
 index-requires g c =
     let a = c.self.inside in
     let plan = g.J.PlanName.plan in
-    let parts : Parts = record { states = a.attempts; store = a.entries; rows = map row_shown a.rows.items; hands = a.hands.items; clock = a.clock; latest = a.latest } in
+    let parts : Parts = parts_of a in
     let kept : IsKept plan parts = c.self.invariant.1 in
     let is : board_of plan.base parts ≡ c.args.self.now = ap (λ (x : Planned). board_of x.base parts) (sym c.self.invariant.0) ∙ c.self.view_is in
     let n = c.args.line in
@@ -44,7 +44,7 @@ pub returns : goal.returns
 returns g c =
     let a = c.self.inside in
     let plan = g.J.PlanName.plan in
-    let parts : Parts = record { states = a.attempts; store = a.entries; rows = map row_shown a.rows.items; hands = a.hands.items; clock = a.clock; latest = a.latest } in
+    let parts : Parts = parts_of a in
     let kept : IsKept plan parts = c.self.invariant.1 in
     let is : board_of plan.base parts ≡ c.args.self.now = ap (λ (x : Planned). board_of x.base parts) (sym c.self.invariant.0) ∙ c.self.view_is in
     let n = c.args.line in

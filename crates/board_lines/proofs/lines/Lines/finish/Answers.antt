@@ -4,10 +4,10 @@ use Rattle.std.proofs.lemmas.Option.{slice_get_within}
 use Rattle.read_set.specs.Settling.{Contents}
 use Rattle.board_steps.specs.Steps.{MayPublish, Fits, AllPlaced, NoneLeft, put_row, with_state}
 use Rattle.board_steps.specs.Board.State.{Done}
-use Rattle.board_lines.specs.declared.row.Row.{Row}
+use Rattle.board_lines.specs.declared.row.LineRow.{LineRow}
 use Rattle.board_lines.specs.Acts.{notes_at}
 use Rattle.board_lines.specs.Parts.{Kept, no_notes}
-use Rattle.board_lines.proofs.Boards.{place_of}
+use Rattle.board_lines.proofs.Boards.{parts_of, place_of}
 use Rattle.board_lines.proofs.Publications.{act_line, act_held, live_there, done_board, done_kept}
 use Rattle.read_set.specs.Plans.{Planned}
 use Rattle.board_steps.specs.Board.{Board, IsLine, row_at}
@@ -18,7 +18,7 @@ pub go_on-requires-clause-old : goal.go_on-requires-clause-old
 go_on-requires-clause-old g c =
     let a = c.self.inside in
     let plan = g.J.PlanName.plan in
-    let parts : Parts = record { states = a.attempts; store = a.entries; rows = map row_shown a.rows.items; hands = a.hands.items; clock = a.clock; latest = a.latest } in
+    let parts : Parts = parts_of a in
     let kept : IsKept plan parts = c.self.invariant.1 in
     let is : board_of plan.base parts ≡ c.args.self.now = ap (λ (x : Planned). board_of x.base parts) (sym c.self.invariant.0) ∙ c.self.view_is in
     let n = c.args.line in
@@ -33,7 +33,7 @@ pub overflow_sub-line : goal.overflow_sub-line
 overflow_sub-line g c =
     let a = c.self.inside in
     let plan = g.J.PlanName.plan in
-    let parts : Parts = record { states = a.attempts; store = a.entries; rows = map row_shown a.rows.items; hands = a.hands.items; clock = a.clock; latest = a.latest } in
+    let parts : Parts = parts_of a in
     let kept : IsKept plan parts = c.self.invariant.1 in
     let is : board_of plan.base parts ≡ c.args.self.now = ap (λ (x : Planned). board_of x.base parts) (sym c.self.invariant.0) ∙ c.self.view_is in
     let n = c.args.line in
@@ -49,7 +49,7 @@ pub index_mut-row-requires : goal.index_mut-row-requires
 index_mut-row-requires g c =
     let a = c.self.inside in
     let plan = g.J.PlanName.plan in
-    let parts : Parts = record { states = a.attempts; store = a.entries; rows = map row_shown a.rows.items; hands = a.hands.items; clock = a.clock; latest = a.latest } in
+    let parts : Parts = parts_of a in
     let kept : IsKept plan parts = c.self.invariant.1 in
     let is : board_of plan.base parts ≡ c.args.self.now = ap (λ (x : Planned). board_of x.base parts) (sym c.self.invariant.0) ∙ c.self.view_is in
     let n = c.args.line in
@@ -68,7 +68,7 @@ pub index_mut-requires : goal.index_mut-requires
 index_mut-requires g c =
     let a = c.self.inside in
     let plan = g.J.PlanName.plan in
-    let parts : Parts = record { states = a.attempts; store = a.entries; rows = map row_shown a.rows.items; hands = a.hands.items; clock = a.clock; latest = a.latest } in
+    let parts : Parts = parts_of a in
     let kept : IsKept plan parts = c.self.invariant.1 in
     let is : board_of plan.base parts ≡ c.args.self.now = ap (λ (x : Planned). board_of x.base parts) (sym c.self.invariant.0) ∙ c.self.view_is in
     let n = c.args.line in
@@ -84,7 +84,7 @@ pub invariant_of-self : goal.invariant_of-self
 invariant_of-self g c =
     let a = c.self.inside in
     let plan = g.J.PlanName.plan in
-    let parts : Parts = record { states = a.attempts; store = a.entries; rows = map row_shown a.rows.items; hands = a.hands.items; clock = a.clock; latest = a.latest } in
+    let parts : Parts = parts_of a in
     let kept : IsKept plan parts = c.self.invariant.1 in
     let is : board_of plan.base parts ≡ c.args.self.now = ap (λ (x : Planned). board_of x.base parts) (sym c.self.invariant.0) ∙ c.self.view_is in
     let n = c.args.line in
@@ -95,7 +95,7 @@ invariant_of-self g c =
     let there : IsLine (board_of plan.base parts) n = act_line plan parts kept w n (notes_at (board_of plan.base parts) n) may v in
     let f : c.first.result ≡ parts.states.first = c.first.ensures ∙ ap (λ (x : Planned). x.first) c.self.invariant.0 ∙ sym kept.reached.first in
     let spot = c.index_mut-row.result.now in
-    let row : Row g.row.J.Denot = record { notes = spot.notes; version = Some c.args.place; course = spot.course; changed = spot.changed } in
+    let row : LineRow g.row.J.Denot = record { notes = spot.notes; version = Some c.args.place; course = spot.course; changed = spot.changed } in
     let k : Kept = row_shown row in
     let q : Parts = record {
       states = c.go_on.new.self;
@@ -122,7 +122,7 @@ pub returns : goal.returns
 returns g c =
     let a = c.self.inside in
     let plan = g.J.PlanName.plan in
-    let parts : Parts = record { states = a.attempts; store = a.entries; rows = map row_shown a.rows.items; hands = a.hands.items; clock = a.clock; latest = a.latest } in
+    let parts : Parts = parts_of a in
     let kept : IsKept plan parts = c.self.invariant.1 in
     let is : board_of plan.base parts ≡ c.args.self.now = ap (λ (x : Planned). board_of x.base parts) (sym c.self.invariant.0) ∙ c.self.view_is in
     let n = c.args.line in
@@ -133,7 +133,7 @@ returns g c =
     let there : IsLine (board_of plan.base parts) n = act_line plan parts kept w n (notes_at (board_of plan.base parts) n) may v in
     let f : c.first.result ≡ parts.states.first = c.first.ensures ∙ ap (λ (x : Planned). x.first) c.self.invariant.0 ∙ sym kept.reached.first in
     let spot = c.index_mut-row.result.now in
-    let row : Row g.row.J.Denot = record { notes = spot.notes; version = Some c.args.place; course = spot.course; changed = spot.changed } in
+    let row : LineRow g.row.J.Denot = record { notes = spot.notes; version = Some c.args.place; course = spot.course; changed = spot.changed } in
     let k : Kept = row_shown row in
     let q : Parts = record {
       states = c.go_on.new.self;

@@ -1,11 +1,12 @@
-use Rattle.std.proofs.Common.{◌≡◌, List, map, false, true, sym, ap, subst, ◌∙◌}
+use Rattle.std.proofs.Common.{◌≡◌, List, false, true, sym, ap, subst, ◌∙◌}
 use Rattle.std.specs.Bool.{Decides}
 use Rattle.read_set.specs.Settling.{Contents}
 use Rattle.read_set.specs.declared.notes.Note.{Note}
 use Rattle.board_lines.specs.Notes.{notes_by}
+use Rattle.board_lines.proofs.Boards.{parts_of}
 use Rattle.board_lines.proofs.Publications.{not_fits, fits_by}
 use Rattle.read_set.specs.Plans.{Planned}
-use Rattle.board_lines.specs.Parts.{Parts, IsKept, board_of, row_shown}
+use Rattle.board_lines.specs.Parts.{Parts, IsKept, board_of}
 use Rattle.board_lines.proofs.lines.Lines.fits.Goals as goal
 
 pub returns-then-not-is_of-clause-fits : goal.returns-then-not-is_of-clause-fits
@@ -18,7 +19,7 @@ pub returns-clause-fits : goal.returns-clause-fits
 returns-clause-fits g c =
     let a = c.self.inside in
     let plan = g.J.PlanName.plan in
-    let parts : Parts = record { states = a.attempts; store = a.entries; rows = map row_shown a.rows.items; hands = a.hands.items; clock = a.clock; latest = a.latest } in
+    let parts : Parts = parts_of a in
     let kept : IsKept plan parts = c.self.invariant.1 in
     let is : board_of plan.base parts ≡ c.args.self.now = ap (λ (x : Planned). board_of x.base parts) (sym c.self.invariant.0) ∙ c.self.view_is in
     λ w notes may.

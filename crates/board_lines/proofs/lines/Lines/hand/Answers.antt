@@ -1,7 +1,8 @@
-use Rattle.std.proofs.Common.{◌≡◌, ◌+◌, suc, Some, map, sym, ap, subst, ◌∙◌, arith}
+use Rattle.std.proofs.Common.{◌≡◌, ◌+◌, suc, Some, sym, ap, subst, ◌∙◌, arith}
 use Rattle.read_set.specs.Plans.{Planned}
 use Rattle.board_steps.specs.Board.{Board, row_at, holder}
-use Rattle.board_lines.specs.Parts.{Parts, IsKept, board_of, row_shown}
+use Rattle.board_lines.specs.Parts.{Parts, IsKept, board_of}
+use Rattle.board_lines.proofs.Boards.{parts_of}
 use Rattle.board_lines.proofs.Rows.{held_there, newest_held, next_shown}
 use Rattle.board_lines.proofs.lines.Lines.hand.Goals as goal
 
@@ -9,7 +10,7 @@ pub returns-in_default-newest : goal.returns-in_default-newest
 returns-in_default-newest g c =
     let a = c.self.inside in
     let plan = g.J.PlanName.plan in
-    let parts : Parts = record { states = a.attempts; store = a.entries; rows = map row_shown a.rows.items; hands = a.hands.items; clock = a.clock; latest = a.latest } in
+    let parts : Parts = parts_of a in
     let kept : IsKept plan parts = c.self.invariant.1 in
     let is : board_of plan.base parts ≡ c.args.self.now = ap (λ (x : Planned). board_of x.base parts) (sym c.self.invariant.0) ∙ c.self.view_is in
     let held : holder (row_at (board_of plan.base parts) c.in-Some.line).state ≡ Some c.args.worker =
@@ -20,7 +21,7 @@ pub returns : goal.returns
 returns g c =
     let a = c.self.inside in
     let plan = g.J.PlanName.plan in
-    let parts : Parts = record { states = a.attempts; store = a.entries; rows = map row_shown a.rows.items; hands = a.hands.items; clock = a.clock; latest = a.latest } in
+    let parts : Parts = parts_of a in
     let kept : IsKept plan parts = c.self.invariant.1 in
     let is : board_of plan.base parts ≡ c.args.self.now = ap (λ (x : Planned). board_of x.base parts) (sym c.self.invariant.0) ∙ c.self.view_is in
     let held : holder (row_at (board_of plan.base parts) c.in-Some.line).state ≡ Some c.args.worker =

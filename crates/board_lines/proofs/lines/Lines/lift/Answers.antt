@@ -5,11 +5,11 @@ use Rattle.read_set.specs.Settling.{Contents}
 use Rattle.version_store.specs.Entries as store
 use Rattle.version_store.specs.Entries.{shown_by}
 use Rattle.board_steps.specs.Steps.{MayPublish, Fits, AllPlaced, IsNextLeft, HasRoom, lifted}
-use Rattle.board_lines.specs.declared.row.Course.{Course}
-use Rattle.board_lines.specs.declared.row.Row.{Row}
+use Rattle.board_lines.specs.declared.row.LineProgress.{LineProgress}
+use Rattle.board_lines.specs.declared.row.LineRow.{LineRow}
 use Rattle.board_lines.specs.Acts.{notes_at}
-use Rattle.board_lines.specs.Parts.{Kept, no_notes}
-use Rattle.board_lines.proofs.Boards.{place_of}
+use Rattle.board_lines.specs.Parts.{Kept, no_notes, Parts, IsKept, board_of, row_shown}
+use Rattle.board_lines.proofs.Boards.{parts_of, place_of}
 use Rattle.std.specs.List.Sorted.{IsStrictlySortedBy}
 use Rattle.circ_records.specs.Keys.{key_cmp}
 use Rattle.version_store.proofs.Walks.{Rising}
@@ -17,14 +17,13 @@ use Rattle.board_lines.proofs.Writes.{writes_rise}
 use Rattle.board_lines.proofs.Publications.{act_line, live_there, entries_there, lifted_board, lifted_kept_here}
 use Rattle.read_set.specs.Plans.{Planned}
 use Rattle.board_steps.specs.Board.{Board, IsLine, row_at}
-use Rattle.board_lines.specs.Parts.{Parts, IsKept, board_of, row_shown}
 use Rattle.board_lines.proofs.lines.Lines.lift.Goals as goal
 
 pub go_on-requires-clause-old : goal.go_on-requires-clause-old
 go_on-requires-clause-old g c =
     let a = c.self.inside in
     let plan = g.J.PlanName.plan in
-    let parts : Parts = record { states = a.attempts; store = a.entries; rows = map row_shown a.rows.items; hands = a.hands.items; clock = a.clock; latest = a.latest } in
+    let parts : Parts = parts_of a in
     let kept : IsKept plan parts = c.self.invariant.1 in
     let is : board_of plan.base parts ≡ c.args.self.now = ap (λ (x : Planned). board_of x.base parts) (sym c.self.invariant.0) ∙ c.self.view_is in
     let n = c.args.line in
@@ -39,7 +38,7 @@ pub overflow_add-clock : goal.overflow_add-clock
 overflow_add-clock g c =
     let a = c.self.inside in
     let plan = g.J.PlanName.plan in
-    let parts : Parts = record { states = a.attempts; store = a.entries; rows = map row_shown a.rows.items; hands = a.hands.items; clock = a.clock; latest = a.latest } in
+    let parts : Parts = parts_of a in
     let kept : IsKept plan parts = c.self.invariant.1 in
     let is : board_of plan.base parts ≡ c.args.self.now = ap (λ (x : Planned). board_of x.base parts) (sym c.self.invariant.0) ∙ c.self.view_is in
     let room : HasRoom (board_of plan.base parts) = subst HasRoom (sym is) c.requires.room in
@@ -49,7 +48,7 @@ pub overflow_sub-line : goal.overflow_sub-line
 overflow_sub-line g c =
     let a = c.self.inside in
     let plan = g.J.PlanName.plan in
-    let parts : Parts = record { states = a.attempts; store = a.entries; rows = map row_shown a.rows.items; hands = a.hands.items; clock = a.clock; latest = a.latest } in
+    let parts : Parts = parts_of a in
     let kept : IsKept plan parts = c.self.invariant.1 in
     let is : board_of plan.base parts ≡ c.args.self.now = ap (λ (x : Planned). board_of x.base parts) (sym c.self.invariant.0) ∙ c.self.view_is in
     let n = c.args.line in
@@ -65,7 +64,7 @@ pub index_mut-row-requires : goal.index_mut-row-requires
 index_mut-row-requires g c =
     let a = c.self.inside in
     let plan = g.J.PlanName.plan in
-    let parts : Parts = record { states = a.attempts; store = a.entries; rows = map row_shown a.rows.items; hands = a.hands.items; clock = a.clock; latest = a.latest } in
+    let parts : Parts = parts_of a in
     let kept : IsKept plan parts = c.self.invariant.1 in
     let is : board_of plan.base parts ≡ c.args.self.now = ap (λ (x : Planned). board_of x.base parts) (sym c.self.invariant.0) ∙ c.self.view_is in
     let n = c.args.line in
@@ -84,7 +83,7 @@ pub invariant_of-self : goal.invariant_of-self
 invariant_of-self g c =
     let a = c.self.inside in
     let plan = g.J.PlanName.plan in
-    let parts : Parts = record { states = a.attempts; store = a.entries; rows = map row_shown a.rows.items; hands = a.hands.items; clock = a.clock; latest = a.latest } in
+    let parts : Parts = parts_of a in
     let kept : IsKept plan parts = c.self.invariant.1 in
     let is : board_of plan.base parts ≡ c.args.self.now = ap (λ (x : Planned). board_of x.base parts) (sym c.self.invariant.0) ∙ c.self.view_is in
     let n = c.args.line in
@@ -95,8 +94,8 @@ invariant_of-self g c =
     let there : IsLine (board_of plan.base parts) n = act_line plan parts kept w n (notes_at (board_of plan.base parts) n) may v in
     let f : c.first.result ≡ parts.states.first = c.first.ensures ∙ ap (λ (x : Planned). x.first) c.self.invariant.0 ∙ sym kept.reached.first in
     let spot = c.index_mut-row.result.now in
-    let come : Course = record { placed = length c.writes-placed.result.now } in
-    let row : Row g.row.J.Denot = record { notes = spot.notes; version = Some c.args.place; course = come; changed = a.clock + 1 } in
+    let come : LineProgress = record { placed = length c.writes-placed.result.now } in
+    let row : LineRow g.row.J.Denot = record { notes = spot.notes; version = Some c.args.place; course = come; changed = a.clock + 1 } in
     let k : Kept = row_shown row in
     let q : Parts = record {
       states = c.go_on.new.self;
@@ -128,7 +127,7 @@ pub returns : goal.returns
 returns g c =
     let a = c.self.inside in
     let plan = g.J.PlanName.plan in
-    let parts : Parts = record { states = a.attempts; store = a.entries; rows = map row_shown a.rows.items; hands = a.hands.items; clock = a.clock; latest = a.latest } in
+    let parts : Parts = parts_of a in
     let kept : IsKept plan parts = c.self.invariant.1 in
     let is : board_of plan.base parts ≡ c.args.self.now = ap (λ (x : Planned). board_of x.base parts) (sym c.self.invariant.0) ∙ c.self.view_is in
     let n = c.args.line in
@@ -139,8 +138,8 @@ returns g c =
     let there : IsLine (board_of plan.base parts) n = act_line plan parts kept w n (notes_at (board_of plan.base parts) n) may v in
     let f : c.first.result ≡ parts.states.first = c.first.ensures ∙ ap (λ (x : Planned). x.first) c.self.invariant.0 ∙ sym kept.reached.first in
     let spot = c.index_mut-row.result.now in
-    let come : Course = record { placed = length c.writes-placed.result.now } in
-    let row : Row g.row.J.Denot = record { notes = spot.notes; version = Some c.args.place; course = come; changed = a.clock + 1 } in
+    let come : LineProgress = record { placed = length c.writes-placed.result.now } in
+    let row : LineRow g.row.J.Denot = record { notes = spot.notes; version = Some c.args.place; course = come; changed = a.clock + 1 } in
     let k : Kept = row_shown row in
     let q : Parts = record {
       states = c.go_on.new.self;

@@ -3,7 +3,7 @@ use Rattle.std.proofs.lemmas.List.{length-map, get_or-map, map-set, set-get_or}
 use Rattle.read_set.specs.Plans.{Planned}
 use Rattle.board_steps.specs.Board.{Board, IsLine, row_at, found, value_at}
 use Rattle.board_lines.specs.Parts.{Kept, Parts, IsKept, board_of, row_shown, no_notes}
-use Rattle.board_lines.proofs.Boards.{place_of}
+use Rattle.board_lines.proofs.Boards.{parts_of, place_of}
 use Rattle.board_steps.specs.Steps.{MayLook, seen}
 use Rattle.board_steps.specs.Steps.Call.{Look}
 use Rattle.board_lines.specs.Replies.{Grows}
@@ -17,7 +17,7 @@ use Rattle.board_steps.specs.Steps.Reply.{Seen as TheSeen}
 use Rattle.version_store.specs.Entries.{Sight, line_at, visible}
 use Rattle.board_lines.specs.Notes.{Noted, note_with, found_by, contents_at}
 use Rattle.board_lines.specs.Sights.{IsNameOf}
-use Rattle.board_lines.specs.declared.row.Row.{Row}
+use Rattle.board_lines.specs.declared.row.LineRow.{LineRow}
 use Rattle.board_lines.proofs.lines.Lines.look.Goals as goal
 use Rattle.board_lines.proofs.lines.Lines.look.Goals.{in-Ok-add, in-Err-add}
 
@@ -25,7 +25,7 @@ pub returns-in-Err : goal.returns-in-Err
 returns-in-Err g c =
     let a = c.self.inside in
     let plan = g.J.PlanName.plan in
-    let parts : Parts = record { states = a.attempts; store = a.entries; rows = map row_shown a.rows.items; hands = a.hands.items; clock = a.clock; latest = a.latest } in
+    let parts : Parts = parts_of a in
     let kept : IsKept plan parts = c.self.invariant.1 in
     let is : board_of plan.base parts ≡ c.args.self.now = ap (λ (x : Planned). board_of x.base parts) (sym c.self.invariant.0) ∙ c.self.view_is in
     let line = c.in-Some.line in
@@ -45,7 +45,7 @@ pub index_mut-row-requires : goal.index_mut-row-requires
 index_mut-row-requires g c =
     let a = c.self.inside in
     let plan = g.J.PlanName.plan in
-    let parts : Parts = record { states = a.attempts; store = a.entries; rows = map row_shown a.rows.items; hands = a.hands.items; clock = a.clock; latest = a.latest } in
+    let parts : Parts = parts_of a in
     let kept : IsKept plan parts = c.self.invariant.1 in
     let is : board_of plan.base parts ≡ c.args.self.now = ap (λ (x : Planned). board_of x.base parts) (sym c.self.invariant.0) ∙ c.self.view_is in
     let line = c.in-Some.line in
@@ -69,7 +69,7 @@ pub add-requires-clause-fresh : goal.add-requires-clause-fresh
 add-requires-clause-fresh g c =
     let a = c.self.inside in
     let plan = g.J.PlanName.plan in
-    let parts : Parts = record { states = a.attempts; store = a.entries; rows = map row_shown a.rows.items; hands = a.hands.items; clock = a.clock; latest = a.latest } in
+    let parts : Parts = parts_of a in
     let kept : IsKept plan parts = c.self.invariant.1 in
     let is : board_of plan.base parts ≡ c.args.self.now = ap (λ (x : Planned). board_of x.base parts) (sym c.self.invariant.0) ∙ c.self.view_is in
     let line = c.in-Some.line in
@@ -90,7 +90,7 @@ pub invariant_of-self : goal.invariant_of-self
 invariant_of-self g c =
     let a = c.self.inside in
     let plan = g.J.PlanName.plan in
-    let parts : Parts = record { states = a.attempts; store = a.entries; rows = map row_shown a.rows.items; hands = a.hands.items; clock = a.clock; latest = a.latest } in
+    let parts : Parts = parts_of a in
     let kept : IsKept plan parts = c.self.invariant.1 in
     let is : board_of plan.base parts ≡ c.args.self.now = ap (λ (x : Planned). board_of x.base parts) (sym c.self.invariant.0) ∙ c.self.view_is in
     let line = c.in-Some.line in
@@ -105,7 +105,7 @@ invariant_of-self g c =
     let was : get_or (map row_shown a.rows.items) (line - parts.states.first) no_notes ≡ row_shown spot =
     get_or-map row_shown a.rows.items (line - parts.states.first) spot no_notes (omega (arith, l, m))
     ∙ ap row_shown (sym (c.index_mut-row.ensures.value ∙ ap (λ x. get_or a.rows.items (line - x) spot) f)) in
-    let row : Row g.row.J.Denot = record { notes = c.add.new.self; version = spot.version; course = spot.course; changed = spot.changed } in
+    let row : LineRow g.row.J.Denot = record { notes = c.add.new.self; version = spot.version; course = spot.course; changed = spot.changed } in
     let k : Kept = row_shown row in
     let q : Parts = record { states = a.attempts; store = a.entries; rows = map row_shown (set a.rows.items (line - c.first.result) row); hands = a.hands.items; clock = a.clock; latest = a.latest } in
     let rows_is : q.rows ≡ set parts.rows (line - parts.states.first) k =
@@ -133,7 +133,7 @@ pub returns : goal.returns
 returns g c =
     let a = c.self.inside in
     let plan = g.J.PlanName.plan in
-    let parts : Parts = record { states = a.attempts; store = a.entries; rows = map row_shown a.rows.items; hands = a.hands.items; clock = a.clock; latest = a.latest } in
+    let parts : Parts = parts_of a in
     let kept : IsKept plan parts = c.self.invariant.1 in
     let is : board_of plan.base parts ≡ c.args.self.now = ap (λ (x : Planned). board_of x.base parts) (sym c.self.invariant.0) ∙ c.self.view_is in
     let line = c.in-Some.line in
@@ -148,7 +148,7 @@ returns g c =
     let was : get_or (map row_shown a.rows.items) (line - parts.states.first) no_notes ≡ row_shown spot =
     get_or-map row_shown a.rows.items (line - parts.states.first) spot no_notes (omega (arith, l, m))
     ∙ ap row_shown (sym (c.index_mut-row.ensures.value ∙ ap (λ x. get_or a.rows.items (line - x) spot) f)) in
-    let row : Row g.row.J.Denot = record { notes = c.add.new.self; version = spot.version; course = spot.course; changed = spot.changed } in
+    let row : LineRow g.row.J.Denot = record { notes = c.add.new.self; version = spot.version; course = spot.course; changed = spot.changed } in
     let k : Kept = row_shown row in
     let q : Parts = record { states = a.attempts; store = a.entries; rows = map row_shown (set a.rows.items (line - c.first.result) row); hands = a.hands.items; clock = a.clock; latest = a.latest } in
     let rows_is : q.rows ≡ set parts.rows (line - parts.states.first) k =

@@ -6,23 +6,22 @@ use Rattle.read_set.specs.Settling.{Contents}
 use Rattle.version_store.specs.Entries as store
 use Rattle.version_store.specs.Entries.{shown_by}
 use Rattle.board_steps.specs.Steps.{MayPublish, Fits, IsNextWrite, HasRoom, placed}
-use Rattle.board_lines.specs.declared.row.Course.{Course}
-use Rattle.board_lines.specs.declared.row.Row.{Row}
+use Rattle.board_lines.specs.declared.row.LineProgress.{LineProgress}
+use Rattle.board_lines.specs.declared.row.LineRow.{LineRow}
 use Rattle.board_lines.specs.Acts.{notes_at}
 use Rattle.board_lines.specs.Courses.{FirstPlacedBut}
-use Rattle.board_lines.specs.Parts.{Kept, no_notes}
-use Rattle.board_lines.proofs.Boards.{place_of}
+use Rattle.board_lines.specs.Parts.{Kept, no_notes, Parts, IsKept, board_of, row_shown}
+use Rattle.board_lines.proofs.Boards.{parts_of, place_of}
 use Rattle.board_lines.proofs.Publications.{act_line, live_there, store_line, entries_there, placed_board, placed_kept_here}
 use Rattle.read_set.specs.Plans.{Planned}
 use Rattle.board_steps.specs.Board.{Board, IsLine, row_at}
-use Rattle.board_lines.specs.Parts.{Parts, IsKept, board_of, row_shown}
 use Rattle.board_lines.proofs.lines.Lines.place.Goals as goal
 
 pub place-requires : goal.place-requires
 place-requires g c =
     let a = c.self.inside in
     let plan = g.J.PlanName.plan in
-    let parts : Parts = record { states = a.attempts; store = a.entries; rows = map row_shown a.rows.items; hands = a.hands.items; clock = a.clock; latest = a.latest } in
+    let parts : Parts = parts_of a in
     let kept : IsKept plan parts = c.self.invariant.1 in
     let is : board_of plan.base parts ≡ c.args.self.now = ap (λ (x : Planned). board_of x.base parts) (sym c.self.invariant.0) ∙ c.self.view_is in
     let n = c.args.line in
@@ -37,7 +36,7 @@ pub go_on-requires-clause-old : goal.go_on-requires-clause-old
 go_on-requires-clause-old g c =
     let a = c.self.inside in
     let plan = g.J.PlanName.plan in
-    let parts : Parts = record { states = a.attempts; store = a.entries; rows = map row_shown a.rows.items; hands = a.hands.items; clock = a.clock; latest = a.latest } in
+    let parts : Parts = parts_of a in
     let kept : IsKept plan parts = c.self.invariant.1 in
     let is : board_of plan.base parts ≡ c.args.self.now = ap (λ (x : Planned). board_of x.base parts) (sym c.self.invariant.0) ∙ c.self.view_is in
     let n = c.args.line in
@@ -52,7 +51,7 @@ pub overflow_add-clock : goal.overflow_add-clock
 overflow_add-clock g c =
     let a = c.self.inside in
     let plan = g.J.PlanName.plan in
-    let parts : Parts = record { states = a.attempts; store = a.entries; rows = map row_shown a.rows.items; hands = a.hands.items; clock = a.clock; latest = a.latest } in
+    let parts : Parts = parts_of a in
     let kept : IsKept plan parts = c.self.invariant.1 in
     let is : board_of plan.base parts ≡ c.args.self.now = ap (λ (x : Planned). board_of x.base parts) (sym c.self.invariant.0) ∙ c.self.view_is in
     let room : HasRoom (board_of plan.base parts) = subst HasRoom (sym is) c.requires.room in
@@ -62,7 +61,7 @@ pub overflow_sub-line : goal.overflow_sub-line
 overflow_sub-line g c =
     let a = c.self.inside in
     let plan = g.J.PlanName.plan in
-    let parts : Parts = record { states = a.attempts; store = a.entries; rows = map row_shown a.rows.items; hands = a.hands.items; clock = a.clock; latest = a.latest } in
+    let parts : Parts = parts_of a in
     let kept : IsKept plan parts = c.self.invariant.1 in
     let is : board_of plan.base parts ≡ c.args.self.now = ap (λ (x : Planned). board_of x.base parts) (sym c.self.invariant.0) ∙ c.self.view_is in
     let n = c.args.line in
@@ -78,7 +77,7 @@ pub index_mut-row-requires : goal.index_mut-row-requires
 index_mut-row-requires g c =
     let a = c.self.inside in
     let plan = g.J.PlanName.plan in
-    let parts : Parts = record { states = a.attempts; store = a.entries; rows = map row_shown a.rows.items; hands = a.hands.items; clock = a.clock; latest = a.latest } in
+    let parts : Parts = parts_of a in
     let kept : IsKept plan parts = c.self.invariant.1 in
     let is : board_of plan.base parts ≡ c.args.self.now = ap (λ (x : Planned). board_of x.base parts) (sym c.self.invariant.0) ∙ c.self.view_is in
     let n = c.args.line in
@@ -97,7 +96,7 @@ pub invariant_of-self-2 : goal.invariant_of-self-2
 invariant_of-self-2 g c =
     let a = c.self.inside in
     let plan = g.J.PlanName.plan in
-    let parts : Parts = record { states = a.attempts; store = a.entries; rows = map row_shown a.rows.items; hands = a.hands.items; clock = a.clock; latest = a.latest } in
+    let parts : Parts = parts_of a in
     let kept : IsKept plan parts = c.self.invariant.1 in
     let is : board_of plan.base parts ≡ c.args.self.now = ap (λ (x : Planned). board_of x.base parts) (sym c.self.invariant.0) ∙ c.self.view_is in
     let n = c.args.line in
@@ -108,8 +107,8 @@ invariant_of-self-2 g c =
     let there : IsLine (board_of plan.base parts) n = act_line plan parts kept w n (notes_at (board_of plan.base parts) n) may v in
     let f : c.first.result ≡ parts.states.first = c.first.ensures ∙ ap (λ (x : Planned). x.first) c.self.invariant.0 ∙ sym kept.reached.first in
     let spot = c.index_mut-row.result.now in
-    let come : Course = record { placed = c.args.count } in
-    let row : Row g.row.J.Denot = record { notes = spot.notes; version = Some c.args.place; course = come; changed = a.clock + 1 } in
+    let come : LineProgress = record { placed = c.args.count } in
+    let row : LineRow g.row.J.Denot = record { notes = spot.notes; version = Some c.args.place; course = come; changed = a.clock + 1 } in
     let k : Kept = row_shown row in
     let q : Parts = record {
       states = c.go_on.new.self;
@@ -143,7 +142,7 @@ pub returns-clause-placed : goal.returns-clause-placed
 returns-clause-placed g c =
     let a = c.self.inside in
     let plan = g.J.PlanName.plan in
-    let parts : Parts = record { states = a.attempts; store = a.entries; rows = map row_shown a.rows.items; hands = a.hands.items; clock = a.clock; latest = a.latest } in
+    let parts : Parts = parts_of a in
     let kept : IsKept plan parts = c.self.invariant.1 in
     let is : board_of plan.base parts ≡ c.args.self.now = ap (λ (x : Planned). board_of x.base parts) (sym c.self.invariant.0) ∙ c.self.view_is in
     let n = c.args.line in
@@ -154,8 +153,8 @@ returns-clause-placed g c =
     let there : IsLine (board_of plan.base parts) n = act_line plan parts kept w n (notes_at (board_of plan.base parts) n) may v in
     let f : c.first.result ≡ parts.states.first = c.first.ensures ∙ ap (λ (x : Planned). x.first) c.self.invariant.0 ∙ sym kept.reached.first in
     let spot = c.index_mut-row.result.now in
-    let come : Course = record { placed = c.args.count } in
-    let row : Row g.row.J.Denot = record { notes = spot.notes; version = Some c.args.place; course = come; changed = a.clock + 1 } in
+    let come : LineProgress = record { placed = c.args.count } in
+    let row : LineRow g.row.J.Denot = record { notes = spot.notes; version = Some c.args.place; course = come; changed = a.clock + 1 } in
     let k : Kept = row_shown row in
     let q : Parts = record {
       states = c.go_on.new.self;

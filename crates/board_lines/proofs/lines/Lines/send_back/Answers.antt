@@ -10,7 +10,7 @@ use Rattle.board_steps.specs.Steps.Reply.{Changed as TheChanged, ClockSpent as T
 use Rattle.board_lines.specs.Notes.{Noted}
 use Rattle.board_lines.specs.Parts.{Kept, Parts, IsKept, board_of, row_shown, no_notes}
 use Rattle.board_lines.specs.Sights.{IsOther}
-use Rattle.board_lines.specs.declared.row.Row.{Row}
+use Rattle.board_lines.specs.declared.row.LineRow.{LineRow}
 use Rattle.board_lines.proofs.Boards.{parts_of, place_of, row_read, row_set}
 use Rattle.board_lines.proofs.Checks.{check_live, check_line, check_within, key_there, none_back, none_there, some_back, some_there}
 use Rattle.board_lines.proofs.Rows.{live_stands}
@@ -93,7 +93,7 @@ invariant_of-self g c =
     let spot = c.index_mut-row.result.now in
     let was : get_or parts.rows (c.args.line - parts.states.first) no_notes ≡ row_shown spot = row_read a.rows.items c.args.line c.first.result parts.states.first spot f l c.index_mut-row.ensures.value in
     let none : HasNone (row_at (board_of plan.base parts) c.args.line) = none_there plan parts kept c.args.line c.keys_of.result c.keys_of.ensures.value (c.is_none.ensures ∙ ap not c.if-is_none.true) in
-    let row : Row g.row.J.Denot = record { notes = c.take_key.new.self; version = spot.version; course = spot.course; changed = spot.changed } in
+    let row : LineRow g.row.J.Denot = record { notes = c.take_key.new.self; version = spot.version; course = spot.course; changed = spot.changed } in
     let q : Parts = record { states = c.fail.new.self; store = a.entries; rows = map row_shown (set a.rows.items (c.args.line - c.first.result) row); hands = set a.hands.items c.args.worker None; clock = a.clock; latest = a.latest } in
     let back = none_back plan parts kept c.args.worker c.args.line o.0 o.1 o.2 c.args.i o.3 o.4 c.args.noted c.args.found o.5 q (row_shown row) c.fail.ensures (row_set a.rows.items c.args.line c.first.result parts.states.first row f) refl refl none refl
     (ap (λ (y : Kept). y.changed) (sym was)) refl in
@@ -113,7 +113,7 @@ returns-then-is_none g c =
     let spot = c.index_mut-row.result.now in
     let was : get_or parts.rows (c.args.line - parts.states.first) no_notes ≡ row_shown spot = row_read a.rows.items c.args.line c.first.result parts.states.first spot f l c.index_mut-row.ensures.value in
     let none : HasNone (row_at (board_of plan.base parts) c.args.line) = none_there plan parts kept c.args.line c.keys_of.result c.keys_of.ensures.value (c.is_none.ensures ∙ ap not c.if-is_none.true) in
-    let row : Row g.row.J.Denot = record { notes = c.take_key.new.self; version = spot.version; course = spot.course; changed = spot.changed } in
+    let row : LineRow g.row.J.Denot = record { notes = c.take_key.new.self; version = spot.version; course = spot.course; changed = spot.changed } in
     let q : Parts = record { states = c.fail.new.self; store = a.entries; rows = map row_shown (set a.rows.items (c.args.line - c.first.result) row); hands = set a.hands.items c.args.worker None; clock = a.clock; latest = a.latest } in
     let back = none_back plan parts kept c.args.worker c.args.line o.0 o.1 o.2 c.args.i o.3 o.4 c.args.noted c.args.found o.5 q (row_shown row) c.fail.ensures (row_set a.rows.items c.args.line c.first.result parts.states.first row f) refl refl none refl
     (ap (λ (y : Kept). y.changed) (sym was)) refl in
@@ -215,7 +215,7 @@ invariant_of-self-2 g c =
     let was : get_or parts.rows (c.args.line - parts.states.first) no_notes ≡ row_shown spot = row_read a.rows.items c.args.line c.first-2.result parts.states.first spot f l c.index_mut-row-2.ensures.value in
     let some : HasNone (row_at (board_of plan.base parts) c.args.line) → ⊥ = some_there plan parts kept c.args.line c.keys_of.result c.keys_of.ensures.value (c.is_none.ensures ∙ ap not c.if-is_none.false) in
     let room : HasRoom (board_of plan.base parts) = search (arith, c.if-self.false) in
-    let row : Row g.row.J.Denot = record { notes = c.take_key-2.new.self; version = spot.version; course = spot.course; changed = a.clock + 1 } in
+    let row : LineRow g.row.J.Denot = record { notes = c.take_key-2.new.self; version = spot.version; course = spot.course; changed = a.clock + 1 } in
     let q : Parts = record { states = c.fail-2.new.self; store = c.suspect_all.new.self; rows = map row_shown (set a.rows.items (c.args.line - c.first-2.result) row); hands = set a.hands.items c.args.worker None; clock = a.clock + 1; latest = a.latest } in
     let back = some_back plan parts kept c.args.worker c.args.line o.0 o.1 o.2 c.args.i o.3 o.4 c.args.noted c.args.found o.5 q (row_shown row) c.fail-2.ensures (row_set a.rows.items c.args.line c.first-2.result parts.states.first row f) refl refl some room c.suspect_all.ensures
     refl refl in
@@ -236,7 +236,7 @@ returns g c =
     let was : get_or parts.rows (c.args.line - parts.states.first) no_notes ≡ row_shown spot = row_read a.rows.items c.args.line c.first-2.result parts.states.first spot f l c.index_mut-row-2.ensures.value in
     let some : HasNone (row_at (board_of plan.base parts) c.args.line) → ⊥ = some_there plan parts kept c.args.line c.keys_of.result c.keys_of.ensures.value (c.is_none.ensures ∙ ap not c.if-is_none.false) in
     let room : HasRoom (board_of plan.base parts) = search (arith, c.if-self.false) in
-    let row : Row g.row.J.Denot = record { notes = c.take_key-2.new.self; version = spot.version; course = spot.course; changed = a.clock + 1 } in
+    let row : LineRow g.row.J.Denot = record { notes = c.take_key-2.new.self; version = spot.version; course = spot.course; changed = a.clock + 1 } in
     let q : Parts = record { states = c.fail-2.new.self; store = c.suspect_all.new.self; rows = map row_shown (set a.rows.items (c.args.line - c.first-2.result) row); hands = set a.hands.items c.args.worker None; clock = a.clock + 1; latest = a.latest } in
     let back = some_back plan parts kept c.args.worker c.args.line o.0 o.1 o.2 c.args.i o.3 o.4 c.args.noted c.args.found o.5 q (row_shown row) c.fail-2.ensures (row_set a.rows.items c.args.line c.first-2.result parts.states.first row f) refl refl some room c.suspect_all.ensures
     refl refl in

@@ -2,6 +2,7 @@ use Rattle.std.proofs.Common.{◌≡◌, ◌<◌, None, map, set, length, refl, 
 use Rattle.read_set.specs.Plans.{Planned}
 use Rattle.board_steps.specs.Board.{Board, live_of}
 use Rattle.board_lines.specs.Parts.{Parts, IsKept, board_of, row_shown}
+use Rattle.board_lines.proofs.Boards.{parts_of}
 use Rattle.board_lines.proofs.Rows.{live_stands}
 use Rattle.board_steps.specs.Steps.{MayLook}
 use Rattle.board_steps.specs.Steps as steps
@@ -12,7 +13,7 @@ pub stop-requires : goal.stop-requires
 stop-requires g c =
     let a = c.self.inside in
     let plan = g.J.PlanName.plan in
-    let parts : Parts = record { states = a.attempts; store = a.entries; rows = map row_shown a.rows.items; hands = a.hands.items; clock = a.clock; latest = a.latest } in
+    let parts : Parts = parts_of a in
     let kept : IsKept plan parts = c.self.invariant.1 in
     let is : board_of plan.base parts ≡ c.args.self.now = ap (λ (x : Planned). board_of x.base parts) (sym c.self.invariant.0) ∙ c.self.view_is in
     let may : MayLook (board_of plan.base parts) c.args.worker c.requires.0 c.args.line c.requires.1 =
@@ -23,7 +24,7 @@ pub index_mut-requires : goal.index_mut-requires
 index_mut-requires g c =
     let a = c.self.inside in
     let plan = g.J.PlanName.plan in
-    let parts : Parts = record { states = a.attempts; store = a.entries; rows = map row_shown a.rows.items; hands = a.hands.items; clock = a.clock; latest = a.latest } in
+    let parts : Parts = parts_of a in
     let kept : IsKept plan parts = c.self.invariant.1 in
     let is : board_of plan.base parts ≡ c.args.self.now = ap (λ (x : Planned). board_of x.base parts) (sym c.self.invariant.0) ∙ c.self.view_is in
     let may : MayLook (board_of plan.base parts) c.args.worker c.requires.0 c.args.line c.requires.1 =
@@ -35,7 +36,7 @@ pub invariant_of-self : goal.invariant_of-self
 invariant_of-self g c =
     let a = c.self.inside in
     let plan = g.J.PlanName.plan in
-    let parts : Parts = record { states = a.attempts; store = a.entries; rows = map row_shown a.rows.items; hands = a.hands.items; clock = a.clock; latest = a.latest } in
+    let parts : Parts = parts_of a in
     let kept : IsKept plan parts = c.self.invariant.1 in
     let is : board_of plan.base parts ≡ c.args.self.now = ap (λ (x : Planned). board_of x.base parts) (sym c.self.invariant.0) ∙ c.self.view_is in
     let may : MayLook (board_of plan.base parts) c.args.worker c.requires.0 c.args.line c.requires.1 =
@@ -47,7 +48,7 @@ pub returns : goal.returns
 returns g c =
     let a = c.self.inside in
     let plan = g.J.PlanName.plan in
-    let parts : Parts = record { states = a.attempts; store = a.entries; rows = map row_shown a.rows.items; hands = a.hands.items; clock = a.clock; latest = a.latest } in
+    let parts : Parts = parts_of a in
     let kept : IsKept plan parts = c.self.invariant.1 in
     let is : board_of plan.base parts ≡ c.args.self.now = ap (λ (x : Planned). board_of x.base parts) (sym c.self.invariant.0) ∙ c.self.view_is in
     let may : MayLook (board_of plan.base parts) c.args.worker c.requires.0 c.args.line c.requires.1 =

@@ -3,13 +3,13 @@ use Rattle.std.proofs.lemmas.List.{length-map, get_or-map, map-set}
 use Rattle.read_set.specs.Plans.{Planned}
 use Rattle.board_steps.specs.Board.{Board}
 use Rattle.board_lines.specs.Notes.{Noted}
-use Rattle.board_lines.specs.declared.row.Row.{Row}
+use Rattle.board_lines.specs.declared.row.LineRow.{LineRow}
 use Rattle.board_lines.specs.Parts.{Kept, Parts, IsKept, board_of, row_shown, no_notes}
 use Rattle.attempts.specs.States.{States, state_at}
 use Rattle.attempts.specs.declared.state.LineState.TheVariants as states
 use Rattle.board_steps.specs.Steps.{TakeStep}
 use Rattle.board_steps.specs.Steps.Reply.{Idle, Taken, Attempts}
-use Rattle.board_lines.proofs.Boards.{place_of}
+use Rattle.board_lines.proofs.Boards.{parts_of, place_of}
 use Rattle.board_lines.proofs.Hands.{hand_read, none_if, some_if}
 use Rattle.board_lines.proofs.Moves.{state_none, state_waits, no_worker, busy}
 use Rattle.board_lines.proofs.Takes.{there, next_there, attempts_returns, take_returns, take_kept}
@@ -21,7 +21,7 @@ pub returns-then-hand-len : goal.returns-then-hand-len
 returns-then-hand-len g c =
     let a = c.self.inside in
     let plan = g.J.PlanName.plan in
-    let parts : Parts = record { states = a.attempts; store = a.entries; rows = map row_shown a.rows.items; hands = a.hands.items; clock = a.clock; latest = a.latest } in
+    let parts : Parts = parts_of a in
     let kept : IsKept plan parts = c.self.invariant.1 in
     let is : board_of plan.base parts ≡ c.args.self.now = ap (λ (x : Planned). board_of x.base parts) (sym c.self.invariant.0) ∙ c.self.view_is in
     subst (λ (b : Board). TakeStep b c.args.worker c.args.line Idle b) is (
@@ -39,7 +39,7 @@ pub returns-in_default : goal.returns-in_default
 returns-in_default g c =
     let a = c.self.inside in
     let plan = g.J.PlanName.plan in
-    let parts : Parts = record { states = a.attempts; store = a.entries; rows = map row_shown a.rows.items; hands = a.hands.items; clock = a.clock; latest = a.latest } in
+    let parts : Parts = parts_of a in
     let kept : IsKept plan parts = c.self.invariant.1 in
     let is : board_of plan.base parts ≡ c.args.self.now = ap (λ (x : Planned). board_of x.base parts) (sym c.self.invariant.0) ∙ c.self.view_is in
     subst (λ (b : Board). TakeStep b c.args.worker c.args.line Idle b) is (
@@ -52,7 +52,7 @@ pub returns-in_default-state : goal.returns-in_default-state
 returns-in_default-state g c =
     let a = c.self.inside in
     let plan = g.J.PlanName.plan in
-    let parts : Parts = record { states = a.attempts; store = a.entries; rows = map row_shown a.rows.items; hands = a.hands.items; clock = a.clock; latest = a.latest } in
+    let parts : Parts = parts_of a in
     let kept : IsKept plan parts = c.self.invariant.1 in
     let is : board_of plan.base parts ≡ c.args.self.now = ap (λ (x : Planned). board_of x.base parts) (sym c.self.invariant.0) ∙ c.self.view_is in
     subst (λ (b : Board). TakeStep b c.args.worker c.args.line Idle b) is (
@@ -64,7 +64,7 @@ pub returns-in_default-take : goal.returns-in_default-take
 returns-in_default-take g c =
     let a = c.self.inside in
     let plan = g.J.PlanName.plan in
-    let parts : Parts = record { states = a.attempts; store = a.entries; rows = map row_shown a.rows.items; hands = a.hands.items; clock = a.clock; latest = a.latest } in
+    let parts : Parts = parts_of a in
     let kept : IsKept plan parts = c.self.invariant.1 in
     let is : board_of plan.base parts ≡ c.args.self.now = ap (λ (x : Planned). board_of x.base parts) (sym c.self.invariant.0) ∙ c.self.view_is in
     let waits : state_at parts.states c.args.line ≡ Some states.Waiting = sym c.in-Some.ensures ∙ ap (λ x. Some x) c.in-Waiting.is in
@@ -83,7 +83,7 @@ pub index_mut-row-requires : goal.index_mut-row-requires
 index_mut-row-requires g c =
     let a = c.self.inside in
     let plan = g.J.PlanName.plan in
-    let parts : Parts = record { states = a.attempts; store = a.entries; rows = map row_shown a.rows.items; hands = a.hands.items; clock = a.clock; latest = a.latest } in
+    let parts : Parts = parts_of a in
     let kept : IsKept plan parts = c.self.invariant.1 in
     let is : board_of plan.base parts ≡ c.args.self.now = ap (λ (x : Planned). board_of x.base parts) (sym c.self.invariant.0) ∙ c.self.view_is in
     let waits : state_at parts.states c.args.line ≡ Some states.Waiting = sym c.in-Some.ensures ∙ ap (λ x. Some x) c.in-Waiting.is in
@@ -99,14 +99,14 @@ pub invariant_of-self-2 : goal.invariant_of-self-2
 invariant_of-self-2 g c =
     let a = c.self.inside in
     let plan = g.J.PlanName.plan in
-    let parts : Parts = record { states = a.attempts; store = a.entries; rows = map row_shown a.rows.items; hands = a.hands.items; clock = a.clock; latest = a.latest } in
+    let parts : Parts = parts_of a in
     let kept : IsKept plan parts = c.self.invariant.1 in
     let is : board_of plan.base parts ≡ c.args.self.now = ap (λ (x : Planned). board_of x.base parts) (sym c.self.invariant.0) ∙ c.self.view_is in
     let waits : state_at parts.states c.args.line ≡ Some states.Waiting = sym c.in-Some.ensures ∙ ap (λ x. Some x) c.in-Waiting.is in
     let hand : slice_get a.hands.items c.args.worker ≡ Some None =
     hand_read a.hands.items c.args.worker c.index.result.now (omega (arith, a.hands.ok.0)) c.index.ensures ∙ ap (λ x. Some x) (none_if c.index.result.now (sym c.is_some.ensures ∙ c.if-is_some.false)) in
     let spot = c.index_mut-row.result.now in
-    let row : Row g.row.J.Denot = record { notes = c.clear.new.self; version = spot.version; course = spot.course; changed = spot.changed } in
+    let row : LineRow g.row.J.Denot = record { notes = c.clear.new.self; version = spot.version; course = spot.course; changed = spot.changed } in
     let k : Kept = row_shown row in
     let q : Parts = record {
       states = c.take.new.self;
@@ -136,14 +136,14 @@ pub returns : goal.returns
 returns g c =
     let a = c.self.inside in
     let plan = g.J.PlanName.plan in
-    let parts : Parts = record { states = a.attempts; store = a.entries; rows = map row_shown a.rows.items; hands = a.hands.items; clock = a.clock; latest = a.latest } in
+    let parts : Parts = parts_of a in
     let kept : IsKept plan parts = c.self.invariant.1 in
     let is : board_of plan.base parts ≡ c.args.self.now = ap (λ (x : Planned). board_of x.base parts) (sym c.self.invariant.0) ∙ c.self.view_is in
     let waits : state_at parts.states c.args.line ≡ Some states.Waiting = sym c.in-Some.ensures ∙ ap (λ x. Some x) c.in-Waiting.is in
     let hand : slice_get a.hands.items c.args.worker ≡ Some None =
     hand_read a.hands.items c.args.worker c.index.result.now (omega (arith, a.hands.ok.0)) c.index.ensures ∙ ap (λ x. Some x) (none_if c.index.result.now (sym c.is_some.ensures ∙ c.if-is_some.false)) in
     let spot = c.index_mut-row.result.now in
-    let row : Row g.row.J.Denot = record { notes = c.clear.new.self; version = spot.version; course = spot.course; changed = spot.changed } in
+    let row : LineRow g.row.J.Denot = record { notes = c.clear.new.self; version = spot.version; course = spot.course; changed = spot.changed } in
     let k : Kept = row_shown row in
     let q : Parts = record {
       states = c.take.new.self;

@@ -1,10 +1,11 @@
-use Rattle.std.proofs.Common.{◌≡◌, suc, Some, map, sym, ap, subst, ◌∙◌}
+use Rattle.std.proofs.Common.{◌≡◌, suc, Some, sym, ap, subst, ◌∙◌}
 use Rattle.board_steps.specs.Steps.{MayPublish}
 use Rattle.board_lines.specs.Acts.{notes_at}
+use Rattle.board_lines.proofs.Boards.{parts_of}
 use Rattle.board_lines.proofs.Publications.{publish_held, held_line, has_state, to_publish, nothing_to_publish}
 use Rattle.read_set.specs.Plans.{Planned}
 use Rattle.board_steps.specs.Board.{Board, IsLine, row_at, holder}
-use Rattle.board_lines.specs.Parts.{Parts, IsKept, board_of, row_shown}
+use Rattle.board_lines.specs.Parts.{Parts, IsKept, board_of}
 use Rattle.board_lines.proofs.lines.Lines.to_publish.Goals as goal
 
 pub returns-in_default : goal.returns-in_default
@@ -15,7 +16,7 @@ pub returns-in_default-state : goal.returns-in_default-state
 returns-in_default-state g c =
     let a = c.self.inside in
     let plan = g.J.PlanName.plan in
-    let parts : Parts = record { states = a.attempts; store = a.entries; rows = map row_shown a.rows.items; hands = a.hands.items; clock = a.clock; latest = a.latest } in
+    let parts : Parts = parts_of a in
     let kept : IsKept plan parts = c.self.invariant.1 in
     let is : board_of plan.base parts ≡ c.args.self.now = ap (λ (x : Planned). board_of x.base parts) (sym c.self.invariant.0) ∙ c.self.view_is in
     let w = c.args.worker in
@@ -27,7 +28,7 @@ pub returns-then-not-is_publishing : goal.returns-then-not-is_publishing
 returns-then-not-is_publishing g c =
     let a = c.self.inside in
     let plan = g.J.PlanName.plan in
-    let parts : Parts = record { states = a.attempts; store = a.entries; rows = map row_shown a.rows.items; hands = a.hands.items; clock = a.clock; latest = a.latest } in
+    let parts : Parts = parts_of a in
     let kept : IsKept plan parts = c.self.invariant.1 in
     let is : board_of plan.base parts ≡ c.args.self.now = ap (λ (x : Planned). board_of x.base parts) (sym c.self.invariant.0) ∙ c.self.view_is in
     let w = c.args.worker in
@@ -40,7 +41,7 @@ pub returns : goal.returns
 returns g c =
     let a = c.self.inside in
     let plan = g.J.PlanName.plan in
-    let parts : Parts = record { states = a.attempts; store = a.entries; rows = map row_shown a.rows.items; hands = a.hands.items; clock = a.clock; latest = a.latest } in
+    let parts : Parts = parts_of a in
     let kept : IsKept plan parts = c.self.invariant.1 in
     let is : board_of plan.base parts ≡ c.args.self.now = ap (λ (x : Planned). board_of x.base parts) (sym c.self.invariant.0) ∙ c.self.view_is in
     let w = c.args.worker in

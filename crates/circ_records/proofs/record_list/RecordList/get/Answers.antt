@@ -1,6 +1,5 @@
-use Rattle.std.proofs.Common.{◌≡◌, ◌∙◌, Ok, Some, ap, arith, sym}
+use Rattle.std.proofs.Common.{◌∙◌, Some, ap, arith, sym}
 use Rattle.circ_records.specs.Devices.KeyRefs.{key_of}
-use Rattle.circ_records.specs.Devices.Positions.{position_from}
 use Rattle.circ_records.specs.declared.key.Key.{Key}
 use Rattle.circ_records.specs.declared.record.Record.{Record}
 use Rattle.circ_records.proofs.Positions.{held, missing}

@@ -2,7 +2,7 @@ use Rattle.std.proofs.Common.{rules, subst, sym}
 use Rattle.std.proofs.lemmas.Fn.{always_returns_same}
 use Rattle.circ_records.specs.Devices.KeyRefs.{key_of}
 use Rattle.circ_records.specs.Keys.{key_cmp}
-use Rattle.circ_records.specs.Laws.{AreRising}
+use Rattle.circ_records.specs.Records.{AreRising}
 use Rattle.circ_records.specs.declared.key.Key.{Key}
 use Rattle.circ_records.specs.declared.record.Record.{Record}
 use Rattle.circ_records.proofs.Positions.{halved}

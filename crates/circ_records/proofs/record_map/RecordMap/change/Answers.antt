@@ -1,4 +1,4 @@
-use Rattle.std.proofs.Common.{◌≡◌, ◌++◌, ◌∙◌, Ok, Err, Some, None, slice_set, ap, arith, length, sym}
+use Rattle.std.proofs.Common.{◌≡◌, ◌++◌, ◌∙◌, Ok, Err, Some, None, slice_set, ap, arith, sym}
 use Rattle.circ_records.specs.Changes.{broken_by}
 use Rattle.circ_records.specs.Devices.Positions.{position_from}
 use Rattle.circ_records.specs.Records.{record_at}

@@ -1,7 +1,7 @@
 use Rattle.std.proofs.Common.{◌∙◌, List, Option, ap, sym}
 use Rattle.csv.specs.Records.{fields_of}
-use Rattle.circ_records.specs.Tables.{Row}
-use Rattle.circ_records.specs.declared.fault.BaseRule.{BaseRule}
+use Rattle.record_tables.specs.Tables.{Row}
+use Rattle.circ_records.specs.declared.rule.BaseRule.{BaseRule}
 use Rattle.table_rules.proofs.loans.LoanJudgeJudge.judge.Goals as goal
 
 pub returns-clause-rule : goal.returns-clause-rule

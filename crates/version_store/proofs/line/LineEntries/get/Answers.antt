@@ -3,7 +3,7 @@ use Rattle.std.proofs.Common.{Some, ap, arith, sym, ◌∙◌}
 use Rattle.std.specs.Prelude.{option_map}
 use Rattle.circ_records.specs.declared.key.Key.{Key}
 use Rattle.version_store.specs.Entries.{keyed, shown}
-use Rattle.version_store.specs.declared.entry.Entry.{Entry}
+use Rattle.version_store.specs.declared.entry.StoredEntry.{StoredEntry}
 use Rattle.version_store.proofs.Keyed.{keyed_at, keyed_length}
 use Rattle.version_store.proofs.Positions.{at_find, gap_find}
 use Rattle.version_store.proofs.Views.{get_shown}
@@ -21,8 +21,8 @@ returns-in-Ok g c =
     let es = c.self.inside.entries in
     let d = c.index.result.now in
     rw (← c.self.view_is)
-    (ap (λ (e : Bor Key × Entry g.row.J.Denot). Some (shown e.1)) c.index.ensures
-    ∙ ap (λ (e : Key × Entry g.row.J.Denot). Some (shown e.1)) (sym (keyed_at es c.in-Ok.position d))
+    (ap (λ (e : Bor Key × StoredEntry g.row.J.Denot). Some (shown e.1)) c.index.ensures
+    ∙ ap (λ (e : Key × StoredEntry g.row.J.Denot). Some (shown e.1)) (sym (keyed_at es c.in-Ok.position d))
     ∙ sym (get_shown (keyed es) c.args.key.now ∙ ap (option_map shown) (at_find (keyed es) c.args.key.now c.in-Ok.position (d.0.now, d.1) c.self.invariant c.in-Ok.ensures)))
 
 pub returns-in-Err : goal.returns-in-Err

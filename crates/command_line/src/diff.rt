@@ -1,0 +1,114 @@
+//! The words of the command line of `sip_diff`, read by `clap`.
+ghost use Rattle.std.specs.Prelude.{◌≡◌, IfErr, IfOk, codes, map, true};
+ghost use Rattle.clap.specs.Words.{app_of, matches_of, rule_of, takes};
+ghost use Rattle.clap.specs.Built.{TakesValue};
+ghost use Rattle.command_line.specs.CommandLine.{IsOwnArg};
+ghost use Rattle.command_line.specs.Diff.{GivesDiff, HasFolders, folder_rule, leave_rule, sip_diff_line};
+ghost use Rattle.command_line.specs.declared.refusal.Refusal.TheVariants.{Memory};
+
+use crate::refusal::Refusal;
+use crate::words::{VERSION, text_of, texts_of};
+use clap::{Arg, ArgAction, Command};
+use std::alloc::{AllocError, Global};
+use std::convert::AsStr;
+
+const ABOUT: &str =
+    "Compares two folders of tables of a library's circulation, row by row in whatever order the rows stand, and \
+writes what differs";
+
+const LEFT_HELP: &str =
+    "A folder of tables: patrons.csv, items.csv, loans.csv, fees.csv, closed.csv and, where there are holds, holds.csv";
+
+const RIGHT_HELP: &str = "The folder that it is compared with";
+
+const LEAVE_HELP: &str =
+    "A column that isn't compared, as items.properties; the option may be given several times";
+
+const AFTER_HELP: &str = "Example:
+  sip_diff result exported > differences.csv
+
+What differs goes to standard output, as CSV with the columns table, id, column, left, right: a row for each value that differs.
+Where only one side has a row, the column is (row), and the side that has it tells its values. A loan has the id of its item, a hold
+those of its item and its patron, and its place in the queue is a column. A fee whose name the other side lacks is the same as one
+of another name with the same patron, type, amount and paid. Where nothing differs nothing is written.
+
+Status 0: nothing differs. 1: something does. 2: the command line or a table is refused, and standard error says why. 3: a file
+cannot be read, standard output takes nothing more, or memory ran out.";
+
+/// The two folders of tables that are compared, and what of them isn't, as the words name them.
+pub struct DiffOptions {
+    /// The folder whose values are in the column `left`.
+    pub left: String,
+    /// The folder whose values are in the column `right`.
+    pub right: String,
+    /// The columns that aren't compared, each as a word such as `items.properties`. None of these words has been checked.
+    pub leave: Vec<String>,
+}
+
+impl Drop for DiffOptions {
+    fn drop(self) {
+        let DiffOptions {
+            left: _,
+            right: _,
+            leave: _,
+        } = self;
+    }
+}
+
+/// The options of a comparison that the words give, of which the first is the program's name; or why they give none.
+pub fn diff_options<S: AsStr>(alloc: Global, words: &[S]) -> Result<DiffOptions, Refusal>
+    ensures given { IfOk result (GivesDiff (matches_of sip_diff_line (map S.text words.now))) }
+    ensures accepts { IfErr result (λ e. takes sip_diff_line (map S.text words.now) ≡ true
+        → e ≡ Memory) }
+{
+    let matches = match command(alloc)?.try_get_matches_from(words) {
+        Ok(matches) => matches,
+        Err(error) => return Err(Refusal::of_error(alloc, &error)),
+    };
+    let left = text_of(alloc, &matches, "left")?;
+    let right = text_of(alloc, &matches, "right")?;
+    let leave = texts_of(alloc, &matches, "leave")?;
+    Ok(DiffOptions { left, right, leave })
+}
+
+/// A folder, which must be given; its place among the words says which.
+fn folder<'a>(alloc: Global, name: &'a str, value: &'a str, help: &'a str) -> Arg<'a>
+    ensures rule { rule_of result ≡ folder_rule name.entry.now }
+    ensures own { IsOwnArg name.entry.now result }
+    ensures takes { TakesValue result }
+{
+    Arg::new(alloc, name)
+        .value_name(value)
+        .action(ArgAction::Set)
+        .required(true)
+        .help(help)
+}
+
+/// A column that isn't compared; it may be given several times.
+fn leave<'a>(alloc: Global) -> Arg<'a>
+    ensures rule { rule_of result ≡ leave_rule }
+    ensures own { IsOwnArg (codes "leave") result }
+{
+    Arg::new(alloc, "leave")
+        .long("leave")
+        .value_name("TABLE.COLUMN")
+        .action(ArgAction::Append)
+        .help(LEAVE_HELP)
+}
+
+/// The command line of the program.
+fn command<'a>(alloc: Global) -> Result<Command<'a>, AllocError>
+    ensures line { IfOk result (λ c. app_of c ≡ sip_diff_line) }
+    ensures folders { IfOk result HasFolders }
+{
+    let left = folder(alloc, "left", "LEFT", LEFT_HELP);
+    let right = folder(alloc, "right", "RIGHT", RIGHT_HELP);
+    let leave = leave(alloc);
+    Command::new(alloc, "sip_diff")
+        .version(VERSION)
+        .about(ABOUT)
+        .after_help(AFTER_HELP)
+        .arg(left)?
+        .arg(right)?
+        .arg(leave)
+}

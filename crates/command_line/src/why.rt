@@ -1,0 +1,160 @@
+//! The words of the command line of `sip_why`, read by `clap`. Its options take values that begin with a hyphen, and of such
+//! clap's definition doesn't say what words mean: so it isn't proved here, only that the two options of changes go together.
+ghost use Rattle.std.specs.Prelude.{◌≡◌, IfOk, None, is_some};
+
+use crate::refusal::Refusal;
+use crate::words::{VERSION, text_if_given, texts_of};
+use clap::{Arg, ArgAction, ArgMatches, Command};
+use std::alloc::{AllocError, Global};
+use std::convert::AsStr;
+
+const ABOUT: &str =
+    "Tells why the answers that the rules give are what they are: for each record that a line read, which line wrote it last and what of it mattered";
+
+const POLICY_HELP: &str = "The rules of the library, a TOML file";
+
+const BASE_HELP: &str = "The folder of the tables before the first message";
+
+const JOURNAL_HELP: &str =
+    "The messages, a CSV file with the columns line, connection, request, response";
+
+const REPORT_HELP: &str = "The report of a run of sip_replay on these files: its lines are told";
+
+const LINE_HELP: &str = "The number of a line to be told; can be given several times";
+
+const CHANGES_HELP: &str =
+    "A file that gets what to change in the live system: one JSON object a line for each record that isn't as it was";
+
+const OUT_HELP: &str =
+    "The folder of the tables that sip_replay wrote of these files; for --changes";
+
+const TEST_HELP: &str =
+    "A folder that gets a test case of each line of --report and --line, in a folder named by the line's number";
+
+const AFTER_HELP: &str = "Example:
+  sip_why --policy policy.toml --base tables --journal journal.csv --report result/report.csv > why.csv
+
+Standard output gets a table with the columns line, reason, kind, id, since, said: a row for each record that a line read. With neither --report nor
+--line each answered line is told.
+
+A test case has the policy, a base with what the line read, a journal of that line with its recorded response, and expected/answers.csv: run by
+sip_replay it gives these answers, and the whole run has them. It has names of patrons and passwords as the journal has them.
+
+Status 0: all is told. 2: the command line, an input, or a line that is wanted is refused; standard error names it, and the others are told. 3: a file
+cannot be read or written, or memory ran out.";
+
+/// The inputs, the lines that are wanted, and what is written of them, as the words name them.
+pub struct WhyOptions {
+    /// The policy, a TOML file.
+    pub policy: String,
+    /// The folder of the tables before the first line.
+    pub base: String,
+    /// The journal, a CSV file.
+    pub journal: String,
+    /// The report whose lines are wanted.
+    pub report: Option<String>,
+    /// The numbers of the lines that are wanted; without them and a report each answered line is. None of these words has been checked.
+    pub lines: Vec<String>,
+    /// The file that gets what to change in the live system.
+    pub changes: Option<String>,
+    /// The folder of the tables of the finished run whose changes these are. It is given just where that file is.
+    pub out: Option<String>,
+    /// The folder that gets a test case of each line that is wanted. It is given only where lines or a report are.
+    pub test: Option<String>,
+}
+
+impl Drop for WhyOptions {
+    fn drop(self) {
+        let WhyOptions {
+            policy: _,
+            base: _,
+            journal: _,
+            report: _,
+            lines: _,
+            changes: _,
+            out: _,
+            test: _,
+        } = self;
+    }
+}
+
+/// The options that the words give, of which the first is the program's name; or why they give none.
+pub fn why_options<S: AsStr>(alloc: Global, words: &[S]) -> Result<WhyOptions, Refusal>
+    ensures together { IfOk result (λ o. is_some o.changes ≡ is_some o.out) }
+{
+    let matches = match command(alloc)?.try_get_matches_from(words) {
+        Ok(matches) => matches,
+        Err(error) => return Err(Refusal::of_error(alloc, &error)),
+    };
+    let options = options_of(alloc, &matches)?;
+    match misfit(&options) {
+        None => Ok(options),
+        Some(why) => Err(Refusal::Words(String::from_str(alloc, why)?)),
+    }
+}
+
+/// What is printed of options that don't go together; nothing of others.
+fn misfit(options: &WhyOptions) -> Option<&'static str>
+    ensures { result ≡ None → is_some options.now.changes ≡ is_some options.now.out }
+{
+    if options.changes.is_some() != options.out.is_some() {
+        return Some("error: --changes and --out go together\n");
+    }
+    if options.test.is_some() && options.report.is_none() && options.lines.is_empty() {
+        return Some("error: --test goes with --report or --line\n");
+    }
+    None
+}
+
+fn options_of(alloc: Global, matches: &ArgMatches<'_>) -> Result<WhyOptions, AllocError> {
+    Ok(WhyOptions {
+        policy: required_text(alloc, matches, "policy")?,
+        base: required_text(alloc, matches, "base")?,
+        journal: required_text(alloc, matches, "journal")?,
+        report: text_if_given(alloc, matches, "report")?,
+        lines: texts_of(alloc, matches, "line")?,
+        changes: text_if_given(alloc, matches, "changes")?,
+        out: text_if_given(alloc, matches, "out")?,
+        test: text_if_given(alloc, matches, "test")?,
+    })
+}
+
+/// The value of an option that clap lets nobody leave out.
+fn required_text(alloc: Global, matches: &ArgMatches<'_>, id: &str) -> Result<String, AllocError> {
+    String::from_str(alloc, matches.get_str(id).unwrap_or(""))
+}
+
+/// An option that takes a value, which may begin with a hyphen.
+fn option<'a>(alloc: Global, name: &'a str, value: &'a str, help: &'a str) -> Arg<'a> {
+    Arg::new(alloc, name)
+        .long(name)
+        .value_name(value)
+        .action(ArgAction::Set)
+        .allow_hyphen_values(true)
+        .help(help)
+}
+
+/// The number of a line; it may be given several times.
+fn line<'a>(alloc: Global) -> Arg<'a> {
+    Arg::new(alloc, "line")
+        .long("line")
+        .value_name("N")
+        .action(ArgAction::Append)
+        .help(LINE_HELP)
+}
+
+/// The command line of the program.
+fn command<'a>(alloc: Global) -> Result<Command<'a>, AllocError> {
+    Command::new(alloc, "sip_why")
+        .version(VERSION)
+        .about(ABOUT)
+        .after_help(AFTER_HELP)
+        .arg(option(alloc, "policy", "FILE", POLICY_HELP).required(true))?
+        .arg(option(alloc, "base", "DIR", BASE_HELP).required(true))?
+        .arg(option(alloc, "journal", "FILE", JOURNAL_HELP).required(true))?
+        .arg(option(alloc, "report", "FILE", REPORT_HELP))?
+        .arg(line(alloc))?
+        .arg(option(alloc, "changes", "FILE", CHANGES_HELP))?
+        .arg(option(alloc, "out", "DIR", OUT_HELP))?
+        .arg(option(alloc, "test", "DIR", TEST_HELP))
+}

@@ -1,0 +1,95 @@
+-- The base that tables give, or why they give none.
+use Rattle.std.specs.Prelude.{◌≡◌, ℕ, List, [], ◌∷◌, Option, Some, None, Result, Ok, Err}
+use Rattle.std.specs.Option.{option_or}
+use Rattle.csv_table.specs.Rows.{rows_under}
+use Rattle.circ_policy.specs.Terms.{Terms}
+use Rattle.circ_records.specs.Records.{Entries}
+use Rattle.record_tables.specs.Rules.{broken, closed_rule, fee_rule, hold_rule, item_rule, loan_rule, patron_rule}
+use Rattle.record_tables.specs.Tables.{Row, Rows, Texts, closed_header, fees_header, holds_header, items_header, loans_header, patrons_header}
+use Rattle.record_tables.specs.Told.{entries_told}
+use Rattle.record_tables.specs.declared.fault.BaseError.{BaseError}
+use Rattle.record_tables.specs.declared.fault.BaseError.TheVariants as error
+use Rattle.record_tables.specs.declared.tables.TableName.{TableName}
+use Rattle.record_tables.specs.declared.tables.TableName.TheVariants as table
+
+infixl 10 ◌>>=◌
+abbrev pub ◌>>=◌ : {A B : Type 0} → Result A BaseError → (A → Result B BaseError) → Result B BaseError
+(Ok x) >>= f = f x
+(Err e) >>= f = Err e
+
+-- the rows of a table, where csv takes it and its header is this one
+abbrev pub table_rows : TableName → Option (List Row) → Result (List Row) BaseError
+table_rows name None = Err (error.Table name)
+table_rows name (Some rows) = Ok rows
+
+-- the rows of a table of holds: no bytes at all count as the header alone
+abbrev pub holds_rows_of : List ℕ → Option (List Row)
+holds_rows_of [] = Some []
+holds_rows_of (b ∷ text) = rows_under holds_header (b ∷ text)
+
+-- the rows of the six tables, or the first table that has none
+unfoldable pub rows_of : Texts → Result Rows BaseError
+rows_of texts = do
+  patrons ← table_rows table.Patrons (rows_under patrons_header texts.patrons)
+  items ← table_rows table.Items (rows_under items_header texts.items)
+  loans ← table_rows table.Loans (rows_under loans_header texts.loans)
+  fees ← table_rows table.Fees (rows_under fees_header texts.fees)
+  closed ← table_rows table.Closed (rows_under closed_header texts.closed)
+  holds ← table_rows table.Holds (holds_rows_of texts.holds)
+  Ok (record { patrons = patrons; items = items; loans = loans; fees = fees; closed = closed; holds = holds })
+
+-- the first rule that the rows of each table break
+abbrev pub broken_patrons : Terms → Rows → Option BaseError
+broken_patrons policy rows = broken table.Patrons (patron_rule policy) rows.patrons
+
+abbrev pub broken_items : Terms → Rows → Option BaseError
+broken_items policy rows = broken table.Items (item_rule policy) rows.items
+
+abbrev pub broken_loans : Rows → Option BaseError
+broken_loans rows = broken table.Loans (loan_rule rows.patrons rows.items) rows.loans
+
+abbrev pub broken_fees : Option ℕ → Rows → Option BaseError
+broken_fees first rows = broken table.Fees (fee_rule first rows.patrons) rows.fees
+
+abbrev pub broken_closed : Option ℕ → Rows → Option BaseError
+broken_closed first rows = broken table.Closed (closed_rule first rows.patrons rows.fees) rows.closed
+
+abbrev pub broken_holds : Rows → Option BaseError
+broken_holds rows = broken table.Holds (hold_rule rows.patrons rows.items rows.loans) rows.holds
+
+-- the first rule that the rows break, table by table and row by row, before a journal that begins with a number
+unfoldable pub first_broken : Terms → Option ℕ → Rows → Option BaseError
+first_broken policy first rows =
+    option_or (broken_patrons policy rows)
+    (option_or (broken_items policy rows)
+    (option_or (broken_loans rows)
+    (option_or (broken_fees first rows)
+    (option_or (broken_closed first rows)
+    (broken_holds rows)))))
+
+abbrev pub unless_broken : Option BaseError → Entries → Result Entries BaseError
+unless_broken (Some e) entries = Err e
+unless_broken None entries = Ok entries
+
+-- the base that the tables give under a policy and before a journal that begins with a number
+unfoldable pub base_of : Terms → Texts → Option ℕ → Result Entries BaseError
+base_of policy texts first = do
+  rows ← rows_of texts
+  unless_broken (first_broken policy first rows) (entries_told rows)
+
+-- a fault is the one that is due, unless memory ran out
+abbrev pub Fails : {A : Type 0} → BaseError → Result A BaseError → Type 0
+Fails error.Memory due = Unit {0}
+Fails (error.Table name) due = due ≡ Err (error.Table name)
+Fails (error.Rule name row rule) due = due ≡ Err (error.Rule name row rule)
+
+-- what was given is what is due, unless memory ran out
+abbrev pub Gives : {A : Type 0} → Result A BaseError → Result A BaseError → Type 0
+Gives (Ok x) due = due ≡ Ok x
+Gives (Err e) due = Fails e due
+
+-- a fault is the first rule that is broken, unless memory ran out
+abbrev pub Breaks : BaseError → Option BaseError → Type 0
+Breaks error.Memory fault = Unit {0}
+Breaks (error.Table name) fault = fault ≡ Some (error.Table name)
+Breaks (error.Rule name row rule) fault = fault ≡ Some (error.Rule name row rule)

@@ -1,0 +1,11 @@
+pub mod Base
+pub mod Laws
+pub mod Read
+pub mod RowTexts
+pub mod Rules
+pub mod Tables
+pub mod Told
+pub mod Values
+pub mod Words
+pub mod Writing
+pub mod Written

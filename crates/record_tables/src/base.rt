@@ -1,0 +1,87 @@
+//! The records that a run begins with.
+
+ghost use Rattle.std.specs.Prelude.{◌≡◌, ◌<◌, None, IfOk, IfErr};
+ghost use Rattle.record_tables.specs.Base.{Gives, base_of, first_broken};
+ghost use Rattle.circ_records.specs.Coherent.{AreOfKind, Coherent, number_before};
+ghost use Rattle.record_tables.specs.Read.{AreTables, StopsAll, rows_in};
+ghost use Rattle.circ_records.specs.Records.{record_at};
+ghost use Rattle.record_tables.specs.Tables.{texts_of};
+ghost use Rattle.record_tables.specs.Told.{entries_told};
+
+use crate::closed::add_closed;
+use crate::fault::BaseError;
+use crate::fees::add_fees;
+use crate::items::add_items;
+use crate::loans::add_loans;
+use crate::patrons::add_patrons;
+use crate::queues::add_holds;
+use crate::rows::check_tables;
+use crate::tables::Tables;
+use circ_policy::Policy;
+use circ_records::{RecordMap, Records};
+use std::alloc::Global;
+
+/// The base of the tables. `first` is the number of the journal's first line: no fee of the base has an id
+/// that this line or a later one may make.
+pub fn read_base(
+    alloc: Global,
+    policy: &Policy,
+    tables: &Tables,
+    first: Option<u64>,
+) -> Result<Records, BaseError>
+    ensures told { Gives result (base_of policy.now (texts_of tables.now) first) }
+    ensures coherent { IfOk result (λ b. Coherent policy.now (number_before first) b) }
+    ensures kinds { IfOk result (λ b. AreOfKind (record_at b)) }
+{
+    match records_of(alloc, policy, tables, first) {
+        Ok(base) => Ok(base),
+        Err(BaseError::Rule { table, row, rule }) => {
+            check_tables(alloc, tables)?;
+            Err(BaseError::Rule { table, row, rule })
+        }
+        Err(BaseError::Table { table }) => Err(BaseError::Table { table }),
+        Err(BaseError::Memory) => Err(BaseError::Memory),
+    }
+}
+
+/// Few rows have fewer bytes.
+const ROW_BYTES: usize = 16;
+
+/// A guess at how many records the tables have. Where they have more, the list grows.
+fn likely_rows(tables: &Tables) -> usize {
+    let bytes = tables
+        .patrons
+        .len()
+        .saturating_add(tables.items.len())
+        .saturating_add(tables.fees.len())
+        .saturating_add(tables.closed.len());
+    bytes / ROW_BYTES
+}
+
+/// The base of the rows of the tables, table by table, or the first rule that a row breaks. The records of the tables before a
+/// fault are dropped: so the `add_` of each table says nothing of the records after a fault.
+fn records_of(
+    alloc: Global,
+    policy: &Policy,
+    tables: &Tables,
+    first: Option<u64>,
+) -> Result<Records, BaseError>
+    ensures read { IfOk result (λ b. AreTables tables.now) }
+    ensures ok { IfOk result (λ b. first_broken policy.now first (rows_in tables.now) ≡ None) }
+    ensures told { IfOk result (λ b. b ≡ entries_told (rows_in tables.now)) }
+    ensures coherent { IfOk result (λ b. Coherent policy.now (number_before first) b) }
+    ensures kinds { IfOk result (λ b. AreOfKind (record_at b)) }
+    ensures err { IfErr result (λ e. StopsAll e tables.now (first_broken policy.now first (rows_in tables.now))) }
+{
+    let mut listed = RecordMap::with_capacity(alloc, likely_rows(tables))?;
+    add_patrons(alloc, policy, tables, &mut listed)?;
+    add_items(alloc, policy, tables, &mut listed)?;
+    // each patron and item that the other tables name is looked for
+    let mut hinted = listed.with_hints(alloc)?;
+    add_loans(alloc, tables, &mut hinted)?;
+    add_fees(alloc, first, tables, &mut hinted)?;
+    add_closed(alloc, first, tables, &mut hinted)?;
+    add_holds(alloc, tables, &mut hinted)?;
+    let records = Records::from_map(alloc, hinted)?;
+    Ok(records)
+}

@@ -1,0 +1,100 @@
+//! The rows of fees.
+
+ghost use Rattle.std.specs.Prelude.{◌≡◌, ◌∷◌, [], OnOk, option_copied, option_map};
+ghost use Rattle.std.specs.List.{cons_option};
+ghost use Rattle.record_tables.specs.Writing.{HasWidth, with_rows};
+ghost use Rattle.record_tables.specs.Written as Written;
+
+use crate::row_texts::amount_text;
+use circ_records::{Fee, Record, Records};
+use csv_table::TableText;
+use sip_reader::Id;
+use std::alloc::{AllocError, Global};
+
+/// The open fees of a patron, in the order of the patron's list.
+pub(crate) fn write_fees(
+    alloc: Global,
+    text: &mut TableText,
+    records: &Records,
+    patron: &[u8],
+    fees: &[Id],
+) -> Result<(), AllocError>
+    requires { HasWidth 5 text.old }
+    ensures { OnOk result (text.new ≡ with_rows (Written.listed_fees records.now patron.now fees.now) text.old) }
+{
+    for fee in fees {
+        write_open_fee(alloc, text, records, patron, fee)?;
+    }
+    Ok(())
+}
+
+/// The fee that a patron's list names, where it is open.
+fn write_open_fee(
+    alloc: Global,
+    text: &mut TableText,
+    records: &Records,
+    patron: &[u8],
+    id: &Id,
+) -> Result<(), AllocError>
+    requires { HasWidth 5 text.old }
+    ensures { OnOk result (text.new ≡ with_rows (cons_option (option_map (Written.fee_row patron.now id.now) (Written.open_fee_at records.now id.now)) []) text.old) }
+{
+    match open_fee_of(records, id) {
+        Some(fee) => text.row(&[
+            id.as_bytes(),
+            patron,
+            fee.kind.code().as_slice(),
+            amount_text(alloc, fee.amount)?.as_slice(),
+            amount_text(alloc, fee.paid)?.as_slice(),
+        ]),
+        None => Ok(()),
+    }
+}
+
+/// The fee with an id, where it is open.
+fn open_fee_of<'r>(records: &'r Records, id: &Id) -> Option<&'r Fee>
+    ensures { option_copied result ≡ Written.open_fee_at records.now id.now }
+{
+    match records.fee(id) {
+        Some(record) => match record {
+            Record::Fee(fee) => open_alone(fee.get()),
+            Record::Patron(_) | Record::Item(_) => None,
+        },
+        None => None,
+    }
+}
+
+/// A fee, where it is open.
+fn open_alone(fee: &Fee) -> Option<&Fee>
+    ensures { option_copied result ≡ Written.open_alone fee.now }
+{
+    if is_open(fee) { Some(fee) } else { None }
+}
+
+/// Whether something is still to be paid.
+pub(crate) fn is_open(fee: &Fee) -> bool
+    ensures { result ≡ Written.is_open fee.now }
+{
+    fee.paid.hundredths() < fee.amount.hundredths()
+}
+
+/// A fee, where it is paid in full.
+pub(crate) fn write_closed(
+    alloc: Global,
+    text: &mut TableText,
+    id: &[u8],
+    fee: &Fee,
+) -> Result<(), AllocError>
+    requires { HasWidth 4 text.old }
+    ensures { OnOk result (text.new ≡ with_rows (Written.closed_alone id.now fee.now) text.old) }
+{
+    if is_open(fee) {
+        return Ok(());
+    }
+    text.row(&[
+        id,
+        fee.patron.as_bytes(),
+        fee.kind.code().as_slice(),
+        amount_text(alloc, fee.amount)?.as_slice(),
+    ])
+}

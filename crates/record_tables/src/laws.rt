@@ -1,0 +1,18 @@
+//! Laws of the definitions: functions without code, whose contracts are proved of every value.
+
+ghost use Rattle.record_tables.specs.Laws.{EntriesAreTold, WrittenIsTold, WrittenReadsBack};
+
+/// A base has at each key the record that the rows of its tables give.
+pub fn entries_are_told()
+    ensures { EntriesAreTold }
+{}
+
+/// The rows that are written for coherent records give these records: at each key the record that is there.
+pub fn written_is_told()
+    ensures { WrittenIsTold }
+{}
+
+/// Coherent records that were written are read again as they were.
+pub fn written_reads_back()
+    ensures { WrittenReadsBack }
+{}

@@ -1,0 +1,31 @@
+//! The six tables of a library's records: read as a base, which a run begins with, and written of the records that it ends with.
+//!
+//! `read_base` makes records of six tables, or names the first rule that they break; `write_records` makes the tables of records.
+#![tactic(auto)]
+
+mod base;
+mod closed;
+mod fault;
+mod fee_rows;
+mod fees;
+mod item_rows;
+mod items;
+mod known;
+mod laws;
+mod loans;
+mod made_fees;
+mod patron_rows;
+mod patrons;
+mod queues;
+mod row_texts;
+mod rows;
+mod table_texts;
+mod tables;
+mod values;
+mod written;
+
+pub use base::read_base;
+pub use fault::BaseError;
+pub use laws::{entries_are_told, written_is_told, written_reads_back};
+pub use tables::{TableName, Tables};
+pub use written::write_records;

@@ -1,0 +1,113 @@
+//! The table of loans.
+
+ghost use Rattle.std.specs.Prelude.{◌≡◌, ◌++◌, ◌∷◌, [], List, true, false, Some, None, IsSome, IfOk, IfErr, OnOk};
+ghost use Rattle.csv.specs.Records.{fields_of};
+ghost use Rattle.csv_table.specs.Rows.{rows_under};
+ghost use Rattle.record_tables.specs.Base.{broken_loans};
+ghost use Rattle.record_tables.specs.Read.{AreTold, SaysLoan, Stops, rows_in, to_items, to_loans};
+ghost use Rattle.record_tables.specs.Rules as Rules;
+ghost use Rattle.record_tables.specs.Tables.{Row, Rows, field, loans_header};
+ghost use Rattle.record_tables.specs.declared.tables.TableName.TheVariants as table;
+
+use crate::fault::BaseError;
+use crate::rows::{LOANS, TableRows};
+use crate::tables::{TableName, Tables};
+use crate::values::{due_of, renewals_of};
+use circ_records::{BaseRule, Key, ListChange, Loan, RecordMap};
+use csv::ByteRecord;
+use csv_table::column;
+use sip_reader::Id;
+use std::alloc::{AllocError, Global};
+
+/// Adds the loans of the table to the records, or returns the first rule that a row breaks.
+pub(crate) fn add_loans(
+    alloc: Global,
+    tables: &Tables,
+    records: &mut RecordMap,
+) -> Result<(), BaseError>
+    requires told { AreTold (to_items (rows_in tables.now) (rows_in tables.now).items) records.old }
+    ensures read { OnOk result (IsSome (rows_under loans_header tables.now.loans.items)) }
+    ensures ok { OnOk result (broken_loans (rows_in tables.now) ≡ None) }
+    ensures told { OnOk result (AreTold (to_loans (rows_in tables.now) (rows_in tables.now).loans) records.new) }
+    ensures err { IfErr result (λ e. Stops e table.Loans (rows_under loans_header tables.now.loans.items) (broken_loans (rows_in tables.now))) }
+{
+    let mut rows = TableRows::under(alloc, TableName::Loans, &LOANS, &tables.loans)?;
+    let mut row = ByteRecord::new(alloc);
+    while rows.next(&mut row)? {
+        let broken = add_loan(alloc, &row, records)?;
+        if let Some(rule) = broken {
+            return Err(rows.broken(rule));
+        }
+    }
+    Ok(())
+}
+
+/// Adds the loan of a row to its patron's list and its item, or returns the first rule that the row breaks, where these are the
+/// records of the rows before it. A row that breaks one may leave the loan in the list.
+fn add_loan(
+    alloc: Global,
+    row: &ByteRecord,
+    records: &mut RecordMap,
+) -> Result<Option<BaseRule>, AllocError>
+    ensures rule { IfOk result (λ broken. (r : Rows) → AreTold r records.old → broken ≡ Rules.loan_rule r.patrons r.items r.loans (fields_of row.now)) }
+    ensures told { IfOk result (λ broken. broken ≡ None → (r : Rows) (before : List Row) → AreTold (to_loans r before) records.old → Rules.has_row 1 (field 1 (fields_of row.now)) before ≡ false → AreTold (to_loans r (before ++ fields_of row.now ∷ [])) records.new) }
+{
+    match read_loan(alloc, row)? {
+        Ok(said) => put_loan(alloc, said, records),
+        Err(rule) => Ok(Some(rule)),
+    }
+}
+
+/// Adds a loan to its patron's list and its item, or returns the first rule that it breaks there.
+fn put_loan(
+    alloc: Global,
+    said: LoanRow,
+    records: &mut RecordMap,
+) -> Result<Option<BaseRule>, AllocError>
+    ensures rule { IfOk result (λ broken. (r : Rows) (row : Row) → SaysLoan said row → AreTold r records.old → broken ≡ Rules.loan_rule r.patrons r.items r.loans row) }
+    ensures told { IfOk result (λ broken. broken ≡ None → (r : Rows) (before : List Row) (row : Row) → SaysLoan said row → AreTold (to_loans r before) records.old → Rules.has_row 1 (field 1 row) before ≡ false → AreTold (to_loans r (before ++ row ∷ [])) records.new) }
+{
+    let LoanRow { item, loan } = said;
+    let key = Key::Patron(loan.patron.clone()?);
+    let broken = records.change(alloc, key, ListChange::Borrows(item.clone()?))?;
+    if broken.is_some() {
+        return Ok(broken);
+    }
+    let broken = records.change(alloc, Key::Item(item), ListChange::Lent(loan))?;
+    Ok(broken)
+}
+
+/// The loan of an item, as a row has it.
+#[derive(Drop)]
+pub(crate) struct LoanRow {
+    pub(crate) item: Id,
+    pub(crate) loan: Loan,
+}
+
+/// The loan of a row, or the first rule that the row breaks whatever the records are.
+#[tactic(auto, unfolding(crate::specs::Rules::loan_rule, crate::specs::Rules::has_loan_texts, crate::specs::Rules::has_loan_values))]
+fn read_loan(alloc: Global, row: &ByteRecord) -> Result<Result<LoanRow, BaseRule>, AllocError>
+    ensures ok { IfOk result (λ read. IfOk read (λ said. SaysLoan said (fields_of row.now))) }
+    ensures err { IfOk result (λ read. IfErr read (λ rule. (patrons items before : List Row) → Rules.loan_rule patrons items before (fields_of row.now) ≡ Some rule)) }
+{
+    let Some(patron) = Id::read(alloc, column(row, 0))? else {
+        return Ok(Err(BaseRule::Text));
+    };
+    let Some(item) = Id::read(alloc, column(row, 1))? else {
+        return Ok(Err(BaseRule::Text));
+    };
+    let Some(due) = due_of(column(row, 2)) else {
+        return Ok(Err(BaseRule::Value));
+    };
+    let Some(renewals) = renewals_of(column(row, 3)) else {
+        return Ok(Err(BaseRule::Value));
+    };
+    Ok(Ok(LoanRow {
+        item,
+        loan: Loan {
+            patron,
+            due,
+            renewals,
+        },
+    }))
+}

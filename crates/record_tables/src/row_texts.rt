@@ -1,0 +1,52 @@
+//! How the values of a record are written in a row.
+
+ghost use Rattle.std.specs.Prelude.{◌≡◌, ◌<◌, IfOk};
+ghost use Rattle.sip_reader.specs.Amounts as Amounts;
+ghost use Rattle.record_tables.specs.RowTexts as RowTexts;
+
+use sip_reader::{Amount, Day, push_amount};
+use std::alloc::{AllocError, Global};
+
+/// A flag: `Y` or `N`.
+pub(crate) fn flag_text(flag: bool) -> [u8; 1]
+    ensures { result ≡ RowTexts.flag_text flag }
+{
+    if flag { *b"Y" } else { *b"N" }
+}
+
+/// The eight digits of a day.
+#[tactic(auto, unfolding(crate::specs::RowTexts::day_text))]
+pub(crate) fn day_text(day: Day) -> [u8; 8]
+    ensures { result ≡ RowTexts.day_text day }
+{
+    let (year, month, day) = day.parts();
+    date_text(year, month, day)
+}
+
+/// The eight digits of a date.
+fn date_text(year: u16, month: u8, day: u8) -> [u8; 8]
+    requires year { year < 10000 }
+    requires month { month < 100 }
+    requires day { day < 100 }
+    ensures { result ≡ RowTexts.date_text year month day }
+{
+    [
+        b'0' + (year / 1000) as u8,
+        b'0' + (year / 100 % 10) as u8,
+        b'0' + (year / 10 % 10) as u8,
+        b'0' + (year % 10) as u8,
+        b'0' + month / 10,
+        b'0' + month % 10,
+        b'0' + day / 10,
+        b'0' + day % 10,
+    ]
+}
+
+/// An amount with its point and two digits after it.
+pub(crate) fn amount_text(alloc: Global, amount: Amount) -> Result<Vec<u8>, AllocError>
+    ensures { IfOk result (λ text. text.items ≡ Amounts.amount_text amount) }
+{
+    let mut text = Vec::new(alloc);
+    push_amount(&mut text, u128::from(amount.hundredths()))?;
+    Ok(text)
+}

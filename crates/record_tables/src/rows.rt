@@ -1,0 +1,165 @@
+//! The rows of the tables, read one at a time.
+
+ghost use Rattle.std.specs.Prelude.{◌≡◌, ◌<◌, ◌+◌, ◌∷◌, [], true, false, Some, IsSome, map, option_map, IfOk, IfErr, OnOk};
+ghost use Rattle.csv.specs.Records.{fields_of};
+ghost use Rattle.csv_table.specs.Rows.{rows_under};
+ghost use Rattle.record_tables.specs.Base.{Fails, holds_rows_of, rows_of, table_rows};
+ghost use Rattle.record_tables.specs.Read.{AreTables, table_refusal};
+ghost use Rattle.record_tables.specs.Tables.{texts_of};
+ghost use Rattle.record_tables.specs.declared.fault.BaseError.TheVariants as error;
+ghost use Rattle.record_tables.specs.declared.tables.TableName.TheVariants as table;
+
+use crate::fault::BaseError;
+use crate::tables::{TableName, Tables};
+use circ_records::BaseRule;
+use csv::ByteRecord;
+use csv_table::{RowReader, TableError};
+use std::alloc::Global;
+use std::marker::Model;
+
+pub(crate) const PATRONS: [&str; 4] = ["id", "name", "class", "blocked"];
+
+pub(crate) const ITEMS: [&str; 5] = ["id", "title", "media", "location", "properties"];
+
+pub(crate) const LOANS: [&str; 4] = ["patron", "item", "due", "renewals"];
+
+pub(crate) const FEES: [&str; 5] = ["id", "patron", "type", "amount", "paid"];
+
+pub(crate) const CLOSED: [&str; 4] = ["id", "patron", "type", "amount"];
+
+pub(crate) const HOLDS: [&str; 3] = ["item", "patron", "pickup"];
+
+/// The rows of a table under its header. None is stored: each is judged, and its record added, before the next one is read.
+pub(crate) struct TableRows<'t> {
+    table: TableName,
+    reader: RowReader<'t>,
+    /// How many rows were read.
+    count: usize,
+}
+
+impl Drop for TableRows<'_> {
+    fn drop(self) {
+        let TableRows {
+            table: _,
+            reader: _,
+            count: _,
+        } = self;
+    }
+}
+
+impl<'t> Model for TableRows<'t> {
+    ghost use Rattle.std.specs.Prelude.{◌<◌, ◌+◌, ◌^◌};
+    ghost use Rattle.record_tables.specs.Read.{Left};
+
+    ghost Value = { Left };
+
+    ghost view = { λ t. record { table = t.table; count = t.count; size = t.reader.size; rows = t.reader.rows } };
+
+    ghost invariant = { λ t. t.count + t.reader.size < 2 ^ 64 };
+}
+
+impl<'t> TableRows<'t> {
+    /// The rows of a table under its header, which is read at once.
+    pub(crate) fn under(
+        alloc: Global,
+        table: TableName,
+        header: &[&str],
+        text: &'t [u8],
+    ) -> Result<TableRows<'t>, BaseError>
+        ensures table { IfOk result (λ rows. rows.table ≡ table) }
+        ensures count { IfOk result (λ rows. rows.count ≡ 0) }
+        ensures rows { IfOk result (λ rows. rows.rows ≡ rows_under (map (λ name. name.now) header.now) text.now) }
+        ensures err { IfErr result (λ e. Fails e (table_rows table (rows_under (map (λ name. name.now) header.now) text.now))) }
+    {
+        match RowReader::under(alloc, header, text) {
+            Ok(reader) => Ok(TableRows {
+                table,
+                reader,
+                count: 0,
+            }),
+            Err(e) => Err(refusal(table, e)),
+        }
+    }
+
+    /// Reads the next row. Without one, at the end, `row` means nothing.
+    #[inline(always)]
+    pub(crate) fn next(&mut self, row: &mut ByteRecord) -> Result<bool, BaseError>
+        ensures table { self.new.table ≡ self.old.table }
+        ensures row { IfOk result (λ found. found ≡ true → self.old.rows ≡ option_map (λ rest. fields_of row.new ∷ rest) self.new.rows) }
+        ensures count { IfOk result (λ found. found ≡ true → self.new.count ≡ self.old.count + 1) }
+        ensures shorter { IfOk result (λ found. found ≡ true → self.new.size < self.old.size) }
+        ensures end { IfOk result (λ found. found ≡ false → self.old.rows ≡ Some []) }
+        ensures err { IfErr result (λ e. Fails e (table_rows self.old.table self.old.rows)) }
+    {
+        match self.reader.next(row) {
+            Ok(true) => {
+                self.count += 1;
+                Ok(true)
+            }
+            Ok(false) => Ok(false),
+            Err(e) => Err(refusal(self.table, e)),
+        }
+    }
+
+    /// That the row which was read last breaks a rule.
+    pub(crate) fn broken(&self, rule: BaseRule) -> BaseError
+        ensures { result ≡ error.Rule self.now.table self.now.count rule }
+    {
+        BaseError::Rule {
+            table: self.table,
+            row: self.count,
+            rule,
+        }
+    }
+}
+
+/// Why a table gives no rows, by its name.
+fn refusal(table: TableName, e: TableError) -> BaseError
+    ensures { result ≡ table_refusal table e }
+{
+    match e {
+        TableError::Table => BaseError::Table { table },
+        TableError::Memory => BaseError::Memory,
+    }
+}
+
+/// Returns the first text that is no table: a row that breaks a rule stops the reading, and the rest may be no table.
+#[tactic(auto, unfolding(crate::specs::Base::rows_of))]
+pub(crate) fn check_tables(alloc: Global, tables: &Tables) -> Result<(), BaseError>
+    ensures ok { OnOk result (AreTables tables.now) }
+    ensures err { IfErr result (λ e. Fails e (rows_of (texts_of tables.now))) }
+{
+    check_table(alloc, TableName::Patrons, &PATRONS, &tables.patrons)?;
+    check_table(alloc, TableName::Items, &ITEMS, &tables.items)?;
+    check_table(alloc, TableName::Loans, &LOANS, &tables.loans)?;
+    check_table(alloc, TableName::Fees, &FEES, &tables.fees)?;
+    check_table(alloc, TableName::Closed, &CLOSED, &tables.closed)?;
+    check_holds(alloc, &tables.holds)
+}
+
+/// Whether a text is a table under its header.
+fn check_table(
+    alloc: Global,
+    table: TableName,
+    header: &[&str],
+    text: &[u8],
+) -> Result<(), BaseError>
+    ensures ok { OnOk result (IsSome (rows_under (map (λ name. name.now) header.now) text.now)) }
+    ensures err { IfErr result (λ e. Fails e (table_rows table (rows_under (map (λ name. name.now) header.now) text.now))) }
+{
+    let mut rows = TableRows::under(alloc, table, header, text)?;
+    let mut row = ByteRecord::new(alloc);
+    while rows.next(&mut row)? {}
+    Ok(())
+}
+
+/// Whether a text is a table of holds: no bytes at all count as its header alone.
+fn check_holds(alloc: Global, text: &[u8]) -> Result<(), BaseError>
+    ensures ok { OnOk result (IsSome (holds_rows_of text.now)) }
+    ensures err { IfErr result (λ e. Fails e (table_rows table.Holds (holds_rows_of text.now))) }
+{
+    if text.is_empty() {
+        return Ok(());
+    }
+    check_table(alloc, TableName::Holds, &HOLDS, text)
+}

@@ -1,0 +1,141 @@
+//! The six tables while they are written.
+
+ghost use Rattle.std.specs.Prelude.{◌≡◌, [], IfOk, OnOk};
+ghost use Rattle.circ_records.specs.Records.{Entries};
+ghost use Rattle.record_tables.specs.Tables.{texts_of};
+ghost use Rattle.record_tables.specs.Written.{printed};
+ghost use Rattle.circ_records.specs.declared.key.Key.TheVariants as key_of;
+ghost use Rattle.circ_records.specs.declared.record.Record.TheVariants as record_of;
+
+use crate::fee_rows::{write_closed, write_fees};
+use crate::item_rows::{write_holds, write_item};
+use crate::patron_rows::{write_loans, write_patron};
+use crate::rows::{CLOSED, FEES, HOLDS, ITEMS, LOANS, PATRONS};
+use crate::tables::Tables;
+use circ_records::{Fee, Item, Key, Patron, Record, Records};
+use csv_table::TableText;
+use std::alloc::{AllocError, Global};
+
+/// The texts of the tables while they are written. Where memory runs out all six are dropped (`written.rt`), so nothing is
+/// said of what they then hold.
+pub(crate) struct TableTexts {
+    pub(crate) patrons: TableText,
+    pub(crate) items: TableText,
+    pub(crate) loans: TableText,
+    pub(crate) fees: TableText,
+    pub(crate) closed: TableText,
+    pub(crate) holds: TableText,
+}
+
+impl Drop for TableTexts {
+    fn drop(self) {
+        let TableTexts {
+            patrons: _,
+            items: _,
+            loans: _,
+            fees: _,
+            closed: _,
+            holds: _,
+        } = self;
+    }
+}
+
+impl TableTexts {
+    ghost use Rattle.record_tables.specs.Writing.{AreOf, Gains, HasWidths, Holds};
+
+    /// The headers alone.
+    pub(crate) fn new(alloc: Global) -> Result<TableTexts, AllocError>
+        ensures { IfOk result (λ texts. (all : Entries) → Holds all [] texts) }
+    {
+        Ok(TableTexts {
+            patrons: TableText::under(alloc, &PATRONS)?,
+            items: TableText::under(alloc, &ITEMS)?,
+            loans: TableText::under(alloc, &LOANS)?,
+            fees: TableText::under(alloc, &FEES)?,
+            closed: TableText::under(alloc, &CLOSED)?,
+            holds: TableText::under(alloc, &HOLDS)?,
+        })
+    }
+
+    /// Writes what an entry of the records has in each table.
+    pub(crate) fn entry(
+        &mut self,
+        alloc: Global,
+        records: &Records,
+        key: &Key,
+        record: &Record,
+    ) -> Result<(), AllocError>
+        requires { HasWidths self.old }
+        ensures { OnOk result (Gains records.now (key.now, «record».now) self.old self.new) }
+    {
+        match key {
+            Key::Patron(id) => match record {
+                Record::Patron(patron) => self.patron(alloc, records, id.as_bytes(), patron.get()),
+                Record::Item(_) | Record::Fee(_) => Ok(()),
+            },
+            Key::Item(id) => match record {
+                Record::Item(item) => self.item(id.as_bytes(), item.get()),
+                Record::Patron(_) | Record::Fee(_) => Ok(()),
+            },
+            Key::Fee(id) => match record {
+                Record::Fee(fee) => self.fee(alloc, id.as_bytes(), fee.get()),
+                Record::Patron(_) | Record::Item(_) => Ok(()),
+            },
+        }
+    }
+
+    /// A patron, and what the lists of loans and open fees name.
+    fn patron(
+        &mut self,
+        alloc: Global,
+        records: &Records,
+        id: &[u8],
+        patron: &Patron,
+    ) -> Result<(), AllocError>
+        requires { HasWidths self.old }
+        ensures { OnOk result (Gains records.now (key_of.Patron id.now, record_of.Patron patron.now) self.old self.new) }
+    {
+        write_patron(&mut self.patrons, id, patron)?;
+        write_loans(&mut self.loans, records, id, patron.loans.as_slice())?;
+        write_fees(alloc, &mut self.fees, records, id, patron.fees.as_slice())
+    }
+
+    /// An item and its queue.
+    fn item(&mut self, id: &[u8], item: &Item) -> Result<(), AllocError>
+        requires { HasWidths self.old }
+        ensures { OnOk result ((all : Entries) → Gains all (key_of.Item id.now, record_of.Item item.now) self.old self.new) }
+    {
+        write_item(&mut self.items, id, item)?;
+        write_holds(&mut self.holds, id, item.holds.as_slice())
+    }
+
+    /// A fee, where it is paid in full.
+    fn fee(&mut self, alloc: Global, id: &[u8], fee: &Fee) -> Result<(), AllocError>
+        requires { HasWidths self.old }
+        ensures { OnOk result ((all : Entries) → Gains all (key_of.Fee id.now, record_of.Fee fee.now) self.old self.new) }
+    {
+        write_closed(alloc, &mut self.closed, id, fee)
+    }
+
+    /// The texts.
+    pub(crate) fn finish(self) -> Result<Tables, AllocError>
+        ensures { IfOk result (λ tables. AreOf self (texts_of tables)) }
+    {
+        let TableTexts {
+            patrons,
+            items,
+            loans,
+            fees,
+            closed,
+            holds,
+        } = self;
+        Ok(Tables {
+            patrons: patrons.finish()?,
+            items: items.finish()?,
+            loans: loans.finish()?,
+            fees: fees.finish()?,
+            closed: closed.finish()?,
+            holds: holds.finish()?,
+        })
+    }
+}

@@ -33,8 +33,8 @@ use Rattle.board_lines.specs.Courses.{FirstPlaced, FirstPlacedBut, IsUnderWay, U
 use Rattle.board_lines.specs.Parts.{Kept, Parts, no_notes, row_with, row_by, state_of, board_of, kept_at, HandsHold, IsKept}
 use Rattle.board_lines.specs.declared.row.LineProgress.{LineProgress}
 use Rattle.board_lines.specs.Hands.{notes_of}
-use Rattle.board_lines.specs.declared.publishing.PublishAct.{PublishAct}
-use Rattle.board_lines.specs.declared.publishing.PublishAct.TheVariants as acts
+use Rattle.board_lines.specs.declared.acts.PublishAct.{PublishAct}
+use Rattle.board_lines.specs.declared.acts.PublishAct.TheVariants as acts
 use Rattle.board_lines.proofs.Boards.{Puts, place_of, row_there, board_is, row_new, row_old, kept_put}
 use Rattle.board_lines.proofs.Hands.{hand_same, hand_put}
 use Rattle.board_lines.proofs.Moves.{puts_of, board_eq}

@@ -1,4 +1,4 @@
--- One act of a publication: which line it is for, and what it does (the board: publish).
+-- One act of a publication: which line it is for, and what it does.
 use Rattle.std.specs.Prelude.{◌≡◌, ◌≢◌, ℕ, suc, ◌<◌, Bool, true, false, List, Option, Some, None, slice_get}
 use Rattle.std.specs.FinMap.{get}
 use Rattle.circ_records.specs.Records.{Entries}
@@ -14,8 +14,8 @@ use Rattle.board_steps.specs.Board.State.{Placing}
 use Rattle.board_steps.specs.Steps.{MayPublish, IsNextWrite, AllPlaced, IsNextLeft, NoneLeft}
 use Rattle.board_lines.specs.Hands.{notes_of}
 use Rattle.board_lines.specs.declared.hand.Hand.{Hand}
-use Rattle.board_lines.specs.declared.publishing.PublishAct.{PublishAct}
-use Rattle.board_lines.specs.declared.publishing.PublishAct.TheVariants as acts
+use Rattle.board_lines.specs.declared.acts.PublishAct.{PublishAct}
+use Rattle.board_lines.specs.declared.acts.PublishAct.TheVariants as acts
 
 -- a line in this state is to be published
 abbrev pub publishes : LineState → Bool

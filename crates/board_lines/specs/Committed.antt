@@ -1,4 +1,4 @@
--- What the lines of a board give of a committed line (the board: a finished run).
+-- What a board gives of a committed line.
 use Rattle.std.specs.Prelude.{Option, None}
 use Rattle.sip_answer.specs.declared.answer.Answer.{Answer}
 use Rattle.board_steps.specs.Board.{State}

@@ -1,4 +1,4 @@
--- How far the publication of a version has come (the board: publish; its cursor).
+-- How far the publication of a version has come.
 use Rattle.std.specs.Prelude.{◌≡◌, ℕ, suc, ◌<◌, ◌⊎◌, List, Option, Some, None, slice_get}
 use Rattle.circ_records.specs.Records.{Entries}
 use Rattle.circ_records.specs.declared.key.Key.{Key}
@@ -12,8 +12,8 @@ use Rattle.board_steps.specs.Steps.{IsVersion}
 use Rattle.board_steps.specs.Steps.Call.{Publish}
 use Rattle.board_lines.specs.Acts.{IsPlacedAt, IsPlacing}
 use Rattle.board_lines.specs.Replies.{Answers}
-use Rattle.board_lines.specs.declared.publishing.PublishAct.{PublishAct}
-use Rattle.board_lines.specs.declared.publishing.PublishAct.TheVariants as acts
+use Rattle.board_lines.specs.declared.acts.PublishAct.{PublishAct}
+use Rattle.board_lines.specs.declared.acts.PublishAct.TheVariants as acts
 use Rattle.board_lines.specs.declared.reply.Reply.{Reply}
 use Rattle.board_lines.specs.declared.row.LineProgress.{LineProgress}
 

@@ -1,4 +1,4 @@
--- What a worker has in hand, and what the counts are (the board: a worker has at most one line in hand, the counts balance).
+-- Which line a worker has in hand, at most one, and what the board counts.
 use Rattle.std.specs.Prelude.{◌≡◌, ◌≢◌, ℕ, suc, ◌<◌, List, [], Option, Some, None}
 use Rattle.attempts.specs.declared.counts.Counts.{Counts}
 use Rattle.read_set.specs.Plans.{Planned}

@@ -67,7 +67,7 @@ notes_by base notes = map (note_by base) notes
 abbrev pub is_noted : List Noted → Key → Bool
 is_noted notes k = list_any (λ n. is_at (key_cmp k) n.key) notes
 
--- a note has no place just where its name is the base's: the base's record is in no version
+-- exactly the notes named by the base have no place: the base's record is in no version
 abbrev pub IsPlaced : Noted → Type 0
 IsPlaced n = (n.name ≡ names.Base) ↔ (n.contents ≡ None)
 

@@ -1,16 +1,16 @@
 //! The lines of the board: the attempt that each is at, what each has noted and published, and which worker has it in hand.
-//! Each value of them is one that some list of steps leads to.
+//! A value of `Lines` is a state that some steps lead to.
 //!
-//! `Lines` has the five calls `take`, `look`, `publish`, `check` and `commit`; each is one step of `board_steps`. It uses the
+//! `Lines` has the five calls `take`, `look`, `publish`, `check` and `commit`; each is one step of `board_steps`. The first and the
+//! last are in `lines`, each of the others in a child of it; the child `committed` has what a line gives in the end. `Lines` uses the
 //! versions and entries of `version_store` and the states of `attempts`; it knows no message and no table. `speculate` adds to the
 //! lines the sets from which a free worker chooses.
 #![tactic(auto)]
 
-mod committed;
+mod acts;
 mod hand;
 mod lines;
 mod notes;
-mod publishing;
 mod reading;
 mod reply;
 mod row;

@@ -64,7 +64,7 @@ const FIRST_ROOM: usize = 2;
 /// The notes of a line that has some, in the order of looking.
 struct NoteList<'t, J: PlanName> {
     notes: Vec<PlaceNote<'t, J>>,
-    /// The keys again that aren't among the first few, to be found. Most lines never have it.
+    /// The keys of all notes but the first few, as an index. Most lines never have it.
     index: Option<Box<BTreeSet<Key>>>,
 }
 
@@ -161,7 +161,7 @@ impl<'t, J: PlanName> PlaceNotes<'t, J> {
         }
     }
 
-    /// One more note, of a key that isn't noted; it has no place just where its name is the base's. The first uses the spare
+    /// One more note, of a key that isn't noted; it has no place if and only if it is the base's. The first uses the spare
     /// memory. Out of memory, nothing changes.
     pub(crate) fn add(
         &mut self,
@@ -204,7 +204,7 @@ impl<'t, J: PlanName> PlaceNotes<'t, J> {
         key
     }
 
-    /// How many there are. No key is noted twice, and a note has no place just where its name is the base's.
+    /// How many there are. No key is noted twice, and exactly the notes of the base have no place.
     pub fn len(&self) -> usize
         ensures count { result ≡ length self.now }
         ensures once { AreOnce self.now }
@@ -344,7 +344,7 @@ fn is_indexed(index: &Option<Box<BTreeSet<Key>>>, key: &Key) -> bool
     }
 }
 
-/// One more key in the index, which the first key makes. Out of memory, it has the keys that it had.
+/// Adds a key to the index, which is made for the first one. Out of memory, no key is added.
 fn enter(alloc: Global, index: &mut Option<Box<BTreeSet<Key>>>, key: &Key) -> Result<(), AllocError>
     ensures put { OnOk result ((q : Key) → is_indexed index.new q ≡ cond (eq_by_cmp key_cmp key.now q) true (is_indexed index.old q)) }
     ensures same { OnErr result ((q : Key) → is_indexed index.new q ≡ is_indexed index.old q) }

@@ -22,7 +22,7 @@ pub enum Reply<'t, J: PlanName> {
     Suspect {
         line: u64,
     },
-    /// The version isn't of the board's line, attempt and notes.
+    /// The version is of another line, attempt or notes.
     Stranger,
     /// The next write was placed.
     Placed,
@@ -32,7 +32,7 @@ pub enum Reply<'t, J: PlanName> {
     Whole,
     /// The noted name is that of the visible entry.
     Same,
-    /// It isn't: the line waits again, and its entries are suspect.
+    /// It differs: the line waits again, its entries are suspect.
     Changed {
         key: Key,
         noted: Name,
@@ -42,7 +42,7 @@ pub enum Reply<'t, J: PlanName> {
     Committed,
     /// The line can't commit yet.
     Later,
-    /// The line has no attempt left.
+    /// The attempt number can't grow.
     Attempts {
         line: u64,
     },

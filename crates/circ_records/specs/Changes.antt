@@ -33,7 +33,7 @@ broken_hold patron item =
     else if nat_le QUEUE_MAX (length item.holds) then Some rule.Queue
     else None
 
--- the rule that a change breaks by the record that it finds: there is none of its kind, or the item isn't free
+-- the rule that a change breaks, by the record at its key: it isn't of the right kind, or the item isn't free
 abbrev pub broken_by : ListChange → Option Record → Option BaseRule
 broken_by (change.Borrows item) (Some (record_of.Patron p)) = None
 broken_by (change.Borrows item) o = Some rule.Patron

@@ -1,4 +1,4 @@
--- Coherent records: what a library's records are under its policy, before the line with a number is taken.
+-- Coherent records: what a library's records are under its policy, before the line of a number is run.
 use Rattle.std.specs.Prelude.{◌≡◌, ◌≤◌, ℕ, Bool, true, false, not, ◌&&◌, nat_lt, List, [], ◌∷◌, length, map, Option, Some, None, is_some}
 use Rattle.std.specs.List.{list_all, list_any}
 use Rattle.circ_policy.specs.Policy.{media_of}
@@ -45,7 +45,7 @@ is_of_kind (key.Item id) (record_of.Item i) = true
 is_of_kind (key.Fee id) (record_of.Fee f) = true
 is_of_kind k r = false
 
--- each record is of its key's kind, as in a base that was read: none counts as none
+-- each record is of its key's kind, as in a base that was read: none is ignored
 abbrev pub AreOfKind : Map → Type 0
 AreOfKind m = (k : Key) (r : Record) → m k ≡ Some r → is_of_kind k r ≡ true
 
@@ -122,7 +122,7 @@ pub record IsCoherentMap (policy : Terms) (n : ℕ) (m : Map) : Type 0 where
   pub items : (id : List ℕ) (i : Item) → as_item (m (key.Item id)) ≡ Some i → IsCoherentItem policy m id i
   pub fees : (id : List ℕ) (f : Fee) → as_fee (m (key.Fee id)) ≡ Some f → IsCoherentFee n m id f
 
--- the number before which a base is coherent: that of the journal's first line, and after all numbers where it has none
+-- the number before which a base is coherent: that of the journal's first line; without lines, one past all numbers
 abbrev pub number_before : Option ℕ → ℕ
 number_before None = line_number_end
 number_before (Some first) = first

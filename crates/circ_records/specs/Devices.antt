@@ -1,4 +1,4 @@
--- Devices of proofs: how things are stored or counted. No promise is read here.
+-- For proofs alone: how things are stored or counted. No promise needs it.
 pub mod Behind
 pub mod IdLists
 pub mod KeyRefs

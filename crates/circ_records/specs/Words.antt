@@ -3,7 +3,7 @@ use Rattle.std.specs.Prelude.{ℕ, List, codes}
 use Rattle.circ_records.specs.declared.rule.BaseRule.{BaseRule}
 use Rattle.circ_records.specs.declared.rule.BaseRule.TheVariants as rule
 
--- the rules of a base (the profile of this project)
+-- the rules of a base (FORMATS.md, section 5)
 abbrev pub rule_word : BaseRule → List ℕ
 rule_word rule.Text = codes "text"
 rule_word rule.Value = codes "value"

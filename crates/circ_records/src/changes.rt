@@ -1,4 +1,4 @@
-//! Records changed in place: what a row changes of a record of an earlier table, and a fee that is listed.
+//! Records changed in place: by a row of a later table (loans, fees, holds), or by one more fee.
 
 ghost use Rattle.std.specs.Prelude.{◌≡◌, ◌++◌, ◌∷◌, [], OnOk, OnErr, IfOk, Some, None, is_some};
 ghost use Rattle.circ_records.specs.Changes.{broken_by, broken_hold, changed};
@@ -12,7 +12,7 @@ use crate::shared::Shared;
 use sip_reader::Id;
 use std::alloc::{AllocError, Global};
 
-/// What a row of loans, fees or holds changes of a patron or an item.
+/// What a row of loans, fees or holds changes in a record.
 #[derive(Drop)]
 pub enum ListChange {
     /// The item is appended to the patron's loans.

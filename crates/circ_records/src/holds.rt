@@ -4,7 +4,7 @@ use sip_reader::{Id, Text};
 use std::alloc::{AllocError, Global};
 use std::marker::Model;
 
-/// A patron's position in the queue of an item.
+/// An entry of the queue of an item.
 pub struct Hold {
     pub patron: Id,
     /// Where the patron wants to pick it up; empty where no place was given.

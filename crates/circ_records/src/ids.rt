@@ -21,8 +21,8 @@ impl Drop for Ids {
     }
 }
 
-/// The ids of a list: those of a short one in one block of memory of just their number, those of a longer one in the block of a
-/// `Vec`, which is in another block.
+/// The ids of a list: a short one in one block of memory, exactly as large as its ids; a longer one as a shared `Vec`, which takes
+/// two blocks.
 enum IdBlock {
     None,
     One(Shared<[Id; 1]>),
@@ -149,7 +149,7 @@ impl IdBlock {
         }
     }
 
-    /// The same for a list of three or more. A call reserves stack for the longest of its lists first, so this is a function of its own.
+    /// The same for a list of three or more. Its own function, since a call reserves stack for the longest of its lists.
     #[inline(never)]
     fn of_three_or_more(alloc: Global, ids: &[Id], last: Id) -> Result<IdBlock, AllocError>
         ensures { IfOk result (λ held. ids_held held ≡ ids.now ++ last ∷ []) }

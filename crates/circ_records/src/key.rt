@@ -93,7 +93,7 @@ impl KeyRef<'_> {
         }
     }
 
-    /// The same key, its id owned. It takes no memory.
+    /// The same key, its id owned. Allocates nothing.
     pub(crate) fn to_key(&self) -> Result<Key, AllocError>
         ensures { IfOk result (λ key. key ≡ key_of self.now) }
     {
@@ -104,7 +104,7 @@ impl KeyRef<'_> {
         }
     }
 
-    /// How another key is ordered against it.
+    /// `Less` where `key` comes before self.
     pub(crate) fn order(&self, key: &Key) -> Ordering
         ensures { result ≡ key_cmp key.now (key_of self.now) }
     {
@@ -124,7 +124,7 @@ impl KeyRef<'_> {
     }
 }
 
-/// A clone is the same key. It takes no memory.
+/// A clone is the same key. Allocates nothing.
 impl Clone for Key {
     ghost use Rattle.std.specs.Prelude.{◌≡◌};
 

@@ -12,14 +12,14 @@ use std::alloc::{AllocError, Global};
 /// The number of slots for each record: with fewer, more records would find theirs taken.
 const SLOTS_A_RECORD: usize = 4;
 
-/// The number of slots that are looked at for a key, whoever chose the ids: a record for which all of them are taken has none.
+/// At most this many slots are tried for a key, also where ids collide on purpose: a record that finds them taken has no slot.
 const TRIES: usize = 8;
 
 /// The content of a slot that no record took.
 const FREE: u32 = u32::MAX;
 
-/// A hash table with the positions of most records of a list, by the hashes of their ids. A position is a hint: the list is looked at
-/// there, and halved where it has another key. So only the time of a look-up depends on the hints.
+/// A hash table with the positions of most records of a list, by the hashes of their ids. A position is a hint: if the list has
+/// another key there, binary search follows. So only the time of a look-up depends on the hints.
 pub(crate) struct PositionHints {
     slots: Vec<u32>,
     /// At most this many slots are taken.
@@ -33,7 +33,7 @@ impl Drop for PositionHints {
 }
 
 impl PositionHints {
-    /// No hints, also for records that are added.
+    /// No hints, not for added records either.
     pub(crate) fn none(alloc: Global) -> PositionHints {
         PositionHints {
             slots: Vec::new(alloc),

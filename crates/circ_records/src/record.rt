@@ -9,7 +9,7 @@ use circ_policy::MediaType;
 use sip_reader::{Amount, Day, Id, Text};
 use std::alloc::{AllocError, Global};
 
-/// A patron, an item or a fee. It is in memory once, for itself and for its copies.
+/// A patron, an item or a fee, reference-counted: copies share its memory.
 #[derive(Drop)]
 pub enum Record {
     Patron(Shared<Patron>),
@@ -257,7 +257,7 @@ impl Clone for Record {
 }
 
 impl Patron {
-    /// The same patron. It takes no memory beyond its own fields.
+    /// The same patron. Allocates nothing.
     #[inline(always)]
     pub fn copy(&self) -> Result<Patron, AllocError>
         ensures { IfOk result (λ p. p ≡ self.now) }

@@ -77,8 +77,8 @@ impl RecordList {
         }
     }
 
-    /// The position of a key, or else the position at which it would have to be inserted. A hint of it is tried first, then
-    /// whether the key comes after all others, and then the list is halved.
+    /// The position of a key, or else the position at which it would have to be inserted. First a hint is tried, then whether
+    /// the key comes after all others, then binary search.
     pub(crate) fn position(&self, key: &KeyRef<'_>) -> Result<usize, usize>
         requires { AreRising self.now.entries.items }
         ensures { result ≡ position_from 0 (key_of key.now) self.now.entries.items }
@@ -96,11 +96,11 @@ impl RecordList {
         if self.goes_last(key) {
             Err(self.entries.len())
         } else {
-            self.halved(key)
+            self.by_binary_search(key)
         }
     }
 
-    fn halved(&self, key: &KeyRef<'_>) -> Result<usize, usize>
+    fn by_binary_search(&self, key: &KeyRef<'_>) -> Result<usize, usize>
         requires { AreRising self.now.entries.items }
         ensures { result ≡ position_from 0 (key_of key.now) self.now.entries.items }
     {

@@ -6,11 +6,11 @@ use std::fmt;
 /// The rules for the rows of tables, in the order in which a row is tested by them.
 #[derive(Clone, Copy, Debug, PartialEq, Eq)]
 pub enum BaseRule {
-    /// An id has 1 to 64 bytes, another text at most 1,024, and neither a bar, CR or LF.
+    /// An id has 1 to 64 bytes, another text at most 1,024, with no bar, CR or LF.
     Text,
     /// Flags, days, numbers, fee types and amounts have their forms.
     Value,
-    /// The id came before.
+    /// An id occurs twice.
     Double,
     /// The policy has no such class.
     Class,
@@ -20,7 +20,7 @@ pub enum BaseRule {
     Patron,
     /// There is no such item.
     Item,
-    /// The item is in an earlier loan.
+    /// An earlier row lends the item.
     Lent,
     /// What is paid isn't below the amount of an open fee.
     Paid,

@@ -9,7 +9,7 @@ use std::marker::Model;
 use std::ops::Deref;
 use std::sync::Arc;
 
-/// A value that is in memory once, for itself and for its copies.
+/// A reference-counted value: its copies share its memory.
 pub struct Shared<T> {
     held: Arc<T>,
 }

@@ -1,19 +1,29 @@
 -- What the getters of clap read, of the rows that its own definition gives the words.
-use Rattle.std.proofs.Common.{refl, ap, ◌∙◌, ◌≡◌, ℕ, List, [], Option, Some, None, Result, Ok, Err}
+use Rattle.std.proofs.Common.{refl, ap, subst, ◌∙◌, ◌≡◌, ℕ, Bool, List, [], Option, Some, None, Result, Ok, Err, codes, false, true}
 use Rattle.std.specs.Prelude.{unwrap_or}
 use Rattle.std.specs.Str.Parse.{ParsesUnsigned}
-use Rattle.clap.specs.Words.{Row, ReadsOne, Text, all_of, first_of, first_value, rows_of}
+use Rattle.clap.specs.Words.{App, HasMatchesOf, ReadsOne, Text, all_of, app_of, first_of, first_value, found_of, is_simple, matches_of, one_of, one_text, rows_of, takes}
+use Rattle.std.specs.Result.{IfErr, IsErrAnd}
+use Rattle.command_line.specs.declared.refusal.Refusal.{Refusal}
+use Rattle.command_line.specs.declared.refusal.Refusal.TheVariants.{Memory}
+use Rattle.clap.specs.declared.builder.command.Command.{Command}
+use Rattle.clap.specs.declared.parser.matches.ArgMatches.{ArgMatches}
 use Rattle.clap.specs.declared.parser.matches.Found.{Found}
-use Rattle.clap.proofs.WalkLemmas.{first_value-rows, raw_values-rows}
-use Rattle.command_line.specs.CommandLine.{Counts, values_of}
+use Rattle.clap.proofs.WalkLemmas.{first_value-rows, one_text-rows, raw_values-rows}
+use Rattle.command_line.specs.CommandLine.{Counts, Says, values_of}
+
+-- what a line gives the words is what was read
+pub rows_of_line : (c : Command) (line : App) (words : List Text) (m : ArgMatches) → app_of c ≡ line → is_simple line ≡ true
+    → HasMatchesOf (app_of c) words m → rows_of (found_of m) ≡ matches_of line words
+rows_of_line c line words m same simple h = (h (ap is_simple same ∙ simple)).0 ∙ ap (λ a. matches_of a words) same
 
 -- a text that a getter reads is one of the rows
-pub of_rows : (f : Found) (rows : List Row) → rows_of f ≡ rows → (id : Text) (t : Option Text) → t ≡ first_value f id → t ≡ first_of id rows
-of_rows f rows same id t is = is ∙ first_value-rows f id ∙ ap (first_of id) same
+pub of_rows : (f : Found) (id : Text) (t : Option Text) → t ≡ first_value f id → t ≡ first_of id (rows_of f)
+of_rows f id t is = is ∙ first_value-rows f id
 
 -- the same of all texts of a name
-pub all_of_rows : (f : Found) (rows : List Row) → rows_of f ≡ rows → (id : Text) (ts : List Text) → ts ≡ values_of f id → ts ≡ unwrap_or (all_of id rows) []
-all_of_rows f rows same id ts is = is ∙ ap (λ (o : Option (List Text)). unwrap_or o []) (raw_values-rows f id ∙ ap (all_of id) same)
+pub all_of_rows : (f : Found) (id : Text) (ts : List Text) → ts ≡ values_of f id → ts ≡ unwrap_or (all_of id (rows_of f)) []
+all_of_rows f id ts is = is ∙ ap (λ (o : Option (List Text)). unwrap_or o []) (raw_values-rows f id)
 
 -- what is read of a number
 pub counts : (default : ℕ) (E : Type 0) (G : List ℕ → Result ℕ E → Type 0) → ((u : List ℕ) (x : Result ℕ E) → G u x → ParsesUnsigned 32 10 u x)
@@ -23,3 +33,19 @@ counts default E G only (Some t) (Some v) none value = λ numeral small. (only t
 counts default E G only (Some t) None none value = λ numeral small.
     let failed = value t refl in
     absurd (only t (Err failed.0) failed.1 (numeral, small))
+
+says : (o : Option Text) (b : Bool) → (o ≡ None → b ≡ false) → (o ≡ Some (codes "true") → b ≡ true)
+    → (o ≡ Some (codes "false") → b ≡ false) → Says o b
+says None b none is isnt = none refl
+says (Some t) b none is isnt = (λ e. is (ap Some e), λ e. isnt (ap Some e))
+
+-- what is read of a flag
+pub says_rows : (f : Found) (id : Text) (b : Bool) → (one_text f id ≡ None → b ≡ false) → (one_text f id ≡ Some (codes "true") → b ≡ true)
+    → (one_text f id ≡ Some (codes "false") → b ≡ false) → Says (one_of id (rows_of f)) b
+says_rows f id b none is isnt = subst (λ o. Says o b) (one_text-rows f id) (says (one_text f id) b none is isnt)
+
+-- a refusal that is handed on comes of words that the line doesn't take, or of memory
+pub still_accepts : {X : Type 0} (r : Result X Refusal) (e : Refusal) (c : Command) (line : App) (words : List Text) → app_of c ≡ line
+    → IsErrAnd r (λ f. f ≡ e) → (takes (app_of c) words ≡ true → e ≡ Memory) → IfErr r (λ f. takes line words ≡ true → f ≡ Memory)
+still_accepts (Ok x) e c line words same given accepts = tt
+still_accepts (Err f) e c line words same given accepts = λ taken. given ∙ accepts (ap (λ a. takes a words) same ∙ taken)

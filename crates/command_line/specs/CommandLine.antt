@@ -5,11 +5,11 @@ use Rattle.std.specs.Str.Parse.{IsNumeral, digits_value, without_leading_plus}
 use Rattle.clap.specs.Words.{App, Row, Rule, Text, first_of, one_of, new_app, new_rule}
 use Rattle.clap.specs.Words.{with_rule}
 use Rattle.clap.specs.Simple.{on_top}
-use Rattle.clap.specs.Words.{IsParsedFrom, IsPlainArg, first_value, found_of, matched_of, matches_of, raw_values, takes}
-use Rattle.clap.specs.declared.builder.action.ArgAction.TheVariants.{Set, SetTrue}
+use Rattle.clap.specs.Words.{AddsArg, AddsInTurn, IsPlainArg, app_of, args_of, first_value, groups_of, matched_of, matches_of, raw_values, takes}
+use Rattle.clap.specs.declared.builder.action.ArgAction.TheVariants.{Append, Set, SetTrue}
 use Rattle.clap.specs.declared.builder.arg.Arg.{Arg}
 use Rattle.clap.specs.declared.builder.command.Command.{Command}
-use Rattle.clap.specs.declared.parser.matches.ArgMatches.{ArgMatches}
+use Rattle.clap.specs.declared.builder.command.Command.TheViews.{out-Command as fields_of}
 use Rattle.clap.specs.declared.parser.matches.Found.{Found}
 use Rattle.clap.specs.declared.builder.value_parser.ValueParser.TheVariants.{Signed}
 use Rattle.command_line.specs.declared.chosen.Options.{Options}
@@ -18,21 +18,21 @@ use Rattle.command_line.specs.declared.chosen.Options.{Options}
 abbrev pub path_rule : Text → Rule
 path_rule name = record (new_rule name) { long = Some name; value_names = 1; required = true; action = Some Set }
 
--- how many workers, a u32
-abbrev pub workers_rule : Rule
-workers_rule = record (new_rule (codes "workers")) {
-  long = Some (codes "workers");
-  value_names = 1;
-  parser = Some (Signed (pos 0) (pos 4294967295));
-}
+-- an option that takes a value and may be left out
+abbrev pub optional_rule : Text → Rule
+optional_rule name = record (new_rule name) { long = Some name; value_names = 1 }
 
--- whether what to do is printed too: a flag
-abbrev pub explain_rule : Rule
-explain_rule = record (new_rule (codes "explain")) { long = Some (codes "explain"); action = Some SetTrue }
+-- an option that takes a u32
+abbrev pub number_rule : Text → Rule
+number_rule name = record (optional_rule name) { parser = Some (Signed (pos 0) (pos 4294967295)) }
 
--- whether the inputs are checked, and nothing is written: a flag
-abbrev pub check_rule : Rule
-check_rule = record (new_rule (codes "check")) { long = Some (codes "check"); action = Some SetTrue }
+-- an option that may be given several times
+abbrev pub repeated_rule : Text → Rule
+repeated_rule name = record (optional_rule name) { action = Some Append }
+
+-- a flag: it is given or not
+abbrev pub flag_rule : Text → Rule
+flag_rule name = record (new_rule name) { long = Some name; action = Some SetTrue }
 
 -- a command line whose program prints its version
 abbrev pub versioned : App → App
@@ -43,7 +43,7 @@ unfoldable pub sip_replay_line : App
 sip_replay_line =
     with_rule (with_rule (with_rule (with_rule (with_rule (with_rule (with_rule (versioned (new_app (codes "sip_replay")))
     (path_rule (codes "policy"))) (path_rule (codes "base"))) (path_rule (codes "journal")))
-    (path_rule (codes "out"))) workers_rule) explain_rule) check_rule
+    (path_rule (codes "out"))) (number_rule (codes "workers"))) (flag_rule (codes "explain"))) (flag_rule (codes "check"))
 
 -- a number: that of the text that clap reads, and this one where there is none
 abbrev pub Counts : ℕ → Option Text → ℕ → Type 0
@@ -83,13 +83,23 @@ values_of found name = unwrap_or (option_map raw_values (matched_of found name))
 abbrev pub IsOwnArg : Text → Arg → Type 0
 IsOwnArg name a = (a.id.now ≡ name) × (a.global ≡ false) × IsPlainArg a
 
--- an accepted line has a text for each path
-abbrev pub HasPath : Command → Text → Type 0
-HasPath c name = (m : ArgMatches) → IsParsedFrom c m
-    → is_some (first_value (found_of m) name) ≡ true
+-- this name has a value
+abbrev pub HasValue : Found → Text → Type 0
+HasValue found name = is_some (first_value found name) ≡ true
 
-pub record HasPaths (c : Command) : Type 0 where
-  pub policy : HasPath c (codes "policy")
-  pub base : HasPath c (codes "base")
-  pub journal : HasPath c (codes "journal")
-  pub out : HasPath c (codes "out")
+-- each path has a value
+pub record HasPaths (found : Found) : Type 0 where
+  pub policy : HasValue found (codes "policy")
+  pub base : HasValue found (codes "base")
+  pub journal : HasValue found (codes "journal")
+  pub out : HasValue found (codes "out")
+
+-- the command of a program that prints its version, with these arguments
+pub record IsProgram (name : Text) (args : List Arg) (c : Command) : Type 0 where
+  pub bare : Command
+  pub app : app_of bare ≡ versioned (new_app name)
+  pub no_args : args_of bare ≡ []
+  pub no_groups : groups_of bare ≡ []
+  pub no_globals : (fields_of bare).has_globals ≡ false
+  pub no_negates : (fields_of bare).subcommand_negates_reqs ≡ false
+  pub adds : AddsInTurn AddsArg bare args c

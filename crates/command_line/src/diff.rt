@@ -1,14 +1,14 @@
 //! The words of the command line of `sip_diff`, read by `clap`.
-ghost use Rattle.std.specs.Prelude.{◌≡◌, IfErr, IfOk, codes, map, true};
-ghost use Rattle.clap.specs.Words.{app_of, matches_of, rule_of, takes};
+ghost use Rattle.std.specs.Prelude.{◌≡◌, IfErr, IfOk, map, true};
 ghost use Rattle.clap.specs.Built.{TakesValue};
+ghost use Rattle.clap.specs.Words.{IsParsedFrom, app_of, found_of, matches_of, rows_of, rule_of, takes};
 ghost use Rattle.command_line.specs.CommandLine.{IsOwnArg};
-ghost use Rattle.command_line.specs.Diff.{GivesDiff, HasFolders, folder_rule, leave_rule, sip_diff_line};
+ghost use Rattle.command_line.specs.Diff.{GivesDiff, HasFolders, folder_rule, sip_diff_line};
 ghost use Rattle.command_line.specs.declared.refusal.Refusal.TheVariants.{Memory};
 
+use crate::parts::{program, read, repeated, text_of, texts_of};
 use crate::refusal::Refusal;
-use crate::words::{VERSION, text_of, texts_of};
-use clap::{Arg, ArgAction, Command};
+use clap::{Arg, ArgAction, ArgMatches, Command};
 use std::alloc::{AllocError, Global};
 use std::convert::AsStr;
 
@@ -61,13 +61,18 @@ pub fn diff_options<S: AsStr>(alloc: Global, words: &[S]) -> Result<DiffOptions,
     ensures accepts { IfErr result (λ e. takes sip_diff_line (map S.text words.now) ≡ true
         → e ≡ Memory) }
 {
-    let matches = match command(alloc)?.try_get_matches_from(words) {
-        Ok(matches) => matches,
-        Err(error) => return Err(Refusal::of_error(alloc, &error)),
-    };
-    let left = text_of(alloc, &matches, "left")?;
-    let right = text_of(alloc, &matches, "right")?;
-    let leave = texts_of(alloc, &matches, "leave")?;
+    let matches = read(alloc, command(alloc)?, words)?;
+    Ok(options_in(alloc, &matches)?)
+}
+
+/// The options that were read.
+fn options_in(alloc: Global, matches: &ArgMatches<'_>) -> Result<DiffOptions, AllocError>
+    requires folders { HasFolders (found_of matches.now) }
+    ensures { IfOk result (GivesDiff (rows_of (found_of matches.now))) }
+{
+    let left = text_of(alloc, matches, "left")?;
+    let right = text_of(alloc, matches, "right")?;
+    let leave = texts_of(alloc, matches, "leave")?;
     Ok(DiffOptions { left, right, leave })
 }
 
@@ -84,31 +89,15 @@ fn folder<'a>(alloc: Global, name: &'a str, value: &'a str, help: &'a str) -> Ar
         .help(help)
 }
 
-/// A column that isn't compared; it may be given several times.
-fn leave<'a>(alloc: Global) -> Arg<'a>
-    ensures rule { rule_of result ≡ leave_rule }
-    ensures own { IsOwnArg (codes "leave") result }
-{
-    Arg::new(alloc, "leave")
-        .long("leave")
-        .value_name("TABLE.COLUMN")
-        .action(ArgAction::Append)
-        .help(LEAVE_HELP)
-}
-
 /// The command line of the program.
 fn command<'a>(alloc: Global) -> Result<Command<'a>, AllocError>
     ensures line { IfOk result (λ c. app_of c ≡ sip_diff_line) }
-    ensures folders { IfOk result HasFolders }
+    ensures folders { IfOk result (λ c. (m : ArgMatches) → IsParsedFrom c m → HasFolders (found_of m)) }
 {
-    let left = folder(alloc, "left", "LEFT", LEFT_HELP);
-    let right = folder(alloc, "right", "RIGHT", RIGHT_HELP);
-    let leave = leave(alloc);
-    Command::new(alloc, "sip_diff")
-        .version(VERSION)
-        .about(ABOUT)
-        .after_help(AFTER_HELP)
-        .arg(left)?
-        .arg(right)?
-        .arg(leave)
+    let args = vec![in alloc;
+        folder(alloc, "left", "LEFT", LEFT_HELP),
+        folder(alloc, "right", "RIGHT", RIGHT_HELP),
+        repeated(alloc, "leave", "TABLE.COLUMN", LEAVE_HELP),
+    ]?;
+    program(alloc, "sip_diff", ABOUT, AFTER_HELP, args)
 }

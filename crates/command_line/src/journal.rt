@@ -1,7 +1,7 @@
 //! The words of the command line of `sip_journal`, read by `clap`.
 
+use crate::parts::{flag, free_text, optional, program, read, repeated, text_if_given, texts_of};
 use crate::refusal::Refusal;
-use crate::words::{VERSION, text_if_given};
 use clap::{Arg, ArgAction, ArgMatches, Command, value_parser};
 use std::alloc::{AllocError, Global};
 use std::convert::AsStr;
@@ -119,13 +119,15 @@ impl Drop for JournalOptions {
 
 /// The options of a journal that the words give, of which the first is the program's name; or why they give none.
 pub fn journal_options<S: AsStr>(alloc: Global, words: &[S]) -> Result<JournalOptions, Refusal> {
-    let matches = match command(alloc)?.try_get_matches_from(words) {
-        Ok(matches) => matches,
-        Err(error) => return Err(Refusal::of_error(alloc, &error)),
-    };
+    let matches = read(alloc, command(alloc)?, words)?;
+    Ok(options_in(alloc, &matches)?)
+}
+
+/// The options that were read.
+fn options_in(alloc: Global, matches: &ArgMatches<'_>) -> Result<JournalOptions, AllocError> {
     let mut options = JournalOptions::new(alloc);
-    options.read_form(alloc, &matches)?;
-    options.read_files(alloc, &matches)?;
+    options.read_form(alloc, matches)?;
+    options.read_files(alloc, matches)?;
     Ok(options)
 }
 
@@ -169,100 +171,35 @@ impl JournalOptions {
         self.port = matches.get_one::<u16>("port");
         self.merge = matches.get_flag("merge");
         self.force = matches.get_flag("force");
-        push_texts(alloc, matches, "capture", &mut self.captures)?;
-        push_texts(alloc, matches, "logs", &mut self.logs)
+        self.captures = texts_of(alloc, matches, "capture")?;
+        self.logs = texts_of(alloc, matches, "logs")?;
+        Ok(())
     }
-}
-
-/// Adds the values of `id`, copied, in their order.
-fn push_texts(
-    alloc: Global,
-    matches: &ArgMatches<'_>,
-    id: &str,
-    texts: &mut Vec<String>,
-) -> Result<(), AllocError> {
-    for text in matches.get_strs(id).unwrap_or(&[]) {
-        texts.push(String::from_str(alloc, text)?)?;
-    }
-    Ok(())
-}
-
-/// An option that takes a value.
-fn option<'a>(alloc: Global, name: &'a str, value: &'a str, help: &'a str) -> Arg<'a> {
-    Arg::new(alloc, name)
-        .long(name)
-        .value_name(value)
-        .action(ArgAction::Set)
-        .allow_hyphen_values(true)
-        .help(help)
-}
-
-/// An option that is given or not.
-fn flag<'a>(alloc: Global, name: &'a str, help: &'a str) -> Arg<'a> {
-    Arg::new(alloc, name)
-        .long(name)
-        .action(ArgAction::SetTrue)
-        .help(help)
 }
 
 /// The command line of the program.
 fn command<'a>(alloc: Global) -> Result<Command<'a>, AllocError> {
-    let command = Command::new(alloc, "sip_journal")
-        .version(VERSION)
-        .about(ABOUT)
-        .after_help(AFTER_HELP);
-    with_files(alloc, with_form(alloc, command)?)
+    let logs = logs(alloc)?;
+    let args = vec![in alloc;
+        free_text(alloc, "preset", "NAME", PRESET_HELP),
+        free_text(alloc, "try", "F", TRY_HELP),
+        free_text(alloc, "request", "RE", REQUEST_HELP),
+        free_text(alloc, "response", "RE", RESPONSE_HELP),
+        free_text(alloc, "connection", "RE", CONNECTION_HELP),
+        free_text(alloc, "escapes", "FORM", ESCAPES_HELP),
+        free_text(alloc, "layout", "FORM", LAYOUT_HELP),
+        free_text(alloc, "mark", "RE", MARK_HELP),
+        optional(alloc, "first", "N", FIRST_HELP).value_parser(value_parser!(u64)),
+        repeated(alloc, "capture", "F", CAPTURE_HELP).num_args(1..),
+        optional(alloc, "port", "N", PORT_HELP).value_parser(value_parser!(u16)),
+        flag(alloc, "merge", MERGE_HELP),
+        flag(alloc, "force", FORCE_HELP),
+        logs,
+    ]?;
+    program(alloc, "sip_journal", ABOUT, AFTER_HELP, args)
 }
 
-/// Adds the options that say which form a log's lines have.
-fn with_form<'a>(alloc: Global, command: Command<'a>) -> Result<Command<'a>, AllocError> {
-    command
-        .arg(option(alloc, "preset", "NAME", PRESET_HELP))?
-        .arg(option(alloc, "try", "F", TRY_HELP))?
-        .arg(option(alloc, "request", "RE", REQUEST_HELP))?
-        .arg(option(alloc, "response", "RE", RESPONSE_HELP))?
-        .arg(option(alloc, "connection", "RE", CONNECTION_HELP))?
-        .arg(option(alloc, "escapes", "FORM", ESCAPES_HELP))?
-        .arg(option(alloc, "layout", "FORM", LAYOUT_HELP))?
-        .arg(option(alloc, "mark", "RE", MARK_HELP))
-}
-
-/// Adds the logs and captures, and how they are read.
-fn with_files<'a>(alloc: Global, command: Command<'a>) -> Result<Command<'a>, AllocError> {
-    command
-        .arg(first(alloc))?
-        .arg(capture(alloc))?
-        .arg(port(alloc))?
-        .arg(flag(alloc, "merge", MERGE_HELP))?
-        .arg(flag(alloc, "force", FORCE_HELP))?
-        .arg(logs(alloc)?)
-}
-
-fn first<'a>(alloc: Global) -> Arg<'a> {
-    Arg::new(alloc, "first")
-        .long("first")
-        .value_name("N")
-        .value_parser(value_parser!(u64))
-        .help(FIRST_HELP)
-}
-
-fn capture<'a>(alloc: Global) -> Arg<'a> {
-    Arg::new(alloc, "capture")
-        .long("capture")
-        .value_name("F")
-        .action(ArgAction::Append)
-        .num_args(1..)
-        .help(CAPTURE_HELP)
-}
-
-fn port<'a>(alloc: Global) -> Arg<'a> {
-    Arg::new(alloc, "port")
-        .long("port")
-        .value_name("N")
-        .value_parser(value_parser!(u16))
-        .help(PORT_HELP)
-}
-
+/// The logs, which have no name before them; they must be given where neither captures nor a log to try is.
 fn logs<'a>(alloc: Global) -> Result<Arg<'a>, AllocError> {
     let arg = Arg::new(alloc, "logs")
         .value_name("LOG")

@@ -5,6 +5,7 @@ mod chosen;
 mod diff;
 mod journal;
 mod page;
+mod parts;
 mod refusal;
 mod why;
 mod words;

@@ -1,14 +1,13 @@
 //! The words of the command line of `sip_page`, read by `clap`.
-ghost use Rattle.std.specs.Prelude.{◌≡◌, IfErr, IfOk, codes, map, true};
-ghost use Rattle.clap.specs.Words.{app_of, matches_of, rule_of, takes};
-ghost use Rattle.command_line.specs.CommandLine.{IsOwnArg};
-ghost use Rattle.command_line.specs.Page.{GivesPage, HasPagePaths, limit_rule, sip_page_line, spare_path_rule};
+ghost use Rattle.std.specs.Prelude.{◌≡◌, IfErr, IfOk, map, true};
+ghost use Rattle.clap.specs.Words.{IsParsedFrom, app_of, found_of, matches_of, rows_of, takes};
+ghost use Rattle.command_line.specs.Page.{GivesPage, HasPagePaths, sip_page_line};
 ghost use Rattle.command_line.specs.declared.refusal.Refusal.TheVariants.{Memory};
 
 use crate::chosen::PageOptions;
+use crate::parts::{number, number_or, optional, path, program, read, text_if_given, text_of};
 use crate::refusal::Refusal;
-use crate::words::{VERSION, path, text_if_given, text_of};
-use clap::{Arg, Command, value_parser};
+use clap::{ArgMatches, Command};
 use std::alloc::{AllocError, Global};
 use std::convert::AsStr;
 
@@ -43,64 +42,39 @@ pub fn page_options<S: AsStr>(alloc: Global, words: &[S]) -> Result<PageOptions,
     ensures accepts { IfErr result (λ e. takes sip_page_line (map S.text words.now) ≡ true
         → e ≡ Memory) }
 {
-    let matches = match command(alloc)?.try_get_matches_from(words) {
-        Ok(matches) => matches,
-        Err(error) => return Err(Refusal::of_error(alloc, &error)),
-    };
-    let journal = text_of(alloc, &matches, "journal")?;
-    let base = text_if_given(alloc, &matches, "base")?;
-    let out = text_of(alloc, &matches, "out")?;
-    let why = text_if_given(alloc, &matches, "why")?;
-    let limit = matches.get_one::<u32>("limit").unwrap_or(DEFAULT_LIMIT);
+    let matches = read(alloc, command(alloc)?, words)?;
+    Ok(options_in(alloc, &matches)?)
+}
+
+/// The options that were read.
+fn options_in(alloc: Global, matches: &ArgMatches<'_>) -> Result<PageOptions, AllocError>
+    requires paths { HasPagePaths (found_of matches.now) }
+    ensures { IfOk result (GivesPage (rows_of (found_of matches.now))) }
+{
+    let journal = text_of(alloc, matches, "journal")?;
+    let base = text_if_given(alloc, matches, "base")?;
+    let out = text_of(alloc, matches, "out")?;
+    let why = text_if_given(alloc, matches, "why")?;
     Ok(PageOptions {
         journal,
         base,
         out,
         why,
-        limit,
+        limit: number_or(matches, "limit", DEFAULT_LIMIT),
     })
-}
-
-/// An argument that takes a path and may be left out.
-fn spare_path<'a>(alloc: Global, name: &'a str, value: &'a str, help: &'a str) -> Arg<'a>
-    ensures rule { rule_of result ≡ spare_path_rule name.entry.now }
-    ensures own { IsOwnArg name.entry.now result }
-{
-    Arg::new(alloc, name)
-        .long(name)
-        .value_name(value)
-        .help(help)
-}
-
-/// How many wrong responses and changes are shown, a number.
-fn limit<'a>(alloc: Global) -> Arg<'a>
-    ensures rule { rule_of result ≡ limit_rule }
-    ensures own { IsOwnArg (codes "limit") result }
-{
-    Arg::new(alloc, "limit")
-        .long("limit")
-        .value_name("N")
-        .value_parser(value_parser!(u32))
-        .help(LIMIT_HELP)
 }
 
 /// The command line of the program.
 fn command<'a>(alloc: Global) -> Result<Command<'a>, AllocError>
     ensures line { IfOk result (λ c. app_of c ≡ sip_page_line) }
-    ensures paths { IfOk result HasPagePaths }
+    ensures paths { IfOk result (λ c. (m : ArgMatches) → IsParsedFrom c m → HasPagePaths (found_of m)) }
 {
-    let journal = path(alloc, "journal", "F", JOURNAL_HELP);
-    let base = spare_path(alloc, "base", "DIR", BASE_HELP);
-    let out = path(alloc, "out", "DIR", OUT_HELP);
-    let why = spare_path(alloc, "why", "F", WHY_HELP);
-    let limit = limit(alloc);
-    Command::new(alloc, "sip_page")
-        .version(VERSION)
-        .about(ABOUT)
-        .after_help(AFTER_HELP)
-        .arg(journal)?
-        .arg(base)?
-        .arg(out)?
-        .arg(why)?
-        .arg(limit)
+    let args = vec![in alloc;
+        path(alloc, "journal", "F", JOURNAL_HELP),
+        optional(alloc, "base", "DIR", BASE_HELP),
+        path(alloc, "out", "DIR", OUT_HELP),
+        optional(alloc, "why", "F", WHY_HELP),
+        number(alloc, "limit", LIMIT_HELP),
+    ]?;
+    program(alloc, "sip_page", ABOUT, AFTER_HELP, args)
 }

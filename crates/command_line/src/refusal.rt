@@ -35,10 +35,13 @@ impl Refusal {
         if error.kind() == ErrorKind::OutOfMemory {
             return Refusal::Memory;
         }
-        match format!(in alloc; "{error}") {
-            Ok(text) if error.use_stderr() => Refusal::Words(text),
-            Ok(text) => Refusal::Help(text),
-            Err(_) => Refusal::Memory,
+        let Ok(text) = format!(in alloc; "{error}") else {
+            return Refusal::Memory;
+        };
+        if error.use_stderr() {
+            Refusal::Words(text)
+        } else {
+            Refusal::Help(text)
         }
     }
 }

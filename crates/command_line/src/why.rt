@@ -2,9 +2,9 @@
 //! clap's definition doesn't say what words mean: so it isn't proved here, only that the two options of changes go together.
 ghost use Rattle.std.specs.Prelude.{◌≡◌, IfOk, None, is_some};
 
+use crate::parts::{free_text, program, read, repeated, text_if_given, texts_of};
 use crate::refusal::Refusal;
-use crate::words::{VERSION, text_if_given, texts_of};
-use clap::{Arg, ArgAction, ArgMatches, Command};
+use clap::{ArgMatches, Command};
 use std::alloc::{AllocError, Global};
 use std::convert::AsStr;
 
@@ -82,11 +82,14 @@ impl Drop for WhyOptions {
 pub fn why_options<S: AsStr>(alloc: Global, words: &[S]) -> Result<WhyOptions, Refusal>
     ensures together { IfOk result (λ o. is_some o.changes ≡ is_some o.out) }
 {
-    let matches = match command(alloc)?.try_get_matches_from(words) {
-        Ok(matches) => matches,
-        Err(error) => return Err(Refusal::of_error(alloc, &error)),
-    };
-    let options = options_of(alloc, &matches)?;
+    let matches = read(alloc, command(alloc)?, words)?;
+    fitting(alloc, options_in(alloc, &matches)?)
+}
+
+/// The options, where they go together.
+fn fitting(alloc: Global, options: WhyOptions) -> Result<WhyOptions, Refusal>
+    ensures together { IfOk result (λ o. is_some o.changes ≡ is_some o.out) }
+{
     match misfit(&options) {
         None => Ok(options),
         Some(why) => Err(Refusal::Words(String::from_str(alloc, why)?)),
@@ -106,7 +109,8 @@ fn misfit(options: &WhyOptions) -> Option<&'static str>
     None
 }
 
-fn options_of(alloc: Global, matches: &ArgMatches<'_>) -> Result<WhyOptions, AllocError> {
+/// The options that were read.
+fn options_in(alloc: Global, matches: &ArgMatches<'_>) -> Result<WhyOptions, AllocError> {
     Ok(WhyOptions {
         policy: required_text(alloc, matches, "policy")?,
         base: required_text(alloc, matches, "base")?,
@@ -124,37 +128,17 @@ fn required_text(alloc: Global, matches: &ArgMatches<'_>, id: &str) -> Result<St
     String::from_str(alloc, matches.get_str(id).unwrap_or(""))
 }
 
-/// An option that takes a value, which may begin with a hyphen.
-fn option<'a>(alloc: Global, name: &'a str, value: &'a str, help: &'a str) -> Arg<'a> {
-    Arg::new(alloc, name)
-        .long(name)
-        .value_name(value)
-        .action(ArgAction::Set)
-        .allow_hyphen_values(true)
-        .help(help)
-}
-
-/// The number of a line; it may be given several times.
-fn line<'a>(alloc: Global) -> Arg<'a> {
-    Arg::new(alloc, "line")
-        .long("line")
-        .value_name("N")
-        .action(ArgAction::Append)
-        .help(LINE_HELP)
-}
-
 /// The command line of the program.
 fn command<'a>(alloc: Global) -> Result<Command<'a>, AllocError> {
-    Command::new(alloc, "sip_why")
-        .version(VERSION)
-        .about(ABOUT)
-        .after_help(AFTER_HELP)
-        .arg(option(alloc, "policy", "FILE", POLICY_HELP).required(true))?
-        .arg(option(alloc, "base", "DIR", BASE_HELP).required(true))?
-        .arg(option(alloc, "journal", "FILE", JOURNAL_HELP).required(true))?
-        .arg(option(alloc, "report", "FILE", REPORT_HELP))?
-        .arg(line(alloc))?
-        .arg(option(alloc, "changes", "FILE", CHANGES_HELP))?
-        .arg(option(alloc, "out", "DIR", OUT_HELP))?
-        .arg(option(alloc, "test", "DIR", TEST_HELP))
+    let args = vec![in alloc;
+        free_text(alloc, "policy", "FILE", POLICY_HELP).required(true),
+        free_text(alloc, "base", "DIR", BASE_HELP).required(true),
+        free_text(alloc, "journal", "FILE", JOURNAL_HELP).required(true),
+        free_text(alloc, "report", "FILE", REPORT_HELP),
+        repeated(alloc, "line", "N", LINE_HELP),
+        free_text(alloc, "changes", "FILE", CHANGES_HELP),
+        free_text(alloc, "out", "DIR", OUT_HELP),
+        free_text(alloc, "test", "DIR", TEST_HELP),
+    ]?;
+    program(alloc, "sip_why", ABOUT, AFTER_HELP, args)
 }

@@ -1,23 +1,17 @@
 //! The words of the command line of `sip_replay`, read by `clap`.
-ghost use Rattle.std.specs.Prelude.{◌≡◌, IfErr, IfOk, Some, codes, is_some, map, option_map, string_bytes, true};
-ghost use Rattle.clap.specs.Words.{app_of, first_value, found_of, matches_of};
-ghost use Rattle.clap.specs.Words.{rule_of, takes};
-ghost use Rattle.clap.specs.Built.{TakesValue};
-ghost use Rattle.command_line.specs.CommandLine.{check_rule, explain_rule, path_rule, sip_replay_line, workers_rule};
-ghost use Rattle.command_line.specs.CommandLine.{GivesOptions, values_of};
-ghost use Rattle.command_line.specs.CommandLine.{HasPaths, IsOwnArg};
+ghost use Rattle.std.specs.Prelude.{◌≡◌, IfErr, IfOk, map, true};
+ghost use Rattle.clap.specs.Words.{IsParsedFrom, app_of, found_of, matches_of, rows_of, takes};
+ghost use Rattle.command_line.specs.CommandLine.{GivesOptions, HasPaths, sip_replay_line};
 ghost use Rattle.command_line.specs.declared.refusal.Refusal.TheVariants.{Memory};
 
 use crate::chosen::Options;
+use crate::parts::{flag, number, number_or, path, program, read, text_of};
 use crate::refusal::Refusal;
-use clap::{Arg, ArgAction, ArgMatches, Command, value_parser};
+use clap::{ArgMatches, Command};
 use std::alloc::{AllocError, Global};
 use std::convert::AsStr;
 
 const DEFAULT_WORKERS: u32 = 4;
-
-/// The version that the programs say they have, that of the file `VERSION`.
-pub(crate) const VERSION: &str = "0.3.0";
 
 const ABOUT: &str =
     "Replays a journal of SIP2 messages over the tables of a library's circulation, and reports where \
@@ -67,142 +61,43 @@ pub fn options<S: AsStr>(alloc: Global, words: &[S]) -> Result<Options, Refusal>
     ensures accepts { IfErr result (λ e. takes sip_replay_line (map S.text words.now) ≡ true
         → e ≡ Memory) }
 {
-    let matches = match command(alloc)?.try_get_matches_from(words) {
-        Ok(matches) => matches,
-        Err(error) => return Err(Refusal::of_error(alloc, &error)),
-    };
-    let policy = text_of(alloc, &matches, "policy")?;
-    let base = text_of(alloc, &matches, "base")?;
-    let journal = text_of(alloc, &matches, "journal")?;
-    let out = text_of(alloc, &matches, "out")?;
-    let workers = matches.get_one::<u32>("workers").unwrap_or(DEFAULT_WORKERS);
-    let explain = matches.get_flag("explain");
-    let check = matches.get_flag("check");
+    let matches = read(alloc, command(alloc)?, words)?;
+    Ok(options_in(alloc, &matches)?)
+}
+
+/// The options that were read.
+fn options_in(alloc: Global, matches: &ArgMatches<'_>) -> Result<Options, AllocError>
+    requires paths { HasPaths (found_of matches.now) }
+    ensures { IfOk result (GivesOptions (rows_of (found_of matches.now))) }
+{
+    let policy = text_of(alloc, matches, "policy")?;
+    let base = text_of(alloc, matches, "base")?;
+    let journal = text_of(alloc, matches, "journal")?;
+    let out = text_of(alloc, matches, "out")?;
     Ok(Options {
         policy,
         base,
         journal,
         out,
-        workers,
-        explain,
-        check,
+        workers: number_or(matches, "workers", DEFAULT_WORKERS),
+        explain: matches.get_flag("explain"),
+        check: matches.get_flag("check"),
     })
-}
-
-/// The first value of `id`, copied.
-pub(crate) fn text_of(
-    alloc: Global,
-    matches: &ArgMatches<'_>,
-    id: &str,
-) -> Result<String, AllocError>
-    requires { is_some (first_value (found_of matches.now) id.now) ≡ true }
-    ensures { IfOk result (λ s. Some (string_bytes s) ≡ first_value (found_of matches.now) id.now) }
-{
-    String::from_str(alloc, matches.get_str(id).unwrap())
-}
-
-/// The first value of `id`, copied, where it has one.
-pub(crate) fn text_if_given(
-    alloc: Global,
-    matches: &ArgMatches<'_>,
-    id: &str,
-) -> Result<Option<String>, AllocError>
-    ensures { IfOk result (λ o. option_map string_bytes o ≡ first_value (found_of matches.now) id.now) }
-{
-    match matches.get_str(id) {
-        Some(text) => match String::from_str(alloc, text) {
-            Ok(copy) => Ok(Some(copy)),
-            Err(error) => Err(error),
-        },
-        None => Ok(None),
-    }
-}
-
-/// The values of `id`, copied.
-pub(crate) fn texts_of(
-    alloc: Global,
-    matches: &ArgMatches<'_>,
-    id: &str,
-) -> Result<Vec<String>, AllocError>
-    ensures { IfOk result (λ v. map string_bytes v.items ≡ values_of (found_of matches.now) id.now) }
-{
-    let given = matches.get_strs(id).unwrap_or(&[]);
-    let mut texts = Vec::new(alloc);
-    for text in given {
-        texts.push(String::from_str(alloc, text)?)?;
-    }
-    Ok(texts)
-}
-
-/// An argument that must be given and takes a path.
-pub(crate) fn path<'a>(alloc: Global, name: &'a str, value: &'a str, help: &'a str) -> Arg<'a>
-    ensures rule { rule_of result ≡ path_rule name.entry.now }
-    ensures own { IsOwnArg name.entry.now result }
-    ensures takes { TakesValue result }
-{
-    Arg::new(alloc, name)
-        .long(name)
-        .value_name(value)
-        .action(ArgAction::Set)
-        .required(true)
-        .help(help)
-}
-
-/// How many workers, a number.
-fn workers<'a>(alloc: Global) -> Arg<'a>
-    ensures rule { rule_of result ≡ workers_rule }
-    ensures own { IsOwnArg (codes "workers") result }
-{
-    Arg::new(alloc, "workers")
-        .long("workers")
-        .value_name("N")
-        .value_parser(value_parser!(u32))
-        .help(WORKERS_HELP)
-}
-
-/// Whether what to do is printed too.
-fn explain<'a>(alloc: Global) -> Arg<'a>
-    ensures rule { rule_of result ≡ explain_rule }
-    ensures own { IsOwnArg (codes "explain") result }
-{
-    Arg::new(alloc, "explain")
-        .long("explain")
-        .action(ArgAction::SetTrue)
-        .help(EXPLAIN_HELP)
-}
-
-/// Whether the inputs are only checked.
-fn check<'a>(alloc: Global) -> Arg<'a>
-    ensures rule { rule_of result ≡ check_rule }
-    ensures own { IsOwnArg (codes "check") result }
-{
-    Arg::new(alloc, "check")
-        .long("check")
-        .action(ArgAction::SetTrue)
-        .help(CHECK_HELP)
 }
 
 /// The command line of the program.
 fn command<'a>(alloc: Global) -> Result<Command<'a>, AllocError>
     ensures line { IfOk result (λ c. app_of c ≡ sip_replay_line) }
-    ensures paths { IfOk result HasPaths }
+    ensures paths { IfOk result (λ c. (m : ArgMatches) → IsParsedFrom c m → HasPaths (found_of m)) }
 {
-    let policy = path(alloc, "policy", "F", POLICY_HELP);
-    let base = path(alloc, "base", "DIR", BASE_HELP);
-    let journal = path(alloc, "journal", "F", JOURNAL_HELP);
-    let out = path(alloc, "out", "DIR", OUT_HELP);
-    let workers = workers(alloc);
-    let explain = explain(alloc);
-    let check = check(alloc);
-    Command::new(alloc, "sip_replay")
-        .version(VERSION)
-        .about(ABOUT)
-        .after_help(AFTER_HELP)
-        .arg(policy)?
-        .arg(base)?
-        .arg(journal)?
-        .arg(out)?
-        .arg(workers)?
-        .arg(explain)?
-        .arg(check)
+    let args = vec![in alloc;
+        path(alloc, "policy", "F", POLICY_HELP),
+        path(alloc, "base", "DIR", BASE_HELP),
+        path(alloc, "journal", "F", JOURNAL_HELP),
+        path(alloc, "out", "DIR", OUT_HELP),
+        number(alloc, "workers", WORKERS_HELP),
+        flag(alloc, "explain", EXPLAIN_HELP),
+        flag(alloc, "check", CHECK_HELP),
+    ]?;
+    program(alloc, "sip_replay", ABOUT, AFTER_HELP, args)
 }

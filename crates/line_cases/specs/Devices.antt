@@ -1,2 +1,2 @@
--- Devices of proofs: how a base is put together. No promise is read here.
+-- For proofs alone: how a base is put together. No promise needs it.
 pub mod Adding

@@ -1,3 +1,3 @@
--- Devices of proofs: how things are kept or counted. No promise is read here.
+-- For proofs alone: how things are kept or counted. No promise needs it.
 pub mod Apart
 pub mod Rows

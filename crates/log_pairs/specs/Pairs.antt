@@ -2,7 +2,7 @@
 use Rattle.std.specs.Prelude.{◌&&◌, ◌||◌, ℕ, Bool, true, false, List, [], ◌∷◌, ◌++◌, map, Option, Some, None, if◌then◌else◌}
 use Rattle.std.specs.Str.{bytes_eq}
 
--- what a log says, in its order: a request or a response of a connection, or that nothing more is said of what a connection asked
+-- an entry of a log: a request or a response of a connection, or that no response to its open request will come
 pub data Said : Type 0 where
   Request : (connection : List ℕ) → (message : List ℕ) → Said
   Response : (connection : List ℕ) → (message : List ℕ) → Said

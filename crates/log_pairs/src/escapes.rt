@@ -20,7 +20,7 @@ pub enum Escapes {
     Octal,
 }
 
-/// The message that a text spells; none where that is no spelling of one.
+/// The message that a text spells; None where the text is malformed.
 pub fn unescaped(
     alloc: Global,
     escapes: Escapes,

@@ -6,7 +6,7 @@ ghost use Rattle.log_pairs.specs.Odd as Spec;
 use sip_reader::{Reading, Why, read_request, unsummed, without_line_end};
 use std::alloc::{AllocError, Global};
 
-/// Which side a message is of.
+/// Which kind a message is.
 #[derive(Clone, Copy)]
 pub enum Direction {
     Request,

@@ -13,7 +13,7 @@ use std::collections::{BTreeMap, VecDeque};
 use std::marker::Model;
 
 /// The requests of a log that weren't taken yet, and which of them are open: the last one of its connection, where no
-/// response came since. Requests count from 0.
+/// response came since. Numbers start at 0.
 pub struct Pairing {
     taken: usize,
     waiting: VecDeque<Exchange>,
@@ -92,8 +92,8 @@ impl Pairing {
         Ok(())
     }
 
-    /// The next line of the log is a response. Gives whether it belongs to a request; else, and where there is no memory for
-    /// it, nothing changes.
+    /// The next line of the log is a response. Returns whether a request is open for it; if not, or out of memory,
+    /// nothing changes.
     pub fn answer(
         &mut self,
         alloc: Global,
@@ -148,7 +148,7 @@ impl Pairing {
         Some(first)
     }
 
-    /// Whether none was asked that wasn't taken, or the first of them is open.
+    /// Whether no request waits, or the first that waits is open.
     fn begins_open(&self) -> bool
         ensures { result ≡ begins_open self.now.pending }
     {

@@ -63,13 +63,13 @@ fn write_row(table: &mut TableText, number: u64, exchange: &Exchange) -> Result<
     ])
 }
 
-/// The text of a journal is that of its first pairs and then the rows of the others.
+/// A law: a journal's text is that of its first pairs, then the rows of the others.
 pub fn joins()
     ensures { (first : ℕ) (front back : List Pair) → table_text (header ∷ rows_from first (front ++ back))
         ≡ table_text (header ∷ rows_from first front) ++ table_text (rows_from (first + length front) back) }
 {}
 
-/// The text of a journal is read as the lines of its pairs.
+/// A law: a journal's text is read as its pairs.
 pub fn reads_back()
     ensures { (first : ℕ) (pairs : List Pair) → 1 ≤ first → first + length pairs ≤ line_number_end → length pairs ≤ LINE_LIMIT
         → AllByRecursion (λ p. length p.connection ≤ CONNECTION_LIMIT) pairs

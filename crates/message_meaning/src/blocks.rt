@@ -142,7 +142,7 @@ fn block_any<S: Source>(
     }
 }
 
-/// A block patron (message 01), where it blocks, or a patron enable (message 25).
+/// Message 01, block patron, where `blocks` is true; else 25, patron enable.
 #[tactic(auto, unfolding(read_set::specs::Blocks::block_rule), using(read_set::proofs::Gaining::gains_none, read_set::proofs::Gaining::gains_first, read_set::proofs::Following::follow_wants))]
 pub fn block<S: Source>(
     alloc: Global,

@@ -1,4 +1,4 @@
-//! Hold.
+//! Holds (message 15).
 
 ghost use Rattle.std.specs.Prelude.{◌≡◌, ◌++◌, ◌∷◌, [], IfOk, option_map};
 ghost use Rattle.read_set.specs.Holds.{hold_rule, refuses_hold, queue_after, hold_position, is_available, hold_answer, hold_kept, hold_known, held, hold};
@@ -139,7 +139,7 @@ fn tell(
 }
 
 #[tactic(auto, unfolding(read_set::specs::Holds::hold_kept))]
-fn keep_queue(asked: &HoldAsked<'_>, item: Shared<Item>, holds: Holds) -> Result<Effect, AllocError>
+fn with_queue(asked: &HoldAsked<'_>, item: Shared<Item>, holds: Holds) -> Result<Effect, AllocError>
     ensures { IfOk result (λ e. e ≡ hold_kept asked.now.policy.now asked.now.request.now asked.now.date item holds) }
 {
     let alloc = asked.alloc;
@@ -167,7 +167,7 @@ fn hold_item(asked: &HoldAsked<'_>, blocked: bool, item: Shared<Item>) -> Result
         return Ok(Effect::unwritten(asked.alloc, Some(answer)));
     }
     let holds = change_queue(asked.alloc, request, &item.get().holds)?;
-    keep_queue(asked, item, holds)
+    with_queue(asked, item, holds)
 }
 
 fn title_of(article: Option<Article>) -> Result<Option<Text>, AllocError>

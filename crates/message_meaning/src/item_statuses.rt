@@ -29,7 +29,7 @@ pub fn update<S: Source>(
     Ok(update_found(alloc, request, date, found)?)
 }
 
-/// The request's properties replace those of the item, where both are there.
+/// The request's properties, if any, replace those of the item, if known.
 #[tactic(auto, unfolding(read_set::specs::ItemStatuses::updated))]
 fn update_found(
     alloc: Global,

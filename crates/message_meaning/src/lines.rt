@@ -78,7 +78,7 @@ fn follow_line<S: Source>(
     Ok(Effect::unwritten(alloc, answer))
 }
 
-/// In line, so that what the line does isn't moved again.
+/// Inlined, so that the effect isn't moved once more.
 #[inline(always)]
 #[tactic(auto, unfolding(read_set::specs::Meaning::rule_of), using(read_set::proofs::Gaining::gains_none))]
 fn follow_request<S: Source>(
@@ -91,7 +91,7 @@ fn follow_request<S: Source>(
     ensures gives { Follows result (follow (S.has source.new) (rule_of policy.now line request.now.date request.now.act)) }
     ensures keeps { Gains S.one_by_one (S.has source.old) (S.has source.new) (rule_of policy.now line request.now.date request.now.act) }
 {
-    // each is returned at once: what is done by one of several branches would move once more after them, and is large
+    // each arm returns: an effect is large, and as the value of the `match` it would be moved once more
     match &request.act {
         Act::BlockPatron(asked) => {
             return block(alloc, policy, true, &asked.patron, request.date, source);

@@ -26,7 +26,7 @@ pub fn need<J: PlanName>(
     need_on::<J, Brand>(alloc, plan, line, attempt, notes)
 }
 
-/// The same on the notes that a type names.
+/// The same; the type `N` names the notes.
 fn need_on<J: PlanName, N: NotesName>(
     alloc: Global,
     plan: &Plan,

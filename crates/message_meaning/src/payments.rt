@@ -1,4 +1,4 @@
-//! Fee paid.
+//! Payments (message 37).
 
 ghost use Rattle.std.specs.Prelude.{◌≡◌, ◌≤◌, ◌<◌, ◌-◌, ◌+◌, [], not, IfOk, Some, true, false};
 ghost use Rattle.read_set.specs.Payments.{pay_rule_each, named, meant_at, payment_rule, fee_paid_rule_known, fee_paid_rule, part_of, part_paid, pay_one, only_known, payment_answer, all_paid, fee_paid};
@@ -47,7 +47,7 @@ fn with_paid(fee: &Fee, part: u64) -> Result<Fee, AllocError>
     })
 }
 
-/// An amount less some hundredths of it.
+/// An amount minus `left` hundredths.
 fn less(amount: Amount, left: u64) -> Amount
     requires { left ≤ amount }
     ensures { result ≡ amount - left }
@@ -138,7 +138,7 @@ fn meant_ids<S: Source>(
     }
 }
 
-/// Pays the fees of a list, in order, until nothing is left.
+/// Pays the fees of a list, in order, while money is left.
 #[tactic(auto, using(read_set::proofs::Gaining::gains_none, read_set::proofs::Gaining::gains_first))]
 fn pay_all<S: Source>(
     alloc: Global,

@@ -5,7 +5,7 @@ use Rattle.circ_records.specs.declared.key.Key.{Key}
 use Rattle.circ_records.specs.declared.record.Record.{Record}
 use Rattle.read_set.specs.Maps.{Map, Part, Grows}
 
--- It gives its outcome at once, or by the record at a key.
+-- It gives its result at once, or first asks for a record.
 pub data Asks (A : Type 0) : Type 0 where
   Give : A → Asks A
   Ask : Key → (Option Record → Asks A) → Asks A
@@ -15,7 +15,7 @@ abbrev pub over : {A : Type 0} → Map → Asks A → A
 over M (Give x) = x
 over M (Ask k rule) = over M (rule (M k))
 
--- How far it comes on what is had: to its end, or to the first key that is wanted.
+-- How far it gets with what is known: to its end, or to the first unknown key.
 pub data Reached (A : Type 0) : Type 0 where
   Done : A → Reached A
   Wants : Key → Reached A
@@ -24,18 +24,18 @@ abbrev pub follow : {A : Type 0} → Part → Asks A → Reached A
 follow has (Give x) = Done x
 follow has (Ask k rule) = option_map_or (λ r. follow has (rule r)) (has k) (Wants k)
 
--- one, and then another on its outcome
+-- one, then another on its result
 infixl 10 ◌>>=◌
 abbrev pub ◌>>=◌ : {A B : Type 0} → Asks A → (A → Asks B) → Asks B
 (Give x) >>= f = f x
 (Ask k rule) >>= f = Ask k (λ r. rule r >>= f)
 
--- what holds of what is found at a key that is had
+-- what holds of what is known at a key
 abbrev pub OnHad : Option (Option Record) → (Option Record → Type 0) → Type 0
 OnHad None P = ⊥
 OnHad (Some r) P = P r
 
--- a key for which it asks on what is had: on its way to its end, or to the first key that is wanted
+-- a key that it asks for, with what is known, on its way to its end or to the first unknown key
 abbrev pub IsAsked : {A : Type 0} → Part → Asks A → Key → Type 0
 IsAsked has (Give x) k = ⊥
 IsAsked has (Ask j rule) k = (k ≡ j) ⊎ OnHad (has j) (λ r. IsAsked has (rule r) k)

@@ -39,7 +39,7 @@ abbrev pub FitsReading : Reading → Type 0
 FitsReading (readings.Asked q) = (is_stamp q.date ≡ true) × FitsAct q.act
 FitsReading r = Unit {0}
 
--- some list names all items, and isn't longer than a count of 64 bits: so no line makes more fees than that
+-- there are at most 2^64 items, since some list names them all: so no line makes more fees than that
 abbrev pub HasFewItems : Map → Type 0
 HasFewItems M = (ids : List (List ℕ)) × (length ids ≤ 2 ^ 64) × ((id : List ℕ) → is_some (as_item (M (keys.Item id))) ≡ true → has_id id ids ≡ true)
 
@@ -63,7 +63,7 @@ pub record StaysCoherent (plan : Planned) : Type 0 where
   pub kinds : AreOfKind (record_at plan.base) → AreOfKind (last plan)
   pub last : IsCoherentMap plan.policy (plan.first + length plan.readings) (last plan)
 
--- so do those of a replay
+-- each plan that fits does
 abbrev pub ReplayKeepsCoherence : Type 0
 ReplayKeepsCoherence = (plan : Planned) → FitsPlan plan → StaysCoherent plan
 

@@ -28,7 +28,7 @@ by_checkout q = record { patron = q.patron; item = q.item; third_party = false; 
 abbrev pub by_renew : Renew → LoanRequest
 by_renew q = record { patron = q.patron; item = q.item; third_party = q.third_party; forced = q.no_block; given = q.due; agreed = q.agreed; free = false; checkout = false }
 
--- the due day: where the request is forced and gives a date, that day, not rolled; else by the policy
+-- the due day: a date that a forced request gives, even if not an open day; else by the policy
 abbrev pub given_or : Bool → Option ℕ → ℕ → ℕ
 given_or forced None day = day
 given_or forced (Some given) day = if forced then given else day

@@ -13,14 +13,14 @@ Map = Key → Option Record
 abbrev pub put : Entries → Map → Map
 put writes M k = option_or (record_at writes k) (M k)
 
--- what is had of a map: at a key nothing, or the record there, or that there is none
+-- what is known of a map: at a key nothing, the record there, or that there is none
 abbrev pub Part : Type 0
 Part = Key → Option (Option Record)
 
--- a map has what is had
+-- a map agrees with it
 abbrev pub Agrees : Part → Map → Type 0
 Agrees has M = (k : Key) (r : Option Record) → has k ≡ Some r → M k ≡ r
 
--- What is had stays, and more may be added.
+-- What is known stays; more may be added.
 abbrev pub Grows : Part → Part → Type 0
 Grows old new = (k : Key) (r : Option Record) → old k ≡ Some r → new k ≡ Some r

@@ -1,4 +1,4 @@
--- What a line's notes settle.
+-- What notes determine.
 use Rattle.std.specs.Prelude.{◌≡◌, ℕ, List, [], ◌∷◌, Option}
 use Rattle.circ_records.specs.Records.{Entries}
 use Rattle.sip_answer.specs.declared.answer.Answer.{Answer}
@@ -12,7 +12,7 @@ abbrev pub AreTrue : List Note → Map → Type 0
 AreTrue [] M = Unit {0}
 AreTrue (n ∷ more) M = (M n.key ≡ n.found) × AreTrue more M
 
--- Notes settle what a line writes and answers: over every map in which they are true, its meaning is that map with
+-- Notes fix what a line writes and answers: over every map in which they are true, its meaning is that map with
 -- these writes put over it, and this answer.
 abbrev pub Settles : Planned → ℕ → List Note → Entries → Option Answer → Type 0
 Settles plan line notes writes answer = (M : Map) → AreTrue notes M → GivesAt plan line M (record { writes = writes; answer = answer })

@@ -5,17 +5,17 @@ use Rattle.read_set.specs.Maps.{Part}
 use Rattle.read_set.specs.declared.source.Stop.{Stop}
 use Rattle.read_set.specs.declared.source.Stop.TheVariants.{Unnoted, Memory}
 
--- a stop at a rule that came so far
+-- a stop fits how far its rule got
 abbrev pub StopsAt : {A : Type 0} → Stop → Reached A → Type 0
 StopsAt (Unnoted k) reached = reached ≡ Wants k
 StopsAt Memory reached = Unit {0}
 
--- what a call returned, of a rule that came so far
+-- a call's result fits how far its rule got
 abbrev pub Follows : {A : Type 0} → Result A Stop → Reached A → Type 0
 Follows (Ok x) reached = reached ≡ Done x
 Follows (Err stop) reached = StopsAt stop reached
 
--- a stop names a key that isn't had
+-- a stop names an unknown key
 abbrev pub LacksAt : Part → Stop → Type 0
 LacksAt has (Unnoted k) = has k ≡ None
 LacksAt has Memory = Unit {0}

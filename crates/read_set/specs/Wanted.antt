@@ -1,4 +1,4 @@
--- Which record a line may want next.
+-- Which key a line may ask for next.
 use Rattle.std.specs.Prelude.{◌≡◌, ◌⊎◌, ℕ, List, Option, Some, None, Contains}
 use Rattle.circ_records.specs.declared.key.Key.{Key}
 use Rattle.circ_records.specs.declared.key.Key.TheVariants as keys
@@ -48,12 +48,12 @@ Names (Some (records.Patron p)) k = ((id : List ℕ) × Contains p.loans id × (
 Names (Some (records.Item i)) k = IsBorrower i.loan k
 Names _ k = ⊥
 
--- a record that is had names it
+-- a known record names it
 abbrev pub IsNamed : Part → Key → Type 0
 IsNamed has k = (j : Key) × (r : Option Record) × (has j ≡ Some r) × Names r k
 
--- Wanted: a key that isn't had, and is the patron or the item of the line's request, or is in a list or a loan of a
--- record that is had. On notes, what is had is what is noted.
+-- Wanted: an unknown key that is the patron or the item of the line's request, or is in a list or a loan of a known
+-- record. Over notes, known means noted.
 abbrev pub Wanted : Planned → ℕ → Part → Key → Type 0
 Wanted plan line has k = (has k ≡ None) × (IsOfLine (reading_at plan line) k ⊎ IsNamed has k)
 

@@ -64,7 +64,7 @@ impl NotedRecord {
         }
     }
 
-    /// The record, or none. It takes no memory.
+    /// The record, or none. Allocates nothing.
     pub fn record(&self) -> Result<Option<Record>, AllocError>
         ensures { IfOk result (λ r. r ≡ self.now) }
     {
@@ -76,7 +76,7 @@ impl NotedRecord {
         }
     }
 
-    /// The same record, or none. It takes no memory.
+    /// The same record, or none. Allocates nothing.
     pub fn copy(&self) -> Result<NotedRecord, AllocError>
         ensures { IfOk result (λ n. n ≡ self.now) }
     {

@@ -14,7 +14,7 @@ pub fn replay_keeps_coherence()
     ensures { ReplayKeepsCoherence }
 {}
 
-/// So are those of the plan of a policy and a journal that were read, over a base. No caller has to show that they fit each other: it is proved of what is read.
+/// The same for the plan of any policy and journal that were read, over a base that is coherent before the first line. Callers show nothing more.
 pub fn read_plans_stay_coherent(base: &Records)
     ensures { ReadPlansStayCoherent base.now }
 {

@@ -1,5 +1,5 @@
-//! The plan of a replay, and what each line of it means: the records before the first line, the reading of each line,
-//! where the meaning of a line reads records, and what it writes and answers.
+//! The plan of a replay (policy, base, reading of each line), and all rules (`specs/`): what each line reads, writes and
+//! answers. A rule reads records from a `Source`.
 //! It uses the crates that read (messages, policy, records, journal) and the answers; the meanings of the kinds of messages
 //! use it.
 #![tactic(auto)]

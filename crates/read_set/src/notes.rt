@@ -15,8 +15,8 @@ use std::alloc::{AllocError, Global};
 use std::collections::BTreeMap;
 use std::marker::Model;
 
-/// Whose record it is: the base's, or that of an attempt at a line. The attempt comes first, so that it shares a word with
-/// the tag.
+/// Whose record it is: the base's, or that of an attempt at a line. The attempt comes first, so that it and the
+/// discriminant share a word.
 #[derive(Clone, Copy, PartialEq, Eq)]
 pub enum Name {
     Base,
@@ -62,7 +62,7 @@ const USUAL: usize = 2;
 /// What a line has read, in the order of reading. No key is noted twice.
 pub struct Notes {
     notes: Vec<Note>,
-    /// Where the note of each key is that isn't among the first `LIST_MAX`.
+    /// The positions of the notes after the first `LIST_MAX`, by key.
     positions: Option<Box<BTreeMap<Key, usize>>>,
 }
 

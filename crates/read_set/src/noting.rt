@@ -65,7 +65,7 @@ impl<N: NotesName> Source for NotesSource<'_, N> {
 
 /// Where one looks for a record that isn't noted yet.
 pub trait Looks {
-    /// What is at a key now, a record or none, and whose it is; None where there is nothing more to be seen.
+    /// The record at a key now, or that there is none, and its name; None where the attempt has to end.
     fn look(
         &mut self,
         alloc: Global,
@@ -73,7 +73,7 @@ pub trait Looks {
     ) -> Result<Option<(Name, Option<Record>)>, AllocError>;
 }
 
-/// A source that looks for what isn't noted yet, and notes what it sees. It stops where there is nothing more to be seen.
+/// A source that looks for what isn't noted yet, and notes what it sees. It stops where a look gives None.
 #[derive(Drop)]
 pub struct Noting<L: Looks> {
     pub notes: Notes,

@@ -55,7 +55,7 @@ impl Model for Plan {
 }
 
 impl Plan {
-    /// The plan of a journal, over a base that is coherent before its first line, as a base is that was read for it.
+    /// The plan of a journal, over a base that is coherent before its first line, as any base read for it is.
     pub fn new(
         alloc: Global,
         policy: Policy,
@@ -76,8 +76,8 @@ impl Plan {
         ensures journal { (lines : List Entry) → readings ≡ all_read lines → result ≡ plan_of policy base lines }
     {
         let first = readings.first().unwrap_or(LINE_NUMBER_END);
-        // These contracts say that there are at most `LINE_LIMIT` lines and each is read from a message, that the policy's terms
-        // are in their ranges, and that a count holds the number of the records.
+        // Called for their contracts alone: there are at most `LINE_LIMIT` lines, each read from a message; the policy's terms
+        // are in their ranges; and a count holds the number of records.
         let _lines = readings.len();
         let _currency = policy.currency();
         let _records = base.as_slice();
@@ -150,7 +150,7 @@ impl Plan {
         self.base.get(key)
     }
 
-    /// No records, in a map in which those of the base's keys are found fast, once all of them were put there in their order.
+    /// An empty map. Once records at all keys of the base are put into it in order, they are found fast.
     pub fn empty_map(&self, alloc: Global) -> Result<RecordMap, AllocError>
         ensures { IfOk result (λ m. m ≡ []) }
     {

@@ -12,7 +12,7 @@ use std::alloc::{AllocError, Global};
 /// Why the meaning of a line stopped before its end.
 #[derive(Drop)]
 pub enum Stop {
-    /// The source has nothing at this key, neither a record nor that there is none.
+    /// The source doesn't know whether there is a record at this key.
     Unnoted(Key),
     /// Out of memory.
     Memory,
@@ -35,7 +35,7 @@ pub trait Source {
     /// What it has at each key: nothing, or the record there, or that there is none.
     ghost has: { Self → Key → Option (Option Record) };
 
-    /// What holds where it fetches nothing but what it is asked for. A source that has to promise so is `OneByOne`.
+    /// A claim that holds where it fetches nothing but what it is asked for. `OneByOne` promises the claim.
     ghost one_by_one: { Type 0 };
 
     /// The record at a key, or that there is none; a stop where the source has nothing there.
@@ -43,7 +43,7 @@ pub trait Source {
         ensures gives { Follows result (follow (has self.new) (Ask key.now Give)) }
         ensures keeps { Gains one_by_one (has self.old) (has self.new) (Ask key.now Give) };
 
-    /// The same of a patron, by its id. A source that finds it so makes no key of it.
+    /// The same of a patron, by id. A source may do it without making a key.
     fn read_patron(&mut self, alloc: Global, id: &Id) -> Result<Option<Record>, Stop>
         ensures gives { Follows result (follow (has self.new) (Ask (keys.Patron id.now) Give)) }
         ensures keeps { Gains one_by_one (has self.old) (has self.new) (Ask (keys.Patron id.now) Give) }

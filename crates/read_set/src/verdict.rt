@@ -9,9 +9,9 @@ pub struct LoanRequest {
     pub item: Id,
     /// Whether another than the borrower may renew.
     pub third_party: bool,
-    /// Whether it is made in any case.
+    /// Whether most tests are skipped.
     pub forced: bool,
-    /// The due day of one that is.
+    /// The due day where forced.
     pub given: Option<Day>,
     /// Whether the user agreed to a rental.
     pub agreed: bool,
@@ -25,7 +25,7 @@ pub struct LoanRequest {
 #[derive(Clone, Copy)]
 pub enum Verdict {
     Refused,
-    /// Refused for a rental to which the user didn't agree.
+    /// Refused: the user didn't agree to the rental.
     Unpaid,
     Made,
 }

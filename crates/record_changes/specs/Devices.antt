@@ -1,2 +1,2 @@
--- Devices of proofs: how far a walk has come. No promise is read here.
+-- For proofs alone: how far a walk has come. No promise needs it.
 pub mod Noted

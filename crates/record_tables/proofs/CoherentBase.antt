@@ -12,7 +12,7 @@ use Rattle.circ_policy.specs.declared.media_type.MediaType.TheVariants as media
 use Rattle.sip_reader.specs.Texts.{is_id, is_text}
 use Rattle.sip_reader.specs.declared.amount.TheConstants.{AMOUNT_MAX}
 use Rattle.circ_records.specs.declared.holds.TheConstants.{QUEUE_MAX}
-use Rattle.record_tables.specs.Base.{broken_closed, broken_fees, broken_holds, broken_items, broken_loans, broken_patrons}
+use Rattle.record_tables.specs.Base.{broken_in}
 use Rattle.circ_records.specs.MadeFees.{is_taken, may_be_made}
 use Rattle.circ_records.specs.Coherent.{IsCoherentFee, IsCoherentItem, IsCoherentLoan, IsCoherentMap, IsCoherentPatron, AreOfKind, Map, are_distinct, as_fee, as_item, as_patron, has_id, is_hold, is_known, is_lent_to, is_loan_of, is_of_kind, is_owed_by, number_before}
 use Rattle.record_tables.specs.Rules.{closed_rule, fee_rule, has_fee_texts, has_hold_texts, has_item_texts, has_loan_values, has_media, has_patron_texts, has_row, hold_rule, is_owing, item_rule, loan_rule, patron_rule}
@@ -29,6 +29,7 @@ use Rattle.circ_records.specs.declared.record.Item.{Item}
 use Rattle.circ_records.specs.declared.record.Loan.{Loan}
 use Rattle.circ_records.specs.declared.record.Patron.{Patron}
 use Rattle.circ_records.specs.declared.record.Record.{Record}
+use Rattle.record_tables.specs.declared.tables.TableName.{TableName}
 use Rattle.record_tables.specs.declared.tables.TableName.TheVariants as table
 use Rattle.record_tables.proofs.Bounds.{due-real, hundredths-bound, none-made, renewals-bound}
 use Rattle.record_tables.proofs.Kept.{KeptClosed, KeptFee, KeptHold, KeptItem, KeptLoan, KeptPatron, kept-closed, kept-fee, kept-hold, kept-item, kept-loan, kept-patron}
@@ -291,21 +292,32 @@ coherent-fee policy first rows m kept tells id f e = by (row_with 0 id rows.fees
 
 -- ALL RECORDS
 
-kept-rows : (policy : Terms) (first : Option ℕ) (rows : Rows) → broken_patrons policy rows ≡ None → broken_items policy rows ≡ None → broken_loans rows ≡ None
-    → broken_fees first rows ≡ None → broken_closed first rows ≡ None → broken_holds rows ≡ None → KeptRows policy first rows
-kept-rows policy first rows p i l f c h = record {
-  patrons = kept-from table.Patrons (patron_rule policy) (KeptPatron policy) (kept-patron policy) 1 [] rows.patrons p;
-  items = kept-from table.Items (item_rule policy) (KeptItem policy) (kept-item policy) 1 [] rows.items i;
-  loans = kept-from table.Loans (loan_rule rows.patrons rows.items) (KeptLoan rows.patrons rows.items) (kept-loan rows.patrons rows.items) 1 [] rows.loans l;
-  fees = kept-from table.Fees (fee_rule first rows.patrons) (KeptFee first rows.patrons) (kept-fee first rows.patrons) 1 [] rows.fees f;
-  closed = kept-from table.Closed (closed_rule first rows.patrons rows.fees) (KeptClosed first rows.patrons rows.fees) (kept-closed first rows.patrons rows.fees) 1 [] rows.closed c;
-  holds = kept-from table.Holds (hold_rule rows.patrons rows.items rows.loans) (KeptHold rows.patrons rows.items rows.loans) (kept-hold rows.patrons rows.items rows.loans) 1 [] rows.holds h;
+-- no table breaks a rule
+abbrev pub Unbroken : Terms → Option ℕ → Rows → Type 0
+Unbroken policy first rows = (name : TableName) → broken_in policy first name rows ≡ None
+
+kept-rows : (policy : Terms) (first : Option ℕ) (rows : Rows) → Unbroken policy first rows → KeptRows policy first rows
+kept-rows policy first rows none = record {
+  patrons = kept-from table.Patrons (patron_rule policy) (KeptPatron policy) (kept-patron policy) 1 [] rows.patrons (none table.Patrons);
+  items = kept-from table.Items (item_rule policy) (KeptItem policy) (kept-item policy) 1 [] rows.items (none table.Items);
+  loans = kept-from table.Loans (loan_rule rows.patrons rows.items) (KeptLoan rows.patrons rows.items) (kept-loan rows.patrons rows.items) 1 [] rows.loans (none table.Loans);
+  fees = kept-from table.Fees (fee_rule first rows.patrons) (KeptFee first rows.patrons) (kept-fee first rows.patrons) 1 [] rows.fees (none table.Fees);
+  closed = kept-from table.Closed (closed_rule first rows.patrons rows.fees) (KeptClosed first rows.patrons rows.fees) (kept-closed first rows.patrons rows.fees) 1 [] rows.closed (none table.Closed);
+  holds = kept-from table.Holds (hold_rule rows.patrons rows.items rows.loans) (KeptHold rows.patrons rows.items rows.loans) (kept-hold rows.patrons rows.items rows.loans) 1 [] rows.holds (none table.Holds);
 }
 
-pub coherent-rows : (policy : Terms) (first : Option ℕ) (rows : Rows) (m : Map) → broken_patrons policy rows ≡ None → broken_items policy rows ≡ None → broken_loans rows ≡ None
-    → broken_fees first rows ≡ None → broken_closed first rows ≡ None → broken_holds rows ≡ None → ((k : Key) → m k ≡ told rows k) → IsCoherentMap policy (number_before first) m
-coherent-rows policy first rows m p i l f c h tells =
-    let kept = kept-rows policy first rows p i l f c h in
+pub unbroken : (policy : Terms) (first : Option ℕ) (rows : Rows) → broken_in policy first table.Patrons rows ≡ None → broken_in policy first table.Items rows ≡ None → broken_in policy first table.Loans rows ≡ None
+    → broken_in policy first table.Fees rows ≡ None → broken_in policy first table.Closed rows ≡ None → broken_in policy first table.Holds rows ≡ None → Unbroken policy first rows
+unbroken policy first rows p i l f c h table.Patrons = p
+unbroken policy first rows p i l f c h table.Items = i
+unbroken policy first rows p i l f c h table.Loans = l
+unbroken policy first rows p i l f c h table.Fees = f
+unbroken policy first rows p i l f c h table.Closed = c
+unbroken policy first rows p i l f c h table.Holds = h
+
+pub coherent-rows : (policy : Terms) (first : Option ℕ) (rows : Rows) (m : Map) → Unbroken policy first rows → ((k : Key) → m k ≡ told rows k) → IsCoherentMap policy (number_before first) m
+coherent-rows policy first rows m none tells =
+    let kept = kept-rows policy first rows none in
     record {
       patrons = λ id x e. coherent-patron policy first rows m kept tells id x (ap as_patron (sym (tells (key.Patron id))) ∙ e);
       items = λ id x e. coherent-item policy first rows m kept tells id x (ap as_item (sym (tells (key.Item id))) ∙ e);

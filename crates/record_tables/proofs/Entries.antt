@@ -1,16 +1,23 @@
 -- The entries of a map whose keys rise: each is what the map has at its key.
-use Rattle.std.proofs.Common.{◌≡◌, ◌∙◌, List, [], ◌∷◌, ◌++◌, Bool, true, false, cond, Option, Some, None, map, refl, sym, ap, subst}
+use Rattle.std.proofs.Common.{◌≡◌, ◌∙◌, ℕ, List, [], ◌∷◌, ◌++◌, Bool, true, false, cond, Option, Some, None, map, refl, sym, ap, subst}
+use Rattle.circ_records.proofs.SameTexts.{tie}
 use Rattle.std.proofs.lemmas.List.{append-nil}
 use Rattle.std.proofs.lemmas.Map.Keys.{sorted_head, sorted_tail}
 use Rattle.std.specs.Cmp.{tied_itself}
 use Rattle.std.specs.List.{AllByRecursion, flat_map}
 use Rattle.std.specs.Ordering.{is_eq, ordering_reverse}
-use Rattle.std.specs.declared.cmp.Ordering.{Ordering}
-use Rattle.std.specs.declared.cmp.Ordering.TheVariants.{Less, Equal, Greater}
+use Rattle.std.specs.declared.cmp.Ordering.TheVariants.{Less}
 use Rattle.circ_records.specs.Keys.{key_cmp, key_cmp_total, key_cmp-IsAntisymmetric}
 use Rattle.circ_records.specs.Records.{AreRising, Entries, record_at}
 use Rattle.circ_records.specs.declared.key.Key.{Key}
+use Rattle.circ_records.specs.declared.key.Key.TheVariants as key
+use Rattle.circ_records.specs.declared.record.Fee.{Fee}
+use Rattle.circ_records.specs.declared.record.Item.{Item}
+use Rattle.circ_records.specs.declared.record.Patron.{Patron}
 use Rattle.circ_records.specs.declared.record.Record.{Record}
+use Rattle.circ_records.specs.declared.record.Record.TheVariants as record_of
+use Rattle.record_tables.specs.Tables.{Row}
+use Rattle.record_tables.specs.Written.{of_fee, of_item, of_patron}
 
 -- what holds of each of a list, from what holds of each
 pub all-from : {A : Type 0} (P Q : A → Type 0) (xs : List A) → ((x : A) → P x → Q x) → AllByRecursion P xs → AllByRecursion Q xs
@@ -25,11 +32,6 @@ all-append P (x ∷ xs) ys all more = (all.0, all-append P xs ys all.1 more)
 abbrev pub given : {A : Type 0} → (Key × Record → List A) → Key → Option Record → List A
 given f k None = []
 given f k (Some r) = f (k, r)
-
-tie : (o : Ordering) → is_eq o ≡ true → o ≡ Equal
-tie Less e = cc
-tie Equal e = refl
-tie Greater e = cc
 
 pub same-key : (a b : Key) → is_eq (key_cmp a b) ≡ true → a ≡ b
 same-key a b e = key_cmp-IsAntisymmetric a b (tie (key_cmp a b) e)
@@ -95,3 +97,28 @@ pub each-given : {A : Type 0} (P : A → Type 0) (f : Key × Record → List A) 
     → ((x : Key × Record) → record_at es x.0 ≡ Some x.1 → AllByRecursion P (f x)) → AllByRecursion P (flat_map f es)
 each-given P f es rising h =
     all-flat P f es (all-from (λ x. record_at es x.0 ≡ Some x.1) (λ x. AllByRecursion P (f x)) es h (each-at-its-key es rising))
+
+-- what holds of the rows of each entry, by the kind of its key: of a record of another kind, which has none, and of one of the same
+pub by-patron : (P : Key × Record → List Row → Type 0) (rows : List ℕ → Patron → List Row) → ((x : Key × Record) → P x []) → ((id : List ℕ) (p : Patron) → P (key.Patron id, record_of.Patron p) (rows id p))
+    → (x : Key × Record) → P x (of_patron rows x)
+by-patron P rows none some (key.Patron id, record_of.Patron p) = some id p
+by-patron P rows none some (key.Patron id, record_of.Item i) = none (key.Patron id, record_of.Item i)
+by-patron P rows none some (key.Patron id, record_of.Fee f) = none (key.Patron id, record_of.Fee f)
+by-patron P rows none some (key.Item id, r) = none (key.Item id, r)
+by-patron P rows none some (key.Fee id, r) = none (key.Fee id, r)
+
+pub by-item : (P : Key × Record → List Row → Type 0) (rows : List ℕ → Item → List Row) → ((x : Key × Record) → P x []) → ((id : List ℕ) (i : Item) → P (key.Item id, record_of.Item i) (rows id i))
+    → (x : Key × Record) → P x (of_item rows x)
+by-item P rows none some (key.Item id, record_of.Item i) = some id i
+by-item P rows none some (key.Item id, record_of.Patron p) = none (key.Item id, record_of.Patron p)
+by-item P rows none some (key.Item id, record_of.Fee f) = none (key.Item id, record_of.Fee f)
+by-item P rows none some (key.Patron id, r) = none (key.Patron id, r)
+by-item P rows none some (key.Fee id, r) = none (key.Fee id, r)
+
+pub by-fee : (P : Key × Record → List Row → Type 0) (rows : List ℕ → Fee → List Row) → ((x : Key × Record) → P x []) → ((id : List ℕ) (f : Fee) → P (key.Fee id, record_of.Fee f) (rows id f))
+    → (x : Key × Record) → P x (of_fee rows x)
+by-fee P rows none some (key.Fee id, record_of.Fee f) = some id f
+by-fee P rows none some (key.Fee id, record_of.Patron p) = none (key.Fee id, record_of.Patron p)
+by-fee P rows none some (key.Fee id, record_of.Item i) = none (key.Fee id, record_of.Item i)
+by-fee P rows none some (key.Patron id, r) = none (key.Patron id, r)
+by-fee P rows none some (key.Item id, r) = none (key.Item id, r)

@@ -1,9 +1,10 @@
 -- The rule that a row breaks, as the looks for its patron and its item find it.
-use Rattle.std.proofs.Common.{◌≡◌, List, [], ◌∷◌, ℕ, suc, Bool, true, false, cond, not, length, map, Option, Some, None, refl, sym, ap, ◌∙◌}
+use Rattle.std.proofs.Common.{◌≡◌, List, [], ℕ, Bool, true, false, cond, not, length, map, Option, Some, None, refl, ap, ◌∙◌}
+use Rattle.record_tables.proofs.RowLists.{as-many}
 use Rattle.std.specs.Prelude.{is_some, option_map, ◌||◌, nat_le, nat_lt}
 use Rattle.std.specs.BTreeSet.{BTreeSet, contains}
 use Rattle.std.specs.Option.{option_or}
-use Rattle.circ_records.specs.Changes.{IsChanged, broken_by}
+use Rattle.circ_records.specs.Changes.{broken_by}
 use Rattle.circ_records.specs.Coherent.{is_loan_of}
 use Rattle.circ_records.specs.MadeFees.{is_taken}
 use Rattle.record_tables.specs.Read.{AreTold, AreWaiting, SaysClosed, SaysFee, SaysLoan, pair_cmp}
@@ -25,6 +26,11 @@ use Rattle.circ_records.specs.declared.record.Record.{Record}
 use Rattle.circ_records.specs.declared.record.Record.TheVariants as record_of
 use Rattle.record_tables.proofs.Lookups.{is_some-either, is_some-map, or-cond}
 use Rattle.record_tables.proofs.Telling.{IsPut}
+
+-- the first of two rules that are broken
+pub some-first : (o p : Option BaseRule) → is_some o ≡ true → option_or o p ≡ o
+some-first None p e = cc e
+some-first (Some r) p e = refl
 
 pub nothing-there : (o : Option BaseRule) → is_some o ≡ false → o ≡ None
 nothing-there None e = refl
@@ -52,28 +58,17 @@ loan-judged r row said says =
     let (texts, values, i, l) = says in
     rw (texts, values) (or-cond (not (has_row 0 (field 0 row) r.patrons)) rule.Patron None (cond (not (has_row 0 (field 1 row) r.items)) (Some rule.Item) (cond (has_row 1 (field 1 row) r.loans) (Some rule.Lent) None)))
 
-borrowed : (r : Rows) (row : Row) (said : LoanRow) (old : Entries) → SaysLoan said row → AreTold r old
-    → broken_by (change.Borrows said.item) (record_at old (key.Patron said.loan.patron)) ≡ cond (not (has_row 0 (field 0 row) r.patrons)) (Some rule.Patron) None
-borrowed r row said old says tells =
-    ap (broken_by (change.Borrows said.item)) (tells (key.Patron said.loan.patron)) ∙ by-patron r said.loan.patron said.item (row_with 0 said.loan.patron r.patrons)
-    ∙ ap (λ (l : Loan). cond (not (has_row 0 l.patron r.patrons)) (Some rule.Patron) None) says.3
-
-pub loan-at-patron : (r : Rows) (row : Row) (said : LoanRow) (old : Entries) (broken : Option BaseRule) → SaysLoan said row → AreTold r old
-    → broken ≡ broken_by (change.Borrows said.item) (record_at old (key.Patron said.loan.patron)) → is_some broken ≡ true → broken ≡ loan_rule r.patrons r.items r.loans row
-loan-at-patron r row said old None says tells was some = cc some
-loan-at-patron r row said old (Some broken) says tells was some =
-    ap (λ o. option_or o (cond (not (has_row 0 (field 1 row) r.items)) (Some rule.Item) (cond (has_row 1 (field 1 row) r.loans) (Some rule.Lent) None))) (was ∙ borrowed r row said old says tells)
-    ∙ loan-judged r row said says
-
-pub loan-at-item : (r : Rows) (row : Row) (said : LoanRow) (old mid : Entries) (first second : Option BaseRule) → SaysLoan said row → AreTold r old
-    → first ≡ broken_by (change.Borrows said.item) (record_at old (key.Patron said.loan.patron)) → first ≡ None
-    → IsChanged (key.Patron said.loan.patron) (change.Borrows said.item) old mid → second ≡ broken_by (change.Lent said.loan) (record_at mid (key.Item said.item))
-    → second ≡ loan_rule r.patrons r.items r.loans row
-loan-at-item r row said old mid first second says tells was none changes then =
-    then ∙ ap (broken_by (change.Lent said.loan)) (changes (key.Item said.item) ∙ tells (key.Item said.item)) ∙ by-item r said.item said.loan (row_with 0 said.item r.items)
-    ∙ ap (λ (t : List ℕ). cond (not (has_row 0 t r.items)) (Some rule.Item) (cond (has_row 1 t r.loans) (Some rule.Lent) None)) says.2
-    ∙ ap (λ o. option_or o (cond (not (has_row 0 (field 1 row) r.items)) (Some rule.Item) (cond (has_row 1 (field 1 row) r.loans) (Some rule.Lent) None))) (sym none ∙ was ∙ borrowed r row said old says tells)
-    ∙ loan-judged r row said says
+pub loan-by : (r : Rows) (row : Row) (said : LoanRow) (old : Entries) (first second : Option BaseRule) → SaysLoan said row → AreTold r old
+    → first ≡ broken_by (change.Borrows said.item) (record_at old (key.Patron said.loan.patron)) → second ≡ broken_by (change.Lent said.loan) (record_at old (key.Item said.item))
+    → option_or first second ≡ loan_rule r.patrons r.items r.loans row
+loan-by r row said old first second says tells was then =
+    let patron : first ≡ cond (not (has_row 0 (field 0 row) r.patrons)) (Some rule.Patron) None =
+    was ∙ ap (broken_by (change.Borrows said.item)) (tells (key.Patron said.loan.patron)) ∙ by-patron r said.loan.patron said.item (row_with 0 said.loan.patron r.patrons)
+    ∙ ap (λ (l : Loan). cond (not (has_row 0 l.patron r.patrons)) (Some rule.Patron) None) says.3 in
+    let item : second ≡ cond (not (has_row 0 (field 1 row) r.items)) (Some rule.Item) (cond (has_row 1 (field 1 row) r.loans) (Some rule.Lent) None) =
+    then ∙ ap (broken_by (change.Lent said.loan)) (tells (key.Item said.item)) ∙ by-item r said.item said.loan (row_with 0 said.item r.items)
+    ∙ ap (λ (t : List ℕ). cond (not (has_row 0 t r.items)) (Some rule.Item) (cond (has_row 1 t r.loans) (Some rule.Lent) None)) says.2 in
+    rw (patron, item) (loan-judged r row said says)
 
 -- FEES
 
@@ -108,57 +103,22 @@ fee-judged first r row said says =
     (or-cond (not (has_row 0 (field 1 row) r.patrons)) rule.Patron None (cond (not (is_owing row)) (Some rule.Paid) (cond (is_taken first (field 0 row)) (Some rule.Number) None))))
 
 -- the rule of a row of open fees, by what was found at its id, by its patron's rule and by its own
-fee-by : (first : Option ℕ) (r : Rows) (row : Row) (said : FeeRow) (old mid : Entries) → SaysFee said row → AreTold r old → r.closed ≡ []
-    → IsPut (key.Fee said.id) (record_of.Fee said.fee) old mid
-    → cond (is_some (record_at old (key.Fee said.id))) (Some rule.Double)
-    (option_or (broken_by (change.Owes said.id) (record_at mid (key.Patron said.fee.patron))) (cond (not (nat_lt said.fee.paid said.fee.amount)) (Some rule.Paid) (cond (is_taken first said.id) (Some rule.Number) None)))
-    ≡ fee_rule first r.patrons r.fees row
-unfolding is_owing fee-of
-fee-by first r row said old mid says tells none put =
-    let (texts, values, i, f) = says in
-    let double : is_some (record_at old (key.Fee said.id)) ≡ has_row 0 (field 0 row) r.fees =
-    by-fee r said.id old tells ∙ ap (λ (l : List Row). has_row 0 said.id r.fees || has_row 0 said.id l) none ∙ or-nothing (has_row 0 said.id r.fees) ∙ ap (λ (t : List ℕ). has_row 0 t r.fees) i in
-    let patron : broken_by (change.Owes said.id) (record_at mid (key.Patron said.fee.patron)) ≡ cond (not (has_row 0 (field 1 row) r.patrons)) (Some rule.Patron) None =
-    ap (broken_by (change.Owes said.id)) (put (key.Patron said.fee.patron) ∙ tells (key.Patron said.fee.patron)) ∙ owing-patron r said.fee.patron said.id (row_with 0 said.fee.patron r.patrons)
-    ∙ ap (λ (x : Record). cond (not (has_row 0 (fee-of said.fee x).patron r.patrons)) (Some rule.Patron) None) f in
-    let own : cond (not (nat_lt said.fee.paid said.fee.amount)) (Some rule.Paid) (cond (is_taken first said.id) (Some rule.Number) None) ≡ cond (not (is_owing row)) (Some rule.Paid) (cond (is_taken first (field 0 row)) (Some rule.Number) None) =
-    ap (λ (x : Record). cond (not (nat_lt (fee-of said.fee x).paid (fee-of said.fee x).amount)) (Some rule.Paid) (cond (is_taken first said.id) (Some rule.Number) None)) f
-    ∙ ap (λ (t : List ℕ). cond (not (is_owing row)) (Some rule.Paid) (cond (is_taken first t) (Some rule.Number) None)) i in
-    rw (double, patron, own) (fee-judged first r row said says)
-
-pub fee-twice : (first : Option ℕ) (r : Rows) (row : Row) (said : FeeRow) (old mid : Entries) (double : Bool) → SaysFee said row → AreTold r old → r.closed ≡ []
-    → IsPut (key.Fee said.id) (record_of.Fee said.fee) old mid → double ≡ is_some (record_at old (key.Fee said.id)) → double ≡ true
-    → Some rule.Double ≡ fee_rule first r.patrons r.fees row
-fee-twice first r row said old mid double says tells none put was is =
-    ap (λ b. cond b (Some rule.Double)
-    (option_or (broken_by (change.Owes said.id) (record_at mid (key.Patron said.fee.patron))) (cond (not (nat_lt said.fee.paid said.fee.amount)) (Some rule.Paid) (cond (is_taken first said.id) (Some rule.Number) None)))) (sym is ∙ was)
-    ∙ fee-by first r row said old mid says tells none put
-
--- after that, the rule of the patron, and else the fee's own
-fee-behind : (first : Option ℕ) (r : Rows) (row : Row) (said : FeeRow) (old mid : Entries) (double : Bool) (patron : Option BaseRule) → SaysFee said row → AreTold r old → r.closed ≡ []
-    → IsPut (key.Fee said.id) (record_of.Fee said.fee) old mid → double ≡ is_some (record_at old (key.Fee said.id)) → double ≡ false
-    → patron ≡ broken_by (change.Owes said.id) (record_at mid (key.Patron said.fee.patron))
-    → option_or patron (cond (not (nat_lt said.fee.paid said.fee.amount)) (Some rule.Paid) (cond (is_taken first said.id) (Some rule.Number) None)) ≡ fee_rule first r.patrons r.fees row
-fee-behind first r row said old mid double patron says tells none put was is then =
-    let own = cond (not (nat_lt said.fee.paid said.fee.amount)) (Some rule.Paid) (cond (is_taken first said.id) (Some rule.Number) None) in
-    ap (λ o. option_or o own) then
-    ∙ ap (λ b. cond b (Some rule.Double) (option_or (broken_by (change.Owes said.id) (record_at mid (key.Patron said.fee.patron))) own)) (sym is ∙ was)
-    ∙ fee-by first r row said old mid says tells none put
-
-pub fee-at-patron : (first : Option ℕ) (r : Rows) (row : Row) (said : FeeRow) (old mid : Entries) (double : Bool) (patron : Option BaseRule) → SaysFee said row → AreTold r old → r.closed ≡ []
-    → IsPut (key.Fee said.id) (record_of.Fee said.fee) old mid → double ≡ is_some (record_at old (key.Fee said.id)) → double ≡ false
-    → patron ≡ broken_by (change.Owes said.id) (record_at mid (key.Patron said.fee.patron)) → is_some patron ≡ true
-    → patron ≡ fee_rule first r.patrons r.fees row
-fee-at-patron first r row said old mid double None says tells none put was is then some = cc some
-fee-at-patron first r row said old mid double (Some p) says tells none put was is then some = fee-behind first r row said old mid double (Some p) says tells none put was is then
-
-pub fee-alone : (first : Option ℕ) (r : Rows) (row : Row) (said : FeeRow) (old mid : Entries) (double : Bool) (patron own : Option BaseRule) → SaysFee said row → AreTold r old → r.closed ≡ []
-    → IsPut (key.Fee said.id) (record_of.Fee said.fee) old mid → double ≡ is_some (record_at old (key.Fee said.id)) → double ≡ false
-    → patron ≡ broken_by (change.Owes said.id) (record_at mid (key.Patron said.fee.patron)) → patron ≡ None
+pub fee-by : (first : Option ℕ) (r : Rows) (row : Row) (said : FeeRow) (old mid : Entries) (double : Bool) (known own : Option BaseRule) → SaysFee said row → AreTold r old → r.closed ≡ []
+    → IsPut (key.Fee said.id) (record_of.Fee said.fee) old mid → double ≡ is_some (record_at old (key.Fee said.id)) → known ≡ broken_by (change.Owes said.id) (record_at mid (key.Patron said.fee.patron))
     → own ≡ cond (not (nat_lt said.fee.paid said.fee.amount)) (Some rule.Paid) (cond (is_taken first said.id) (Some rule.Number) None)
-    → own ≡ fee_rule first r.patrons r.fees row
-fee-alone first r row said old mid double patron own says tells none put was is then no_rule alone =
-    alone ∙ fee-behind first r row said old mid double None says tells none put was is (sym no_rule ∙ then)
+    → cond double (Some rule.Double) (option_or known own) ≡ fee_rule first r.patrons r.fees row
+unfolding is_owing fee-of
+fee-by first r row said old mid double known own says tells none put d k o =
+    let (texts, values, i, f) = says in
+    let twice : double ≡ has_row 0 (field 0 row) r.fees =
+    d ∙ by-fee r said.id old tells ∙ ap (λ (l : List Row). has_row 0 said.id r.fees || has_row 0 said.id l) none ∙ or-nothing (has_row 0 said.id r.fees) ∙ ap (λ (t : List ℕ). has_row 0 t r.fees) i in
+    let patron : known ≡ cond (not (has_row 0 (field 1 row) r.patrons)) (Some rule.Patron) None =
+    k ∙ ap (broken_by (change.Owes said.id)) (put (key.Patron said.fee.patron) ∙ tells (key.Patron said.fee.patron)) ∙ owing-patron r said.fee.patron said.id (row_with 0 said.fee.patron r.patrons)
+    ∙ ap (λ (x : Record). cond (not (has_row 0 (fee-of said.fee x).patron r.patrons)) (Some rule.Patron) None) f in
+    let alone : own ≡ cond (not (is_owing row)) (Some rule.Paid) (cond (is_taken first (field 0 row)) (Some rule.Number) None) =
+    o ∙ ap (λ (x : Record). cond (not (nat_lt (fee-of said.fee x).paid (fee-of said.fee x).amount)) (Some rule.Paid) (cond (is_taken first said.id) (Some rule.Number) None)) f
+    ∙ ap (λ (t : List ℕ). cond (not (is_owing row)) (Some rule.Paid) (cond (is_taken first t) (Some rule.Number) None)) i in
+    rw (twice, patron, alone) (fee-judged first r row said says)
 
 -- CLOSED FEES
 
@@ -169,7 +129,7 @@ unfolding closed_rule
 closed-judged first r row said says = let (texts, values, i, f) = says in rw (texts, values) refl
 
 -- the rule of a row of closed fees, by what was found at its id and at its patron
-closed-by : (first : Option ℕ) (r : Rows) (row : Row) (said : FeeRow) (old mid : Entries) (double patron taken : Bool) → SaysClosed said row → AreTold r old
+pub closed-by : (first : Option ℕ) (r : Rows) (row : Row) (said : FeeRow) (old mid : Entries) (double patron taken : Bool) → SaysClosed said row → AreTold r old
     → IsPut (key.Fee said.id) (record_of.Fee said.fee) old mid → double ≡ is_some (record_at old (key.Fee said.id))
     → patron ≡ is_some (record_at mid (key.Patron said.fee.patron)) → taken ≡ is_taken first said.id
     → cond double (Some rule.Double) (cond (not patron) (Some rule.Patron) (cond taken (Some rule.Number) None)) ≡ closed_rule first r.patrons r.fees r.closed row
@@ -183,43 +143,11 @@ closed-by first r row said old mid double patron taken says tells put d p n =
     ∙ ap (λ (x : Record). has_row 0 (fee-of said.fee x).patron r.patrons) f in
     rw (twice, known, n, i) (closed-judged first r row said says)
 
-pub closed-twice : (first : Option ℕ) (r : Rows) (row : Row) (said : FeeRow) (old mid : Entries) (double : Bool) → SaysClosed said row → AreTold r old
-    → IsPut (key.Fee said.id) (record_of.Fee said.fee) old mid → double ≡ is_some (record_at old (key.Fee said.id)) → double ≡ true
-    → Some rule.Double ≡ closed_rule first r.patrons r.fees r.closed row
-closed-twice first r row said old mid double says tells put d is =
-    let known = is_some (record_at mid (key.Patron said.fee.patron)) in
-    ap (λ b. cond b (Some rule.Double) (cond (not known) (Some rule.Patron) (cond (is_taken first said.id) (Some rule.Number) None))) (sym is)
-    ∙ closed-by first r row said old mid double known (is_taken first said.id) says tells put d refl refl
-
-pub closed-unknown : (first : Option ℕ) (r : Rows) (row : Row) (said : FeeRow) (old mid : Entries) (double patron : Bool) → SaysClosed said row → AreTold r old
-    → IsPut (key.Fee said.id) (record_of.Fee said.fee) old mid → double ≡ is_some (record_at old (key.Fee said.id)) → double ≡ false
-    → patron ≡ is_some (record_at mid (key.Patron said.fee.patron)) → patron ≡ false
-    → Some rule.Patron ≡ closed_rule first r.patrons r.fees r.closed row
-closed-unknown first r row said old mid double patron says tells put d is p none =
-    let own = cond (is_taken first said.id) (Some rule.Number) None in
-    ap (λ b. cond (not b) (Some rule.Patron) own) (sym none)
-    ∙ ap (λ b. cond b (Some rule.Double) (cond (not patron) (Some rule.Patron) own)) (sym is)
-    ∙ closed-by first r row said old mid double patron (is_taken first said.id) says tells put d p refl
-
-pub closed-alone : (first : Option ℕ) (r : Rows) (row : Row) (said : FeeRow) (old mid : Entries) (double patron taken : Bool) → SaysClosed said row → AreTold r old
-    → IsPut (key.Fee said.id) (record_of.Fee said.fee) old mid → double ≡ is_some (record_at old (key.Fee said.id)) → double ≡ false
-    → patron ≡ is_some (record_at mid (key.Patron said.fee.patron)) → patron ≡ true → taken ≡ is_taken first said.id
-    → cond taken (Some rule.Number) None ≡ closed_rule first r.patrons r.fees r.closed row
-closed-alone first r row said old mid double patron taken says tells put d is p there n =
-    let own = cond taken (Some rule.Number) None in
-    ap (λ b. cond (not b) (Some rule.Patron) own) (sym there)
-    ∙ ap (λ b. cond b (Some rule.Double) (cond (not patron) (Some rule.Patron) own)) (sym is)
-    ∙ closed-by first r row said old mid double patron taken says tells put d p n
-
 -- HOLDS
 
 loan-of-row : (patron : List ℕ) (w : Option Row) → is_loan_of patron (option_map loan_in w) ≡ is_of_patron patron w
 loan-of-row patron None = refl
 loan-of-row patron (Some row) = refl
-
-as-many : (rows : List Row) → length (map hold_in rows) ≡ length rows
-as-many [] = refl
-as-many (row ∷ rows) = ap suc (as-many rows)
 
 -- whether there is such an item, that isn't the patron's and for which not too many wait
 awaited : (r : Rows) (id : List ℕ) (hold : Hold) (w : Option Row)
@@ -240,7 +168,7 @@ unfolding hold_rule
 hold-judged r row texts = rw texts refl
 
 -- the rule of a row of holds, by whether its patron waits already, by its patron and by its item
-hold-by : (r : Rows) (row : Row) (old : Entries) (waiting : BTreeSet (List ℕ × List ℕ)) (item : List ℕ) (hold : Hold) (added known : Bool) → has_hold_texts row ≡ true → item ≡ field 0 row → hold ≡ hold_in row
+pub hold-by : (r : Rows) (row : Row) (old : Entries) (waiting : BTreeSet (List ℕ × List ℕ)) (item : List ℕ) (hold : Hold) (added known : Bool) → has_hold_texts row ≡ true → item ≡ field 0 row → hold ≡ hold_in row
     → AreTold r old → AreWaiting r.holds waiting → added ≡ not (contains pair_cmp waiting (item, hold.patron)) → known ≡ is_some (record_at old (key.Patron hold.patron))
     → cond (not added) (Some rule.Double) (cond (not known) (Some rule.Patron) (broken_by (change.Awaited hold) (record_at old (key.Item item)))) ≡ hold_rule r.patrons r.items r.loans r.holds row
 hold-by r row old waiting item hold added known texts i h tells are a k =
@@ -258,31 +186,3 @@ hold-by r row old waiting item hold added known texts i h tells are a k =
     not-twice : (b : Bool) → not (not b) ≡ b
     not-twice true = refl
     not-twice false = refl
-
-pub hold-twice : (r : Rows) (row : Row) (old : Entries) (waiting : BTreeSet (List ℕ × List ℕ)) (item : List ℕ) (hold : Hold) (added : Bool) → has_hold_texts row ≡ true → item ≡ field 0 row → hold ≡ hold_in row
-    → AreTold r old → AreWaiting r.holds waiting → added ≡ not (contains pair_cmp waiting (item, hold.patron)) → added ≡ false
-    → Some rule.Double ≡ hold_rule r.patrons r.items r.loans r.holds row
-hold-twice r row old waiting item hold added texts i h tells are a is =
-    let known = is_some (record_at old (key.Patron hold.patron)) in
-    ap (λ b. cond (not b) (Some rule.Double) (cond (not known) (Some rule.Patron) (broken_by (change.Awaited hold) (record_at old (key.Item item))))) (sym is)
-    ∙ hold-by r row old waiting item hold added known texts i h tells are a refl
-
-pub hold-unknown : (r : Rows) (row : Row) (old : Entries) (waiting : BTreeSet (List ℕ × List ℕ)) (item : List ℕ) (hold : Hold) (added known : Bool) → has_hold_texts row ≡ true → item ≡ field 0 row → hold ≡ hold_in row
-    → AreTold r old → AreWaiting r.holds waiting → added ≡ not (contains pair_cmp waiting (item, hold.patron)) → added ≡ true
-    → known ≡ is_some (record_at old (key.Patron hold.patron)) → known ≡ false
-    → Some rule.Patron ≡ hold_rule r.patrons r.items r.loans r.holds row
-hold-unknown r row old waiting item hold added known texts i h tells are a is k none =
-    let found = broken_by (change.Awaited hold) (record_at old (key.Item item)) in
-    ap (λ b. cond (not b) (Some rule.Patron) found) (sym none)
-    ∙ ap (λ b. cond (not b) (Some rule.Double) (cond (not known) (Some rule.Patron) found)) (sym is)
-    ∙ hold-by r row old waiting item hold added known texts i h tells are a k
-
-pub hold-at-item : (r : Rows) (row : Row) (old : Entries) (waiting : BTreeSet (List ℕ × List ℕ)) (item : List ℕ) (hold : Hold) (added known : Bool) (found : Option BaseRule) → has_hold_texts row ≡ true → item ≡ field 0 row → hold ≡ hold_in row
-    → AreTold r old → AreWaiting r.holds waiting → added ≡ not (contains pair_cmp waiting (item, hold.patron)) → added ≡ true
-    → known ≡ is_some (record_at old (key.Patron hold.patron)) → known ≡ true → found ≡ broken_by (change.Awaited hold) (record_at old (key.Item item))
-    → found ≡ hold_rule r.patrons r.items r.loans r.holds row
-hold-at-item r row old waiting item hold added known found texts i h tells are a is k there f =
-    let other = broken_by (change.Awaited hold) (record_at old (key.Item item)) in
-    f ∙ ap (λ b. cond (not b) (Some rule.Patron) other) (sym there)
-    ∙ ap (λ b. cond (not b) (Some rule.Double) (cond (not known) (Some rule.Patron) other)) (sym is)
-    ∙ hold-by r row old waiting item hold added known texts i h tells are a k

@@ -1,12 +1,10 @@
 pub mod Bounds
-pub mod Broken
 pub mod Calendar
 pub mod CoherentBase
 pub mod Dates
 pub mod Entering
 pub mod Entries
 pub mod Faults
-pub mod FirstBroken
 pub mod Judged
 pub mod Kept
 pub mod Lookups

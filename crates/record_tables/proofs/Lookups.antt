@@ -49,10 +49,6 @@ pub or-none : {A : Type 0} (o : Option A) → option_or o None ≡ o
 or-none None = refl
 or-none (Some x) = refl
 
-pub or-false : (a b : Bool) → (a || b) ≡ false → (a ≡ false) × (b ≡ false)
-or-false true b e = cc e
-or-false false b e = (refl, e)
-
 -- what is listed from the rows of a text, as a row is added
 pub listed-more : {X : Type 0} (f : Row → X) (column : ℕ) (q : List ℕ) (rows : List Row) (row : Row)
     → map f (rows_with column q (rows ++ row ∷ [])) ≡ cond (is_same q (field column row)) (map f (rows_with column q rows) ++ f row ∷ []) (map f (rows_with column q rows))

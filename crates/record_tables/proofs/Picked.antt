@@ -1,5 +1,6 @@
 -- Rows that are picked by the text in a column.
-use Rattle.std.proofs.Common.{◌≡◌, ◌∙◌, ℕ, List, [], ◌∷◌, ◌++◌, Bool, true, false, cond, Option, Some, None, refl, sym, ap, eq-eqb}
+use Rattle.std.proofs.Common.{◌≡◌, ◌∙◌, ℕ, List, [], ◌∷◌, ◌++◌, Bool, true, false, cond, Option, Some, None, refl, sym, ap}
+use Rattle.circ_records.proofs.SameTexts.{same-itself, tie}
 use Rattle.std.proofs.lemmas.List.Elements.{filter-append}
 use Rattle.std.proofs.lemmas.Map.Text.{is_eq-slice_cmp}
 use Rattle.std.specs.Cmp.Lexicographic.{nat_list_eq_equiv}
@@ -7,8 +8,6 @@ use Rattle.std.specs.FinMap.{nat_cmp-IsAntisymmetric, slice_cmp-IsAntisymmetric}
 use Rattle.std.specs.List.{AllByRecursion, cons_option, filter, filter_map, find, flat_map}
 use Rattle.std.specs.Ordering.{is_eq}
 use Rattle.std.specs.Prelude.{◌||◌, ◌&&◌, not}
-use Rattle.std.specs.declared.cmp.Ordering.{Ordering}
-use Rattle.std.specs.declared.cmp.Ordering.TheVariants.{Less, Equal, Greater}
 use Rattle.circ_records.specs.Coherent.{are_distinct, has_id}
 use Rattle.circ_records.specs.Keys.{key_cmp}
 use Rattle.circ_records.specs.Records.{AreRising, Entries, record_at}
@@ -19,18 +18,9 @@ use Rattle.circ_records.specs.declared.key.Key.{Key}
 use Rattle.circ_records.specs.declared.record.Record.{Record}
 use Rattle.record_tables.proofs.Entries.{all-from, given, gives-at, itself}
 
-tie : (o : Ordering) → is_eq o ≡ true → o ≡ Equal
-tie Less e = cc
-tie Equal e = refl
-tie Greater e = cc
-
 -- texts of the same bytes are one
 pub same : (a b : List ℕ) → is_same a b ≡ true → a ≡ b
 same a b e = slice_cmp-IsAntisymmetric nat_cmp-IsAntisymmetric a b (tie _ (is_eq-slice_cmp a b ∙ e))
-
-pub same-itself : (a : List ℕ) → is_same a a ≡ true
-same-itself [] = refl
-same-itself (x ∷ xs) = rw (eq-eqb x x refl) (same-itself xs)
 
 pub same-back : (a b : List ℕ) → is_same a b ≡ is_same b a
 same-back a b = nat_list_eq_equiv.symm a b
@@ -105,7 +95,7 @@ listed-first : (column : ℕ) (row_of : List ℕ → Option Row) → RowsOf colu
 listed-first column row_of says id None rest is none = none
 listed-first column row_of says id (Some row) rest is none = let there = says id row is in rw there (rw (same-itself id, none) refl)
 
-parts : (a b : Bool) → (not a && b) ≡ true → (a ≡ false) × (b ≡ true)
+pub parts : (a b : Bool) → (not a && b) ≡ true → (a ≡ false) × (b ≡ true)
 parts true b e = cc
 parts false b e = (refl, e)
 

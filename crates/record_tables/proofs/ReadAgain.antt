@@ -14,12 +14,10 @@ use Rattle.record_tables.specs.Tables.{Row, patrons_header, items_header, loans_
 use Rattle.record_tables.specs.Written.{closed_row, closed_rows, fee_row, fee_rows, hold_rows, is_open, item_rows, listed_fees, listed_loans, loan_at, loan_row, loan_rows, open_fee_at, patron_rows, queued, rows_telling, tables_of}
 use Rattle.circ_records.specs.declared.holds.Hold.{Hold}
 use Rattle.circ_records.specs.declared.key.Key.{Key}
-use Rattle.circ_records.specs.declared.key.Key.TheVariants as key
 use Rattle.circ_records.specs.declared.record.Fee.{Fee}
 use Rattle.circ_records.specs.declared.record.Record.{Record}
-use Rattle.circ_records.specs.declared.record.Record.TheVariants as record_of
 use Rattle.record_tables.proofs.Entering.{same-entries}
-use Rattle.record_tables.proofs.Entries.{each-given}
+use Rattle.record_tables.proofs.Entries.{by-fee, by-item, by-patron, each-given}
 use Rattle.record_tables.proofs.ToldBack.{told-back}
 use Rattle.record_tables.proofs.Unbroken.{none-broken}
 
@@ -49,18 +47,10 @@ abbrev Long : ℕ → Row → Type 0
 Long n row = length row ≡ n
 
 patrons-long : (x : Key × Record) → AllByRecursion (Long 4) (patron_rows x)
-patrons-long (key.Patron id, record_of.Patron p) = (refl, tt)
-patrons-long (key.Patron id, record_of.Item i) = tt
-patrons-long (key.Patron id, record_of.Fee f) = tt
-patrons-long (key.Item id, r) = tt
-patrons-long (key.Fee id, r) = tt
+patrons-long = by-patron (λ x. AllByRecursion (Long 4)) _ (λ x. tt) (λ id p. (refl, tt))
 
 items-long : (x : Key × Record) → AllByRecursion (Long 5) (item_rows x)
-items-long (key.Item id, record_of.Item i) = (refl, tt)
-items-long (key.Item id, record_of.Patron p) = tt
-items-long (key.Item id, record_of.Fee f) = tt
-items-long (key.Patron id, r) = tt
-items-long (key.Fee id, r) = tt
+items-long = by-item (λ x. AllByRecursion (Long 5)) _ (λ x. tt) (λ id i. (refl, tt))
 
 one-long : {A : Type 0} (n : ℕ) (f : A → Row) (o : Option A) (rest : List Row) → ((x : A) → length (f x) ≡ n) → AllByRecursion (Long n) rest → AllByRecursion (Long n) (cons_option (option_map f o) rest)
 one-long n f None rest h all = all
@@ -71,44 +61,28 @@ listed-loans-long es id [] = tt
 listed-loans-long es id (x ∷ xs) = one-long 4 (loan_row id x) (loan_at es x) (listed_loans es id xs) (λ l. refl) (listed-loans-long es id xs)
 
 loans-long : (es : Entries) (x : Key × Record) → AllByRecursion (Long 4) (loan_rows es x)
-loans-long es (key.Patron id, record_of.Patron p) = listed-loans-long es id p.loans
-loans-long es (key.Patron id, record_of.Item i) = tt
-loans-long es (key.Patron id, record_of.Fee f) = tt
-loans-long es (key.Item id, r) = tt
-loans-long es (key.Fee id, r) = tt
+loans-long es = by-patron (λ x. AllByRecursion (Long 4)) _ (λ x. tt) (λ id p. listed-loans-long es id p.loans)
 
 listed-fees-long : (es : Entries) (id : List ℕ) (ids : List (List ℕ)) → AllByRecursion (Long 5) (listed_fees es id ids)
 listed-fees-long es id [] = tt
 listed-fees-long es id (x ∷ xs) = one-long 5 (fee_row id x) (open_fee_at es x) (listed_fees es id xs) (λ f. refl) (listed-fees-long es id xs)
 
 fees-long : (es : Entries) (x : Key × Record) → AllByRecursion (Long 5) (fee_rows es x)
-fees-long es (key.Patron id, record_of.Patron p) = listed-fees-long es id p.fees
-fees-long es (key.Patron id, record_of.Item i) = tt
-fees-long es (key.Patron id, record_of.Fee f) = tt
-fees-long es (key.Item id, r) = tt
-fees-long es (key.Fee id, r) = tt
+fees-long es = by-patron (λ x. AllByRecursion (Long 5)) _ (λ x. tt) (λ id p. listed-fees-long es id p.fees)
 
 closed-long : (id : List ℕ) (f : Fee) (b : Bool) → AllByRecursion (Long 4) (cond b [] (closed_row id f ∷ []))
 closed-long id f true = tt
 closed-long id f false = (refl, tt)
 
 closes-long : (x : Key × Record) → AllByRecursion (Long 4) (closed_rows x)
-closes-long (key.Fee id, record_of.Fee f) = closed-long id f (is_open f)
-closes-long (key.Fee id, record_of.Patron p) = tt
-closes-long (key.Fee id, record_of.Item i) = tt
-closes-long (key.Patron id, r) = tt
-closes-long (key.Item id, r) = tt
+closes-long = by-fee (λ x. AllByRecursion (Long 4)) _ (λ x. tt) (λ id f. closed-long id f (is_open f))
 
 queued-long : (id : List ℕ) (holds : List Hold) → AllByRecursion (Long 3) (queued id holds)
 queued-long id [] = tt
 queued-long id (h ∷ hs) = (refl, queued-long id hs)
 
 holds-long : (x : Key × Record) → AllByRecursion (Long 3) (hold_rows x)
-holds-long (key.Item id, record_of.Item i) = queued-long id i.holds
-holds-long (key.Item id, record_of.Patron p) = tt
-holds-long (key.Item id, record_of.Fee f) = tt
-holds-long (key.Patron id, r) = tt
-holds-long (key.Fee id, r) = tt
+holds-long = by-item (λ x. AllByRecursion (Long 3)) _ (λ x. tt) (λ id i. queued-long id i.holds)
 
 -- a text that isn't empty
 with-rows : (text : List ℕ) (rows : List Row) → 0 < length text → rows_under holds_header text ≡ Some rows → Base.holds_rows_of text ≡ Some rows

@@ -1,5 +1,6 @@
 -- What holds of rows none of which breaks a rule.
 use Rattle.std.proofs.Common.{◌≡◌, ℕ, suc, List, [], ◌∷◌, ◌++◌, Bool, true, false, cond, Option, Some, None, refl, subst, ap, ◌∙◌}
+use Rattle.std.proofs.lemmas.Bool.{or_left, or_right}
 use Rattle.std.specs.Prelude.{is_some, option_map, ◌&&◌, ◌||◌}
 use Rattle.std.specs.List.{AllByRecursion, find}
 use Rattle.std.specs.Option.{option_or}
@@ -71,19 +72,11 @@ has_row-more column text (x ∷ xs) row = by (is_same text (field column x)) (ha
     by true e = refl
     by false e = e
 
-or-right : (a b : Bool) → b ≡ true → (a || b) ≡ true
-or-right true b e = refl
-or-right false b e = e
-
-or-left : (a b : Bool) → a ≡ true → (a || b) ≡ true
-or-left true b e = refl
-or-left false b e = cc e
-
 apart : (column : ℕ) (text : List ℕ) (before rows : List Row) → has_row column text before ≡ true → KeptFrom (Fresh column) before rows → has_row column text rows ≡ false
 apart column text before [] there k = refl
 apart column text before (row ∷ rows) there k =
     by (is_same text (field column row)) refl
-    (apart column text (before ++ row ∷ []) rows (has_row-more column text before row ∙ or-left (has_row column text before) (is_same text (field column row)) there) k.1)
+    (apart column text (before ++ row ∷ []) rows (has_row-more column text before row ∙ or_left (has_row column text before) (is_same text (field column row)) there) k.1)
   where
     by : (b : Bool) → is_same text (field column row) ≡ b → has_row column text rows ≡ false → is_some (cond b (Some row) (find (λ (r : Row). is_same text (field column r)) rows)) ≡ false
     by true e rest =
@@ -96,7 +89,7 @@ pub once : (column : ℕ) (before rows : List Row) → KeptFrom (Fresh column) b
 once column before [] k = tt
 once column before (row ∷ rows) k = (
   apart column (field column row) (before ++ row ∷ []) rows
-      (has_row-more column (field column row) before row ∙ or-right (has_row column (field column row) before) (is_same (field column row) (field column row)) (same-itself (field column row))) k.1,
+      (has_row-more column (field column row) before row ∙ or_right (has_row column (field column row) before) (is_same (field column row) (field column row)) (same-itself (field column row))) k.1,
   once column (before ++ row ∷ []) rows k.1,
 )
 
@@ -121,7 +114,7 @@ held-apart item patron before [] there k = refl
 held-apart item patron before (row ∷ rows) there k =
     by (is_same item (field 0 row) && is_same patron (field 1 row)) refl
     (held-apart item patron (before ++ row ∷ []) rows
-    (has_hold-more item patron before row ∙ or-left (has_hold item patron before) (is_same item (field 0 row) && is_same patron (field 1 row) || false) there) k.1)
+    (has_hold-more item patron before row ∙ or_left (has_hold item patron before) (is_same item (field 0 row) && is_same patron (field 1 row) || false) there) k.1)
   where
     by : (b : Bool) → (is_same item (field 0 row) && is_same patron (field 1 row)) ≡ b → has_hold item patron rows ≡ false → (b || has_hold item patron rows) ≡ false
     by true e rest =
@@ -141,7 +134,7 @@ once-held before [] k = tt
 once-held before (row ∷ rows) k = (
   held-apart (field 0 row) (field 1 row) (before ++ row ∷ []) rows
       (has_hold-more (field 0 row) (field 1 row) before row
-      ∙ or-right (has_hold (field 0 row) (field 1 row) before) (is_same (field 0 row) (field 0 row) && is_same (field 1 row) (field 1 row) || false)
+      ∙ or_right (has_hold (field 0 row) (field 1 row) before) (is_same (field 0 row) (field 0 row) && is_same (field 1 row) (field 1 row) || false)
       (itself (is_same (field 0 row) (field 0 row)) (is_same (field 1 row) (field 1 row)) (same-itself (field 0 row)) (same-itself (field 1 row)))) k.1,
   once-held (before ++ row ∷ []) rows k.1,
 )

@@ -1,12 +1,13 @@
 -- A map that has the records that rows give, as a row more is put into it.
-use Rattle.std.proofs.Common.{◌≡◌, ℕ, List, [], ◌∷◌, ◌++◌, Bool, true, false, cond, Option, Some, None, refl, subst, sym, ap, ◌∙◌}
+use Rattle.std.proofs.Common.{◌≡◌, ℕ, List, [], ◌∷◌, ◌++◌, Bool, true, false, cond, Option, Some, None, refl, sym, ap, ◌∙◌}
+use Rattle.std.proofs.lemmas.Bool.{or_parts}
 use Rattle.std.specs.Prelude.{option_map, ◌||◌}
 use Rattle.std.specs.Option.{option_or}
 use Rattle.std.specs.Ordering.{eq_by_cmp, is_eq, nat_cmp}
 use Rattle.std.specs.Cmp.Lexicographic.{slice_cmp}
 use Rattle.circ_records.specs.Changes.{IsChanged, changed}
 use Rattle.circ_records.specs.Keys.{key_cmp}
-use Rattle.record_tables.specs.Read.{AreTold, no_rows, to_closed, to_fees, to_holds, to_items, to_loans, to_patrons}
+use Rattle.record_tables.specs.Read.{AreTold, no_rows, up_to}
 use Rattle.circ_records.specs.Records.{Entries, record_at}
 use Rattle.record_tables.specs.Rules.{has_row}
 use Rattle.record_tables.specs.Tables.{Row, Rows, field}
@@ -14,12 +15,11 @@ use Rattle.record_tables.specs.Told.{closed_told, fee_told, fees_of, hold_in, it
 use Rattle.circ_records.specs.Texts.{is_same}
 use Rattle.circ_records.specs.declared.changes.ListChange.{ListChange}
 use Rattle.circ_records.specs.declared.changes.ListChange.TheVariants as change
-use Rattle.circ_records.specs.declared.holds.Hold.{Hold}
 use Rattle.circ_records.specs.declared.key.Key.{Key}
 use Rattle.circ_records.specs.declared.key.Key.TheVariants as key
-use Rattle.circ_records.specs.declared.record.Loan.{Loan}
 use Rattle.circ_records.specs.declared.record.Record.{Record}
-use Rattle.record_tables.proofs.Lookups.{listed-more, none-of, or-false, or-none, row_with-new}
+use Rattle.record_tables.specs.declared.tables.TableName.TheVariants as table
+use Rattle.record_tables.proofs.Lookups.{listed-more, none-of, or-none, row_with-new}
 use Rattle.circ_records.proofs.SameTexts.{same-text, tie-text}
 
 -- a record is put in under a new id
@@ -35,6 +35,10 @@ put f q row before x o was fresh is =
     by true e = ap Some (is ∙ ap (λ t. f t row) (sym (same-text q (field 0 row) e)))
     by false e = was
 
+-- a record is put in at a key
+abbrev pub IsPut : Key → Record → Entries → Entries → Type 0
+IsPut k x old new = (q : Key) → record_at new q ≡ cond (eq_by_cmp key_cmp k q) (Some x) (record_at old q)
+
 -- a part of a record that is made from rows changes with them
 part : {X : Type 0} (g : X → Row → Record) (c : ListChange) (b : Bool) (x y z : X) (o : Option Row) (r : Option Record)
     → r ≡ option_map (g x) o → ((row : Row) → changed c (g x row) ≡ g y row) → z ≡ cond b y x
@@ -45,9 +49,9 @@ part g c false x y z o r was h is = was ∙ ap (λ w. option_map (g w) o) (sym i
 
 -- a row of patrons more, whose id is new
 pub tells-patron : (r : Rows) (before : List Row) (row : Row) (old new : Entries) (x : Record)
-    → AreTold (to_patrons r before) old → has_row 0 (field 0 row) before ≡ false → x ≡ patron_told no_rows (field 0 row) row
-    → ((q : Key) → record_at new q ≡ cond (eq_by_cmp key_cmp (key.Patron (field 0 row)) q) (Some x) (record_at old q))
-    → AreTold (to_patrons r (before ++ row ∷ [])) new
+    → AreTold (up_to table.Patrons r before) old → has_row 0 (field 0 row) before ≡ false → x ≡ patron_told no_rows (field 0 row) row
+    → IsPut (key.Patron (field 0 row)) x old new
+    → AreTold (up_to table.Patrons r (before ++ row ∷ [])) new
 tells-patron r before row old new x tells fresh is updates (key.Patron q) =
     updates (key.Patron q) ∙ put (patron_told no_rows) q row before x (record_at old (key.Patron q)) (tells (key.Patron q)) fresh is
 tells-patron r before row old new x tells fresh is updates (key.Item q) = updates (key.Item q) ∙ tells (key.Item q)
@@ -55,9 +59,9 @@ tells-patron r before row old new x tells fresh is updates (key.Fee q) = updates
 
 -- a row of items more, whose id is new
 pub tells-item : (r : Rows) (before : List Row) (row : Row) (old new : Entries) (x : Record)
-    → AreTold (to_items r before) old → has_row 0 (field 0 row) before ≡ false → x ≡ item_told no_rows (field 0 row) row
-    → ((q : Key) → record_at new q ≡ cond (eq_by_cmp key_cmp (key.Item (field 0 row)) q) (Some x) (record_at old q))
-    → AreTold (to_items r (before ++ row ∷ [])) new
+    → AreTold (up_to table.Items r before) old → has_row 0 (field 0 row) before ≡ false → x ≡ item_told no_rows (field 0 row) row
+    → IsPut (key.Item (field 0 row)) x old new
+    → AreTold (up_to table.Items r (before ++ row ∷ [])) new
 tells-item r before row old new x tells fresh is updates (key.Patron q) = updates (key.Patron q) ∙ tells (key.Patron q)
 tells-item r before row old new x tells fresh is updates (key.Item q) =
     updates (key.Item q) ∙ put (item_told no_rows) q row before x (record_at old (key.Item q)) (tells (key.Item q)) fresh is
@@ -65,9 +69,9 @@ tells-item r before row old new x tells fresh is updates (key.Fee q) = updates (
 
 -- a row of loans more, whose item is in none before
 pub tells-loan : (r : Rows) (before : List Row) (row : Row) (old mid new : Entries)
-    → AreTold (to_loans r before) old → has_row 1 (field 1 row) before ≡ false
+    → AreTold (up_to table.Loans r before) old → has_row 1 (field 1 row) before ≡ false
     → IsChanged (key.Patron (field 0 row)) (change.Borrows (field 1 row)) old mid → IsChanged (key.Item (field 1 row)) (change.Lent (loan_in row)) mid new
-    → AreTold (to_loans r (before ++ row ∷ [])) new
+    → AreTold (up_to table.Loans r (before ++ row ∷ [])) new
 tells-loan r before row old mid new tells fresh first second (key.Fee q) = second (key.Fee q) ∙ first (key.Fee q) ∙ tells (key.Fee q)
 tells-loan r before row old mid new tells fresh first second (key.Patron q) =
     second (key.Patron q) ∙ first (key.Patron q)
@@ -82,10 +86,10 @@ tells-loan r before row old mid new tells fresh first second (key.Item q) =
 
 -- a row of open fees more, whose id is new
 pub tells-fee : (r : Rows) (before : List Row) (row : Row) (old mid new : Entries) (x : Record)
-    → AreTold (to_fees r before) old → has_row 0 (field 0 row) before ≡ false → x ≡ fee_told row
-    → ((q : Key) → record_at mid q ≡ cond (eq_by_cmp key_cmp (key.Fee (field 0 row)) q) (Some x) (record_at old q))
+    → AreTold (up_to table.Fees r before) old → has_row 0 (field 0 row) before ≡ false → x ≡ fee_told row
+    → IsPut (key.Fee (field 0 row)) x old mid
     → IsChanged (key.Patron (field 1 row)) (change.Owes (field 0 row)) mid new
-    → AreTold (to_fees r (before ++ row ∷ [])) new
+    → AreTold (up_to table.Fees r (before ++ row ∷ [])) new
 tells-fee r before row old mid new x tells fresh is updates then (key.Patron q) =
     then (key.Patron q)
     ∙ ap (λ b. cond b (option_map (changed (change.Owes (field 0 row))) (record_at mid (key.Patron q))) (record_at mid (key.Patron q))) (tie-text (field 1 row) q)
@@ -99,9 +103,9 @@ tells-fee r before row old mid new x tells fresh is updates then (key.Fee q) =
 
 -- a row of closed fees more, whose id is new among all fees
 pub tells-closed : (r : Rows) (before : List Row) (row : Row) (old new : Entries) (x : Record)
-    → AreTold (to_closed r before) old → (has_row 0 (field 0 row) r.fees || has_row 0 (field 0 row) before) ≡ false → x ≡ closed_told row
-    → ((q : Key) → record_at new q ≡ cond (eq_by_cmp key_cmp (key.Fee (field 0 row)) q) (Some x) (record_at old q))
-    → AreTold (to_closed r (before ++ row ∷ [])) new
+    → AreTold (up_to table.Closed r before) old → (has_row 0 (field 0 row) r.fees || has_row 0 (field 0 row) before) ≡ false → x ≡ closed_told row
+    → IsPut (key.Fee (field 0 row)) x old new
+    → AreTold (up_to table.Closed r (before ++ row ∷ [])) new
 tells-closed r before row old new x tells fresh is updates (key.Patron q) = updates (key.Patron q) ∙ tells (key.Patron q)
 tells-closed r before row old new x tells fresh is updates (key.Item q) = updates (key.Item q) ∙ tells (key.Item q)
 tells-closed r before row old new x tells fresh is updates (key.Fee q) =
@@ -111,7 +115,7 @@ tells-closed r before row old new x tells fresh is updates (key.Fee q) =
     ∙ sym (ap (λ o. option_or (option_map fee_told (row_with 0 q r.fees)) (option_map closed_told o)) (row_with-new 0 q before row apart.1))
   where
     apart : (has_row 0 (field 0 row) r.fees ≡ false) × (has_row 0 (field 0 row) before ≡ false)
-    apart = or-false (has_row 0 (field 0 row) r.fees) (has_row 0 (field 0 row) before) fresh
+    apart = or_parts (has_row 0 (field 0 row) r.fees) (has_row 0 (field 0 row) before) fresh
 
     by : (b : Bool) → is_same q (field 0 row) ≡ b
         → cond b (Some x) (record_at old (key.Fee q)) ≡ option_or (option_map fee_told (row_with 0 q r.fees)) (option_map closed_told (cond b (Some row) (row_with 0 q before)))
@@ -122,8 +126,8 @@ tells-closed r before row old new x tells fresh is updates (key.Fee q) =
 
 -- a row of holds more
 pub tells-hold : (r : Rows) (before : List Row) (row : Row) (old new : Entries)
-    → AreTold (to_holds r before) old → IsChanged (key.Item (field 0 row)) (change.Awaited (hold_in row)) old new
-    → AreTold (to_holds r (before ++ row ∷ [])) new
+    → AreTold (up_to table.Holds r before) old → IsChanged (key.Item (field 0 row)) (change.Awaited (hold_in row)) old new
+    → AreTold (up_to table.Holds r (before ++ row ∷ [])) new
 tells-hold r before row old new tells then (key.Patron q) = then (key.Patron q) ∙ tells (key.Patron q)
 tells-hold r before row old new tells then (key.Fee q) = then (key.Fee q) ∙ tells (key.Fee q)
 tells-hold r before row old new tells then (key.Item q) =
@@ -131,43 +135,3 @@ tells-hold r before row old new tells then (key.Item q) =
     ∙ ap (λ b. cond b (option_map (changed (change.Awaited (hold_in row))) (record_at old (key.Item q))) (record_at old (key.Item q))) (tie-text (field 0 row) q)
     ∙ part (λ holds. item_with (row_with 1 q r.loans) holds) (change.Awaited (hold_in row)) (is_same q (field 0 row)) (queue_of q before) (queue_of q before ++ hold_in row ∷ []) (queue_of q (before ++ row ∷ []))
     (row_with 0 q r.items) (record_at old (key.Item q)) (tells (key.Item q)) (λ x. refl) (listed-more hold_in 0 q before row)
-
--- the same of ids and records that go by other names
-pub tells-loan-of : (r : Rows) (before : List Row) (row : Row) (old mid new : Entries) (patron item : List ℕ) (loan : Loan)
-    → patron ≡ field 0 row → item ≡ field 1 row → loan ≡ loan_in row
-    → AreTold (to_loans r before) old → has_row 1 (field 1 row) before ≡ false
-    → IsChanged (key.Patron patron) (change.Borrows item) old mid → IsChanged (key.Item item) (change.Lent loan) mid new
-    → AreTold (to_loans r (before ++ row ∷ [])) new
-tells-loan-of r before row old mid new patron item loan p i l tells fresh first second =
-    tells-loan r before row old mid new tells fresh
-    (subst (λ (t : List ℕ). IsChanged (key.Patron t) (change.Borrows (field 1 row)) old mid) p (subst (λ (t : List ℕ). IsChanged (key.Patron patron) (change.Borrows t) old mid) i first))
-    (subst (λ (t : List ℕ). IsChanged (key.Item t) (change.Lent (loan_in row)) mid new) i (subst (λ (t : Loan). IsChanged (key.Item item) (change.Lent t) mid new) l second))
-
--- a record is put in at a key
-abbrev pub IsPut : Key → Record → Entries → Entries → Type 0
-IsPut k x old new = (q : Key) → record_at new q ≡ cond (eq_by_cmp key_cmp k q) (Some x) (record_at old q)
-
-pub tells-fee-of : (r : Rows) (before : List Row) (row : Row) (old mid new : Entries) (fee patron : List ℕ) (x : Record)
-    → fee ≡ field 0 row → patron ≡ field 1 row → x ≡ fee_told row
-    → AreTold (to_fees r before) old → has_row 0 (field 0 row) before ≡ false
-    → IsPut (key.Fee fee) x old mid → IsChanged (key.Patron patron) (change.Owes fee) mid new
-    → AreTold (to_fees r (before ++ row ∷ [])) new
-tells-fee-of r before row old mid new fee patron x f p is tells fresh first second =
-    tells-fee r before row old mid new x tells fresh is
-    (subst (λ (t : List ℕ). IsPut (key.Fee t) x old mid) f first)
-    (subst (λ (t : List ℕ). IsChanged (key.Patron t) (change.Owes (field 0 row)) mid new) p (subst (λ (t : List ℕ). IsChanged (key.Patron patron) (change.Owes t) mid new) f second))
-
-pub tells-closed-of : (r : Rows) (before : List Row) (row : Row) (old new : Entries) (fee : List ℕ) (x : Record)
-    → fee ≡ field 0 row → x ≡ closed_told row
-    → AreTold (to_closed r before) old → (has_row 0 (field 0 row) r.fees || has_row 0 (field 0 row) before) ≡ false
-    → IsPut (key.Fee fee) x old new
-    → AreTold (to_closed r (before ++ row ∷ [])) new
-tells-closed-of r before row old new fee x f is tells fresh first = tells-closed r before row old new x tells fresh is (subst (λ (t : List ℕ). IsPut (key.Fee t) x old new) f first)
-
-pub tells-hold-of : (r : Rows) (before : List Row) (row : Row) (old new : Entries) (item : List ℕ) (hold : Hold)
-    → item ≡ field 0 row → hold ≡ hold_in row
-    → AreTold (to_holds r before) old → IsChanged (key.Item item) (change.Awaited hold) old new
-    → AreTold (to_holds r (before ++ row ∷ [])) new
-tells-hold-of r before row old new item hold i h tells then =
-    tells-hold r before row old new tells
-    (subst (λ (t : List ℕ). IsChanged (key.Item t) (change.Awaited (hold_in row)) old new) i (subst (λ (t : Hold). IsChanged (key.Item item) (change.Awaited t) old new) h then))

@@ -1,6 +1,7 @@
 -- What is written of coherent records gives these records.
 use Rattle.std.proofs.Common.{◌≡◌, ◌∙◌, ℕ, List, [], ◌∷◌, Bool, true, false, cond, Option, Some, None, map, refl, sym, ap, arith}
-use Rattle.std.proofs.lemmas.Bool.{ltb-false}
+use Rattle.circ_records.proofs.SameTexts.{same-itself}
+use Rattle.std.proofs.lemmas.Bool.{ltb-false, or_right}
 use Rattle.std.specs.List.{cons_option, filter_map, flat_map}
 use Rattle.std.specs.Option.{option_or}
 use Rattle.std.specs.Prelude.{option_map, ◌||◌, ◌&&◌}
@@ -22,17 +23,13 @@ use Rattle.circ_records.specs.declared.record.Patron.{Patron}
 use Rattle.circ_records.specs.declared.record.Record.{Record}
 use Rattle.circ_records.specs.declared.record.Record.TheVariants as record_of
 use Rattle.record_tables.proofs.Entries.{given}
-use Rattle.record_tables.proofs.Picked.{first-picked, head, same-itself}
+use Rattle.record_tables.proofs.Picked.{first-picked, head}
 use Rattle.record_tables.proofs.ReadBack.{due-back, flag-back, hundredths-back, kind-back, media-back, renewals-back}
 use Rattle.record_tables.proofs.WrittenRows.{borrower_of, closed-rows, debtor_of, fee-rows, item-rows, loan-rows, owners, patron-rows, patrons-fees, patrons-loans, queue-rows}
 
 -- the first row that has a text in a column
 pub first-row : (column : ℕ) (text : List ℕ) (rows : List Row) → row_with column text rows ≡ head (rows_with column text rows)
 first-row column text rows = first-picked (λ (row : Row). is_same text (field column row)) rows
-
-or-right : (a b : Bool) → b ≡ true → (a || b) ≡ true
-or-right true b e = refl
-or-right false b e = e
 
 -- a list is the ids of its rows, where each of it has one
 all-listed : (column : ℕ) (row_of : List ℕ → Option Row) (ids : List (List ℕ)) → ((x : List ℕ) → has_id x ids ≡ true → (row : Row) × (row_of x ≡ Some row) × (field column row ≡ x))
@@ -42,9 +39,9 @@ all-listed column row_of (x ∷ xs) h =
     let (row, is, there) = h x (ap (λ b. b || has_id x xs) (same-itself x)) in
     ap (λ o. map (field column) (cons_option o (filter_map row_of xs))) is
     ∙ ap (λ y. y ∷ map (field column) (filter_map row_of xs)) there
-    ∙ ap (λ ys. x ∷ ys) (all-listed column row_of xs (λ y has. h y (or-right (is_same y x) (has_id y xs) has)))
+    ∙ ap (λ ys. x ∷ ys) (all-listed column row_of xs (λ y has. h y (or_right (is_same y x) (has_id y xs) has)))
 
-lent-item : (q : List ℕ) (o : Option Loan) → is_loan_of q o ≡ true → (l : Loan) × (o ≡ Some l)
+pub lent-item : (q : List ℕ) (o : Option Loan) → is_loan_of q o ≡ true → (l : Loan) × (o ≡ Some l)
 lent-item q None e = cc
 lent-item q (Some l) e = (l, refl)
 

@@ -1,7 +1,8 @@
 -- What is written of coherent records breaks no rule of a base.
 use Rattle.std.proofs.Common.{◌≡◌, ◌∙◌, ◌≤◌, ℕ, suc, List, [], ◌∷◌, ◌++◌, Bool, true, false, cond, Option, Some, None, length, map, refl, sym, ap, subst, arith, append_assoc, length-append}
+use Rattle.circ_records.proofs.SameTexts.{same-itself}
 use Rattle.std.proofs.lemmas.List.{map-append}
-use Rattle.std.proofs.lemmas.Bool.{and_from, and_parts, le-leb, leb-true, lt-leb}
+use Rattle.std.proofs.lemmas.Bool.{and_from, and_parts, le-leb, leb-true, lt-leb, or_parts, or_right}
 use Rattle.std.proofs.lemmas.List.Elements.{filter-append}
 use Rattle.std.specs.List.{AllByRecursion, cons_option, filter_map, flat_map, list_all, list_any}
 use Rattle.std.specs.Prelude.{is_some, not, option_map, option_and_then, unwrap_or, ◌||◌, ◌&&◌, nat_le}
@@ -14,14 +15,14 @@ use Rattle.sip_reader.proofs.AmountTexts.{amount_of-amount_text}
 use Rattle.sip_reader.specs.Texts.{is_barred, is_id, is_text}
 use Rattle.circ_records.specs.declared.holds.TheConstants.{QUEUE_MAX}
 use Rattle.record_tables.specs.Base.{first_broken}
-use Rattle.circ_records.specs.Coherent.{AreOfKind, Coherent, are_distinct, as_fee, as_item, as_patron, has_id, is_hold, is_known, is_lent_to, is_loan_of, is_owed_by}
+use Rattle.circ_records.specs.Coherent.{AreOfKind, Coherent, are_distinct, as_fee, as_item, as_patron, has_id, is_hold, is_known, is_lent_to, is_owed_by}
 use Rattle.circ_records.specs.Records.{AreRising, Entries, record_at}
 use Rattle.record_tables.specs.Rules.{broken, broken_from, closed_rule, fee_rule, has_closed_values, has_fee_texts, has_fee_values, has_hold, has_hold_texts, has_item_texts, has_loan_texts, has_loan_values, has_media, has_patron_texts, has_row, hold_rule, is_borrower, is_full, is_of_patron, is_owing, item_rule, loan_rule, patron_rule}
 use Rattle.circ_records.specs.Classes.{has_class}
 use Rattle.record_tables.specs.Tables.{Row, field}
 use Rattle.record_tables.specs.Told.{rows_with}
 use Rattle.circ_records.specs.Texts.{is_same}
-use Rattle.record_tables.specs.Written.{closed_row, closed_rows, fee_row, fee_rows, hold_row, hold_rows, is_open, item_row, item_rows, loan_at, loan_in, loan_row, loan_rows, open_fee_at, open_fee_in, patron_row, patron_rows, queued, rows_telling}
+use Rattle.record_tables.specs.Written.{closed_alone, closed_row, closed_rows, fee_row, fee_rows, hold_row, hold_rows, is_open, item_row, item_rows, listed_fees, listed_loans, loan_at, loan_in, loan_row, loan_rows, open_fee_at, open_fee_in, patron_row, patron_rows, queued, rows_telling}
 use Rattle.circ_records.specs.declared.rule.BaseRule.{BaseRule}
 use Rattle.circ_records.specs.declared.holds.Hold.{Hold}
 use Rattle.circ_records.specs.declared.key.Key.{Key}
@@ -34,10 +35,10 @@ use Rattle.circ_records.specs.declared.record.Record.{Record}
 use Rattle.circ_records.specs.declared.record.Record.TheVariants as record_of
 use Rattle.record_tables.specs.declared.tables.TableName.{TableName}
 use Rattle.record_tables.specs.declared.tables.TableName.TheVariants as table
-use Rattle.record_tables.proofs.Entries.{each-given, given}
-use Rattle.record_tables.proofs.Picked.{head, same, same-back, same-itself}
+use Rattle.record_tables.proofs.Entries.{by-fee, by-item, by-patron, each-given, given}
+use Rattle.record_tables.proofs.Picked.{head, parts, same, same-back}
 use Rattle.record_tables.proofs.ReadBack.{due-back, flag-back, hundredths-back, kind-back, media-back, renewals-back}
-use Rattle.record_tables.proofs.ToldBack.{first-row}
+use Rattle.record_tables.proofs.ToldBack.{first-row, lent-item}
 use Rattle.record_tables.proofs.WrittenRows.{borrower_of, closed-rows, debtor_of, fee-rows, item-rows, loan-rows, owners, patron-rows, queue-rows}
 
 -- ROWS THAT EACH PASS
@@ -101,21 +102,13 @@ media-text media.BookWithTape = refl
 
 -- WHAT LISTS NAME
 
-or-right : (a b : Bool) → b ≡ true → (a || b) ≡ true
-or-right true b e = refl
-or-right false b e = e
-
 each-listed : (P : Row → Type 0) (row_of : List ℕ → Option Row) (ids : List (List ℕ)) → ((x : List ℕ) → has_id x ids ≡ true → (row : Row) → row_of x ≡ Some row → P row) → AllByRecursion P (filter_map row_of ids)
 each-listed P row_of [] h = tt
-each-listed P row_of (x ∷ xs) h = by (row_of x) refl (each-listed P row_of xs (λ y has. h y (or-right (is_same y x) (has_id y xs) has)))
+each-listed P row_of (x ∷ xs) h = by (row_of x) refl (each-listed P row_of xs (λ y has. h y (or_right (is_same y x) (has_id y xs) has)))
   where
     by : (o : Option Row) → row_of x ≡ o → AllByRecursion P (filter_map row_of xs) → AllByRecursion P (cons_option o (filter_map row_of xs))
     by None is rest = rest
     by (Some row) is rest = (h x (ap (λ b. b || has_id x xs) (same-itself x)) row is, rest)
-
-lent-item : (q : List ℕ) (o : Option Loan) → is_loan_of q o ≡ true → (l : Loan) × (o ≡ Some l)
-lent-item q None e = cc
-lent-item q (Some l) e = (l, refl)
 
 lent : (q : List ℕ) (o : Option Record) → is_lent_to q (as_item o) ≡ true → (i : Item) × (l : Loan) × (o ≡ Some (record_of.Item i)) × (i.loan ≡ Some l)
 lent q None e = cc
@@ -146,24 +139,16 @@ has_hold-picked x q (row ∷ rows) = by (is_same x (field 0 row)) (has_hold-pick
     by true rest = ap (λ b. is_same q (field 1 row) || b) rest
     by false rest = rest
 
-no-either : (a b : Bool) → (a || b) ≡ false → (a ≡ false) × (b ≡ false)
-no-either true b e = cc
-no-either false b e = (refl, e)
-
 apart-in : (x : List ℕ) (xs : List (List ℕ)) (y : List ℕ) (ys : List (List ℕ)) → has_id x (xs ++ y ∷ ys) ≡ false → is_same x y ≡ false
-apart-in x [] y ys none = (no-either (is_same x y) (has_id x ys) none).0
-apart-in x (z ∷ xs) y ys none = apart-in x xs y ys (no-either (is_same x z) (has_id x (xs ++ y ∷ ys)) none).1
-
-both : (a b : Bool) → (not a && b) ≡ true → (a ≡ false) × (b ≡ true)
-both true b e = cc
-both false b e = (refl, e)
+apart-in x [] y ys none = (or_parts (is_same x y) (has_id x ys) none).0
+apart-in x (z ∷ xs) y ys none = apart-in x xs y ys (or_parts (is_same x z) (has_id x (xs ++ y ∷ ys)) none).1
 
 -- in a list that has each once, none is in front of itself
 front-new : (xs : List (List ℕ)) (y : List ℕ) (ys : List (List ℕ)) → are_distinct (xs ++ y ∷ ys) ≡ true → has_id y xs ≡ false
 front-new [] y ys distinct = refl
 front-new (x ∷ xs) y ys distinct =
-    let parts = both (has_id x (xs ++ y ∷ ys)) (are_distinct (xs ++ y ∷ ys)) distinct in
-    rw (same-back y x, apart-in x xs y ys parts.0) (front-new xs y ys parts.1)
+    let new = parts (has_id x (xs ++ y ∷ ys)) (are_distinct (xs ++ y ∷ ys)) distinct in
+    rw (same-back y x, apart-in x xs y ys new.0) (front-new xs y ys new.1)
 
 length-queued : (x : List ℕ) (holds : List Hold) → length (queued x holds) ≡ length holds
 length-queued x [] = refl
@@ -215,11 +200,7 @@ module _ (policy : Terms) (n : ℕ) (es : Entries) (rising : AreRising es) (co :
           ) refl
 
   patrons-are : (x : Key × Record) → record_at es x.0 ≡ Some x.1 → AllByRecursion IsPatronRow (patron_rows x)
-  patrons-are (key.Patron id, record_of.Patron p) at = ((id, p, at, refl), tt)
-  patrons-are (key.Patron id, record_of.Item i) at = tt
-  patrons-are (key.Patron id, record_of.Fee f) at = tt
-  patrons-are (key.Item id, r) at = tt
-  patrons-are (key.Fee id, r) at = tt
+  patrons-are = by-patron (λ x rows. record_at es x.0 ≡ Some x.1 → AllByRecursion IsPatronRow rows) _ (λ x at. tt) (λ id p at. ((id, p, at, refl), tt))
 
   pub patrons-pass : broken table.Patrons (patron_rule policy) (flat_map patron_rows es) ≡ None
   patrons-pass = passes table.Patrons (patron_rule policy) IsPatronRow (flat_map patron_rows es) patrons-fit (each-given IsPatronRow patron_rows es rising patrons-are)
@@ -245,11 +226,7 @@ module _ (policy : Terms) (n : ℕ) (es : Entries) (rising : AreRising es) (co :
       fits is = rw (item-texts id i at, alone 0 (flat_map item_rows es) front back (item_row id i) (item_row id i) is (an-item id i at), item-media id i at) refl
 
   items-are : (x : Key × Record) → record_at es x.0 ≡ Some x.1 → AllByRecursion IsItemRow (item_rows x)
-  items-are (key.Item id, record_of.Item i) at = ((id, i, at, refl), tt)
-  items-are (key.Item id, record_of.Patron p) at = tt
-  items-are (key.Item id, record_of.Fee f) at = tt
-  items-are (key.Patron id, r) at = tt
-  items-are (key.Fee id, r) at = tt
+  items-are = by-item (λ x rows. record_at es x.0 ≡ Some x.1 → AllByRecursion IsItemRow rows) _ (λ x at. tt) (λ id i at. ((id, i, at, refl), tt))
 
   pub items-pass : broken table.Items (item_rule policy) (flat_map item_rows es) ≡ None
   items-pass = passes table.Items (item_rule policy) IsItemRow (flat_map item_rows es) items-fit (each-given IsItemRow item_rows es rising items-are)
@@ -301,17 +278,16 @@ module _ (policy : Terms) (n : ℕ) (es : Entries) (rising : AreRising es) (co :
           ) refl
 
   loans-are : (x : Key × Record) → record_at es x.0 ≡ Some x.1 → AllByRecursion ALoan (loan_rows es x)
-  loans-are (key.Patron q, record_of.Patron p) at = each-listed ALoan (λ x. option_map (loan_row q x) (loan_at es x)) p.loans listed
+  loans-are = by-patron (λ x rows. record_at es x.0 ≡ Some x.1 → AllByRecursion ALoan rows) _ (λ x at. tt) some
     where
-      listed : (x : List ℕ) → has_id x p.loans ≡ true → (row : Row) → option_map (loan_row q x) (loan_at es x) ≡ Some row → ALoan row
-      listed x has row is =
-          let (i, l, there, lent) = lent q (record_at es (key.Item x)) (sym ((co.patrons q p (ap as_patron at)).loans x) ∙ has) in
-          let same : Some (loan_row q x l) ≡ Some row = sym (ap (λ (o : Option Record). option_map (loan_row q x) (loan_in o)) there ∙ ap (option_map (loan_row q x)) lent) ∙ is in
-          record { patron = q; owner = p; owner_at = at; item = x; lent = i; lent_at = there; loan = l; loan_is = lent; row_is = ap (λ o. unwrap_or o []) (sym same) }
-  loans-are (key.Patron q, record_of.Item i) at = tt
-  loans-are (key.Patron q, record_of.Fee f) at = tt
-  loans-are (key.Item q, r) at = tt
-  loans-are (key.Fee q, r) at = tt
+      some : (q : List ℕ) (p : Patron) → record_at es (key.Patron q) ≡ Some (record_of.Patron p) → AllByRecursion ALoan (listed_loans es q p.loans)
+      some q p at = each-listed ALoan (λ x. option_map (loan_row q x) (loan_at es x)) p.loans listed
+        where
+          listed : (x : List ℕ) → has_id x p.loans ≡ true → (row : Row) → option_map (loan_row q x) (loan_at es x) ≡ Some row → ALoan row
+          listed x has row is =
+              let (i, l, there, lent) = lent q (record_at es (key.Item x)) (sym ((co.patrons q p (ap as_patron at)).loans x) ∙ has) in
+              let same : Some (loan_row q x l) ≡ Some row = sym (ap (λ (o : Option Record). option_map (loan_row q x) (loan_in o)) there ∙ ap (option_map (loan_row q x)) lent) ∙ is in
+              record { patron = q; owner = p; owner_at = at; item = x; lent = i; lent_at = there; loan = l; loan_is = lent; row_is = ap (λ o. unwrap_or o []) (sym same) }
 
   pub loans-pass : broken table.Loans (loan_rule (flat_map patron_rows es) (flat_map item_rows es)) (flat_map (loan_rows es) es) ≡ None
   loans-pass = passes table.Loans (loan_rule (flat_map patron_rows es) (flat_map item_rows es)) ALoan (flat_map (loan_rows es) es) loans-fit (each-given ALoan (loan_rows es) es rising loans-are)
@@ -366,17 +342,16 @@ module _ (policy : Terms) (n : ℕ) (es : Entries) (rising : AreRising es) (co :
           ) refl
 
   fees-are : (x : Key × Record) → record_at es x.0 ≡ Some x.1 → AllByRecursion AnOpenFee (fee_rows es x)
-  fees-are (key.Patron q, record_of.Patron p) at = each-listed AnOpenFee (λ x. option_map (fee_row q x) (open_fee_at es x)) p.fees listed
+  fees-are = by-patron (λ x rows. record_at es x.0 ≡ Some x.1 → AllByRecursion AnOpenFee rows) _ (λ x at. tt) some
     where
-      listed : (x : List ℕ) → has_id x p.fees ≡ true → (row : Row) → option_map (fee_row q x) (open_fee_at es x) ≡ Some row → AnOpenFee row
-      listed x has row is =
-          let (f, there, unpaid) = owed q (record_at es (key.Fee x)) (sym ((co.patrons q p (ap as_patron at)).fees x) ∙ has) in
-          let same : Some (fee_row q x f) ≡ Some row = sym (ap (λ (o : Option Record). option_map (fee_row q x) (open_fee_in o)) there ∙ ap (λ b. option_map (fee_row q x) (cond b (Some f) None)) unpaid) ∙ is in
-          record { patron = q; owner = p; owner_at = at; id = x; fee = f; fee_at = there; unpaid = unpaid; row_is = ap (λ o. unwrap_or o []) (sym same) }
-  fees-are (key.Patron q, record_of.Item i) at = tt
-  fees-are (key.Patron q, record_of.Fee f) at = tt
-  fees-are (key.Item q, r) at = tt
-  fees-are (key.Fee q, r) at = tt
+      some : (q : List ℕ) (p : Patron) → record_at es (key.Patron q) ≡ Some (record_of.Patron p) → AllByRecursion AnOpenFee (listed_fees es q p.fees)
+      some q p at = each-listed AnOpenFee (λ x. option_map (fee_row q x) (open_fee_at es x)) p.fees listed
+        where
+          listed : (x : List ℕ) → has_id x p.fees ≡ true → (row : Row) → option_map (fee_row q x) (open_fee_at es x) ≡ Some row → AnOpenFee row
+          listed x has row is =
+              let (f, there, unpaid) = owed q (record_at es (key.Fee x)) (sym ((co.patrons q p (ap as_patron at)).fees x) ∙ has) in
+              let same : Some (fee_row q x f) ≡ Some row = sym (ap (λ (o : Option Record). option_map (fee_row q x) (open_fee_in o)) there ∙ ap (λ b. option_map (fee_row q x) (cond b (Some f) None)) unpaid) ∙ is in
+              record { patron = q; owner = p; owner_at = at; id = x; fee = f; fee_at = there; unpaid = unpaid; row_is = ap (λ o. unwrap_or o []) (sym same) }
 
   pub fees-pass : broken table.Fees (fee_rule None (flat_map patron_rows es)) (flat_map (fee_rows es) es) ≡ None
   fees-pass = passes table.Fees (fee_rule None (flat_map patron_rows es)) AnOpenFee (flat_map (fee_rows es) es) fees-fit (each-given AnOpenFee (fee_rows es) es rising fees-are)
@@ -417,15 +392,14 @@ module _ (policy : Terms) (n : ℕ) (es : Entries) (rising : AreRising es) (co :
           ) refl
 
   closed-are : (x : Key × Record) → record_at es x.0 ≡ Some x.1 → AllByRecursion AClosedFee (closed_rows x)
-  closed-are (key.Fee x, record_of.Fee f) at = by (is_open f) refl
+  closed-are = by-fee (λ x rows. record_at es x.0 ≡ Some x.1 → AllByRecursion AClosedFee rows) _ (λ x at. tt) some
     where
-      by : (b : Bool) → is_open f ≡ b → AllByRecursion AClosedFee (cond b [] (closed_row x f ∷ []))
-      by true is = tt
-      by false is = (record { id = x; fee = f; fee_at = at; full = is; row_is = refl }, tt)
-  closed-are (key.Fee x, record_of.Patron p) at = tt
-  closed-are (key.Fee x, record_of.Item i) at = tt
-  closed-are (key.Patron x, r) at = tt
-  closed-are (key.Item x, r) at = tt
+      some : (x : List ℕ) (f : Fee) → record_at es (key.Fee x) ≡ Some (record_of.Fee f) → AllByRecursion AClosedFee (closed_alone x f)
+      some x f at = by (is_open f) refl
+        where
+          by : (b : Bool) → is_open f ≡ b → AllByRecursion AClosedFee (cond b [] (closed_row x f ∷ []))
+          by true is = tt
+          by false is = (record { id = x; fee = f; fee_at = at; full = is; row_is = refl }, tt)
 
   pub closed-pass : broken table.Closed (closed_rule None (flat_map patron_rows es) (flat_map (fee_rows es) es)) (flat_map closed_rows es) ≡ None
   closed-pass =
@@ -508,15 +482,11 @@ module _ (policy : Terms) (n : ℕ) (es : Entries) (rising : AreRising es) (co :
   a-queue x i at (h ∷ hs) good waits =
       let parts = and_parts (is_hold (record_at es) h) (list_all (is_hold (record_at es)) hs) good in (
         record { item = x; held = i; held_at = at; hold = h; good = parts.0; waits = waits h.patron (ap (λ b. b || has_id h.patron (map (λ h. h.patron) hs)) (same-itself h.patron)); row_is = refl },
-        a-queue x i at hs parts.1 (λ q has. waits q (or-right (is_same q h.patron) (has_id q (map (λ h. h.patron) hs)) has)),
+        a-queue x i at hs parts.1 (λ q has. waits q (or_right (is_same q h.patron) (has_id q (map (λ h. h.patron) hs)) has)),
       )
 
   holds-are : (x : Key × Record) → record_at es x.0 ≡ Some x.1 → AllByRecursion AHold (hold_rows x)
-  holds-are (key.Item x, record_of.Item i) at = a-queue x i at i.holds (co.items x i (ap as_item at)).holds (λ q has. has)
-  holds-are (key.Item x, record_of.Patron p) at = tt
-  holds-are (key.Item x, record_of.Fee f) at = tt
-  holds-are (key.Patron x, r) at = tt
-  holds-are (key.Fee x, r) at = tt
+  holds-are = by-item (λ x rows. record_at es x.0 ≡ Some x.1 → AllByRecursion AHold rows) _ (λ x at. tt) (λ x i at. a-queue x i at i.holds (co.items x i (ap as_item at)).holds (λ q has. has))
 
   pub holds-pass : broken table.Holds (hold_rule (flat_map patron_rows es) (flat_map item_rows es) (flat_map (loan_rows es) es)) (flat_map hold_rows es) ≡ None
   holds-pass =

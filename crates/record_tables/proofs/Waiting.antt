@@ -19,7 +19,7 @@ tie-both Equal q = refl
 tie-both Greater q = refl
 
 -- whether pairs tie, and whether they are the same texts
-same-pair : (item patron a b : List ℕ) → is_eq (pair_cmp (item, patron) (a, b)) ≡ (is_same a item && is_same b patron)
+pub same-pair : (item patron a b : List ℕ) → is_eq (pair_cmp (item, patron) (a, b)) ≡ (is_same a item && is_same b patron)
 same-pair item patron a b =
     tie-both (slice_cmp nat_cmp item a) (slice_cmp nat_cmp patron b)
     ∙ ap (λ t. t && is_eq (slice_cmp nat_cmp patron b)) (tie-text item a)

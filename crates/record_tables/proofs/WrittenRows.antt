@@ -1,5 +1,6 @@
 -- Which of the written rows have a text in a column.
 use Rattle.std.proofs.Common.{◌≡◌, ◌∙◌, ℕ, List, [], ◌∷◌, Bool, true, false, cond, Option, Some, None, refl, sym, ap}
+use Rattle.circ_records.proofs.SameTexts.{same-itself}
 use Rattle.std.specs.List.{AllByRecursion, cons_option, flat_map}
 use Rattle.std.specs.Ordering.{is_eq}
 use Rattle.std.specs.Prelude.{is_some, option_map, ◌&&◌, unwrap_or}
@@ -20,8 +21,8 @@ use Rattle.circ_records.specs.declared.record.Loan.{Loan}
 use Rattle.circ_records.specs.declared.record.Record.{Record}
 use Rattle.circ_records.specs.declared.record.Record.TheVariants as record_of
 use Rattle.std.proofs.lemmas.Map.Text.{is_eq-slice_cmp}
-use Rattle.record_tables.proofs.Entries.{given, gives-at, gives-nothing}
-use Rattle.record_tables.proofs.Picked.{Carries, IsKind, once, picked, picked-each, same-back, same-itself}
+use Rattle.record_tables.proofs.Entries.{by-fee, by-item, by-patron, given, gives-at, gives-nothing}
+use Rattle.record_tables.proofs.Picked.{Carries, IsKind, once, picked, picked-each, same-back}
 
 -- KEYS OF ONE KIND
 
@@ -37,40 +38,24 @@ fees-kind a b = sym (is_eq-slice_cmp a b)
 -- ROWS THAT HAVE THE ID OF THEIR ENTRY
 
 patron_rows-carry : Carries key.Patron 0 patron_rows
-patron_rows-carry (key.Patron id, record_of.Patron p) = (refl, tt)
-patron_rows-carry (key.Patron id, record_of.Item i) = tt
-patron_rows-carry (key.Patron id, record_of.Fee f) = tt
-patron_rows-carry (key.Item id, r) = tt
-patron_rows-carry (key.Fee id, r) = tt
+patron_rows-carry = by-patron (λ x. AllByRecursion (λ row. key.Patron (field 0 row) ≡ x.0)) _ (λ x. tt) (λ id p. (refl, tt))
 
 item_rows-carry : Carries key.Item 0 item_rows
-item_rows-carry (key.Item id, record_of.Item i) = (refl, tt)
-item_rows-carry (key.Item id, record_of.Patron p) = tt
-item_rows-carry (key.Item id, record_of.Fee f) = tt
-item_rows-carry (key.Patron id, r) = tt
-item_rows-carry (key.Fee id, r) = tt
+item_rows-carry = by-item (λ x. AllByRecursion (λ row. key.Item (field 0 row) ≡ x.0)) _ (λ x. tt) (λ id i. (refl, tt))
 
 closed-carry : (id : List ℕ) (f : Fee) (b : Bool) → AllByRecursion (λ row. key.Fee (field 0 row) ≡ key.Fee id) (cond b [] (closed_row id f ∷ []))
 closed-carry id f true = tt
 closed-carry id f false = (refl, tt)
 
 closed_rows-carry : Carries key.Fee 0 closed_rows
-closed_rows-carry (key.Fee id, record_of.Fee f) = closed-carry id f (is_open f)
-closed_rows-carry (key.Fee id, record_of.Patron p) = tt
-closed_rows-carry (key.Fee id, record_of.Item i) = tt
-closed_rows-carry (key.Patron id, r) = tt
-closed_rows-carry (key.Item id, r) = tt
+closed_rows-carry = by-fee (λ x. AllByRecursion (λ row. key.Fee (field 0 row) ≡ x.0)) _ (λ x. tt) (λ id f. closed-carry id f (is_open f))
 
 holds-carry : (id : List ℕ) (holds : List Hold) → AllByRecursion (λ row. key.Item (field 0 row) ≡ key.Item id) (queued id holds)
 holds-carry id [] = tt
 holds-carry id (h ∷ hs) = (refl, holds-carry id hs)
 
 hold_rows-carry : Carries key.Item 0 hold_rows
-hold_rows-carry (key.Item id, record_of.Item i) = holds-carry id i.holds
-hold_rows-carry (key.Item id, record_of.Patron p) = tt
-hold_rows-carry (key.Item id, record_of.Fee f) = tt
-hold_rows-carry (key.Patron id, r) = tt
-hold_rows-carry (key.Fee id, r) = tt
+hold_rows-carry = by-item (λ x. AllByRecursion (λ row. key.Item (field 0 row) ≡ x.0)) _ (λ x. tt) (λ id i. holds-carry id i.holds)
 
 one-carries : {A : Type 0} (P : Row → Type 0) (f : A → Row) (o : Option A) (rest : List Row) → ((x : A) → P (f x)) → AllByRecursion P rest → AllByRecursion P (cons_option (option_map f o) rest)
 one-carries P f None rest h all = all
@@ -81,22 +66,14 @@ loans-carry es id [] = tt
 loans-carry es id (x ∷ xs) = one-carries (λ row. key.Patron (field 0 row) ≡ key.Patron id) (loan_row id x) (loan_at es x) (listed_loans es id xs) (λ l. refl) (loans-carry es id xs)
 
 loan_rows-carry : (es : Entries) → Carries key.Patron 0 (loan_rows es)
-loan_rows-carry es (key.Patron id, record_of.Patron p) = loans-carry es id p.loans
-loan_rows-carry es (key.Patron id, record_of.Item i) = tt
-loan_rows-carry es (key.Patron id, record_of.Fee f) = tt
-loan_rows-carry es (key.Item id, r) = tt
-loan_rows-carry es (key.Fee id, r) = tt
+loan_rows-carry es = by-patron (λ x. AllByRecursion (λ row. key.Patron (field 0 row) ≡ x.0)) _ (λ x. tt) (λ id p. loans-carry es id p.loans)
 
 fees-carry : (es : Entries) (id : List ℕ) (ids : List (List ℕ)) → AllByRecursion (λ row. key.Patron (field 1 row) ≡ key.Patron id) (listed_fees es id ids)
 fees-carry es id [] = tt
 fees-carry es id (x ∷ xs) = one-carries (λ row. key.Patron (field 1 row) ≡ key.Patron id) (fee_row id x) (open_fee_at es x) (listed_fees es id xs) (λ f. refl) (fees-carry es id xs)
 
 fee_rows-carry : (es : Entries) → Carries key.Patron 1 (fee_rows es)
-fee_rows-carry es (key.Patron id, record_of.Patron p) = fees-carry es id p.fees
-fee_rows-carry es (key.Patron id, record_of.Item i) = tt
-fee_rows-carry es (key.Patron id, record_of.Fee f) = tt
-fee_rows-carry es (key.Item id, r) = tt
-fee_rows-carry es (key.Fee id, r) = tt
+fee_rows-carry es = by-patron (λ x. AllByRecursion (λ row. key.Patron (field 1 row) ≡ x.0)) _ (λ x. tt) (λ id p. fees-carry es id p.fees)
 
 -- THE ROWS OF AN ID
 

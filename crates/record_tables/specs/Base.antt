@@ -9,6 +9,7 @@ use Rattle.record_tables.specs.Tables.{Row, Rows, Texts, closed_header, fees_hea
 use Rattle.record_tables.specs.Told.{entries_told}
 use Rattle.record_tables.specs.declared.fault.BaseError.{BaseError}
 use Rattle.record_tables.specs.declared.fault.BaseError.TheVariants as error
+use Rattle.circ_records.specs.declared.rule.BaseRule.{BaseRule}
 use Rattle.record_tables.specs.declared.tables.TableName.{TableName}
 use Rattle.record_tables.specs.declared.tables.TableName.TheVariants as table
 
@@ -38,34 +39,37 @@ rows_of texts = do
   holds ← table_rows table.Holds (holds_rows_of texts.holds)
   Ok (record { patrons = patrons; items = items; loans = loans; fees = fees; closed = closed; holds = holds })
 
--- the first rule that the rows of each table break
-abbrev pub broken_patrons : Terms → Rows → Option BaseError
-broken_patrons policy rows = broken table.Patrons (patron_rule policy) rows.patrons
+-- the rows of one table
+abbrev pub own_rows : TableName → Rows → List Row
+own_rows table.Patrons rows = rows.patrons
+own_rows table.Items rows = rows.items
+own_rows table.Loans rows = rows.loans
+own_rows table.Fees rows = rows.fees
+own_rows table.Closed rows = rows.closed
+own_rows table.Holds rows = rows.holds
 
-abbrev pub broken_items : Terms → Rows → Option BaseError
-broken_items policy rows = broken table.Items (item_rule policy) rows.items
+-- the rule by which a row of a table is judged after the rows before it
+abbrev pub rule_of : Terms → Option ℕ → TableName → Rows → List Row → Row → Option BaseRule
+rule_of policy first table.Patrons rows = patron_rule policy
+rule_of policy first table.Items rows = item_rule policy
+rule_of policy first table.Loans rows = loan_rule rows.patrons rows.items
+rule_of policy first table.Fees rows = fee_rule first rows.patrons
+rule_of policy first table.Closed rows = closed_rule first rows.patrons rows.fees
+rule_of policy first table.Holds rows = hold_rule rows.patrons rows.items rows.loans
 
-abbrev pub broken_loans : Rows → Option BaseError
-broken_loans rows = broken table.Loans (loan_rule rows.patrons rows.items) rows.loans
-
-abbrev pub broken_fees : Option ℕ → Rows → Option BaseError
-broken_fees first rows = broken table.Fees (fee_rule first rows.patrons) rows.fees
-
-abbrev pub broken_closed : Option ℕ → Rows → Option BaseError
-broken_closed first rows = broken table.Closed (closed_rule first rows.patrons rows.fees) rows.closed
-
-abbrev pub broken_holds : Rows → Option BaseError
-broken_holds rows = broken table.Holds (hold_rule rows.patrons rows.items rows.loans) rows.holds
+-- the first rule that the rows of a table break
+abbrev pub broken_in : Terms → Option ℕ → TableName → Rows → Option BaseError
+broken_in policy first name rows = broken name (rule_of policy first name rows) (own_rows name rows)
 
 -- the first rule that the rows break, table by table and row by row, before a journal that begins with a number
 unfoldable pub first_broken : Terms → Option ℕ → Rows → Option BaseError
 first_broken policy first rows =
-    option_or (broken_patrons policy rows)
-    (option_or (broken_items policy rows)
-    (option_or (broken_loans rows)
-    (option_or (broken_fees first rows)
-    (option_or (broken_closed first rows)
-    (broken_holds rows)))))
+    option_or (broken_in policy first table.Patrons rows)
+    (option_or (broken_in policy first table.Items rows)
+    (option_or (broken_in policy first table.Loans rows)
+    (option_or (broken_in policy first table.Fees rows)
+    (option_or (broken_in policy first table.Closed rows)
+    (broken_in policy first table.Holds rows)))))
 
 abbrev pub unless_broken : Option BaseError → Entries → Result Entries BaseError
 unless_broken (Some e) entries = Err e
@@ -87,9 +91,3 @@ Fails (error.Rule name row rule) due = due ≡ Err (error.Rule name row rule)
 abbrev pub Gives : {A : Type 0} → Result A BaseError → Result A BaseError → Type 0
 Gives (Ok x) due = due ≡ Ok x
 Gives (Err e) due = Fails e due
-
--- a fault is the first rule that is broken, unless memory ran out
-abbrev pub Breaks : BaseError → Option BaseError → Type 0
-Breaks error.Memory fault = Unit {0}
-Breaks (error.Table name) fault = fault ≡ Some (error.Table name)
-Breaks (error.Rule name row rule) fault = fault ≡ Some (error.Rule name row rule)

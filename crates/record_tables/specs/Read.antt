@@ -1,5 +1,5 @@
 -- What the parts of the reading cite.
-use Rattle.std.specs.Prelude.{◌≡◌, ℕ, true, List, [], Option, Some, IsSome, Err, unwrap_or}
+use Rattle.std.specs.Prelude.{◌≡◌, ℕ, true, List, [], Option, Some, IsSome, Result, Err, unwrap_or}
 use Rattle.std.specs.BTreeSet.{BTreeSet, contains}
 use Rattle.std.specs.Cmp.Lexicographic.{slice_cmp}
 use Rattle.std.specs.Ordering.{nat_cmp, ordering_then}
@@ -20,6 +20,7 @@ use Rattle.circ_records.specs.declared.key.Key.{Key}
 use Rattle.record_tables.specs.declared.loans.LoanRow.{LoanRow}
 use Rattle.circ_records.specs.declared.record.Record.TheVariants as record_of
 use Rattle.record_tables.specs.declared.tables.TableName.{TableName}
+use Rattle.record_tables.specs.declared.tables.TableName.TheVariants as table
 use Rattle.record_tables.specs.declared.tables.Tables.{Tables}
 
 -- what is left of a table that is read row by row: how many rows came before, how many bytes are left at most, and the
@@ -33,6 +34,15 @@ pub record Left : Type 0 where
 -- the rows of a text that is a table
 abbrev pub some_rows : Option (List Row) → List Row
 some_rows rows = unwrap_or rows []
+
+-- the rows of one of the texts, where it is a table
+abbrev pub text_rows : TableName → Tables → Option (List Row)
+text_rows table.Patrons t = rows_under patrons_header t.patrons.items
+text_rows table.Items t = rows_under items_header t.items.items
+text_rows table.Loans t = rows_under loans_header t.loans.items
+text_rows table.Fees t = rows_under fees_header t.fees.items
+text_rows table.Closed t = rows_under closed_header t.closed.items
+text_rows table.Holds t = holds_rows_of t.holds.items
 
 -- the rows of the texts that are tables
 abbrev pub rows_in : Tables → Rows
@@ -54,40 +64,31 @@ pub record AreTables (t : Tables) : Type 0 where
   pub closed : IsSome (rows_under closed_header t.closed.items)
   pub holds : IsSome (holds_rows_of t.holds.items)
 
--- why a table was read no further, unless memory ran out: it is none, or a row breaks a rule. What is after that row wasn't
--- read, so the rule is the fault that is due where all of it is a table
-abbrev pub Stops : BaseError → TableName → Option (List Row) → Option BaseError → Type 0
-Stops error.Memory name rows fault = Unit {0}
-Stops (error.Table t) name rows fault = table_rows name rows ≡ Err (error.Table t)
-Stops (error.Rule t row rule) name rows fault = IsSome rows → fault ≡ Some (error.Rule t row rule)
+-- Why the reading stopped, unless memory ran out: what was due is no table, or a row breaks a rule. What is after that row wasn't
+-- read, so the rule is the fault that is due where all of it is a table.
+abbrev pub Stops : {A : Type 0} → BaseError → Result A BaseError → Type 0 → Option BaseError → Type 0
+Stops error.Memory due AreRead fault = Unit {0}
+Stops (error.Table t) due AreRead fault = due ≡ Err (error.Table t)
+Stops (error.Rule t row rule) due AreRead fault = AreRead → fault ≡ Some (error.Rule t row rule)
 
--- the same of all tables, one after the other
+-- the same of one table, and of all
+abbrev pub StopsIn : BaseError → TableName → Tables → Option BaseError → Type 0
+StopsIn e name t fault = Stops e (table_rows name (text_rows name t)) (IsSome (text_rows name t)) fault
+
 abbrev pub StopsAll : BaseError → Tables → Option BaseError → Type 0
-StopsAll error.Memory tables fault = Unit {0}
-StopsAll (error.Table t) tables fault = rows_of (texts_of tables) ≡ Err (error.Table t)
-StopsAll (error.Rule t row rule) tables fault = AreTables tables → fault ≡ Some (error.Rule t row rule)
+StopsAll e t fault = Stops e (rows_of (texts_of t)) (AreTables t) fault
 
--- rows of the first tables alone: the reading goes table by table
+-- the rows of the tables before one, and these of its own: the reading goes table by table
+abbrev pub up_to : TableName → Rows → List Row → Rows
+up_to table.Patrons rows own = record { patrons = own; items = []; loans = []; fees = []; closed = []; holds = [] }
+up_to table.Items rows own = record { patrons = rows.patrons; items = own; loans = []; fees = []; closed = []; holds = [] }
+up_to table.Loans rows own = record { patrons = rows.patrons; items = rows.items; loans = own; fees = []; closed = []; holds = [] }
+up_to table.Fees rows own = record { patrons = rows.patrons; items = rows.items; loans = rows.loans; fees = own; closed = []; holds = [] }
+up_to table.Closed rows own = record { patrons = rows.patrons; items = rows.items; loans = rows.loans; fees = rows.fees; closed = own; holds = [] }
+up_to table.Holds rows own = record { patrons = rows.patrons; items = rows.items; loans = rows.loans; fees = rows.fees; closed = rows.closed; holds = own }
+
 abbrev pub no_rows : Rows
 no_rows = record { patrons = []; items = []; loans = []; fees = []; closed = []; holds = [] }
-
-abbrev pub to_patrons : Rows → List Row → Rows
-to_patrons rows patrons = record { patrons = patrons; items = []; loans = []; fees = []; closed = []; holds = [] }
-
-abbrev pub to_items : Rows → List Row → Rows
-to_items rows items = record { patrons = rows.patrons; items = items; loans = []; fees = []; closed = []; holds = [] }
-
-abbrev pub to_loans : Rows → List Row → Rows
-to_loans rows loans = record { patrons = rows.patrons; items = rows.items; loans = loans; fees = []; closed = []; holds = [] }
-
-abbrev pub to_fees : Rows → List Row → Rows
-to_fees rows fees = record { patrons = rows.patrons; items = rows.items; loans = rows.loans; fees = fees; closed = []; holds = [] }
-
-abbrev pub to_closed : Rows → List Row → Rows
-to_closed rows closed = record { patrons = rows.patrons; items = rows.items; loans = rows.loans; fees = rows.fees; closed = closed; holds = [] }
-
-abbrev pub to_holds : Rows → List Row → Rows
-to_holds rows holds = record { patrons = rows.patrons; items = rows.items; loans = rows.loans; fees = rows.fees; closed = rows.closed; holds = holds }
 
 -- entries have the records that rows give
 abbrev pub AreTold : Rows → Entries → Type 0

@@ -1,5 +1,7 @@
 -- The six tables of a base: their texts, their headers and their rows.
 use Rattle.std.specs.Prelude.{ℕ, List, [], ◌∷◌, codes, get_or}
+use Rattle.record_tables.specs.declared.tables.TableName.{TableName}
+use Rattle.record_tables.specs.declared.tables.TableName.TheVariants as table
 use Rattle.record_tables.specs.declared.tables.Tables.{Tables}
 
 -- a row of a table: its fields
@@ -50,3 +52,11 @@ closed_header = codes "id" ∷ codes "patron" ∷ codes "type" ∷ codes "amount
 
 abbrev pub holds_header : Row
 holds_header = codes "item" ∷ codes "patron" ∷ codes "pickup" ∷ []
+
+abbrev pub header_of : TableName → Row
+header_of table.Patrons = patrons_header
+header_of table.Items = items_header
+header_of table.Loans = loans_header
+header_of table.Fees = fees_header
+header_of table.Closed = closed_header
+header_of table.Holds = holds_header

@@ -88,30 +88,36 @@ queued item holds = map (hold_row item) holds
 abbrev pub closed_alone : List ℕ → Fee → List Row
 closed_alone id fee = if is_open fee then [] else closed_row id fee ∷ []
 
--- What an entry of a map has in each table. A record of another kind than its key's has no row.
+-- What an entry of a map has in a table. A record of another kind than its key's has no row.
+abbrev pub of_patron : (List ℕ → Patron → List Row) → Key × Record → List Row
+of_patron rows (key.Patron id, record_of.Patron patron) = rows id patron
+of_patron rows (k, r) = []
+
+abbrev pub of_item : (List ℕ → Item → List Row) → Key × Record → List Row
+of_item rows (key.Item id, record_of.Item item) = rows id item
+of_item rows (k, r) = []
+
+abbrev pub of_fee : (List ℕ → Fee → List Row) → Key × Record → List Row
+of_fee rows (key.Fee id, record_of.Fee fee) = rows id fee
+of_fee rows (k, r) = []
+
 abbrev pub patron_rows : Key × Record → List Row
-patron_rows (key.Patron id, record_of.Patron patron) = patron_row id patron ∷ []
-patron_rows (k, r) = []
+patron_rows = of_patron (λ id patron. patron_row id patron ∷ [])
 
 abbrev pub item_rows : Key × Record → List Row
-item_rows (key.Item id, record_of.Item item) = item_row id item ∷ []
-item_rows (k, r) = []
+item_rows = of_item (λ id item. item_row id item ∷ [])
 
 abbrev pub loan_rows : Entries → Key × Record → List Row
-loan_rows entries (key.Patron id, record_of.Patron patron) = listed_loans entries id patron.loans
-loan_rows entries (k, r) = []
+loan_rows entries = of_patron (λ id patron. listed_loans entries id patron.loans)
 
 abbrev pub fee_rows : Entries → Key × Record → List Row
-fee_rows entries (key.Patron id, record_of.Patron patron) = listed_fees entries id patron.fees
-fee_rows entries (k, r) = []
+fee_rows entries = of_patron (λ id patron. listed_fees entries id patron.fees)
 
 abbrev pub closed_rows : Key × Record → List Row
-closed_rows (key.Fee id, record_of.Fee fee) = closed_alone id fee
-closed_rows (k, r) = []
+closed_rows = of_fee closed_alone
 
 abbrev pub hold_rows : Key × Record → List Row
-hold_rows (key.Item id, record_of.Item item) = queued id item.holds
-hold_rows (k, r) = []
+hold_rows = of_item (λ id item. queued id item.holds)
 
 -- the rows of a map, in the order in which they are written
 unfoldable pub rows_telling : Entries → Rows

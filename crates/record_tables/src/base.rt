@@ -8,15 +8,10 @@ ghost use Rattle.circ_records.specs.Records.{record_at};
 ghost use Rattle.record_tables.specs.Tables.{texts_of};
 ghost use Rattle.record_tables.specs.Told.{entries_told};
 
-use crate::closed::add_closed;
+use crate::adding::BaseSource;
 use crate::fault::BaseError;
-use crate::fees::add_fees;
-use crate::items::add_items;
-use crate::loans::add_loans;
-use crate::patrons::add_patrons;
-use crate::queues::add_holds;
 use crate::rows::check_tables;
-use crate::tables::Tables;
+use crate::tables::{TableName, Tables};
 use circ_policy::Policy;
 use circ_records::{RecordMap, Records};
 use std::alloc::Global;
@@ -33,7 +28,12 @@ pub fn read_base(
     ensures coherent { IfOk result (λ b. Coherent policy.now (number_before first) b) }
     ensures kinds { IfOk result (λ b. AreOfKind (record_at b)) }
 {
-    match records_of(alloc, policy, tables, first) {
+    let source = BaseSource {
+        tables,
+        policy,
+        first,
+    };
+    match records_of(alloc, &source) {
         Ok(base) => Ok(base),
         Err(BaseError::Rule { table, row, rule }) => {
             check_tables(alloc, tables)?;
@@ -58,30 +58,24 @@ fn likely_rows(tables: &Tables) -> usize {
     bytes / ROW_BYTES
 }
 
-/// The base of the rows of the tables, table by table, or the first rule that a row breaks. The records of the tables before a
-/// fault are dropped: so the `add_` of each table says nothing of the records after a fault.
-fn records_of(
-    alloc: Global,
-    policy: &Policy,
-    tables: &Tables,
-    first: Option<u64>,
-) -> Result<Records, BaseError>
-    ensures read { IfOk result (λ b. AreTables tables.now) }
-    ensures ok { IfOk result (λ b. first_broken policy.now first (rows_in tables.now) ≡ None) }
-    ensures told { IfOk result (λ b. b ≡ entries_told (rows_in tables.now)) }
-    ensures coherent { IfOk result (λ b. Coherent policy.now (number_before first) b) }
+/// The base of the rows of the tables, table by table, or the first rule that a row breaks.
+fn records_of(alloc: Global, source: &BaseSource<'_>) -> Result<Records, BaseError>
+    ensures read { IfOk result (λ b. AreTables source.now.tables.now) }
+    ensures ok { IfOk result (λ b. first_broken source.now.policy.now source.now.first (rows_in source.now.tables.now) ≡ None) }
+    ensures told { IfOk result (λ b. b ≡ entries_told (rows_in source.now.tables.now)) }
+    ensures coherent { IfOk result (λ b. Coherent source.now.policy.now (number_before source.now.first) b) }
     ensures kinds { IfOk result (λ b. AreOfKind (record_at b)) }
-    ensures err { IfErr result (λ e. StopsAll e tables.now (first_broken policy.now first (rows_in tables.now))) }
+    ensures err { IfErr result (λ e. StopsAll e source.now.tables.now (first_broken source.now.policy.now source.now.first (rows_in source.now.tables.now))) }
 {
-    let mut listed = RecordMap::with_capacity(alloc, likely_rows(tables))?;
-    add_patrons(alloc, policy, tables, &mut listed)?;
-    add_items(alloc, policy, tables, &mut listed)?;
+    let mut listed = RecordMap::with_capacity(alloc, likely_rows(source.tables))?;
+    source.add_rows(alloc, TableName::Patrons, &mut listed)?;
+    source.add_rows(alloc, TableName::Items, &mut listed)?;
     // each patron and item that the other tables name is looked for
     let mut hinted = listed.with_hints(alloc)?;
-    add_loans(alloc, tables, &mut hinted)?;
-    add_fees(alloc, first, tables, &mut hinted)?;
-    add_closed(alloc, first, tables, &mut hinted)?;
-    add_holds(alloc, tables, &mut hinted)?;
+    source.add_rows(alloc, TableName::Loans, &mut hinted)?;
+    source.add_rows(alloc, TableName::Fees, &mut hinted)?;
+    source.add_rows(alloc, TableName::Closed, &mut hinted)?;
+    source.add_rows(alloc, TableName::Holds, &mut hinted)?;
     let records = Records::from_map(alloc, hinted)?;
     Ok(records)
 }

@@ -1,6 +1,6 @@
 //! The rows of fees.
 
-ghost use Rattle.std.specs.Prelude.{◌≡◌, ◌∷◌, [], OnOk, option_copied, option_map};
+ghost use Rattle.std.specs.Prelude.{◌≡◌, [], OnOk, option_copied, option_map};
 ghost use Rattle.std.specs.List.{cons_option};
 ghost use Rattle.record_tables.specs.Writing.{HasWidth, with_rows};
 ghost use Rattle.record_tables.specs.Written as Written;

@@ -1,16 +1,14 @@
 //! The table of open fees, and what it shares with that of closed ones.
 
-ghost use Rattle.std.specs.Prelude.{◌≡◌, ◌++◌, ◌∷◌, [], List, Option, true, false, Some, None, IsSome, is_some, not, cond, nat_lt, if◌then◌else◌, IfOk, IfErr, OnOk};
+ghost use Rattle.std.specs.Prelude.{◌≡◌, ◌++◌, ◌∷◌, [], List, Option, false, Some, None, is_some, not, cond, nat_lt, if◌then◌else◌, IfOk, IfErr, OnOk};
 ghost use Rattle.std.specs.Ordering.{eq_by_cmp};
 ghost use Rattle.csv.specs.Records.{fields_of};
-ghost use Rattle.csv_table.specs.Rows.{rows_under};
-ghost use Rattle.record_tables.specs.Base.{broken_fees};
 ghost use Rattle.circ_records.specs.Keys.{key_cmp};
 ghost use Rattle.circ_records.specs.MadeFees as MadeFees;
-ghost use Rattle.record_tables.specs.Read.{AreTold, SaysClosed, SaysFee, Stops, rows_in, to_fees, to_loans};
+ghost use Rattle.record_tables.specs.Read.{AreTold, SaysClosed, SaysFee, up_to};
 ghost use Rattle.circ_records.specs.Records.{record_at};
 ghost use Rattle.record_tables.specs.Rules as Rules;
-ghost use Rattle.record_tables.specs.Tables.{Row, Rows, field, fees_header};
+ghost use Rattle.record_tables.specs.Tables.{Row, Rows, field};
 ghost use Rattle.circ_records.specs.declared.rule.BaseRule.{BaseRule};
 ghost use Rattle.circ_records.specs.declared.rule.BaseRule.TheVariants as rule;
 ghost use Rattle.circ_records.specs.declared.key.Key.{Key};
@@ -18,53 +16,25 @@ ghost use Rattle.circ_records.specs.declared.key.Key.TheVariants as key;
 ghost use Rattle.circ_records.specs.declared.record.Record.TheVariants as record_of;
 ghost use Rattle.record_tables.specs.declared.tables.TableName.TheVariants as table;
 
-use crate::fault::BaseError;
 use crate::fee_rows::is_open;
 use crate::made_fees::is_taken;
-use crate::rows::{FEES, TableRows};
-use crate::tables::{TableName, Tables};
 use circ_records::{BaseRule, Fee, FeeType, Key, ListChange, Record, RecordMap};
 use csv::ByteRecord;
 use csv_table::column;
 use sip_reader::{Amount, Id};
 use std::alloc::{AllocError, Global};
 
-/// Adds the open fees of the table to the records, or returns the first rule that a row breaks. `first` is the number of
-/// the journal's first line.
-pub(crate) fn add_fees(
-    alloc: Global,
-    first: Option<u64>,
-    tables: &Tables,
-    records: &mut RecordMap,
-) -> Result<(), BaseError>
-    requires told { AreTold (to_loans (rows_in tables.now) (rows_in tables.now).loans) records.old }
-    ensures read { OnOk result (IsSome (rows_under fees_header tables.now.fees.items)) }
-    ensures ok { OnOk result (broken_fees first (rows_in tables.now) ≡ None) }
-    ensures told { OnOk result (AreTold (to_fees (rows_in tables.now) (rows_in tables.now).fees) records.new) }
-    ensures err { IfErr result (λ e. Stops e table.Fees (rows_under fees_header tables.now.fees.items) (broken_fees first (rows_in tables.now))) }
-{
-    let mut rows = TableRows::under(alloc, TableName::Fees, &FEES, &tables.fees)?;
-    let mut row = ByteRecord::new(alloc);
-    while rows.next(&mut row)? {
-        let broken = add_fee(alloc, first, &row, records)?;
-        if let Some(rule) = broken {
-            return Err(rows.broken(rule));
-        }
-    }
-    Ok(())
-}
-
 /// Adds the open fee of a row to the records of the rows before it and to its patron's list, or returns the first rule that the
 /// row breaks. A row that breaks one may leave its fee there.
 #[tactic(auto, unfolding(crate::specs::Rules::fee_rule))]
-fn add_fee(
+pub(crate) fn add_open(
     alloc: Global,
     first: Option<u64>,
     row: &ByteRecord,
     records: &mut RecordMap,
 ) -> Result<Option<BaseRule>, AllocError>
     ensures rule { IfOk result (λ broken. (r : Rows) → AreTold r records.old → r.closed ≡ [] → broken ≡ Rules.fee_rule first r.patrons r.fees (fields_of row.now)) }
-    ensures told { IfOk result (λ broken. broken ≡ None → (r : Rows) (before : List Row) → AreTold (to_fees r before) records.old → Rules.has_row 0 (field 0 (fields_of row.now)) before ≡ false → AreTold (to_fees r (before ++ fields_of row.now ∷ [])) records.new) }
+    ensures told { IfOk result (λ broken. broken ≡ None → (r : Rows) (before : List Row) → AreTold (up_to table.Fees r before) records.old → Rules.has_row 0 (field 0 (fields_of row.now)) before ≡ false → AreTold (up_to table.Fees r (before ++ fields_of row.now ∷ [])) records.new) }
 {
     match read_fee(alloc, row)? {
         Ok(said) => put_open(alloc, first, &said, records),
@@ -80,7 +50,7 @@ fn put_open(
     records: &mut RecordMap,
 ) -> Result<Option<BaseRule>, AllocError>
     ensures rule { IfOk result (λ broken. (r : Rows) (row : Row) → SaysFee said.now row → AreTold r records.old → r.closed ≡ [] → broken ≡ Rules.fee_rule first r.patrons r.fees row) }
-    ensures told { IfOk result (λ broken. broken ≡ None → (r : Rows) (before : List Row) (row : Row) → SaysFee said.now row → AreTold (to_fees r before) records.old → Rules.has_row 0 (field 0 row) before ≡ false → AreTold (to_fees r (before ++ row ∷ [])) records.new) }
+    ensures told { IfOk result (λ broken. broken ≡ None → (r : Rows) (before : List Row) (row : Row) → SaysFee said.now row → AreTold (up_to table.Fees r before) records.old → Rules.has_row 0 (field 0 row) before ≡ false → AreTold (up_to table.Fees r (before ++ row ∷ [])) records.new) }
 {
     if insert_fee(alloc, said, records)? {
         return Ok(Some(BaseRule::Double));

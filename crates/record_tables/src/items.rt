@@ -1,20 +1,15 @@
 //! The table of items.
 
-ghost use Rattle.std.specs.Prelude.{◌≡◌, ◌++◌, ◌∷◌, [], List, true, false, Some, None, is_some, IsSome, IfSome, IfOk, IfErr, OnOk};
+ghost use Rattle.std.specs.Prelude.{◌≡◌, ◌++◌, ◌∷◌, [], List, true, false, Some, None, is_some, IfSome, IfOk, OnOk};
 ghost use Rattle.csv.specs.Records.{fields_of};
-ghost use Rattle.csv_table.specs.Rows.{rows_under};
 ghost use Rattle.circ_policy.specs.Medias.{media_of_code};
-ghost use Rattle.record_tables.specs.Base.{broken_items};
-ghost use Rattle.record_tables.specs.Read.{AreTold, Stops, no_rows, rows_in, to_items, to_patrons};
+ghost use Rattle.record_tables.specs.Read.{AreTold, no_rows, up_to};
 ghost use Rattle.record_tables.specs.Rules as Rules;
-ghost use Rattle.record_tables.specs.Tables.{Row, Rows, field, items_header};
+ghost use Rattle.record_tables.specs.Tables.{Row, Rows, field};
 ghost use Rattle.record_tables.specs.Told.{item_told};
 ghost use Rattle.circ_records.specs.declared.record.Record.TheVariants as record_of;
 ghost use Rattle.record_tables.specs.declared.tables.TableName.TheVariants as table;
 
-use crate::fault::BaseError;
-use crate::rows::{ITEMS, TableRows};
-use crate::tables::{TableName, Tables};
 use circ_policy::{MediaType, Policy};
 use circ_records::{BaseRule, Holds, Item, Key, Record, RecordMap};
 use csv::ByteRecord;
@@ -22,43 +17,19 @@ use csv_table::column;
 use sip_reader::{Id, Text, is_text};
 use std::alloc::{AllocError, Global};
 
-/// Adds the items of the table to the records, or returns the first rule that a row breaks.
-pub(crate) fn add_items(
-    alloc: Global,
-    policy: &Policy,
-    tables: &Tables,
-    records: &mut RecordMap,
-) -> Result<(), BaseError>
-    requires told { AreTold (to_patrons (rows_in tables.now) (rows_in tables.now).patrons) records.old }
-    ensures read { OnOk result (IsSome (rows_under items_header tables.now.items.items)) }
-    ensures ok { OnOk result (broken_items policy.now (rows_in tables.now) ≡ None) }
-    ensures told { OnOk result (AreTold (to_items (rows_in tables.now) (rows_in tables.now).items) records.new) }
-    ensures err { IfErr result (λ e. Stops e table.Items (rows_under items_header tables.now.items.items) (broken_items policy.now (rows_in tables.now))) }
-{
-    let mut rows = TableRows::under(alloc, TableName::Items, &ITEMS, &tables.items)?;
-    let mut row = ByteRecord::new(alloc);
-    while rows.next(&mut row)? {
-        let broken = put_item(alloc, policy, &row, records)?;
-        if let Some(rule) = broken {
-            return Err(rows.broken(rule));
-        }
-    }
-    Ok(())
-}
-
 /// Adds the item of a row to the records of the rows before it, or returns the first rule that the row breaks. A row that breaks
 /// one may leave its item there.
 #[tactic(auto, unfolding(crate::specs::Rules::item_rule))]
-fn put_item(
+pub(crate) fn put_item(
     alloc: Global,
     policy: &Policy,
     row: &ByteRecord,
     records: &mut RecordMap,
 ) -> Result<Option<BaseRule>, AllocError>
     ensures rule { IfOk result (λ broken. (r : Rows) → AreTold r records.old → broken ≡ Rules.item_rule policy.now r.items (fields_of row.now)) }
-    ensures told { IfOk result (λ broken. broken ≡ None → (r : Rows) (before : List Row) → AreTold (to_items r before) records.old → Rules.has_row 0 (field 0 (fields_of row.now)) before ≡ false → AreTold (to_items r (before ++ fields_of row.now ∷ [])) records.new) }
+    ensures told { IfOk result (λ broken. broken ≡ None → (r : Rows) (before : List Row) → AreTold (up_to table.Items r before) records.old → Rules.has_row 0 (field 0 (fields_of row.now)) before ≡ false → AreTold (up_to table.Items r (before ++ fields_of row.now ∷ [])) records.new) }
 {
-    let Some(id) = id_of(alloc, row)? else {
+    let Some(id) = item_id(alloc, row)? else {
         return Ok(Some(BaseRule::Text));
     };
     let Some(media) = media_of(policy, row) else {
@@ -77,7 +48,7 @@ fn put_item(
 
 /// The id of a row's item, where all texts of the row are valid.
 #[tactic(auto, unfolding(crate::specs::Rules::has_item_texts))]
-fn id_of(alloc: Global, row: &ByteRecord) -> Result<Option<Id>, AllocError>
+pub fn item_id(alloc: Global, row: &ByteRecord) -> Result<Option<Id>, AllocError>
     ensures texts { IfOk result (λ id. is_some id ≡ Rules.has_item_texts (fields_of row.now)) }
     ensures id { IfOk result (λ id. IfSome id (λ it. it ≡ field 0 (fields_of row.now))) }
 {
@@ -94,7 +65,7 @@ fn id_of(alloc: Global, row: &ByteRecord) -> Result<Option<Id>, AllocError>
 
 /// The media type of a row, where the policy has it.
 #[tactic(auto, unfolding(crate::specs::Rules::has_media))]
-fn media_of(policy: &Policy, row: &ByteRecord) -> Option<MediaType>
+pub fn media_of(policy: &Policy, row: &ByteRecord) -> Option<MediaType>
     ensures value { is_some result ≡ Rules.has_media policy.now (field 2 (fields_of row.now)) }
     ensures media { IfSome result (λ media. Some media ≡ media_of_code (field 2 (fields_of row.now))) }
 {
@@ -127,7 +98,7 @@ fn add_item(
     requires texts { Rules.has_item_texts (fields_of row.now) ≡ true }
     requires media { Some media ≡ media_of_code (field 2 (fields_of row.now)) }
     ensures double { IfOk result (λ double. (r : Rows) → AreTold r records.old → double ≡ Rules.has_row 0 (field 0 (fields_of row.now)) r.items) }
-    ensures told { OnOk result ((r : Rows) (before : List Row) → AreTold (to_items r before) records.old → Rules.has_row 0 (field 0 (fields_of row.now)) before ≡ false → AreTold (to_items r (before ++ fields_of row.now ∷ [])) records.new) }
+    ensures told { OnOk result ((r : Rows) (before : List Row) → AreTold (up_to table.Items r before) records.old → Rules.has_row 0 (field 0 (fields_of row.now)) before ≡ false → AreTold (up_to table.Items r (before ++ fields_of row.now ∷ [])) records.new) }
 {
     let item = item_of(alloc, media, row)?;
     let told = Record::item(alloc, item)?;

@@ -3,6 +3,7 @@
 //! `read_base` makes records of six tables, or names the first rule that they break; `write_records` makes the tables of records.
 #![tactic(auto)]
 
+mod adding;
 mod base;
 mod closed;
 mod fault;
@@ -26,6 +27,11 @@ mod written;
 
 pub use base::read_base;
 pub use fault::BaseError;
+pub use items::{item_id, media_of};
 pub use laws::{entries_are_told, written_is_told, written_reads_back};
+pub use made_fees::is_taken;
+pub use patrons::{class_of, patron_id};
+pub use rows::check_table;
 pub use tables::{TableName, Tables};
+pub use values::{due_of, flag_of, renewals_of};
 pub use written::write_records;

@@ -1,17 +1,12 @@
 //! The table of loans.
 
-ghost use Rattle.std.specs.Prelude.{◌≡◌, ◌++◌, ◌∷◌, [], List, true, false, Some, None, IsSome, IfOk, IfErr, OnOk};
+ghost use Rattle.std.specs.Prelude.{◌≡◌, ◌++◌, ◌∷◌, [], List, false, Some, None, IfOk, IfErr};
 ghost use Rattle.csv.specs.Records.{fields_of};
-ghost use Rattle.csv_table.specs.Rows.{rows_under};
-ghost use Rattle.record_tables.specs.Base.{broken_loans};
-ghost use Rattle.record_tables.specs.Read.{AreTold, SaysLoan, Stops, rows_in, to_items, to_loans};
+ghost use Rattle.record_tables.specs.Read.{AreTold, SaysLoan, up_to};
 ghost use Rattle.record_tables.specs.Rules as Rules;
-ghost use Rattle.record_tables.specs.Tables.{Row, Rows, field, loans_header};
+ghost use Rattle.record_tables.specs.Tables.{Row, Rows, field};
 ghost use Rattle.record_tables.specs.declared.tables.TableName.TheVariants as table;
 
-use crate::fault::BaseError;
-use crate::rows::{LOANS, TableRows};
-use crate::tables::{TableName, Tables};
 use crate::values::{due_of, renewals_of};
 use circ_records::{BaseRule, Key, ListChange, Loan, RecordMap};
 use csv::ByteRecord;
@@ -19,38 +14,15 @@ use csv_table::column;
 use sip_reader::Id;
 use std::alloc::{AllocError, Global};
 
-/// Adds the loans of the table to the records, or returns the first rule that a row breaks.
-pub(crate) fn add_loans(
-    alloc: Global,
-    tables: &Tables,
-    records: &mut RecordMap,
-) -> Result<(), BaseError>
-    requires told { AreTold (to_items (rows_in tables.now) (rows_in tables.now).items) records.old }
-    ensures read { OnOk result (IsSome (rows_under loans_header tables.now.loans.items)) }
-    ensures ok { OnOk result (broken_loans (rows_in tables.now) ≡ None) }
-    ensures told { OnOk result (AreTold (to_loans (rows_in tables.now) (rows_in tables.now).loans) records.new) }
-    ensures err { IfErr result (λ e. Stops e table.Loans (rows_under loans_header tables.now.loans.items) (broken_loans (rows_in tables.now))) }
-{
-    let mut rows = TableRows::under(alloc, TableName::Loans, &LOANS, &tables.loans)?;
-    let mut row = ByteRecord::new(alloc);
-    while rows.next(&mut row)? {
-        let broken = add_loan(alloc, &row, records)?;
-        if let Some(rule) = broken {
-            return Err(rows.broken(rule));
-        }
-    }
-    Ok(())
-}
-
 /// Adds the loan of a row to its patron's list and its item, or returns the first rule that the row breaks, where these are the
 /// records of the rows before it. A row that breaks one may leave the loan in the list.
-fn add_loan(
+pub(crate) fn add_loan(
     alloc: Global,
     row: &ByteRecord,
     records: &mut RecordMap,
 ) -> Result<Option<BaseRule>, AllocError>
     ensures rule { IfOk result (λ broken. (r : Rows) → AreTold r records.old → broken ≡ Rules.loan_rule r.patrons r.items r.loans (fields_of row.now)) }
-    ensures told { IfOk result (λ broken. broken ≡ None → (r : Rows) (before : List Row) → AreTold (to_loans r before) records.old → Rules.has_row 1 (field 1 (fields_of row.now)) before ≡ false → AreTold (to_loans r (before ++ fields_of row.now ∷ [])) records.new) }
+    ensures told { IfOk result (λ broken. broken ≡ None → (r : Rows) (before : List Row) → AreTold (up_to table.Loans r before) records.old → Rules.has_row 1 (field 1 (fields_of row.now)) before ≡ false → AreTold (up_to table.Loans r (before ++ fields_of row.now ∷ [])) records.new) }
 {
     match read_loan(alloc, row)? {
         Ok(said) => put_loan(alloc, said, records),
@@ -65,7 +37,7 @@ fn put_loan(
     records: &mut RecordMap,
 ) -> Result<Option<BaseRule>, AllocError>
     ensures rule { IfOk result (λ broken. (r : Rows) (row : Row) → SaysLoan said row → AreTold r records.old → broken ≡ Rules.loan_rule r.patrons r.items r.loans row) }
-    ensures told { IfOk result (λ broken. broken ≡ None → (r : Rows) (before : List Row) (row : Row) → SaysLoan said row → AreTold (to_loans r before) records.old → Rules.has_row 1 (field 1 row) before ≡ false → AreTold (to_loans r (before ++ row ∷ [])) records.new) }
+    ensures told { IfOk result (λ broken. broken ≡ None → (r : Rows) (before : List Row) (row : Row) → SaysLoan said row → AreTold (up_to table.Loans r before) records.old → Rules.has_row 1 (field 1 row) before ≡ false → AreTold (up_to table.Loans r (before ++ row ∷ [])) records.new) }
 {
     let LoanRow { item, loan } = said;
     let key = Key::Patron(loan.patron.clone()?);

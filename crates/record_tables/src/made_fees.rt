@@ -7,7 +7,7 @@ ghost use Rattle.circ_records.specs.MadeFees as MadeFees;
 use crate::values::{decimal_of, is_decimal};
 
 /// Whether a journal that begins with this number may make a fee of this id; without a line it makes none.
-pub(crate) fn is_taken(first: Option<u64>, id: &[u8]) -> bool
+pub fn is_taken(first: Option<u64>, id: &[u8]) -> bool
     ensures { result ≡ MadeFees.is_taken first id.now }
 {
     match first {

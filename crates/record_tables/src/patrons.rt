@@ -1,21 +1,16 @@
 //! The table of patrons.
 
-ghost use Rattle.std.specs.Prelude.{◌≡◌, ◌++◌, ◌∷◌, [], List, true, false, Some, None, is_some, IfSome, IfOk, IsSome, IfErr, OnOk};
+ghost use Rattle.std.specs.Prelude.{◌≡◌, ◌++◌, ◌∷◌, [], List, true, false, Some, None, is_some, IfSome, IfOk, OnOk};
 ghost use Rattle.csv.specs.Records.{fields_of};
-ghost use Rattle.csv_table.specs.Rows.{rows_under};
-ghost use Rattle.record_tables.specs.Base.{broken_patrons};
-ghost use Rattle.record_tables.specs.Read.{AreTold, Stops, no_rows, rows_in, to_patrons};
+ghost use Rattle.record_tables.specs.Read.{AreTold, no_rows, up_to};
 ghost use Rattle.record_tables.specs.Rules as Rules;
 ghost use Rattle.circ_records.specs.Classes as Classes;
-ghost use Rattle.record_tables.specs.Tables.{Row, Rows, field, patrons_header};
+ghost use Rattle.record_tables.specs.Tables.{Row, Rows, field};
 ghost use Rattle.record_tables.specs.Told.{patron_told};
 ghost use Rattle.record_tables.specs.Values.{flag_of};
 ghost use Rattle.circ_records.specs.declared.record.Record.TheVariants as record_of;
 ghost use Rattle.record_tables.specs.declared.tables.TableName.TheVariants as table;
 
-use crate::fault::BaseError;
-use crate::rows::{PATRONS, TableRows};
-use crate::tables::{TableName, Tables};
 use crate::values::flag_of;
 use circ_policy::Policy;
 use circ_records::{BaseRule, Ids, Key, Patron, Record, RecordMap};
@@ -24,43 +19,19 @@ use csv_table::column;
 use sip_reader::{Id, Text, is_text};
 use std::alloc::{AllocError, Global};
 
-/// Adds the patrons of the table to the records, or returns the first rule that a row breaks.
-pub(crate) fn add_patrons(
-    alloc: Global,
-    policy: &Policy,
-    tables: &Tables,
-    records: &mut RecordMap,
-) -> Result<(), BaseError>
-    requires told { AreTold no_rows records.old }
-    ensures read { OnOk result (IsSome (rows_under patrons_header tables.now.patrons.items)) }
-    ensures ok { OnOk result (broken_patrons policy.now (rows_in tables.now) ≡ None) }
-    ensures told { OnOk result (AreTold (to_patrons (rows_in tables.now) (rows_in tables.now).patrons) records.new) }
-    ensures err { IfErr result (λ e. Stops e table.Patrons (rows_under patrons_header tables.now.patrons.items) (broken_patrons policy.now (rows_in tables.now))) }
-{
-    let mut rows = TableRows::under(alloc, TableName::Patrons, &PATRONS, &tables.patrons)?;
-    let mut row = ByteRecord::new(alloc);
-    while rows.next(&mut row)? {
-        let broken = put_patron(alloc, policy, &row, records)?;
-        if let Some(rule) = broken {
-            return Err(rows.broken(rule));
-        }
-    }
-    Ok(())
-}
-
 /// Adds the patron of a row to the records of the rows before it, or returns the first rule that the row breaks. A row that breaks
 /// one may leave its patron there.
 #[tactic(auto, unfolding(crate::specs::Rules::patron_rule))]
-fn put_patron(
+pub(crate) fn put_patron(
     alloc: Global,
     policy: &Policy,
     row: &ByteRecord,
     records: &mut RecordMap,
 ) -> Result<Option<BaseRule>, AllocError>
     ensures rule { IfOk result (λ broken. (r : Rows) → AreTold r records.old → broken ≡ Rules.patron_rule policy.now r.patrons (fields_of row.now)) }
-    ensures told { IfOk result (λ broken. broken ≡ None → (r : Rows) (before : List Row) → AreTold (to_patrons r before) records.old → Rules.has_row 0 (field 0 (fields_of row.now)) before ≡ false → AreTold (to_patrons r (before ++ fields_of row.now ∷ [])) records.new) }
+    ensures told { IfOk result (λ broken. broken ≡ None → (r : Rows) (before : List Row) → AreTold (up_to table.Patrons r before) records.old → Rules.has_row 0 (field 0 (fields_of row.now)) before ≡ false → AreTold (up_to table.Patrons r (before ++ fields_of row.now ∷ [])) records.new) }
 {
-    let Some(id) = id_of(alloc, row)? else {
+    let Some(id) = patron_id(alloc, row)? else {
         return Ok(Some(BaseRule::Text));
     };
     let Some(blocked) = flag_of(column(row, 3)) else {
@@ -82,7 +53,7 @@ fn put_patron(
 
 /// The id of a row's patron, where all texts of the row are valid.
 #[tactic(auto, unfolding(crate::specs::Rules::has_patron_texts))]
-fn id_of(alloc: Global, row: &ByteRecord) -> Result<Option<Id>, AllocError>
+pub fn patron_id(alloc: Global, row: &ByteRecord) -> Result<Option<Id>, AllocError>
     ensures texts { IfOk result (λ id. is_some id ≡ Rules.has_patron_texts (fields_of row.now)) }
     ensures id { IfOk result (λ id. IfSome id (λ it. it ≡ field 0 (fields_of row.now))) }
 {
@@ -95,7 +66,7 @@ fn id_of(alloc: Global, row: &ByteRecord) -> Result<Option<Id>, AllocError>
 
 /// The class of this name, where the policy has one.
 #[tactic(auto, unfolding(circ_records::specs::Classes::has_class))]
-fn class_of(alloc: Global, policy: &Policy, name: &[u8]) -> Result<Option<Id>, AllocError>
+pub fn class_of(alloc: Global, policy: &Policy, name: &[u8]) -> Result<Option<Id>, AllocError>
     ensures value { IfOk result (λ class. is_some class ≡ Classes.has_class policy.now name.now) }
     ensures name { IfOk result (λ class. IfSome class (λ it. it ≡ name.now)) }
 {
@@ -130,7 +101,7 @@ fn add_patron(
     requires class { class ≡ field 2 (fields_of row.now) }
     requires blocked { Some blocked ≡ flag_of (field 3 (fields_of row.now)) }
     ensures double { IfOk result (λ double. (r : Rows) → AreTold r records.old → double ≡ Rules.has_row 0 (field 0 (fields_of row.now)) r.patrons) }
-    ensures told { OnOk result ((r : Rows) (before : List Row) → AreTold (to_patrons r before) records.old → Rules.has_row 0 (field 0 (fields_of row.now)) before ≡ false → AreTold (to_patrons r (before ++ fields_of row.now ∷ [])) records.new) }
+    ensures told { OnOk result ((r : Rows) (before : List Row) → AreTold (up_to table.Patrons r before) records.old → Rules.has_row 0 (field 0 (fields_of row.now)) before ≡ false → AreTold (up_to table.Patrons r (before ++ fields_of row.now ∷ [])) records.new) }
 {
     let patron = patron_of(alloc, class, blocked, row)?;
     let told = Record::patron(alloc, patron)?;

@@ -1,17 +1,13 @@
 //! The table of holds: who waits for which item.
 
-ghost use Rattle.std.specs.Prelude.{◌≡◌, ◌++◌, ◌∷◌, [], ℕ, List, false, None, IsSome, is_some, IfSome, IfErr, IfOk, OnOk};
+ghost use Rattle.std.specs.Prelude.{◌≡◌, ◌++◌, ◌∷◌, [], List, None, is_some, IfSome, IfOk};
 ghost use Rattle.csv.specs.Records.{fields_of};
-ghost use Rattle.record_tables.specs.Base.{broken_holds, holds_rows_of};
-ghost use Rattle.record_tables.specs.Read.{AreTold, AreWaiting, SaysHold, Stops, rows_in, to_closed, to_holds};
+ghost use Rattle.record_tables.specs.Read.{AreTold, AreWaiting, SaysHold, up_to};
 ghost use Rattle.record_tables.specs.Rules as Rules;
-ghost use Rattle.record_tables.specs.Tables.{Row, Rows, field};
+ghost use Rattle.record_tables.specs.Tables.{Row, Rows};
 ghost use Rattle.record_tables.specs.declared.tables.TableName.TheVariants as table;
 
-use crate::fault::BaseError;
 use crate::known::has_patron;
-use crate::rows::{HOLDS, TableRows};
-use crate::tables::{TableName, Tables};
 use circ_records::{BaseRule, Hold, Key, ListChange, RecordMap};
 use csv::ByteRecord;
 use csv_table::column;
@@ -19,45 +15,18 @@ use sip_reader::{Id, Text};
 use std::alloc::{AllocError, Global};
 use std::collections::BTreeSet;
 
-/// Adds the holds of the table to the queues of their items, or returns the first rule that a row breaks.
-pub(crate) fn add_holds(
-    alloc: Global,
-    tables: &Tables,
-    records: &mut RecordMap,
-) -> Result<(), BaseError>
-    requires told { AreTold (to_closed (rows_in tables.now) (rows_in tables.now).closed) records.old }
-    ensures read { OnOk result (IsSome (holds_rows_of tables.now.holds.items)) }
-    ensures ok { OnOk result (broken_holds (rows_in tables.now) ≡ None) }
-    ensures told { OnOk result (AreTold (to_holds (rows_in tables.now) (rows_in tables.now).holds) records.new) }
-    ensures err { IfErr result (λ e. Stops e table.Holds (holds_rows_of tables.now.holds.items) (broken_holds (rows_in tables.now))) }
-{
-    if tables.holds.is_empty() {
-        return Ok(());
-    }
-    let mut rows = TableRows::under(alloc, TableName::Holds, &HOLDS, &tables.holds)?;
-    let mut row = ByteRecord::new(alloc);
-    let mut waiting = BTreeSet::new(alloc);
-    while rows.next(&mut row)? {
-        let broken = add_hold(alloc, &row, records, &mut waiting)?;
-        if let Some(rule) = broken {
-            return Err(rows.broken(rule));
-        }
-    }
-    Ok(())
-}
-
 /// Adds the hold of a row to the queue of its item, and its patron to those who wait, or returns the first rule that the row breaks,
 /// where these are the records and the waiting patrons of the rows before it. A row that breaks one may leave its patron among
 /// those who wait.
 #[tactic(auto, unfolding(crate::specs::Rules::hold_rule))]
-fn add_hold(
+pub(crate) fn add_hold(
     alloc: Global,
     row: &ByteRecord,
     records: &mut RecordMap,
     waiting: &mut BTreeSet<(Id, Id)>,
 ) -> Result<Option<BaseRule>, AllocError>
     ensures rule { IfOk result (λ broken. (r : Rows) → AreTold r records.old → AreWaiting r.holds waiting.old → broken ≡ Rules.hold_rule r.patrons r.items r.loans r.holds (fields_of row.now)) }
-    ensures told { IfOk result (λ broken. broken ≡ None → (r : Rows) (before : List Row) → AreTold (to_holds r before) records.old → AreTold (to_holds r (before ++ fields_of row.now ∷ [])) records.new) }
+    ensures told { IfOk result (λ broken. broken ≡ None → (r : Rows) (before : List Row) → AreTold (up_to table.Holds r before) records.old → AreTold (up_to table.Holds r (before ++ fields_of row.now ∷ [])) records.new) }
     ensures waiting { IfOk result (λ broken. broken ≡ None → (holds : List Row) → AreWaiting holds waiting.old → AreWaiting (holds ++ fields_of row.now ∷ []) waiting.new) }
 {
     match read_hold(alloc, row)? {
@@ -75,7 +44,7 @@ fn queue_hold(
     waiting: &mut BTreeSet<(Id, Id)>,
 ) -> Result<Option<BaseRule>, AllocError>
     ensures rule { IfOk result (λ broken. (r : Rows) (row : Row) → SaysHold item hold row → AreTold r records.old → AreWaiting r.holds waiting.old → broken ≡ Rules.hold_rule r.patrons r.items r.loans r.holds row) }
-    ensures told { IfOk result (λ broken. broken ≡ None → (r : Rows) (before : List Row) (row : Row) → SaysHold item hold row → AreTold (to_holds r before) records.old → AreTold (to_holds r (before ++ row ∷ [])) records.new) }
+    ensures told { IfOk result (λ broken. broken ≡ None → (r : Rows) (before : List Row) (row : Row) → SaysHold item hold row → AreTold (up_to table.Holds r before) records.old → AreTold (up_to table.Holds r (before ++ row ∷ [])) records.new) }
     ensures waiting { IfOk result (λ broken. broken ≡ None → (holds : List Row) (row : Row) → SaysHold item hold row → AreWaiting holds waiting.old → AreWaiting (holds ++ row ∷ []) waiting.new) }
 {
     if !waiting.insert((item.clone()?, hold.patron.clone()?))? {

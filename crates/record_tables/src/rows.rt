@@ -1,13 +1,11 @@
 //! The rows of the tables, read one at a time.
 
-ghost use Rattle.std.specs.Prelude.{◌≡◌, ◌<◌, ◌+◌, ◌∷◌, [], true, false, Some, IsSome, map, option_map, IfOk, IfErr, OnOk};
+ghost use Rattle.std.specs.Prelude.{◌≡◌, ◌<◌, ◌+◌, ◌∷◌, [], true, false, Some, IsSome, option_map, IfOk, IfErr, OnOk};
 ghost use Rattle.csv.specs.Records.{fields_of};
-ghost use Rattle.csv_table.specs.Rows.{rows_under};
-ghost use Rattle.record_tables.specs.Base.{Fails, holds_rows_of, rows_of, table_rows};
-ghost use Rattle.record_tables.specs.Read.{AreTables, table_refusal};
+ghost use Rattle.record_tables.specs.Base.{Fails, rows_of, table_rows};
+ghost use Rattle.record_tables.specs.Read.{AreTables, table_refusal, text_rows};
 ghost use Rattle.record_tables.specs.Tables.{texts_of};
 ghost use Rattle.record_tables.specs.declared.fault.BaseError.TheVariants as error;
-ghost use Rattle.record_tables.specs.declared.tables.TableName.TheVariants as table;
 
 use crate::fault::BaseError;
 use crate::tables::{TableName, Tables};
@@ -16,18 +14,6 @@ use csv::ByteRecord;
 use csv_table::{RowReader, TableError};
 use std::alloc::Global;
 use std::marker::Model;
-
-pub(crate) const PATRONS: [&str; 4] = ["id", "name", "class", "blocked"];
-
-pub(crate) const ITEMS: [&str; 5] = ["id", "title", "media", "location", "properties"];
-
-pub(crate) const LOANS: [&str; 4] = ["patron", "item", "due", "renewals"];
-
-pub(crate) const FEES: [&str; 5] = ["id", "patron", "type", "amount", "paid"];
-
-pub(crate) const CLOSED: [&str; 4] = ["id", "patron", "type", "amount"];
-
-pub(crate) const HOLDS: [&str; 3] = ["item", "patron", "pickup"];
 
 /// The rows of a table under its header. None is stored: each is judged, and its record added, before the next one is read.
 pub(crate) struct TableRows<'t> {
@@ -60,18 +46,17 @@ impl<'t> Model for TableRows<'t> {
 
 impl<'t> TableRows<'t> {
     /// The rows of a table under its header, which is read at once.
-    pub(crate) fn under(
+    pub(crate) fn of(
         alloc: Global,
         table: TableName,
-        header: &[&str],
-        text: &'t [u8],
+        tables: &'t Tables,
     ) -> Result<TableRows<'t>, BaseError>
         ensures table { IfOk result (λ rows. rows.table ≡ table) }
         ensures count { IfOk result (λ rows. rows.count ≡ 0) }
-        ensures rows { IfOk result (λ rows. rows.rows ≡ rows_under (map (λ name. name.now) header.now) text.now) }
-        ensures err { IfErr result (λ e. Fails e (table_rows table (rows_under (map (λ name. name.now) header.now) text.now))) }
+        ensures rows { IfOk result (λ rows. rows.rows ≡ text_rows table tables.now) }
+        ensures err { IfErr result (λ e. Fails e (table_rows table (text_rows table tables.now))) }
     {
-        match RowReader::under(alloc, header, text) {
+        match RowReader::under(alloc, table.header(), tables.text(table)) {
             Ok(reader) => Ok(TableRows {
                 table,
                 reader,
@@ -129,37 +114,21 @@ pub(crate) fn check_tables(alloc: Global, tables: &Tables) -> Result<(), BaseErr
     ensures ok { OnOk result (AreTables tables.now) }
     ensures err { IfErr result (λ e. Fails e (rows_of (texts_of tables.now))) }
 {
-    check_table(alloc, TableName::Patrons, &PATRONS, &tables.patrons)?;
-    check_table(alloc, TableName::Items, &ITEMS, &tables.items)?;
-    check_table(alloc, TableName::Loans, &LOANS, &tables.loans)?;
-    check_table(alloc, TableName::Fees, &FEES, &tables.fees)?;
-    check_table(alloc, TableName::Closed, &CLOSED, &tables.closed)?;
-    check_holds(alloc, &tables.holds)
+    check_table(alloc, TableName::Patrons, tables)?;
+    check_table(alloc, TableName::Items, tables)?;
+    check_table(alloc, TableName::Loans, tables)?;
+    check_table(alloc, TableName::Fees, tables)?;
+    check_table(alloc, TableName::Closed, tables)?;
+    check_table(alloc, TableName::Holds, tables)
 }
 
-/// Whether a text is a table under its header.
-fn check_table(
-    alloc: Global,
-    table: TableName,
-    header: &[&str],
-    text: &[u8],
-) -> Result<(), BaseError>
-    ensures ok { OnOk result (IsSome (rows_under (map (λ name. name.now) header.now) text.now)) }
-    ensures err { IfErr result (λ e. Fails e (table_rows table (rows_under (map (λ name. name.now) header.now) text.now))) }
+/// Returns a fault where a text is no table under its header.
+pub fn check_table(alloc: Global, table: TableName, tables: &Tables) -> Result<(), BaseError>
+    ensures ok { OnOk result (IsSome (text_rows table tables.now)) }
+    ensures err { IfErr result (λ e. Fails e (table_rows table (text_rows table tables.now))) }
 {
-    let mut rows = TableRows::under(alloc, table, header, text)?;
+    let mut rows = TableRows::of(alloc, table, tables)?;
     let mut row = ByteRecord::new(alloc);
     while rows.next(&mut row)? {}
     Ok(())
-}
-
-/// Whether a text is a table of holds: no bytes at all count as its header alone.
-fn check_holds(alloc: Global, text: &[u8]) -> Result<(), BaseError>
-    ensures ok { OnOk result (IsSome (holds_rows_of text.now)) }
-    ensures err { IfErr result (λ e. Fails e (table_rows table.Holds (holds_rows_of text.now))) }
-{
-    if text.is_empty() {
-        return Ok(());
-    }
-    check_table(alloc, TableName::Holds, &HOLDS, text)
 }

@@ -1,17 +1,16 @@
 //! The six tables while they are written.
 
-ghost use Rattle.std.specs.Prelude.{◌≡◌, [], IfOk, OnOk};
+ghost use Rattle.std.specs.Prelude.{◌≡◌, [], Some, IfOk, OnOk};
+ghost use Rattle.csv_table.specs.Text.{written};
 ghost use Rattle.circ_records.specs.Records.{Entries};
-ghost use Rattle.record_tables.specs.Tables.{texts_of};
-ghost use Rattle.record_tables.specs.Written.{printed};
+ghost use Rattle.record_tables.specs.Tables.{header_of, texts_of};
 ghost use Rattle.circ_records.specs.declared.key.Key.TheVariants as key_of;
 ghost use Rattle.circ_records.specs.declared.record.Record.TheVariants as record_of;
 
 use crate::fee_rows::{write_closed, write_fees};
 use crate::item_rows::{write_holds, write_item};
 use crate::patron_rows::{write_loans, write_patron};
-use crate::rows::{CLOSED, FEES, HOLDS, ITEMS, LOANS, PATRONS};
-use crate::tables::Tables;
+use crate::tables::{TableName, Tables};
 use circ_records::{Fee, Item, Key, Patron, Record, Records};
 use csv_table::TableText;
 use std::alloc::{AllocError, Global};
@@ -48,12 +47,12 @@ impl TableTexts {
         ensures { IfOk result (λ texts. (all : Entries) → Holds all [] texts) }
     {
         Ok(TableTexts {
-            patrons: TableText::under(alloc, &PATRONS)?,
-            items: TableText::under(alloc, &ITEMS)?,
-            loans: TableText::under(alloc, &LOANS)?,
-            fees: TableText::under(alloc, &FEES)?,
-            closed: TableText::under(alloc, &CLOSED)?,
-            holds: TableText::under(alloc, &HOLDS)?,
+            patrons: under(alloc, TableName::Patrons)?,
+            items: under(alloc, TableName::Items)?,
+            loans: under(alloc, TableName::Loans)?,
+            fees: under(alloc, TableName::Fees)?,
+            closed: under(alloc, TableName::Closed)?,
+            holds: under(alloc, TableName::Holds)?,
         })
     }
 
@@ -138,4 +137,11 @@ impl TableTexts {
             holds: holds.finish()?,
         })
     }
+}
+
+/// A table of its header alone.
+fn under(alloc: Global, table: TableName) -> Result<TableText, AllocError>
+    ensures { IfOk result (λ text. text ≡ Some (written (header_of table) [])) }
+{
+    TableText::under(alloc, table.header())
 }

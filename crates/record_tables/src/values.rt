@@ -12,7 +12,7 @@ use sip_reader::{Day, all_digits, number_of_digits};
 
 /// The flag that a text is: `Y` or `N`.
 #[tactic(auto, unfolding(crate::specs::Values::flag_of))]
-pub(crate) fn flag_of(text: &[u8]) -> Option<bool>
+pub fn flag_of(text: &[u8]) -> Option<bool>
     ensures { result ≡ Values.flag_of text.now }
 {
     if text == b"Y".as_slice() {
@@ -54,7 +54,7 @@ fn has_leading_zero(text: &[u8]) -> bool
 
 /// How often a loan was renewed: 0 to 4,294,967,295 without leading zeros.
 #[tactic(auto, unfolding(crate::specs::Values::renewals_of))]
-pub(crate) fn renewals_of(text: &[u8]) -> Option<u32>
+pub fn renewals_of(text: &[u8]) -> Option<u32>
     ensures { result ≡ Values.renewals_of text.now }
 {
     match decimal_of(text) {
@@ -75,7 +75,7 @@ fn short(number: u64) -> Option<u32>
 
 /// The day that a text is: eight digits of a real day in the years 1900 to 9999.
 #[tactic(auto, unfolding(crate::specs::Values::due_of))]
-pub(crate) fn due_of(text: &[u8]) -> Option<Day>
+pub fn due_of(text: &[u8]) -> Option<Day>
     ensures { result ≡ Values.due_of text.now }
 {
     if is_date(text) { day_of(text) } else { None }

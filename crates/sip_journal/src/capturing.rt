@@ -1,7 +1,7 @@
 //! The messages of captured connections, as they come.
 
 use crate::connection::{Half, Heard};
-use crate::connections::{Client, Connection, Connections, Ends};
+use crate::connections::{Client, Connection, Connections, Ends, Talk};
 use crate::headers::TcpSegment;
 use crate::judging::LogPlace;
 use crate::reading::JournalReader;
@@ -10,41 +10,9 @@ use capture_streams::StreamPiece;
 use log_pairs::{Direction, Odd, odd_of};
 use sip_reader::{unsummed, without_line_end};
 use std::alloc::{AllocError, Global};
-use std::net::SocketAddr;
 
 /// The port of a server, where none is named.
 const PORT: u16 = 6001;
-
-/// Which of the two ends sends.
-#[derive(Clone, Copy)]
-struct SendingEnd {
-    ends: Ends,
-    is_first: bool,
-}
-
-impl SendingEnd {
-    fn of(segment: &TcpSegment<'_>) -> SendingEnd {
-        if segment.from <= segment.to {
-            SendingEnd {
-                ends: (segment.from, segment.to),
-                is_first: true,
-            }
-        } else {
-            SendingEnd {
-                ends: (segment.to, segment.from),
-                is_first: false,
-            }
-        }
-    }
-
-    /// The turn of the other end.
-    fn other(self) -> SendingEnd {
-        SendingEnd {
-            ends: self.ends,
-            is_first: !self.is_first,
-        }
-    }
-}
 
 /// The messages of a capture.
 pub struct Capturing {
@@ -81,34 +49,27 @@ impl Capturing {
         place: LogPlace<'l>,
     ) -> Result<(), MakingError> {
         self.settle(reading, place)?;
-        let turn = SendingEnd::of(segment);
-        let mut connection = match self.connections.take(&turn.ends) {
-            Some(connection) => connection,
-            None => match self.begun(segment, turn.ends) {
-                Some(connection) => connection,
-                None => return Ok(()),
-            },
+        let is_first = segment.from <= segment.to;
+        let ends = if is_first {
+            (segment.from, segment.to)
+        } else {
+            (segment.to, segment.from)
         };
-        let was_over = self.go_on(&mut connection, turn, segment, reading, place)?;
-        self.connections.keep(turn.ends, connection, was_over)?;
-        Ok(())
-    }
-
-    /// Takes a segment of a connection; gives whether the connection was over before.
-    fn go_on<'l>(
-        &self,
-        connection: &mut Connection,
-        turn: SendingEnd,
-        segment: &TcpSegment<'_>,
-        reading: &mut JournalReader<'l>,
-        place: LogPlace<'l>,
-    ) -> Result<bool, MakingError> {
-        begin_again(connection, turn, segment, reading)?;
-        let was_over = connection.is_over;
-        if !matches!(connection.client, Client::Nobody) {
-            self.hear(connection, turn, segment, reading, place)?;
+        if self.connections.get_mut(&ends).is_none() {
+            match self.client_of(segment, ends) {
+                Some(client) => self.connections.begin(self.alloc, ends, client)?,
+                None => return Ok(()),
+            }
         }
-        Ok(was_over)
+        if let Some(connection) = self.connections.get_mut(&ends) {
+            begin_again(connection, is_first, segment, reading)?;
+            let was_over = connection.is_over;
+            hear(self.alloc, connection, is_first, segment, reading, place)?;
+            if !was_over {
+                self.connections.note(ends)?;
+            }
+        }
+        Ok(())
     }
 
     /// A segment comes: lets go of what no segment can change any more.
@@ -121,160 +82,46 @@ impl Capturing {
         if let Some(client) = self.connections.settle()? {
             reading.over(client)?;
         }
-        if let Some((ends, mut connection)) = self.connections.take_idle() {
-            self.finish(ends, &mut connection, reading, place)?;
+        match self.connections.pop_idle() {
+            Some(ends) => self.finish(&ends, reading, place),
+            None => Ok(()),
         }
-        Ok(())
     }
 
-    /// A connection that begins with this segment; none where it has nothing to say, or another port is wanted.
-    fn begun(&self, segment: &TcpSegment<'_>, ends: Ends) -> Option<Connection> {
+    /// The client of a connection that begins with this segment, as far as it is known; none where the connection has nothing to say,
+    /// or another port is wanted.
+    fn client_of(&self, segment: &TcpSegment<'_>, ends: Ends) -> Option<Client> {
         if segment.payload.is_empty() && !segment.begins {
             return None;
         }
         let port = self.port.unwrap_or(PORT);
-        let client = match (ends.0.port() == port, ends.1.port() == port) {
-            (false, true) => Client::First,
-            (true, false) => Client::Second,
-            (true, true) => Client::Unknown,
-            (false, false) if self.port.is_none() => Client::Unknown,
-            _ => return None,
-        };
-        Some(Connection::new(self.alloc, client))
+        match (ends.0.port() == port, ends.1.port() == port) {
+            (false, true) => Some(Client::First),
+            (true, false) => Some(Client::Second),
+            (true, true) => Some(Client::Unknown),
+            (false, false) if self.port.is_none() => Some(Client::Unknown),
+            _ => None,
+        }
     }
 
-    /// Hears a segment of a connection: first what it acknowledges, then what it says.
-    fn hear<'l>(
-        &self,
-        connection: &mut Connection,
-        turn: SendingEnd,
-        segment: &TcpSegment<'_>,
-        reading: &mut JournalReader<'l>,
-        place: LogPlace<'l>,
-    ) -> Result<(), MakingError> {
-        let (mut answered, mut said) = (Vec::new(self.alloc), Vec::new(self.alloc));
-        let is_over = if turn.is_first {
-            exchange(
-                &mut connection.first,
-                &mut connection.second,
-                segment,
-                &mut said,
-                &mut answered,
-            )?
-        } else {
-            exchange(
-                &mut connection.second,
-                &mut connection.first,
-                segment,
-                &mut said,
-                &mut answered,
-            )?
-        };
-        connection.is_over = connection.is_over || is_over;
-        self.hand_on(connection, turn.other(), &answered, reading, place)?;
-        self.hand_on(connection, turn, &said, reading, place)?;
-        self.look(connection, turn)?;
-        Ok(())
-    }
-
-    /// Looks who is the client, as soon as a message has begun. Where nobody is, nothing is kept of the connection.
-    fn look(&self, connection: &mut Connection, turn: SendingEnd) -> Result<(), AllocError> {
-        if matches!(connection.client, Client::Unknown) {
-            let message = without_line_feeds(connection.half(turn.is_first).open());
-            if let Some(identifier) = message.get(..2) {
-                connection.client = client_by(self.alloc, identifier, turn.is_first)?;
-            }
-        }
-        if matches!(connection.client, Client::Nobody) {
-            connection.first = Half::new(self.alloc);
-            connection.second = Half::new(self.alloc);
-            connection.is_over = true;
-        }
-        Ok(())
-    }
-
-    /// Hands on what was heard of one end.
-    fn hand_on<'l>(
-        &self,
-        connection: &mut Connection,
-        turn: SendingEnd,
-        heard: &[Heard],
-        reading: &mut JournalReader<'l>,
-        place: LogPlace<'l>,
-    ) -> Result<(), MakingError> {
-        for one in heard {
-            match one {
-                Heard::Missing(count) => {
-                    if let Some((side, client)) = speaker(connection.client, turn) {
-                        reading.missing(*count, side, client, place)?;
-                        if matches!(side, Direction::Request) {
-                            connection.lacks_request = true;
-                        }
-                    }
-                }
-                Heard::Piece(piece) => self.hand_on_piece(connection, turn, piece, reading, place)?,
-            }
-        }
-        Ok(())
-    }
-
-    /// Hands on a piece of what one end sends, if that is a message.
-    fn hand_on_piece<'l>(
-        &self,
-        connection: &mut Connection,
-        turn: SendingEnd,
-        piece: &StreamPiece,
-        reading: &mut JournalReader<'l>,
-        place: LogPlace<'l>,
-    ) -> Result<(), MakingError> {
-        let message = without_line_feeds(piece.bytes());
-        if message.is_empty() {
-            return Ok(());
-        }
-        if matches!(connection.client, Client::Unknown) {
-            connection.client = client_by(self.alloc, message, turn.is_first)?;
-        }
-        let Some((side, client)) = speaker(connection.client, turn) else {
-            return Ok(());
-        };
-        let is_message = is_whole(self.alloc, piece, side, message)?;
-        if matches!(side, Direction::Request) {
-            connection.lacks_request = !is_message;
-        }
-        if !is_message {
-            reading.broken(side, client, message, place)?;
-        } else if connection.lacks_request {
-            // (no request has a connection without a name: this response is reported as one without a request)
-            reading.message(b"", side, message, place)?;
-        } else {
-            let name = format!(in self.alloc; "{client}")?;
-            reading.message(name.as_str().as_bytes(), side, message, place)?;
-        }
-        Ok(())
-    }
-
-    /// Nothing more comes of a connection: hands on what waits for its end.
+    /// Nothing more comes of a connection: hands on what waits for its end, and lets go of it.
     fn finish<'l>(
-        &self,
-        ends: Ends,
-        connection: &mut Connection,
+        &mut self,
+        ends: &Ends,
         reading: &mut JournalReader<'l>,
         place: LogPlace<'l>,
     ) -> Result<(), MakingError> {
-        let mut heard = Vec::new(self.alloc);
-        let first = SendingEnd {
-            ends,
-            is_first: true,
-        };
-        connection.first.close(&mut heard)?;
-        self.hand_on(connection, first, &heard, reading, place)?;
-        heard.clear();
-        connection.second.close(&mut heard)?;
-        self.hand_on(connection, first.other(), &heard, reading, place)?;
-        match connection.client.address(ends) {
-            Some(client) => reading.over(client),
-            None => Ok(()),
+        if let Some(connection) = self.connections.get_mut(ends) {
+            connection.first.close()?;
+            hand_on(self.alloc, connection, true, reading, place)?;
+            connection.second.close()?;
+            hand_on(self.alloc, connection, false, reading, place)?;
+            if let Some(client) = connection.talk.address() {
+                reading.over(client)?;
+            }
         }
+        self.connections.remove(ends);
+        Ok(())
     }
 
     /// The capture is at its end.
@@ -284,10 +131,10 @@ impl Capturing {
         place: LogPlace<'l>,
     ) -> Result<(), MakingError> {
         for _ in 0..u64::MAX {
-            let Some((ends, mut connection)) = self.connections.take_first() else {
+            let Some(ends) = self.connections.first() else {
                 break;
             };
-            self.finish(ends, &mut connection, reading, place)?;
+            self.finish(&ends, reading, place)?;
         }
         Ok(())
     }
@@ -296,47 +143,158 @@ impl Capturing {
 /// Where a segment begins the stream of one end anew, the connection isn't over; where that is the client's, what it asked before is.
 fn begin_again(
     connection: &mut Connection,
-    turn: SendingEnd,
+    is_first: bool,
     segment: &TcpSegment<'_>,
     reading: &mut JournalReader<'_>,
 ) -> Result<(), MakingError> {
-    let is_new = segment.begins && !connection.half(turn.is_first).is_begun_at(segment.number);
-    if !is_new || matches!(connection.client, Client::Nobody) {
+    let is_new = segment.begins && !connection.half(is_first).is_begun_at(segment.number);
+    if !is_new || matches!(connection.talk.client, Client::Nobody) {
         return Ok(());
     }
     connection.is_over = false;
-    match speaker(connection.client, turn) {
+    match connection.talk.speaker(is_first) {
         Some((Direction::Request, client)) => reading.over(client),
         _ => Ok(()),
     }
 }
 
-/// Whose messages an end sends, and the client's address and port, which name the connection.
-fn speaker(client: Client, turn: SendingEnd) -> Option<(Direction, SocketAddr)> {
-    let address = client.address(turn.ends)?;
-    if matches!(client, Client::First) == turn.is_first {
-        Some((Direction::Request, address))
+/// Hears a segment of a connection: first what it acknowledges, then what it says.
+fn hear<'l>(
+    alloc: Global,
+    connection: &mut Connection,
+    is_first: bool,
+    segment: &TcpSegment<'_>,
+    reading: &mut JournalReader<'l>,
+    place: LogPlace<'l>,
+) -> Result<(), MakingError> {
+    if matches!(connection.talk.client, Client::Nobody) {
+        return Ok(());
+    }
+    let is_over = if is_first {
+        exchange(&mut connection.first, &mut connection.second, segment)?
     } else {
-        Some((Direction::Response, address))
+        exchange(&mut connection.second, &mut connection.first, segment)?
+    };
+    connection.is_over = connection.is_over || is_over;
+    hand_on(alloc, connection, !is_first, reading, place)?;
+    hand_on(alloc, connection, is_first, reading, place)?;
+    look(alloc, connection, is_first)?;
+    Ok(())
+}
+
+/// Looks who is the client, as soon as a message has begun. Where nobody is, nothing is kept of the connection.
+fn look(alloc: Global, connection: &mut Connection, is_first: bool) -> Result<(), AllocError> {
+    if matches!(connection.talk.client, Client::Unknown) {
+        let message = without_line_feeds(connection.half(is_first).open());
+        if let Some(identifier) = message.get(..2) {
+            connection.talk.client = client_by(alloc, identifier, is_first)?;
+        }
+    }
+    if matches!(connection.talk.client, Client::Nobody) {
+        connection.leave(alloc);
+    }
+    Ok(())
+}
+
+/// Hands on what was heard of one end of a connection.
+fn hand_on<'l>(
+    alloc: Global,
+    connection: &mut Connection,
+    is_first: bool,
+    reading: &mut JournalReader<'l>,
+    place: LogPlace<'l>,
+) -> Result<(), MakingError> {
+    if is_first {
+        hand_on_half(
+            alloc,
+            &mut connection.first,
+            &mut connection.talk,
+            is_first,
+            reading,
+            place,
+        )
+    } else {
+        hand_on_half(
+            alloc,
+            &mut connection.second,
+            &mut connection.talk,
+            is_first,
+            reading,
+            place,
+        )
+    }
+}
+
+fn hand_on_half<'l>(
+    alloc: Global,
+    half: &mut Half,
+    talk: &mut Talk,
+    is_first: bool,
+    reading: &mut JournalReader<'l>,
+    place: LogPlace<'l>,
+) -> Result<(), MakingError> {
+    for one in &half.heard {
+        match one {
+            Heard::Missing(count) => {
+                if let Some((side, client)) = talk.speaker(is_first) {
+                    reading.missing(*count, side, client, place)?;
+                    if matches!(side, Direction::Request) {
+                        talk.lacks_request = true;
+                    }
+                }
+            }
+            Heard::Piece(piece) => hand_on_piece(alloc, talk, is_first, piece, reading, place)?,
+        }
+    }
+    // (a list that is only cleared would keep its memory)
+    half.heard = Vec::new(alloc);
+    Ok(())
+}
+
+/// Hands on a piece of what one end sends, if that is a message.
+fn hand_on_piece<'l>(
+    alloc: Global,
+    talk: &mut Talk,
+    is_first: bool,
+    piece: &StreamPiece,
+    reading: &mut JournalReader<'l>,
+    place: LogPlace<'l>,
+) -> Result<(), MakingError> {
+    let message = without_line_feeds(piece.bytes());
+    if message.is_empty() {
+        return Ok(());
+    }
+    if matches!(talk.client, Client::Unknown) {
+        talk.client = client_by(alloc, message, is_first)?;
+    }
+    let Some((side, client)) = talk.speaker(is_first) else {
+        return Ok(());
+    };
+    let is_message = is_whole(alloc, piece, side, message)?;
+    if matches!(side, Direction::Request) {
+        talk.lacks_request = !is_message;
+    }
+    if !is_message {
+        reading.broken(side, client, message, place)?;
+        Ok(())
+    } else if talk.lacks_request {
+        // (no request has a connection without a name: this response is reported as one without a request)
+        reading.message(b"", side, message, place)
+    } else {
+        reading.client_message(client, side, message, place)
     }
 }
 
 /// Takes a segment of one end, which acknowledges what the other said. Gives whether the connection is over.
-fn exchange(
-    from: &mut Half,
-    to: &mut Half,
-    segment: &TcpSegment<'_>,
-    said: &mut Vec<Heard>,
-    answered: &mut Vec<Heard>,
-) -> Result<bool, AllocError> {
+fn exchange(from: &mut Half, to: &mut Half, segment: &TcpSegment<'_>) -> Result<bool, AllocError> {
     if let Some(number) = segment.acknowledged {
-        to.acknowledge(number, answered)?;
+        to.acknowledge(number)?;
     }
-    from.take(segment, said)?;
+    from.take(segment)?;
     let is_over = segment.resets || (from.is_over() && to.is_over());
     if is_over {
-        from.close(said)?;
-        to.close(answered)?;
+        from.close()?;
+        to.close()?;
     }
     Ok(is_over)
 }

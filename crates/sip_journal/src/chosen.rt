@@ -1,6 +1,6 @@
 //! What the options of the command line choose.
 
-use crate::presets::preset_named;
+use crate::presets::PRESETS;
 use command_line::JournalOptions;
 use log_pairs::Escapes;
 use sip_reader::LINE_NUMBER_MAX;
@@ -43,6 +43,20 @@ pub enum LogLayout {
     Json,
 }
 
+static LAYOUTS: [(&str, LogLayout); 3] = [
+    ("single", LogLayout::Single),
+    ("pair", LogLayout::Pair),
+    ("json", LogLayout::Json),
+];
+
+static SPELLINGS: [(&str, Escapes); 5] = [
+    ("bare", Escapes::Bare),
+    ("backslash", Escapes::Backslash),
+    ("angle", Escapes::Angle),
+    ("hexadecimal", Escapes::Hexadecimal),
+    ("octal", Escapes::Octal),
+];
+
 /// Why options are refused, and the word that is to blame.
 #[derive(Clone, Copy)]
 pub struct Wrong<'o> {
@@ -74,35 +88,41 @@ pub fn task_of(options: &JournalOptions) -> Result<JournalTask<'_>, Wrong<'_>> {
     Ok(task)
 }
 
-/// The form of lines that the options and the preset say together.
+/// The form of lines that the options and the preset say together: what else is given counts instead of the preset's.
 fn form_of(options: &JournalOptions) -> Result<LogForm<'_>, Wrong<'_>> {
-    let preset = match text(&options.preset) {
-        Some(name) => match preset_named(name) {
-            Some(preset) => Some(preset.form()),
-            None => {
-                return Err(Wrong {
-                    what: "no preset is named",
-                    word: name,
-                });
-            }
+    let (request, response) = (text(&options.request), text(&options.response));
+    let known = match (text(&options.preset), request, response) {
+        (Some(name), _, _) => named(&PRESETS, "no preset is named", name)?,
+        (None, Some(request), Some(response)) => LogForm {
+            request,
+            response,
+            connection: None,
+            mark: None,
+            layout: LogLayout::Single,
+            escapes: Escapes::Bare,
         },
-        None => None,
+        _ => {
+            return Err(Wrong {
+                what: "--preset is needed, or",
+                word: "--request and --response",
+            });
+        }
     };
-    let request = text(&options.request).or(preset.map(|form| form.request));
-    let response = text(&options.response).or(preset.map(|form| form.response));
-    let (Some(request), Some(response)) = (request, response) else {
-        return Err(Wrong {
-            what: "--preset is needed, or",
-            word: "--request and --response",
-        });
+    let layout = match text(&options.layout) {
+        Some(word) => named(&LAYOUTS, "no layout of lines is named", word)?,
+        None => known.layout,
+    };
+    let escapes = match text(&options.escapes) {
+        Some(word) => named(&SPELLINGS, "no way of spelling bytes is named", word)?,
+        None => known.escapes,
     };
     Ok(LogForm {
-        request,
-        response,
-        connection: text(&options.connection).or(preset.and_then(|form| form.connection)),
-        mark: text(&options.mark).or(preset.and_then(|form| form.mark)),
-        layout: layout_of(options, preset)?,
-        escapes: escapes_of(options, preset)?,
+        request: request.unwrap_or(known.request),
+        response: response.unwrap_or(known.response),
+        connection: text(&options.connection).or(known.connection),
+        mark: text(&options.mark).or(known.mark),
+        layout,
+        escapes,
     })
 }
 
@@ -113,36 +133,16 @@ fn text(option: &Option<String>) -> Option<&str> {
     }
 }
 
-fn layout_of<'o>(
-    options: &'o JournalOptions,
-    preset: Option<LogForm<'_>>,
-) -> Result<LogLayout, Wrong<'o>> {
-    match text(&options.layout) {
-        Some("single") => Ok(LogLayout::Single),
-        Some("pair") => Ok(LogLayout::Pair),
-        Some("json") => Ok(LogLayout::Json),
-        Some(word) => Err(Wrong {
-            what: "no layout of lines is named",
-            word,
-        }),
-        None => Ok(preset.map(|form| form.layout).unwrap_or(LogLayout::Single)),
+/// What a word names in a table, or what is to be said where it names nothing there.
+fn named<'o, T: Copy>(
+    table: &[(&'static str, T)],
+    what: &'static str,
+    word: &'o str,
+) -> Result<T, Wrong<'o>> {
+    for (name, value) in table {
+        if *name == word {
+            return Ok(*value);
+        }
     }
-}
-
-fn escapes_of<'o>(
-    options: &'o JournalOptions,
-    preset: Option<LogForm<'_>>,
-) -> Result<Escapes, Wrong<'o>> {
-    match text(&options.escapes) {
-        Some("bare") => Ok(Escapes::Bare),
-        Some("backslash") => Ok(Escapes::Backslash),
-        Some("angle") => Ok(Escapes::Angle),
-        Some("hexadecimal") => Ok(Escapes::Hexadecimal),
-        Some("octal") => Ok(Escapes::Octal),
-        Some(word) => Err(Wrong {
-            what: "no way of spelling bytes is named",
-            word,
-        }),
-        None => Ok(preset.map(|form| form.escapes).unwrap_or(Escapes::Bare)),
-    }
+    Err(Wrong { what, word })
 }

@@ -40,6 +40,8 @@ pub struct Half {
     end: Option<u64>,
     /// The position after the last byte that came.
     last: u64,
+    /// What was heard of it, and wasn't handed on yet.
+    pub heard: Vec<Heard>,
 }
 
 impl Drop for Half {
@@ -51,6 +53,7 @@ impl Drop for Half {
             cutter: _,
             end: _,
             last: _,
+            heard: _,
         } = self;
     }
 }
@@ -65,6 +68,7 @@ impl Half {
             cutter: Cutter::new(alloc, true),
             end: None,
             last: 0,
+            heard: Vec::new(alloc),
         }
     }
 
@@ -87,13 +91,9 @@ impl Half {
     }
 
     /// Takes a segment of this end.
-    pub fn take(
-        &mut self,
-        segment: &TcpSegment<'_>,
-        heard: &mut Vec<Heard>,
-    ) -> Result<(), AllocError> {
+    pub fn take(&mut self, segment: &TcpSegment<'_>) -> Result<(), AllocError> {
         let first = if segment.begins {
-            self.begin(segment.number, heard)?;
+            self.begin(segment.number)?;
             segment.number.wrapping_add(1)
         } else {
             segment.number
@@ -121,19 +121,19 @@ impl Half {
         }
         self.last = self.last.max(after);
         let full = stream.waiting() > MOST;
-        self.drain(heard)?;
+        self.drain()?;
         if full {
-            self.lose(after, heard)?;
+            self.lose(after)?;
         }
         Ok(())
     }
 
     /// The stream begins with the byte after this number; what came before belongs to another connection.
-    fn begin(&mut self, number: u32, heard: &mut Vec<Heard>) -> Result<(), AllocError> {
+    fn begin(&mut self, number: u32) -> Result<(), AllocError> {
         if self.is_begun_at(number) {
             return Ok(());
         }
-        self.close(heard)?;
+        self.close()?;
         self.begun_at = Some(number);
         self.stream = Some(Stream::new(self.alloc, number.wrapping_add(1)));
         self.cutter = Cutter::new(self.alloc, false);
@@ -143,7 +143,7 @@ impl Half {
     }
 
     /// The other end has all bytes before this number: those that weren't captured by now are missing.
-    pub fn acknowledge(&mut self, number: u32, heard: &mut Vec<Heard>) -> Result<(), AllocError> {
+    pub fn acknowledge(&mut self, number: u32) -> Result<(), AllocError> {
         let Some(stream) = &self.stream else {
             return Ok(());
         };
@@ -156,21 +156,21 @@ impl Half {
             None => near,
         };
         if upto.saturating_sub(position) <= FAR {
-            self.lose(upto, heard)?;
+            self.lose(upto)?;
         }
         Ok(())
     }
 
     /// Gives up on the bytes before a position that didn't come.
-    fn lose(&mut self, upto: u64, heard: &mut Vec<Heard>) -> Result<(), AllocError> {
+    fn lose(&mut self, upto: u64) -> Result<(), AllocError> {
         for _ in 0..FAR {
             let missing = self.missing(upto);
             if missing == 0 {
                 break;
             }
-            heard.push(Heard::Missing(missing))?;
-            heard.push(Heard::Piece(self.cutter.gap()))?;
-            self.drain(heard)?;
+            hear(&mut self.heard, Heard::Missing(missing))?;
+            hear(&mut self.heard, Heard::Piece(self.cutter.gap()))?;
+            self.drain()?;
         }
         Ok(())
     }
@@ -191,7 +191,7 @@ impl Half {
     }
 
     /// Cuts the bytes that came, in their order.
-    fn drain(&mut self, heard: &mut Vec<Heard>) -> Result<(), AllocError> {
+    fn drain(&mut self) -> Result<(), AllocError> {
         let Some(stream) = &mut self.stream else {
             return Ok(());
         };
@@ -200,9 +200,9 @@ impl Half {
                 break;
             };
             if let Some(piece) = self.cutter.take(byte)? {
-                heard.push(Heard::Piece(piece))?;
+                hear(&mut self.heard, Heard::Piece(piece))?;
             } else if self.cutter.open().len() >= LONGEST {
-                heard.push(Heard::Piece(self.cutter.gap()))?;
+                hear(&mut self.heard, Heard::Piece(self.cutter.gap()))?;
             }
         }
         stream.settle(self.alloc);
@@ -210,16 +210,21 @@ impl Half {
     }
 
     /// No more comes: gives what waits, and what is open as a piece whose end is missing.
-    pub fn close(&mut self, heard: &mut Vec<Heard>) -> Result<(), AllocError> {
+    pub fn close(&mut self) -> Result<(), AllocError> {
         // (the end of a stream has a number, too, but no byte)
         let last = match self.end {
             Some(end) => self.last.min(end),
             None => self.last,
         };
-        self.lose(last, heard)?;
+        self.lose(last)?;
         if !self.cutter.open().is_empty() {
-            heard.push(Heard::Piece(self.cutter.gap()))?;
+            hear(&mut self.heard, Heard::Piece(self.cutter.gap()))?;
         }
         Ok(())
     }
+}
+
+fn hear(all: &mut Vec<Heard>, one: Heard) -> Result<(), AllocError> {
+    all.push(one)?;
+    Ok(())
 }

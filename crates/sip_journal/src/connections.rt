@@ -1,6 +1,7 @@
 //! The connections of a capture: those that go on, and those that are over and remembered.
 
 use crate::connection::Half;
+use log_pairs::Direction;
 use std::alloc::{AllocError, Global};
 use std::collections::{BTreeMap, VecDeque};
 use std::net::SocketAddr;
@@ -28,14 +29,34 @@ pub enum Client {
     Nobody,
 }
 
-impl Client {
-    /// The client's address and port.
-    pub fn address(self, ends: Ends) -> Option<SocketAddr> {
-        match self {
-            Client::First => Some(ends.0),
-            Client::Second => Some(ends.1),
+/// Who talks over a connection.
+#[derive(Clone, Copy)]
+pub struct Talk {
+    ends: Ends,
+    pub client: Client,
+    /// Whether bytes of the client are missing since its last whole request: what is answered next may be a request that is missing.
+    pub lacks_request: bool,
+}
+
+impl Talk {
+    /// The client's address and port, which name the connection.
+    pub fn address(&self) -> Option<SocketAddr> {
+        match self.client {
+            Client::First => Some(self.ends.0),
+            Client::Second => Some(self.ends.1),
             Client::Unknown | Client::Nobody => None,
         }
+    }
+
+    /// Whose messages an end sends, and the client's address and port.
+    pub fn speaker(&self, is_first: bool) -> Option<(Direction, SocketAddr)> {
+        let address = self.address()?;
+        let side = if matches!(self.client, Client::First) == is_first {
+            Direction::Request
+        } else {
+            Direction::Response
+        };
+        Some((side, address))
     }
 }
 
@@ -43,9 +64,7 @@ impl Client {
 pub struct Connection {
     pub first: Half,
     pub second: Half,
-    pub client: Client,
-    /// Whether bytes of the client are missing since its last whole request: what is answered next may be a request that is missing.
-    pub lacks_request: bool,
+    pub talk: Talk,
     pub is_over: bool,
     /// The segment that ended it, where it is over and is remembered; else the one by which it was heard of last.
     heard_at: u64,
@@ -56,8 +75,7 @@ impl Drop for Connection {
         let Connection {
             first: _,
             second: _,
-            client: _,
-            lacks_request: _,
+            talk: _,
             is_over: _,
             heard_at: _,
         } = self;
@@ -65,21 +83,16 @@ impl Drop for Connection {
 }
 
 impl Connection {
-    /// A connection of which nothing was heard yet.
-    pub fn new(alloc: Global, client: Client) -> Connection {
-        Connection {
-            first: Half::new(alloc),
-            second: Half::new(alloc),
-            client,
-            lacks_request: false,
-            is_over: false,
-            heard_at: 0,
-        }
-    }
-
     /// What one of its ends sends.
     pub fn half(&self, is_first: bool) -> &Half {
         if is_first { &self.first } else { &self.second }
+    }
+
+    /// Nothing of it is kept, and nothing more is heard of it.
+    pub fn leave(&mut self, alloc: Global) {
+        self.first = Half::new(alloc);
+        self.second = Half::new(alloc);
+        self.is_over = true;
     }
 }
 
@@ -130,31 +143,41 @@ impl Connections {
         self.now = self.now.saturating_add(1);
     }
 
-    /// Takes a connection out, to hear a segment of it.
-    pub fn take(&mut self, ends: &Ends) -> Option<Connection> {
-        let connection = self.by_ends.remove(ends)?;
-        if !connection.is_over {
-            self.open.remove(&connection.heard_at);
-        }
-        Some(connection)
+    /// The connection between two ends.
+    pub fn get_mut(&mut self, ends: &Ends) -> Option<&mut Connection> {
+        self.by_ends.get_mut(ends)
     }
 
-    /// Keeps a connection of which a segment was heard, and whether it was over before.
-    pub fn keep(
-        &mut self,
-        ends: Ends,
-        mut connection: Connection,
-        was_over: bool,
-    ) -> Result<(), AllocError> {
+    /// Begins a connection of which nothing was heard yet.
+    pub fn begin(&mut self, alloc: Global, ends: Ends, client: Client) -> Result<(), AllocError> {
+        let connection = Connection {
+            first: Half::new(alloc),
+            second: Half::new(alloc),
+            talk: Talk {
+                ends,
+                client,
+                lacks_request: false,
+            },
+            is_over: false,
+            heard_at: 0,
+        };
+        self.by_ends.insert(ends, connection)?;
+        Ok(())
+    }
+
+    /// A segment of a connection was heard that wasn't over before.
+    pub fn note(&mut self, ends: Ends) -> Result<(), AllocError> {
         let at = self.now;
-        if connection.is_over && !was_over {
-            connection.heard_at = at;
+        let Some(connection) = self.by_ends.get_mut(&ends) else {
+            return Ok(());
+        };
+        self.open.remove(&connection.heard_at);
+        connection.heard_at = at;
+        if connection.is_over {
             self.late.push_back(Ending { at, ends })?;
-        } else if !connection.is_over {
-            connection.heard_at = at;
+        } else {
             self.open.insert(at, ends)?;
         }
-        self.by_ends.insert(ends, connection)?;
         Ok(())
     }
 
@@ -167,19 +190,19 @@ impl Connections {
             return Ok(None);
         }
         self.late.pop_front();
-        let Some(client) = self.client_of(&ending) else {
+        let Some(talk) = self.talk_of(&ending) else {
             return Ok(None);
         };
         self.over.push_back(ending)?;
         self.forget();
-        Ok(client.address(ending.ends))
+        Ok(talk.address())
     }
 
-    /// The client of a connection that ended so, and didn't begin again since.
-    fn client_of(&self, ending: &Ending) -> Option<Client> {
+    /// Who talked over a connection that ended so, and didn't begin again since.
+    fn talk_of(&self, ending: &Ending) -> Option<Talk> {
         let connection = self.by_ends.get(&ending.ends)?;
         if connection.is_over && connection.heard_at == ending.at {
-            Some(connection.client)
+            Some(connection.talk)
         } else {
             None
         }
@@ -193,23 +216,26 @@ impl Connections {
         let Some(oldest) = self.over.pop_front() else {
             return;
         };
-        if self.client_of(&oldest).is_some() {
+        if self.talk_of(&oldest).is_some() {
             self.by_ends.remove(&oldest.ends);
         }
     }
 
-    /// Takes out the connection that was heard of the longest ago, where too many go on.
-    pub fn take_idle(&mut self) -> Option<(Ends, Connection)> {
+    /// The connection that was heard of the longest ago, where too many go on. It goes on no longer.
+    pub fn pop_idle(&mut self) -> Option<Ends> {
         if self.open.len() <= MOST {
             return None;
         }
-        let (_, ends) = self.open.pop_first()?;
-        let connection = self.by_ends.remove(&ends)?;
-        Some((ends, connection))
+        Some(self.open.pop_first()?.1)
     }
 
-    /// Takes out any connection.
-    pub fn take_first(&mut self) -> Option<(Ends, Connection)> {
-        self.by_ends.pop_first()
+    /// Any connection.
+    pub fn first(&self) -> Option<Ends> {
+        Some(*self.by_ends.first_key_value()?.0)
+    }
+
+    /// Lets go of a connection.
+    pub fn remove(&mut self, ends: &Ends) {
+        self.by_ends.remove(ends);
     }
 }

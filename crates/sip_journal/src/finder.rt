@@ -7,12 +7,22 @@ use regex::RegexBuilder;
 use regex::bytes::{Matcher, Regex};
 use std::alloc::{AllocError, Global};
 
+// The places of the expressions in the order in which they are compiled.
+const CONNECTION: usize = 0;
+
+const MARK: usize = 1;
+
+const REQUEST: usize = 2;
+
+const RESPONSE: usize = 3;
+
+/// The expression of a connection where none is given: in each line it finds the empty name.
+const NO_NAME: &str = "^()";
+
 /// The expressions of a run. `.` and the classes stand for bytes, whatever text they are of.
 pub struct Expressions {
-    request: Regex,
-    response: Regex,
-    connection: Option<Regex>,
-    mark: Option<Regex>,
+    /// One at each place; there may be none of a mark.
+    compiled: Vec<Option<Regex>>,
     layout: LogLayout,
     escapes: Escapes,
 }
@@ -20,10 +30,7 @@ pub struct Expressions {
 impl Drop for Expressions {
     fn drop(self) {
         let Expressions {
-            request: _,
-            response: _,
-            connection: _,
-            mark: _,
+            compiled: _,
             layout: _,
             escapes: _,
         } = self;
@@ -33,34 +40,42 @@ impl Drop for Expressions {
 impl Expressions {
     /// Compiles those of a form; each has one group, but for a mark's.
     pub fn new(alloc: Global, form: LogForm<'_>) -> Result<Expressions, MakingError> {
-        let connection = match form.connection {
-            Some(text) => Some(with_group(alloc, "--connection", text)?),
-            None => None,
-        };
-        let mark = match form.mark {
-            Some(text) => Some(compiled(alloc, "--mark", text)?),
-            None => None,
-        };
-        Ok(Expressions {
-            request: with_group(alloc, "--request", form.request)?,
-            response: with_group(alloc, "--response", form.response)?,
-            connection,
-            mark,
+        let mut expressions = Expressions {
+            compiled: Vec::new(alloc),
             layout: form.layout,
             escapes: form.escapes,
-        })
+        };
+        let connection = form.connection.unwrap_or(NO_NAME);
+        expressions.add(alloc, "--connection", Some(connection))?;
+        expressions.add(alloc, "--mark", form.mark)?;
+        expressions.add(alloc, "--request", Some(form.request))?;
+        expressions.add(alloc, "--response", Some(form.response))?;
+        Ok(expressions)
+    }
+
+    /// Compiles the expression of an option, if there is one, and gives it the next place.
+    fn add(&mut self, alloc: Global, option: &str, text: Option<&str>) -> Result<(), MakingError> {
+        let regex = match text {
+            Some(text) => Some(compiled(alloc, option, text)?),
+            None => None,
+        };
+        match self.compiled.push(regex) {
+            Ok(()) => Ok(()),
+            Err(_) => Err(MakingError::Memory),
+        }
     }
 
     /// What searches lines for them.
     pub fn finder(&self, alloc: Global) -> Result<Finder<'_>, AllocError> {
-        Ok(Finder {
-            request: self.request.matcher(alloc)?,
-            response: self.response.matcher(alloc)?,
-            connection: matcher_of(alloc, &self.connection)?,
-            mark: matcher_of(alloc, &self.mark)?,
+        let mut finder = Finder {
+            matchers: Vec::new(alloc),
             layout: self.layout,
             escapes: self.escapes,
-        })
+        };
+        for regex in &self.compiled {
+            finder.matchers.push(matcher_of(alloc, regex)?)?;
+        }
+        Ok(finder)
     }
 }
 
@@ -71,23 +86,17 @@ fn matcher_of(alloc: Global, regex: &Option<Regex>) -> Result<Option<Matcher<'_>
     }
 }
 
+/// The expression of an option, with as many groups as it is to have: one, but none is asked of a mark's.
 fn compiled(alloc: Global, option: &str, text: &str) -> Result<Regex, MakingError> {
     match RegexBuilder::new(text).unicode(false).build_bytes(alloc) {
-        Ok(regex) => Ok(regex),
-        Err(error) => Err(MakingError::of_expression(alloc, option, &error)),
-    }
-}
-
-fn with_group(alloc: Global, option: &str, text: &str) -> Result<Regex, MakingError> {
-    let regex = compiled(alloc, option, text)?;
-    if regex.captures_len() != 2 {
-        return Err(MakingError::refused(
+        Ok(regex) if option == "--mark" || regex.captures_len() == 2 => Ok(regex),
+        Ok(_) => Err(MakingError::refused(
             alloc,
             "there must be just one group in the expression of",
             option,
-        ));
+        )),
+        Err(error) => Err(MakingError::of_expression(alloc, option, &error)),
     }
-    Ok(regex)
 }
 
 /// What a line says: of which connection, and a request, a response, or both.
@@ -111,10 +120,8 @@ impl Drop for Said<'_> {
 
 /// What searches the lines of a log.
 pub struct Finder<'r> {
-    request: Matcher<'r>,
-    response: Matcher<'r>,
-    connection: Option<Matcher<'r>>,
-    mark: Option<Matcher<'r>>,
+    /// One at the place of each expression.
+    matchers: Vec<Option<Matcher<'r>>>,
     layout: LogLayout,
     escapes: Escapes,
 }
@@ -122,10 +129,7 @@ pub struct Finder<'r> {
 impl Drop for Finder<'_> {
     fn drop(self) {
         let Finder {
-            request: _,
-            response: _,
-            connection: _,
-            mark: _,
+            matchers: _,
             layout: _,
             escapes: _,
         } = self;
@@ -135,18 +139,15 @@ impl Drop for Finder<'_> {
 impl<'r> Finder<'r> {
     /// Whether a line is read as one with the next.
     pub fn is_mark(&mut self, line: &[u8]) -> bool {
-        match &mut self.mark {
-            Some(matcher) => matcher.is_match(line),
-            None => false,
+        match self.matchers.get_mut(MARK) {
+            Some(Some(matcher)) => matcher.is_match(line),
+            _ => false,
         }
     }
 
     /// Whether lines are JSON objects.
     pub fn reads_json(&self) -> bool {
-        match self.layout {
-            LogLayout::Json => true,
-            _ => false,
-        }
+        matches!(self.layout, LogLayout::Json)
     }
 
     /// What a line says; nothing where it has no message, no name of a connection, or no message that is spelled rightly.
@@ -159,35 +160,38 @@ impl<'r> Finder<'r> {
         if request.is_none() && response.is_none() {
             return Ok(None);
         }
-        let connection: &[u8] = match &mut self.connection {
-            Some(matcher) => match group(matcher, line) {
-                Some(name) => name,
-                None => return Ok(None),
-            },
-            None => &[],
+        let Some(connection) = self.group(CONNECTION, line) else {
+            return Ok(None);
         };
-        let request = spelled(alloc, self.escapes, request)?;
-        let response = spelled(alloc, self.escapes, response)?;
-        if request.is_none() && response.is_none() {
+        let said = Said {
+            connection,
+            request: spelled(alloc, self.escapes, request)?,
+            response: spelled(alloc, self.escapes, response)?,
+        };
+        if said.request.is_none() && said.response.is_none() {
             return Ok(None);
         }
-        Ok(Some(Said {
-            connection,
-            request,
-            response,
-        }))
+        Ok(Some(said))
     }
 
     /// The texts of a request and a response in a line. One that has a request has a response where that is the log's form.
     fn texts<'l>(&mut self, line: &'l [u8]) -> (Option<&'l [u8]>, Option<&'l [u8]>) {
-        let request = group(&mut self.request, line);
-        match self.layout {
-            LogLayout::Pair => (
-                request,
-                group(&mut self.response, line).filter(|text| !text.is_empty()),
-            ),
-            _ if request.is_some() => (request, None),
-            _ => (None, group(&mut self.response, line)),
+        let request = self.group(REQUEST, line);
+        let is_pair = matches!(self.layout, LogLayout::Pair);
+        if request.is_some() && !is_pair {
+            return (request, None);
+        }
+        match self.group(RESPONSE, line) {
+            Some([]) if is_pair => (request, None),
+            response => (request, response),
+        }
+    }
+
+    /// What the group of an expression matches in a line.
+    fn group<'l>(&mut self, place: usize, line: &'l [u8]) -> Option<&'l [u8]> {
+        match self.matchers.get_mut(place) {
+            Some(Some(matcher)) => Some(matcher.captures(line)?.get(1)?.as_bytes()),
+            _ => None,
         }
     }
 }
@@ -202,9 +206,4 @@ fn spelled(
         Some(text) => unescaped(alloc, escapes, text),
         None => Ok(None),
     }
-}
-
-/// What the group of an expression matches in a line.
-fn group<'l>(matcher: &mut Matcher<'_>, line: &'l [u8]) -> Option<&'l [u8]> {
-    Some(matcher.captures(line)?.get(1)?.as_bytes())
 }

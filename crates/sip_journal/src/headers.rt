@@ -112,16 +112,19 @@ fn of_tcp(from: IpAddr, to: IpAddr, segment: &[u8]) -> Option<TcpSegment<'_>> {
         return None;
     }
     let flags = *segment.get(13)?;
-    let has = |flag: u8| flags & flag != 0;
     let waited_for = long(segment, 8)?;
     Some(TcpSegment {
         from: SocketAddr::new(from, number(segment, 0)?),
         to: SocketAddr::new(to, number(segment, 2)?),
         number: long(segment, 4)?,
-        acknowledged: if has(16) { Some(waited_for) } else { None },
-        begins: has(2),
-        ends: has(1),
-        resets: has(4),
+        acknowledged: if flags & 16 != 0 {
+            Some(waited_for)
+        } else {
+            None
+        },
+        begins: flags & 2 != 0,
+        ends: flags & 1 != 0,
+        resets: flags & 4 != 0,
         payload: segment.get(header..)?,
     })
 }

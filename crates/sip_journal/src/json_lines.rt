@@ -3,29 +3,36 @@
 use serde_json::Value;
 use std::alloc::{AllocError, Global};
 
+/// The fields before the message, each with what is written where it lacks, and what follows it.
+static FIELDS: [(&str, &str, &str); 4] = [
+    ("__REALTIME_TIMESTAMP", "-", " "),
+    ("_HOSTNAME", "-", " "),
+    ("SYSLOG_IDENTIFIER", "-", "["),
+    ("_PID", "", "]: "),
+];
+
 /// The line that `journalctl` would write of a JSON object: the microseconds since 1970, the machine, the program with its process
 /// in brackets, a colon and the message. Nothing where the text is no such object, or has no message.
 pub fn plain_line(alloc: Global, text: &[u8]) -> Result<Option<Vec<u8>>, AllocError> {
     let Ok(text) = str::from_utf8(text) else {
         return Ok(None);
     };
-    let value = match Value::from_str(alloc, text) {
-        Ok(value) => value,
-        Err(error) if error.is_memory() => return Err(AllocError),
-        Err(_) => return Ok(None),
-    };
+    match Value::from_str(alloc, text) {
+        Ok(value) => line_of(alloc, &value),
+        Err(error) if error.is_memory() => Err(AllocError),
+        Err(_) => Ok(None),
+    }
+}
+
+fn line_of(alloc: Global, value: &Value) -> Result<Option<Vec<u8>>, AllocError> {
     let Some(message) = value.get("MESSAGE") else {
         return Ok(None);
     };
     let mut line = Vec::new(alloc);
-    push_text(&mut line, &value, "__REALTIME_TIMESTAMP", "-")?;
-    line.push(b' ')?;
-    push_text(&mut line, &value, "_HOSTNAME", "-")?;
-    line.push(b' ')?;
-    push_text(&mut line, &value, "SYSLOG_IDENTIFIER", "-")?;
-    line.push(b'[')?;
-    push_text(&mut line, &value, "_PID", "")?;
-    line.extend_from_slice(b"]: ")?;
+    for (name, other, after) in &FIELDS {
+        push_text(&mut line, value, name, other)?;
+        line.extend_from_slice(after.as_bytes())?;
+    }
     if push_message(&mut line, message)? {
         Ok(Some(line))
     } else {

@@ -71,6 +71,19 @@ impl Drop for Sums {
 }
 
 impl Sums {
+    /// Counts a request with a checksum, or this one without.
+    fn count(&mut self, bare: Option<Shown>) {
+        match bare {
+            Some(shown) => {
+                self.bare = self.bare.saturating_add(1);
+                if self.first.is_none() {
+                    self.first = Some(shown);
+                }
+            }
+            None => self.summed = self.summed.saturating_add(1),
+        }
+    }
+
     /// The requests that lack a checksum: those without one, where at least one in ten of the client's has one.
     fn lacking(&self) -> u64 {
         if self.summed >= self.bare / (TOLERATED - 1) && self.summed > 0 {
@@ -175,41 +188,36 @@ impl JournalJudge {
         message: &[u8],
     ) -> Result<(), AllocError> {
         self.messages = self.messages.saturating_add(1);
-        let odd = odd_of(self.alloc, side, message)?;
-        match (side, odd) {
-            (_, Some(Odd::UnknownIdentifier)) => {
+        match odd_of(self.alloc, side, message)? {
+            Some(Odd::UnknownIdentifier) => {
                 self.unknown = self.unknown.saturating_add(1);
-                note(
-                    self.alloc,
-                    &mut self.damaged,
-                    number,
-                    place,
-                    "unknown identifier",
-                    message,
-                )?;
+                return self.damage(number, place, "unknown identifier", message);
             }
-            (_, Some(Odd::WrongSum)) => {
+            Some(Odd::WrongSum) => {
                 self.wrong = self.wrong.saturating_add(1);
-                note(
-                    self.alloc,
-                    &mut self.damaged,
-                    number,
-                    place,
-                    "wrong checksum",
-                    message,
-                )?;
-                if matches!(side, Direction::Request) {
-                    self.count_sum(connection, None)?;
-                }
+                self.damage(number, place, "wrong checksum", message)?;
             }
-            (_, Some(Odd::NoSum)) => {
+            Some(Odd::NoSum) => {
                 let text = shown_text(self.alloc, place, "no checksum", message)?;
-                self.count_sum(connection, Some(Shown { number, text }))?;
+                return self.count_sum(connection, Some(Shown { number, text }));
             }
-            (Direction::Request, None) => self.count_sum(connection, None)?,
-            (Direction::Response, None) => {}
+            None => {}
         }
-        Ok(())
+        match side {
+            Direction::Request => self.count_sum(connection, None),
+            Direction::Response => Ok(()),
+        }
+    }
+
+    /// Notes a message that is damaged.
+    fn damage(
+        &mut self,
+        number: u64,
+        place: LogPlace<'_>,
+        what: &str,
+        message: &[u8],
+    ) -> Result<(), AllocError> {
+        note(self.alloc, &mut self.damaged, number, place, what, message)
     }
 
     /// Nothing more comes of a connection: of its client only what is lacking is kept.
@@ -238,25 +246,18 @@ impl JournalJudge {
         } else {
             &[]
         };
-        let mut sums = match self.clients.remove(name) {
-            Some(sums) => sums,
-            None => Sums {
+        if !self.clients.contains_key(name) {
+            let key = Vec::from_slice(self.alloc, name)?;
+            let sums = Sums {
                 summed: 0,
                 bare: 0,
                 first: None,
-            },
-        };
-        match bare {
-            Some(shown) => {
-                sums.bare = sums.bare.saturating_add(1);
-                if sums.first.is_none() {
-                    sums.first = Some(shown);
-                }
-            }
-            None => sums.summed = sums.summed.saturating_add(1),
+            };
+            self.clients.insert(key, sums)?;
         }
-        let key = Vec::from_slice(self.alloc, name)?;
-        self.clients.insert(key, sums)?;
+        if let Some(sums) = self.clients.get_mut(name) {
+            sums.count(bare);
+        }
         Ok(())
     }
 

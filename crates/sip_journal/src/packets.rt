@@ -3,7 +3,7 @@
 use crate::stop::MakingError;
 use std::alloc::Global;
 use std::io;
-use std::io::BufRead;
+use std::io::Read;
 
 /// The longest packet or block that is read, in bytes.
 const LONGEST: usize = 16 * 1024 * 1024;
@@ -14,6 +14,22 @@ enum Bytes {
     LittleFirst,
     BigFirst,
 }
+
+/// The first bytes of pcap, with microseconds or nanoseconds.
+static PCAP: [(&[u8], Bytes); 4] = [
+    (b"\xd4\xc3\xb2\xa1", Bytes::LittleFirst),
+    (b"\x4d\x3c\xb2\xa1", Bytes::LittleFirst),
+    (b"\xa1\xb2\xc3\xd4", Bytes::BigFirst),
+    (b"\xa1\xb2\x3c\x4d", Bytes::BigFirst),
+];
+
+/// The kind of a block that begins a section of pcapng, and its mark of the order of bytes.
+const SECTION: &[u8] = b"\x0a\x0d\x0d\x0a";
+
+static PCAPNG: [(&[u8], Bytes); 2] = [
+    (b"\x4d\x3c\x2b\x1a", Bytes::LittleFirst),
+    (b"\x1a\x2b\x3c\x4d", Bytes::BigFirst),
+];
 
 /// How a capture lays out its packets.
 #[derive(Clone, Copy)]
@@ -59,7 +75,7 @@ impl<B: Drop> Drop for Packets<B> {
     }
 }
 
-impl<B: BufRead + Drop> Packets<B> {
+impl<B: Read + Drop> Packets<B> {
     /// Reads the head of a capture; nothing where the file is none.
     pub fn new(alloc: Global, name: &str, reader: B) -> Result<Option<Packets<B>>, MakingError> {
         let mut packets = Packets {
@@ -82,12 +98,13 @@ impl<B: BufRead + Drop> Packets<B> {
         if !self.fill(name, 4)? {
             return Ok(false);
         }
-        self.order = match self.bytes() {
-            b"\xd4\xc3\xb2\xa1" | b"\x4d\x3c\xb2\xa1" => Bytes::LittleFirst,
-            b"\xa1\xb2\xc3\xd4" | b"\xa1\xb2\x3c\x4d" => Bytes::BigFirst,
-            b"\x0a\x0d\x0d\x0a" => return self.begin_section(name),
-            _ => return Ok(false),
-        };
+        if self.bytes() == SECTION {
+            return self.begin_section(name);
+        }
+        match order_of(&PCAP, self.bytes()) {
+            Some(order) => self.order = order,
+            None => return Ok(false),
+        }
         if !self.fill(name, 20)? {
             return Ok(false);
         }
@@ -135,7 +152,7 @@ impl<B: BufRead + Drop> Packets<B> {
             if !self.fill(name, 4)? {
                 return Ok(self.end());
             }
-            if self.bytes().starts_with(b"\x0a\x0d\x0d\x0a") {
+            if self.bytes() == SECTION {
                 if !self.begin_section(name)? {
                     return Ok(Next::Broken);
                 }
@@ -216,11 +233,10 @@ impl<B: BufRead + Drop> Packets<B> {
         if !self.fill(name, 8)? {
             return Ok(false);
         }
-        self.order = match self.bytes().get(4..).unwrap_or(&[]) {
-            b"\x4d\x3c\x2b\x1a" => Bytes::LittleFirst,
-            b"\x1a\x2b\x3c\x4d" => Bytes::BigFirst,
-            _ => return Ok(false),
-        };
+        match order_of(&PCAPNG, self.bytes().get(4..).unwrap_or(&[])) {
+            Some(order) => self.order = order,
+            None => return Ok(false),
+        }
         let len = match self.long(0) {
             Some(len) => len as usize,
             None => return Ok(false),
@@ -240,28 +256,10 @@ impl<B: BufRead + Drop> Packets<B> {
 
     /// Reads this number of bytes; false where the file has fewer.
     fn fill(&mut self, name: &str, count: usize) -> Result<bool, MakingError> {
-        self.bytes.clear();
-        for _ in 0..u64::MAX {
-            let left = count.saturating_sub(self.bytes.len());
-            if left == 0 {
-                return Ok(true);
-            }
-            match self.read_some(left) {
-                Ok(true) => {}
-                Ok(false) => return Ok(false),
-                Err(error) => return Err(MakingError::of_file(self.alloc, &error, name)),
-            }
+        match read_some(&mut self.reader, count, &mut self.bytes) {
+            Ok(is_whole) => Ok(is_whole),
+            Err(error) => Err(MakingError::of_file(self.alloc, &error, name)),
         }
-        Ok(false)
-    }
-
-    /// Reads some bytes, at most this number; false at the end of the file.
-    fn read_some(&mut self, most: usize) -> io::Result<bool> {
-        let chunk = self.reader.fill_buf()?;
-        let some = chunk.len().min(most);
-        self.bytes.extend_from_slice(&chunk[..some])?;
-        self.reader.consume(some);
-        Ok(some > 0)
     }
 
     /// The number of four bytes at a place.
@@ -285,4 +283,21 @@ impl<B: BufRead + Drop> Packets<B> {
             _ => None,
         }
     }
+}
+
+/// The order of bytes that a mark stands for, if it is one of these.
+fn order_of(marks: &[(&[u8], Bytes)], found: &[u8]) -> Option<Bytes> {
+    for (mark, order) in marks {
+        if *mark == found {
+            return Some(*order);
+        }
+    }
+    None
+}
+
+/// Reads this number of bytes in place of those that were read before; false where there are fewer.
+fn read_some<B: Read>(reader: &mut B, count: usize, bytes: &mut Vec<u8>) -> io::Result<bool> {
+    bytes.clear();
+    let read = reader.take(count as u64).read_to_end(bytes)?;
+    Ok(read == count)
 }

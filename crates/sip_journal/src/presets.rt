@@ -4,147 +4,138 @@
 use crate::chosen::{LogForm, LogLayout};
 use log_pairs::Escapes;
 
-/// How a log writes messages.
-#[derive(Clone, Copy)]
-pub struct Preset {
-    pub name: &'static str,
-    pub request: &'static str,
-    pub response: &'static str,
-    pub connection: &'static str,
-    pub mark: Option<&'static str>,
-    pub layout: LogLayout,
-    pub escapes: Escapes,
-}
-
 /// All presets. Of two that fit a log alike the first is named first.
-pub static PRESETS: [Preset; 11] = [
+pub static PRESETS: [(&str, LogForm<'static>); 11] = [
     // [2026/03/07 09:02:10] [DEBUG] desk2@10.0.0.7: INPUT MSG: '2300120260307    090210AO..|AA..|'
-    Preset {
-        name: "koha-log4perl",
-        request: r"^\[[^\]]*\] \[[^\]]*\] \S+: INPUT MSG: '(.*)'",
-        response: r"^\[[^\]]*\] \[[^\]]*\] \S+: OUTPUT MSG: '(.*)'",
-        connection: r"^\[[^\]]*\] \[[^\]]*\] (\S+): ",
-        mark: None,
-        layout: LogLayout::Single,
-        escapes: Escapes::Bare,
-    },
-    // Mar  7 09:02:10 host koha_sip[1234]: INPUT MSG: '2300120260307    090210AO..|AA..|'
-    Preset {
-        name: "koha-syslog",
-        request: r"^\w+ +\d+ [0-9:]+ \S+ \S+\[\d+\]: INPUT MSG: '(.*)'",
-        response: r"^\w+ +\d+ [0-9:]+ \S+ \S+\[\d+\]: OUTPUT MSG: '(.*)'",
-        connection: r"^[^\[]*\[(\d+)\]:",
-        mark: None,
-        layout: LogLayout::Single,
-        escapes: Escapes::Bare,
-    },
-    // 2026-03-07T09:02:10-05:00 brick1 SIPServer[1234]: [INFO] INPUT MSG: '2300120260307    090210AO..|AA..|'
-    Preset {
-        name: "evergreen",
-        request: r"^\d+-\d+-\d+T\S+ \S+ \S+\[\d+\]: (?:\[\w+\] )?INPUT MSG: '(.*)'",
-        response: r"^\d+-\d+-\d+T\S+ \S+ \S+\[\d+\]: (?:\[\w+\] )?OUTPUT MSG: '(.*)'",
-        connection: r"^[^\[]*\[(\d+)\]:",
-        mark: None,
-        layout: LogLayout::Single,
-        escapes: Escapes::Bare,
-    },
-    // Mar  7 09:02:10 host sipserver[1234]: recv: 2300120260307    090210AO..|AA..|#015
-    Preset {
-        name: "rsyslog",
-        request: r"^[^\[]*\[\d+\]: (?i:recv|received|read|in|<-|<<|<):? ?(.*?)(?:#01[25])*$",
-        response: r"^[^\[]*\[\d+\]: (?i:send|sent|write|out|->|>>|>):? ?(.*?)(?:#01[25])*$",
-        connection: r"^[^\[]*\[(\d+)\]:",
-        mark: None,
-        layout: LogLayout::Single,
-        escapes: Escapes::Octal,
-    },
-    // 2026-03-07 09:02:10,120 INFO mediator: 10.0.0.7:49152 >>> 2300120260307    090210AO..|AA..|<CR>
-    Preset {
-        name: "mediator",
-        request: r"^\S+ \S+ \w+ [^:]*: \S+ (?:>>>|(?i:read|received)):? ?(.*?)(?:<CR>|<LF>)*$",
-        response: r"^\S+ \S+ \w+ [^:]*: \S+ (?:<<<|(?i:sent|wrote)):? ?(.*?)(?:<CR>|<LF>)*$",
-        connection: r"^\S+ \S+ \w+ [^:]*: (\S+) ",
-        mark: None,
-        layout: LogLayout::Single,
-        escapes: Escapes::Angle,
-    },
-    // {"__REALTIME_TIMESTAMP":"1772874130120000","_HOSTNAME":"host","_PID":"1234","MESSAGE":"INPUT MSG: '23001..|AA..|'"}
-    Preset {
-        name: "journald",
-        request: r"^\S+ \S+ \S+\[\d+\]: INPUT MSG: '(.*)'",
-        response: r"^\S+ \S+ \S+\[\d+\]: OUTPUT MSG: '(.*)'",
-        connection: r"^[^\[]*\[(\d+)\]:",
-        mark: None,
-        layout: LogLayout::Json,
-        escapes: Escapes::Bare,
-    },
-    // 2026-03-07T09:02:10.120 DESK2 received, and the message on the next line
-    Preset {
-        name: "two-line",
-        request: r"^\S+ \S+ (?i:received|request)[^\n]*\n(.*)$",
-        response: r"^\S+ \S+ (?i:sent|response)[^\n]*\n(.*)$",
-        connection: r"^\S+ (\S+) ",
-        mark: Some(r"^\S+ \S+ (?i:received|request|sent|response)[: ]*$"),
-        layout: LogLayout::Single,
-        escapes: Escapes::Bare,
-    },
-    // 2026-03-07T09:02:10.120 DESK2 [2300120260307    090210AO..|AA..|] => [24..]
-    Preset {
-        name: "pair",
-        request: r"^\S+ \S+ \[(.*?)\] => \[",
-        response: r"\] => \[(.*)\]$",
-        connection: r"^\S+ (\S+) ",
-        mark: None,
-        layout: LogLayout::Pair,
-        escapes: Escapes::Bare,
-    },
-    // 2026-03-07T09:02:10.120 DESK2 <- 2300120260307    090210AO..|AA..|
-    Preset {
-        name: "arrows",
-        request: r"^\S+ \S+ <- (.*)$",
-        response: r"^\S+ \S+ -> (.*)$",
-        connection: r"^\S+ (\S+) ",
-        mark: None,
-        layout: LogLayout::Single,
-        escapes: Escapes::Backslash,
-    },
-    // Mar  7 09:02:10 host sip[1234]: INPUT MSG: '2300120260307    090210AO..|AA..|'
-    Preset {
-        name: "input-output",
-        request: "^[^']*INPUT MSG: '(.*)'",
-        response: "^[^']*OUTPUT MSG: '(.*)'",
-        connection: r"^[^']*?\[([0-9]+)\]:",
-        mark: None,
-        layout: LogLayout::Single,
-        escapes: Escapes::Bare,
-    },
-    // 09:02:10 [10.0.0.7:49152] received: 2300120260307    090210AO..|AA..|<CR>
-    Preset {
-        name: "received-sent",
-        request: r"(?i)^[^\]]*\] (?:received|recv): ?(.*)$",
-        response: r"(?i)^[^\]]*\] sent: ?(.*)$",
-        connection: r"^[^\[]*\[([^\]]+)\]",
-        mark: None,
-        layout: LogLayout::Single,
-        escapes: Escapes::Angle,
-    },
-];
-
-/// The preset of this name.
-pub fn preset_named(name: &str) -> Option<&'static Preset> {
-    PRESETS.iter().find(|preset| preset.name == name)
-}
-
-impl Preset {
-    /// The form of its lines.
-    pub fn form(&self) -> LogForm<'static> {
+    (
+        "koha-log4perl",
         LogForm {
-            request: self.request,
-            response: self.response,
-            connection: Some(self.connection),
-            mark: self.mark,
-            layout: self.layout,
-            escapes: self.escapes,
-        }
-    }
-}
+            request: r"^\[[^\]]*\] \[[^\]]*\] \S+: INPUT MSG: '(.*)'",
+            response: r"^\[[^\]]*\] \[[^\]]*\] \S+: OUTPUT MSG: '(.*)'",
+            connection: Some(r"^\[[^\]]*\] \[[^\]]*\] (\S+): "),
+            mark: None,
+            layout: LogLayout::Single,
+            escapes: Escapes::Bare,
+        },
+    ),
+    // Mar  7 09:02:10 host koha_sip[1234]: INPUT MSG: '2300120260307    090210AO..|AA..|'
+    (
+        "koha-syslog",
+        LogForm {
+            request: r"^\w+ +\d+ [0-9:]+ \S+ \S+\[\d+\]: INPUT MSG: '(.*)'",
+            response: r"^\w+ +\d+ [0-9:]+ \S+ \S+\[\d+\]: OUTPUT MSG: '(.*)'",
+            connection: Some(r"^[^\[]*\[(\d+)\]:"),
+            mark: None,
+            layout: LogLayout::Single,
+            escapes: Escapes::Bare,
+        },
+    ),
+    // 2026-03-07T09:02:10-05:00 brick1 SIPServer[1234]: [INFO] INPUT MSG: '2300120260307    090210AO..|AA..|'
+    (
+        "evergreen",
+        LogForm {
+            request: r"^\d+-\d+-\d+T\S+ \S+ \S+\[\d+\]: (?:\[\w+\] )?INPUT MSG: '(.*)'",
+            response: r"^\d+-\d+-\d+T\S+ \S+ \S+\[\d+\]: (?:\[\w+\] )?OUTPUT MSG: '(.*)'",
+            connection: Some(r"^[^\[]*\[(\d+)\]:"),
+            mark: None,
+            layout: LogLayout::Single,
+            escapes: Escapes::Bare,
+        },
+    ),
+    // Mar  7 09:02:10 host sipserver[1234]: recv: 2300120260307    090210AO..|AA..|#015
+    (
+        "rsyslog",
+        LogForm {
+            request: r"^[^\[]*\[\d+\]: (?i:recv|received|read|in|<-|<<|<):? ?(.*?)(?:#01[25])*$",
+            response: r"^[^\[]*\[\d+\]: (?i:send|sent|write|out|->|>>|>):? ?(.*?)(?:#01[25])*$",
+            connection: Some(r"^[^\[]*\[(\d+)\]:"),
+            mark: None,
+            layout: LogLayout::Single,
+            escapes: Escapes::Octal,
+        },
+    ),
+    // 2026-03-07 09:02:10,120 INFO mediator: 10.0.0.7:49152 >>> 2300120260307    090210AO..|AA..|<CR>
+    (
+        "mediator",
+        LogForm {
+            request: r"^\S+ \S+ \w+ [^:]*: \S+ (?:>>>|(?i:read|received)):? ?(.*?)(?:<CR>|<LF>)*$",
+            response: r"^\S+ \S+ \w+ [^:]*: \S+ (?:<<<|(?i:sent|wrote)):? ?(.*?)(?:<CR>|<LF>)*$",
+            connection: Some(r"^\S+ \S+ \w+ [^:]*: (\S+) "),
+            mark: None,
+            layout: LogLayout::Single,
+            escapes: Escapes::Angle,
+        },
+    ),
+    // {"__REALTIME_TIMESTAMP":"1772874130120000","_HOSTNAME":"host","_PID":"1234","MESSAGE":"INPUT MSG: '23001..|AA..|'"}
+    (
+        "journald",
+        LogForm {
+            request: r"^\S+ \S+ \S+\[\d+\]: INPUT MSG: '(.*)'",
+            response: r"^\S+ \S+ \S+\[\d+\]: OUTPUT MSG: '(.*)'",
+            connection: Some(r"^[^\[]*\[(\d+)\]:"),
+            mark: None,
+            layout: LogLayout::Json,
+            escapes: Escapes::Bare,
+        },
+    ),
+    // 2026-03-07T09:02:10.120 DESK2 received, and the message on the next line
+    (
+        "two-line",
+        LogForm {
+            request: r"^\S+ \S+ (?i:received|request)[^\n]*\n(.*)$",
+            response: r"^\S+ \S+ (?i:sent|response)[^\n]*\n(.*)$",
+            connection: Some(r"^\S+ (\S+) "),
+            mark: Some(r"^\S+ \S+ (?i:received|request|sent|response)[: ]*$"),
+            layout: LogLayout::Single,
+            escapes: Escapes::Bare,
+        },
+    ),
+    // 2026-03-07T09:02:10.120 DESK2 [2300120260307    090210AO..|AA..|] => [24..]
+    (
+        "pair",
+        LogForm {
+            request: r"^\S+ \S+ \[(.*?)\] => \[",
+            response: r"\] => \[(.*)\]$",
+            connection: Some(r"^\S+ (\S+) "),
+            mark: None,
+            layout: LogLayout::Pair,
+            escapes: Escapes::Bare,
+        },
+    ),
+    // 2026-03-07T09:02:10.120 DESK2 <- 2300120260307    090210AO..|AA..|
+    (
+        "arrows",
+        LogForm {
+            request: r"^\S+ \S+ <- (.*)$",
+            response: r"^\S+ \S+ -> (.*)$",
+            connection: Some(r"^\S+ (\S+) "),
+            mark: None,
+            layout: LogLayout::Single,
+            escapes: Escapes::Backslash,
+        },
+    ),
+    // Mar  7 09:02:10 host sip[1234]: INPUT MSG: '2300120260307    090210AO..|AA..|'
+    (
+        "input-output",
+        LogForm {
+            request: "^[^']*INPUT MSG: '(.*)'",
+            response: "^[^']*OUTPUT MSG: '(.*)'",
+            connection: Some(r"^[^']*?\[([0-9]+)\]:"),
+            mark: None,
+            layout: LogLayout::Single,
+            escapes: Escapes::Bare,
+        },
+    ),
+    // 09:02:10 [10.0.0.7:49152] received: 2300120260307    090210AO..|AA..|<CR>
+    (
+        "received-sent",
+        LogForm {
+            request: r"(?i)^[^\]]*\] (?:received|recv): ?(.*)$",
+            response: r"(?i)^[^\]]*\] sent: ?(.*)$",
+            connection: Some(r"^[^\[]*\[([^\]]+)\]"),
+            mark: None,
+            layout: LogLayout::Single,
+            escapes: Escapes::Angle,
+        },
+    ),
+];

@@ -176,22 +176,36 @@ impl<'l> JournalReader<'l> {
     ) -> Result<(), MakingError> {
         self.judge
             .judge(self.lines, place, connection, side, message)?;
-        let LogPlace { log, line } = place;
         match self.making.take(connection, side, message)? {
             Taken::Paired => {}
-            Taken::Unasked => {
-                write!(self.notes, "{log}:{line}: a response without a request\n")?;
-            }
+            Taken::Unasked => self.tell(place, "a response without a request\n")?,
             Taken::Refused(_) if matches!(self.kind, InputKind::Trial) => {}
-            Taken::Refused(why) => return Err(MakingError::of_line(self.alloc, log, line, why)),
+            Taken::Refused(why) => {
+                return Err(MakingError::of_line(self.alloc, place.log, place.line, why));
+            }
         }
         Ok(())
     }
 
+    /// Takes a message of the connection of a client, which its address and port name.
+    pub fn client_message(
+        &mut self,
+        client: SocketAddr,
+        side: Direction,
+        message: &[u8],
+        place: LogPlace<'l>,
+    ) -> Result<(), MakingError> {
+        let name = name_of(self.alloc, client)?;
+        self.message(name.as_str().as_bytes(), side, message, place)
+    }
+
     /// Nothing more comes of the connection of a client.
     pub fn over(&mut self, client: SocketAddr) -> Result<(), MakingError> {
-        let name = format!(in self.alloc; "{client}")?;
-        let connection = name.as_str().as_bytes();
+        let name = name_of(self.alloc, client)?;
+        self.over_by_name(name.as_str().as_bytes())
+    }
+
+    fn over_by_name(&mut self, connection: &[u8]) -> Result<(), MakingError> {
         self.judge.over(connection)?;
         self.making.over(connection)
     }
@@ -215,11 +229,11 @@ impl<'l> JournalReader<'l> {
         place: LogPlace<'l>,
     ) -> Result<(), AllocError> {
         self.gaps = self.gaps.saturating_add(1);
-        let LogPlace { log, line } = place;
+        self.tell(place, "")?;
         let from = speaker(side);
         write!(
             self.notes,
-            "{log}:{line}: {count} bytes from the {from} are missing, of {client}\n"
+            "{count} bytes from the {from} are missing, of {client}\n"
         )
     }
 
@@ -232,12 +246,9 @@ impl<'l> JournalReader<'l> {
         place: LogPlace<'l>,
     ) -> Result<(), AllocError> {
         self.broken = self.broken.saturating_add(1);
-        let LogPlace { log, line } = place;
+        self.tell(place, "a part of a message from the ")?;
         let from = speaker(side);
-        write!(
-            self.notes,
-            "{log}:{line}: a part of a message from the {from}, of {client}: "
-        )?;
+        write!(self.notes, "{from}, of {client}: ")?;
         push_cut(&mut self.notes, piece)?;
         self.notes.push('\n')
     }
@@ -245,11 +256,13 @@ impl<'l> JournalReader<'l> {
     /// A capture ends within a packet, or goes on with what is none.
     pub fn cut(&mut self, place: LogPlace<'l>) -> Result<(), AllocError> {
         self.broken = self.broken.saturating_add(1);
+        self.tell(place, "what follows this packet is none, and isn't read\n")
+    }
+
+    /// Reports something of a line or a packet.
+    fn tell(&mut self, place: LogPlace<'_>, what: &str) -> Result<(), AllocError> {
         let LogPlace { log, line } = place;
-        write!(
-            self.notes,
-            "{log}:{line}: what follows this packet is none, and isn't read\n"
-        )
+        write!(self.notes, "{log}:{line}: {what}")
     }
 
     /// The logs are at their end: requests that are open stay without a response.
@@ -259,19 +272,15 @@ impl<'l> JournalReader<'l> {
 
     /// Writes what is whole, where it is a journal of use or is wanted all the same.
     pub fn write<W: Write>(&mut self, out: &mut W) -> Result<(), MakingError> {
-        if !self.force {
-            if self.making.exchanges() == 0 {
-                return Err(MakingError::Useless(match self.kind {
-                    InputKind::Packets => NOTHING_IN_PACKETS,
-                    InputKind::Lines | InputKind::Trial => NOTHING_IN_LINES,
-                }));
-            }
-            if self.judge.is_too_odd() {
-                return Err(MakingError::Useless(match self.kind {
-                    InputKind::Packets => ODD_PACKETS,
-                    InputKind::Lines | InputKind::Trial => ODD_LINES,
-                }));
-            }
+        let (nothing, odd) = match self.kind {
+            InputKind::Packets => (NOTHING_IN_PACKETS, ODD_PACKETS),
+            InputKind::Lines | InputKind::Trial => (NOTHING_IN_LINES, ODD_LINES),
+        };
+        if !self.force && self.making.exchanges() == 0 {
+            return Err(MakingError::Useless(nothing));
+        }
+        if !self.force && self.judge.is_too_odd() {
+            return Err(MakingError::Useless(odd));
         }
         self.making.write(out)
     }
@@ -287,25 +296,23 @@ impl<'l> JournalReader<'l> {
 
     /// Reports what was counted.
     pub fn report_counts(&mut self) -> Result<(), AllocError> {
-        let (lines, skipped) = (self.lines, self.skipped);
-        let exchanges = self.making.exchanges();
-        let unanswered = self.making.unanswered();
-        let unasked = self.making.unasked();
-        let unknown = self.judge.unknown();
-        let wrong = self.judge.wrong();
-        let lacking = self.judge.lacking();
-        let what = match self.kind {
-            InputKind::Packets => "packets",
-            InputKind::Lines | InputKind::Trial => "lines",
-        };
-        write!(
-            self.notes,
-            "{what} {lines} exchanges {exchanges} without-response {unanswered} without-request {unasked} skipped {skipped} \
-unknown {unknown} wrong-checksum {wrong} without-checksum {lacking}"
-        )?;
-        if matches!(self.kind, InputKind::Packets) {
-            let (gaps, broken) = (self.gaps, self.broken);
-            write!(self.notes, " gaps {gaps} parts {broken}")?;
+        let is_of_packets = matches!(self.kind, InputKind::Packets);
+        let counts = [
+            (if is_of_packets { "packets" } else { "lines" }, self.lines),
+            ("exchanges", self.making.exchanges()),
+            ("without-response", self.making.unanswered()),
+            ("without-request", self.making.unasked()),
+            ("skipped", self.skipped),
+            ("unknown", self.judge.unknown()),
+            ("wrong-checksum", self.judge.wrong()),
+            ("without-checksum", self.judge.lacking()),
+            ("gaps", self.gaps),
+            ("parts", self.broken),
+        ];
+        let shown = if is_of_packets { 10 } else { 8 };
+        for (at, (name, count)) in counts.iter().take(shown).enumerate() {
+            let before = if at == 0 { "" } else { " " };
+            write!(self.notes, "{before}{name} {count}")?;
         }
         self.notes.push('\n')
     }
@@ -328,4 +335,8 @@ fn speaker(side: Direction) -> &'static str {
         Direction::Request => "client",
         Direction::Response => "server",
     }
+}
+
+fn name_of(alloc: Global, client: SocketAddr) -> Result<String, AllocError> {
+    format!(in alloc; "{client}")
 }

@@ -13,7 +13,7 @@ use crate::stop::{FAILED, MakingError, REFUSED};
 use crate::trying::try_presets;
 use command_line::{JournalOptions, Refusal, journal_options};
 use std::convert::AsStr;
-use std::io::{BufRead, BufReader, IsTerminal, Write};
+use std::io::{BufRead, BufReader, IsTerminal, Read, Write};
 use std::rt::{Clock, Files};
 
 /// The status of a run that has nothing to report of its journal.
@@ -146,7 +146,7 @@ fn read_capture<'l, R: Files + AllocGlobal + Clock + Eprint, W: Write, E: Write 
 }
 
 /// Reads the packet after a place, and moves the place there; false where there is none.
-fn read_packet<'l, B: BufRead + Drop>(
+fn read_packet<'l, B: Read + Drop>(
     packets: &mut Packets<B>,
     place: &mut LogPlace<'l>,
     capturing: &mut Capturing,

@@ -127,8 +127,9 @@ impl<'l, B: BufRead> LogSource<'l, B> {
         }))
     }
 
-    /// The next lines with their ends, at most this number.
-    pub fn read_lines(&mut self, most: usize) -> Result<Vec<u8>, MakingError> {
+    /// The first lines of a log with their ends, at most this number; it is refused where it is none by its first bytes.
+    pub fn first_lines(&mut self, most: usize) -> Result<Vec<u8>, MakingError> {
+        self.look()?;
         let mut text = Vec::new(self.alloc);
         for _ in 0..most {
             if !self.read_whole_line(&mut text)? {

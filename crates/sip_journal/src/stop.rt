@@ -67,10 +67,7 @@ impl MakingError {
 
     /// What is refused, and the word that is to blame.
     pub fn refused(alloc: Global, what: &str, word: &str) -> MakingError {
-        match format!(in alloc; "{what} {word}") {
-            Ok(text) => MakingError::Refused(text),
-            Err(_) => MakingError::Memory,
-        }
+        MakingError::refused_text(format!(in alloc; "{what} {word}"))
     }
 
     /// The expression of an option is none.
@@ -78,15 +75,17 @@ impl MakingError {
         if *error == regex::Error::OutOfMemory {
             return MakingError::Memory;
         }
-        match format!(in alloc; "the expression of {option}: {error}") {
-            Ok(text) => MakingError::Refused(text),
-            Err(_) => MakingError::Memory,
-        }
+        MakingError::refused_text(format!(in alloc; "the expression of {option}: {error}"))
     }
 
     /// A line of a log that is refused. Lines count from 1.
     pub fn of_line(alloc: Global, path: &str, line: u64, why: &str) -> MakingError {
-        match format!(in alloc; "{path}:{line}: {why}") {
+        MakingError::refused_text(format!(in alloc; "{path}:{line}: {why}"))
+    }
+
+    /// What is refused, by this text, unless memory ran out for it.
+    fn refused_text(text: Result<String, AllocError>) -> MakingError {
+        match text {
             Ok(text) => MakingError::Refused(text),
             Err(_) => MakingError::Memory,
         }
@@ -102,21 +101,15 @@ impl MakingError {
 
     /// Prints what stopped the run, and gives its status. A failed write to `err` changes no status.
     pub fn print<E: Write>(&self, err: &mut E) -> u8 {
-        let _ = match self {
-            MakingError::Memory => writeln!(err, "error: out of memory"),
-            MakingError::NoText => writeln!(err, "error: a word of the command line isn't text"),
-            MakingError::Refused(text) => writeln!(err, "error: {text}"),
-            MakingError::Useless(text) => writeln!(err, "error: {text}"),
-            MakingError::File(text) => writeln!(err, "file: {text}"),
-            MakingError::Output => writeln!(err, "error: standard output takes nothing more"),
+        let (kind, text, status) = match self {
+            MakingError::Memory => ("error", "out of memory", FAILED),
+            MakingError::NoText => ("error", "a word of the command line isn't text", REFUSED),
+            MakingError::Refused(text) => ("error", text.as_str(), REFUSED),
+            MakingError::Useless(text) => ("error", *text, REFUSED),
+            MakingError::File(text) => ("file", text.as_str(), FAILED),
+            MakingError::Output => ("error", "standard output takes nothing more", FAILED),
         };
-        self.status()
-    }
-
-    fn status(&self) -> u8 {
-        match self {
-            MakingError::NoText | MakingError::Refused(_) | MakingError::Useless(_) => REFUSED,
-            _ => FAILED,
-        }
+        let _ = writeln!(err, "{kind}: {text}");
+        status
     }
 }

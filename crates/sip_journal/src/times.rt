@@ -13,6 +13,10 @@ const DAY: u64 = 24 * 60 * MINUTE;
 /// How far into a line its time begins, at most.
 const HEAD: usize = 64;
 
+static MONTHS: [&[u8]; 12] = [
+    b"Jan", b"Feb", b"Mar", b"Apr", b"May", b"Jun", b"Jul", b"Aug", b"Sep", b"Oct", b"Nov", b"Dec",
+];
+
 /// Which parts of a date a log writes.
 #[derive(Clone, Copy)]
 pub enum Dates {
@@ -70,26 +74,29 @@ fn dated(before: &[u8], seconds: u64, after: &[u8]) -> Time {
 
 /// Sixteen digits at the head of a line, as a number.
 fn epoch(head: &[u8]) -> Option<u64> {
-    if digits(head.get(..17)?) == 16 {
-        number(head.get(..16)?)
+    let number = number(head, 0, 16)?;
+    if head.get(16)?.is_ascii_digit() {
+        None
+    } else {
+        Some(number)
+    }
+}
+
+/// The number that a count of digits spells, from a place on.
+fn number(text: &[u8], from: usize, count: usize) -> Option<u64> {
+    let mut number: u64 = 0;
+    for byte in text.get(from..from.checked_add(count)?)? {
+        number = number.checked_mul(10)?.checked_add(digit(*byte)?)?;
+    }
+    Some(number)
+}
+
+fn digit(byte: u8) -> Option<u64> {
+    if byte.is_ascii_digit() {
+        Some(u64::from(byte.saturating_sub(b'0')))
     } else {
         None
     }
-}
-
-/// How many digits a text begins with.
-fn digits(text: &[u8]) -> usize {
-    text.iter()
-        .position(|byte| !byte.is_ascii_digit())
-        .unwrap_or(text.len())
-}
-
-/// The number that digits spell.
-fn number(text: &[u8]) -> Option<u64> {
-    if digits(text) < text.len() {
-        return None;
-    }
-    str::from_utf8(text).ok()?.parse::<u64>().ok()
 }
 
 /// The seconds of a clock that a text begins with.
@@ -97,9 +104,9 @@ fn clock(text: &[u8]) -> Option<u64> {
     if *text.get(2)? != b':' || *text.get(5)? != b':' {
         return None;
     }
-    let hours = number(text.get(..2)?)?;
-    let minutes = number(text.get(3..5)?)?;
-    let seconds = number(text.get(6..8)?)?;
+    let hours = number(text, 0, 2)?;
+    let minutes = number(text, 3, 2)?;
+    let seconds = number(text, 6, 2)?;
     if hours < 24 && minutes < 60 && seconds < 61 {
         Some(
             hours
@@ -115,9 +122,9 @@ fn clock(text: &[u8]) -> Option<u64> {
 /// The number of the day whose date a text ends with, with a space or a T after it: year, month and day.
 fn whole_date(text: &[u8]) -> Option<u64> {
     let date = text.get(text.len().checked_sub(11)?..)?;
-    let year = number(date.get(..4)?)?;
-    let month = number(date.get(5..7)?)?;
-    let day = number(date.get(8..10)?)?;
+    let year = number(date, 0, 4)?;
+    let month = number(date, 5, 2)?;
+    let day = number(date, 8, 2)?;
     day_number(year, month, day)
 }
 
@@ -126,8 +133,8 @@ fn yearless_date(text: &[u8]) -> Option<u64> {
     let date = text.get(text.len().checked_sub(7)?..)?;
     let month = month_named(date.get(..3)?)?;
     let day = match *date.get(4)? {
-        b' ' => number(date.get(5..6)?)?,
-        _ => number(date.get(4..6)?)?,
+        b' ' => number(date, 5, 1)?,
+        _ => number(date, 4, 2)?,
     };
     day_number(2000, month, day)
 }
@@ -142,42 +149,30 @@ fn day_number(year: u64, month: u64, day: u64) -> Option<u64> {
 }
 
 fn month_named(name: &[u8]) -> Option<u64> {
-    Some(match name {
-        b"Jan" => 1,
-        b"Feb" => 2,
-        b"Mar" => 3,
-        b"Apr" => 4,
-        b"May" => 5,
-        b"Jun" => 6,
-        b"Jul" => 7,
-        b"Aug" => 8,
-        b"Sep" => 9,
-        b"Oct" => 10,
-        b"Nov" => 11,
-        b"Dec" => 12,
-        _ => return None,
-    })
+    for (at, month) in MONTHS.iter().enumerate() {
+        if *month == name {
+            return (at as u64).checked_add(1);
+        }
+    }
+    None
 }
 
 /// The microseconds of a fraction that a text begins with, after a point or a comma, and what follows it.
 fn fraction(text: &[u8]) -> (u64, &[u8]) {
-    match text.split_first() {
-        Some((b'.' | b',', rest)) => {
-            let count = digits(rest);
-            let given = rest.get(..count).unwrap_or(rest);
-            let behind = rest.get(count..).unwrap_or(&[]);
-            let mut micros: u64 = 0;
-            for place in 0..6 {
-                let digit = match given.get(place) {
-                    Some(byte) => u64::from(byte.saturating_sub(b'0')),
-                    None => 0,
-                };
-                micros = micros.saturating_mul(10).saturating_add(digit);
-            }
-            (micros, behind)
-        }
-        _ => (0, text),
+    let Some((b'.' | b',', digits)) = text.split_first() else {
+        return (0, text);
+    };
+    let mut micros: u64 = 0;
+    // what a digit at the place counts: nothing after the sixth
+    let mut unit = SECOND / 10;
+    for (at, byte) in digits.iter().enumerate() {
+        let Some(digit) = digit(*byte) else {
+            return (micros, digits.get(at..).unwrap_or(&[]));
+        };
+        micros = micros.saturating_add(digit.saturating_mul(unit));
+        unit /= 10;
     }
+    (micros, &[])
 }
 
 /// A time without the zone that a text begins with: a sign, hours, and minutes with or without a colon.
@@ -194,10 +189,10 @@ fn zone(text: &[u8]) -> u64 {
 }
 
 fn hours_and_minutes(text: &[u8]) -> Option<u64> {
-    let hours = number(text.get(..2)?)?;
+    let hours = number(text, 0, 2)?;
     let minutes = match *text.get(2)? {
-        b':' => number(text.get(3..5)?)?,
-        _ => number(text.get(2..4)?)?,
+        b':' => number(text, 3, 2)?,
+        _ => number(text, 2, 2)?,
     };
     Some(hours.saturating_mul(60).saturating_add(minutes))
 }

@@ -1,7 +1,8 @@
 //! How well each preset fits a log.
 
+use crate::chosen::LogForm;
 use crate::finder::{Expressions, Finder};
-use crate::presets::{PRESETS, Preset};
+use crate::presets::PRESETS;
 use crate::reading::{Fit, InputKind, JournalReader};
 use crate::source::{LogSource, file_of};
 use crate::stop::MakingError;
@@ -16,9 +17,9 @@ pub fn try_presets<R: Files + AllocGlobal>(rt: &R, log: &str) -> Result<String, 
     let alloc = rt.alloc();
     let text = first_lines(rt, log)?;
     let mut fits = Vec::new(alloc);
-    for preset in &PRESETS {
-        let found = fit_of(alloc, preset, log, &text)?;
-        if fits.push(found).is_err() {
+    for (name, form) in &PRESETS {
+        let fit = fit_of(alloc, name, *form, log, &text)?;
+        if fits.push(fit).is_err() {
             return Err(MakingError::Memory);
         }
     }
@@ -50,18 +51,23 @@ fn table(alloc: Global, fits: &[Fit]) -> Result<String, AllocError> {
 fn first_lines<R: Files + AllocGlobal>(rt: &R, log: &str) -> Result<Vec<u8>, MakingError> {
     let alloc = rt.alloc();
     let mut source = LogSource::new(alloc, log, file_of(rt, log)?);
-    source.look()?;
-    source.read_lines(LINES)
+    source.first_lines(LINES)
 }
 
-/// What a preset finds in the lines of a log.
-fn fit_of(alloc: Global, preset: &Preset, log: &str, text: &[u8]) -> Result<Fit, MakingError> {
-    let expressions = Expressions::new(alloc, preset.form())?;
+/// What the preset of a name and a form finds in the lines of a log.
+fn fit_of(
+    alloc: Global,
+    name: &'static str,
+    form: LogForm<'_>,
+    log: &str,
+    text: &[u8],
+) -> Result<Fit, MakingError> {
+    let expressions = Expressions::new(alloc, form)?;
     let mut finder = expressions.finder(alloc)?;
     let mut source = LogSource::new(alloc, log, text);
     let mut reading = JournalReader::new(alloc, InputKind::Trial, 1, false);
     read(&mut source, &mut finder, &mut reading)?;
-    Ok(reading.fit(preset.name))
+    Ok(reading.fit(name))
 }
 
 /// Reads the lines of a log.

@@ -11,7 +11,7 @@ use std::alloc::{AllocError, Global};
 use std::collections::BTreeMap;
 use std::rt::Files;
 
-/// What a table says: of whom and of what, on two lines, and what of it.
+/// How a row reads: whom and what it is about, on two lines; what it says.
 struct TableSentence {
     table: TableFile,
     about: &'static str,
@@ -156,7 +156,7 @@ fn check_names(alloc: Global, base: &CaseNames, out: &CaseNames) -> Result<(), P
     check_same(alloc, ITEMS.file, &base.titles, &out.titles)
 }
 
-/// Refuses rows of which one isn't in the output, or another is.
+/// Refuses rows that differ between the base and the output.
 fn check_same(
     alloc: Global,
     file: &'static str,
@@ -176,11 +176,11 @@ fn check_same(
     Ok(())
 }
 
-/// What is otherwise, by of whom and of what it is: what was said before, and after a line feed, which no text of a table
-/// has, what is said now where something is.
+/// What changed, by whom and what it is about: the old text, then, if there is one, a line feed (no text of a table
+/// has one) and the new text.
 type Changes = BTreeMap<Vec<u8>, Vec<u8>>;
 
-/// What the tables of the output say other than those of the base.
+/// How the tables of the output differ from those of the base.
 fn changes_of<R: Files + AllocGlobal>(
     rt: &R,
     sources: &[TableSentence],
@@ -252,7 +252,7 @@ fn note_row(
     }
 }
 
-/// Words with their places filled in.
+/// A text with its braces filled in.
 fn filled(
     alloc: Global,
     words: &str,
@@ -310,7 +310,7 @@ fn put(changes: &mut Changes, about: Vec<u8>, says: Vec<u8>) -> Result<(), Alloc
     }
 }
 
-/// Takes in what is said now: what was said before goes where it is the same.
+/// Compares a new text with the old one, which is dropped where they agree.
 fn compare(
     alloc: Global,
     changes: &mut Changes,
@@ -329,7 +329,7 @@ fn compare(
     put(changes, about, both)
 }
 
-/// Gives each change to whom or what it is of, and returns those of others.
+/// Adds each change to its patron or item, and returns the others.
 fn share_out(
     alloc: Global,
     changes: &Changes,
@@ -354,7 +354,7 @@ fn change_of(alloc: Global, about: &[u8], says: &[u8]) -> Result<SubjectChange, 
     })
 }
 
-/// Gives a change to whom or what it is of, or to the others.
+/// Adds a change to its patron or item, or to the others.
 fn give(
     subjects: &mut Subjects,
     others: &mut Vec<SubjectChange>,

@@ -1,4 +1,4 @@
-//! What a wrong line is put in order by.
+//! What wrong lines are grouped by.
 
 use crate::reading::LineRows;
 use crate::whys::Whys;
@@ -10,7 +10,7 @@ use std::alloc::{AllocError, Global};
 /// What is known of a wrong line before it is put into a group.
 pub struct Facts {
     pub alloc: Global,
-    /// How much its words weigh, as in `WEIGHTS`.
+    /// Its class in `WEIGHTS`: `1` is the worst.
     pub weight: u8,
     /// The words of the report.
     pub words: Vec<u8>,
@@ -20,7 +20,7 @@ pub struct Facts {
     pub connection: Vec<u8>,
     /// Its transaction date.
     pub date: Vec<u8>,
-    /// What can be said of a group of such lines where all are the same, and where they aren't.
+    /// The sentence of a group whose lines are all the same, and of one whose lines differ.
     pub same: Vec<u8>,
     pub other: Vec<u8>,
 }
@@ -42,7 +42,7 @@ impl Drop for Facts {
 }
 
 impl Facts {
-    /// Of a line of which nothing is known.
+    /// Facts of which none is known.
     fn none(alloc: Global) -> Facts {
         Facts {
             alloc,
@@ -68,7 +68,7 @@ impl Facts {
         self.date.extend_from_slice(date)
     }
 
-    /// Takes in what needs no message of the line.
+    /// Adds what the report and the reason say.
     fn read_words(&mut self, line: &LineRows, reason: &[u8]) -> Result<(), AllocError> {
         self.weight = weight_of(line.words());
         self.words.extend_from_slice(line.words())?;
@@ -101,7 +101,7 @@ fn put_reason(out: &mut Vec<u8>, reason: &[u8]) -> Result<(), AllocError> {
     Ok(())
 }
 
-/// The least weight of the words, which counts most.
+/// The least, so worst, class among the words.
 fn weight_of(words: &[u8]) -> u8 {
     let mut least = b'3';
     let mut rest = words;

@@ -21,7 +21,7 @@ pub fn read<R: Files + AllocGlobal>(rt: &R, path: &str) -> Result<Vec<u8>, PageE
     }
 }
 
-/// The bytes of a table of a folder; none of `holds.csv` where it isn't there.
+/// The bytes of a table of a folder; a missing `holds.csv` is empty.
 pub fn read_in<R: Files + AllocGlobal>(
     rt: &R,
     folder: &str,
@@ -66,7 +66,7 @@ impl<'t> FileRows<'t> {
         }
     }
 
-    /// Reads the next row. Without one, at the end, `row` means nothing.
+    /// Reads the next row, and returns false at the end of the table.
     pub fn next(&mut self, row: &mut ByteRecord) -> Result<bool, PageError> {
         match self.reader.next(row) {
             Ok(found) => Ok(found),

@@ -23,7 +23,7 @@ struct NameCount<'g> {
 
 type Index<'g> = BTreeMap<Vec<u8>, NameCount<'g>>;
 
-/// What a group is put under.
+/// What groups are counted by.
 #[derive(Clone, Copy)]
 pub enum By {
     Word,
@@ -125,7 +125,7 @@ fn put<'g>(
     }
 }
 
-/// Adds what a row of an index is of.
+/// Adds the first cell of a row.
 fn add_name(sheet: &mut Sheet, by: By, name: &[u8]) {
     match by {
         By::Word => {
@@ -138,7 +138,7 @@ fn add_name(sheet: &mut Sheet, by: By, name: &[u8]) {
     sheet.add("</th><td>", b"");
 }
 
-/// Adds a bar with its count; one that isn't of nothing is to be seen.
+/// Adds a bar with its count; a count above 0 has a visible bar.
 fn add_bar(sheet: &mut Sheet, count: u64, most: u64) {
     let share = count.saturating_mul(LONGEST).checked_div(most).unwrap_or(0);
     let length = share.max(count.min(1));

@@ -23,12 +23,12 @@ use std::env::Env;
 use std::io::Write;
 use std::rt::Files;
 
-/// Up to this many wrong responses the patrons and items that they are about are shown open.
+/// With at most this many wrong responses, their patrons and items are shown open.
 const OPEN: u64 = 100;
 
-/// The head of the table of what changed of others.
+/// The head of the table of other changes.
 const OTHERS_HEAD: &str =
-    "<div class=\"t\"><table class=\"c\"><caption>Loans, fees, holds and blocks that are other than before</caption>
+    "<div class=\"t\"><table class=\"c\"><caption>Loans, fees, holds and blocks that changed</caption>
 <thead><tr><th scope=\"col\">Patron</th><th scope=\"col\">What</th><th scope=\"col\">Before</th><th scope=\"col\">After</th></tr></thead>
 <tbody>
 ";
@@ -129,13 +129,13 @@ fn add_what_is_wrong(
     add_wrong(sheet, view, u64::from(options.limit))
 }
 
-/// By which program the page is made, where who called it says so.
+/// Which build makes the page, by `SIP_PAGE_BUILD` if it is set.
 fn made_by<R: Env + AllocGlobal>(rt: &R) -> Result<String, PageError> {
     match env::var(rt, "SIP_PAGE_BUILD") {
         Ok(text) => Ok(text),
         Err(_) => Ok(String::from_str(
             rt.alloc(),
-            "sip_page; of which commit, and whether it is proved, nobody told it",
+            "sip_page; its commit, and whether it is proved, are unknown",
         )?),
     }
 }
@@ -164,7 +164,7 @@ impl Drop for RunSummary {
 }
 
 impl RunSummary {
-    /// Of no table; `limit` wrong responses are shown at most.
+    /// Nothing yet; at most `limit` wrong responses are shown.
     fn none(alloc: Global, limit: u64) -> RunSummary {
         RunSummary {
             names: CaseNames {
@@ -219,7 +219,7 @@ impl RunSummary {
         count_reasons(rt.alloc(), &mut self.passed, &files.passed)
     }
 
-    /// Notes the lines.
+    /// Notes what became of each line.
     fn note_lines(&mut self, alloc: Global, files: &RunFiles) -> Result<(), PageError> {
         let texts = RunTexts {
             journal: &files.journal,
@@ -286,7 +286,7 @@ fn add_people(sheet: &mut Sheet, view: &View<'_>, others: &Option<Vec<SubjectCha
     );
     if others.is_none() {
         sheet.add(
-            "<p>No base tables were given, so nothing is told of what changed.</p>\n",
+            "<p>No base tables were given, so what changed is unknown.</p>\n",
             b"",
         );
     }

@@ -1,4 +1,4 @@
-//! The page as it grows. What is added after a failure is lost, and the failure is returned when the page is read off.
+//! The page as it grows. What is added after a failure is lost, and `bytes` returns the failure.
 
 use page_text::Page;
 use std::alloc::{AllocError, Global};
@@ -35,7 +35,7 @@ impl Sheet {
         }
     }
 
-    /// Adds nothing more: memory ran out.
+    /// Marks it failed: memory ran out.
     pub fn fail(&mut self) {
         self.failed = true;
     }

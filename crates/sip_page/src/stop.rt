@@ -44,7 +44,7 @@ impl<T: Drop> From<AllocFailed<T>> for PageError {
 }
 
 impl PageError {
-    /// The stop of words that the system gave with an error.
+    /// The error of a command line that couldn't be read.
     pub fn of_words(error: &io::Error) -> PageError {
         if error.kind() == io::ErrorKind::OutOfMemory {
             PageError::Memory
@@ -53,7 +53,7 @@ impl PageError {
         }
     }
 
-    /// The stop of a file that answered with an error. Where memory is what it lacked, the file isn't to blame.
+    /// The error of a file that couldn't be read: `Memory` where the system ran out of memory.
     pub fn of_file(alloc: Global, error: &io::Error, path: &str) -> PageError {
         if error.kind() == io::ErrorKind::OutOfMemory {
             return PageError::Memory;
@@ -64,7 +64,7 @@ impl PageError {
         }
     }
 
-    /// The stop of a table that can't be read.
+    /// The error of an unreadable table.
     pub fn of_table(error: TableError, file: &'static str) -> PageError {
         match error {
             TableError::Table => PageError::Table(file),
@@ -72,7 +72,7 @@ impl PageError {
         }
     }
 
-    /// The stop of tables that aren't of one run.
+    /// The error of tables of several runs.
     pub fn of_no_run(alloc: Global, error: &NoRun) -> PageError {
         match error {
             NoRun::Memory => PageError::Memory,
@@ -84,13 +84,13 @@ impl PageError {
         }
     }
 
-    /// The stop of a table of the base that has no such row as that of the output.
+    /// The error of a row that differs between the base and the output.
     pub fn of_row(alloc: Global, file: &'static str, id: &[u8]) -> PageError {
         let Ok(id) = String::from_utf8_lossy(alloc, id) else {
             return PageError::Memory;
         };
         let id = id.as_str();
-        match format!(in alloc; "{file} of the base and of the output: other rows of {id}") {
+        match format!(in alloc; "{file} of the base and of the output: the rows of {id} differ") {
             Ok(text) => PageError::NotOneRun(text),
             Err(_) => PageError::Memory,
         }

@@ -14,14 +14,14 @@ pub static WHY: TableFile = TableFile {
     header: &["line", "reason", "kind", "id", "since", "said"],
 };
 
-/// When and where a line came.
+/// A date and a connection.
 #[derive(Drop)]
 struct LineMoment {
     date: Vec<u8>,
     connection: Vec<u8>,
 }
 
-/// What is known of wrong lines, by their numbers: the rows of each, and when the lines came that they name.
+/// The rows of `why.csv` by wrong line, and the date and connection of the lines that these rows name.
 pub struct Whys {
     alloc: Global,
     rows: BTreeMap<u64, Vec<ByteRecord>>,
@@ -39,7 +39,7 @@ impl Drop for Whys {
 }
 
 impl Whys {
-    /// Of no line.
+    /// No reasons.
     pub fn none(alloc: Global) -> Whys {
         Whys {
             alloc,
@@ -62,7 +62,7 @@ impl Whys {
         Ok(())
     }
 
-    /// Asks for the lines of a report.
+    /// Adds each line of a report.
     fn want(&mut self, report: &[u8]) -> Result<(), PageError> {
         let mut rows = FileRows::under(self.alloc, &REPORT, report)?;
         let mut row = ByteRecord::new(self.alloc);
@@ -114,7 +114,7 @@ impl Whys {
         }
     }
 
-    /// Writes why the response to a line, which came at a date, was wrong in these words, after a colon, where that is known.
+    /// Writes a colon and why the response to a line of this date was wrong in these words, where that is known.
     pub fn put(
         &self,
         out: &mut Vec<u8>,

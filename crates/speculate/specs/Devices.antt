@@ -1,3 +1,3 @@
--- Devices of proofs: how things are stored or counted. No promise is read here.
+-- For proofs alone: how things are stored or counted. No promise needs it.
 pub mod Phases
 pub mod Draining

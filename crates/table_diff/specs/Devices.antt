@@ -1,4 +1,4 @@
--- Devices of proofs: how rows and counts are kept by texts.
+-- For proofs alone: how rows and counts are kept by texts.
 use Rattle.std.specs.Prelude.{◌≡◌, ℕ, List, Option, Vec, option_map, unwrap_or}
 use Rattle.std.specs.Borrow.{Bor}
 use Rattle.std.specs.BTreeMap.{BTreeMap, get_by}

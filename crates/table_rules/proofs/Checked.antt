@@ -9,16 +9,16 @@ use Rattle.csv_table.specs.Rows.{rows_under}
 use Rattle.circ_policy.specs.Terms.{Terms}
 use Rattle.record_tables.specs.Base.{holds_rows_of, rows_of}
 use Rattle.record_tables.specs.Read.{AreTables, rows_in, some_rows}
-use Rattle.record_tables.specs.Tables.{Row, Rows, Texts, closed_header, fees_header, holds_header, items_header, loans_header, patrons_header, texts_of}
+use Rattle.record_tables.specs.Tables.{Row, Rows, Texts, closed_header, fees_header, items_header, loans_header, patrons_header, texts_of}
 use Rattle.record_tables.specs.declared.fault.BaseError.{BaseError}
 use Rattle.record_tables.specs.declared.tables.TableName.{TableName}
 use Rattle.record_tables.specs.declared.tables.TableName.TheVariants as table
 use Rattle.record_tables.specs.declared.tables.Tables.{Tables}
-use Rattle.record_tables.proofs.Reading.{holds-read}
+use Rattle.record_tables.proofs.Stopped.{tables-read}
 use Rattle.table_rules.specs.AllBroken.{all_broken_rows, broken_in, broken_rules, no_tables, text_fault}
 use Rattle.table_rules.specs.Sizes.{AreSizes, sizes_of}
 use Rattle.table_rules.specs.declared.sizes.TableSizes.{TableSizes}
-use Rattle.table_rules.proofs.First.{all-rows, first-of-texts}
+use Rattle.table_rules.proofs.First.{first-of-texts}
 
 -- the rows of a text that is a table
 pub some-rows : (o : Option (List Row)) → IsSome o → o ≡ Some (some_rows o)
@@ -42,10 +42,6 @@ same-sizes p q i j l m f g c d h k ep ei el ef ec eh = rw (ep, ei, el, ef, ec, e
 
 -- TEXTS
 
-pub no-bytes : (text : List ℕ) → (length text == 0) ≡ true → text ≡ []
-no-bytes [] e = refl
-no-bytes (b ∷ text) e = absurd (omega (arith, eqb-true (length (b ∷ text)) 0 e))
-
 pub no-faults : (faults : List BaseError) → (length faults == 0) ≡ true → faults ≡ []
 no-faults [] e = refl
 no-faults (x ∷ xs) e = absurd (omega (arith, eqb-true (length (x ∷ xs)) 0 e))
@@ -53,15 +49,6 @@ no-faults (x ∷ xs) e = absurd (omega (arith, eqb-true (length (x ∷ xs)) 0 e)
 pub some-faults : (faults : List BaseError) → (length faults == 0) ≡ false → faults ≡ [] → ⊥
 some-faults [] e is = cc e
 some-faults (x ∷ xs) e is = cc is
-
--- holds of no bytes, and of some
-pub held-none : (text : List ℕ) (old new : List BaseError) → (length text == 0) ≡ true → new ≡ old → new ≡ old ++ text_fault table.Holds (holds_rows_of text)
-held-none text old new none same =
-    same ∙ sym (append-nil old) ∙ ap (λ t. old ++ text_fault table.Holds (holds_rows_of t)) (sym (no-bytes text none))
-
-pub held-some : (text : List ℕ) (old new : List BaseError) → (length text == 0) ≡ false → new ≡ old ++ text_fault table.Holds (rows_under holds_header text)
-    → new ≡ old ++ text_fault table.Holds (holds_rows_of text)
-held-some text old new some is = is ∙ ap (λ o. old ++ text_fault table.Holds o) (holds-read text _ (length text) refl refl some)
 
 a-table : (name : TableName) (o : Option (List Row)) (rest : List BaseError) → text_fault name o ++ rest ≡ [] → IsSome o × (rest ≡ [])
 a-table name None rest e = cc e
@@ -78,32 +65,16 @@ tables-of t none =
     let h = a-table table.Holds (holds_rows_of t.holds.items) [] (append-nil _ ∙ c.1) in
     record { patrons = p.0; items = i.0; loans = l.0; fees = f.0; closed = c.0; holds = h.0 }
 
-all-some : (p i l f c h : Option (List Row)) → IsSome p → IsSome i → IsSome l → IsSome f → IsSome c → IsSome h
-    → all-rows p i l f c h ≡ Ok (record { patrons = some_rows p; items = some_rows i; loans = some_rows l; fees = some_rows f; closed = some_rows c; holds = some_rows h })
-all-some None i l f c h sp si sl sf sc sh = cc sp
-all-some (Some p) None l f c h sp si sl sf sc sh = cc si
-all-some (Some p) (Some i) None f c h sp si sl sf sc sh = cc sl
-all-some (Some p) (Some i) (Some l) None c h sp si sl sf sc sh = cc sf
-all-some (Some p) (Some i) (Some l) (Some f) None h sp si sl sf sc sh = cc sc
-all-some (Some p) (Some i) (Some l) (Some f) (Some c) None sp si sl sf sc sh = cc sh
-all-some (Some p) (Some i) (Some l) (Some f) (Some c) (Some h) sp si sl sf sc sh = refl
-
-rows-of-tables : (t : Tables) → AreTables t → rows_of (texts_of t) ≡ Ok (rows_in t)
-unfolding rows_of
-rows-of-tables t are =
-    all-some (rows_under patrons_header t.patrons.items) (rows_under items_header t.items.items) (rows_under loans_header t.loans.items) (rows_under fees_header t.fees.items)
-    (rows_under closed_header t.closed.items) (holds_rows_of t.holds.items) are.patrons are.items are.loans are.fees are.closed are.holds
-
 -- all texts are tables
 pub broken-in-rows : (policy : Terms) (t : Tables) (first : Option ℕ) → no_tables (texts_of t) ≡ [] → all_broken_rows policy first (rows_in t) ≡ broken_rules policy (texts_of t) first
 unfolding broken_rules
-broken-in-rows policy t first none = sym (ap (broken_in policy first (texts_of t)) (rows-of-tables t (tables-of t none)))
+broken-in-rows policy t first none = sym (ap (broken_in policy first (texts_of t)) (tables-read t (tables-of t none)))
 
 ok-same : {A : Type 0} (x y : A) → ◌≡◌ {A = Result A BaseError} (Ok x) (Ok y) → x ≡ y
 ok-same x y e = cc e
 
 pub sizes-of-rows : (t : Tables) (sizes : TableSizes) → no_tables (texts_of t) ≡ [] → sizes ≡ sizes_of (rows_in t) → AreSizes (texts_of t) sizes
-sizes-of-rows t sizes none is = λ rows ok. is ∙ ap sizes_of (ok-same (rows_in t) rows (sym (rows-of-tables t (tables-of t none)) ∙ ok))
+sizes-of-rows t sizes none is = λ rows ok. is ∙ ap sizes_of (ok-same (rows_in t) rows (sym (tables-read t (tables-of t none)) ∙ ok))
 
 none-first : (faults : List BaseError) → slice_get faults 0 ≡ None → faults ≡ []
 none-first [] e = refl

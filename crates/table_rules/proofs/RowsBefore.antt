@@ -21,6 +21,7 @@ use Rattle.record_tables.specs.Tables.{Row, field}
 use Rattle.record_tables.specs.Told.{row_with, rows_with}
 use Rattle.circ_records.specs.Texts.{is_same}
 use Rattle.circ_records.specs.declared.holds.TheConstants.{QUEUE_MAX}
+use Rattle.record_tables.proofs.Waiting.{same-pair}
 use Rattle.record_tables.proofs.Lookups.{find-append, is_some-map}
 use Rattle.circ_records.proofs.SameTexts.{same-text, tie-text}
 use Rattle.table_rules.specs.Devices.RowsBefore.{HasHolds, HasIds, HasLoans, HasQueues, as_far, id_in}
@@ -151,18 +152,6 @@ loans-same before row lent bad has = λ q ok.
     ∙ ap (λ b. option_or (row_with 1 q before) (cond b (Some row) None)) (other-text q (field 1 row) ok bad) ∙ none-left (row_with 1 q before)))
 
 -- HOLDS
-
-tie-both : (p q : Ordering) → is_eq (ordering_then p q) ≡ (is_eq p && is_eq q)
-tie-both Less q = refl
-tie-both Equal q = refl
-tie-both Greater q = refl
-
--- whether pairs tie, and whether they are the same texts
-same-pair : (item patron a b : List ℕ) → is_eq (pair_cmp (item, patron) (a, b)) ≡ (is_same a item && is_same b patron)
-same-pair item patron a b =
-    tie-both (slice_cmp nat_cmp item a) (slice_cmp nat_cmp patron b)
-    ∙ ap (λ t. t && is_eq (slice_cmp nat_cmp patron b)) (tie-text item a)
-    ∙ ap (λ t. is_same a item && t) (tie-text patron b)
 
 has_hold-more : (a b : List ℕ) (rows : List Row) (row : Row) → has_hold a b (rows ++ row ∷ []) ≡ (has_hold a b rows || (is_same a (field 0 row) && is_same b (field 1 row)))
 has_hold-more a b rows row =

@@ -67,24 +67,17 @@ fn judge_tables(
     ensures sizes { IfOk result (λ check. check.sizes ≡ sizes_of (rows_in tables.now)) }
 {
     let mut broken = Vec::new(alloc);
-    let patrons = judge_patrons(alloc, policy, &tables.patrons, &mut broken)?;
-    let items = judge_items(alloc, policy, &tables.items, &mut broken)?;
-    let loans = judge_loans(alloc, &patrons.ids, &items.ids, &tables.loans, &mut broken)?;
-    let fees = judge_fees(alloc, first, &patrons.ids, &tables.fees, &mut broken)?;
-    let closed = judge_closed(
-        alloc,
-        first,
-        &patrons.ids,
-        &fees.ids,
-        &tables.closed,
-        &mut broken,
-    )?;
+    let patrons = judge_patrons(alloc, policy, tables, &mut broken)?;
+    let items = judge_items(alloc, policy, tables, &mut broken)?;
+    let loans = judge_loans(alloc, &patrons.ids, &items.ids, tables, &mut broken)?;
+    let fees = judge_fees(alloc, first, &patrons.ids, tables, &mut broken)?;
+    let closed = judge_closed(alloc, first, &patrons.ids, &fees.ids, tables, &mut broken)?;
     let holds = judge_holds(
         alloc,
         &patrons.ids,
         &items.ids,
         &loans.lent,
-        &tables.holds,
+        tables,
         &mut broken,
     )?;
     let sizes = TableSizes {

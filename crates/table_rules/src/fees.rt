@@ -1,31 +1,25 @@
 //! The tables of open and of closed fees.
 
-ghost use Rattle.std.specs.Prelude.{◌++◌, ◌≡◌, if◌then◌else◌, is_some, length, not, true, IfErr, IfOk, IfSome, IsSome, List, OnOk, Option, Some};
+ghost use Rattle.std.specs.Prelude.{◌++◌, ◌≡◌, is_some, length, IfOk, IfSome, IsSome, List, OnOk, Option, Some};
 ghost use Rattle.csv.specs.Records.{fields_of};
 ghost use Rattle.csv_table.specs.Rows.{rows_under};
 ghost use Rattle.record_tables.specs.Rules as Rules;
 ghost use Rattle.record_tables.specs.Tables.{Row, field, closed_header, fees_header};
 ghost use Rattle.record_tables.specs.Values.{hundredths};
 ghost use Rattle.circ_records.specs.declared.rule.BaseRule.{BaseRule};
-ghost use Rattle.circ_records.specs.declared.rule.BaseRule.TheVariants as rule;
 ghost use Rattle.record_tables.specs.declared.tables.TableName.TheVariants as table;
 ghost use Rattle.table_rules.specs.AllBroken.{broken_rows};
 ghost use Rattle.table_rules.specs.Devices.RowsBefore.{HasIds};
 
 use crate::judge::{Judge, judge_rows};
-use crate::line_fees::is_taken;
 use crate::seen_ids::{TableIds, add_id, has_id};
 use circ_records::{BaseRule, FeeType};
 use csv::ByteRecord;
 use csv_table::column;
-use record_tables::{BaseError, TableName};
+use record_tables::{BaseError, TableName, Tables, is_taken};
 use sip_reader::{Amount, Id};
 use std::alloc::{AllocError, Global};
 use std::collections::BTreeSet;
-
-pub(crate) const FEES: [&str; 5] = ["id", "patron", "type", "amount", "paid"];
-
-pub(crate) const CLOSED: [&str; 4] = ["id", "patron", "type", "amount"];
 
 /// What is kept of the rows of open fees and of the patrons, and the number of the journal's first line.
 struct FeeJudge<'a> {
@@ -104,13 +98,13 @@ pub(crate) fn judge_fees(
     alloc: Global,
     first: Option<u64>,
     patrons: &BTreeSet<Id>,
-    text: &[u8],
+    tables: &Tables,
     broken: &mut Vec<BaseError>,
 ) -> Result<TableIds, AllocError>
-    requires table { IsSome (rows_under fees_header text.now) }
-    ensures broken { OnOk result ((patron_rows rows : List Row) → HasIds 0 patron_rows patrons.now → rows_under fees_header text.now ≡ Some rows
+    requires table { IsSome (rows_under fees_header tables.now.fees.items) }
+    ensures broken { OnOk result ((patron_rows rows : List Row) → HasIds 0 patron_rows patrons.now → rows_under fees_header tables.now.fees.items ≡ Some rows
         → broken.new.items ≡ broken.old.items ++ broken_rows table.Fees (Rules.fee_rule first patron_rows) rows) }
-    ensures ids { IfOk result (λ seen. (patron_rows rows : List Row) → HasIds 0 patron_rows patrons.now → rows_under fees_header text.now ≡ Some rows
+    ensures ids { IfOk result (λ seen. (patron_rows rows : List Row) → HasIds 0 patron_rows patrons.now → rows_under fees_header tables.now.fees.items ≡ Some rows
         → HasIds 0 rows seen.ids × (seen.count ≡ length rows)) }
 {
     let ids = BTreeSet::new(alloc);
@@ -119,7 +113,7 @@ pub(crate) fn judge_fees(
         patrons,
         ids,
     };
-    let count = judge_rows(alloc, TableName::Fees, &FEES, text, &mut judge, broken)?;
+    let count = judge_rows(alloc, TableName::Fees, tables, &mut judge, broken)?;
     Ok(TableIds {
         ids: judge.into_ids(),
         count,
@@ -132,13 +126,13 @@ pub(crate) fn judge_closed(
     first: Option<u64>,
     patrons: &BTreeSet<Id>,
     fees: &BTreeSet<Id>,
-    text: &[u8],
+    tables: &Tables,
     broken: &mut Vec<BaseError>,
 ) -> Result<usize, AllocError>
-    requires table { IsSome (rows_under closed_header text.now) }
-    ensures broken { OnOk result ((patron_rows fee_rows rows : List Row) → HasIds 0 patron_rows patrons.now → HasIds 0 fee_rows fees.now → rows_under closed_header text.now ≡ Some rows
+    requires table { IsSome (rows_under closed_header tables.now.closed.items) }
+    ensures broken { OnOk result ((patron_rows fee_rows rows : List Row) → HasIds 0 patron_rows patrons.now → HasIds 0 fee_rows fees.now → rows_under closed_header tables.now.closed.items ≡ Some rows
         → broken.new.items ≡ broken.old.items ++ broken_rows table.Closed (Rules.closed_rule first patron_rows fee_rows) rows) }
-    ensures count { IfOk result (λ count. (patron_rows fee_rows rows : List Row) → HasIds 0 patron_rows patrons.now → HasIds 0 fee_rows fees.now → rows_under closed_header text.now ≡ Some rows
+    ensures count { IfOk result (λ count. (patron_rows fee_rows rows : List Row) → HasIds 0 patron_rows patrons.now → HasIds 0 fee_rows fees.now → rows_under closed_header tables.now.closed.items ≡ Some rows
         → count ≡ length rows) }
 {
     let mut judge = ClosedJudge {
@@ -147,7 +141,7 @@ pub(crate) fn judge_closed(
         fees,
         ids: BTreeSet::new(alloc),
     };
-    judge_rows(alloc, TableName::Closed, &CLOSED, text, &mut judge, broken)
+    judge_rows(alloc, TableName::Closed, tables, &mut judge, broken)
 }
 
 /// The first rule that a row of open fees breaks after such with these ids, with patrons of these.

@@ -18,12 +18,10 @@ use crate::seen_ids::has_id;
 use circ_records::{BaseRule, QUEUE_MAX};
 use csv::ByteRecord;
 use csv_table::column;
-use record_tables::{BaseError, TableName};
+use record_tables::{BaseError, TableName, Tables};
 use sip_reader::{Id, is_text};
 use std::alloc::{AllocError, Global};
 use std::collections::{BTreeMap, BTreeSet};
-
-pub(crate) const HOLDS: [&str; 3] = ["item", "patron", "pickup"];
 
 /// What is kept of the rows of holds: who waits for what, and how many wait for each item; and of the tables before.
 struct HoldJudge<'a> {
@@ -60,24 +58,21 @@ impl Judge for HoldJudge<'_> {
 }
 
 /// Lists each row of holds that breaks a rule after those that are listed, and returns how many rows there are. Patrons, items and loans are those of
-/// their tables, and the text is a table: no bytes at all count as the header alone.
+/// their tables, and the text is a table.
 pub(crate) fn judge_holds(
     alloc: Global,
     patrons: &BTreeSet<Id>,
     items: &BTreeSet<Id>,
     lent: &BTreeMap<Id, Option<Id>>,
-    text: &[u8],
+    tables: &Tables,
     broken: &mut Vec<BaseError>,
 ) -> Result<usize, AllocError>
-    requires table { IsSome (holds_rows_of text.now) }
+    requires table { IsSome (holds_rows_of tables.now.holds.items) }
     ensures broken { OnOk result ((patron_rows item_rows loan_rows rows : List Row) → HasIds 0 patron_rows patrons.now → HasIds 0 item_rows items.now → HasLoans loan_rows lent.now
-        → holds_rows_of text.now ≡ Some rows → broken.new.items ≡ broken.old.items ++ broken_rows table.Holds (Rules.hold_rule patron_rows item_rows loan_rows) rows) }
+        → holds_rows_of tables.now.holds.items ≡ Some rows → broken.new.items ≡ broken.old.items ++ broken_rows table.Holds (Rules.hold_rule patron_rows item_rows loan_rows) rows) }
     ensures count { IfOk result (λ count. (patron_rows item_rows loan_rows rows : List Row) → HasIds 0 patron_rows patrons.now → HasIds 0 item_rows items.now → HasLoans loan_rows lent.now
-        → holds_rows_of text.now ≡ Some rows → count ≡ length rows) }
+        → holds_rows_of tables.now.holds.items ≡ Some rows → count ≡ length rows) }
 {
-    if text.is_empty() {
-        return Ok(0);
-    }
     let mut judge = HoldJudge {
         patrons,
         items,
@@ -85,7 +80,7 @@ pub(crate) fn judge_holds(
         waiting: BTreeSet::new(alloc),
         lengths: BTreeMap::new(alloc),
     };
-    judge_rows(alloc, TableName::Holds, &HOLDS, text, &mut judge, broken)
+    judge_rows(alloc, TableName::Holds, tables, &mut judge, broken)
 }
 
 impl HoldJudge<'_> {

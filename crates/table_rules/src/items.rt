@@ -1,26 +1,24 @@
 //! The table of items.
 
-ghost use Rattle.std.specs.Prelude.{◌++◌, ◌≡◌, is_some, length, IfOk, IfSome, IsSome, List, OnOk, Some};
+ghost use Rattle.std.specs.Prelude.{◌++◌, ◌≡◌, length, IfOk, IsSome, List, OnOk, Some};
 ghost use Rattle.csv.specs.Records.{fields_of};
 ghost use Rattle.csv_table.specs.Rows.{rows_under};
 ghost use Rattle.record_tables.specs.Rules as Rules;
-ghost use Rattle.record_tables.specs.Tables.{Row, field, items_header};
+ghost use Rattle.record_tables.specs.Tables.{Row, items_header};
 ghost use Rattle.record_tables.specs.declared.tables.TableName.TheVariants as table;
 ghost use Rattle.table_rules.specs.AllBroken.{broken_rows};
 ghost use Rattle.table_rules.specs.Devices.RowsBefore.{HasIds};
 
 use crate::judge::{Judge, judge_rows};
 use crate::seen_ids::{TableIds, add_id, has_id};
-use circ_policy::{MediaType, Policy};
+use circ_policy::Policy;
 use circ_records::BaseRule;
 use csv::ByteRecord;
 use csv_table::column;
-use record_tables::{BaseError, TableName};
-use sip_reader::{Id, is_text};
+use record_tables::{BaseError, TableName, Tables, item_id, media_of};
+use sip_reader::Id;
 use std::alloc::{AllocError, Global};
 use std::collections::BTreeSet;
-
-pub(crate) const ITEMS: [&str; 5] = ["id", "title", "media", "location", "properties"];
 
 /// What is kept of the rows of items, and the policy.
 struct ItemJudge<'p> {
@@ -58,17 +56,17 @@ impl Judge for ItemJudge<'_> {
 pub(crate) fn judge_items(
     alloc: Global,
     policy: &Policy,
-    text: &[u8],
+    tables: &Tables,
     broken: &mut Vec<BaseError>,
 ) -> Result<TableIds, AllocError>
-    requires table { IsSome (rows_under items_header text.now) }
-    ensures broken { OnOk result ((rows : List Row) → rows_under items_header text.now ≡ Some rows
+    requires table { IsSome (rows_under items_header tables.now.items.items) }
+    ensures broken { OnOk result ((rows : List Row) → rows_under items_header tables.now.items.items ≡ Some rows
         → broken.new.items ≡ broken.old.items ++ broken_rows table.Items (Rules.item_rule policy.now) rows) }
-    ensures ids { IfOk result (λ seen. (rows : List Row) → rows_under items_header text.now ≡ Some rows → HasIds 0 rows seen.ids × (seen.count ≡ length rows)) }
+    ensures ids { IfOk result (λ seen. (rows : List Row) → rows_under items_header tables.now.items.items ≡ Some rows → HasIds 0 rows seen.ids × (seen.count ≡ length rows)) }
 {
     let ids = BTreeSet::new(alloc);
     let mut judge = ItemJudge { policy, ids };
-    let count = judge_rows(alloc, TableName::Items, &ITEMS, text, &mut judge, broken)?;
+    let count = judge_rows(alloc, TableName::Items, tables, &mut judge, broken)?;
     Ok(TableIds {
         ids: judge.into_ids(),
         count,
@@ -85,42 +83,14 @@ fn broken_rule(
 ) -> Result<Option<BaseRule>, AllocError>
     ensures { IfOk result (λ broken. (before : List Row) → HasIds 0 before ids.now → broken ≡ Rules.item_rule policy.now before (fields_of row.now)) }
 {
-    let Some(id) = id_of(alloc, row)? else {
+    let Some(id) = item_id(alloc, row)? else {
         return Ok(Some(BaseRule::Text));
     };
     if has_id(ids, &id) {
         return Ok(Some(BaseRule::Double));
     }
-    if !has_media(policy, column(row, 2)) {
+    if media_of(policy, row).is_none() {
         return Ok(Some(BaseRule::Media));
     }
     Ok(None)
-}
-
-/// The id of a row's item, where all texts of the row are valid.
-#[tactic(auto, unfolding(record_tables::specs::Rules::has_item_texts))]
-fn id_of(alloc: Global, row: &ByteRecord) -> Result<Option<Id>, AllocError>
-    ensures texts { IfOk result (λ id. is_some id ≡ Rules.has_item_texts (fields_of row.now)) }
-    ensures id { IfOk result (λ id. IfSome id (λ it. it ≡ field 0 (fields_of row.now))) }
-{
-    if is_text(column(row, 1))
-        && is_text(column(row, 2))
-        && is_text(column(row, 3))
-        && is_text(column(row, 4))
-    {
-        Id::read(alloc, column(row, 0))
-    } else {
-        Ok(None)
-    }
-}
-
-/// Whether the policy has the media type of this code.
-#[tactic(auto, unfolding(record_tables::specs::Rules::has_media))]
-fn has_media(policy: &Policy, code: &[u8]) -> bool
-    ensures { result ≡ Rules.has_media policy.now code.now }
-{
-    match MediaType::of_code(code) {
-        Some(media) => policy.media(media).is_some(),
-        None => false,
-    }
 }

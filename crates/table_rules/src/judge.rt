@@ -2,8 +2,7 @@
 
 ghost use Rattle.std.specs.Prelude.{◌≡◌, ◌<◌, ◌++◌, ◌∷◌, [], List, Option, Some, IsSome, true, false, length, option_map, IfOk, OnOk};
 ghost use Rattle.csv.specs.Records.{fields_of};
-ghost use Rattle.csv_table.specs.Rows.{rows_under};
-ghost use Rattle.csv_table.specs.Text.{bytes_of};
+ghost use Rattle.record_tables.specs.Read.{text_rows};
 ghost use Rattle.record_tables.specs.Tables.{Row};
 ghost use Rattle.circ_records.specs.declared.rule.BaseRule.{BaseRule};
 ghost use Rattle.table_rules.specs.AllBroken.{broken_rows, row_fault};
@@ -11,7 +10,7 @@ ghost use Rattle.table_rules.specs.AllBroken.{broken_rows, row_fault};
 use circ_records::BaseRule;
 use csv::ByteRecord;
 use csv_table::RowReader;
-use record_tables::{BaseError, TableName};
+use record_tables::{BaseError, TableName, Tables};
 use std::alloc::{AllocError, Global};
 
 /// The rule of a table, and what it needs of the rows that came before.
@@ -25,25 +24,23 @@ pub(crate) trait Judge {
         ensures after { OnOk result ((rule : List Row → Row → Option BaseRule) (before : List Row) → judges self.old rule before → judges self.new rule (before ++ fields_of row.now ∷ [])) };
 }
 
-/// Lists each row of a table that breaks a rule after those that are listed, and returns how many rows there are. The text is a table
-/// under this header.
+/// Lists each row of a table that breaks a rule after those that are listed, and returns how many rows there are. Its text is a table.
 pub(crate) fn judge_rows<J: Judge>(
     alloc: Global,
     table: TableName,
-    header: &[&str],
-    text: &[u8],
+    tables: &Tables,
     judge: &mut J,
     broken: &mut Vec<BaseError>,
 ) -> Result<usize, AllocError>
-    requires table { IsSome (rows_under (bytes_of header.now) text.now) }
-    ensures broken { OnOk result ((rule : List Row → Row → Option BaseRule) (rows : List Row) → J.judges judge.old rule [] → rows_under (bytes_of header.now) text.now ≡ Some rows
+    requires table { IsSome (text_rows table tables.now) }
+    ensures broken { OnOk result ((rule : List Row → Row → Option BaseRule) (rows : List Row) → J.judges judge.old rule [] → text_rows table tables.now ≡ Some rows
         → broken.new.items ≡ broken.old.items ++ broken_rows table rule rows) }
-    ensures after { OnOk result ((rule : List Row → Row → Option BaseRule) (rows : List Row) → J.judges judge.old rule [] → rows_under (bytes_of header.now) text.now ≡ Some rows
+    ensures after { OnOk result ((rule : List Row → Row → Option BaseRule) (rows : List Row) → J.judges judge.old rule [] → text_rows table tables.now ≡ Some rows
         → J.judges judge.new rule rows) }
-    ensures count { IfOk result (λ count. (rule : List Row → Row → Option BaseRule) (rows : List Row) → J.judges judge.old rule [] → rows_under (bytes_of header.now) text.now ≡ Some rows
+    ensures count { IfOk result (λ count. (rule : List Row → Row → Option BaseRule) (rows : List Row) → J.judges judge.old rule [] → text_rows table tables.now ≡ Some rows
         → count ≡ length rows) }
 {
-    let Ok(mut rows) = RowReader::under(alloc, header, text) else {
+    let Ok(mut rows) = RowReader::under(alloc, table.header(), tables.text(table)) else {
         return Err(AllocError);
     };
     let mut row = ByteRecord::new(alloc);

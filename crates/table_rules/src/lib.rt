@@ -9,7 +9,6 @@ mod holds;
 mod items;
 mod judge;
 mod laws;
-mod line_fees;
 mod loans;
 mod patrons;
 mod seen_ids;

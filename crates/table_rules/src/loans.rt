@@ -1,10 +1,10 @@
 //! The table of loans.
 
-ghost use Rattle.std.specs.Prelude.{◌++◌, ◌∷◌, ◌≡◌, [], is_some, length, IfOk, IfSome, IsSome, List, OnOk, Some};
+ghost use Rattle.std.specs.Prelude.{◌++◌, ◌∷◌, ◌≡◌, [], length, IfOk, IsSome, List, OnOk, Some};
 ghost use Rattle.csv.specs.Records.{fields_of};
 ghost use Rattle.csv_table.specs.Rows.{rows_under};
 ghost use Rattle.record_tables.specs.Rules as Rules;
-ghost use Rattle.record_tables.specs.Tables.{Row, field, loans_header};
+ghost use Rattle.record_tables.specs.Tables.{Row, loans_header};
 ghost use Rattle.record_tables.specs.declared.tables.TableName.TheVariants as table;
 ghost use Rattle.table_rules.specs.AllBroken.{broken_rows};
 ghost use Rattle.table_rules.specs.Devices.RowsBefore.{HasIds, HasLoans};
@@ -15,12 +15,10 @@ use crate::values::{is_due, is_renewals};
 use circ_records::BaseRule;
 use csv::ByteRecord;
 use csv_table::column;
-use record_tables::{BaseError, TableName};
+use record_tables::{BaseError, TableName, Tables};
 use sip_reader::Id;
 use std::alloc::{AllocError, Global};
 use std::collections::{BTreeMap, BTreeSet};
-
-pub(crate) const LOANS: [&str; 4] = ["patron", "item", "due", "renewals"];
 
 /// What is kept of the rows of loans: of each item the patron of the first, where that is an id; and of the tables before.
 struct LoanJudge<'a> {
@@ -82,13 +80,13 @@ pub(crate) fn judge_loans(
     alloc: Global,
     patrons: &BTreeSet<Id>,
     items: &BTreeSet<Id>,
-    text: &[u8],
+    tables: &Tables,
     broken: &mut Vec<BaseError>,
 ) -> Result<LentItems, AllocError>
-    requires table { IsSome (rows_under loans_header text.now) }
-    ensures broken { OnOk result ((patron_rows item_rows rows : List Row) → HasIds 0 patron_rows patrons.now → HasIds 0 item_rows items.now → rows_under loans_header text.now ≡ Some rows
+    requires table { IsSome (rows_under loans_header tables.now.loans.items) }
+    ensures broken { OnOk result ((patron_rows item_rows rows : List Row) → HasIds 0 patron_rows patrons.now → HasIds 0 item_rows items.now → rows_under loans_header tables.now.loans.items ≡ Some rows
         → broken.new.items ≡ broken.old.items ++ broken_rows table.Loans (Rules.loan_rule patron_rows item_rows) rows) }
-    ensures lent { IfOk result (λ seen. (patron_rows item_rows rows : List Row) → HasIds 0 patron_rows patrons.now → HasIds 0 item_rows items.now → rows_under loans_header text.now ≡ Some rows
+    ensures lent { IfOk result (λ seen. (patron_rows item_rows rows : List Row) → HasIds 0 patron_rows patrons.now → HasIds 0 item_rows items.now → rows_under loans_header tables.now.loans.items ≡ Some rows
         → HasLoans rows seen.lent × (seen.count ≡ length rows)) }
 {
     let lent = BTreeMap::new(alloc);
@@ -97,7 +95,7 @@ pub(crate) fn judge_loans(
         items,
         lent,
     };
-    let count = judge_rows(alloc, TableName::Loans, &LOANS, text, &mut judge, broken)?;
+    let count = judge_rows(alloc, TableName::Loans, tables, &mut judge, broken)?;
     Ok(LentItems {
         lent: judge.into_lent(),
         count,

@@ -1,11 +1,10 @@
 //! The table of patrons.
 
-ghost use Rattle.std.specs.Prelude.{◌++◌, ◌≡◌, is_some, length, IfOk, IfSome, IsSome, List, OnOk, Some};
+ghost use Rattle.std.specs.Prelude.{◌++◌, ◌≡◌, length, IfOk, IsSome, List, OnOk, Some};
 ghost use Rattle.csv.specs.Records.{fields_of};
 ghost use Rattle.csv_table.specs.Rows.{rows_under};
 ghost use Rattle.record_tables.specs.Rules as Rules;
-ghost use Rattle.circ_records.specs.Classes as Classes;
-ghost use Rattle.record_tables.specs.Tables.{Row, field, patrons_header};
+ghost use Rattle.record_tables.specs.Tables.{Row, patrons_header};
 ghost use Rattle.record_tables.specs.declared.tables.TableName.TheVariants as table;
 ghost use Rattle.table_rules.specs.AllBroken.{broken_rows};
 ghost use Rattle.table_rules.specs.Devices.RowsBefore.{HasIds};
@@ -17,12 +16,10 @@ use circ_policy::Policy;
 use circ_records::BaseRule;
 use csv::ByteRecord;
 use csv_table::column;
-use record_tables::{BaseError, TableName};
-use sip_reader::{Id, is_text};
+use record_tables::{BaseError, TableName, Tables, class_of, patron_id};
+use sip_reader::Id;
 use std::alloc::{AllocError, Global};
 use std::collections::BTreeSet;
-
-pub(crate) const PATRONS: [&str; 4] = ["id", "name", "class", "blocked"];
 
 /// What is kept of the rows of patrons, and the policy.
 struct PatronJudge<'p> {
@@ -60,24 +57,17 @@ impl Judge for PatronJudge<'_> {
 pub(crate) fn judge_patrons(
     alloc: Global,
     policy: &Policy,
-    text: &[u8],
+    tables: &Tables,
     broken: &mut Vec<BaseError>,
 ) -> Result<TableIds, AllocError>
-    requires table { IsSome (rows_under patrons_header text.now) }
-    ensures broken { OnOk result ((rows : List Row) → rows_under patrons_header text.now ≡ Some rows
+    requires table { IsSome (rows_under patrons_header tables.now.patrons.items) }
+    ensures broken { OnOk result ((rows : List Row) → rows_under patrons_header tables.now.patrons.items ≡ Some rows
         → broken.new.items ≡ broken.old.items ++ broken_rows table.Patrons (Rules.patron_rule policy.now) rows) }
-    ensures ids { IfOk result (λ seen. (rows : List Row) → rows_under patrons_header text.now ≡ Some rows → HasIds 0 rows seen.ids × (seen.count ≡ length rows)) }
+    ensures ids { IfOk result (λ seen. (rows : List Row) → rows_under patrons_header tables.now.patrons.items ≡ Some rows → HasIds 0 rows seen.ids × (seen.count ≡ length rows)) }
 {
     let ids = BTreeSet::new(alloc);
     let mut judge = PatronJudge { policy, ids };
-    let count = judge_rows(
-        alloc,
-        TableName::Patrons,
-        &PATRONS,
-        text,
-        &mut judge,
-        broken,
-    )?;
+    let count = judge_rows(alloc, TableName::Patrons, tables, &mut judge, broken)?;
     Ok(TableIds {
         ids: judge.into_ids(),
         count,
@@ -94,7 +84,7 @@ fn broken_rule(
 ) -> Result<Option<BaseRule>, AllocError>
     ensures { IfOk result (λ broken. (before : List Row) → HasIds 0 before ids.now → broken ≡ Rules.patron_rule policy.now before (fields_of row.now)) }
 {
-    let Some(id) = id_of(alloc, row)? else {
+    let Some(id) = patron_id(alloc, row)? else {
         return Ok(Some(BaseRule::Text));
     };
     if !is_flag(column(row, 3)) {
@@ -103,32 +93,8 @@ fn broken_rule(
     if has_id(ids, &id) {
         return Ok(Some(BaseRule::Double));
     }
-    if !has_class(alloc, policy, column(row, 2))? {
+    if class_of(alloc, policy, column(row, 2))?.is_none() {
         return Ok(Some(BaseRule::Class));
     }
     Ok(None)
-}
-
-/// The id of a row's patron, where all texts of the row are valid.
-#[tactic(auto, unfolding(record_tables::specs::Rules::has_patron_texts))]
-fn id_of(alloc: Global, row: &ByteRecord) -> Result<Option<Id>, AllocError>
-    ensures texts { IfOk result (λ id. is_some id ≡ Rules.has_patron_texts (fields_of row.now)) }
-    ensures id { IfOk result (λ id. IfSome id (λ it. it ≡ field 0 (fields_of row.now))) }
-{
-    if is_text(column(row, 1)) && is_text(column(row, 2)) {
-        Id::read(alloc, column(row, 0))
-    } else {
-        Ok(None)
-    }
-}
-
-/// Whether the policy has a class of this name.
-#[tactic(auto, unfolding(circ_records::specs::Classes::has_class))]
-fn has_class(alloc: Global, policy: &Policy, name: &[u8]) -> Result<bool, AllocError>
-    ensures { IfOk result (λ has. has ≡ Classes.has_class policy.now name.now) }
-{
-    let Some(class) = Id::read(alloc, name)? else {
-        return Ok(false);
-    };
-    Ok(policy.class(&class).is_some())
 }

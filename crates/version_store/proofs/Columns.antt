@@ -4,7 +4,7 @@ use Rattle.std.specs.Prelude.{◌||◌}
 use Rattle.std.specs.Ordering.{nat_cmp, eq_by_cmp, is_eq}
 use Rattle.std.specs.declared.cmp.Ordering.{Ordering}
 use Rattle.std.specs.declared.cmp.Ordering.TheVariants.{Less, Equal, Greater}
-use Rattle.std.specs.Option.{IsSome, option_or}
+use Rattle.std.specs.Option.{IsSome}
 use Rattle.circ_records.specs.Keys.{key_cmp, key_cmp-IsAntisymmetric}
 use Rattle.circ_records.specs.declared.key.Key.{Key}
 use Rattle.version_store.specs.Index.{has, in_column, with_at}
@@ -82,30 +82,3 @@ at_none true false o m h = refl
 pub untouched : (f : Key → Option (List ℕ)) (k q : Key) (n m : ℕ)
     → f k ≡ None → in_column (f q) m ≡ with_at k n false (λ x y. in_column (f x) y) q m
 untouched f k q n m none = at_none (eq_by_cmp key_cmp k q) (eq_by_cmp nat_cmp n m) (f q) m (λ e. ap f (sym (same_key k q e)) ∙ none)
-
--- ---- the keys of slots before the others
--- one column of the slots is another
-front_if : (b : Bool) (x : List ℕ) (o p : Option (List ℕ)) → option_or (cond b (Some x) o) p ≡ cond b (Some x) (option_or o p)
-front_if true x o p = refl
-front_if false x o p = refl
-
-pub in_front : (old new rest : Key → Option (List ℕ)) (k q : Key) (is : List ℕ)
-    → ((p : Key) → new p ≡ cond (eq_by_cmp key_cmp k p) (Some is) (old p))
-    → option_or (new q) (rest q) ≡ cond (eq_by_cmp key_cmp k q) (Some is) (option_or (old q) (rest q))
-in_front old new rest k q is u = ap (λ o. option_or o (rest q)) (u q) ∙ front_if (eq_by_cmp key_cmp k q) is (old q) (rest q)
-
--- one line of the others is changed
-behind_if : (b c w : Bool) (m : ℕ) (o old new : Option (List ℕ)) → (b ≡ true → o ≡ None)
-    → in_column new m ≡ cond b (cond c w (in_column old m)) (in_column old m)
-    → in_column (option_or o new) m ≡ cond b (cond c w (in_column (option_or o old) m)) (in_column (option_or o old) m)
-behind_if b c w m None old new h g = g
-behind_if true c w m (Some x) old new h g = cc (h refl)
-behind_if false c w m (Some x) old new h g = refl
-
-pub behind : (slots old new : Key → Option (List ℕ)) (was : Key → ℕ → Bool) (k q : Key) (n m : ℕ) (w : Bool) → slots k ≡ None
-    → ((p : Key) (l : ℕ) → was p l ≡ in_column (old p) l)
-    → ((p : Key) (l : ℕ) → in_column (new p) l ≡ with_at k n w was p l)
-    → in_column (option_or (slots q) (new q)) m ≡ with_at k n w (λ x y. in_column (option_or (slots x) (old x)) y) q m
-behind slots old new was k q n m w none same u =
-    behind_if (eq_by_cmp key_cmp k q) (eq_by_cmp nat_cmp n m) w m (slots q) (old q) (new q) (λ t. ap slots (sym (same_key k q t)) ∙ none)
-    (u q m ∙ ap (λ b. cond (eq_by_cmp key_cmp k q) (cond (eq_by_cmp nat_cmp n m) w b) b) (same q m))

@@ -1,10 +1,8 @@
 -- Entries with the keys that they borrow.
 use denote.Ref.{Bor}
-use Rattle.std.proofs.Common.{◌≡◌, ℕ, zero, suc, ◌+◌, ◌<◌, Bool, true, false, cond, Option, Some, None, List, [], ◌∷◌, ◌++◌, length, get_or, set, take, drop, refl, sym, ap, ap₂, ◌∙◌, arith}
-use Rattle.std.specs.Prelude.{is_some, option_map, slice_get}
+use Rattle.std.proofs.Common.{◌≡◌, ℕ, zero, suc, ◌+◌, ◌<◌, Option, List, [], ◌∷◌, ◌++◌, length, get_or, set, take, drop, refl, sym, ap, ap₂, ◌∙◌, arith}
+use Rattle.std.specs.Prelude.{option_map, slice_get}
 use Rattle.std.specs.List.{insert, remove}
-use Rattle.std.specs.Ordering.{eq_by_cmp}
-use Rattle.std.specs.FinMap.Entries.{find}
 use Rattle.std.specs.declared.cmp.Ordering.{Ordering}
 use Rattle.std.proofs.lemmas.List.{length-map, map-append, map-set, take-map, drop-map, drop_more}
 use Rattle.std.proofs.lemmas.Option.{slice_get-map}
@@ -61,28 +59,7 @@ module _ {X : Type 0} where
       drop_more (keyed es) i (keyed_one e) (omega (arith, within, keyed_length es))
       ∙ ap (λ (x : Key × X). x ∷ drop (i + 1) (keyed es)) (keyed_at es i e ∙ ap keyed_one (sym is))
 
--- ---- the first of some entries is that of the key, or isn't
-pub found_next : {X : Type 0} (es rest : List (Key × X)) (k : Key) (e : Key × X) → es ≡ e ∷ rest → eq_by_cmp key_cmp k e.0 ≡ true → find key_cmp k es ≡ Some e.1
-found_next es rest k e more is = ap (find key_cmp k) more ∙ ap (λ b. cond b (Some e.1) (find key_cmp k rest)) is
-
-pub missed_next : {X : Type 0} (es rest : List (Key × X)) (k : Key) (e : Key × X) → es ≡ e ∷ rest → eq_by_cmp key_cmp k e.0 ≡ false → find key_cmp k es ≡ find key_cmp k rest
-missed_next es rest k e more is = ap (find key_cmp k) more ∙ ap (λ b. cond b (Some e.1) (find key_cmp k rest)) is
-
 -- ---- all entries are marked
 pub keyed_marked : {J : Type 0} (es : List (Bor Key × StoredEntry J)) → keyed (all_marked es) ≡ all_marked (keyed es)
 keyed_marked [] = refl
 keyed_marked (e ∷ es) = ap (λ (l : List (Key × StoredEntry _)). (e.0.now, marked e.1) ∷ l) (keyed_marked es)
-
--- ---- the last of some entries of which one is that of the key
-pub one_has : {X : Type 0} (es : List (Key × X)) (k : Key) → is_some (find key_cmp k es) ≡ true → 0 < length es
-one_has [] k h = absurd (let z : false ≡ true = h in cc)
-one_has (e ∷ es) k h = omega arith
-
-last_if : {X : Type 0} (b : Bool) (x : X) → is_some (cond b (Some x) None) ≡ true → cond b (Some x) None ≡ Some x
-last_if true x h = refl
-last_if false x h = absurd (let z : false ≡ true = h in cc)
-
-pub last_has : {X : Type 0} (es : List (Key × X)) (k : Key) (e : Key × X) → es ≡ e ∷ [] → is_some (find key_cmp k es) ≡ true → find key_cmp k es ≡ Some e.1
-last_has es k e is h =
-    ap (find key_cmp k) is
-    ∙ last_if (eq_by_cmp key_cmp k e.0) e.1 (sym (ap (λ (l : List (Key × _)). is_some (find key_cmp k l)) is) ∙ h)

@@ -1,5 +1,4 @@
 pub mod Columns
-pub mod Slots
 pub mod Rising
 pub mod Positions
 pub mod Keyed

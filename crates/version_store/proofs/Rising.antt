@@ -1,6 +1,6 @@
 -- The lines of a column, which rise: what is in it after a line was put or taken out, and what is below a line.
-use Rattle.std.proofs.Common.{◌≡◌, ℕ, zero, suc, ◌+◌, ◌-◌, ◌<◌, ◌≤◌, Bool, true, false, cond, Some, None, List, [], ◌∷◌, ◌++◌, Option, Result, Ok, Err, length, length-append, get_or, refl, sym, ap, subst, ◌∙◌, arith, inl, inr}
-use Rattle.std.specs.Prelude.{◌||◌, ◌⊎◌, MatchResult, OnOk, OnErr, option_to_list}
+use Rattle.std.proofs.Common.{◌≡◌, ℕ, zero, suc, ◌+◌, ◌-◌, ◌<◌, ◌≤◌, Bool, true, false, cond, Some, None, List, [], ◌∷◌, Result, Ok, Err, length, get_or, refl, sym, ap, subst, ◌∙◌, arith, inl, inr}
+use Rattle.std.specs.Prelude.{◌||◌, ◌⊎◌, MatchResult}
 use Rattle.std.specs.List.{insert, remove}
 use Rattle.std.specs.List.Sorted.{IsBinarySearchResult}
 use Rattle.std.specs.Ordering.{nat_cmp, eq_by_cmp}
@@ -11,7 +11,7 @@ use Rattle.std.proofs.lemmas.List.Edits.{length-insert, get_or-insert_below, get
 use Rattle.std.proofs.lemmas.List.Quantifiers.{all_pairs_remove}
 use Rattle.std.proofs.lemmas.List.Sorted as sorted
 use Rattle.version_store.specs.Index.{IsLatest, has}
-use Rattle.version_store.specs.Devices.Columns.{AreBelow, GoesTo, Rising, StandsAt, all_of}
+use Rattle.version_store.specs.Devices.Columns.{AreBelow, GoesTo, Rising, StandsAt}
 
 -- ---- numbers that are the same, and tests
 apart : (m n : ℕ) → (m ≡ n → ⊥) → eq_by_cmp nat_cmp m n ≡ false
@@ -140,9 +140,9 @@ rising_put ns n i rise gap = rising_from (insert ns i n) (λ j k l h.
     put_two ns n i j k rise gap l (omega (arith, h, length-insert ns i n gap.within)) (put_at ns n i j gap.within) (put_at ns n i k gap.within))
 
 -- whether there was memory for it or not
-pub rising_then : {U E : Type 0} (r : Result U E) (ns ms : List ℕ) (n i : ℕ) → Rising ns → GoesTo ns n i → OnOk r (ms ≡ insert ns i n) → OnErr r (ms ≡ ns) → Rising ms
-rising_then (Ok u) ns ms n i rise gap put same = subst Rising (sym put) (rising_put ns n i rise gap)
-rising_then (Err e) ns ms n i rise gap put same = subst Rising (sym same) rise
+pub rising_then : (done : Bool) (ns ms : List ℕ) (n i : ℕ) → Rising ns → GoesTo ns n i → ms ≡ cond done (insert ns i n) ns → Rising ms
+rising_then true ns ms n i rise gap is = subst Rising (sym is) (rising_put ns n i rise gap)
+rising_then false ns ms n i rise gap is = subst Rising (sym is) rise
 
 -- ---- a line that is taken out
 take_at : (ns : List ℕ) (n i m : ℕ) → Rising ns → i < length ns → get_or ns i 0 ≡ n → has (remove ns i) m ≡ cond (eq_by_cmp nat_cmp n m) false (has ns m)
@@ -184,139 +184,3 @@ last_is ns below count n rise are some is = (
 
 pub last_below : (ns : List ℕ) (below count n : ℕ) → Rising ns → AreBelow ns below count → 0 < count → n ≡ get_or ns (count - 1) n → IsLatest (has ns) below (Some n)
 last_below ns below count n rise are some is = last_is ns below count n rise are some (is ∙ get_or_default ns (count - 1) n 0 (omega (arith, some, are.within)))
-
--- ---- older lines and the newest after them
-
-pub front_at : (xs ys : List ℕ) (i d : ℕ) → i < length xs → get_or (xs ++ ys) i d ≡ get_or xs i d
-front_at [] ys i d l = absurd (omega (arith, l))
-front_at (x ∷ xs) ys zero d l = refl
-front_at (x ∷ xs) ys (suc i) d l = front_at xs ys i d (omega (arith, l))
-
-last_at : (xs : List ℕ) (n d : ℕ) → get_or (xs ++ n ∷ []) (length xs) d ≡ n
-last_at [] n d = refl
-last_at (x ∷ xs) n d = last_at xs n d
-
-one_more : (xs : List ℕ) (n : ℕ) → length (xs ++ n ∷ []) ≡ length xs + 1
-one_more [] n = omega arith
-one_more (x ∷ xs) n = let more = one_more xs n in omega (arith, more)
-
-rising_front : (xs ys : List ℕ) → Rising (xs ++ ys) → Rising xs
-rising_front xs ys rise i j d l h =
-    omega (arith, rise i j d l (omega (arith, h, length-append xs ys)), front_at xs ys i d (omega (arith, l, h)), front_at xs ys j d h)
-
--- the older ones rise
-pub rising_older : (older : List ℕ) (newest : Option ℕ) → Rising (all_of older newest) → Rising older
-rising_older older newest rise = rising_front older (option_to_list newest) rise
-
-stands_last : (older : List ℕ) (n : ℕ) → StandsAt (older ++ n ∷ []) n (length older)
-stands_last older n = record { within = omega (arith, one_more older n); same = last_at older n 0 }
-
-stands_older : (older : List ℕ) (n line i : ℕ) → StandsAt older line i → StandsAt (older ++ n ∷ []) line i
-stands_older older n line i at = record { within = omega (arith, at.within, one_more older n); same = front_at older (n ∷ []) i 0 at.within ∙ at.same }
-
-goes_older : (older : List ℕ) (n line i : ℕ) → line < n → GoesTo older line i → GoesTo (older ++ n ∷ []) line i
-goes_older older n line i less gap = record {
-  within = omega (arith, gap.within, one_more older n);
-  below = λ j l. omega (arith, gap.below j l, front_at older (n ∷ []) j 0 (omega (arith, l, gap.within)));
-  above = λ j l h. elim (cases_lt j (length older)) [
-    | inl b ↦ omega (arith, gap.above j l b, front_at older (n ∷ []) j 0 b)
-    | inr b ↦ let here : j ≡ length older = omega (arith, b, h, one_more older n) in omega (arith, less, ap (λ k. get_or (older ++ n ∷ []) k 0) here, last_at older n 0)
-  ];
-}
-
-goes_last : (older : List ℕ) (n line : ℕ) → Rising (older ++ n ∷ []) → n < line → GoesTo (older ++ n ∷ []) line (length older + 1)
-goes_last older n line rise less = record {
-  within = omega (arith, one_more older n);
-  below = λ j l. omega (arith, far (older ++ n ∷ []) rise j (length older) (omega (arith, l)) (omega (arith, one_more older n)), last_at older n 0, less);
-  above = λ j l h. absurd (omega (arith, l, h, one_more older n));
-}
-
-insert_older : (xs ys : List ℕ) (i v : ℕ) → i ≤ length xs → insert (xs ++ ys) i v ≡ insert xs i v ++ ys
-insert_older [] ys zero v l = refl
-insert_older [] ys (suc i) v l = absurd (omega (arith, l))
-insert_older (x ∷ xs) ys zero v l = refl
-insert_older (x ∷ xs) ys (suc i) v l = ap (λ (zs : List ℕ). x ∷ zs) (insert_older xs ys i v (omega (arith, l)))
-
-insert_end : (xs : List ℕ) (n v : ℕ) → insert (xs ++ n ∷ []) (length xs + 1) v ≡ (xs ++ n ∷ []) ++ v ∷ []
-insert_end [] n v = refl
-insert_end (x ∷ xs) n v = let next : suc (length xs) + 1 ≡ suc (length xs + 1) = omega arith in rw next (ap (λ (zs : List ℕ). x ∷ zs) (insert_end xs n v))
-
-remove_older : (xs ys : List ℕ) (i : ℕ) → i < length xs → remove (xs ++ ys) i ≡ remove xs i ++ ys
-remove_older [] ys i l = absurd (omega (arith, l))
-remove_older (x ∷ xs) ys zero l = refl
-remove_older (x ∷ xs) ys (suc i) l = ap (λ (zs : List ℕ). x ∷ zs) (remove_older xs ys i (omega (arith, l)))
-
-remove_last : (xs : List ℕ) (n : ℕ) → remove (xs ++ n ∷ []) (length xs) ≡ xs
-remove_last [] n = refl
-remove_last (x ∷ xs) n = ap (λ (zs : List ℕ). x ∷ zs) (remove_last xs n)
-
--- a line after all others is the newest
-pub put_newest : (older : List ℕ) (n line : ℕ) → Rising (older ++ n ∷ []) → n < line
-    → Rising ((older ++ n ∷ []) ++ line ∷ []) × ((m : ℕ) → has ((older ++ n ∷ []) ++ line ∷ []) m ≡ cond (eq_by_cmp nat_cmp line m) true (has (older ++ n ∷ []) m))
-put_newest older n line rise less =
-    let is : (older ++ n ∷ []) ++ line ∷ [] ≡ insert (older ++ n ∷ []) (length older + 1) line = sym (insert_end older n line) in (
-      subst Rising (sym is) (rising_put (older ++ n ∷ []) line (length older + 1) rise (goes_last older n line rise less)),
-      has_put (older ++ n ∷ []) ((older ++ n ∷ []) ++ line ∷ []) (length older + 1) line is,
-    )
-
--- another goes among the older ones
-pub put_older : (older older' : List ℕ) (n line i : ℕ) → Rising (older ++ n ∷ []) → line < n → GoesTo older line i → older' ≡ insert older i line
-    → Rising (older' ++ n ∷ []) × ((m : ℕ) → has (older' ++ n ∷ []) m ≡ cond (eq_by_cmp nat_cmp line m) true (has (older ++ n ∷ []) m))
-put_older older older' n line i rise less gap put =
-    let is : older' ++ n ∷ [] ≡ insert (older ++ n ∷ []) i line = ap (λ (xs : List ℕ). xs ++ n ∷ []) put ∙ sym (insert_older older (n ∷ []) i line gap.within) in (
-      subst Rising (sym is) (rising_put (older ++ n ∷ []) line i rise (goes_older older n line i less gap)),
-      has_put (older ++ n ∷ []) (older' ++ n ∷ []) i line is,
-    )
-
--- whether there was memory for it or not
-pub rises_older : {U E : Type 0} (r : Result U E) (older older' : List ℕ) (n line i : ℕ) → Rising (older ++ n ∷ []) → line < n → GoesTo older line i
-    → OnOk r (older' ≡ insert older i line) → OnErr r (older' ≡ older) → Rising (older' ++ n ∷ [])
-rises_older (Ok u) older older' n line i rise less gap put same = (put_older older older' n line i rise less gap put).0
-rises_older (Err e) older older' n line i rise less gap put same = subst (λ (xs : List ℕ). Rising (xs ++ n ∷ [])) (sym same) rise
-
--- the newest is taken out
-pub out_newest : (older : List ℕ) (line : ℕ) → Rising (older ++ line ∷ []) → (m : ℕ) → has older m ≡ cond (eq_by_cmp nat_cmp line m) false (has (older ++ line ∷ []) m)
-out_newest older line rise m = ap (λ xs. has xs m) (sym (remove_last older line)) ∙ has_out (older ++ line ∷ []) line (length older) rise (stands_last older line) m
-
--- an older one is
-pub out_older : (older older' : List ℕ) (n line i : ℕ) → Rising (older ++ n ∷ []) → StandsAt older line i → older' ≡ remove older i
-    → Rising (older' ++ n ∷ []) × ((m : ℕ) → has (older' ++ n ∷ []) m ≡ cond (eq_by_cmp nat_cmp line m) false (has (older ++ n ∷ []) m))
-out_older older older' n line i rise at out =
-    let is : older' ++ n ∷ [] ≡ remove (older ++ n ∷ []) i = ap (λ (xs : List ℕ). xs ++ n ∷ []) out ∙ sym (remove_older older (n ∷ []) i at.within) in
-    let there = stands_older older n line i at in (
-      subst Rising (sym is) (rising_out (older ++ n ∷ []) line i rise there),
-      λ m. ap (λ xs. has xs m) is ∙ has_out (older ++ n ∷ []) line i rise there m,
-    )
-
--- a line that is neither
-pub out_never : (older : List ℕ) (n line i : ℕ) → (n ≡ line → ⊥) → GoesTo older line i → (m : ℕ) → has (older ++ n ∷ []) m ≡ cond (eq_by_cmp nat_cmp line m) false (has (older ++ n ∷ []) m)
-out_never older n line i other gap m = but_none _ _ (λ e. ap (has (older ++ n ∷ [])) (sym (is_one line m e)) ∙ has_none (older ++ n ∷ []) line (λ k l s. elim (cases_lt k (length older)) [
-  | inl f ↦ elim (cases_lt k i) [
-    | inl b ↦ omega (arith, gap.below k b, front_at older (n ∷ []) k 0 f, s)
-    | inr b ↦ omega (arith, gap.above k (omega (arith, b)) f, front_at older (n ∷ []) k 0 f, s)
-  ]
-  | inr f ↦ let here : k ≡ length older = omega (arith, f, l, one_more older n) in other (sym (last_at older n 0) ∙ ap (λ j. get_or (older ++ n ∷ []) j 0) (sym here) ∙ s)
-]))
-
--- no line at all
-pub out_none : (older : List ℕ) (line : ℕ) → older ≡ [] → (m : ℕ) → has older m ≡ cond (eq_by_cmp nat_cmp line m) false (has older m)
-out_none older line none m = but_none _ _ (λ e. ap (λ xs. has xs m) none)
-
-pub none_at_all : (older : List ℕ) (below : ℕ) → older ≡ [] → IsLatest (has older) below None
-none_at_all older below none = λ m l. ap (λ xs. has xs m) none
-
--- the newest is below, or only older ones are
-pub newest_below : (older : List ℕ) (n below : ℕ) → Rising (older ++ n ∷ []) → n < below → IsLatest (has (older ++ n ∷ [])) below (Some n)
-newest_below older n below rise less =
-    last_is (older ++ n ∷ []) below (length older + 1) n rise (below_gap (older ++ n ∷ []) below (length older + 1) (goes_last older n below rise less)) (omega arith)
-    (let at : (length older + 1) - 1 ≡ length older = omega arith in sym (last_at older n 0) ∙ ap (λ k. get_or (older ++ n ∷ []) k 0) (sym at))
-
-pub older_below : (older : List ℕ) (n below count : ℕ) → below ≤ n → AreBelow older below count → AreBelow (older ++ n ∷ []) below count
-older_below older n below count less are = record {
-  within = omega (arith, are.within, one_more older n);
-  below = λ j l. omega (arith, are.below j l, front_at older (n ∷ []) j 0 (omega (arith, l, are.within)));
-  rest = λ j l h. elim (cases_lt j (length older)) [
-    | inl b ↦ omega (arith, are.rest j l b, front_at older (n ∷ []) j 0 b)
-    | inr b ↦ let here : j ≡ length older = omega (arith, b, h, one_more older n) in omega (arith, less, ap (λ k. get_or (older ++ n ∷ []) k 0) here, last_at older n 0)
-  ];
-}

@@ -1,6 +1,6 @@
 -- The entries of a line as a finite map.
 use Rattle.std.proofs.Common.{◌≡◌, ℕ, Bool, true, false, cond, Option, Some, None, List, [], ◌∷◌, length, map, refl, sym, ap, ap₂, subst, ◌∙◌}
-use Rattle.std.specs.Prelude.{◌&&◌, is_some, not, T, option_map, slice_get}
+use Rattle.std.specs.Prelude.{◌&&◌, not, T, option_map, slice_get}
 use Rattle.std.specs.Ordering.{eq_by_cmp, is_lt}
 use Rattle.std.specs.FinMap.{from_sorted, entries-from_sorted, get-from_sorted, get-entries, get, insert, remove, from_entries, entries, get-insert, get-remove, get-from_entries, same_map}
 use Rattle.std.specs.FinMap.Entries.{below_all, find, find-put, find-where_key, is_sorted, put, where_key}
@@ -28,14 +28,6 @@ find_map f q (e ∷ es) =
 -- what a line's entries are at a key
 pub get_shown : {J : Type 0} (es : List (Key × StoredEntry J)) (q : Key) → get (line_of es) q ≡ option_map shown (find key_cmp q es)
 get_shown es q = get-from_entries key_cmp_total (map shown_pair es) q ∙ find_map shown q es
-
-is_some_map : {A B : Type 0} (f : A → B) (o : Option A) → is_some (option_map f o) ≡ is_some o
-is_some_map f None = refl
-is_some_map f (Some x) = refl
-
--- and where there is one
-pub some_shown : {J : Type 0} (es : List (Key × StoredEntry J)) (q : Key) → is_some (get (line_of es) q) ≡ true → is_some (find key_cmp q es) ≡ true
-some_shown es q h = sym (is_some_map shown (find key_cmp q es)) ∙ sym (ap (λ o. is_some o) (get_shown es q)) ∙ h
 
 -- a line whose entries are suspect
 pub get_suspected : (l : Line) (q : Key) → get (suspected l) q ≡ option_map as_suspect (get l q)

@@ -1,6 +1,4 @@
--- Devices of proofs: how things are stored or counted. No promise is read here.
+-- For proofs alone: how things are stored or counted. No promise needs it.
 pub mod Columns
-pub mod Parts
 pub mod Positions
 pub mod ShortLists
-pub mod Slots

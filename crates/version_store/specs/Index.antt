@@ -1,13 +1,11 @@
 -- Which lines have an entry at a key, as the index has it.
-use Rattle.std.specs.Prelude.{◌≡◌, ℕ, ◌<◌, Bool, true, false, List, Option, Some, None, cond, length, slice_get}
-use Rattle.std.specs.BTreeMap.{get}
+use Rattle.std.specs.Prelude.{◌≡◌, ℕ, ◌*◌, ◌/◌, ◌%◌, ◌^◌, ◌<◌, Bool, true, false, List, Option, Some, None, cond, length, option_and_then, slice_get}
+use Rattle.std.specs.BTreeMap.{BTreeMap, get}
 use Rattle.std.specs.List.{list_any}
 use Rattle.std.specs.Ordering.{nat_cmp, eq_by_cmp}
-use Rattle.circ_records.specs.Keys.{key_cmp}
+use Rattle.sip_reader.specs.Devices.Hashes.{id_hash}
+use Rattle.circ_records.specs.Keys.{id_of, key_cmp}
 use Rattle.circ_records.specs.declared.key.Key.{Key}
-use Rattle.version_store.specs.Devices.Parts.{column_in, part_of}
-use Rattle.version_store.specs.declared.map.ColumnMap.{ColumnMap}
-use Rattle.version_store.specs.declared.part.IndexPart.{IndexPart}
 use Rattle.version_store.specs.declared.index.KeyIndex.{KeyIndex}
 
 -- whether a line is one of a column
@@ -18,21 +16,25 @@ abbrev pub in_column : Option (List ℕ) → ℕ → Bool
 in_column None n = false
 in_column (Some column) n = has column n
 
--- whether a line has an entry at a key, by a map of columns
-abbrev pub in_map : ColumnMap → Key → ℕ → Bool
-in_map map k n = in_column (get key_cmp map.columns k) n
+-- some of the keys, each with its column
+abbrev pub Part : Type 0
+Part = BTreeMap Key (List ℕ)
 
--- whether a line has an entry at a key, by the key's part of the index
-abbrev pub in_part : IndexPart → Key → ℕ → Bool
-in_part part k n = in_column (column_in part k) n
+-- whether a line has an entry at a key, by a part of the index
+abbrev pub in_part : Part → Key → ℕ → Bool
+in_part part k n = in_column (get key_cmp part k) n
 
-abbrev pub in_parts : Option IndexPart → Key → ℕ → Bool
-in_parts None k n = false
-in_parts (Some part) k n = in_part part k n
+-- the position, among this many parts, of the part that a key's hash chooses
+abbrev pub position_in : ℕ → Key → ℕ
+position_in parts k = id_hash (id_of k) * parts % 2 ^ 64 / 2 ^ 32
+
+-- the column of a key in the part at a position
+abbrev pub column_at : List Part → ℕ → Key → Option (List ℕ)
+column_at parts i k = option_and_then (λ part. get key_cmp part k) (slice_get parts i)
 
 -- whether a line has an entry at a key
 abbrev pub at : KeyIndex → Key → ℕ → Bool
-at index k n = in_parts (slice_get index.parts.items (part_of k (length index.parts.items))) k n
+at index k n = in_column (column_at index.parts.items (position_in (length index.parts.items) k) k) n
 
 -- f, but w at the key and the line
 abbrev pub with_at : Key → ℕ → Bool → (Key → ℕ → Bool) → Key → ℕ → Bool

@@ -2,22 +2,24 @@
 
 ghost use Rattle.std.specs.Prelude.{◌≡◌, ℕ, IfOk, OnOk, OnErr, true, false};
 ghost use Rattle.circ_records.specs.declared.key.Key.{Key};
-ghost use Rattle.version_store.specs.Devices.Parts as Parts;
-ghost use Rattle.version_store.specs.Devices.Slots.{hash_of};
-ghost use Rattle.version_store.specs.Index.{IsLatest, at, with_at};
+ghost use Rattle.version_store.specs.Index.{IsLatest, at, in_part, position_in, with_at};
 
-use crate::part::IndexPart;
+use crate::column::Column;
 use circ_records::Key;
 use std::alloc::{AllocError, Global};
+use std::collections::BTreeMap;
 
-/// There is a part for each 8 lines, so that a part has few keys.
-const LINES_A_PART: usize = 8;
+/// There is a part for each 16 lines, so that a part has few keys.
+const LINES_A_PART: usize = 16;
 
-/// For each key the lines that have an entry there. A key's hash chooses its part, so a look-up goes through few keys. Each call
-/// computes the hash once.
+/// For each key the lines that have an entry there. A key's hash chooses its part, so a look-up mostly goes through few keys. A part is
+/// a tree: whoever chooses ids can put all keys into one part, and a look-up stays short even then.
 pub struct KeyIndex {
     parts: Vec<IndexPart>,
 }
+
+/// Some of the keys, with their lines.
+type IndexPart = BTreeMap<Key, Column>;
 
 impl Drop for KeyIndex {
     fn drop(self) {
@@ -33,7 +35,7 @@ impl KeyIndex {
         let count = lines / LINES_A_PART + 1;
         let mut parts = Vec::with_capacity(alloc, count)?;
         for _i in 0..count {
-            parts.push(IndexPart::new(alloc))?;
+            parts.push(BTreeMap::new(alloc))?;
         }
         Ok(KeyIndex { parts })
     }
@@ -43,48 +45,53 @@ impl KeyIndex {
         ensures put { OnOk result ((q : Key) (m : ℕ) → at self.new q m ≡ with_at key.now line true (at self.old) q m) }
         ensures same { OnErr result ((q : Key) (m : ℕ) → at self.new q m ≡ at self.old q m) }
     {
-        let (hash, position) = part_of(key, self.parts.len());
+        let position = position_in(self.parts.len(), key);
         if position >= self.parts.len() {
             return Err(AllocError);
         }
         let part = &mut self.parts[position];
-        match part.set(alloc, key, hash, line) {
-            Ok(()) => Ok(()),
-            Err(refused) => Err(refused),
-        }
+        add(part, alloc, key, line)
     }
 
     /// Notes that the line has no entry at the key.
     pub fn clear(&mut self, key: &Key, line: u64)
         ensures { (q : Key) (m : ℕ) → at self.new q m ≡ with_at key.now line false (at self.old) q m }
     {
-        let (hash, position) = part_of(key, self.parts.len());
+        let position = position_in(self.parts.len(), key);
         if position >= self.parts.len() {
             return;
         }
         let part = &mut self.parts[position];
-        part.clear(key, hash, line);
+        if let Some(column) = part.get_mut(key) {
+            column.remove(line);
+        }
     }
 
     /// The greatest line below this one that has an entry at the key.
     pub fn latest_below(&self, key: &Key, below: u64) -> Option<u64>
         ensures { IsLatest (at self.now key.now) below result }
     {
-        let (hash, position) = part_of(key, self.parts.len());
-        let Some(part) = self.parts.get(position) else {
-            return None;
-        };
-        part.latest_below(key, hash, below)
+        let position = position_in(self.parts.len(), key);
+        let column = self.parts.get(position)?.get(key)?;
+        column.latest_below(below)
     }
 }
 
-/// A key's hash, and which of this many parts it chooses: a hash has 32 bits, so no division is needed.
-#[tactic(auto, unfolding(crate::specs::Devices::Slots::hash_of))]
-fn part_of(key: &Key, parts: usize) -> (u64, usize)
-    ensures hash { result.0 ≡ hash_of key.now }
-    ensures part { result.1 ≡ Parts.part_of key.now parts }
+/// The position, among this many parts, of the part that a key's hash chooses. A hash has 32 bits, so no division is needed.
+fn position_in(parts: usize, key: &Key) -> usize
+    ensures { result ≡ position_in parts key.now }
 {
-    let hash = key.hash();
-    let part = hash.wrapping_mul(parts as u64) / 4_294_967_296;
-    (hash, part as usize)
+    (key.hash().wrapping_mul(parts as u64) / 4_294_967_296) as usize
+}
+
+/// Adds a line at a key of a part.
+fn add(part: &mut IndexPart, alloc: Global, key: &Key, line: u64) -> Result<(), AllocError>
+    ensures put { OnOk result ((q : Key) (m : ℕ) → in_part part.new q m ≡ with_at key.now line true (in_part part.old) q m) }
+    ensures same { OnErr result ((q : Key) (m : ℕ) → in_part part.new q m ≡ in_part part.old q m) }
+{
+    if let Some(column) = part.get_mut(key) {
+        return column.insert(line);
+    }
+    part.insert(key.clone()?, Column::of(alloc, line)?)?;
+    Ok(())
 }

@@ -9,10 +9,7 @@ mod column;
 mod entry;
 mod index;
 mod line;
-mod map;
-mod part;
 mod short_list;
-mod slot;
 mod store;
 mod table;
 

@@ -1,6 +1,6 @@
 //! The entries of one line.
 
-ghost use Rattle.std.specs.Prelude.{◌≡◌, ◌^◌, ◌<◌, OnOk, OnErr, Some, None, MatchOption, MatchResult, is_some, length, slice_get, option_copied, option_map, true};
+ghost use Rattle.std.specs.Prelude.{◌≡◌, ◌^◌, ◌<◌, OnOk, OnErr, Some, None, MatchOption, MatchResult, length, slice_get, option_map};
 ghost use Rattle.std.specs.FinMap as fin;
 ghost use Rattle.circ_records.specs.Keys.{key_cmp};
 ghost use Rattle.version_store.specs.Entries.{AllOf, IsLeastLeft, IsNamedAt, keyed, line_of, no_entries, shown, suspected};
@@ -16,9 +16,6 @@ use std::marker::Model;
 
 /// An entry, and its key, borrowed from the writes of the version at its place: with a key of its own it would take more memory.
 type Placed<'t, J> = (&'t Key, StoredEntry<'t, J>);
-
-/// Up to this many entries are searched one by one: whether two keys are the same costs less than their order.
-const SCANNED_MAX: usize = 4;
 
 /// The entries of one line as a list that rises by key. Most lines that write have two: those are inline.
 pub struct LineEntries<'t, J: PlanName> {
@@ -63,27 +60,10 @@ impl<'t, J: PlanName> LineEntries<'t, J> {
     pub fn get(&self, key: &Key) -> Option<StoredEntry<'t, J>>
         ensures { option_map shown result ≡ fin.get self.now key.now }
     {
-        if self.entries.len() <= SCANNED_MAX {
-            return entry_among(&self.entries, key);
-        }
         match position_of(&self.entries, key) {
             Ok(position) => Some(self.entries[position].1),
             Err(_) => None,
         }
-    }
-
-    /// The entry at a key that has one. Where a line has no other, no key is looked at.
-    pub fn known(&self, key: &Key) -> StoredEntry<'t, J>
-        requires { is_some (fin.get self.now key.now) ≡ true }
-        ensures { Some (shown result) ≡ fin.get self.now key.now }
-    {
-        if self.entries.len() <= SCANNED_MAX {
-            return known_among(&self.entries, key);
-        }
-        let Some(made) = self.get(key) else {
-            unreachable!()
-        };
-        made
     }
 
     /// Puts an entry at a key, and borrows the key.
@@ -97,7 +77,11 @@ impl<'t, J: PlanName> LineEntries<'t, J> {
         ensures same { OnErr result (self.new ≡ self.old) }
         ensures absent { OnErr result (fin.get self.old key.now ≡ None) }
     {
-        put_entry(&mut self.entries, alloc, key, made)
+        match position_of(&self.entries, key) {
+            Ok(position) => self.entries.set(position, (key, made)),
+            Err(position) => self.entries.insert(alloc, position, (key, made))?,
+        }
+        Ok(())
     }
 
     /// Removes the entry at a key.
@@ -121,10 +105,11 @@ impl<'t, J: PlanName> LineEntries<'t, J> {
         ensures value { IsNamedAt (slice_get (fin.entries self.now) i) result }
         ensures few { length (fin.entries self.now) < 2 ^ 64 }
     {
-        let Some(entry) = nth_entry(&self.entries, i) else {
+        if i >= self.entries.len() {
             return None;
-        };
-        Some((entry.0, entry.1.attempt))
+        }
+        let (key, made) = &self.entries[i];
+        Some((*key, made.attempt))
     }
 
     /// How many entries there are.
@@ -140,37 +125,6 @@ impl<'t, J: PlanName> LineEntries<'t, J> {
     {
         left_key(&self.entries, attempt)
     }
-}
-
-/// The entry at a key among a few.
-fn entry_among<'t, J: PlanName>(
-    entries: &ShortList<Placed<'t, J>>,
-    key: &Key,
-) -> Option<StoredEntry<'t, J>>
-    ensures { result ≡ fin.find key_cmp key.now (keyed entries.now) }
-{
-    for i in 0..entries.len() {
-        let (own, made) = &entries[i];
-        if *key == **own {
-            return Some(*made);
-        }
-    }
-    None
-}
-
-/// The entry at a key of which a few have one: what none of the others has, the last has.
-fn known_among<'t, J: PlanName>(entries: &ShortList<Placed<'t, J>>, key: &Key) -> StoredEntry<'t, J>
-    requires { is_some (fin.find key_cmp key.now (keyed entries.now)) ≡ true }
-    ensures { Some result ≡ fin.find key_cmp key.now (keyed entries.now) }
-{
-    let last = entries.len() - 1;
-    for i in 0..last {
-        let (own, made) = &entries[i];
-        if *key == **own {
-            return *made;
-        }
-    }
-    entries[last].1
 }
 
 /// The position of a key, or else the position to which it goes.
@@ -191,31 +145,6 @@ fn position_of<J: PlanName>(entries: &ShortList<Placed<'_, J>>, key: &Key) -> Re
     Err(low)
 }
 
-/// Puts an entry at the key.
-fn put_entry<'t, J: PlanName>(
-    entries: &mut ShortList<Placed<'t, J>>,
-    alloc: Global,
-    key: &'t Key,
-    made: StoredEntry<'t, J>,
-) -> Result<(), AllocError>
-    requires { Rise (keyed entries.old) }
-    ensures put { OnOk result (keyed entries.new ≡ fin.put key_cmp key.now made.entry (keyed entries.old)) }
-    ensures same { OnErr result (entries.new ≡ entries.old) }
-    ensures absent { OnErr result (fin.find key_cmp key.now (keyed entries.old) ≡ None) }
-    ensures rising { Rise (keyed entries.new) }
-{
-    match position_of(entries, key) {
-        Ok(position) => {
-            entries.set(position, (key, made));
-            Ok(())
-        }
-        Err(position) => match entries.insert(alloc, position, (key, made)) {
-            Ok(()) => Ok(()),
-            Err(refused) => Err(refused),
-        },
-    }
-}
-
 /// Makes each entry suspect.
 fn mark_all<J: PlanName>(entries: &mut ShortList<Placed<'_, J>>)
     ensures { entries.new ≡ all_marked entries.old }
@@ -225,20 +154,6 @@ fn mark_all<J: PlanName>(entries: &mut ShortList<Placed<'_, J>>)
         made.suspect = true;
         entries.set(i, (key, made));
     }
-}
-
-/// The i-th entry, by keys.
-fn nth_entry<'m, 't, J: PlanName>(
-    entries: &'m ShortList<Placed<'t, J>>,
-    i: usize,
-) -> Option<&'m Placed<'t, J>>
-    ensures nth { option_copied result ≡ slice_get entries.now i }
-    ensures few { length entries.now < 2 ^ 64 }
-{
-    if i >= entries.len() {
-        return None;
-    }
-    Some(&entries[i])
 }
 
 /// The least key whose entry isn't of this attempt.

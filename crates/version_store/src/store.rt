@@ -128,10 +128,9 @@ impl<'t, J: PlanName> EntryStore<'t, J> {
     pub fn attempt_at(&self, line: u64, key: &Key) -> Option<u32>
         ensures { result ≡ attempt_at (line_at self.now line) key.now }
     {
-        let Some(position) = self.position(line) else {
-            return None;
-        };
-        attempt_in(&self.lines[position], key)
+        let position = self.position(line)?;
+        let made = self.lines[position].get(key)?;
+        Some(made.attempt)
     }
 
     /// The least key at which a line has an entry of another attempt; None where it has none.
@@ -163,9 +162,7 @@ impl<'t, J: PlanName> EntryStore<'t, J> {
             suspect: false,
             place,
         };
-        let Ok(()) = self.index.set(alloc, key, line) else {
-            return Err(AllocError);
-        };
+        self.index.set(alloc, key, line)?;
         let row = &mut self.lines[(line - self.first) as usize];
         match row.put(alloc, key, made) {
             Ok(()) => Ok(()),
@@ -217,21 +214,9 @@ impl<'t, J: PlanName> EntryStore<'t, J> {
     fn latest(&self, key: &Key, below: u64) -> Option<(u64, StoredEntry<'t, J>)>
         ensures { option_map (λ p. (p.0, shown p.1)) result ≡ visible (line_at self.now) below key.now }
     {
-        let Some(line) = self.index.latest_below(key, below) else {
-            return None;
-        };
-        let row = &self.lines[(line - self.first) as usize];
-        Some((line, row.known(key)))
-    }
-}
-
-/// The attempt of the entry at a key.
-fn attempt_in<J: PlanName>(entries: &LineEntries<'_, J>, key: &Key) -> Option<u32>
-    ensures { result ≡ attempt_at entries.now key.now }
-{
-    match entries.get(key) {
-        Some(made) => Some(made.attempt),
-        None => None,
+        let line = self.index.latest_below(key, below)?;
+        let made = self.lines[(line - self.first) as usize].get(key)?;
+        Some((line, made))
     }
 }
 

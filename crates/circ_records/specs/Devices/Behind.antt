@@ -1,4 +1,4 @@
--- A key after all keys of a list of entries: a device of proofs.
+-- For proofs alone: a key after all keys of a list of entries.
 use Rattle.std.specs.Prelude.{◌≡◌}
 use Rattle.std.specs.List.{AllByRecursion}
 use Rattle.std.specs.declared.cmp.Ordering.TheVariants.{Less}

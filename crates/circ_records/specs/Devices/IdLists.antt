@@ -1,4 +1,4 @@
--- A device of proofs: the ids of a list, however many blocks of memory they are in.
+-- For proofs alone: the ids of a list, however many blocks of memory they are in.
 use Rattle.std.specs.Prelude.{ℕ, List, []}
 use Rattle.circ_records.specs.declared.ids.IdBlock.{IdBlock}
 use Rattle.circ_records.specs.declared.ids.IdBlock.TheVariants as held

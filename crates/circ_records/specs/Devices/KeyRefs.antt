@@ -1,4 +1,4 @@
--- A device of proofs: the key that a key with a borrowed id is.
+-- For proofs alone: the key that a key with a borrowed id is.
 use Rattle.circ_records.specs.declared.key.Key.{Key}
 use Rattle.circ_records.specs.declared.key.Key.TheVariants as keys
 use Rattle.circ_records.specs.declared.key.KeyRef.{KeyRef}

@@ -1,4 +1,4 @@
--- Where a key is among rising ones: a device of proofs.
+-- For proofs alone: where a key is among rising ones.
 use Rattle.std.specs.Prelude.{ℕ, ◌+◌, [], ◌∷◌, Result, Ok, Err}
 use Rattle.std.specs.Ordering.{match_ordering}
 use Rattle.circ_records.specs.Keys.{key_cmp}

@@ -1,4 +1,4 @@
--- What a shared value is once a borrow of it has ended: a device of proofs.
+-- For proofs alone: what a shared value is once a borrow of it has ended.
 use Rattle.std.specs.Prelude.{◌≡◌, ◌⊎◌, Result}
 use Rattle.std.specs.Borrow.{LendsSoOk, MutBor, Fml, RattleType}
 use Rattle.circ_records.specs.contracts.shared.Shared.{the_row}

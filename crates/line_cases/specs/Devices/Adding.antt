@@ -1,4 +1,4 @@
--- A device of proofs: a base to which records are added.
+-- For proofs alone: a base to which records are added.
 use Rattle.std.specs.Prelude.{◌≡◌, ◌⊎◌, true, List, is_some, Some, None, unwrap_or}
 use Rattle.circ_records.specs.declared.key.Key.{Key}
 use Rattle.circ_records.specs.declared.record.Record.{Record}

@@ -1,4 +1,4 @@
--- A device of proofs: a set whose positions are those of a tree, and one that the tree lacks.
+-- For proofs alone: a set whose positions are those of a tree, and one that the tree lacks.
 use Rattle.std.specs.Prelude.{◌≡◌, ℕ, ◌<◌, Bool, true, false, List, length, nat_lt, slice_set, slice_index_or, if◌then◌else◌, Option, Some, None}
 
 abbrev pub with_apart : List Bool → Option ℕ → List Bool

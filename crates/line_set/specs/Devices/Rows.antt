@@ -1,4 +1,4 @@
--- A device of proofs: a node and the flags below it, counted through all rows of the tree, the flags' row being the last.
+-- For proofs alone: a node and the flags below it, counted through all rows of the tree, the flags' row being the last.
 use Rattle.std.specs.Prelude.{◌≡◌, ℕ, zero, suc, ◌+◌, ◌*◌, ◌<◌, ◌≤◌, Bool, true, false, List, length, slice_index_or, Option, Some, None}
 use Rattle.line_set.specs.Trees.{node_at, IsPower}
 

@@ -1,4 +1,4 @@
--- A device of proofs: what a patron owes while all of its items are renewed, as a sum that goes on with each fee that is made.
+-- For proofs alone: what a patron owes while all of its items are renewed, as a sum that goes on with each fee that is made.
 use Rattle.std.specs.Prelude.{◌≡◌, ℕ, ◌<◌, ◌≤◌, ◌^◌, ◌+◌, ◌==◌, Bool, true, not, nat_eq, nat_lt, List, ◌++◌, Contains, codes, decimal, Option, Some, None, if◌then◌else◌}
 use Rattle.std.specs.List.{list_all, starts_with}
 use Rattle.circ_records.specs.Records.{Entries}

@@ -1,4 +1,4 @@
--- A device of proofs: how open requests are kept: each connection has the position of its open request, counted from 0 over the whole log.
+-- For proofs alone: how open requests are kept: each connection has the position of its open request, counted from 0 over the whole log.
 use Rattle.std.specs.Prelude.{◌≡◌, ◌+◌, ◌-◌, ◌<◌, ◌≤◌, ◌==◌, ℕ, Bool, false, List, [], ◌∷◌, length, Option, Some, None, get_or, Vec}
 use Rattle.std.specs.BTreeMap.{BTreeMap, get_by}
 use Rattle.std.specs.Cmp.Lexicographic.{slice_cmp}

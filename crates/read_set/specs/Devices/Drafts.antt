@@ -1,4 +1,4 @@
--- A device of proofs: the records that a line has written so far, in a list or in a map.
+-- For proofs alone: the records that a line has written so far, in a list or in a map.
 use Rattle.std.specs.Prelude.{map}
 use Rattle.std.specs.List.Sorted.{IsStrictlySortedBy}
 use Rattle.circ_records.specs.Keys.{key_cmp}

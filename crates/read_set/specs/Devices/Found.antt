@@ -1,4 +1,4 @@
--- A device of proofs: how a note stores what it found.
+-- For proofs alone: how a note stores what it found.
 use Rattle.std.specs.Prelude.{Option, Some, None}
 use Rattle.circ_records.specs.declared.record.Record.{Record}
 use Rattle.circ_records.specs.declared.record.Record.TheVariants as record_of

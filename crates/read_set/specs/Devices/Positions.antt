@@ -1,4 +1,4 @@
--- A device of proofs: each key is noted once, and beside the notes is the position of each key's note that isn't among the first.
+-- For proofs alone: each key is noted once, and beside the notes is the position of each key's note that isn't among the first.
 use Rattle.std.specs.Prelude.{◌≡◌, ℕ, ◌<◌, List, [], length, take, slice_get, Option, Some, None, Box}
 use Rattle.std.specs.Global.{Global}
 use Rattle.std.specs.BTreeMap.{BTreeMap, is_at}

@@ -1,4 +1,4 @@
--- A device of proofs: which keys of a list are those of one line.
+-- For proofs alone: which keys of a list are those of one line.
 use Rattle.std.specs.Prelude.{◌+◌, ◌≤◌, List, drop, length, take}
 use Rattle.circ_records.specs.declared.key.Key.{Key}
 use Rattle.replay_run.specs.declared.written.Span.{Span}

@@ -1,4 +1,4 @@
--- A device of proofs: bytes of a kind, which are looked for in many at once.
+-- For proofs alone: bytes of a kind, which are looked for in many at once.
 use Rattle.std.specs.Prelude.{ℕ, Bool, ◌==◌, not, List, map}
 use Rattle.std.specs.Char.{is_ascii_digit}
 use Rattle.std.specs.Simd.Lanes.{chunk, mask_l}

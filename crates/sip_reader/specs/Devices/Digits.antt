@@ -1,4 +1,4 @@
--- A device of proofs: two bytes that are no less than the digit 0, so that its code can be subtracted from them.
+-- For proofs alone: two bytes that are no less than the digit 0, so that its code can be subtracted from them.
 use Rattle.std.specs.Prelude.{ℕ, List, ◌+◌, ◌≤◌, slice_index}
 use Rattle.sip_reader.specs.Bytes as byte
 

@@ -1,4 +1,4 @@
--- A device of proofs: up to a number of bytes, and zeros after them.
+-- For proofs alone: up to a number of bytes, and zeros after them.
 use Rattle.std.specs.Prelude.{ℕ, List, ◌++◌, ◌-◌, ◌≤◌, ◌≡◌, length, take, drop, replicate}
 use Rattle.std.proofs.Common.{arith}
 use Rattle.std.proofs.lemmas.Grind.{common_steps}

@@ -1,4 +1,4 @@
--- A device of proofs: bytes that are greater than CR, so none of them ends a line.
+-- For proofs alone: bytes that are greater than CR, so none of them ends a line.
 use Rattle.std.specs.Prelude.{ℕ, List, ◌≤◌, ◌<◌, slice_index}
 
 -- each byte from a up to b

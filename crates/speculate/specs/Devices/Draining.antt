@@ -1,4 +1,4 @@
--- A device of proofs: what a worker has in hand is brought to its end, step by step.
+-- For proofs alone: what a worker has in hand is brought to its end, step by step.
 use Rattle.std.specs.Prelude.{◌≡◌, ◌≢◌, ℕ, ◌+◌, ◌-◌, ◌^◌, ◌<◌, ◌⊎◌, length, Option, Some, List}
 use Rattle.circ_records.specs.declared.key.Key.{Key}
 use Rattle.sip_answer.specs.declared.answer.Answer.{Answer}

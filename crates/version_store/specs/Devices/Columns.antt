@@ -1,10 +1,6 @@
--- A device of proofs: how the lines of a column are stored, and the position of a line among them.
-use Rattle.std.specs.Prelude.{◌≡◌, ◌++◌, ℕ, ◌<◌, ◌≤◌, List, Option, length, option_to_list, slice_index_or}
+-- For proofs alone: the position of a line among the lines of a column, which rise.
+use Rattle.std.specs.Prelude.{◌≡◌, ℕ, ◌<◌, ◌≤◌, List, length, slice_index_or}
 use Rattle.std.specs.List.{AllPairs}
-
--- older lines, and the newest after them
-abbrev pub all_of : List ℕ → Option ℕ → List ℕ
-all_of older newest = older ++ option_to_list newest
 
 -- each line is below those after it
 abbrev pub Rising : List ℕ → Type 0

@@ -1,4 +1,4 @@
--- A device of proofs: how the entries of a line are stored, and the position of a key among them.
+-- For proofs alone: how the entries of a line are stored, and the position of a key among them.
 use Rattle.std.specs.Prelude.{◌≡◌, ℕ, ◌<◌, ◌≤◌, true, List, T, length, map, slice_index_or}
 use Rattle.std.specs.FinMap.{is_sorted}
 use Rattle.std.specs.declared.cmp.Ordering.TheVariants.{Less, Greater}

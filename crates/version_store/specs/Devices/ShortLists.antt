@@ -1,4 +1,4 @@
--- A device of proofs: the list that a short list is.
+-- For proofs alone: the list that a short list is.
 use Rattle.std.specs.Prelude.{List, [], ◌∷◌}
 use Rattle.version_store.specs.declared.short_list.ShortItems.{ShortItems}
 use Rattle.version_store.specs.declared.short_list.ShortItems.TheVariants.{Nothing, One, Two, Many}

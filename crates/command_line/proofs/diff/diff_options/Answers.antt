@@ -1,20 +1,18 @@
-use Rattle.std.proofs.Common.{refl, ap, ◌∙◌, ◌≡◌, true, codes, map}
-use Rattle.clap.specs.Words.{found_of, is_simple, matches_of}
-use Rattle.command_line.specs.Diff.{sip_diff_line}
-use Rattle.command_line.proofs.Getters.{all_of_rows, of_rows}
+use Rattle.std.proofs.Common.{refl, subst, ◌≡◌, true}
+use Rattle.clap.specs.Words.{is_simple}
+use Rattle.command_line.specs.Diff.{GivesDiff, sip_diff_line}
+use Rattle.command_line.proofs.Getters.{rows_of_line, still_accepts}
 use Rattle.command_line.proofs.diff.diff_options.Goals as goal
 
-line_is_simple : is_simple sip_diff_line ≡ true
+is_line_simple : is_simple sip_diff_line ≡ true
 unfolding sip_diff_line
-line_is_simple = refl
+is_line_simple = refl
 
 pub returns-clause-given : goal.returns-clause-given
 returns-clause-given g c =
-    let f = found_of c.in-Ok.matches in
-    let line = c.in_ok-command.ensures.line in
-    let rows = (c.in-Ok.ensures.matches (ap is_simple line ∙ line_is_simple)).0 ∙ ap (λ a. matches_of a (map g.S.AsStr.text c.args.words.now)) line in
-    record {
-      left = of_rows f _ rows (codes "left") _ c.in_ok-left.ensures;
-      right = of_rows f _ rows (codes "right") _ c.in_ok-right.ensures;
-      leave = all_of_rows f _ rows (codes "leave") _ c.in_ok-leave.ensures;
-    }
+    let rows = rows_of_line _ sip_diff_line _ _ c.in_ok-command.ensures.line is_line_simple c.in_ok-matches.ensures.matches in
+    subst (λ r. GivesDiff r c.in_ok-options_in.field-0) rows c.in_ok-options_in.ensures
+
+pub returns-in_err-matches-clause-accepts : goal.returns-in_err-matches-clause-accepts
+returns-in_err-matches-clause-accepts g c =
+    still_accepts _ c.in_err-matches.field-0.0 _ sip_diff_line _ c.in_ok-command.ensures.line c.from_residual-in_err-matches.ensures.1 c.in_err-matches.ensures.accepts

@@ -1,38 +1,18 @@
-use Rattle.std.proofs.Common.{refl, ap, subst, ◌∙◌, ◌≡◌, Bool, Option, Some, None, true, false, codes, map}
-use Rattle.std.specs.Str.Parse.{ParsesUnsigned, ExplainsUnsignedError, HasUnsignedDigitsIfOk}
-use Rattle.clap.specs.Words.{Text, found_of, is_simple, matches_of, one_of, one_text}
-use Rattle.clap.proofs.WalkLemmas.{one_text-rows}
-use Rattle.command_line.specs.CommandLine.{Counts, Says, sip_replay_line}
-use Rattle.command_line.proofs.Getters.{counts, of_rows}
+use Rattle.std.proofs.Common.{refl, subst, ◌≡◌, true}
+use Rattle.clap.specs.Words.{is_simple}
+use Rattle.command_line.specs.CommandLine.{GivesOptions, sip_replay_line}
+use Rattle.command_line.proofs.Getters.{rows_of_line, still_accepts}
 use Rattle.command_line.proofs.words.options.Goals as goal
 
-line_is_simple : is_simple sip_replay_line ≡ true
+is_line_simple : is_simple sip_replay_line ≡ true
 unfolding sip_replay_line
-line_is_simple = refl
-
--- what is read of a flag
-says : (o : Option Text) (b : Bool) → (o ≡ None → b ≡ false) → (o ≡ Some (codes "true") → b ≡ true)
-    → (o ≡ Some (codes "false") → b ≡ false) → Says o b
-says None b none is isnt = none refl
-says (Some t) b none is isnt = (λ e. is (ap Some e), λ e. isnt (ap Some e))
+is_line_simple = refl
 
 pub returns-clause-given : goal.returns-clause-given
 returns-clause-given g c =
-    let f = found_of c.in-Ok.matches in
-    let line = c.in_ok-command.ensures.line in
-    let rows = (c.in-Ok.ensures.matches (ap is_simple line ∙ line_is_simple)).0 ∙ ap (λ a. matches_of a (map g.S.AsStr.text c.args.words.now)) line in
-    let read = counts 4 _ (λ bs r. ParsesUnsigned 32 10 bs r × ExplainsUnsignedError 10 bs r × HasUnsignedDigitsIfOk bs r) (λ u x h. h.0)
-    (one_text f (codes "workers")) c.get_one.result c.get_one.ensures.none c.get_one.ensures.value in
-    record {
-      policy = of_rows f _ rows (codes "policy") _ c.in_ok-policy.ensures;
-      base = of_rows f _ rows (codes "base") _ c.in_ok-base.ensures;
-      journal = of_rows f _ rows (codes "journal") _ c.in_ok-journal.ensures;
-      out = of_rows f _ rows (codes "out") _ c.in_ok-out.ensures;
-      workers = subst (λ o. Counts 4 o c.unwrap_or-workers.result) (one_text-rows f (codes "workers") ∙ ap (one_of (codes "workers")) rows)
-          (rw c.unwrap_or-workers.ensures read);
-      explain = subst (λ o. Says o c.get_flag-explain.result) (one_text-rows f (codes "explain") ∙ ap (one_of (codes "explain")) rows)
-          (says (one_text f (codes "explain")) c.get_flag-explain.result c.get_flag-explain.ensures.none c.get_flag-explain.ensures.value
-          c.get_flag-explain.ensures.other);
-      check = subst (λ o. Says o c.get_flag-check.result) (one_text-rows f (codes "check") ∙ ap (one_of (codes "check")) rows)
-          (says (one_text f (codes "check")) c.get_flag-check.result c.get_flag-check.ensures.none c.get_flag-check.ensures.value c.get_flag-check.ensures.other);
-    }
+    let rows = rows_of_line _ sip_replay_line _ _ c.in_ok-command.ensures.line is_line_simple c.in_ok-matches.ensures.matches in
+    subst (λ r. GivesOptions r c.in_ok-options_in.field-0) rows c.in_ok-options_in.ensures
+
+pub returns-in_err-matches-clause-accepts : goal.returns-in_err-matches-clause-accepts
+returns-in_err-matches-clause-accepts g c =
+    still_accepts _ c.in_err-matches.field-0.0 _ sip_replay_line _ c.in_ok-command.ensures.line c.from_residual-in_err-matches.ensures.1 c.in_err-matches.ensures.accepts

@@ -4,7 +4,7 @@ use Rattle.std.specs.Ordering.{eq_by_cmp}
 use Rattle.csv.specs.Records.{fields_of}
 use Rattle.circ_records.specs.Keys.{key_cmp}
 use Rattle.circ_records.specs.Records.{record_at}
-use Rattle.record_tables.specs.Tables.{Row, field}
+use Rattle.record_tables.specs.Tables.{field}
 use Rattle.circ_records.specs.declared.key.Key.TheVariants as key
 use Rattle.std.proofs.lemmas.Result.{IfOk-weaker}
 use Rattle.record_tables.proofs.Lookups.{is_some-map}

@@ -1,27 +1,26 @@
-use Rattle.std.proofs.Common.{ap}
+use Rattle.std.proofs.Common.{◌∙◌, ap, refl}
 use Rattle.circ_records.specs.declared.holds.Hold.{Hold}
-use Rattle.record_tables.proofs.Judged.{hold-at-item, hold-twice, hold-unknown}
-use Rattle.record_tables.proofs.Telling.{tells-hold-of}
+use Rattle.record_tables.proofs.Judged.{hold-by}
+use Rattle.record_tables.proofs.Telling.{tells-hold}
 use Rattle.record_tables.proofs.Waiting.{waiting-more}
 use Rattle.record_tables.proofs.queues.queue_hold.Goals as goal
 
 pub returns-then-not-branch-clause-rule : goal.returns-then-not-branch-clause-rule
 returns-then-not-branch-clause-rule c = λ r row says tells are.
-    hold-twice r row c.args.records.now c.args.waiting.now c.args.item c.args.hold c.in_ok-insert.field-0 says.0 says.1 says.2 tells are (rw (c.in_ok-clone.ensures.cases, c.in_ok-clone-2.ensures.cases) at c.in_ok-insert.ensures.added) c.if-not-branch.true
+    rw c.if-not-branch.true at (hold-by r row c.args.records.now c.args.waiting.now c.args.item c.args.hold c.in_ok-insert.field-0 _ says.0 says.1 says.2 tells are (rw (c.in_ok-clone.ensures.cases, c.in_ok-clone-2.ensures.cases) at c.in_ok-insert.ensures.added) refl)
 
 pub returns-then-not-has_patron-clause-rule : goal.returns-then-not-has_patron-clause-rule
 returns-then-not-has_patron-clause-rule c = λ r row says tells are.
-    hold-unknown r row c.args.records.now c.args.waiting.now c.args.item c.args.hold c.in_ok-insert.field-0 c.has_patron.result says.0 says.1 says.2 tells are
-    (rw (c.in_ok-clone.ensures.cases, c.in_ok-clone-2.ensures.cases) at c.in_ok-insert.ensures.added) c.if-not-branch.false c.has_patron.ensures c.if-not-has_patron.true
+    rw (c.if-not-branch.false, c.if-not-has_patron.true) at (hold-by r row c.args.records.now c.args.waiting.now c.args.item c.args.hold c.in_ok-insert.field-0 c.has_patron.result says.0 says.1 says.2 tells are (rw (c.in_ok-clone.ensures.cases, c.in_ok-clone-2.ensures.cases) at c.in_ok-insert.ensures.added) c.has_patron.ensures)
 
 pub returns-clause-rule : goal.returns-clause-rule
 returns-clause-rule c = λ r row says tells are.
-    hold-at-item r row c.args.records.now c.args.waiting.now c.args.item c.args.hold c.in_ok-insert.field-0 c.has_patron.result c.in_ok-broken.broken says.0 says.1 says.2 tells are
-    (rw (c.in_ok-clone.ensures.cases, c.in_ok-clone-2.ensures.cases) at c.in_ok-insert.ensures.added) c.if-not-branch.false c.has_patron.ensures c.if-not-has_patron.false c.in_ok-broken.ensures.rule
+    c.in_ok-broken.ensures.rule
+    ∙ rw (c.if-not-branch.false, c.if-not-has_patron.false) at (hold-by r row c.args.records.now c.args.waiting.now c.args.item c.args.hold c.in_ok-insert.field-0 c.has_patron.result says.0 says.1 says.2 tells are (rw (c.in_ok-clone.ensures.cases, c.in_ok-clone-2.ensures.cases) at c.in_ok-insert.ensures.added) c.has_patron.ensures)
 
 pub returns-clause-told : goal.returns-clause-told
 returns-clause-told c = λ last r before row says tells.
-    tells-hold-of r before row c.args.records.now c.change.new.self c.args.item c.args.hold says.1 says.2 tells (c.in_ok-broken.ensures.ok last)
+    tells-hold r before row c.args.records.now c.change.new.self tells (rw (says.1, says.2) at (c.in_ok-broken.ensures.ok last))
 
 pub returns-clause-waiting : goal.returns-clause-waiting
 returns-clause-waiting c = λ last holds row says are.

@@ -1,8 +1,4 @@
-use Rattle.std.proofs.Common.{◌∙◌, ap}
-use Rattle.csv_table.specs.Rows.{rows_under}
-use Rattle.record_tables.specs.Base.{holds_rows_of}
 use Rattle.record_tables.specs.Read.{rows_in}
-use Rattle.record_tables.specs.Tables.{closed_header, fees_header, items_header, loans_header, patrons_header}
 use Rattle.table_rules.specs.AllBroken.{all_broken_rows}
 use Rattle.table_rules.proofs.Checked.{same-sizes, six, some-rows}
 use Rattle.table_rules.proofs.check.judge_tables.Goals as goal
@@ -11,12 +7,12 @@ pub returns-clause-broken : goal.returns-clause-broken
 unfolding all_broken_rows
 returns-clause-broken c =
     let rows = rows_in c.args.tables.now in
-    let p = ap (rows_under patrons_header) c.deref.ensures.value ∙ some-rows _ c.requires.patrons in
-    let i = ap (rows_under items_header) c.deref-2.ensures.value ∙ some-rows _ c.requires.items in
-    let l = ap (rows_under loans_header) c.deref-3.ensures.value ∙ some-rows _ c.requires.loans in
-    let f = ap (rows_under fees_header) c.deref-4.ensures.value ∙ some-rows _ c.requires.fees in
-    let d = ap (rows_under closed_header) c.deref-5.ensures.value ∙ some-rows _ c.requires.closed in
-    let h = ap holds_rows_of c.deref-6.ensures.value ∙ some-rows _ c.requires.holds in
+    let p = some-rows _ c.requires.patrons in
+    let i = some-rows _ c.requires.items in
+    let l = some-rows _ c.requires.loans in
+    let f = some-rows _ c.requires.fees in
+    let d = some-rows _ c.requires.closed in
+    let h = some-rows _ c.requires.holds in
     let hp = (c.in_ok-patrons.ensures.ids rows.patrons p).0 in
     let hi = (c.in_ok-items.ensures.ids rows.items i).0 in
     let hl = (c.in_ok-loans.ensures.lent rows.patrons rows.items rows.loans hp hi l).0 in
@@ -28,12 +24,12 @@ returns-clause-broken c =
 pub returns-clause-sizes : goal.returns-clause-sizes
 returns-clause-sizes c =
     let rows = rows_in c.args.tables.now in
-    let p = ap (rows_under patrons_header) c.deref.ensures.value ∙ some-rows _ c.requires.patrons in
-    let i = ap (rows_under items_header) c.deref-2.ensures.value ∙ some-rows _ c.requires.items in
-    let l = ap (rows_under loans_header) c.deref-3.ensures.value ∙ some-rows _ c.requires.loans in
-    let f = ap (rows_under fees_header) c.deref-4.ensures.value ∙ some-rows _ c.requires.fees in
-    let d = ap (rows_under closed_header) c.deref-5.ensures.value ∙ some-rows _ c.requires.closed in
-    let h = ap holds_rows_of c.deref-6.ensures.value ∙ some-rows _ c.requires.holds in
+    let p = some-rows _ c.requires.patrons in
+    let i = some-rows _ c.requires.items in
+    let l = some-rows _ c.requires.loans in
+    let f = some-rows _ c.requires.fees in
+    let d = some-rows _ c.requires.closed in
+    let h = some-rows _ c.requires.holds in
     let (hp, np) = c.in_ok-patrons.ensures.ids rows.patrons p in
     let (hi, ni) = c.in_ok-items.ensures.ids rows.items i in
     let (hl, nl) = c.in_ok-loans.ensures.lent rows.patrons rows.items rows.loans hp hi l in

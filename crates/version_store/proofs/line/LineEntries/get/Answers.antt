@@ -9,10 +9,6 @@ use Rattle.version_store.proofs.Positions.{at_find, gap_find}
 use Rattle.version_store.proofs.Views.{get_shown}
 use Rattle.version_store.proofs.line.LineEntries.get.Goals as goal
 
-pub returns-then-len-le-SCANNED_MAX : goal.returns-then-len-le-SCANNED_MAX
-returns-then-len-le-SCANNED_MAX g c =
-    rw (← c.self.view_is) (ap (option_map shown) c.entry_among.ensures ∙ sym (get_shown (keyed c.self.inside.entries) c.args.key.now))
-
 pub index-requires : goal.index-requires
 index-requires g c = omega (arith, c.in-Ok.ensures.within, keyed_length c.self.inside.entries)
 

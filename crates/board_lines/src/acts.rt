@@ -1,0 +1,123 @@
+//! The next act of a publication.
+
+ghost use Rattle.std.specs.Prelude.{◌≡◌, map};
+ghost use Rattle.std.specs.Bool.{Decides};
+ghost use Rattle.std.specs.List.Sorted.{IsStrictlySortedBy};
+ghost use Rattle.circ_records.specs.Keys.{key_cmp};
+ghost use Rattle.board_steps.specs.Board.{Row};
+ghost use Rattle.read_set.specs.Settling.{Contents};
+ghost use Rattle.version_store.specs.Entries.{line_at};
+ghost use Rattle.board_steps.specs.Steps.{IsVersion};
+ghost use Rattle.board_lines.specs.Acts.{IsAct, IsFirstApart, IsPlacedAt, places, publishes};
+ghost use Rattle.board_lines.specs.Courses.{ComesTo, FirstPlaced};
+ghost use Rattle.board_lines.specs.Notes.{contents_at};
+
+use crate::hand::Hand;
+use attempts::LineState;
+use circ_records::{Key, Record};
+use read_set::{PlanName, Version};
+use version_store::{EntryStore, Place};
+
+/// What a publication does next.
+#[derive(Clone, Copy)]
+pub(crate) enum PublishAct<'t> {
+    /// It places the write at this key, borrowed from the version. After it this many of the first writes are placed.
+    Write(&'t Key, usize),
+    /// It removes the entry at this key, which an earlier attempt left.
+    Lift(&'t Key),
+    /// Nothing: all is published.
+    Finish,
+}
+
+/// Whether a line in this state is to be published.
+pub(crate) fn is_publishing(state: LineState) -> bool
+    ensures { result ≡ publishes state }
+{
+    match state {
+        LineState::Running { .. } | LineState::Placing { .. } => true,
+        LineState::Waiting
+        | LineState::Done { .. }
+        | LineState::Checking { .. }
+        | LineState::Committed => false,
+    }
+}
+
+/// Whether a part of what a line in this state writes is placed.
+pub(crate) fn is_placing(state: LineState) -> bool
+    ensures { result ≡ places state }
+{
+    matches!(state, LineState::Placing { .. })
+}
+
+/// Whether a version is of the line and the attempt in hand.
+pub(crate) fn is_of<J: PlanName>(version: &Version<J>, hand: Hand) -> bool
+    ensures { Decides result ((version.now.line ≡ hand.line) × (version.now.attempt ≡ hand.attempt)) }
+{
+    if version.line() != hand.line {
+        return false;
+    }
+    version.attempt() == hand.attempt
+}
+
+/// Proves `IsVersion`; does nothing.
+pub(crate) fn settled<J: PlanName>(place: Place<'_, J>)
+    ensures { IsVersion J.plan (contents_at place.entry) }
+{
+    let _reads = place.show().reads();
+}
+
+/// The next act of the publication of a version of a line. The first `placed` writes are placed: it looks at none of these again.
+pub(crate) fn act_of<'t, J: PlanName>(
+    entries: &EntryStore<'t, J>,
+    line: u64,
+    version: &'t Version<J>,
+    placed: usize,
+) -> PublishAct<'t>
+    requires { FirstPlaced (line_at entries.now line) version.now.attempt version.now.writes placed }
+    ensures act { (r : Row) → r.entries ≡ line_at entries.now line → IsAct r version.now result }
+    ensures comes { ComesTo (line_at entries.now line) version.now result }
+{
+    let writes = version.writes();
+    let attempt = version.attempt();
+    if let Some(i) = next_write(entries, line, attempt, writes, placed) {
+        return PublishAct::Write(&writes[i].0, i + 1);
+    }
+    match entries.left(line, attempt) {
+        Some(key) => PublishAct::Lift(key),
+        None => PublishAct::Finish,
+    }
+}
+
+/// The index of the first write whose entry isn't of the attempt. Those of the first `placed` writes are of it.
+fn next_write<J: PlanName>(
+    entries: &EntryStore<'_, J>,
+    line: u64,
+    attempt: u32,
+    writes: &[(Key, Record)],
+    placed: usize,
+) -> Option<usize>
+    requires rising { IsStrictlySortedBy key_cmp (map (λ e. e.0) writes.now) }
+    requires placed { FirstPlaced (line_at entries.now line) attempt writes.now placed }
+    ensures { IsFirstApart (line_at entries.now line) attempt writes.now result }
+{
+    // mostly each entry is that of a write that is placed: then no other write has one, and no key is looked for
+    if placed < writes.len() && entries.count_of(line) <= placed {
+        return Some(placed);
+    }
+    for i in placed..writes.len() {
+        if !is_placed(entries, line, attempt, &writes[i].0) {
+            return Some(i);
+        }
+    }
+    None
+}
+
+/// Whether a line's entry at a key is of an attempt.
+fn is_placed<J: PlanName>(entries: &EntryStore<'_, J>, line: u64, attempt: u32, key: &Key) -> bool
+    ensures { Decides result (IsPlacedAt (line_at entries.now line) attempt key.now) }
+{
+    match entries.attempt_at(line, key) {
+        Some(own) => own == attempt,
+        None => false,
+    }
+}

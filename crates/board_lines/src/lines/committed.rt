@@ -1,0 +1,73 @@
+//! The results of the lines: the answers, attempts and entries of those that are committed, and the record that is visible
+//! after the last line.
+
+ghost use Rattle.std.specs.Prelude.{◌≡◌, ◌+◌, ◌^◌, ◌<◌, suc, length, option_copied, option_map, slice_get};
+ghost use Rattle.std.specs.FinMap as fin;
+ghost use Rattle.board_lines.specs.Committed.{committed_answer};
+ghost use Rattle.board_lines.specs.Notes.{contents_at};
+ghost use Rattle.board_lines.specs.Parts.{answer_by};
+ghost use Rattle.board_steps.specs.Board.{IsCommitted, row_at, value_at};
+ghost use Rattle.version_store.specs.Entries.{IsNamedAt};
+
+use super::Lines;
+use crate::reading::written;
+use attempts::LineState;
+use circ_records::{Key, Record};
+use read_set::PlanName;
+use sip_answer::Answer;
+use version_store::Place;
+
+impl<'p, 't, J: PlanName> Lines<'p, 't, J> {
+    /// The answer of a committed line, where it has one; None for any other line.
+    pub fn answer(&self, line: u64) -> Option<&'t Answer>
+        ensures { option_copied result ≡ committed_answer (row_at self.now line).state }
+    {
+        let Some(state) = self.attempts.state(line) else {
+            return None;
+        };
+        let LineState::Committed = state else {
+            return None;
+        };
+        answer_at(self.rows[(line - self.plan.first()) as usize].version)
+    }
+
+    /// Which attempt at a line was committed, counted from 0.
+    pub fn attempt(&self, line: u64) -> u32
+        requires { IsCommitted (row_at self.now line).state }
+        ensures { suc result ≡ (row_at self.now line).next }
+    {
+        let Some(attempt) = self.attempts.newest(line) else {
+            unreachable!()
+        };
+        attempt
+    }
+
+    /// The i-th key, from 0 and rising, at which a line has an entry, and the attempt of that entry; None after the last.
+    pub fn keys_of(&self, line: u64, i: usize) -> Option<(&Key, u32)>
+        ensures value { IsNamedAt (slice_get (fin.entries (row_at self.now line).entries) i) result }
+        ensures few { length (fin.entries (row_at self.now line).entries) < 2 ^ 64 }
+    {
+        self.entries.keys_of(line, i)
+    }
+
+    /// The record that is visible at a key after the last line.
+    pub fn value_of(&self, key: &Key) -> Option<&Record>
+        ensures { option_copied result ≡ value_at J.plan (row_at self.now) (self.now.first + length self.now.rows) key.now }
+    {
+        let past = self.plan.numbers().end;
+        let Some(place) = self.entries.shown_at(key, past) else {
+            return self.plan.base(key);
+        };
+        written(place.show().writes(), key)
+    }
+}
+
+/// The answer of the version at a place.
+fn answer_at<'t, J: PlanName>(place: Option<Place<'t, J>>) -> Option<&'t Answer>
+    ensures { option_copied result ≡ answer_by (option_map contents_at place.entry) }
+{
+    match place {
+        Some(place) => place.show().answer().as_ref(),
+        None => None,
+    }
+}

@@ -1,0 +1,252 @@
+//! What a line writes is published, act by act.
+
+ghost use Rattle.std.specs.Prelude.{◌≡◌, Some, None, option_map, ℕ, suc, OnOk, OnErr, List, Option};
+ghost use Rattle.std.specs.Bool.{Decides};
+ghost use Rattle.board_steps.specs.Board.{holder, row_at, IsLine};
+ghost use Rattle.board_steps.specs.Steps.{AllPlaced, Fits, HasRoom, IsNextLeft, IsNextWrite, IsVersion, MayPublish, NoneLeft, lifted, placed, put_row, with_state};
+ghost use Rattle.board_steps.specs.Steps.Call.{Publish};
+ghost use Rattle.board_lines.specs.Notes.{notes_by, contents_at};
+ghost use Rattle.board_lines.specs.Replies.{Answers};
+ghost use Rattle.circ_records.specs.declared.record.Record.{Record};
+ghost use Rattle.read_set.specs.Settling.{Contents};
+ghost use Rattle.read_set.specs.declared.notes.Note.{Note};
+ghost use Rattle.board_steps.specs.Board.State.{Done, Placing};
+ghost use Rattle.board_lines.specs.Acts.{IsAct, IsPlacing, IsToPublish, notes_at};
+ghost use Rattle.board_lines.specs.Courses.{ComesTo, FirstPlaced, FirstPlacedBut, PublishesMore, UnderWay};
+
+use super::Lines;
+use crate::acts::{PublishAct, act_of, is_of, is_placing, is_publishing, settled};
+use crate::hand::Hand;
+use crate::notes::PlaceNotes;
+use crate::reply::Reply;
+use crate::row::LineProgress;
+use crate::same::same_notes;
+use attempts::LineState;
+use circ_records::Key;
+use read_set::PlanName;
+use std::alloc::AllocError;
+use version_store::Place;
+
+impl<'p, 't, J: PlanName> Lines<'p, 't, J> {
+    /// Does the next act of publishing the version at a place, if its line, attempt and notes are the board's. It compares all
+    /// notes, and looks at the writes from the first on; `publish_more` goes on where the last act ended.
+    pub fn publish(&mut self, worker: u32, place: Place<'t, J>) -> Reply<'t, J>
+        ensures { Answers J.plan self.old (Publish worker (contents_at place.entry)) result self.new }
+    {
+        let Some(hand) = self.to_publish(worker) else {
+            return Reply::Idle;
+        };
+        if !self.fits(hand, place) {
+            return Reply::Stranger;
+        }
+        self.next_act(worker, hand.line, place, 0)
+    }
+
+    /// Goes on publishing the worker's line in hand: does the next act for the same version. It compares no note again, and
+    /// looks at no write that is placed. None, and no change, where that line isn't being published.
+    pub fn publish_more(&mut self, worker: u32) -> Option<Reply<'t, J>>
+        ensures { PublishesMore J.plan self.old worker result self.new }
+    {
+        let Some(place) = self.placing(worker) else {
+            return None;
+        };
+        let Some(line) = self.in_hand(worker) else {
+            return None;
+        };
+        let course = self.course(worker, line);
+        settled(place);
+        Some(self.next_act(worker, line, place, course.placed))
+    }
+
+    /// How far the publication of the worker's line in hand has come, if it is being published.
+    fn course(&self, worker: u32, line: u64) -> LineProgress
+        requires { holder (row_at self.now line).state ≡ Some worker }
+        ensures { (n : ℕ) (notes : List Note) (v : Contents) → (row_at self.now n).state ≡ Placing worker notes (Some v) → (n ≡ line) × UnderWay line (row_at self.now line) notes v result }
+    {
+        self.rows[(line - self.plan.first()) as usize].course
+    }
+
+    /// Does the next act of the publication of the version at a place, which fits. Its first `count` writes are placed.
+    fn next_act(
+        &mut self,
+        worker: u32,
+        line: u64,
+        place: Place<'t, J>,
+        count: usize,
+    ) -> Reply<'t, J>
+        requires may { MayPublish self.old worker line (notes_at self.old line) }
+        requires fits { Fits self.old line (notes_at self.old line) (contents_at place) }
+        requires version { IsVersion J.plan (contents_at place) }
+        requires placed { FirstPlaced (row_at self.old line).entries (contents_at place).attempt (contents_at place).writes count }
+        ensures { Answers J.plan self.old (Publish worker (contents_at place.entry)) result self.new }
+    {
+        let act = self.act(line, place, count);
+        if let PublishAct::Finish = act {
+            self.finish(worker, line, place);
+            return Reply::Whole;
+        }
+        if !self.has_room() {
+            return Reply::ClockSpent;
+        }
+        if let PublishAct::Lift(key) = act {
+            self.lift(worker, line, key, place);
+            return Reply::Lifted;
+        }
+        let PublishAct::Write(key, count) = act else {
+            unreachable!()
+        };
+        match self.place(worker, line, key, place, count) {
+            Ok(()) => Reply::Placed,
+            Err(_) => Reply::Memory,
+        }
+    }
+
+    /// The version that the worker's line in hand is publishing, where it is in state `Placing`.
+    pub fn placing(&self, worker: u32) -> Option<Place<'t, J>>
+        ensures { IsPlacing self.now worker (option_map contents_at result) }
+    {
+        let Some(hand) = self.hand(worker) else {
+            return None;
+        };
+        let Some(state) = self.attempts.state(hand.line) else {
+            return None;
+        };
+        if !is_placing(state) {
+            return None;
+        }
+        self.version(hand.line)
+    }
+
+    /// The version of the last publication of a line.
+    fn version(&self, line: u64) -> Option<Place<'t, J>>
+        requires { IsLine self.now line }
+        ensures { (w : ℕ) (notes : List Note) (last : Option Contents) → (row_at self.now line).state ≡ Placing w notes last → option_map contents_at result ≡ last }
+    {
+        self.rows[(line - self.plan.first()) as usize].version
+    }
+
+    /// The worker's line in hand with its attempt, where it is to be published: it runs, or its publication goes on.
+    pub fn to_publish(&self, worker: u32) -> Option<Hand>
+        ensures { IsToPublish self.now worker result }
+    {
+        let Some(hand) = self.hand(worker) else {
+            return None;
+        };
+        let Some(state) = self.attempts.state(hand.line) else {
+            return None;
+        };
+        if !is_publishing(state) {
+            return None;
+        }
+        Some(hand)
+    }
+
+    /// Whether the version at a place is of this line, attempt and notes. The contract adds `IsVersion`.
+    fn fits(&self, hand: Hand, place: Place<'t, J>) -> bool
+        requires there { IsLine self.now hand.line }
+        requires attempt { suc hand.attempt ≡ (row_at self.now hand.line).next }
+        ensures fits { (w : ℕ) (notes : List Note) → MayPublish self.now w hand.line notes → Decides result (Fits self.now hand.line notes (contents_at place.entry)) }
+        ensures version { IsVersion J.plan (contents_at place.entry) }
+    {
+        let version = place.show();
+        let reads = version.reads();
+        if !is_of(version, hand) {
+            return false;
+        }
+        same_notes(self.plan, self.noted(hand.line), reads.as_slice())
+    }
+
+    /// What a line that is to be published has noted.
+    fn noted(&self, line: u64) -> &PlaceNotes<'t, J>
+        requires { IsLine self.now line }
+        ensures { (w : ℕ) (notes : List Note) → MayPublish self.now w line notes → notes ≡ notes_by J.plan.base result.now }
+    {
+        &self.rows[(line - self.plan.first()) as usize].notes
+    }
+
+    /// The next act of the publication of the version at a place. Its first `count` writes are placed.
+    fn act(&self, line: u64, place: Place<'t, J>, count: usize) -> PublishAct<'t>
+        requires there { IsLine self.now line }
+        requires placed { FirstPlaced (row_at self.now line).entries (contents_at place).attempt (contents_at place).writes count }
+        ensures act { IsAct (row_at self.now line) (contents_at place.entry) result }
+        ensures comes { ComesTo (row_at self.now line).entries (contents_at place.entry) result }
+    {
+        act_of(&self.entries, line, place.show(), count)
+    }
+
+    /// Whether the clock can be raised.
+    fn has_room(&self) -> bool
+        ensures { Decides result (HasRoom self.now) }
+    {
+        self.clock < u64::MAX
+    }
+
+    /// Places the next write, after which the first `count` are placed. Out of memory, nothing changes.
+    fn place(
+        &mut self,
+        worker: u32,
+        line: u64,
+        key: &'t Key,
+        place: Place<'t, J>,
+        count: usize,
+    ) -> Result<(), AllocError>
+        requires may { MayPublish self.old worker line (notes_at self.old line) }
+        requires fits { Fits self.old line (notes_at self.old line) (contents_at place) }
+        requires version { IsVersion J.plan (contents_at place) }
+        requires next { (value : Record) × IsNextWrite (row_at self.old line) (contents_at place) key.now value }
+        requires first { FirstPlacedBut (row_at self.old line).entries (contents_at place).attempt (contents_at place).writes key.now count }
+        requires room { HasRoom self.old }
+        ensures placed { OnOk result (self.new ≡ placed self.old worker line (notes_at self.old line) (contents_at place.entry) key.now) }
+        ensures same { OnErr result (self.new ≡ self.old) }
+    {
+        let alloc = *self.rows.allocator();
+        let attempt = place.show().attempt();
+        let Ok(()) = self.entries.place(alloc, line, attempt, key, place) else {
+            return Err(AllocError);
+        };
+        self.attempts.go_on(line, LineState::Placing { worker });
+        let clock = self.clock + 1;
+        let row = &mut self.rows[(line - self.plan.first()) as usize];
+        row.version = Some(place);
+        row.course = LineProgress { placed: count };
+        row.changed = clock;
+        self.clock = clock;
+        Ok(())
+    }
+
+    /// Removes the entry at the next key that an earlier attempt left.
+    fn lift(&mut self, worker: u32, line: u64, key: &Key, place: Place<'t, J>)
+        requires may { MayPublish self.old worker line (notes_at self.old line) }
+        requires fits { Fits self.old line (notes_at self.old line) (contents_at place) }
+        requires version { IsVersion J.plan (contents_at place) }
+        requires all { AllPlaced (row_at self.old line) (contents_at place) }
+        requires next { IsNextLeft (row_at self.old line) (contents_at place) key.now }
+        requires room { HasRoom self.old }
+        ensures { self.new ≡ lifted self.old worker line (notes_at self.old line) (contents_at place.entry) key.now }
+    {
+        let placed = place.show().writes().len();
+        self.entries.lift(line, key);
+        self.attempts.go_on(line, LineState::Placing { worker });
+        let clock = self.clock + 1;
+        let row = &mut self.rows[(line - self.plan.first()) as usize];
+        row.version = Some(place);
+        row.course = LineProgress { placed };
+        row.changed = clock;
+        self.clock = clock;
+    }
+
+    /// All is published: the line is done, and not checked.
+    fn finish(&mut self, worker: u32, line: u64, place: Place<'t, J>)
+        requires may { MayPublish self.old worker line (notes_at self.old line) }
+        requires fits { Fits self.old line (notes_at self.old line) (contents_at place) }
+        requires version { IsVersion J.plan (contents_at place) }
+        requires all { AllPlaced (row_at self.old line) (contents_at place) }
+        requires none { NoneLeft (row_at self.old line) (contents_at place) }
+        ensures { self.new ≡ put_row self.old line (with_state (row_at self.old line) (Done (notes_at self.old line) (contents_at place.entry).answer None)) }
+    {
+        self.attempts.go_on(line, LineState::Done { stamp: None });
+        let row = &mut self.rows[(line - self.plan.first()) as usize];
+        row.version = Some(place);
+        self.hands[worker as usize] = None;
+    }
+}

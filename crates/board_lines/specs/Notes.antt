@@ -79,7 +79,7 @@ ArePlaced notes = (i : ℕ) (n : Noted) → slice_get notes i ≡ Some n → IsP
 abbrev pub AreOnce : List Noted → Type 0
 AreOnce notes = IsDistinct (eq_by_cmp key_cmp) (map (λ n. n.key) notes)
 
--- the first few notes
+-- the notes that are searched one by one
 abbrev pub few : {J : Type 0} → List (PlaceNote J) → List (PlaceNote J)
 few notes = take 8 notes
 
@@ -92,8 +92,8 @@ abbrev pub is_indexed : Option (Box (BTreeSet Key)) → Key → Bool
 is_indexed None k = false
 is_indexed (Some keys) k = contains key_cmp keys.value k
 
--- the keys, of which each is there once, can be found: among the first few, or by the index; a name has no place just where it is
--- the base's
+-- each key is noted once and can be found, among the first notes or by the index; exactly the notes named by the base have no
+-- place
 pub record AreNoted {J : Type 0} (notes : List (PlaceNote J)) (index : Option (Box (BTreeSet Key))) : Type 0 where
   pub each : (k : Key) → (is_key_in (few notes) k || is_indexed index k) ≡ is_noted (map noted notes) k
   pub once : AreOnce (map noted notes)

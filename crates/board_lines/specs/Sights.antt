@@ -13,7 +13,7 @@ use Rattle.board_steps.specs.Steps.{MayLook, Compares, Differs, stopped}
 use Rattle.board_lines.specs.Notes.{contents_at}
 use Rattle.board_lines.specs.declared.notes.PlacedName.{PlacedName}
 
--- the line whose look it is
+-- the line that looks
 abbrev pub IsLooking : Board → ℕ → Key → Option ℕ → Type 0
 IsLooking b w k None = (n : ℕ) (notes : List Note) → MayLook b w k n notes → ⊥
 IsLooking b w k (Some n) = (notes : List Note) × MayLook b w k n notes

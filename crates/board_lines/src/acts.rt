@@ -21,9 +21,9 @@ use version_store::{EntryStore, Place};
 /// What a publication does next.
 #[derive(Clone, Copy)]
 pub(crate) enum PublishAct<'t> {
-    /// It places the write at this key, borrowed from the version. After it this many of the first writes are placed.
+    /// Places the write at this key, which is borrowed from the version. Afterwards this many of the first writes are placed.
     Write(&'t Key, usize),
-    /// It removes the entry at this key, which an earlier attempt left.
+    /// Removes the entry at this key, which an earlier attempt left.
     Lift(&'t Key),
     /// Nothing: all is published.
     Finish,
@@ -42,7 +42,7 @@ pub(crate) fn is_publishing(state: LineState) -> bool
     }
 }
 
-/// Whether a part of what a line in this state writes is placed.
+/// Whether a line in this state may have some of its writes placed.
 pub(crate) fn is_placing(state: LineState) -> bool
     ensures { result ≡ places state }
 {
@@ -100,7 +100,7 @@ fn next_write<J: PlanName>(
     requires placed { FirstPlaced (line_at entries.now line) attempt writes.now placed }
     ensures { IsFirstApart (line_at entries.now line) attempt writes.now result }
 {
-    // mostly each entry is that of a write that is placed: then no other write has one, and no key is looked for
+    // usually each entry is that of a placed write; then no other write has an entry, and no key is looked up
     if placed < writes.len() && entries.count_of(line) <= placed {
         return Some(placed);
     }

@@ -1,8 +1,8 @@
-//! The lines of the board: the attempt that each is at, what each has noted and published, and which worker has it in hand.
+//! The lines of the board: the current attempt of each, what it has noted and published, and which worker has it in hand.
 //! A value of `Lines` is a state that some steps lead to.
 //!
 //! `Lines` has the five calls `take`, `look`, `publish`, `check` and `commit`; each is one step of `board_steps`. The first and the
-//! last are in `lines`, each of the others in a child of it; the child `committed` has what a line gives in the end. `Lines` uses the
+//! last are in `lines`, each of the others in a child of it; the child `committed` has the results of lines. `Lines` uses the
 //! versions and entries of `version_store` and the states of `attempts`; it knows no message and no table. `speculate` adds to the
 //! lines the sets from which a free worker chooses.
 #![tactic(auto)]

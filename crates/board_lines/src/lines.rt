@@ -35,7 +35,7 @@ pub struct Lines<'p, 't, J: PlanName> {
     /// The line that each worker has in hand.
     hands: Vec<Option<u64>>,
     clock: u64,
-    /// The greatest clock at which a line that is committed changed.
+    /// The greatest value of the clock at which the entries of a line that is now committed changed.
     latest: u64,
 }
 
@@ -192,7 +192,7 @@ impl<'p, 't, J: PlanName> Lines<'p, 't, J> {
         Some(&row.notes)
     }
 
-    /// How many attempts were begun, failed, stopped, committed, and go on.
+    /// How many attempts were begun, failed, stopped and were committed, and how many are unfinished.
     pub fn counts(&self) -> Counts
         ensures { AreCounts self.now result }
     {
@@ -222,7 +222,7 @@ impl<'p, 't, J: PlanName> Lines<'p, 't, J> {
     }
 }
 
-/// The line in the hand of a worker.
+/// The line that a worker has in hand, where it has one.
 fn hand_at(hands: &[Option<u64>], worker: u32) -> Option<u64>
     ensures { result ≡ unwrap_or (slice_get hands.now worker) None }
 {
@@ -250,7 +250,7 @@ fn rows_of<'t, J: PlanName>(alloc: Global, lines: usize) -> Result<Vec<LineRow<'
     Ok(rows)
 }
 
-/// Hands that hold nothing.
+/// Hands without a line.
 fn hands_of(alloc: Global, workers: u32) -> Result<Vec<Option<u64>>, AllocError>
     ensures { IfOk result (λ v. v.items ≡ replicate workers None) }
 {

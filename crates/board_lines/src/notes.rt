@@ -34,7 +34,7 @@ impl<'t, J: PlanName> Clone for PlacedName<'t, J> {
 
 impl<'t, J: PlanName> Copy for PlacedName<'t, J> {}
 
-/// A note: a key, and as what it was seen.
+/// A note: a key, with the name and place of what was seen there.
 struct PlaceNote<'t, J: PlanName> {
     key: Key,
     seen: PlacedName<'t, J>,
@@ -64,7 +64,7 @@ const FIRST_ROOM: usize = 2;
 /// The notes of a line that has some, in the order of looking.
 struct NoteList<'t, J: PlanName> {
     notes: Vec<PlaceNote<'t, J>>,
-    /// The keys of all notes but the first few, as an index. Most lines never have it.
+    /// The keys of all notes after the first `SCANNED_MAX`, as an index. Most lines never have it.
     index: Option<Box<BTreeSet<Key>>>,
 }
 
@@ -74,8 +74,8 @@ impl<J: PlanName> Drop for NoteList<'_, J> {
     }
 }
 
-/// Memory of one line's notes, to be used for another's: mostly a line is committed just before the next is run, and to allocate and
-/// free memory costs more than the notes do.
+/// The memory of one line's notes, kept for those of another: usually a line is committed just before the next is run, and
+/// allocating and freeing costs more than the notes do.
 pub(crate) struct Spare<'t, J: PlanName> {
     held: Option<Box<NoteList<'t, J>>>,
 }
@@ -87,12 +87,12 @@ impl<J: PlanName> Drop for Spare<'_, J> {
 }
 
 impl<'t, J: PlanName> Spare<'t, J> {
-    /// No memory.
+    /// No spare memory.
     pub(crate) fn new() -> Spare<'t, J> {
         Spare { held: None }
     }
 
-    /// Keeps the memory of notes that are few.
+    /// Keeps the memory of at most `SCANNED_MAX` notes, and frees that of more.
     fn keep(&mut self, held: Box<NoteList<'t, J>>) {
         if held.notes.len() <= SCANNED_MAX {
             self.held = Some(held);
@@ -117,8 +117,8 @@ impl<'t, J: PlanName> Spare<'t, J> {
 }
 
 /// What a line has noted, in the order of looking: keys, names and places, but no record. The board has this of each line until
-/// the run ends, and a line has notes only until it is committed: so they are in a box, which is made with the first note. Without
-/// notes this takes two words.
+/// the run ends, and a line has notes only until it is committed. So they are in a box, which is allocated with the first note:
+/// without notes this is small.
 pub struct PlaceNotes<'t, J: PlanName> {
     held: Option<Box<NoteList<'t, J>>>,
 }
@@ -182,7 +182,7 @@ impl<'t, J: PlanName> PlaceNotes<'t, J> {
         Ok(())
     }
 
-    /// Removes all notes. Their memory is kept as spare memory where they are few, and else freed.
+    /// Removes all notes. The memory of at most `SCANNED_MAX` notes is kept as spare memory, that of more is freed.
     pub(crate) fn clear(&mut self, spare: &mut Spare<'t, J>)
         ensures { self.new ≡ [] }
     {
@@ -191,7 +191,7 @@ impl<'t, J: PlanName> PlaceNotes<'t, J> {
         }
     }
 
-    /// The same, and returns the key of the i-th note, from 0, which is moved out: the notes aren't read after that.
+    /// Removes all notes, and returns the key of the i-th one, counted from 0.
     pub(crate) fn take_key(&mut self, spare: &mut Spare<'t, J>, i: usize) -> Option<Key>
         ensures key { result ≡ option_map (λ n. n.key) (slice_get self.old i) }
         ensures none { self.new ≡ [] }
@@ -316,7 +316,7 @@ fn first_held<'t, J: PlanName>(
     }
 }
 
-/// The first few notes.
+/// The notes that are searched one by one.
 fn first_few<'n, 't, J: PlanName>(notes: &'n [PlaceNote<'t, J>]) -> &'n [PlaceNote<'t, J>]
     ensures { result.now ≡ few notes.now }
 {

@@ -14,7 +14,7 @@ use read_set::{Note, NotedRecord, Notes, Plan, PlanName, found_in};
 use std::alloc::{AllocError, Global};
 use version_store::Place;
 
-/// Up to this many writes are searched one by one: whether two keys are the same costs less than their order.
+/// Up to this many writes are searched one by one: testing two keys for equality costs less than ordering them.
 const SCANNED_MAX: usize = 4;
 
 /// The record that is written at a key.

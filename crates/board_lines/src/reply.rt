@@ -28,7 +28,7 @@ pub enum Reply<'t, J: PlanName> {
     Placed,
     /// An entry that an earlier attempt left was removed.
     Lifted,
-    /// All is published, or all was compared.
+    /// All is published, or all notes were compared.
     Whole,
     /// The noted name is that of the visible entry.
     Same,
@@ -42,7 +42,7 @@ pub enum Reply<'t, J: PlanName> {
     Committed,
     /// The line can't commit yet.
     Later,
-    /// The attempt number can't grow.
+    /// The line has no attempt number left.
     Attempts {
         line: u64,
     },

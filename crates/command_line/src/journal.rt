@@ -34,11 +34,11 @@ const TRY_HELP: &str =
 const MERGE_HELP: &str = "Reads the logs side by side, by the times of their lines";
 
 const FORCE_HELP: &str =
-    "Writes the journal even if it is of no use, and reads files that look like no log";
+    "Writes the journal even if too much in it is odd, and reads files that don't look like a log";
 
 const PRESET_HELP: &str =
     "A known form of lines: koha-log4perl, koha-syslog, evergreen, rsyslog, mediator, journald, two-line, pair, arrows, \
-input-output or received-sent; what else is given counts instead";
+input-output or received-sent; other options replace parts of it";
 
 const FIRST_HELP: &str = "The number of the first row, 1 to 9999999999; 1 if left out";
 
@@ -46,7 +46,7 @@ const CAPTURE_HELP: &str =
     "Reads captures of packets (pcap, pcapng) in place of logs; a connection's name is the client's address and port";
 
 const PORT_HELP: &str =
-    "The server's port in captures; if left out 6001, and on other ports the server is who answers";
+    "The server's port in captures; if left out 6001, and on other ports the side that sends responses is the server";
 
 const AFTER_HELP: &str = "Example:
   sip_journal --try server.log
@@ -61,7 +61,7 @@ ends with
   lines <n> exchanges <n> without-response <n> without-request <n> skipped <n> unknown <n> wrong-checksum <n> without-checksum <n>
 
 Status 0: each request has its response, and nothing is odd. 1: some have none, a response has no request, a message is odd,
-or times fall back by more than a minute. 2: the command line, a log or a line is refused, no exchange was found, or more
+or times go back by more than a minute. 2: the command line, a log or a line is refused, no exchange was found, or more
 than one message in ten is odd; standard error says why. 3: a file cannot be read or written, or memory ran out.";
 
 /// The logs or captures of a journal, as the words name them, and how they are read.
@@ -88,7 +88,7 @@ pub struct JournalOptions {
     pub port: Option<u16>,
     /// Whether the logs are read side by side, by the times of their lines.
     pub merge: bool,
-    /// Whether a journal of no use is written, too.
+    /// Whether a journal is written even if too much in it is odd.
     pub force: bool,
     /// The captures, in the order in which they are read.
     pub captures: Vec<String>,
@@ -117,7 +117,7 @@ impl Drop for JournalOptions {
     }
 }
 
-/// The options of a journal that the words give, of which the first is the program's name; or why they give none.
+/// The options of a journal from the words of a command line, of which the first is the program's name; or why there are none.
 pub fn journal_options<S: AsStr>(alloc: Global, words: &[S]) -> Result<JournalOptions, Refusal> {
     let matches = read(alloc, command(alloc)?, words)?;
     Ok(options_in(alloc, &matches)?)
@@ -132,7 +132,7 @@ fn options_in(alloc: Global, matches: &ArgMatches<'_>) -> Result<JournalOptions,
 }
 
 impl JournalOptions {
-    /// The options of no words.
+    /// The options where no words are given.
     fn new(alloc: Global) -> JournalOptions {
         JournalOptions {
             preset: None,

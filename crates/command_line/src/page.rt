@@ -13,17 +13,17 @@ use std::convert::AsStr;
 
 const DEFAULT_LIMIT: u32 = 1_000;
 
-const ABOUT: &str = "Writes one page, in HTML, that tells what a run of sip_replay found";
+const ABOUT: &str = "Writes an HTML page that shows what a run of sip_replay found";
 
 const JOURNAL_HELP: &str = "The journal of the run";
 
 const BASE_HELP: &str =
-    "The folder of the tables that the run began with; left out, the page doesn't tell what changed for whom";
+    "The folder of the tables that the run began with; without it the page shows no changes of records";
 
 const OUT_HELP: &str = "The folder that has what the run wrote";
 
 const WHY_HELP: &str =
-    "What sip_why told of this run's wrong responses; the page then tells why each was wrong";
+    "The output of sip_why for this run's wrong responses; the page then says why each was wrong";
 
 const LIMIT_HELP: &str =
     "How many wrong responses, and how many changes, the page shows; 1000 if left out";
@@ -33,7 +33,7 @@ const AFTER_HELP: &str = "Example:
 
 The page goes to standard output. It has names of patrons and what they borrowed, and no passwords.
 
-Status 0: the page is written. 2: the command line or a table is refused, or the tables are not of one run, and standard error
+Status 0: the page was written. 2: the command line or a table is refused, or the tables are not those of one run; standard error
 says why. 3: a file cannot be read, or memory ran out.";
 
 /// The options of a page that the words give, of which the first is the program's name; or why they give none.

@@ -38,6 +38,10 @@ pub trait Outside {
     fn print<D: Display>(&mut self, text: &D) -> bool
         ensures { IfSome (D.output text.now) (λ text. log self.new ≡ noted (Print text result) (log self.old)) };
 
+    /// Writes bytes to standard output. Says whether all of them were taken.
+    fn write(&mut self, bytes: &[u8]) -> bool
+        ensures { log self.new ≡ noted (Print bytes.now result) (log self.old) };
+
     /// Prints to standard error. Says whether all of it was taken.
     fn tell<D: Display>(&mut self, text: &D) -> bool
         ensures { IfSome (D.output text.now) (λ text. log self.new ≡ noted (Tell text result) (log self.old)) };

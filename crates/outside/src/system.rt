@@ -77,6 +77,10 @@ impl<R: Files, I: Read, W: Write, E: Write + IsTerminal> Outside for System<'_, 
         write!(self.out, "{text}").is_ok()
     }
 
+    fn write(&mut self, bytes: &[u8]) -> bool {
+        self.out.write_all(bytes).is_ok()
+    }
+
     fn tell<D: Display>(&mut self, text: &D) -> bool {
         write!(self.err, "{text}").is_ok()
     }

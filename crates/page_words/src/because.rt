@@ -61,17 +61,11 @@ accepted|*|owed|patron|{id} owed {owed}{since}
 *|made|borrower|item|{borrower} had it until {due}{since}
 *|renewed|borrower|item|{borrower} had it until {due}{since}
 *|done|class|patron|{id} is in the tables{since}
-*|done|borrower|item|{id} is in the tables{since}
-";
+*|done|borrower|item|{id} is in the tables{since}";
 
 /// Why a response is wrong in a word of the report, where that is known.
 pub fn because_of<'w>(word: &[u8], reason: &[u8], origins: &[Origin<'w>]) -> Option<Because<'w>> {
-    let mut rest = BECAUSES.as_bytes();
-    for _ in 0..BECAUSES.len() {
-        if rest.is_empty() {
-            break;
-        }
-        let (line, after) = cut(rest, b'\n');
+    for line in BECAUSES.as_bytes().split(|byte| *byte == b'\n') {
         let (about, line) = cut(line, b'|');
         let (why, line) = cut(line, b'|');
         if fits(about, word) && fits(why, reason) {
@@ -79,7 +73,6 @@ pub fn because_of<'w>(word: &[u8], reason: &[u8], origins: &[Origin<'w>]) -> Opt
                 return Some(because);
             }
         }
-        rest = after;
     }
     None
 }
@@ -101,18 +94,12 @@ fn said_by<'w>(line: &'static [u8], origins: &[Origin<'w>]) -> Option<Because<'w
 
 /// What is said of a word of a record: `due` in `borrower P1; due 20260316`.
 fn said_of<'w>(said: &'w [u8], word: &[u8]) -> Option<&'w [u8]> {
-    let mut rest = said;
-    for _ in 0..said.len() {
-        if rest.is_empty() {
-            break;
-        }
-        let (part, behind) = cut(rest, b';');
+    for part in said.split(|byte| *byte == b';') {
         if let Some(value) = part.trim_ascii_start().strip_prefix(word) {
             if value.is_empty() || value.starts_with(b" ") {
                 return Some(value.trim_ascii_start());
             }
         }
-        rest = behind;
     }
     None
 }

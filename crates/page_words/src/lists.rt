@@ -225,17 +225,11 @@ pub(crate) fn fits(part: &[u8], text: &[u8]) -> bool {
 
 /// What stands for a code in a list; nothing where the list doesn't have it.
 pub fn known(list: &'static str, code: &[u8]) -> &'static [u8] {
-    let mut rest = list.as_bytes();
-    for _ in 0..list.len() {
-        if rest.is_empty() {
-            break;
-        }
-        let (line, behind) = cut(rest, b'\n');
+    for line in list.as_bytes().split(|byte| *byte == b'\n') {
         let (name, words) = cut(line, b'=');
         if name == code {
             return words;
         }
-        rest = behind;
     }
     b""
 }

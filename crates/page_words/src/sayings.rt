@@ -144,19 +144,13 @@ pub(crate) fn saying_of(
     case: &Case<'_>,
     fields: &[ShownField<'_>],
 ) -> &'static [u8] {
-    let mut rest = list.as_bytes();
-    for _ in 0..list.len() {
-        if rest.is_empty() {
-            break;
-        }
-        let (line, behind) = cut(rest, b'\n');
+    for line in list.as_bytes().split(|byte| *byte == b'\n') {
         let (about, line) = cut(line, b'|');
         let (kind, line) = cut(line, b'|');
         let (when, saying) = cut(line, b'|');
         if about == word && fits(kind, case.kind) && is_so(when, fields) {
             return saying;
         }
-        rest = behind;
     }
     b""
 }

@@ -24,7 +24,7 @@ abbrev pub follow : {A : Type 0} → Part → Asks A → Reached A
 follow has (Give x) = Done x
 follow has (Ask k rule) = option_map_or (λ r. follow has (rule r)) (has k) (Wants k)
 
--- one, then another on its result
+-- runs one program, then another on its result
 infixl 10 ◌>>=◌
 abbrev pub ◌>>=◌ : {A B : Type 0} → Asks A → (A → Asks B) → Asks B
 (Give x) >>= f = f x

@@ -1,4 +1,4 @@
--- Checkin (SIP 2.00, message 09), by the circulation rules: checkin. No block changes nothing; a rental isn't given back.
+-- Checkin (SIP 2.00, message 09), by the circulation rules: checkin. The no block flag changes nothing; a rental isn't refunded.
 use Rattle.std.specs.Prelude.{ℕ, false, List, [], ◌∷◌, ◌++◌, Option, Some, None, option_map, unwrap_or, if◌then◌else◌}
 use Rattle.std.specs.Option.{option_map_or}
 use Rattle.circ_policy.specs.Fees.{late_fee}

@@ -43,13 +43,13 @@ FitsReading r = Unit {0}
 abbrev pub HasFewItems : Map → Type 0
 HasFewItems M = (ids : List (List ℕ)) × (length ids ≤ 2 ^ 64) × ((id : List ℕ) → is_some (as_item (M (keys.Item id))) ≡ true → has_id id ids ≡ true)
 
--- line n takes records that are coherent before it to such that are coherent before line n + 1; where each is of its key's kind, it leaves each so
+-- line n makes of records that are coherent before it records that are coherent before line n + 1; where all are of their keys' kinds, they stay so
 abbrev pub MeaningKeepsCoherence : Type 0
 MeaningKeepsCoherence = (policy : Terms) (n : ℕ) (r : Reading) (M : Map) → FitsPolicy policy → FitsReading r → n ≤ line_number_max
     → HasFewItems M → IsCoherentMap policy n M → IsCoherentMap policy (n + 1) (one policy n r M).0 × HasFewItems (one policy n r M).0 × (AreOfKind M → AreOfKind (one policy n r M).0)
 
--- what a plan's type promises: it is made of what fits, on a base that is coherent at the number of its first line and that a memory holds, and no line has
--- a number of more than ten digits
+-- what a plan's type promises: policy and readings fit, the base has at most 2^64 records and is coherent at the number of the first line, and no line has a
+-- number of more than ten digits
 pub record FitsPlan (plan : Planned) : Type 0 where
   pub policy : FitsPolicy plan.policy
   pub readings : AllByRecursion FitsReading plan.readings
@@ -63,11 +63,11 @@ pub record StaysCoherent (plan : Planned) : Type 0 where
   pub kinds : AreOfKind (record_at plan.base) → AreOfKind (last plan)
   pub last : IsCoherentMap plan.policy (plan.first + length plan.readings) (last plan)
 
--- each plan that fits does
+-- this holds for each plan that fits
 abbrev pub ReplayKeepsCoherence : Type 0
 ReplayKeepsCoherence = (plan : Planned) → FitsPlan plan → StaysCoherent plan
 
--- so does the replay over this base of whatever was read: a policy, and a journal before whose first line the base is coherent
+-- it also holds for the plan of this base with any policy and journal that were read, where the base is coherent before the journal's first line
 abbrev pub ReadPlansStayCoherent : Entries → Type 0
 ReadPlansStayCoherent base = (text bytes : List ℕ) (policy : Terms) (lines : List Entry) → policy_of text ≡ Ok policy → journal_of bytes ≡ Ok lines
     → Coherent policy (number_before (first_number lines)) base → StaysCoherent (plan_of policy base lines)

@@ -68,7 +68,7 @@ meant M (Some id) fees = if has_id id fees then only_known id fees (fee_in M id)
 abbrev pub payment_answer : Terms → FeePaid → List ℕ → Bool → Answer
 payment_answer p q date accepted = answers.FeePaid (record { date = date; institution = p.institution; patron = q.patron; accepted = accepted })
 
--- what isn't spent isn't stored. Closed fees leave the list, their records stay; the patron is written only where one left
+-- money that is left over isn't stored. Closed fees leave the list, their records stay; the patron is written only where one left
 unfoldable pub all_paid : Terms → FeePaid → List ℕ → Patron → Payments → Effect
 all_paid p q date patron done = record {
   writes = if is_any done.closed then done.writes ⊕ ((keys.Patron q.patron, records.Patron (record patron { fees = without_all done.closed patron.fees })) ∷ []) else done.writes;

@@ -37,7 +37,7 @@ plan_over plan base = record plan { base = base }
 abbrev pub reading_at : Planned → ℕ → Option Reading
 reading_at plan line = if nat_lt line plan.first then None else slice_get plan.readings (line - plan.first)
 
--- an empty plan: each run names another
+-- an empty plan, for the type that names none; each run names its own
 abbrev pub no_plan : Planned
 no_plan = record {
   policy = record { institution = []; currency = []; due_form = due_forms.Sip; closed = record { weekdays = []; dates = [] }; classes = []; media = [] };

@@ -33,7 +33,7 @@ impl Drop for Draft {
     }
 }
 
-/// Records by rising keys. In a map one more costs little, however many there are.
+/// Records by rising keys. Adding one to a map is cheap, however many there are.
 enum ListOrMap {
     List(Vec<(Key, Record)>),
     Map(BTreeMap<Key, Record>),

@@ -9,7 +9,7 @@ use circ_records::{Fee, Item, Patron, Record, Shared};
 use std::alloc::AllocError;
 use std::marker::Model;
 
-/// A record, or none, in a note: versions stay until the run ends, and this takes a word less than an `Option<Record>`.
+/// A record, or none, in a note: versions are kept until the run ends, and this is smaller than an `Option<Record>`.
 pub struct NotedRecord {
     held: SharedRecord,
 }

@@ -53,10 +53,10 @@ impl Note {
     }
 }
 
-/// The keys of this many notes are compared one by one: most lines have no more, and a map takes more memory than they do.
+/// Up to this many notes are searched one by one: most lines have no more, and a map takes more memory than they do.
 const LIST_MAX: usize = 8;
 
-/// The first allocation has capacity for this many notes: most lines have two, and versions stay until the run ends.
+/// The first allocation has capacity for this many notes: most lines have no more, and versions are kept until the run ends.
 const USUAL: usize = 2;
 
 /// What a line has read, in the order of reading. No key is noted twice.

@@ -12,7 +12,7 @@ use circ_records::{Key, Record};
 use std::alloc::{AllocError, Global};
 use std::marker::{Brand, PhantomData};
 
-/// Names some notes in a type, for contracts alone. Each use chooses a name.
+/// A type that stands for some notes, so that contracts can name them. Each use chooses its own.
 pub trait NotesName {
     ghost use Rattle.std.specs.Prelude.{List};
     ghost use Rattle.read_set.specs.declared.notes.Note.{Note};
@@ -26,8 +26,8 @@ impl NotesName for Brand {
     ghost notes = { [] };
 }
 
-/// Notes that never change, as a source of records: it stops at a key that isn't noted. Its type names the notes, so it has the
-/// same whatever is read.
+/// Notes that never change, as a source of records: it stops at a key that isn't noted. Its type names the notes, so contracts
+/// know that no read changes them.
 #[derive(Drop)]
 pub struct NotesSource<'n, N: NotesName> {
     notes: &'n Notes,
@@ -63,7 +63,7 @@ impl<N: NotesName> Source for NotesSource<'_, N> {
     }
 }
 
-/// Where one looks for a record that isn't noted yet.
+/// A place to look for a record that isn't noted yet.
 pub trait Looks {
     /// The record at a key now, or that there is none, and its name; None where the attempt has to end.
     fn look(
@@ -101,7 +101,7 @@ impl<L: Looks> OneByOne for Noting<L> {
     ghost fetches = { tt };
 }
 
-/// Looks for a record, notes it and gives it.
+/// Looks for a record, notes it and returns it.
 #[tactic(auto, using(crate::proofs::Gaining::gains_none))]
 fn look_for<L: Looks>(
     alloc: Global,
@@ -120,7 +120,7 @@ fn look_for<L: Looks>(
     note_found(alloc, notes, key, name, found)
 }
 
-/// Notes what was found, and gives it.
+/// Notes what was found, and returns it.
 #[tactic(auto, using(crate::proofs::Gaining::gains_none))]
 fn note_found(
     alloc: Global,

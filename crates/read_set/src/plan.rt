@@ -150,7 +150,7 @@ impl Plan {
         self.base.get(key)
     }
 
-    /// An empty map. Once records at all keys of the base are put into it in order, they are found fast.
+    /// An empty map with position hints for the keys of the base: records that are put at all of these in order are found fast.
     pub fn empty_map(&self, alloc: Global) -> Result<RecordMap, AllocError>
         ensures { IfOk result (λ m. m ≡ []) }
     {
@@ -166,7 +166,7 @@ impl Plan {
     }
 }
 
-/// Names one plan in a type, for contracts alone. Each run chooses a name.
+/// A type that stands for one plan, so that contracts can name it. Each run chooses its own.
 pub trait PlanName {
     ghost use Rattle.read_set.specs.Plans.{Planned};
 

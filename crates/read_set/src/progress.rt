@@ -5,7 +5,7 @@ use crate::known::Member;
 use circ_records::Ids;
 use sip_answer::ItemIds;
 
-/// How far a renewal of all items came.
+/// How far a renewal of all items has got.
 #[derive(Drop)]
 pub struct Renewals {
     pub writes: Draft,
@@ -17,7 +17,7 @@ pub struct Renewals {
     pub others: ItemIds,
 }
 
-/// How far a payment came.
+/// How far a payment has got.
 #[derive(Drop)]
 pub struct Payments {
     /// What is left of the money, in hundredths.

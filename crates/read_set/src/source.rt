@@ -29,21 +29,21 @@ impl From<AllocError> for Stop {
     }
 }
 
-/// Where the meaning of a line reads the records that it asks for. It returns at a key what it has there, and never loses it. It may fetch
-/// more, also at keys that nobody asked for, such as a source that fetches a page of records at once.
+/// Where the code of a rule gets the records that it asks for. A source never loses what it has. It may fetch more than it is asked
+/// for: one that fetches a page of records at once, for example.
 pub trait Source {
-    /// What it has at each key: nothing, or the record there, or that there is none.
+    /// What it knows at each key: nothing, the record there, or that there is none.
     ghost has: { Self → Key → Option (Option Record) };
 
     /// A claim that holds where it fetches nothing but what it is asked for. `OneByOne` promises the claim.
     ghost one_by_one: { Type 0 };
 
-    /// The record at a key, or that there is none; a stop where the source has nothing there.
+    /// The record at a key, or None where there is none; a stop where the source doesn't know.
     fn read(&mut self, alloc: Global, key: &Key) -> Result<Option<Record>, Stop>
         ensures gives { Follows result (follow (has self.new) (Ask key.now Give)) }
         ensures keeps { Gains one_by_one (has self.old) (has self.new) (Ask key.now Give) };
 
-    /// The same of a patron, by id. A source may do it without making a key.
+    /// The same for a patron, by id. A source may do it without making a key.
     fn read_patron(&mut self, alloc: Global, id: &Id) -> Result<Option<Record>, Stop>
         ensures gives { Follows result (follow (has self.new) (Ask (keys.Patron id.now) Give)) }
         ensures keeps { Gains one_by_one (has self.old) (has self.new) (Ask (keys.Patron id.now) Give) }
@@ -51,7 +51,7 @@ pub trait Source {
         self.read(alloc, &Key::Patron(id.clone()?))
     }
 
-    /// The same of an item.
+    /// The same for an item.
     fn read_item(&mut self, alloc: Global, id: &Id) -> Result<Option<Record>, Stop>
         ensures gives { Follows result (follow (has self.new) (Ask (keys.Item id.now) Give)) }
         ensures keeps { Gains one_by_one (has self.old) (has self.new) (Ask (keys.Item id.now) Give) }

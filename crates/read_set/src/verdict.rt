@@ -7,7 +7,7 @@ use sip_reader::{Day, Id};
 pub struct LoanRequest {
     pub patron: Id,
     pub item: Id,
-    /// Whether another than the borrower may renew.
+    /// Whether someone else than the borrower may renew.
     pub third_party: bool,
     /// Whether most tests are skipped.
     pub forced: bool,

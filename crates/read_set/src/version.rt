@@ -57,7 +57,7 @@ impl<J: PlanName> Version<J> {
         requires { Settles J.plan line reads writes answer }
         ensures { result ≡ record { line = line; attempt = attempt; reads = reads; writes = writes; answer = answer } }
     {
-        // versions stay until the run ends
+        // versions are kept until the run ends
         let (mut reads, mut writes) = (reads, writes);
         reads.shrink_to_fit();
         writes.shrink_to_fit();

@@ -2,7 +2,5 @@
 #![tactic(auto)]
 
 mod change;
-mod json;
 
 pub use change::{Change, changes};
-pub use json::change_text;

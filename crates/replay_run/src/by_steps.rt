@@ -85,8 +85,8 @@ fn run_steps<J: PlanName + 'static, R: Wait>(
     }
 }
 
-/// The output of a board on which all lines are committed.
-fn collect_output<J: PlanName + 'static>(
+/// The output of a board on which all lines are committed; its attempts are those that were committed.
+pub fn collect_output<J: PlanName + 'static>(
     alloc: Global,
     plan: &Plan,
     journal: &Journal,

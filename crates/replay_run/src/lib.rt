@@ -15,7 +15,7 @@ mod replay_end;
 mod run;
 mod written;
 
-pub use by_steps::{Run, rebuild_by_steps};
+pub use by_steps::{Run, collect_output, rebuild_by_steps};
 pub use by_workers::rebuild;
 pub use fault::Fault;
 pub use inputs::{Inputs, Output};

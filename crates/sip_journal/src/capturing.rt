@@ -3,7 +3,6 @@
 use crate::connection::{Half, Heard};
 use crate::connections::{Client, Connection, Connections, Ends, Talk};
 use crate::headers::TcpSegment;
-use crate::judging::LogPlace;
 use crate::reading::JournalReader;
 use crate::stop::MakingError;
 use capture_streams::StreamPiece;
@@ -15,21 +14,12 @@ use std::alloc::{AllocError, Global};
 const PORT: u16 = 6001;
 
 /// The messages of a capture.
+#[derive(Drop)]
 pub struct Capturing {
     alloc: Global,
     /// The port of the server, where one is named.
     port: Option<u16>,
     connections: Connections,
-}
-
-impl Drop for Capturing {
-    fn drop(self) {
-        let Capturing {
-            alloc: _,
-            port: _,
-            connections: _,
-        } = self;
-    }
 }
 
 impl Capturing {
@@ -42,13 +32,12 @@ impl Capturing {
     }
 
     /// Takes the next segment of the capture.
-    pub fn take<'l>(
+    pub fn take(
         &mut self,
         segment: &TcpSegment<'_>,
-        reading: &mut JournalReader<'l>,
-        place: LogPlace<'l>,
+        reading: &mut JournalReader<'_>,
     ) -> Result<(), MakingError> {
-        self.settle(reading, place)?;
+        self.settle(reading)?;
         let is_first = segment.from <= segment.to;
         let ends = if is_first {
             (segment.from, segment.to)
@@ -64,7 +53,7 @@ impl Capturing {
         if let Some(connection) = self.connections.get_mut(&ends) {
             begin_again(connection, is_first, segment, reading)?;
             let was_over = connection.is_over;
-            hear(self.alloc, connection, is_first, segment, reading, place)?;
+            hear(self.alloc, connection, is_first, segment, reading)?;
             if !was_over {
                 self.connections.note(ends)?;
             }
@@ -73,17 +62,12 @@ impl Capturing {
     }
 
     /// A segment comes: lets go of what no segment can change any more.
-    fn settle<'l>(
-        &mut self,
-        reading: &mut JournalReader<'l>,
-        place: LogPlace<'l>,
-    ) -> Result<(), MakingError> {
-        self.connections.count();
+    fn settle(&mut self, reading: &mut JournalReader<'_>) -> Result<(), MakingError> {
         if let Some(client) = self.connections.settle()? {
             reading.over(client)?;
         }
         match self.connections.pop_idle() {
-            Some(ends) => self.finish(&ends, reading, place),
+            Some(ends) => self.finish(&ends, reading),
             None => Ok(()),
         }
     }
@@ -105,17 +89,12 @@ impl Capturing {
     }
 
     /// Nothing more comes of a connection: hands on what waits for its end, and lets go of it.
-    fn finish<'l>(
-        &mut self,
-        ends: &Ends,
-        reading: &mut JournalReader<'l>,
-        place: LogPlace<'l>,
-    ) -> Result<(), MakingError> {
+    fn finish(&mut self, ends: &Ends, reading: &mut JournalReader<'_>) -> Result<(), MakingError> {
         if let Some(connection) = self.connections.get_mut(ends) {
             connection.first.close()?;
-            hand_on(self.alloc, connection, true, reading, place)?;
+            hand_on(self.alloc, connection, true, reading)?;
             connection.second.close()?;
-            hand_on(self.alloc, connection, false, reading, place)?;
+            hand_on(self.alloc, connection, false, reading)?;
             if let Some(client) = connection.talk.address() {
                 reading.over(client)?;
             }
@@ -125,16 +104,12 @@ impl Capturing {
     }
 
     /// The capture is at its end.
-    pub fn end<'l>(
-        &mut self,
-        reading: &mut JournalReader<'l>,
-        place: LogPlace<'l>,
-    ) -> Result<(), MakingError> {
+    pub fn end(&mut self, reading: &mut JournalReader<'_>) -> Result<(), MakingError> {
         for _ in 0..u64::MAX {
             let Some(ends) = self.connections.first() else {
                 break;
             };
-            self.finish(&ends, reading, place)?;
+            self.finish(&ends, reading)?;
         }
         Ok(())
     }
@@ -159,13 +134,12 @@ fn begin_again(
 }
 
 /// Hears a segment of a connection: first what it acknowledges, then what it says.
-fn hear<'l>(
+fn hear(
     alloc: Global,
     connection: &mut Connection,
     is_first: bool,
     segment: &TcpSegment<'_>,
-    reading: &mut JournalReader<'l>,
-    place: LogPlace<'l>,
+    reading: &mut JournalReader<'_>,
 ) -> Result<(), MakingError> {
     if matches!(connection.talk.client, Client::Nobody) {
         return Ok(());
@@ -176,8 +150,8 @@ fn hear<'l>(
         exchange(&mut connection.second, &mut connection.first, segment)?
     };
     connection.is_over = connection.is_over || is_over;
-    hand_on(alloc, connection, !is_first, reading, place)?;
-    hand_on(alloc, connection, is_first, reading, place)?;
+    hand_on(alloc, connection, !is_first, reading)?;
+    hand_on(alloc, connection, is_first, reading)?;
     look(alloc, connection, is_first)?;
     Ok(())
 }
@@ -197,68 +171,49 @@ fn look(alloc: Global, connection: &mut Connection, is_first: bool) -> Result<()
 }
 
 /// Hands on what was heard of one end of a connection.
-fn hand_on<'l>(
+fn hand_on(
     alloc: Global,
     connection: &mut Connection,
     is_first: bool,
-    reading: &mut JournalReader<'l>,
-    place: LogPlace<'l>,
+    reading: &mut JournalReader<'_>,
 ) -> Result<(), MakingError> {
-    if is_first {
-        hand_on_half(
-            alloc,
-            &mut connection.first,
-            &mut connection.talk,
-            is_first,
-            reading,
-            place,
-        )
-    } else {
-        hand_on_half(
-            alloc,
-            &mut connection.second,
-            &mut connection.talk,
-            is_first,
-            reading,
-            place,
-        )
-    }
-}
-
-fn hand_on_half<'l>(
-    alloc: Global,
-    half: &mut Half,
-    talk: &mut Talk,
-    is_first: bool,
-    reading: &mut JournalReader<'l>,
-    place: LogPlace<'l>,
-) -> Result<(), MakingError> {
-    for one in &half.heard {
+    let heard = connection.take_heard(alloc, is_first);
+    for one in &heard {
         match one {
             Heard::Missing(count) => {
-                if let Some((side, client)) = talk.speaker(is_first) {
-                    reading.missing(*count, side, client, place)?;
-                    if matches!(side, Direction::Request) {
-                        talk.lacks_request = true;
-                    }
-                }
+                hand_on_gap(&mut connection.talk, is_first, *count, reading)?;
             }
-            Heard::Piece(piece) => hand_on_piece(alloc, talk, is_first, piece, reading, place)?,
+            Heard::Piece(piece) => {
+                hand_on_piece(alloc, &mut connection.talk, is_first, piece, reading)?;
+            }
         }
     }
-    // (a list that is only cleared would keep its memory)
-    half.heard = Vec::new(alloc);
     Ok(())
 }
 
+/// Hands on how many bytes are missing of what one end sends.
+fn hand_on_gap(
+    talk: &mut Talk,
+    is_first: bool,
+    count: u64,
+    reading: &mut JournalReader<'_>,
+) -> Result<(), AllocError> {
+    let Some((side, client)) = talk.speaker(is_first) else {
+        return Ok(());
+    };
+    if matches!(side, Direction::Request) {
+        talk.lacks_request = true;
+    }
+    reading.missing(count, side, client)
+}
+
 /// Hands on a piece of what one end sends, if that is a message.
-fn hand_on_piece<'l>(
+fn hand_on_piece(
     alloc: Global,
     talk: &mut Talk,
     is_first: bool,
     piece: &StreamPiece,
-    reading: &mut JournalReader<'l>,
-    place: LogPlace<'l>,
+    reading: &mut JournalReader<'_>,
 ) -> Result<(), MakingError> {
     let message = without_line_feeds(piece.bytes());
     if message.is_empty() {
@@ -275,14 +230,16 @@ fn hand_on_piece<'l>(
         talk.lacks_request = !is_message;
     }
     if !is_message {
-        reading.broken(side, client, message, place)?;
-        Ok(())
-    } else if talk.lacks_request {
-        // (no request has a connection without a name: this response is reported as one without a request)
-        reading.message(b"", side, message, place)
-    } else {
-        reading.client_message(client, side, message, place)
+        reading.broken(side, client, message)?;
+        return Ok(());
     }
+    // (no request has a connection without a name: what may answer a missing request is reported as a response without one)
+    let name = if talk.lacks_request {
+        String::new(alloc)
+    } else {
+        format!(in alloc; "{client}")?
+    };
+    reading.message(name.as_str().as_bytes(), side, message)
 }
 
 /// Takes a segment of one end, which acknowledges what the other said. Gives whether the connection is over.
@@ -342,8 +299,6 @@ fn client_by(alloc: Global, message: &[u8], is_first: bool) -> Result<Client, Al
 }
 
 fn has_identifier(alloc: Global, side: Direction, message: &[u8]) -> Result<bool, AllocError> {
-    match odd_of(alloc, side, message)? {
-        Some(Odd::UnknownIdentifier) => Ok(false),
-        _ => Ok(true),
-    }
+    let odd = odd_of(alloc, side, message)?;
+    Ok(!matches!(odd, Some(Odd::UnknownIdentifier)))
 }

@@ -1,9 +1,11 @@
 //! What the options of the command line choose.
 
-use crate::presets::PRESETS;
+use crate::presets::{PLAIN, PRESETS};
+use crate::stop::MakingError;
 use command_line::JournalOptions;
 use log_pairs::Escapes;
 use sip_reader::LINE_NUMBER_MAX;
+use std::alloc::Global;
 
 /// What a run is to do.
 #[derive(Clone, Copy)]
@@ -57,63 +59,47 @@ static SPELLINGS: [(&str, Escapes); 5] = [
     ("octal", Escapes::Octal),
 ];
 
-/// Why options are refused, and the word that is to blame.
-#[derive(Clone, Copy)]
-pub struct Wrong<'o> {
-    pub what: &'static str,
-    pub word: &'o str,
-}
-
 /// What the options ask for.
-pub fn task_of(options: &JournalOptions) -> Result<JournalTask<'_>, Wrong<'_>> {
+pub fn task_of(alloc: Global, options: &JournalOptions) -> Result<JournalTask<'_>, MakingError> {
     if let Some(log) = text(&options.tried) {
         return Ok(JournalTask::Try(log));
     }
     let task = if options.captures.is_empty() {
-        JournalTask::Logs(form_of(options)?)
+        JournalTask::Logs(form_of(alloc, options)?)
     } else if options.logs.is_empty() {
         JournalTask::Captures
     } else {
-        return Err(Wrong {
-            what: "captures are read alone, without",
-            word: "LOG",
-        });
+        let what = "captures are read alone, without";
+        return Err(MakingError::refused(alloc, what, "LOG"));
     };
     if options.first == 0 || options.first > LINE_NUMBER_MAX {
-        return Err(Wrong {
-            what: "--first must be 1 to",
-            word: "9999999999",
-        });
+        let what = "--first must be 1 to";
+        return Err(MakingError::refused(alloc, what, "9999999999"));
     }
     Ok(task)
 }
 
 /// The form of lines that the options and the preset say together: what else is given counts instead of the preset's.
-fn form_of(options: &JournalOptions) -> Result<LogForm<'_>, Wrong<'_>> {
+fn form_of(alloc: Global, options: &JournalOptions) -> Result<LogForm<'_>, MakingError> {
     let (request, response) = (text(&options.request), text(&options.response));
     let known = match (text(&options.preset), request, response) {
-        (Some(name), _, _) => named(&PRESETS, "no preset is named", name)?,
+        (Some(name), _, _) => named(alloc, &PRESETS, "no preset is named", name)?,
         (None, Some(request), Some(response)) => LogForm {
             request,
             response,
-            connection: None,
-            mark: None,
-            layout: LogLayout::Single,
-            escapes: Escapes::Bare,
+            ..PLAIN
         },
         _ => {
-            return Err(Wrong {
-                what: "--preset is needed, or",
-                word: "--request and --response",
-            });
+            let what = "--preset is needed, or";
+            return Err(MakingError::refused(alloc, what, "--request and --response"));
         }
     };
     let layout = match text(&options.layout) {
-        Some(word) => named(&LAYOUTS, "no layout of lines is named", word)?,
+        Some(word) => named(alloc, &LAYOUTS, "no layout of lines is named", word)?,
         None => known.layout,
     };
     let escapes = match text(&options.escapes) {
-        Some(word) => named(&SPELLINGS, "no way of spelling bytes is named", word)?,
+        Some(word) => named(alloc, &SPELLINGS, "no way of spelling bytes is named", word)?,
         None => known.escapes,
     };
     Ok(LogForm {
@@ -133,16 +119,17 @@ fn text(option: &Option<String>) -> Option<&str> {
     }
 }
 
-/// What a word names in a table, or what is to be said where it names nothing there.
-fn named<'o, T: Copy>(
+/// What a word names in a table; it is refused where it names nothing there.
+fn named<T: Copy>(
+    alloc: Global,
     table: &[(&'static str, T)],
-    what: &'static str,
-    word: &'o str,
-) -> Result<T, Wrong<'o>> {
+    what: &str,
+    word: &str,
+) -> Result<T, MakingError> {
     for (name, value) in table {
         if *name == word {
             return Ok(*value);
         }
     }
-    Err(Wrong { what, word })
+    Err(MakingError::refused(alloc, what, word))
 }

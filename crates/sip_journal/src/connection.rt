@@ -14,22 +14,15 @@ const MOST: usize = 1024;
 const LONGEST: usize = 64 * 1024;
 
 /// What is heard of one end of a connection.
+#[derive(Drop)]
 pub enum Heard {
     Piece(StreamPiece),
     /// This number of bytes is missing.
     Missing(u64),
 }
 
-impl Drop for Heard {
-    fn drop(self) {
-        match self {
-            Heard::Piece(_) => {}
-            Heard::Missing(_) => {}
-        }
-    }
-}
-
 /// What one end of a connection sends.
+#[derive(Drop)]
 pub struct Half {
     alloc: Global,
     /// The number of the begin, where that was captured.
@@ -42,20 +35,6 @@ pub struct Half {
     last: u64,
     /// What was heard of it, and wasn't handed on yet.
     pub heard: Vec<Heard>,
-}
-
-impl Drop for Half {
-    fn drop(self) {
-        let Half {
-            alloc: _,
-            begun_at: _,
-            stream: _,
-            cutter: _,
-            end: _,
-            last: _,
-            heard: _,
-        } = self;
-    }
 }
 
 impl Half {
@@ -151,10 +130,7 @@ impl Half {
         let Some(near) = position_near(position, number) else {
             return Ok(());
         };
-        let upto = match self.end {
-            Some(end) => near.min(end),
-            None => near,
-        };
+        let upto = near.min(self.end.unwrap_or(near));
         if upto.saturating_sub(position) <= FAR {
             self.lose(upto)?;
         }
@@ -168,8 +144,8 @@ impl Half {
             if missing == 0 {
                 break;
             }
-            hear(&mut self.heard, Heard::Missing(missing))?;
-            hear(&mut self.heard, Heard::Piece(self.cutter.gap()))?;
+            self.heard.push(Heard::Missing(missing))?;
+            self.heard.push(Heard::Piece(self.cutter.gap()))?;
             self.drain()?;
         }
         Ok(())
@@ -200,9 +176,9 @@ impl Half {
                 break;
             };
             if let Some(piece) = self.cutter.take(byte)? {
-                hear(&mut self.heard, Heard::Piece(piece))?;
+                self.heard.push(Heard::Piece(piece))?;
             } else if self.cutter.open().len() >= LONGEST {
-                hear(&mut self.heard, Heard::Piece(self.cutter.gap()))?;
+                self.heard.push(Heard::Piece(self.cutter.gap()))?;
             }
         }
         stream.settle(self.alloc);
@@ -212,19 +188,11 @@ impl Half {
     /// No more comes: gives what waits, and what is open as a piece whose end is missing.
     pub fn close(&mut self) -> Result<(), AllocError> {
         // (the end of a stream has a number, too, but no byte)
-        let last = match self.end {
-            Some(end) => self.last.min(end),
-            None => self.last,
-        };
-        self.lose(last)?;
+        let last = self.end.unwrap_or(self.last);
+        self.lose(last.min(self.last))?;
         if !self.cutter.open().is_empty() {
-            hear(&mut self.heard, Heard::Piece(self.cutter.gap()))?;
+            self.heard.push(Heard::Piece(self.cutter.gap()))?;
         }
         Ok(())
     }
-}
-
-fn hear(all: &mut Vec<Heard>, one: Heard) -> Result<(), AllocError> {
-    all.push(one)?;
-    Ok(())
 }

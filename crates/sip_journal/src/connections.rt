@@ -1,9 +1,10 @@
 //! The connections of a capture: those that go on, and those that are over and remembered.
 
-use crate::connection::Half;
+use crate::connection::{Half, Heard};
 use log_pairs::Direction;
 use std::alloc::{AllocError, Global};
 use std::collections::{BTreeMap, VecDeque};
+use std::mem;
 use std::net::SocketAddr;
 
 /// How many connections may go on at once. Of more, the one that was heard of the longest ago is taken as over.
@@ -61,6 +62,7 @@ impl Talk {
 }
 
 /// What was heard of a connection.
+#[derive(Drop)]
 pub struct Connection {
     pub first: Half,
     pub second: Half,
@@ -70,22 +72,20 @@ pub struct Connection {
     heard_at: u64,
 }
 
-impl Drop for Connection {
-    fn drop(self) {
-        let Connection {
-            first: _,
-            second: _,
-            talk: _,
-            is_over: _,
-            heard_at: _,
-        } = self;
-    }
-}
-
 impl Connection {
     /// What one of its ends sends.
     pub fn half(&self, is_first: bool) -> &Half {
         if is_first { &self.first } else { &self.second }
+    }
+
+    /// What was heard of one of its ends, and wasn't handed on yet. (A list that is only cleared would keep its memory.)
+    pub fn take_heard(&mut self, alloc: Global, is_first: bool) -> Vec<Heard> {
+        let none = Vec::new(alloc);
+        if is_first {
+            mem::replace(&mut self.first.heard, none)
+        } else {
+            mem::replace(&mut self.second.heard, none)
+        }
     }
 
     /// Nothing of it is kept, and nothing more is heard of it.
@@ -104,6 +104,7 @@ struct Ending {
 }
 
 /// The connections of a capture.
+#[derive(Drop)]
 pub struct Connections {
     /// How many segments were heard.
     now: u64,
@@ -115,18 +116,6 @@ pub struct Connections {
     over: VecDeque<Ending>,
 }
 
-impl Drop for Connections {
-    fn drop(self) {
-        let Connections {
-            now: _,
-            by_ends: _,
-            open: _,
-            late: _,
-            over: _,
-        } = self;
-    }
-}
-
 impl Connections {
     pub fn new(alloc: Global) -> Connections {
         Connections {
@@ -136,11 +125,6 @@ impl Connections {
             late: VecDeque::new(alloc),
             over: VecDeque::new(alloc),
         }
-    }
-
-    /// A segment comes.
-    pub fn count(&mut self) {
-        self.now = self.now.saturating_add(1);
     }
 
     /// The connection between two ends.
@@ -181,8 +165,10 @@ impl Connections {
         Ok(())
     }
 
-    /// The client of a connection that was over so long ago that nothing more of it comes, if there is one now. It is remembered.
+    /// A segment comes: the client of a connection that was over so long ago that nothing more of it comes, if there is one now. It
+    /// is remembered.
     pub fn settle(&mut self) -> Result<Option<SocketAddr>, AllocError> {
+        self.now = self.now.saturating_add(1);
         let Some(ending) = self.late.front().copied() else {
             return Ok(None);
         };
@@ -201,11 +187,8 @@ impl Connections {
     /// Who talked over a connection that ended so, and didn't begin again since.
     fn talk_of(&self, ending: &Ending) -> Option<Talk> {
         let connection = self.by_ends.get(&ending.ends)?;
-        if connection.is_over && connection.heard_at == ending.at {
-            Some(connection.talk)
-        } else {
-            None
-        }
+        let is_so = connection.is_over && connection.heard_at == ending.at;
+        is_so.then_some(connection.talk)
     }
 
     /// Lets go of the connection that is over the longest, where more are remembered than should be.

@@ -52,9 +52,9 @@ impl<'a, R: Clock + Eprint, W: Write, E: Write + IsTerminal> Console<'a, R, W, E
 
     /// Follows the reading of a log: shows how far it has come, writes its reports, and the rows that are whole.
     pub fn follow(&mut self, reading: &mut JournalReader<'_>) -> Result<(), MakingError> {
-        self.show(reading.lines());
+        self.show(reading.judge.lines);
         self.report(reading);
-        if reading.is_full() {
+        if reading.making.is_full() {
             reading.write(&mut self.out)?;
         }
         Ok(())
@@ -62,15 +62,15 @@ impl<'a, R: Clock + Eprint, W: Write, E: Write + IsTerminal> Console<'a, R, W, E
 
     /// The log is at its end: writes what is left.
     pub fn finish(&mut self, reading: &mut JournalReader<'_>) -> Result<(), MakingError> {
-        reading.close()?;
+        reading.making.close()?;
         reading.write(&mut self.out)
     }
 
     /// Writes what a reading has to report.
     pub fn report(&mut self, reading: &mut JournalReader<'_>) {
-        if !reading.notes().is_empty() {
-            self.write_error(reading.notes());
-            reading.clear_notes();
+        if !reading.notes.is_empty() {
+            self.write_error(reading.notes.as_str());
+            reading.notes.clear();
         }
     }
 
@@ -86,9 +86,10 @@ impl<'a, R: Clock + Eprint, W: Write, E: Write + IsTerminal> Console<'a, R, W, E
         let _ = self.err.write_all(text.as_bytes());
     }
 
-    /// Prints to standard output. Says whether all of it was taken.
-    pub fn print(&mut self, text: &str) -> bool {
-        self.out.write_all(text.as_bytes()).is_ok()
+    /// Prints to standard output.
+    pub fn print(&mut self, text: &str) -> Result<(), MakingError> {
+        let written = self.out.write_all(text.as_bytes());
+        written.map_err(|_| MakingError::Output)
     }
 
     /// Shows how many lines were read, at most five times a second.

@@ -20,6 +20,7 @@ const RESPONSE: usize = 3;
 const NO_NAME: &str = "^()";
 
 /// The expressions of a run. `.` and the classes stand for bytes, whatever text they are of.
+#[derive(Drop)]
 pub struct Expressions {
     /// One at each place; there may be none of a mark.
     compiled: Vec<Option<Regex>>,
@@ -27,69 +28,51 @@ pub struct Expressions {
     escapes: Escapes,
 }
 
-impl Drop for Expressions {
-    fn drop(self) {
-        let Expressions {
-            compiled: _,
-            layout: _,
-            escapes: _,
-        } = self;
-    }
-}
-
 impl Expressions {
     /// Compiles those of a form; each has one group, but for a mark's.
     pub fn new(alloc: Global, form: LogForm<'_>) -> Result<Expressions, MakingError> {
-        let mut expressions = Expressions {
-            compiled: Vec::new(alloc),
+        let texts = [
+            ("--connection", Some(form.connection.unwrap_or(NO_NAME))),
+            ("--mark", form.mark),
+            ("--request", Some(form.request)),
+            ("--response", Some(form.response)),
+        ];
+        let mut compiled = Vec::new(alloc);
+        for (option, text) in &texts {
+            compiled.push(compile(alloc, option, *text)?)?;
+        }
+        Ok(Expressions {
+            compiled,
             layout: form.layout,
             escapes: form.escapes,
-        };
-        let connection = form.connection.unwrap_or(NO_NAME);
-        expressions.add(alloc, "--connection", Some(connection))?;
-        expressions.add(alloc, "--mark", form.mark)?;
-        expressions.add(alloc, "--request", Some(form.request))?;
-        expressions.add(alloc, "--response", Some(form.response))?;
-        Ok(expressions)
-    }
-
-    /// Compiles the expression of an option, if there is one, and gives it the next place.
-    fn add(&mut self, alloc: Global, option: &str, text: Option<&str>) -> Result<(), MakingError> {
-        let regex = match text {
-            Some(text) => Some(compiled(alloc, option, text)?),
-            None => None,
-        };
-        match self.compiled.push(regex) {
-            Ok(()) => Ok(()),
-            Err(_) => Err(MakingError::Memory),
-        }
+        })
     }
 
     /// What searches lines for them.
     pub fn finder(&self, alloc: Global) -> Result<Finder<'_>, AllocError> {
-        let mut finder = Finder {
-            matchers: Vec::new(alloc),
+        let mut matchers = Vec::new(alloc);
+        for regex in &self.compiled {
+            let matcher = match regex {
+                Some(regex) => Some(regex.matcher(alloc)?),
+                None => None,
+            };
+            matchers.push(matcher)?;
+        }
+        Ok(Finder {
+            matchers,
             layout: self.layout,
             escapes: self.escapes,
-        };
-        for regex in &self.compiled {
-            finder.matchers.push(matcher_of(alloc, regex)?)?;
-        }
-        Ok(finder)
+        })
     }
 }
 
-fn matcher_of(alloc: Global, regex: &Option<Regex>) -> Result<Option<Matcher<'_>>, AllocError> {
-    match regex {
-        Some(regex) => Ok(Some(regex.matcher(alloc)?)),
-        None => Ok(None),
-    }
-}
-
-/// The expression of an option, with as many groups as it is to have: one, but none is asked of a mark's.
-fn compiled(alloc: Global, option: &str, text: &str) -> Result<Regex, MakingError> {
+/// The expression of an option, if there is one, with as many groups as it is to have: one, but none is asked of a mark's.
+fn compile(alloc: Global, option: &str, text: Option<&str>) -> Result<Option<Regex>, MakingError> {
+    let Some(text) = text else {
+        return Ok(None);
+    };
     match RegexBuilder::new(text).unicode(false).build_bytes(alloc) {
-        Ok(regex) if option == "--mark" || regex.captures_len() == 2 => Ok(regex),
+        Ok(regex) if option == "--mark" || regex.captures_len() == 2 => Ok(Some(regex)),
         Ok(_) => Err(MakingError::refused(
             alloc,
             "there must be just one group in the expression of",
@@ -100,6 +83,7 @@ fn compiled(alloc: Global, option: &str, text: &str) -> Result<Regex, MakingErro
 }
 
 /// What a line says: of which connection, and a request, a response, or both.
+#[derive(Drop)]
 pub struct Said<'l> {
     /// The name of the connection, as the line has it.
     pub connection: &'l [u8],
@@ -108,32 +92,13 @@ pub struct Said<'l> {
     pub response: Option<Vec<u8>>,
 }
 
-impl Drop for Said<'_> {
-    fn drop(self) {
-        let Said {
-            connection: _,
-            request: _,
-            response: _,
-        } = self;
-    }
-}
-
 /// What searches the lines of a log.
+#[derive(Drop)]
 pub struct Finder<'r> {
     /// One at the place of each expression.
     matchers: Vec<Option<Matcher<'r>>>,
     layout: LogLayout,
     escapes: Escapes,
-}
-
-impl Drop for Finder<'_> {
-    fn drop(self) {
-        let Finder {
-            matchers: _,
-            layout: _,
-            escapes: _,
-        } = self;
-    }
 }
 
 impl<'r> Finder<'r> {

@@ -1,6 +1,10 @@
 //! The TCP segment of a packet: after the header of its link and that of IPv4 or IPv6.
 
+use crate::numbers::ByteOrder;
 use std::net::{IpAddr, Ipv4Addr, Ipv6Addr, SocketAddr};
+
+/// How the numbers of headers are written.
+const NETWORK: ByteOrder = ByteOrder::BigFirst;
 
 const TCP: u8 = 6;
 
@@ -21,10 +25,10 @@ pub struct TcpSegment<'p> {
 }
 
 /// The TCP segment of a packet of a link: Ethernet, Linux cooked, loopback, or bare IP. Nothing where it has none, or a part of one.
-pub fn segment_of(link: u32, packet: &[u8]) -> Option<TcpSegment<'_>> {
+pub fn segment_of(link: usize, packet: &[u8]) -> Option<TcpSegment<'_>> {
     let internet = match link {
         0 | 108 => packet.get(4..)?,
-        1 => behind_ethernet(packet)?,
+        1 => in_ethernet(packet)?,
         12 | 14 | 101 | 228 | 229 => packet,
         113 => packet.get(16..)?,
         276 => packet.get(20..)?,
@@ -38,7 +42,7 @@ pub fn segment_of(link: u32, packet: &[u8]) -> Option<TcpSegment<'_>> {
 }
 
 /// What an Ethernet frame carries, where that is IP; the tags of networks within networks are passed.
-fn behind_ethernet(frame: &[u8]) -> Option<&[u8]> {
+fn in_ethernet(frame: &[u8]) -> Option<&[u8]> {
     let mut rest = frame.get(12..)?;
     for _ in 0..3 {
         match rest.get(..2)? {
@@ -52,31 +56,24 @@ fn behind_ethernet(frame: &[u8]) -> Option<&[u8]> {
 
 fn of_version_4(packet: &[u8]) -> Option<TcpSegment<'_>> {
     let header = usize::from(*packet.first()? % 16) * 4;
-    let fragment = number(packet, 6)? % 0x4000;
+    let fragment = NETWORK.short(packet, 6)? % 0x4000;
     if *packet.get(9)? != TCP || fragment != 0 {
         return None;
     }
-    let from = IpAddr::V4(version_4(packet.get(12..16)?)?);
-    let to = IpAddr::V4(version_4(packet.get(16..20)?)?);
+    let from = Ipv4Addr::from(*packet.get(12..)?.first_chunk::<4>()?);
+    let to = Ipv4Addr::from(*packet.get(16..)?.first_chunk::<4>()?);
     // (a card that cuts long segments itself is handed packets without a length)
-    let whole = match usize::from(number(packet, 2)?) {
+    let whole = match usize::from(NETWORK.short(packet, 2)?) {
         0 => packet.len(),
         len => len.min(packet.len()),
     };
-    of_tcp(from, to, packet.get(header..whole)?)
-}
-
-fn version_4(bytes: &[u8]) -> Option<Ipv4Addr> {
-    match bytes {
-        [a, b, c, d] => Some(Ipv4Addr::new(*a, *b, *c, *d)),
-        _ => None,
-    }
+    of_tcp(IpAddr::V4(from), IpAddr::V4(to), packet.get(header..whole)?)
 }
 
 fn of_version_6(packet: &[u8]) -> Option<TcpSegment<'_>> {
-    let from = IpAddr::V6(version_6(packet.get(8..24)?)?);
-    let to = IpAddr::V6(version_6(packet.get(24..40)?)?);
-    let whole = match usize::from(number(packet, 4)?) {
+    let from = Ipv6Addr::from(*packet.get(8..)?.first_chunk::<16>()?);
+    let to = Ipv6Addr::from(*packet.get(24..)?.first_chunk::<16>()?);
+    let whole = match usize::from(NETWORK.short(packet, 4)?) {
         0 => packet.len(),
         len => (len + 40).min(packet.len()),
     };
@@ -84,7 +81,7 @@ fn of_version_6(packet: &[u8]) -> Option<TcpSegment<'_>> {
     let mut rest = packet.get(40..whole)?;
     for _ in 0..8 {
         match kind {
-            TCP => return of_tcp(from, to, rest),
+            TCP => return of_tcp(IpAddr::V6(from), IpAddr::V6(to), rest),
             // options for each hop, a route, options for the end: each says how long it is
             0 | 43 | 60 => {
                 let len = usize::from(*rest.get(1)?) * 8 + 8;
@@ -97,50 +94,21 @@ fn of_version_6(packet: &[u8]) -> Option<TcpSegment<'_>> {
     None
 }
 
-fn version_6(bytes: &[u8]) -> Option<Ipv6Addr> {
-    let mut octets = [0u8; 16];
-    if bytes.len() != octets.len() {
-        return None;
-    }
-    octets.copy_from_slice(bytes);
-    Some(Ipv6Addr::from(octets))
-}
-
 fn of_tcp(from: IpAddr, to: IpAddr, segment: &[u8]) -> Option<TcpSegment<'_>> {
     let header = usize::from(*segment.get(12)? / 16) * 4;
     if header < 20 {
         return None;
     }
     let flags = *segment.get(13)?;
-    let waited_for = long(segment, 8)?;
+    let waited_for = NETWORK.long(segment, 8)?;
     Some(TcpSegment {
-        from: SocketAddr::new(from, number(segment, 0)?),
-        to: SocketAddr::new(to, number(segment, 2)?),
-        number: long(segment, 4)?,
-        acknowledged: if flags & 16 != 0 {
-            Some(waited_for)
-        } else {
-            None
-        },
+        from: SocketAddr::new(from, NETWORK.short(segment, 0)?),
+        to: SocketAddr::new(to, NETWORK.short(segment, 2)?),
+        number: NETWORK.long(segment, 4)?,
+        acknowledged: (flags & 16 != 0).then_some(waited_for),
         begins: flags & 2 != 0,
         ends: flags & 1 != 0,
         resets: flags & 4 != 0,
         payload: segment.get(header..)?,
     })
-}
-
-/// The number of two bytes.
-fn number(bytes: &[u8], at: usize) -> Option<u16> {
-    match bytes.get(at..at.checked_add(2)?)? {
-        [a, b] => Some(u16::from_be_bytes([*a, *b])),
-        _ => None,
-    }
-}
-
-/// The number of four bytes.
-fn long(bytes: &[u8], at: usize) -> Option<u32> {
-    match bytes.get(at..at.checked_add(4)?)? {
-        [a, b, c, d] => Some(u32::from_be_bytes([*a, *b, *c, *d])),
-        _ => None,
-    }
 }

@@ -14,10 +14,7 @@ static FIELDS: [(&str, &str, &str); 4] = [
 /// The line that `journalctl` would write of a JSON object: the microseconds since 1970, the machine, the program with its process
 /// in brackets, a colon and the message. Nothing where the text is no such object, or has no message.
 pub fn plain_line(alloc: Global, text: &[u8]) -> Result<Option<Vec<u8>>, AllocError> {
-    let Ok(text) = str::from_utf8(text) else {
-        return Ok(None);
-    };
-    match Value::from_str(alloc, text) {
+    match Value::from_slice(alloc, text) {
         Ok(value) => line_of(alloc, &value),
         Err(error) if error.is_memory() => Err(AllocError),
         Err(_) => Ok(None),
@@ -30,23 +27,12 @@ fn line_of(alloc: Global, value: &Value) -> Result<Option<Vec<u8>>, AllocError> 
     };
     let mut line = Vec::new(alloc);
     for (name, other, after) in &FIELDS {
-        push_text(&mut line, value, name, other)?;
+        let field = value.get(*name).and_then(|field| field.as_str());
+        line.extend_from_slice(field.unwrap_or(*other).as_bytes())?;
         line.extend_from_slice(after.as_bytes())?;
     }
-    if push_message(&mut line, message)? {
-        Ok(Some(line))
-    } else {
-        Ok(None)
-    }
-}
-
-/// Adds the text of a field, or another one where there is none.
-fn push_text(line: &mut Vec<u8>, value: &Value, name: &str, other: &str) -> Result<(), AllocError> {
-    let text = match value.get(name) {
-        Some(field) => field.as_str().unwrap_or(other),
-        None => other,
-    };
-    line.extend_from_slice(text.as_bytes())
+    let has_message = push_message(&mut line, message)?;
+    Ok(has_message.then_some(line))
 }
 
 /// Adds a message: a text, or a list of bytes, which stands for one that isn't UTF-8 or has control characters.

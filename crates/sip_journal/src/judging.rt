@@ -1,5 +1,6 @@
 //! Reports of lines and messages that are none, or that a log has damaged.
 
+use crate::place::{LineHead, LogPlace};
 use log_pairs::{Direction, Odd, odd_of};
 use std::alloc::{AllocError, Global};
 use std::collections::BTreeMap;
@@ -7,67 +8,40 @@ use std::collections::BTreeMap;
 /// How many skipped lines, and how many odd messages, are reported.
 const TOLD: usize = 3;
 
-/// How many bytes of a line are shown.
-const WIDTH: usize = 80;
-
 /// More than one odd message in this number is too much.
 const TOLERATED: u64 = 10;
 
 /// How many clients are distinguished.
 const CLIENTS: usize = 65_536;
 
-/// The place of a line: its log, and its number there, from 1 on.
-#[derive(Clone, Copy)]
-pub struct LogPlace<'a> {
-    pub log: &'a str,
-    pub line: u64,
-}
-
 /// A line that is reported, with the number that it has in all logs together.
+#[derive(Drop)]
 struct Shown {
     number: u64,
     text: String,
 }
 
-impl Drop for Shown {
-    fn drop(self) {
-        let Shown { number: _, text: _ } = self;
+impl Shown {
+    /// A line with its place, what it is, and its first bytes.
+    fn new(
+        alloc: Global,
+        number: u64,
+        place: LogPlace<'_>,
+        what: &str,
+        line: &[u8],
+    ) -> Result<Shown, AllocError> {
+        let head = LineHead(line);
+        let text = format!(in alloc; "{place}: {what}: {head}\n")?;
+        Ok(Shown { number, text })
     }
 }
 
-/// What was odd in the logs so far.
-pub struct JournalJudge {
-    alloc: Global,
-    /// Messages that were judged.
-    messages: u64,
-    /// Messages whose first two bytes are no identifier of their side.
-    unknown: u64,
-    /// Messages whose checksum is wrong, or isn't their end.
-    wrong: u64,
-    /// What each client does, by the name of its connection.
-    clients: BTreeMap<Vec<u8>, Sums>,
-    /// Requests that lack a checksum, of clients of which nothing more comes, and the first of them.
-    lacking: u64,
-    bare: Vec<Shown>,
-    skipped: Vec<Shown>,
-    damaged: Vec<Shown>,
-}
-
 /// The requests of a client: those with a checksum, right or wrong, and those without one, with the first of these.
+#[derive(Drop)]
 struct Sums {
     summed: u64,
     bare: u64,
     first: Option<Shown>,
-}
-
-impl Drop for Sums {
-    fn drop(self) {
-        let Sums {
-            summed: _,
-            bare: _,
-            first: _,
-        } = self;
-    }
 }
 
 impl Sums {
@@ -94,45 +68,43 @@ impl Sums {
     }
 }
 
-impl Drop for JournalJudge {
-    fn drop(self) {
-        let JournalJudge {
-            alloc: _,
-            messages: _,
-            unknown: _,
-            wrong: _,
-            clients: _,
-            lacking: _,
-            bare: _,
-            skipped: _,
-            damaged: _,
-        } = self;
-    }
+/// What was read of the logs so far, and what was odd there.
+#[derive(Drop)]
+pub struct JournalJudge {
+    alloc: Global,
+    /// Lines or packets that were read, and those of them that say nothing.
+    pub lines: u64,
+    pub skipped: u64,
+    /// Messages that were judged.
+    messages: u64,
+    /// Messages whose first two bytes are no identifier of their side.
+    pub unknown: u64,
+    /// Messages whose checksum is wrong, or isn't their end.
+    pub wrong: u64,
+    /// What each client does, by the name of its connection.
+    clients: BTreeMap<Vec<u8>, Sums>,
+    /// Requests that lack a checksum, of clients of which nothing more comes, and the first of them.
+    lacking: u64,
+    bare: Vec<Shown>,
+    first_skipped: Vec<Shown>,
+    damaged: Vec<Shown>,
 }
 
 impl JournalJudge {
     pub fn new(alloc: Global) -> JournalJudge {
         JournalJudge {
             alloc,
+            lines: 0,
+            skipped: 0,
             messages: 0,
             unknown: 0,
             wrong: 0,
             clients: BTreeMap::new(alloc),
             lacking: 0,
             bare: Vec::new(alloc),
-            skipped: Vec::new(alloc),
+            first_skipped: Vec::new(alloc),
             damaged: Vec::new(alloc),
         }
-    }
-
-    /// Messages with an unknown identifier.
-    pub fn unknown(&self) -> u64 {
-        self.unknown
-    }
-
-    /// Messages with a wrong checksum.
-    pub fn wrong(&self) -> u64 {
-        self.wrong
     }
 
     /// Requests without a checksum, of clients that send some with one.
@@ -161,27 +133,19 @@ impl JournalJudge {
         self.odd() > self.messages / TOLERATED
     }
 
-    /// Notes a line that says nothing.
-    pub fn skip(
-        &mut self,
-        number: u64,
-        place: LogPlace<'_>,
-        line: &[u8],
-    ) -> Result<(), AllocError> {
-        note(
-            self.alloc,
-            &mut self.skipped,
-            number,
-            place,
-            "skipped",
-            line,
-        )
+    /// Notes a record of this number of lines that says nothing.
+    pub fn skip(&mut self, lines: u64, place: LogPlace<'_>, text: &[u8]) -> Result<(), AllocError> {
+        self.skipped = self.skipped.saturating_add(lines);
+        if self.first_skipped.len() < TOLD {
+            let shown = Shown::new(self.alloc, self.lines, place, "skipped", text)?;
+            self.first_skipped.push(shown)?;
+        }
+        Ok(())
     }
 
     /// Judges a message of a connection.
     pub fn judge(
         &mut self,
-        number: u64,
         place: LogPlace<'_>,
         connection: &[u8],
         side: Direction,
@@ -191,15 +155,15 @@ impl JournalJudge {
         match odd_of(self.alloc, side, message)? {
             Some(Odd::UnknownIdentifier) => {
                 self.unknown = self.unknown.saturating_add(1);
-                return self.damage(number, place, "unknown identifier", message);
+                return self.damage(place, "unknown identifier", message);
             }
             Some(Odd::WrongSum) => {
                 self.wrong = self.wrong.saturating_add(1);
-                self.damage(number, place, "wrong checksum", message)?;
+                self.damage(place, "wrong checksum", message)?;
             }
             Some(Odd::NoSum) => {
-                let text = shown_text(self.alloc, place, "no checksum", message)?;
-                return self.count_sum(connection, Some(Shown { number, text }));
+                let shown = Shown::new(self.alloc, self.lines, place, "no checksum", message)?;
+                return self.count_sum(connection, Some(shown));
             }
             None => {}
         }
@@ -212,12 +176,15 @@ impl JournalJudge {
     /// Notes a message that is damaged.
     fn damage(
         &mut self,
-        number: u64,
         place: LogPlace<'_>,
         what: &str,
         message: &[u8],
     ) -> Result<(), AllocError> {
-        note(self.alloc, &mut self.damaged, number, place, what, message)
+        if self.damaged.len() < TOLD {
+            let shown = Shown::new(self.alloc, self.lines, place, what, message)?;
+            self.damaged.push(shown)?;
+        }
+        Ok(())
     }
 
     /// Nothing more comes of a connection: of its client only what is lacking is kept.
@@ -262,16 +229,16 @@ impl JournalJudge {
     }
 
     /// Reports the first skipped lines, and the first odd messages.
-    pub fn report(&self, told: &mut String) -> Result<(), AllocError> {
-        for shown in &self.skipped {
-            push_line(shown, told)?;
+    pub fn report(&self, notes: &mut String) -> Result<(), AllocError> {
+        for shown in &self.first_skipped {
+            notes.push_str(shown.text.as_str())?;
         }
         let mut after = 0;
         for _ in 0..TOLD {
             let Some(shown) = self.first_odd(after) else {
                 break;
             };
-            push_line(shown, told)?;
+            notes.push_str(shown.text.as_str())?;
             after = shown.number.saturating_add(1);
         }
         Ok(())
@@ -304,54 +271,4 @@ fn earlier<'s>(first: Option<&'s Shown>, other: &'s Shown, from: u64) -> Option<
         Some(shown) if shown.number <= other.number => first,
         _ => Some(other),
     }
-}
-
-fn push_line(shown: &Shown, told: &mut String) -> Result<(), AllocError> {
-    told.push_str(shown.text.as_str())?;
-    told.push('\n')
-}
-
-/// Notes a line among those that are reported, where these are too few.
-fn note(
-    alloc: Global,
-    told: &mut Vec<Shown>,
-    number: u64,
-    place: LogPlace<'_>,
-    what: &str,
-    line: &[u8],
-) -> Result<(), AllocError> {
-    if told.len() >= TOLD {
-        return Ok(());
-    }
-    let text = shown_text(alloc, place, what, line)?;
-    told.push(Shown { number, text })?;
-    Ok(())
-}
-
-/// A line as it is reported: its place, what it is, and its first bytes.
-fn shown_text(
-    alloc: Global,
-    place: LogPlace<'_>,
-    what: &str,
-    line: &[u8],
-) -> Result<String, AllocError> {
-    let LogPlace { log, line: number } = place;
-    let mut text = format!(in alloc; "{log}:{number}: {what}: ")?;
-    push_cut(&mut text, line)?;
-    Ok(text)
-}
-
-/// Adds the first bytes of a line to a text; those that don't print are spelled.
-pub fn push_cut(text: &mut String, line: &[u8]) -> Result<(), AllocError> {
-    for byte in &line[..line.len().min(WIDTH)] {
-        if byte.is_ascii_graphic() || *byte == b' ' {
-            text.push(char::from(*byte))?;
-        } else {
-            write!(text, "\\x{byte:02x}")?;
-        }
-    }
-    if line.len() > WIDTH {
-        text.push_str("..")?;
-    }
-    Ok(())
 }

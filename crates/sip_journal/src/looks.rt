@@ -1,5 +1,7 @@
 //! What a file is that is no log of lines, by its first bytes.
 
+use crate::packets::is_capture;
+
 /// How many bytes are looked at.
 const HEAD: usize = 4096;
 
@@ -18,18 +20,12 @@ const WIDE: &str =
 
 const BINARY: &str = "has bytes that no text has: it is no log of lines";
 
-/// What files are that begin with these bytes. A capture may have either order of bytes: pcap with microseconds or nanoseconds,
-/// and pcapng.
-static MARKS: [(&[u8], &str); 11] = [
+/// What files are that begin with these bytes.
+static MARKS: [(&[u8], &str); 6] = [
     (b"\x1f\x8b", GZIP),
     (b"\x28\xb5\x2f\xfd", ZSTD),
     (b"\xfd7zXZ\x00", XZ),
     (b"BZh", BZIP2),
-    (b"\xd4\xc3\xb2\xa1", CAPTURE),
-    (b"\xa1\xb2\xc3\xd4", CAPTURE),
-    (b"\x4d\x3c\xb2\xa1", CAPTURE),
-    (b"\xa1\xb2\x3c\x4d", CAPTURE),
-    (b"\x0a\x0d\x0d\x0a", CAPTURE),
     (b"\xff\xfe", WIDE),
     (b"\xfe\xff", WIDE),
 ];
@@ -41,7 +37,9 @@ pub fn strange(bytes: &[u8]) -> Option<&'static str> {
             return Some(*what);
         }
     }
-    if is_wide(bytes) {
+    if is_capture(bytes) {
+        Some(CAPTURE)
+    } else if is_wide(bytes) {
         Some(WIDE)
     } else if is_binary(bytes) {
         Some(BINARY)
@@ -55,29 +53,14 @@ fn is_wide(bytes: &[u8]) -> bool {
     let Some(head) = bytes.get(..16) else {
         return false;
     };
-    // whether all bytes at even places are zeros, and all at odd ones
-    let (mut even, mut odd) = (true, true);
-    for (at, byte) in head.iter().enumerate() {
-        if *byte != 0 {
-            if at % 2 == 0 {
-                even = false;
-            } else {
-                odd = false;
-            }
-        }
-    }
-    even || odd
+    head.chunks(2).all(|pair| matches!(pair, [0, _]))
+        || head.chunks(2).all(|pair| matches!(pair, [_, 0]))
 }
 
 /// More than one in twenty of the first bytes is a control character that no line has.
 fn is_binary(bytes: &[u8]) -> bool {
     let head = &bytes[..bytes.len().min(HEAD)];
-    let mut odd: usize = 0;
-    for byte in head {
-        if is_control(*byte) {
-            odd = odd.saturating_add(1);
-        }
-    }
+    let odd = head.iter().filter(|byte| is_control(**byte)).count();
     odd > head.len() / 20
 }
 

@@ -14,6 +14,7 @@ const ROWS: usize = 4096;
 const PATIENCE: usize = 16_384;
 
 /// The journal that is made. What isn't written yet is kept.
+#[derive(Drop)]
 pub struct Making {
     alloc: Global,
     pairing: Pairing,
@@ -23,26 +24,12 @@ pub struct Making {
     number: u64,
     /// Whether the header was written.
     begun: bool,
-    exchanges: u64,
-    /// Requests without a response.
-    unanswered: u64,
-    /// Responses without a request.
-    unasked: u64,
-}
-
-impl Drop for Making {
-    fn drop(self) {
-        let Making {
-            alloc: _,
-            pairing: _,
-            ready: _,
-            number: _,
-            begun: _,
-            exchanges: _,
-            unanswered: _,
-            unasked: _,
-        } = self;
-    }
+    /// How many exchanges are whole, written or not.
+    pub exchanges: u64,
+    /// How many of them lack a response.
+    pub unanswered: u64,
+    /// How many responses had no request.
+    pub unasked: u64,
 }
 
 impl Making {
@@ -58,21 +45,6 @@ impl Making {
             unanswered: 0,
             unasked: 0,
         }
-    }
-
-    /// How many exchanges are whole, written or not.
-    pub fn exchanges(&self) -> u64 {
-        self.exchanges
-    }
-
-    /// How many of them lack a response.
-    pub fn unanswered(&self) -> u64 {
-        self.unanswered
-    }
-
-    /// How many responses had no request.
-    pub fn unasked(&self) -> u64 {
-        self.unasked
     }
 
     /// Whether there are enough whole exchanges to write them.
@@ -145,9 +117,7 @@ impl Making {
             if exchange.response().is_none() {
                 self.unanswered = self.unanswered.saturating_add(1);
             }
-            if self.ready.push(exchange).is_err() {
-                return Err(MakingError::Memory);
-            }
+            self.ready.push(exchange)?;
         }
         Ok(())
     }
@@ -155,7 +125,8 @@ impl Making {
     /// Writes the exchanges that are whole, under the header where nothing was written yet.
     pub fn write<W: Write>(&mut self, out: &mut W) -> Result<(), MakingError> {
         if !self.begun {
-            write_to(out, head_text(self.alloc)?.as_slice())?;
+            let head = head_text(self.alloc)?;
+            out.write_all(&head).map_err(|_| MakingError::Output)?;
             self.begun = true;
         }
         let count = self.ready.len() as u64;
@@ -167,8 +138,8 @@ impl Making {
                 "9999999999",
             ));
         }
-        let text = rows_text(self.alloc, self.number, &self.ready)?;
-        write_to(out, text.as_slice())?;
+        let rows = rows_text(self.alloc, self.number, &self.ready)?;
+        out.write_all(&rows).map_err(|_| MakingError::Output)?;
         self.ready.clear();
         self.number = after;
         Ok(())
@@ -183,11 +154,4 @@ pub enum Taken {
     Unasked,
     /// Why the line is refused.
     Refused(&'static str),
-}
-
-fn write_to<W: Write>(out: &mut W, text: &[u8]) -> Result<(), MakingError> {
-    match out.write_all(text) {
-        Ok(()) => Ok(()),
-        Err(_) => Err(MakingError::Output),
-    }
 }

@@ -1,5 +1,6 @@
 //! The packets of a capture, as tcpdump writes them: pcap and pcapng.
 
+use crate::numbers::ByteOrder;
 use crate::stop::MakingError;
 use std::alloc::Global;
 use std::io;
@@ -8,43 +9,36 @@ use std::io::Read;
 /// The longest packet or block that is read, in bytes.
 const LONGEST: usize = 16 * 1024 * 1024;
 
-/// What a capture's numbers are written as.
-#[derive(Clone, Copy)]
-enum Bytes {
-    LittleFirst,
-    BigFirst,
-}
-
 /// The first bytes of pcap, with microseconds or nanoseconds.
-static PCAP: [(&[u8], Bytes); 4] = [
-    (b"\xd4\xc3\xb2\xa1", Bytes::LittleFirst),
-    (b"\x4d\x3c\xb2\xa1", Bytes::LittleFirst),
-    (b"\xa1\xb2\xc3\xd4", Bytes::BigFirst),
-    (b"\xa1\xb2\x3c\x4d", Bytes::BigFirst),
+static PCAP: [(&[u8], ByteOrder); 4] = [
+    (b"\xd4\xc3\xb2\xa1", ByteOrder::LittleFirst),
+    (b"\x4d\x3c\xb2\xa1", ByteOrder::LittleFirst),
+    (b"\xa1\xb2\xc3\xd4", ByteOrder::BigFirst),
+    (b"\xa1\xb2\x3c\x4d", ByteOrder::BigFirst),
 ];
 
 /// The kind of a block that begins a section of pcapng, and its mark of the order of bytes.
 const SECTION: &[u8] = b"\x0a\x0d\x0d\x0a";
 
-static PCAPNG: [(&[u8], Bytes); 2] = [
-    (b"\x4d\x3c\x2b\x1a", Bytes::LittleFirst),
-    (b"\x1a\x2b\x3c\x4d", Bytes::BigFirst),
+static PCAPNG: [(&[u8], ByteOrder); 2] = [
+    (b"\x4d\x3c\x2b\x1a", ByteOrder::LittleFirst),
+    (b"\x1a\x2b\x3c\x4d", ByteOrder::BigFirst),
 ];
 
-/// How a capture lays out its packets.
-#[derive(Clone, Copy)]
-enum Format {
-    /// All packets are of this link.
-    Pcap(u32),
-    /// Each packet names its interface.
-    PcapNg,
-}
+// The kinds of the other blocks that are read: an interface, and a packet in three ways.
+const INTERFACE: usize = 1;
+
+const OLD_PACKET: usize = 2;
+
+const SIMPLE_PACKET: usize = 3;
+
+const PACKET: usize = 6;
 
 /// What comes next in a capture.
 #[derive(Clone, Copy)]
 pub enum Next {
     /// A packet of this link; its bytes are `Packets::bytes`, from this position up to the other.
-    Packet { link: u32, from: usize, to: usize },
+    Packet { link: usize, from: usize, to: usize },
     /// The capture is at its end.
     End,
     /// The capture ends within a packet, or goes on with what is none.
@@ -52,66 +46,76 @@ pub enum Next {
 }
 
 /// A capture that is read.
-pub struct Packets<B> {
+pub struct Packets<'l, B> {
     alloc: Global,
+    name: &'l str,
     reader: B,
-    order: Bytes,
-    format: Format,
+    order: ByteOrder,
+    /// The link of all packets of pcap; in pcapng each packet names its interface.
+    link: Option<usize>,
     /// The links of the interfaces of a section of pcapng.
-    links: Vec<u32>,
+    links: Vec<usize>,
     bytes: Vec<u8>,
 }
 
-impl<B: Drop> Drop for Packets<B> {
+impl<B: Drop> Drop for Packets<'_, B> {
     fn drop(self) {
         let Packets {
             alloc: _,
+            name: _,
             reader: _,
             order: _,
-            format: _,
+            link: _,
             links: _,
             bytes: _,
         } = self;
     }
 }
 
-impl<B: Read + Drop> Packets<B> {
-    /// Reads the head of a capture; nothing where the file is none.
-    pub fn new(alloc: Global, name: &str, reader: B) -> Result<Option<Packets<B>>, MakingError> {
+/// Whether a file that begins with these bytes is a capture.
+pub fn is_capture(head: &[u8]) -> bool {
+    let mark = head.get(..4).unwrap_or(&[]);
+    mark == SECTION || order_of(&PCAP, mark).is_some()
+}
+
+impl<'l, B: Read + Drop> Packets<'l, B> {
+    /// Reads the head of a capture; it is refused where the file is none.
+    pub fn new(alloc: Global, name: &'l str, reader: B) -> Result<Packets<'l, B>, MakingError> {
         let mut packets = Packets {
             alloc,
+            name,
             reader,
-            order: Bytes::LittleFirst,
-            format: Format::PcapNg,
+            order: ByteOrder::LittleFirst,
+            link: None,
             links: Vec::new(alloc),
             bytes: Vec::new(alloc),
         };
-        Ok(if packets.begin(name)? {
-            Some(packets)
-        } else {
-            None
-        })
+        if !packets.begin()? {
+            return Err(MakingError::refused(
+                alloc,
+                name,
+                "is no capture of packets, as tcpdump writes it",
+            ));
+        }
+        Ok(packets)
     }
 
     /// Reads the head of the file; false where it is none of a capture.
-    fn begin(&mut self, name: &str) -> Result<bool, MakingError> {
-        if !self.fill(name, 4)? {
+    fn begin(&mut self) -> Result<bool, MakingError> {
+        if !self.fill(4)? {
             return Ok(false);
         }
         if self.bytes() == SECTION {
-            return self.begin_section(name);
+            return self.begin_section();
         }
-        match order_of(&PCAP, self.bytes()) {
-            Some(order) => self.order = order,
-            None => return Ok(false),
-        }
-        if !self.fill(name, 20)? {
+        let Some(order) = order_of(&PCAP, self.bytes()) else {
+            return Ok(false);
+        };
+        self.order = order;
+        if !self.fill(20)? {
             return Ok(false);
         }
-        self.format = match self.long(16) {
-            Some(link) => Format::Pcap(link % 0x1000_0000),
-            None => return Ok(false),
-        };
+        self.link = Some(self.long(16) % 0x1000_0000);
         Ok(true)
     }
 
@@ -121,50 +125,44 @@ impl<B: Read + Drop> Packets<B> {
     }
 
     /// Reads the next packet.
-    pub fn next(&mut self, name: &str) -> Result<Next, MakingError> {
-        match self.format {
-            Format::Pcap(link) => self.next_pcap(name, link),
-            Format::PcapNg => self.next_block(name),
+    pub fn next(&mut self) -> Result<Next, MakingError> {
+        match self.link {
+            Some(link) => self.next_pcap(link),
+            None => self.next_block(),
         }
     }
 
-    fn next_pcap(&mut self, name: &str, link: u32) -> Result<Next, MakingError> {
-        if !self.fill(name, 16)? {
+    fn next_pcap(&mut self, link: usize) -> Result<Next, MakingError> {
+        if !self.fill(16)? {
             return Ok(self.end());
         }
-        let len = match self.long(8) {
-            Some(len) => len as usize,
-            None => return Ok(Next::Broken),
-        };
-        if len > LONGEST || !self.fill(name, len)? {
+        let to = self.long(8);
+        if to > LONGEST || !self.fill(to)? {
             return Ok(Next::Broken);
         }
-        Ok(Next::Packet {
-            link,
-            from: 0,
-            to: len,
-        })
+        Ok(Next::Packet { link, from: 0, to })
     }
 
     /// Reads blocks up to the next one with a packet.
-    fn next_block(&mut self, name: &str) -> Result<Next, MakingError> {
+    fn next_block(&mut self) -> Result<Next, MakingError> {
         for _ in 0..u64::MAX {
-            if !self.fill(name, 4)? {
+            if !self.fill(4)? {
                 return Ok(self.end());
             }
-            if self.bytes() == SECTION {
-                if !self.begin_section(name)? {
-                    return Ok(Next::Broken);
-                }
-                continue;
-            }
-            let Some(kind) = self.long(0) else {
-                return Ok(Next::Broken);
+            let kind = self.long(0);
+            let is_whole = if self.bytes.as_slice() == SECTION {
+                self.begin_section()?
+            } else {
+                self.read_block()?
             };
-            if !self.read_block(name)? {
+            if !is_whole {
                 return Ok(Next::Broken);
             }
-            if let Some(next) = self.block(kind)? {
+            if kind == INTERFACE {
+                let link = self.short(0);
+                self.links.push(link)?;
+            }
+            if let Some(next) = self.packet_in(kind) {
                 return Ok(next);
             }
         }
@@ -172,77 +170,45 @@ impl<B: Read + Drop> Packets<B> {
     }
 
     /// Reads what follows the kind of a block, up to its end; `bytes` are its body then.
-    fn read_block(&mut self, name: &str) -> Result<bool, MakingError> {
-        if !self.fill(name, 4)? {
+    fn read_block(&mut self) -> Result<bool, MakingError> {
+        if !self.fill(4)? {
             return Ok(false);
         }
-        let len = match self.long(0) {
-            Some(len) => len as usize,
-            None => return Ok(false),
+        let len = self.long(0);
+        Ok(len >= 12 && len <= LONGEST && self.fill(len - 8)?)
+    }
+
+    /// The packet in a block of this kind, whose body was read; nothing where such a block has none.
+    fn packet_in(&self, kind: usize) -> Option<Next> {
+        let (interface, from, len) = match kind {
+            OLD_PACKET => (self.short(0), 20, self.long(12)),
+            SIMPLE_PACKET => (0, 4, self.long(0).min(self.bytes.len().saturating_sub(8))),
+            PACKET => (self.long(0), 20, self.long(12)),
+            _ => return None,
         };
-        Ok(len >= 12 && len <= LONGEST && self.fill(name, len - 8)?)
-    }
-
-    /// What the block of this kind says, whose body was read: a packet, an interface, or what isn't needed.
-    fn block(&mut self, kind: u32) -> Result<Option<Next>, MakingError> {
-        match kind {
-            1 => {
-                let link = self.short(0).unwrap_or(0);
-                if self.links.push(link).is_err() {
-                    return Err(MakingError::Memory);
-                }
-                Ok(None)
-            }
-            2 => Ok(Some(self.packet(self.short(0), 20, 12))),
-            3 => {
-                let len = self.bytes.len().saturating_sub(8);
-                let whole = self.long(0).unwrap_or(0) as usize;
-                Ok(Some(self.packet_at(Some(0), 4, len.min(whole))))
-            }
-            6 => Ok(Some(self.packet(self.long(0), 20, 12))),
-            _ => Ok(None),
-        }
-    }
-
-    /// The packet of an interface, whose length is at a place.
-    fn packet(&self, interface: Option<u32>, from: usize, len_at: usize) -> Next {
-        match self.long(len_at) {
-            Some(len) => self.packet_at(interface, from, len as usize),
-            None => Next::Broken,
-        }
-    }
-
-    fn packet_at(&self, interface: Option<u32>, from: usize, len: usize) -> Next {
-        let link = match interface {
-            Some(number) => self.links.get(number as usize),
-            None => None,
-        };
-        let to = from.saturating_add(len);
-        match link {
+        let to = len.saturating_add(from);
+        Some(match self.links.get(interface) {
             Some(link) if to <= self.bytes.len() => Next::Packet {
                 link: *link,
                 from,
                 to,
             },
             _ => Next::Broken,
-        }
+        })
     }
 
     /// Reads the head of a section after its kind.
-    fn begin_section(&mut self, name: &str) -> Result<bool, MakingError> {
-        if !self.fill(name, 8)? {
+    fn begin_section(&mut self) -> Result<bool, MakingError> {
+        if !self.fill(8)? {
             return Ok(false);
         }
-        match order_of(&PCAPNG, self.bytes().get(4..).unwrap_or(&[])) {
-            Some(order) => self.order = order,
-            None => return Ok(false),
-        }
-        let len = match self.long(0) {
-            Some(len) => len as usize,
-            None => return Ok(false),
+        let Some(order) = order_of(&PCAPNG, self.bytes().get(4..).unwrap_or(&[])) else {
+            return Ok(false);
         };
+        self.order = order;
         self.links.clear();
-        Ok(len >= 16 && len <= LONGEST && self.fill(name, len - 12)?)
+        let len = self.long(0);
+        Ok(len >= 16 && len <= LONGEST && self.fill(len - 12)?)
     }
 
     /// What the end of the file is, where no more could be read.
@@ -254,39 +220,27 @@ impl<B: Read + Drop> Packets<B> {
         }
     }
 
-    /// Reads this number of bytes; false where the file has fewer.
-    fn fill(&mut self, name: &str, count: usize) -> Result<bool, MakingError> {
+    /// Reads this number of bytes in place of those that were read before; false where the file has fewer.
+    fn fill(&mut self, count: usize) -> Result<bool, MakingError> {
         match read_some(&mut self.reader, count, &mut self.bytes) {
             Ok(is_whole) => Ok(is_whole),
-            Err(error) => Err(MakingError::of_file(self.alloc, &error, name)),
+            Err(error) => Err(MakingError::of_file(self.alloc, &error, self.name)),
         }
     }
 
-    /// The number of four bytes at a place.
-    fn long(&self, at: usize) -> Option<u32> {
-        match self.bytes().get(at..at.checked_add(4)?)? {
-            [a, b, c, d] => Some(match self.order {
-                Bytes::LittleFirst => u32::from_le_bytes([*a, *b, *c, *d]),
-                Bytes::BigFirst => u32::from_be_bytes([*a, *b, *c, *d]),
-            }),
-            _ => None,
-        }
+    /// The number of four bytes at a place of what was read; 0 where it has fewer.
+    fn long(&self, at: usize) -> usize {
+        self.order.long(self.bytes(), at).unwrap_or(0) as usize
     }
 
-    /// The number of two bytes at a place.
-    fn short(&self, at: usize) -> Option<u32> {
-        match self.bytes().get(at..at.checked_add(2)?)? {
-            [a, b] => Some(u32::from(match self.order {
-                Bytes::LittleFirst => u16::from_le_bytes([*a, *b]),
-                Bytes::BigFirst => u16::from_be_bytes([*a, *b]),
-            })),
-            _ => None,
-        }
+    /// The number of two bytes at a place of what was read; 0 where it has fewer.
+    fn short(&self, at: usize) -> usize {
+        usize::from(self.order.short(self.bytes(), at).unwrap_or(0))
     }
 }
 
 /// The order of bytes that a mark stands for, if it is one of these.
-fn order_of(marks: &[(&[u8], Bytes)], found: &[u8]) -> Option<Bytes> {
+fn order_of(marks: &[(&[u8], ByteOrder)], found: &[u8]) -> Option<ByteOrder> {
     for (mark, order) in marks {
         if *mark == found {
             return Some(*order);

@@ -4,6 +4,16 @@
 use crate::chosen::{LogForm, LogLayout};
 use log_pairs::Escapes;
 
+/// What a form has where nothing else is said: one message a line, each byte as it is.
+pub const PLAIN: LogForm<'static> = LogForm {
+    request: "",
+    response: "",
+    connection: None,
+    mark: None,
+    layout: LogLayout::Single,
+    escapes: Escapes::Bare,
+};
+
 /// All presets. Of two that fit a log alike the first is named first.
 pub static PRESETS: [(&str, LogForm<'static>); 11] = [
     // [2026/03/07 09:02:10] [DEBUG] desk2@10.0.0.7: INPUT MSG: '2300120260307    090210AO..|AA..|'
@@ -13,9 +23,7 @@ pub static PRESETS: [(&str, LogForm<'static>); 11] = [
             request: r"^\[[^\]]*\] \[[^\]]*\] \S+: INPUT MSG: '(.*)'",
             response: r"^\[[^\]]*\] \[[^\]]*\] \S+: OUTPUT MSG: '(.*)'",
             connection: Some(r"^\[[^\]]*\] \[[^\]]*\] (\S+): "),
-            mark: None,
-            layout: LogLayout::Single,
-            escapes: Escapes::Bare,
+            ..PLAIN
         },
     ),
     // Mar  7 09:02:10 host koha_sip[1234]: INPUT MSG: '2300120260307    090210AO..|AA..|'
@@ -25,9 +33,7 @@ pub static PRESETS: [(&str, LogForm<'static>); 11] = [
             request: r"^\w+ +\d+ [0-9:]+ \S+ \S+\[\d+\]: INPUT MSG: '(.*)'",
             response: r"^\w+ +\d+ [0-9:]+ \S+ \S+\[\d+\]: OUTPUT MSG: '(.*)'",
             connection: Some(r"^[^\[]*\[(\d+)\]:"),
-            mark: None,
-            layout: LogLayout::Single,
-            escapes: Escapes::Bare,
+            ..PLAIN
         },
     ),
     // 2026-03-07T09:02:10-05:00 brick1 SIPServer[1234]: [INFO] INPUT MSG: '2300120260307    090210AO..|AA..|'
@@ -37,9 +43,7 @@ pub static PRESETS: [(&str, LogForm<'static>); 11] = [
             request: r"^\d+-\d+-\d+T\S+ \S+ \S+\[\d+\]: (?:\[\w+\] )?INPUT MSG: '(.*)'",
             response: r"^\d+-\d+-\d+T\S+ \S+ \S+\[\d+\]: (?:\[\w+\] )?OUTPUT MSG: '(.*)'",
             connection: Some(r"^[^\[]*\[(\d+)\]:"),
-            mark: None,
-            layout: LogLayout::Single,
-            escapes: Escapes::Bare,
+            ..PLAIN
         },
     ),
     // Mar  7 09:02:10 host sipserver[1234]: recv: 2300120260307    090210AO..|AA..|#015
@@ -49,9 +53,8 @@ pub static PRESETS: [(&str, LogForm<'static>); 11] = [
             request: r"^[^\[]*\[\d+\]: (?i:recv|received|read|in|<-|<<|<):? ?(.*?)(?:#01[25])*$",
             response: r"^[^\[]*\[\d+\]: (?i:send|sent|write|out|->|>>|>):? ?(.*?)(?:#01[25])*$",
             connection: Some(r"^[^\[]*\[(\d+)\]:"),
-            mark: None,
-            layout: LogLayout::Single,
             escapes: Escapes::Octal,
+            ..PLAIN
         },
     ),
     // 2026-03-07 09:02:10,120 INFO mediator: 10.0.0.7:49152 >>> 2300120260307    090210AO..|AA..|<CR>
@@ -61,9 +64,8 @@ pub static PRESETS: [(&str, LogForm<'static>); 11] = [
             request: r"^\S+ \S+ \w+ [^:]*: \S+ (?:>>>|(?i:read|received)):? ?(.*?)(?:<CR>|<LF>)*$",
             response: r"^\S+ \S+ \w+ [^:]*: \S+ (?:<<<|(?i:sent|wrote)):? ?(.*?)(?:<CR>|<LF>)*$",
             connection: Some(r"^\S+ \S+ \w+ [^:]*: (\S+) "),
-            mark: None,
-            layout: LogLayout::Single,
             escapes: Escapes::Angle,
+            ..PLAIN
         },
     ),
     // {"__REALTIME_TIMESTAMP":"1772874130120000","_HOSTNAME":"host","_PID":"1234","MESSAGE":"INPUT MSG: '23001..|AA..|'"}
@@ -73,9 +75,8 @@ pub static PRESETS: [(&str, LogForm<'static>); 11] = [
             request: r"^\S+ \S+ \S+\[\d+\]: INPUT MSG: '(.*)'",
             response: r"^\S+ \S+ \S+\[\d+\]: OUTPUT MSG: '(.*)'",
             connection: Some(r"^[^\[]*\[(\d+)\]:"),
-            mark: None,
             layout: LogLayout::Json,
-            escapes: Escapes::Bare,
+            ..PLAIN
         },
     ),
     // 2026-03-07T09:02:10.120 DESK2 received, and the message on the next line
@@ -86,8 +87,7 @@ pub static PRESETS: [(&str, LogForm<'static>); 11] = [
             response: r"^\S+ \S+ (?i:sent|response)[^\n]*\n(.*)$",
             connection: Some(r"^\S+ (\S+) "),
             mark: Some(r"^\S+ \S+ (?i:received|request|sent|response)[: ]*$"),
-            layout: LogLayout::Single,
-            escapes: Escapes::Bare,
+            ..PLAIN
         },
     ),
     // 2026-03-07T09:02:10.120 DESK2 [2300120260307    090210AO..|AA..|] => [24..]
@@ -97,9 +97,8 @@ pub static PRESETS: [(&str, LogForm<'static>); 11] = [
             request: r"^\S+ \S+ \[(.*?)\] => \[",
             response: r"\] => \[(.*)\]$",
             connection: Some(r"^\S+ (\S+) "),
-            mark: None,
             layout: LogLayout::Pair,
-            escapes: Escapes::Bare,
+            ..PLAIN
         },
     ),
     // 2026-03-07T09:02:10.120 DESK2 <- 2300120260307    090210AO..|AA..|
@@ -109,9 +108,8 @@ pub static PRESETS: [(&str, LogForm<'static>); 11] = [
             request: r"^\S+ \S+ <- (.*)$",
             response: r"^\S+ \S+ -> (.*)$",
             connection: Some(r"^\S+ (\S+) "),
-            mark: None,
-            layout: LogLayout::Single,
             escapes: Escapes::Backslash,
+            ..PLAIN
         },
     ),
     // Mar  7 09:02:10 host sip[1234]: INPUT MSG: '2300120260307    090210AO..|AA..|'
@@ -121,9 +119,7 @@ pub static PRESETS: [(&str, LogForm<'static>); 11] = [
             request: "^[^']*INPUT MSG: '(.*)'",
             response: "^[^']*OUTPUT MSG: '(.*)'",
             connection: Some(r"^[^']*?\[([0-9]+)\]:"),
-            mark: None,
-            layout: LogLayout::Single,
-            escapes: Escapes::Bare,
+            ..PLAIN
         },
     ),
     // 09:02:10 [10.0.0.7:49152] received: 2300120260307    090210AO..|AA..|<CR>
@@ -133,9 +129,8 @@ pub static PRESETS: [(&str, LogForm<'static>); 11] = [
             request: r"(?i)^[^\]]*\] (?:received|recv): ?(.*)$",
             response: r"(?i)^[^\]]*\] sent: ?(.*)$",
             connection: Some(r"^[^\[]*\[([^\]]+)\]"),
-            mark: None,
-            layout: LogLayout::Single,
             escapes: Escapes::Angle,
+            ..PLAIN
         },
     ),
 ];

@@ -1,9 +1,10 @@
 //! What is done with each record of a log, until the journal is whole.
 
-use crate::finder::{Finder, Said};
-use crate::judging::{JournalJudge, LogPlace, push_cut};
+use crate::finder::Finder;
+use crate::judging::JournalJudge;
 use crate::making::{Making, Taken};
 use crate::ordering::Order;
+use crate::place::{LineHead, LogPlace};
 use crate::source::LogRecord;
 use crate::stop::MakingError;
 use log_pairs::Direction;
@@ -39,31 +40,19 @@ pub enum InputKind {
     Trial,
 }
 
-/// What a preset finds in lines.
-#[derive(Clone, Copy)]
-pub struct Fit {
-    pub name: &'static str,
-    pub exchanges: u64,
-    pub odd: u64,
-    pub skipped: u64,
-    /// Messages that aren't odd.
-    pub good: u64,
-}
-
 /// A journal that is made of records, and what is to be reported of them.
 pub struct JournalReader<'l> {
     alloc: Global,
-    making: Making,
-    judge: JournalJudge,
+    pub making: Making,
+    pub judge: JournalJudge,
     order: Order<'l>,
     kind: InputKind,
     /// Whether a journal of no use is written, too.
     force: bool,
+    /// The place of the line or packet that was read last.
+    pub place: LogPlace<'l>,
     /// What is to be reported, and wasn't yet.
-    notes: String,
-    /// Lines or packets that were read, and those of them that say nothing.
-    lines: u64,
-    skipped: u64,
+    pub notes: String,
     /// Gaps in captured streams, and pieces that they leave of messages.
     gaps: u64,
     broken: u64,
@@ -78,9 +67,8 @@ impl Drop for JournalReader<'_> {
             order: _,
             kind: _,
             force: _,
+            place: _,
             notes: _,
-            lines: _,
-            skipped: _,
             gaps: _,
             broken: _,
         } = self;
@@ -97,71 +85,34 @@ impl<'l> JournalReader<'l> {
             order: Order::new(alloc),
             kind,
             force,
+            place: LogPlace { log: "", line: 0 },
             notes: String::new(alloc),
-            lines: 0,
-            skipped: 0,
             gaps: 0,
             broken: 0,
         }
-    }
-
-    /// What was found in lines on which a form is tried.
-    pub fn fit(&self, name: &'static str) -> Fit {
-        Fit {
-            name,
-            exchanges: self.making.exchanges(),
-            odd: self.judge.odd(),
-            skipped: self.skipped,
-            good: self.judge.good(),
-        }
-    }
-
-    /// How many lines or packets were read.
-    pub fn lines(&self) -> u64 {
-        self.lines
-    }
-
-    /// What is to be reported, and wasn't yet.
-    pub fn notes(&self) -> &str {
-        self.notes.as_str()
-    }
-
-    /// All that was to be reported was reported.
-    pub fn clear_notes(&mut self) {
-        self.notes.clear();
-    }
-
-    /// Whether there are enough whole exchanges to write them.
-    pub fn is_full(&self) -> bool {
-        self.making.is_full()
     }
 
     /// Takes the next record.
     pub fn take(
         &mut self,
         finder: &mut Finder<'_>,
-        record: &LogRecord,
-        place: LogPlace<'l>,
+        record: &LogRecord<'l>,
     ) -> Result<(), MakingError> {
-        self.lines = self.lines.saturating_add(record.lines);
+        self.place = record.place;
+        self.judge.lines = self.judge.lines.saturating_add(record.lines);
         let Some(said) = finder.find(self.alloc, &record.text)? else {
-            self.skipped = self.skipped.saturating_add(record.lines);
-            self.judge.skip(self.lines, place, &record.text)?;
+            self.judge.skip(record.lines, self.place, &record.text)?;
             return Ok(());
         };
         if let Some(time) = record.time {
-            self.order.take(place, time, &record.text, &mut self.notes)?;
+            self.order
+                .take(record.place, time, &record.text, &mut self.notes)?;
         }
-        self.hear(&said, place)
-    }
-
-    /// Takes what a record says.
-    fn hear(&mut self, said: &Said<'_>, place: LogPlace<'l>) -> Result<(), MakingError> {
         if let Some(request) = &said.request {
-            self.message(said.connection, Direction::Request, request, place)?;
+            self.message(said.connection, Direction::Request, request)?;
         }
         if let Some(response) = &said.response {
-            self.message(said.connection, Direction::Response, response, place)?;
+            self.message(said.connection, Direction::Response, response)?;
         }
         Ok(())
     }
@@ -172,52 +123,33 @@ impl<'l> JournalReader<'l> {
         connection: &[u8],
         side: Direction,
         message: &[u8],
-        place: LogPlace<'l>,
     ) -> Result<(), MakingError> {
-        self.judge
-            .judge(self.lines, place, connection, side, message)?;
+        let place = self.place;
+        self.judge.judge(place, connection, side, message)?;
         match self.making.take(connection, side, message)? {
             Taken::Paired => {}
-            Taken::Unasked => self.tell(place, "a response without a request\n")?,
+            Taken::Unasked => write!(self.notes, "{place}: a response without a request\n")?,
             Taken::Refused(_) if matches!(self.kind, InputKind::Trial) => {}
-            Taken::Refused(why) => {
-                return Err(MakingError::of_line(self.alloc, place.log, place.line, why));
-            }
+            Taken::Refused(why) => return Err(MakingError::of_line(self.alloc, place, why)),
         }
         Ok(())
     }
 
-    /// Takes a message of the connection of a client, which its address and port name.
-    pub fn client_message(
-        &mut self,
-        client: SocketAddr,
-        side: Direction,
-        message: &[u8],
-        place: LogPlace<'l>,
-    ) -> Result<(), MakingError> {
-        let name = name_of(self.alloc, client)?;
-        self.message(name.as_str().as_bytes(), side, message, place)
-    }
-
-    /// Nothing more comes of the connection of a client.
+    /// Nothing more comes of the connection of a client, which its address and port name.
     pub fn over(&mut self, client: SocketAddr) -> Result<(), MakingError> {
-        let name = name_of(self.alloc, client)?;
-        self.over_by_name(name.as_str().as_bytes())
-    }
-
-    fn over_by_name(&mut self, connection: &[u8]) -> Result<(), MakingError> {
+        let name = format!(in self.alloc; "{client}")?;
+        let connection = name.as_str().as_bytes();
         self.judge.over(connection)?;
         self.making.over(connection)
     }
 
-    /// A packet was read.
-    pub fn count_packet(&mut self) {
-        self.lines = self.lines.saturating_add(1);
-    }
-
-    /// It has no segment that is read.
-    pub fn skip_packet(&mut self) {
-        self.skipped = self.skipped.saturating_add(1);
+    /// The next packet was read; it is skipped where it has no segment that is read.
+    pub fn count_packet(&mut self, is_skipped: bool) {
+        self.place.line = self.place.line.saturating_add(1);
+        self.judge.lines = self.judge.lines.saturating_add(1);
+        if is_skipped {
+            self.judge.skipped = self.judge.skipped.saturating_add(1);
+        }
     }
 
     /// Bytes of a captured stream are missing.
@@ -226,14 +158,12 @@ impl<'l> JournalReader<'l> {
         count: u64,
         side: Direction,
         client: SocketAddr,
-        place: LogPlace<'l>,
     ) -> Result<(), AllocError> {
         self.gaps = self.gaps.saturating_add(1);
-        self.tell(place, "")?;
-        let from = speaker(side);
+        let (place, from) = (self.place, speaker(side));
         write!(
             self.notes,
-            "{count} bytes from the {from} are missing, of {client}\n"
+            "{place}: {count} bytes from the {from} are missing, of {client}\n"
         )
     }
 
@@ -243,31 +173,23 @@ impl<'l> JournalReader<'l> {
         side: Direction,
         client: SocketAddr,
         piece: &[u8],
-        place: LogPlace<'l>,
     ) -> Result<(), AllocError> {
         self.broken = self.broken.saturating_add(1);
-        self.tell(place, "a part of a message from the ")?;
-        let from = speaker(side);
-        write!(self.notes, "{from}, of {client}: ")?;
-        push_cut(&mut self.notes, piece)?;
-        self.notes.push('\n')
+        let (place, from, head) = (self.place, speaker(side), LineHead(piece));
+        write!(
+            self.notes,
+            "{place}: a part of a message from the {from}, of {client}: {head}\n"
+        )
     }
 
     /// A capture ends within a packet, or goes on with what is none.
-    pub fn cut(&mut self, place: LogPlace<'l>) -> Result<(), AllocError> {
+    pub fn cut(&mut self) -> Result<(), AllocError> {
         self.broken = self.broken.saturating_add(1);
-        self.tell(place, "what follows this packet is none, and isn't read\n")
-    }
-
-    /// Reports something of a line or a packet.
-    fn tell(&mut self, place: LogPlace<'_>, what: &str) -> Result<(), AllocError> {
-        let LogPlace { log, line } = place;
-        write!(self.notes, "{log}:{line}: {what}")
-    }
-
-    /// The logs are at their end: requests that are open stay without a response.
-    pub fn close(&mut self) -> Result<(), MakingError> {
-        self.making.close()
+        let place = self.place;
+        write!(
+            self.notes,
+            "{place}: what follows this packet is none, and isn't read\n"
+        )
     }
 
     /// Writes what is whole, where it is a journal of use or is wanted all the same.
@@ -276,7 +198,7 @@ impl<'l> JournalReader<'l> {
             InputKind::Packets => (NOTHING_IN_PACKETS, ODD_PACKETS),
             InputKind::Lines | InputKind::Trial => (NOTHING_IN_LINES, ODD_LINES),
         };
-        if !self.force && self.making.exchanges() == 0 {
+        if !self.force && self.making.exchanges == 0 {
             return Err(MakingError::Useless(nothing));
         }
         if !self.force && self.judge.is_too_odd() {
@@ -288,7 +210,7 @@ impl<'l> JournalReader<'l> {
     /// Reports what was odd.
     pub fn report(&mut self) -> Result<(), AllocError> {
         self.judge.report(&mut self.notes)?;
-        if self.order.falls() > 0 {
+        if self.order.falls > 0 {
             self.notes.push_str(OUT_OF_ORDER)?;
         }
         Ok(())
@@ -298,13 +220,16 @@ impl<'l> JournalReader<'l> {
     pub fn report_counts(&mut self) -> Result<(), AllocError> {
         let is_of_packets = matches!(self.kind, InputKind::Packets);
         let counts = [
-            (if is_of_packets { "packets" } else { "lines" }, self.lines),
-            ("exchanges", self.making.exchanges()),
-            ("without-response", self.making.unanswered()),
-            ("without-request", self.making.unasked()),
-            ("skipped", self.skipped),
-            ("unknown", self.judge.unknown()),
-            ("wrong-checksum", self.judge.wrong()),
+            (
+                if is_of_packets { "packets" } else { "lines" },
+                self.judge.lines,
+            ),
+            ("exchanges", self.making.exchanges),
+            ("without-response", self.making.unanswered),
+            ("without-request", self.making.unasked),
+            ("skipped", self.judge.skipped),
+            ("unknown", self.judge.unknown),
+            ("wrong-checksum", self.judge.wrong),
             ("without-checksum", self.judge.lacking()),
             ("gaps", self.gaps),
             ("parts", self.broken),
@@ -319,11 +244,11 @@ impl<'l> JournalReader<'l> {
 
     /// Whether something was reported that a reader of the journal should know.
     pub fn is_odd(&self) -> bool {
-        self.making.exchanges() == 0
-            || self.making.unanswered() > 0
-            || self.making.unasked() > 0
+        self.making.exchanges == 0
+            || self.making.unanswered > 0
+            || self.making.unasked > 0
             || self.judge.odd() > 0
-            || self.order.falls() > 0
+            || self.order.falls > 0
             || self.gaps > 0
             || self.broken > 0
     }
@@ -335,8 +260,4 @@ fn speaker(side: Direction) -> &'static str {
         Direction::Request => "client",
         Direction::Response => "server",
     }
-}
-
-fn name_of(alloc: Global, client: SocketAddr) -> Result<String, AllocError> {
-    format!(in alloc; "{client}")
 }

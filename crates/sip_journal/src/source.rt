@@ -2,8 +2,8 @@
 
 use crate::finder::Finder;
 use crate::json_lines::plain_line;
-use crate::judging::LogPlace;
 use crate::looks::strange;
+use crate::place::LogPlace;
 use crate::stop::MakingError;
 use crate::times::{Onward, Time, time_of};
 use std::alloc::Global;
@@ -15,34 +15,24 @@ use std::{fs, io};
 const CHUNK: usize = 64 * 1024;
 
 /// A record of a log.
-pub struct LogRecord {
+#[derive(Drop)]
+pub struct LogRecord<'l> {
     pub text: Vec<u8>,
-    /// The number of its first line.
-    pub line: u64,
+    /// The place of its first line.
+    pub place: LogPlace<'l>,
     /// How many lines it has.
     pub lines: u64,
     pub time: Option<Time>,
 }
 
-impl Drop for LogRecord {
-    fn drop(self) {
-        let LogRecord {
-            text: _,
-            line: _,
-            lines: _,
-            time: _,
-        } = self;
-    }
-}
-
 /// A log that is read.
 pub struct LogSource<'l, B> {
     alloc: Global,
-    name: &'l str,
     reader: B,
-    line: u64,
+    /// The place of the line that was read last.
+    place: LogPlace<'l>,
     /// The next record, where logs are read side by side.
-    ahead: Option<LogRecord>,
+    ahead: Option<LogRecord<'l>>,
     clock: Onward,
     /// Its time, or that of the one before where it has none.
     due: u64,
@@ -52,9 +42,8 @@ impl<B: Drop> Drop for LogSource<'_, B> {
     fn drop(self) {
         let LogSource {
             alloc: _,
-            name: _,
             reader: _,
-            line: _,
+            place: _,
             ahead: _,
             clock: _,
             due: _,
@@ -64,12 +53,11 @@ impl<B: Drop> Drop for LogSource<'_, B> {
 
 impl<'l, B: BufRead> LogSource<'l, B> {
     /// Before the first line of a log.
-    pub fn new(alloc: Global, name: &'l str, reader: B) -> LogSource<'l, B> {
+    pub fn new(alloc: Global, log: &'l str, reader: B) -> LogSource<'l, B> {
         LogSource {
             alloc,
-            name,
             reader,
-            line: 0,
+            place: LogPlace { log, line: 0 },
             ahead: None,
             clock: Onward::new(),
             due: 0,
@@ -77,38 +65,28 @@ impl<'l, B: BufRead> LogSource<'l, B> {
     }
 
     /// Refuses a log that is none by its first bytes.
-    pub fn look(&mut self) -> Result<(), MakingError> {
-        let (alloc, name) = (self.alloc, self.name);
+    fn look(&mut self) -> Result<(), MakingError> {
+        let (alloc, log) = (self.alloc, self.place.log);
         let head = match self.reader.fill_buf() {
             Ok(head) => head,
-            Err(error) => return Err(MakingError::of_file(alloc, &error, name)),
+            Err(error) => return Err(MakingError::of_file(alloc, &error, log)),
         };
         match strange(head) {
-            Some(what) => Err(MakingError::refused(alloc, name, what)),
+            Some(what) => Err(MakingError::refused(alloc, log, what)),
             None => Ok(()),
         }
     }
 
-    /// The place of a line.
-    pub fn place(&self, line: u64) -> LogPlace<'l> {
-        LogPlace {
-            log: self.name,
-            line,
-        }
-    }
-
     /// The next record, if there is one.
-    pub fn next(&mut self, finder: &mut Finder<'_>) -> Result<Option<LogRecord>, MakingError> {
+    pub fn next(&mut self, finder: &mut Finder<'_>) -> Result<Option<LogRecord<'l>>, MakingError> {
         let mut text = Vec::new(self.alloc);
         if !self.read_line(&mut text)? {
             return Ok(None);
         }
-        let line = self.line;
+        let place = self.place;
         let mut lines = 1;
         if finder.is_mark(&text) {
-            if text.push(b'\n').is_err() {
-                return Err(MakingError::Memory);
-            }
+            text.push(b'\n')?;
             if self.read_line(&mut text)? {
                 lines = 2;
             }
@@ -121,15 +99,14 @@ impl<'l, B: BufRead> LogSource<'l, B> {
         let time = time_of(&text);
         Ok(Some(LogRecord {
             text,
-            line,
+            place,
             lines,
             time,
         }))
     }
 
-    /// The first lines of a log with their ends, at most this number; it is refused where it is none by its first bytes.
+    /// The first lines of a log with their ends, at most this number.
     pub fn first_lines(&mut self, most: usize) -> Result<Vec<u8>, MakingError> {
-        self.look()?;
         let mut text = Vec::new(self.alloc);
         for _ in 0..most {
             if !self.read_whole_line(&mut text)? {
@@ -143,7 +120,7 @@ impl<'l, B: BufRead> LogSource<'l, B> {
     fn read_whole_line(&mut self, text: &mut Vec<u8>) -> Result<bool, MakingError> {
         match self.reader.read_until(b'\n', text) {
             Ok(count) => Ok(count > 0),
-            Err(error) => Err(MakingError::of_file(self.alloc, &error, self.name)),
+            Err(error) => Err(MakingError::of_file(self.alloc, &error, self.place.log)),
         }
     }
 
@@ -152,7 +129,7 @@ impl<'l, B: BufRead> LogSource<'l, B> {
         if !self.read_whole_line(text)? {
             return Ok(false);
         }
-        self.line = self.line.saturating_add(1);
+        self.place.line = self.place.line.saturating_add(1);
         without(text, b'\n');
         without(text, b'\r');
         Ok(true)
@@ -161,19 +138,16 @@ impl<'l, B: BufRead> LogSource<'l, B> {
     /// Reads the next record ahead, and the time when it is due.
     pub fn prepare(&mut self, finder: &mut Finder<'_>) -> Result<(), MakingError> {
         self.ahead = self.next(finder)?;
-        if let Some(record) = &self.ahead {
-            match record.time {
-                Some(time) => self.due = self.clock.next(time),
-                None if record.line == 1 => {
-                    return Err(MakingError::of_line(
-                        self.alloc,
-                        self.name,
-                        1,
-                        "--merge finds no time in this line",
-                    ));
-                }
-                None => {}
+        let Some(record) = &self.ahead else {
+            return Ok(());
+        };
+        match record.time {
+            Some(time) => self.due = self.clock.next(time),
+            None if record.place.line == 1 => {
+                let why = "--merge finds no time in this line";
+                return Err(MakingError::of_line(self.alloc, record.place, why));
             }
+            None => {}
         }
         Ok(())
     }
@@ -187,24 +161,33 @@ impl<'l, B: BufRead> LogSource<'l, B> {
     }
 
     /// Takes the record that was read ahead, and reads the next one.
-    pub fn take(&mut self, finder: &mut Finder<'_>) -> Result<Option<LogRecord>, MakingError> {
+    pub fn take(&mut self, finder: &mut Finder<'_>) -> Result<Option<LogRecord<'l>>, MakingError> {
         let record = self.ahead.take();
         self.prepare(finder)?;
         Ok(record)
     }
 }
 
+/// A log, open before its first line. It is refused where it is none by its first bytes, unless that is forced.
+pub fn open_log<'l, R: Files + AllocGlobal>(
+    rt: &R,
+    log: &'l str,
+    force: bool,
+) -> Result<LogSource<'l, BufReader<R::File>>, MakingError> {
+    let mut source = LogSource::new(rt.alloc(), log, open_file(rt, log)?);
+    if !force {
+        source.look()?;
+    }
+    Ok(source)
+}
+
 /// A log or a capture, open before its first byte; `-` is standard input.
-pub fn file_of<R: Files + AllocGlobal>(
+pub fn open_file<R: Files + AllocGlobal>(
     rt: &R,
     path: &str,
 ) -> Result<BufReader<R::File>, MakingError> {
-    let file = if path == "-" {
-        open(rt, "/dev/stdin")
-    } else {
-        open(rt, path)
-    };
-    match file {
+    let name = if path == "-" { "/dev/stdin" } else { path };
+    match open(rt, name) {
         Ok(file) => Ok(file),
         Err(error) => Err(MakingError::of_file(rt.alloc(), &error, path)),
     }

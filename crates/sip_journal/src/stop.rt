@@ -1,6 +1,7 @@
 //! What ends a run before its last line is printed, and the status of that.
 
-use std::alloc::{AllocError, Global};
+use crate::place::LogPlace;
+use std::alloc::{AllocError, AllocFailed, Global};
 use std::io;
 use std::io::Write;
 
@@ -11,6 +12,7 @@ pub const REFUSED: u8 = 2;
 pub const FAILED: u8 = 3;
 
 /// Why a run ends before its last line is printed.
+#[derive(Drop)]
 pub enum MakingError {
     /// Memory ran out.
     Memory,
@@ -26,20 +28,14 @@ pub enum MakingError {
     Output,
 }
 
-impl Drop for MakingError {
-    fn drop(self) {
-        match self {
-            MakingError::Refused(_) | MakingError::File(_) => {}
-            MakingError::Memory
-            | MakingError::NoText
-            | MakingError::Useless(_)
-            | MakingError::Output => {}
-        }
+impl From<AllocError> for MakingError {
+    fn from(_error: AllocError) -> MakingError {
+        MakingError::Memory
     }
 }
 
-impl From<AllocError> for MakingError {
-    fn from(_error: AllocError) -> MakingError {
+impl<T: Drop> From<AllocFailed<T>> for MakingError {
+    fn from(_error: AllocFailed<T>) -> MakingError {
         MakingError::Memory
     }
 }
@@ -78,9 +74,9 @@ impl MakingError {
         MakingError::refused_text(format!(in alloc; "the expression of {option}: {error}"))
     }
 
-    /// A line of a log that is refused. Lines count from 1.
-    pub fn of_line(alloc: Global, path: &str, line: u64, why: &str) -> MakingError {
-        MakingError::refused_text(format!(in alloc; "{path}:{line}: {why}"))
+    /// A line of a log that is refused.
+    pub fn of_line(alloc: Global, place: LogPlace<'_>, why: &str) -> MakingError {
+        MakingError::refused_text(format!(in alloc; "{place}: {why}"))
     }
 
     /// What is refused, by this text, unless memory ran out for it.
@@ -88,14 +84,6 @@ impl MakingError {
         match text {
             Ok(text) => MakingError::Refused(text),
             Err(_) => MakingError::Memory,
-        }
-    }
-
-    /// Why the journal would be of no use, where that is what stopped the run.
-    pub fn useless(&self) -> Option<&'static str> {
-        match self {
-            MakingError::Useless(why) => Some(*why),
-            _ => None,
         }
     }
 

@@ -75,11 +75,8 @@ fn dated(before: &[u8], seconds: u64, after: &[u8]) -> Time {
 /// Sixteen digits at the head of a line, as a number.
 fn epoch(head: &[u8]) -> Option<u64> {
     let number = number(head, 0, 16)?;
-    if head.get(16)?.is_ascii_digit() {
-        None
-    } else {
-        Some(number)
-    }
+    let after = head.get(16)?;
+    (!after.is_ascii_digit()).then_some(number)
 }
 
 /// The number that a count of digits spells, from a place on.
@@ -92,11 +89,8 @@ fn number(text: &[u8], from: usize, count: usize) -> Option<u64> {
 }
 
 fn digit(byte: u8) -> Option<u64> {
-    if byte.is_ascii_digit() {
-        Some(u64::from(byte.saturating_sub(b'0')))
-    } else {
-        None
-    }
+    let value = u64::from(byte.saturating_sub(b'0'));
+    byte.is_ascii_digit().then_some(value)
 }
 
 /// The seconds of a clock that a text begins with.
@@ -107,16 +101,11 @@ fn clock(text: &[u8]) -> Option<u64> {
     let hours = number(text, 0, 2)?;
     let minutes = number(text, 3, 2)?;
     let seconds = number(text, 6, 2)?;
-    if hours < 24 && minutes < 60 && seconds < 61 {
-        Some(
-            hours
-                .saturating_mul(3600)
-                .saturating_add(minutes.saturating_mul(60))
-                .saturating_add(seconds),
-        )
-    } else {
-        None
+    if hours >= 24 || minutes >= 60 || seconds >= 61 {
+        return None;
     }
+    let minutes = hours.saturating_mul(60).saturating_add(minutes);
+    Some(minutes.saturating_mul(60).saturating_add(seconds))
 }
 
 /// The number of the day whose date a text ends with, with a space or a T after it: year, month and day.
@@ -131,12 +120,13 @@ fn whole_date(text: &[u8]) -> Option<u64> {
 /// The same of the name of a month, and a day. The year is taken to be a leap year.
 fn yearless_date(text: &[u8]) -> Option<u64> {
     let date = text.get(text.len().checked_sub(7)?..)?;
-    let month = month_named(date.get(..3)?)?;
+    let name = date.get(..3)?;
+    let month = MONTHS.iter().position(|month| *month == name)? as u64;
     let day = match *date.get(4)? {
         b' ' => number(date, 5, 1)?,
         _ => number(date, 4, 2)?,
     };
-    day_number(2000, month, day)
+    day_number(2000, month.checked_add(1)?, day)
 }
 
 fn day_number(year: u64, month: u64, day: u64) -> Option<u64> {
@@ -146,15 +136,6 @@ fn day_number(year: u64, month: u64, day: u64) -> Option<u64> {
         u8::try_from(day).ok()?,
     )?;
     Some(u64::from(day.number()))
-}
-
-fn month_named(name: &[u8]) -> Option<u64> {
-    for (at, month) in MONTHS.iter().enumerate() {
-        if *month == name {
-            return (at as u64).checked_add(1);
-        }
-    }
-    None
 }
 
 /// The microseconds of a fraction that a text begins with, after a point or a comma, and what follows it.
@@ -177,18 +158,18 @@ fn fraction(text: &[u8]) -> (u64, &[u8]) {
 
 /// A time without the zone that a text begins with: a sign, hours, and minutes with or without a colon.
 fn without_zone(local: u64, text: &[u8]) -> u64 {
-    match text.split_first() {
-        Some((b'+', rest)) => local.saturating_sub(zone(rest)),
-        Some((b'-', rest)) => local.saturating_add(zone(rest)),
+    let Some((sign, rest)) = text.split_first() else {
+        return local;
+    };
+    let zone = minutes_of(rest).unwrap_or(0).saturating_mul(MINUTE);
+    match sign {
+        b'+' => local.saturating_sub(zone),
+        b'-' => local.saturating_add(zone),
         _ => local,
     }
 }
 
-fn zone(text: &[u8]) -> u64 {
-    hours_and_minutes(text).unwrap_or(0).saturating_mul(MINUTE)
-}
-
-fn hours_and_minutes(text: &[u8]) -> Option<u64> {
+fn minutes_of(text: &[u8]) -> Option<u64> {
     let hours = number(text, 0, 2)?;
     let minutes = match *text.get(2)? {
         b':' => number(text, 3, 2)?,

@@ -3,8 +3,8 @@
 use crate::chosen::LogForm;
 use crate::finder::{Expressions, Finder};
 use crate::presets::PRESETS;
-use crate::reading::{Fit, InputKind, JournalReader};
-use crate::source::{LogSource, file_of};
+use crate::reading::{InputKind, JournalReader};
+use crate::source::{LogSource, open_log};
 use crate::stop::MakingError;
 use std::alloc::{AllocError, Global};
 use std::rt::Files;
@@ -12,16 +12,27 @@ use std::rt::Files;
 /// How many lines of the log are tried.
 const LINES: usize = 10_000;
 
+/// What a preset finds in lines.
+#[derive(Clone, Copy)]
+struct Fit {
+    name: &'static str,
+    exchanges: u64,
+    odd: u64,
+    skipped: u64,
+    /// Messages that aren't odd.
+    good: u64,
+}
+
 /// A table of the presets, the best first: exchanges, odd messages and skipped lines of the first lines of a log.
 pub fn try_presets<R: Files + AllocGlobal>(rt: &R, log: &str) -> Result<String, MakingError> {
     let alloc = rt.alloc();
-    let text = first_lines(rt, log)?;
+    let text = {
+        let mut source = open_log(rt, log, false)?;
+        source.first_lines(LINES)?
+    };
     let mut fits = Vec::new(alloc);
     for (name, form) in &PRESETS {
-        let fit = fit_of(alloc, name, *form, log, &text)?;
-        if fits.push(fit).is_err() {
-            return Err(MakingError::Memory);
-        }
+        fits.push(fit_of(alloc, name, *form, log, &text)?)?;
     }
     fits.sort_by(|one, other| {
         other
@@ -47,13 +58,6 @@ fn table(alloc: Global, fits: &[Fit]) -> Result<String, AllocError> {
     Ok(text)
 }
 
-/// The first lines of a log.
-fn first_lines<R: Files + AllocGlobal>(rt: &R, log: &str) -> Result<Vec<u8>, MakingError> {
-    let alloc = rt.alloc();
-    let mut source = LogSource::new(alloc, log, file_of(rt, log)?);
-    source.first_lines(LINES)
-}
-
 /// What the preset of a name and a form finds in the lines of a log.
 fn fit_of(
     alloc: Global,
@@ -67,7 +71,13 @@ fn fit_of(
     let mut source = LogSource::new(alloc, log, text);
     let mut reading = JournalReader::new(alloc, InputKind::Trial, 1, false);
     read(&mut source, &mut finder, &mut reading)?;
-    Ok(reading.fit(name))
+    Ok(Fit {
+        name,
+        exchanges: reading.making.exchanges,
+        odd: reading.judge.odd(),
+        skipped: reading.judge.skipped,
+        good: reading.judge.good(),
+    })
 }
 
 /// Reads the lines of a log.
@@ -80,8 +90,7 @@ fn read<'l>(
         let Some(record) = source.next(finder)? else {
             break;
         };
-        let place = source.place(record.line);
-        reading.take(finder, &record, place)?;
+        reading.take(finder, &record)?;
     }
-    reading.close()
+    reading.making.close()
 }

@@ -1,15 +1,15 @@
 //! What changed: the tables that a run began with against those that it wrote.
 
-use crate::files::{FileRows, TableFile, read_in};
+use crate::files::{FEES, HOLDS, ITEMS, LOANS, PATRONS, TableFile, rows_of};
 use crate::findings::Findings;
 use crate::stop::PageError;
 use crate::subjects::{SubjectChange, Subjects};
 use csv::ByteRecord;
 use csv_table::column;
+use page_run::{BaseTexts, BothTexts, NameTexts};
 use page_words::{Case, CaseNames, ShownField, TextsById, cut, fill};
 use std::alloc::{AllocError, Global};
 use std::collections::BTreeMap;
-use std::rt::Files;
 
 /// How a row reads: whom and what it is about, on two lines; what it says.
 struct TableSentence {
@@ -18,47 +18,25 @@ struct TableSentence {
     says: &'static str,
 }
 
-static PATRONS: TableFile = TableFile {
-    file: "patrons.csv",
-    header: &["id", "name", "class", "blocked"],
-};
-
-static ITEMS: TableFile = TableFile {
-    file: "items.csv",
-    header: &["id", "title", "media", "location", "properties"],
-};
-
 /// What is said of patrons.
 static OF_PATRONS: [TableSentence; 4] = [
     TableSentence {
-        table: TableFile {
-            file: "patrons.csv",
-            header: &["id", "name", "class", "blocked"],
-        },
+        table: PATRONS,
         about: "{~id}\nblock",
         says: "{~blocked}",
     },
     TableSentence {
-        table: TableFile {
-            file: "loans.csv",
-            header: &["patron", "item", "due", "renewals"],
-        },
+        table: LOANS,
         about: "{~patron}\nloan of {~item}",
         says: "until {~due}, renewals {~renewals}",
     },
     TableSentence {
-        table: TableFile {
-            file: "fees.csv",
-            header: &["id", "patron", "type", "amount", "paid"],
-        },
+        table: FEES,
         about: "{~patron}\nfee {~id}",
         says: "{~type} {~amount}, paid {~paid}",
     },
     TableSentence {
-        table: TableFile {
-            file: "holds.csv",
-            header: &["item", "patron", "pickup"],
-        },
+        table: HOLDS,
         about: "{~patron}\nhold on {~item}",
         says: "waits, pickup {~pickup}",
     },
@@ -67,93 +45,46 @@ static OF_PATRONS: [TableSentence; 4] = [
 /// What is said of items.
 static OF_ITEMS: [TableSentence; 3] = [
     TableSentence {
-        table: TableFile {
-            file: "items.csv",
-            header: &["id", "title", "media", "location", "properties"],
-        },
+        table: ITEMS,
         about: "{~id}\nproperties",
         says: "{~properties}",
     },
     TableSentence {
-        table: TableFile {
-            file: "loans.csv",
-            header: &["patron", "item", "due", "renewals"],
-        },
+        table: LOANS,
         about: "{~thing}\nloan",
         says: "to {~AA} until {~due}, renewals {~renewals}",
     },
     TableSentence {
-        table: TableFile {
-            file: "holds.csv",
-            header: &["item", "patron", "pickup"],
-        },
+        table: HOLDS,
         about: "{~thing}\nhold of {~AA}",
         says: "waits, pickup {~pickup}",
     },
 ];
 
-/// The texts of a column of a table of a folder, by the ids of the rows.
-fn texts_of<R: Files + AllocGlobal>(
-    rt: &R,
-    folder: &str,
-    table: &TableFile,
-) -> Result<TextsById, PageError> {
-    let mut texts = BTreeMap::new(rt.alloc());
-    let text = read_in(rt, folder, table)?;
-    put_texts(rt.alloc(), &mut texts, table, &text)?;
-    Ok(texts)
-}
-
-/// Puts the texts of the rows of a table at their ids.
-fn put_texts(
-    alloc: Global,
-    texts: &mut TextsById,
-    table: &TableFile,
-    text: &[u8],
-) -> Result<(), PageError> {
-    let mut rows = FileRows::under(alloc, table, text)?;
-    let mut row = ByteRecord::new(alloc);
-    for _ in 0..u64::MAX {
-        if !rows.next(&mut row)? {
-            break;
-        }
-        put_text(alloc, texts, &row)?;
-    }
-    Ok(())
-}
-
-/// Puts the second field of a row at its first.
-fn put_text(alloc: Global, texts: &mut TextsById, row: &ByteRecord) -> Result<(), AllocError> {
-    let id = Vec::from_slice(alloc, column(row, 0))?;
-    let text = Vec::from_slice(alloc, column(row, 1))?;
-    put(texts, id, text)
-}
-
 /// What the items and the patrons of a folder are called.
-pub fn names_of<R: Files + AllocGlobal>(rt: &R, folder: &str) -> Result<CaseNames, PageError> {
+pub fn names_of(alloc: Global, texts: &NameTexts) -> Result<CaseNames, PageError> {
     Ok(CaseNames {
-        titles: texts_of(rt, folder, &ITEMS)?,
-        patrons: texts_of(rt, folder, &PATRONS)?,
+        titles: texts_of(alloc, &ITEMS, &texts.items)?,
+        patrons: texts_of(alloc, &PATRONS, &texts.patrons)?,
     })
 }
 
-/// Refuses tables of a base that has other patrons or items than the output: no message makes or removes one.
-pub fn check_base<R: Files + AllocGlobal>(
-    rt: &R,
-    base: &str,
-    names: &CaseNames,
-) -> Result<(), PageError> {
-    let base = CaseNames {
-        patrons: texts_of(rt, base, &PATRONS)?,
-        titles: texts_of(rt, base, &ITEMS)?,
-    };
-    check_names(rt.alloc(), &base, names)
+/// The second fields of the rows of a table, by their first ones.
+fn texts_of(alloc: Global, table: &TableFile, text: &[u8]) -> Result<TextsById, PageError> {
+    let mut texts = BTreeMap::new(alloc);
+    for row in &rows_of(alloc, table, text)? {
+        let id = Vec::from_slice(alloc, column(row, 0))?;
+        texts.insert(id, Vec::from_slice(alloc, column(row, 1))?)?;
+    }
+    Ok(texts)
 }
 
-/// Refuses patrons or items that aren't those of the output.
-fn check_names(alloc: Global, base: &CaseNames, out: &CaseNames) -> Result<(), PageError> {
-    check_same(alloc, PATRONS.file, &base.patrons, &out.patrons)?;
-    check_same(alloc, ITEMS.file, &base.titles, &out.titles)
+/// Refuses tables of a base that has other patrons or items than the output: no message makes or removes one.
+pub fn check_base(alloc: Global, base: &NameTexts, names: &CaseNames) -> Result<(), PageError> {
+    let patrons = texts_of(alloc, &PATRONS, &base.patrons)?;
+    let titles = texts_of(alloc, &ITEMS, &base.items)?;
+    check_same(alloc, PATRONS.file, &patrons, &names.patrons)?;
+    check_same(alloc, ITEMS.file, &titles, &names.titles)
 }
 
 /// Refuses rows that differ between the base and the output.
@@ -176,45 +107,52 @@ fn check_same(
     Ok(())
 }
 
+/// Gives each change of the run to the patron and to the item that it is of, and returns those of patrons that no wrong response is about.
+pub fn note_changes(
+    alloc: Global,
+    after: &NameTexts,
+    base: &BaseTexts,
+    names: &CaseNames,
+    findings: &mut Findings,
+) -> Result<Vec<SubjectChange>, PageError> {
+    let items = (base.names.items.as_slice(), after.items.as_slice());
+    let patrons = (base.names.patrons.as_slice(), after.patrons.as_slice());
+    let [loans, holds, fees] = [both(&base.loans), both(&base.holds), both(&base.fees)];
+    let of_items = changes_of(alloc, &OF_ITEMS, &[items, loans, holds], names)?;
+    share(alloc, &of_items, &mut findings.items)?;
+    let of_patrons = changes_of(alloc, &OF_PATRONS, &[patrons, loans, fees, holds], names)?;
+    share(alloc, &of_patrons, &mut findings.patrons)
+}
+
+/// A table before the run, and after it.
+fn both(texts: &BothTexts) -> (&[u8], &[u8]) {
+    (texts.before.as_slice(), texts.after.as_slice())
+}
+
 /// What changed, by whom and what it is about: the old text, then, if there is one, a line feed (no text of a table
 /// has one) and the new text.
 type Changes = BTreeMap<Vec<u8>, Vec<u8>>;
 
-/// How the tables of the output differ from those of the base.
-fn changes_of<R: Files + AllocGlobal>(
-    rt: &R,
-    sources: &[TableSentence],
-    base: &str,
-    out: &str,
+/// How tables differ before the run and after it: each with the sentence of its rows.
+fn changes_of(
+    alloc: Global,
+    sentences: &[TableSentence],
+    tables: &[(&[u8], &[u8])],
     names: &CaseNames,
 ) -> Result<Changes, PageError> {
-    let mut changes = BTreeMap::new(rt.alloc());
-    for source in sources {
-        note_table(rt, &mut changes, source, base, out, names)?;
+    let mut changes = BTreeMap::new(alloc);
+    for (sentence, (before, after)) in sentences.iter().zip(tables) {
+        note_rows(alloc, &mut changes, sentence, before, names, false)?;
+        note_rows(alloc, &mut changes, sentence, after, names, true)?;
     }
     Ok(changes)
-}
-
-/// Takes in what a table says, before and after.
-fn note_table<R: Files + AllocGlobal>(
-    rt: &R,
-    changes: &mut Changes,
-    source: &TableSentence,
-    base: &str,
-    out: &str,
-    names: &CaseNames,
-) -> Result<(), PageError> {
-    let before = read_in(rt, base, &source.table)?;
-    note_rows(rt.alloc(), changes, source, &before, names, false)?;
-    let after = read_in(rt, out, &source.table)?;
-    note_rows(rt.alloc(), changes, source, &after, names, true)
 }
 
 /// Takes in what each row of a table says, before or after.
 fn note_rows(
     alloc: Global,
     changes: &mut Changes,
-    source: &TableSentence,
+    sentence: &TableSentence,
     text: &[u8],
     names: &CaseNames,
     after: bool,
@@ -222,34 +160,17 @@ fn note_rows(
     if text.is_empty() {
         return Ok(());
     }
-    let mut rows = FileRows::under(alloc, &source.table, text)?;
-    let mut row = ByteRecord::new(alloc);
-    for _ in 0..u64::MAX {
-        if !rows.next(&mut row)? {
-            break;
+    for row in &rows_of(alloc, &sentence.table, text)? {
+        let case = case_of_row(alloc, &sentence.table, row)?;
+        let about = filled(alloc, sentence.about, &case, names)?;
+        let says = filled(alloc, sentence.says, &case, names)?;
+        if after {
+            compare(alloc, changes, about, &says)?;
+        } else {
+            changes.insert(about, says)?;
         }
-        note_row(alloc, changes, source, &row, names, after)?;
     }
     Ok(())
-}
-
-/// Takes in what a row says.
-fn note_row(
-    alloc: Global,
-    changes: &mut Changes,
-    source: &TableSentence,
-    row: &ByteRecord,
-    names: &CaseNames,
-    after: bool,
-) -> Result<(), AllocError> {
-    let case = case_of_row(alloc, &source.table, row)?;
-    let about = filled(alloc, source.about, &case, names)?;
-    let says = filled(alloc, source.says, &case, names)?;
-    if after {
-        compare(alloc, changes, about, &says)
-    } else {
-        put(changes, about, says)
-    }
 }
 
 /// A text with its braces filled in.
@@ -278,36 +199,20 @@ fn case_of_row<'r>(
         recorded: Vec::new(alloc),
         right: Vec::new(alloc),
     };
-    for (position, name) in table.header.iter().enumerate() {
-        push_fields(&mut case.right, name, column(row, position))?;
+    for (position, header) in table.header.iter().enumerate() {
+        let name = header.as_bytes();
+        let value = column(row, position);
+        case.right.push(ShownField { name, value })?;
+        match name {
+            b"item" => case.right.push(ShownField {
+                name: b"thing",
+                value,
+            })?,
+            b"patron" => case.right.push(ShownField { name: b"AA", value })?,
+            _ => {}
+        }
     }
     Ok(case)
-}
-
-/// Adds a column as a field, and once more under the name by which it is written.
-fn push_fields<'r>(
-    fields: &mut Vec<ShownField<'r>>,
-    name: &'static str,
-    value: &'r [u8],
-) -> Result<(), AllocError> {
-    fields.push(ShownField {
-        name: name.as_bytes(),
-        value,
-    })?;
-    let again: &[u8] = match name {
-        "item" => b"thing",
-        "patron" => b"AA",
-        _ => return Ok(()),
-    };
-    fields.push(ShownField { name: again, value })?;
-    Ok(())
-}
-
-fn put(changes: &mut Changes, about: Vec<u8>, says: Vec<u8>) -> Result<(), AllocError> {
-    match changes.insert(about, says) {
-        Ok(_) => Ok(()),
-        Err(_) => Err(AllocError),
-    }
 }
 
 /// Compares a new text with the old one, which is dropped where they agree.
@@ -326,18 +231,23 @@ fn compare(
     }
     both.push(b'\n')?;
     both.extend_from_slice(says)?;
-    put(changes, about, both)
+    changes.insert(about, both)?;
+    Ok(())
 }
 
-/// Adds each change to its patron or item, and returns the others.
-fn share_out(
+/// Gives each change to its patron or item, and returns those of others.
+fn share(
     alloc: Global,
     changes: &Changes,
     subjects: &mut Subjects,
-) -> Result<Vec<SubjectChange>, AllocError> {
+) -> Result<Vec<SubjectChange>, PageError> {
     let mut others = Vec::new(alloc);
     for (about, says) in changes {
-        give(subjects, &mut others, change_of(alloc, about, says)?)?;
+        let change = change_of(alloc, about, says)?;
+        match subjects.get_mut(change.id.as_slice()) {
+            Some(subject) => subject.changes.push(change)?,
+            None => others.push(change)?,
+        }
     }
     Ok(others)
 }
@@ -352,48 +262,4 @@ fn change_of(alloc: Global, about: &[u8], says: &[u8]) -> Result<SubjectChange, 
         before: Vec::from_slice(alloc, before)?,
         after: Vec::from_slice(alloc, if after.is_empty() { b"none" } else { after })?,
     })
-}
-
-/// Adds a change to its patron or item, or to the others.
-fn give(
-    subjects: &mut Subjects,
-    others: &mut Vec<SubjectChange>,
-    change: SubjectChange,
-) -> Result<(), AllocError> {
-    match subjects.get_mut(change.id.as_slice()) {
-        Some(subject) => add_change(&mut subject.changes, change),
-        None => add_change(others, change),
-    }
-}
-
-fn add_change(changes: &mut Vec<SubjectChange>, change: SubjectChange) -> Result<(), AllocError> {
-    match changes.push(change) {
-        Ok(()) => Ok(()),
-        Err(_) => Err(AllocError),
-    }
-}
-
-/// Gives each change of the run to the patron and to the item that it is of, and returns those of patrons that no wrong response is about.
-pub fn note_changes<R: Files + AllocGlobal>(
-    rt: &R,
-    base: &str,
-    out: &str,
-    names: &CaseNames,
-    findings: &mut Findings,
-) -> Result<Vec<SubjectChange>, PageError> {
-    share(rt, &OF_ITEMS, base, out, names, &mut findings.items)?;
-    share(rt, &OF_PATRONS, base, out, names, &mut findings.patrons)
-}
-
-/// Gives each change that these tables show to whom or what it is of, and returns those of others.
-fn share<R: Files + AllocGlobal>(
-    rt: &R,
-    sources: &[TableSentence],
-    base: &str,
-    out: &str,
-    names: &CaseNames,
-    subjects: &mut Subjects,
-) -> Result<Vec<SubjectChange>, PageError> {
-    let changes = changes_of(rt, sources, base, out, names)?;
-    Ok(share_out(rt.alloc(), &changes, subjects)?)
 }

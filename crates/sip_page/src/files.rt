@@ -1,41 +1,83 @@
-//! The files of a run, and the rows of its tables.
+//! The tables of a run: their files, their headers and their rows.
 
 use crate::stop::PageError;
 use csv::ByteRecord;
 use csv_table::RowReader;
 use std::alloc::Global;
-use std::rt::Files;
-use std::{fs, io};
 
 /// A table: the name of its file, and its header.
+#[derive(Clone, Copy)]
 pub struct TableFile {
     pub file: &'static str,
     pub header: &'static [&'static str],
 }
 
-/// The bytes of a file.
-pub fn read<R: Files + AllocGlobal>(rt: &R, path: &str) -> Result<Vec<u8>, PageError> {
-    match fs::read(rt, path) {
-        Ok(bytes) => Ok(bytes),
-        Err(error) => Err(PageError::of_file(rt.alloc(), &error, path)),
-    }
-}
+pub const JOURNAL: TableFile = TableFile {
+    file: "journal.csv",
+    header: &one_run::JOURNAL,
+};
 
-/// The bytes of a table of a folder; a missing `holds.csv` is empty.
-pub fn read_in<R: Files + AllocGlobal>(
-    rt: &R,
-    folder: &str,
+pub const ANSWERS: TableFile = TableFile {
+    file: "answers.csv",
+    header: &one_run::ANSWERS,
+};
+
+pub const PASSED: TableFile = TableFile {
+    file: "passed.csv",
+    header: &one_run::PASSED,
+};
+
+pub const REPORT: TableFile = TableFile {
+    file: "report.csv",
+    header: &one_run::REPORT,
+};
+
+pub const WHY: TableFile = TableFile {
+    file: "why.csv",
+    header: &["line", "reason", "kind", "id", "since", "said"],
+};
+
+pub const PATRONS: TableFile = TableFile {
+    file: "patrons.csv",
+    header: &["id", "name", "class", "blocked"],
+};
+
+pub const ITEMS: TableFile = TableFile {
+    file: "items.csv",
+    header: &["id", "title", "media", "location", "properties"],
+};
+
+pub const LOANS: TableFile = TableFile {
+    file: "loans.csv",
+    header: &["patron", "item", "due", "renewals"],
+};
+
+pub const FEES: TableFile = TableFile {
+    file: "fees.csv",
+    header: &["id", "patron", "type", "amount", "paid"],
+};
+
+pub const HOLDS: TableFile = TableFile {
+    file: "holds.csv",
+    header: &["item", "patron", "pickup"],
+};
+
+/// The rows of a table, which a text spells.
+pub fn rows_of(
+    alloc: Global,
     table: &TableFile,
-) -> Result<Vec<u8>, PageError> {
-    let name = table.file;
-    let path = format!(in rt.alloc(); "{folder}/{name}")?;
-    match fs::read(rt, path.as_str()) {
-        Ok(bytes) => Ok(bytes),
-        Err(error) if error.kind() == io::ErrorKind::NotFound && name == "holds.csv" => Ok(Vec::new(
-            rt.alloc(),
-        )),
-        Err(error) => Err(PageError::of_file(rt.alloc(), &error, path.as_str())),
+    text: &[u8],
+) -> Result<Vec<ByteRecord>, PageError> {
+    let mut reader = FileRows::under(alloc, table, text)?;
+    let mut rows = Vec::new(alloc);
+    for _ in 0..u64::MAX {
+        let mut row = ByteRecord::new(alloc);
+        if !reader.next(&mut row)? {
+            break;
+        }
+        rows.push(row)?;
     }
+    Ok(rows)
 }
 
 /// The rows of a table under its header, read one at a time.

@@ -1,14 +1,14 @@
 //! What is found in a run: its counts, and its wrong responses in groups.
 
-use crate::facts::{Facts, facts_of, items_of, patrons_of};
-use crate::groups::{Groups, count_in, key_of, show_in};
+use crate::facts::{key_of, put_facts};
+use crate::groups::{Group, Groups, count_in, show_in};
 use crate::reading::{LineRows, RunReader};
 use crate::stop::PageError;
-use crate::subjects::{Subjects, note};
-use crate::tally::{Tally, count, counted};
+use crate::subjects::{Subjects, items_of, note, patrons_of};
+use crate::tally::{Tally, count};
 use crate::whys::Whys;
 use one_run::{Fate, RunTexts};
-use page_words::{CaseNames, value_in};
+use page_words::{Case, CaseNames, value_in};
 use std::alloc::{AllocError, Global};
 use std::collections::BTreeMap;
 
@@ -16,7 +16,7 @@ use std::collections::BTreeMap;
 pub struct Findings {
     alloc: Global,
     /// How many wrong responses are shown at most.
-    limit: u64,
+    pub limit: u64,
     pub lines: u64,
     pub answered: u64,
     /// How many recorded responses were wrong.
@@ -26,11 +26,11 @@ pub struct Findings {
     pub last_line: u64,
     /// The institution of the first answer that has one.
     pub library: Vec<u8>,
-    /// How many of the wrong responses came on each day, as eight digits, and in each hour of the clock.
+    /// How many of the wrong responses came on each day, as eight digits, and in each hour of the clock, as two.
     pub days: Tally,
     pub hours: Tally,
     /// How many responses of each message over each connection were right.
-    pub right: Tally,
+    right: Tally,
     pub groups: Groups,
     pub patrons: Subjects,
     pub items: Subjects,
@@ -83,12 +83,10 @@ impl Findings {
         self.days.len() > 1
     }
 
-    fn note_line(&mut self, number: u64) {
-        if self.lines == 0 {
-            self.first_line = number;
-        }
-        self.last_line = number;
-        self.lines = self.lines.saturating_add(1);
+    /// How many responses to a message over a connection were right.
+    pub fn right_at(&self, kind: &[u8], connection: &[u8]) -> Result<u64, AllocError> {
+        let name = message_at(self.alloc, kind, connection)?;
+        Ok(self.right.get(name.as_slice()).copied().unwrap_or(0))
     }
 
     /// Notes the lines of a run, which have these fates.
@@ -101,28 +99,28 @@ impl Findings {
     ) -> Result<(), PageError> {
         let mut reading = RunReader::of(self.alloc, texts)?;
         for fate in fates {
-            self.note_next(&mut reading, *fate, names, whys)?;
+            self.note_line(reading.next(*fate)?, *fate, names, whys)?;
         }
         Ok(())
     }
 
-    /// Notes the next line, which has this fate.
-    fn note_next(
+    /// Notes a line, which has this fate.
+    fn note_line(
         &mut self,
-        reading: &mut RunReader<'_>,
+        line: &LineRows,
         fate: Fate,
         names: &CaseNames,
         whys: &mut Whys,
-    ) -> Result<(), PageError> {
-        self.note_line(reading.next_line()?);
+    ) -> Result<(), AllocError> {
+        if self.lines == 0 {
+            self.first_line = line.number;
+        }
+        self.last_line = line.number;
+        self.lines = self.lines.saturating_add(1);
         match fate {
             Fate::Passed => Ok(()),
-            Fate::Right => Ok(self.note_answered(reading.next_answer()?, false, whys)?),
-            Fate::Wrong => {
-                self.note_answered(reading.next_answer()?, true, whys)?;
-                self.wrong = self.wrong.saturating_add(1);
-                Ok(self.note_wrong(reading.next_wrong()?, names, whys)?)
-            }
+            Fate::Right => self.note_answered(line, false, names, whys),
+            Fate::Wrong => self.note_answered(line, true, names, whys),
         }
     }
 
@@ -131,6 +129,7 @@ impl Findings {
         &mut self,
         line: &LineRows,
         is_wrong: bool,
+        names: &CaseNames,
         whys: &mut Whys,
     ) -> Result<(), AllocError> {
         self.answered = self.answered.saturating_add(1);
@@ -143,79 +142,60 @@ impl Findings {
         whys.note(line.number, date, line.connection())?;
         self.note_time(date, u64::from(is_wrong))?;
         if is_wrong {
-            return Ok(());
+            self.wrong = self.wrong.saturating_add(1);
+            return self.note_wrong(line, &case, names, whys);
         }
-        self.note_right(case.kind, line.connection())
+        let name = message_at(self.alloc, case.kind, line.connection())?;
+        count(self.alloc, &mut self.right, &name, 1)
     }
 
-    /// Counts this many wrong responses more in the day and the hour of a transaction date.
+    /// Counts this many wrong responses more in the day and the hour of a transaction date, if it begins with eight digits.
     fn note_time(&mut self, date: &[u8], more: u64) -> Result<(), AllocError> {
-        if !is_day(date) {
+        let Some(day) = date.get(..8) else {
+            return Ok(());
+        };
+        if !day.iter().all(|byte| byte.is_ascii_digit()) {
             return Ok(());
         }
-        count(
-            self.alloc,
-            &mut self.days,
-            date.get(..8).unwrap_or(b""),
-            more,
-        )?;
+        count(self.alloc, &mut self.days, day, more)?;
         let hour = date.get(12..14).unwrap_or(b"--");
         count(self.alloc, &mut self.hours, hour, more)
-    }
-
-    /// Counts a right response.
-    fn note_right(&mut self, kind: &[u8], connection: &[u8]) -> Result<(), AllocError> {
-        let name = message_at(self.alloc, kind, connection)?;
-        count(self.alloc, &mut self.right, &name, 1)
     }
 
     /// Notes a wrong response, which is shown where fewer than the limit were before it.
     fn note_wrong(
         &mut self,
         line: &LineRows,
+        case: &Case<'_>,
         names: &CaseNames,
         whys: &Whys,
     ) -> Result<(), AllocError> {
-        let facts = facts_of(self.alloc, line, names, whys)?;
-        let key = key_of(self.alloc, &facts)?;
-        self.count_wrong(&key, facts)?;
+        let right = self.right_at(case.kind, line.connection())?;
+        let mut group = Group::none(self.alloc, right);
+        put_facts(&mut group, line, case, names, whys)?;
+        let key = key_of(self.alloc, &group, whys.reason_of(line.number))?;
+        count_in(self.alloc, &mut self.groups, &key, group)?;
         if self.wrong > self.limit {
             return Ok(());
         }
         show_in(&mut self.groups, &key, line)?;
-        self.note_subjects(line)
-    }
-
-    /// Counts a wrong response in its group.
-    fn count_wrong(&mut self, key: &[u8], facts: Facts) -> Result<(), AllocError> {
-        let name = message_at(self.alloc, &facts.kind, &facts.connection)?;
-        let right = counted(&self.right, &name);
-        count_in(&mut self.groups, key, facts, right)
+        self.note_subjects(line.number, case)
     }
 
     /// Notes whom and what a wrong response is about.
-    fn note_subjects(&mut self, line: &LineRows) -> Result<(), AllocError> {
-        let case = line.case(self.alloc)?;
-        for id in &patrons_of(self.alloc, &case)? {
-            note(self.alloc, &mut self.patrons, id, line.number)?;
+    fn note_subjects(&mut self, line: u64, case: &Case<'_>) -> Result<(), AllocError> {
+        for id in &patrons_of(self.alloc, case)? {
+            note(self.alloc, &mut self.patrons, id, line)?;
         }
-        for id in &items_of(self.alloc, &case)? {
-            note(self.alloc, &mut self.items, id, line.number)?;
+        for id in &items_of(self.alloc, case)? {
+            note(self.alloc, &mut self.items, id, line)?;
         }
         Ok(())
     }
 }
 
-/// Whether a transaction date begins with eight digits.
-fn is_day(date: &[u8]) -> bool {
-    match date.get(..8) {
-        Some(day) => day.iter().all(|byte| byte.is_ascii_digit()),
-        None => false,
-    }
-}
-
 /// The name of a message over a connection, in a tally.
-pub fn message_at(alloc: Global, kind: &[u8], connection: &[u8]) -> Result<Vec<u8>, AllocError> {
+fn message_at(alloc: Global, kind: &[u8], connection: &[u8]) -> Result<Vec<u8>, AllocError> {
     let mut name = Vec::from_slice(alloc, kind)?;
     name.push(b' ')?;
     name.extend_from_slice(connection)?;

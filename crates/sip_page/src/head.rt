@@ -135,3 +135,16 @@ svg, .w li { print-color-adjust: exact; }
 <header>
 <h1>What was wrong, and what is right</h1>
 ";
+
+/// The end of the head, and links to the parts of the page.
+pub const PARTS: &str = "</strong>.</p>
+</header>
+<nav aria-label=\"Parts of the page\"><ul>
+<li><a href=\"#summary\">Summary</a></li>
+<li><a href=\"#wrong\">Wrong responses</a></li>
+<li><a href=\"#patrons\">Patrons</a></li>
+<li><a href=\"#items\">Items</a></li>
+<li><a href=\"#passed\">Passed over</a></li>
+</ul></nav>
+<main>
+";

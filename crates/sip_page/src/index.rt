@@ -1,18 +1,24 @@
 //! Tables of how many wrong responses there are of each word, message, connection, day and hour, with links to the groups.
 
+use crate::gathered::Gathered;
 use crate::groups::Group;
-use crate::sheet::Sheet;
-use crate::shown::{View, plural_of};
-use crate::tally::{Tally, most_of};
-use page_words::{WORDS, cut, known, put_day};
+use crate::sheet::{Sheet, TABLE_END};
+use crate::tally::Tally;
+use page_words::{PLURALS, WORDS, known, put_day};
 use std::alloc::{AllocError, Global};
 use std::collections::BTreeMap;
 
 /// The length of the longest bar.
 const LONGEST: u64 = 240;
 
-/// The end of a table.
-const TABLE_END: &str = "</tbody></table></div>\n";
+/// The beginning of a table, up to what it counts by, and the head of the column with its counts.
+const COUNTS: &str = "<div class=\"t\"><table class=\"n\"><caption>Wrong responses by ";
+
+const COUNT: &str = "Wrong responses";
+
+/// The end of the first cell of a row, and the beginning of one with a bar, up to the length of the bar.
+const BAR: &str =
+    "</th><td><svg aria-hidden=\"true\" viewBox=\"0 0 240 20\" preserveAspectRatio=\"none\"><rect height=\"20\" width=\"";
 
 /// How many wrong responses there are of a name, and in which groups.
 #[derive(Drop)]
@@ -32,49 +38,53 @@ pub enum By {
 }
 
 impl By {
-    fn head(self) -> &'static str {
+    /// How the caption of the table ends, and the heads of its first column and of its last.
+    fn heads(self) -> (&'static str, &'static str, &'static str) {
         match self {
-            By::Word =>
-                "<div class=\"t\"><table class=\"n\"><caption>Wrong responses by what is wrong</caption>\n<thead><tr><th scope=\"col\">Wrong is</th><th scope=\"col\">Wrong responses</th><th scope=\"col\">Where</th></tr></thead>\n<tbody>\n",
-            By::Message =>
-                "<div class=\"t\"><table class=\"n\"><caption>Wrong responses by message</caption>\n<thead><tr><th scope=\"col\">Message</th><th scope=\"col\">Wrong responses</th><th scope=\"col\">What and where</th></tr></thead>\n<tbody>\n",
-            By::Connection =>
-                "<div class=\"t\"><table class=\"n\"><caption>Wrong responses by connection</caption>\n<thead><tr><th scope=\"col\">Connection</th><th scope=\"col\">Wrong responses</th><th scope=\"col\">What</th></tr></thead>\n<tbody>\n",
+            By::Word => ("what is wrong", "Wrong is", "Where"),
+            By::Message => ("message", "Message", "What and where"),
+            By::Connection => ("connection", "Connection", "What"),
         }
     }
 
     /// What a link to the group says, in two parts.
     fn label(self, group: &Group) -> (&[u8], &[u8]) {
-        let facts = &group.facts;
         match self {
-            By::Word => (plural_of(&facts.kind), facts.connection.as_slice()),
-            By::Message => (facts.words.as_slice(), facts.connection.as_slice()),
-            By::Connection => (plural_of(&facts.kind), facts.words.as_slice()),
+            By::Word => (plural_of(&group.kind), group.connection.as_slice()),
+            By::Message => (group.words.as_slice(), group.connection.as_slice()),
+            By::Connection => (plural_of(&group.kind), group.words.as_slice()),
         }
     }
 }
 
+/// What several requests of a kind are called.
+pub fn plural_of(kind: &[u8]) -> &'static [u8] {
+    let name = known(PLURALS, kind);
+    if name.is_empty() { b"requests" } else { name }
+}
+
 /// Adds a table of the groups under their words, messages or connections.
-pub fn add_index(sheet: &mut Sheet, view: &View<'_>, by: By) -> Result<(), AllocError> {
-    let mut index = BTreeMap::new(view.alloc);
-    for group in view.findings.groups.values() {
-        put_group(view.alloc, &mut index, by, group)?;
+pub fn add_index(sheet: &mut Sheet, run: &Gathered, by: By) -> Result<(), AllocError> {
+    let mut index = BTreeMap::new(run.alloc);
+    for group in run.findings.groups.values() {
+        put_group(run.alloc, &mut index, by, group)?;
     }
     let mut most = 1;
     for entry in index.values() {
         most = most.max(entry.count);
     }
-    sheet.add(by.head(), b"");
+    let (caption, first, last) = by.heads();
+    sheet.add_head(COUNTS, caption, &[first, COUNT, last]);
     for (name, entry) in &index {
         add_name(sheet, by, name);
         add_bar(sheet, entry.count, most);
         add_links(sheet, by, &entry.groups);
     }
-    sheet.add(TABLE_END, b"");
+    sheet.add_markup(TABLE_END);
     Ok(())
 }
 
-/// Puts a group under its words, its message or its connection.
+/// Puts a group under each of its words, its message or its connection.
 fn put_group<'g>(
     alloc: Global,
     index: &mut Index<'g>,
@@ -83,21 +93,18 @@ fn put_group<'g>(
 ) -> Result<(), AllocError> {
     match by {
         By::Word => put_words(alloc, index, group),
-        By::Message => put(alloc, index, &group.facts.kind, group),
-        By::Connection => put(alloc, index, &group.facts.connection, group),
+        By::Message => put(alloc, index, &group.kind, group),
+        By::Connection => put(alloc, index, &group.connection, group),
     }
 }
 
 /// Puts a group under each of its words.
 fn put_words<'g>(alloc: Global, index: &mut Index<'g>, group: &'g Group) -> Result<(), AllocError> {
-    let mut rest = group.facts.words.as_slice();
-    for _ in 0..group.facts.words.len() {
-        let (word, after) = cut(rest, b' ');
+    for word in group.words.split(|byte| *byte == b' ') {
         if word.is_empty() {
             break;
         }
         put(alloc, index, word, group)?;
-        rest = after;
     }
     Ok(())
 }
@@ -119,10 +126,8 @@ fn put<'g>(
         groups: Vec::new(alloc),
     };
     entry.groups.push(group)?;
-    match index.insert(Vec::from_slice(alloc, name)?, entry) {
-        Ok(_) => Ok(()),
-        Err(_) => Err(AllocError),
-    }
+    index.insert(Vec::from_slice(alloc, name)?, entry)?;
+    Ok(())
 }
 
 /// Adds the first cell of a row.
@@ -135,72 +140,57 @@ fn add_name(sheet: &mut Sheet, by: By, name: &[u8]) {
         By::Message => sheet.add("<tr><th scope=\"row\">", plural_of(name)),
         By::Connection => sheet.add("<tr><th scope=\"row\">", name),
     }
-    sheet.add("</th><td>", b"");
 }
 
-/// Adds a bar with its count; a count above 0 has a visible bar.
+/// Adds a cell with a bar and its count; a count above 0 has a visible bar.
 fn add_bar(sheet: &mut Sheet, count: u64, most: u64) {
     let share = count.saturating_mul(LONGEST).checked_div(most).unwrap_or(0);
     let length = share.max(count.min(1));
-    sheet.add_number(
-        "<svg aria-hidden=\"true\" viewBox=\"0 0 240 20\" preserveAspectRatio=\"none\"><rect height=\"20\" width=\"",
-        length,
-    );
+    sheet.add_number(BAR, length);
     sheet.add_number("\"/></svg> ", count);
-    sheet.add("</td>", b"");
+    sheet.add_markup("</td>");
 }
 
 /// Adds a cell with links to groups, and ends the row.
 fn add_links(sheet: &mut Sheet, by: By, groups: &[&Group]) {
-    sheet.add("<td>", b"");
+    sheet.add_markup("<td>");
     for group in groups {
         let (first, second) = by.label(group);
         sheet.add_number("<a href=\"#g", group.number);
         sheet.add("\">", first);
         sheet.add(", ", second);
         sheet.add_number(" (", group.count);
-        sheet.add(")</a> ", b"");
+        sheet.add_markup(")</a> ");
     }
-    sheet.add("</td></tr>\n", b"");
+    sheet.add_markup("</td></tr>\n");
 }
 
-/// Adds a table of the wrong responses of each hour of the clock.
-pub fn add_hours(sheet: &mut Sheet, hours: &Tally) {
-    sheet.add(
-        "<div class=\"t\"><table class=\"n\"><caption>Wrong responses by hour of the clock</caption>\n<thead><tr><th scope=\"col\">Hour</th><th scope=\"col\">Wrong responses</th></tr></thead>\n<tbody>\n",
-        b"",
-    );
-    let most = most_of(hours);
-    for (hour, count) in hours {
-        sheet.add("<tr><th scope=\"row\">", hour);
-        sheet.add(":00</th><td>", b"");
+/// Adds a table of the wrong responses of each day, or of each hour of the clock.
+pub fn add_times(
+    sheet: &mut Sheet,
+    alloc: Global,
+    caption: &str,
+    head: &str,
+    times: &Tally,
+) -> Result<(), AllocError> {
+    sheet.add_head(COUNTS, caption, &[head, COUNT]);
+    let mut most = 1;
+    for count in times.values() {
+        most = most.max(*count);
+    }
+    for (time, count) in times {
+        let mut words = Vec::new(alloc);
+        // an hour has two digits, and a day eight
+        if time.len() == 2 {
+            words.extend_from_slice(time)?;
+            words.extend_from_slice(b":00")?;
+        } else {
+            put_day(&mut words, time)?;
+        }
+        sheet.add("<tr><th scope=\"row\">", &words);
         add_bar(sheet, *count, most);
-        sheet.add("</tr>\n", b"");
+        sheet.add_markup("</tr>\n");
     }
-    sheet.add(TABLE_END, b"");
-}
-
-/// Adds a table of the wrong responses of each day.
-pub fn add_days(sheet: &mut Sheet, alloc: Global, days: &Tally) -> Result<(), AllocError> {
-    sheet.add(
-        "<div class=\"t\"><table class=\"n\"><caption>Wrong responses by day</caption>\n<thead><tr><th scope=\"col\">Day</th><th scope=\"col\">Wrong responses</th></tr></thead>\n<tbody>\n",
-        b"",
-    );
-    let most = most_of(days);
-    for (day, count) in days {
-        add_day(sheet, alloc, day)?;
-        add_bar(sheet, *count, most);
-        sheet.add("</tr>\n", b"");
-    }
-    sheet.add(TABLE_END, b"");
-    Ok(())
-}
-
-/// Adds the beginning of a day's row.
-fn add_day(sheet: &mut Sheet, alloc: Global, day: &[u8]) -> Result<(), AllocError> {
-    let mut words = Vec::new(alloc);
-    put_day(&mut words, day)?;
-    sheet.add("<tr><th scope=\"row\">", &words);
-    sheet.add("</th><td>", b"");
+    sheet.add_markup(TABLE_END);
     Ok(())
 }

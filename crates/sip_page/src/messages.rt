@@ -9,24 +9,24 @@ use page_words::{Case, FIELDS, SECRETS, ShownField, known, name_of, other_of};
 pub fn add_messages(sheet: &mut Sheet, line: &LineRows, case: &Case<'_>) {
     let recorded = name_of(column(&line.journal, 3));
     let right = name_of(column(&line.answer, 2));
-    sheet.add("<ul>", b"");
+    sheet.add_markup("<ul>");
     if recorded != right {
         sheet.add("<li>message: ", recorded);
         sheet.add("; right is ", right);
-        sheet.add("</li>", b"");
+        sheet.add_markup("</li>");
     }
     add_differing(sheet, case);
     sheet.add(
         "</ul><details><summary>Other fields</summary><p>Request (",
         name_of(column(&line.journal, 2)),
     );
-    sheet.add(")", b"");
+    sheet.add_markup(")");
     for field in &case.asked {
         add_pair(sheet, field);
     }
-    sheet.add("</p><p>Both responses", b"");
+    sheet.add_markup("</p><p>Both responses");
     add_agreeing(sheet, case);
-    sheet.add("</p></details>", b"");
+    sheet.add_markup("</p></details>");
 }
 
 /// Adds each field in which the responses differ: those of the right response, then those that it lacks.
@@ -57,7 +57,7 @@ fn add_both(
     add_name(sheet, "<li>", named);
     sheet.add(": ", shown(recorded));
     sheet.add("; right is ", shown(right));
-    sheet.add("</li>", b"");
+    sheet.add_markup("</li>");
 }
 
 /// Adds each field in which the responses agree, but for those that the request has too.

@@ -1,32 +1,12 @@
 //! The journal, the answers and the report, read side by side.
 
-use crate::files::{FileRows, TableFile};
+use crate::files::{ANSWERS, FileRows, JOURNAL, REPORT};
 use crate::stop::PageError;
 use csv::ByteRecord;
 use csv_table::column;
-use one_run::RunTexts;
+use one_run::{Fate, RunTexts};
 use page_words::{Case, fields_of, name_of};
 use std::alloc::{AllocError, Global};
-
-pub static JOURNAL: TableFile = TableFile {
-    file: "journal.csv",
-    header: &["line", "connection", "request", "response"],
-};
-
-pub static ANSWERS: TableFile = TableFile {
-    file: "answers.csv",
-    header: &["line", "connection", "response"],
-};
-
-pub static REPORT: TableFile = TableFile {
-    file: "report.csv",
-    header: &["line", "connection", "fields"],
-};
-
-pub static PASSED: TableFile = TableFile {
-    file: "passed.csv",
-    header: &["line", "connection", "why"],
-};
 
 /// A line of the journal with its rows of the answers and of the report.
 pub struct LineRows {
@@ -121,28 +101,23 @@ impl<'t> RunReader<'t> {
         })
     }
 
-    /// Reads the next line of the journal, and gives its number, which is that of the line before plus one.
-    pub fn next_line(&mut self) -> Result<u64, PageError> {
+    /// Reads the next line of the journal, which has this fate, with those rows that such a line has. Its number is that of the
+    /// line before plus one.
+    pub fn next(&mut self, fate: Fate) -> Result<&LineRows, PageError> {
         self.journal.next(&mut self.line.journal)?;
-        let Some(number) = number_of(column(&self.line.journal, 0)) else {
-            return Err(PageError::Table(JOURNAL.file));
-        };
-        if self.line.number > 0 && number != self.line.number.saturating_add(1) {
-            return Err(PageError::Table(JOURNAL.file));
+        let before = self.line.number;
+        match number_of(column(&self.line.journal, 0)) {
+            Some(number) if before == 0 || number == before.saturating_add(1) => {
+                self.line.number = number;
+            }
+            _ => return Err(PageError::Table(JOURNAL.file)),
         }
-        self.line.number = number;
-        Ok(number)
-    }
-
-    /// Reads the answer of the line.
-    pub fn next_answer(&mut self) -> Result<&LineRows, PageError> {
-        self.answers.next(&mut self.line.answer)?;
-        Ok(&self.line)
-    }
-
-    /// Reads the row of the report of the line.
-    pub fn next_wrong(&mut self) -> Result<&LineRows, PageError> {
-        self.report.next(&mut self.line.report)?;
+        if fate != Fate::Passed {
+            self.answers.next(&mut self.line.answer)?;
+        }
+        if fate == Fate::Wrong {
+            self.report.next(&mut self.line.report)?;
+        }
         Ok(&self.line)
     }
 }

@@ -3,10 +3,12 @@
 use page_text::Page;
 use std::alloc::{AllocError, Global};
 
+/// The end of a table.
+pub const TABLE_END: &str = "</tbody></table></div>\n";
+
 /// A page, or a part of one.
 #[derive(Drop)]
 pub struct Sheet {
-    alloc: Global,
     page: Page,
     failed: bool,
 }
@@ -15,7 +17,6 @@ impl Sheet {
     /// A sheet with nothing on it.
     pub fn new(alloc: Global) -> Sheet {
         Sheet {
-            alloc,
             page: Page::new(alloc),
             failed: false,
         }
@@ -35,9 +36,28 @@ impl Sheet {
         }
     }
 
-    /// Marks it failed: memory ran out.
-    pub fn fail(&mut self) {
-        self.failed = true;
+    /// Adds markup without a text.
+    pub fn add_markup(&mut self, markup: &'static str) {
+        self.add(markup, b"");
+    }
+
+    /// Adds a table up to its first row: markup up to the caption, the caption, and the heads of the columns.
+    pub fn add_head(&mut self, markup: &'static str, caption: &str, columns: &[&str]) {
+        self.add(markup, caption.as_bytes());
+        self.add_markup("</caption>\n<thead><tr>");
+        for column in columns {
+            self.add("<th scope=\"col\">", column.as_bytes());
+            self.add_markup("</th>");
+        }
+        self.add_markup("</tr></thead>\n<tbody>\n");
+    }
+
+    /// Adds how many were left out, where some were.
+    pub fn add_left_out(&mut self, count: u64) {
+        if count > 0 {
+            self.add_number("<p>Left out here: ", count);
+            self.add_markup(" more. The option --limit shows more of them.</p>\n");
+        }
     }
 
     /// What is on it, as it is written.

@@ -1,34 +1,21 @@
-//! What ends a run before its page is written, and the status for it.
+//! Why no page can be made of the texts of a run.
 
 use csv_table::TableError;
 use one_run::NoRun;
+use page_run::NoPage;
 use std::alloc::{AllocError, AllocFailed, Global};
-use std::io;
-use std::io::Write;
-
-/// The status of a command line or a table that is refused.
-pub const REFUSED: u8 = 2;
-
-/// The status of a run that a file or memory stopped.
-pub const FAILED: u8 = 3;
 
 /// Why there is no page.
 #[derive(Drop)]
 pub enum PageError {
     /// Memory ran out.
     Memory,
-    /// The words of the command line are refused: the message about them.
-    Words(String),
-    /// A word of the command line isn't text.
-    NoText,
     /// The file of this name isn't the table that it should be.
     Table(&'static str),
-    /// The tables aren't of one run: what says so.
-    NotOneRun(String),
-    /// The file of this path can't be read.
-    File(String),
-    /// Standard output takes nothing more.
-    Output,
+    /// The tables aren't of one run: a line, as it is numbered, and what it has against that.
+    Line(String, &'static str),
+    /// The base and the output aren't of one run: the file of this name has other rows of this id in each.
+    Row(&'static str, String),
 }
 
 impl From<AllocError> for PageError {
@@ -43,27 +30,17 @@ impl<T: Drop> From<AllocFailed<T>> for PageError {
     }
 }
 
+impl From<NoRun> for PageError {
+    fn from(error: NoRun) -> PageError {
+        match error {
+            NoRun::Memory => PageError::Memory,
+            NoRun::Table(file) => PageError::Table(file),
+            NoRun::Line(line, says) => PageError::Line(line, says),
+        }
+    }
+}
+
 impl PageError {
-    /// The error of a command line that couldn't be read.
-    pub fn of_words(error: &io::Error) -> PageError {
-        if error.kind() == io::ErrorKind::OutOfMemory {
-            PageError::Memory
-        } else {
-            PageError::NoText
-        }
-    }
-
-    /// The error of a file that couldn't be read: `Memory` where the system ran out of memory.
-    pub fn of_file(alloc: Global, error: &io::Error, path: &str) -> PageError {
-        if error.kind() == io::ErrorKind::OutOfMemory {
-            return PageError::Memory;
-        }
-        match format!(in alloc; "{path}: {error}") {
-            Ok(text) => PageError::File(text),
-            Err(_) => PageError::Memory,
-        }
-    }
-
     /// The error of an unreadable table.
     pub fn of_table(error: TableError, file: &'static str) -> PageError {
         match error {
@@ -72,51 +49,34 @@ impl PageError {
         }
     }
 
-    /// The error of tables of several runs.
-    pub fn of_no_run(alloc: Global, error: &NoRun) -> PageError {
-        match error {
-            NoRun::Memory => PageError::Memory,
-            NoRun::Table(file) => PageError::Table(*file),
-            NoRun::Line(line, says) => match format!(in alloc; "line {line}: {says}") {
-                Ok(text) => PageError::NotOneRun(text),
-                Err(_) => PageError::Memory,
-            },
-        }
-    }
-
     /// The error of a row that differs between the base and the output.
     pub fn of_row(alloc: Global, file: &'static str, id: &[u8]) -> PageError {
         let Ok(id) = String::from_utf8_lossy(alloc, id) else {
             return PageError::Memory;
         };
-        let id = id.as_str();
-        match format!(in alloc; "{file} of the base and of the output: the rows of {id} differ") {
-            Ok(text) => PageError::NotOneRun(text),
+        match String::from_str(alloc, id.as_str()) {
+            Ok(id) => PageError::Row(file, id),
             Err(_) => PageError::Memory,
         }
     }
 
-    /// Prints what stopped the run, and gives its status. A failed write to `err` changes no status.
-    pub fn tell<E: Write>(&self, err: &mut E) -> u8 {
-        let (status, what, name) = match self {
-            PageError::Memory => (FAILED, "error: out of memory\n", ""),
-            PageError::Words(text) => (REFUSED, text.as_str(), ""),
-            PageError::NoText => (
-                REFUSED,
-                "error: a word of the command line isn't text\n",
-                "",
+    /// The same with what is printed of it.
+    pub fn told(&self, alloc: Global) -> NoPage {
+        let text = match self {
+            PageError::Memory => return NoPage::Memory,
+            PageError::Table(file) => {
+                format!(in alloc; "error: no such table, or not of this run: {file}\n")
+            }
+            PageError::Line(line, says) => {
+                format!(in alloc; "error: not of one run: line {line}: {says}\n")
+            }
+            PageError::Row(file, id) => format!(in alloc;
+                "error: not of one run: {file} of the base and of the output: the rows of {id} differ\n"
             ),
-            PageError::Table(file) => (
-                REFUSED,
-                "error: no such table, or not of this run: ",
-                *file,
-            ),
-            PageError::NotOneRun(text) => (REFUSED, "error: not of one run: ", text.as_str()),
-            PageError::File(text) => (FAILED, "file: ", text.as_str()),
-            PageError::Output => (FAILED, "error: standard output takes nothing more\n", ""),
         };
-        let end = if name.is_empty() { "" } else { "\n" };
-        let _ = write!(err, "{what}{name}{end}");
-        status
+        match text {
+            Ok(text) => NoPage::Refused(text),
+            Err(_) => NoPage::Memory,
+        }
     }
 }

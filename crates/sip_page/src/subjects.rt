@@ -1,9 +1,13 @@
 //! The patrons and the items that wrong responses are about.
 
-use crate::sheet::Sheet;
-use page_words::TextsById;
+use crate::gathered::Gathered;
+use crate::sheet::{Sheet, TABLE_END};
+use page_words::{Case, ShownField, TextsById, value_in};
 use std::alloc::{AllocError, Global};
 use std::collections::BTreeMap;
+
+/// With at most this many wrong responses, their patrons and items are shown open.
+const OPEN: u64 = 100;
 
 /// What a run changed of a patron or an item: whose it is, what it is, before and after.
 pub struct SubjectChange {
@@ -37,6 +41,42 @@ pub struct Subject {
 /// Patrons or items by their ids.
 pub type Subjects = BTreeMap<Vec<u8>, Subject>;
 
+/// The patrons of a case: who asked, and whom a response names.
+pub fn patrons_of<'m>(alloc: Global, case: &Case<'m>) -> Result<Vec<&'m [u8]>, AllocError> {
+    let mut ids = Vec::new(alloc);
+    add_id(&mut ids, value_in(&case.asked, b"AA"))?;
+    add_id(&mut ids, value_in(&case.right, b"AA"))?;
+    add_id(&mut ids, value_in(&case.recorded, b"AA"))?;
+    Ok(ids)
+}
+
+/// The items of a case: what was asked about, and those that a renewal of all loans names.
+pub fn items_of<'m>(alloc: Global, case: &Case<'m>) -> Result<Vec<&'m [u8]>, AllocError> {
+    let mut ids = Vec::new(alloc);
+    add_id(&mut ids, value_in(&case.asked, b"AB"))?;
+    add_renewed(&mut ids, &case.right)?;
+    add_renewed(&mut ids, &case.recorded)?;
+    Ok(ids)
+}
+
+/// Adds the items that a response to a renewal of all loans names.
+fn add_renewed<'m>(ids: &mut Vec<&'m [u8]>, fields: &[ShownField<'m>]) -> Result<(), AllocError> {
+    for field in fields {
+        if field.name == b"BM".as_slice() || field.name == b"BN".as_slice() {
+            add_id(ids, field.value)?;
+        }
+    }
+    Ok(())
+}
+
+/// Adds an id to those that don't have it yet.
+fn add_id<'m>(ids: &mut Vec<&'m [u8]>, id: &'m [u8]) -> Result<(), AllocError> {
+    if !id.is_empty() && !ids.iter().any(|known| *known == id) {
+        ids.push(id)?;
+    }
+    Ok(())
+}
+
 /// Notes that the wrong response of a line is about a patron or an item.
 pub fn note(
     alloc: Global,
@@ -44,96 +84,101 @@ pub fn note(
     id: &[u8],
     line: u64,
 ) -> Result<(), AllocError> {
-    if id.is_empty() {
-        return Ok(());
-    }
     if let Some(subject) = subjects.get_mut(id) {
         if subject.lines.last().copied() != Some(line) {
             subject.lines.push(line)?;
         }
         return Ok(());
     }
-    let number = (subjects.len() as u64).saturating_add(1);
-    let mut lines = Vec::new(alloc);
-    lines.push(line)?;
-    let subject = Subject {
-        number,
-        lines,
+    let mut subject = Subject {
+        number: (subjects.len() as u64).saturating_add(1),
+        lines: Vec::new(alloc),
         changes: Vec::new(alloc),
     };
-    match subjects.insert(Vec::from_slice(alloc, id)?, subject) {
-        Ok(_) => Ok(()),
-        Err(_) => Err(AllocError),
-    }
+    subject.lines.push(line)?;
+    subjects.insert(Vec::from_slice(alloc, id)?, subject)?;
+    Ok(())
 }
 
-/// How a list of patrons or of items is shown.
-pub struct SubjectKind {
+/// The patrons or the items of a page, and how they are shown.
+#[derive(Clone, Copy)]
+pub struct SubjectList<'r> {
     /// The markup before the number of one, where it is shown and where it is linked to.
     pub place: &'static str,
     pub link: &'static str,
+    pub subjects: &'r Subjects,
+    /// What they are called.
+    pub texts: &'r TextsById,
 }
 
-pub static PATRONS: SubjectKind = SubjectKind {
-    place: "<details class=\"s\" id=\"p",
-    link: "<a href=\"#p",
-};
-
-pub static ITEMS: SubjectKind = SubjectKind {
-    place: "<details class=\"s\" id=\"i",
-    link: "<a href=\"#i",
-};
-
-/// Adds an id with what it is called, as a link where it is shown on the page.
-pub fn add_link(
-    sheet: &mut Sheet,
-    kind: &SubjectKind,
-    subjects: &Subjects,
-    texts: &TextsById,
-    id: &[u8],
-) {
-    match subjects.get(id) {
-        Some(subject) => {
-            sheet.add_number(kind.link, subject.number);
-            sheet.add("\">", id);
-            sheet.add("</a>", b"");
+/// Adds ids with what they are called, each as a link where it is shown on the page.
+pub fn add_links(sheet: &mut Sheet, list: &SubjectList<'_>, ids: &[&[u8]]) {
+    let mut before = "";
+    for id in ids {
+        sheet.add_markup(before);
+        match list.subjects.get(*id) {
+            Some(subject) => {
+                sheet.add_number(list.link, subject.number);
+                sheet.add("\">", id);
+                sheet.add_markup("</a>");
+            }
+            None => sheet.add("", id),
         }
-        None => sheet.add("", id),
-    }
-    if let Some(text) = texts.get(id) {
-        sheet.add(" ", text);
+        if let Some(text) = list.texts.get(*id) {
+            sheet.add(" ", text);
+        }
+        before = "; ";
     }
 }
 
-/// Adds each patron or item that wrong responses are about: what changed of it, where that is `known`, and links to them.
-pub fn add_subjects(
-    sheet: &mut Sheet,
-    kind: &SubjectKind,
-    subjects: &Subjects,
-    texts: &TextsById,
-    known: bool,
-    open: bool,
-) {
-    for (id, subject) in subjects {
-        sheet.add_number(kind.place, subject.number);
-        sheet.add(
-            if open {
-                "\" open><summary><b>"
-            } else {
-                "\"><summary><b>"
-            },
-            id,
-        );
-        sheet.add("</b> ", called(texts, id));
-        if known {
+/// Adds the patrons that wrong responses are about, and what changed for others.
+pub fn add_patrons(sheet: &mut Sheet, run: &Gathered) {
+    sheet.add_markup("<h2 id=\"patrons\">Patrons, and what changed for whom</h2>\n");
+    if run.others.is_none() {
+        sheet.add_markup("<p>No base tables were given, so what changed is unknown.</p>\n");
+    }
+    add_subjects(sheet, run, &run.patrons());
+    match &run.others {
+        Some(others) if others.is_empty() && run.findings.patrons.is_empty() => {
+            sheet.add_markup("<p>Nothing changed for anybody.</p>\n");
+        }
+        Some(others) if others.is_empty() => {
+            sheet.add_markup("<p>Nothing changed for others.</p>\n");
+        }
+        Some(others) => add_others(sheet, others, run.findings.limit),
+        None => {}
+    }
+}
+
+/// Adds the items that wrong responses are about.
+pub fn add_items(sheet: &mut Sheet, run: &Gathered) {
+    sheet.add_markup("<h2 id=\"items\">Items</h2>\n");
+    if run.findings.items.is_empty() {
+        sheet.add_markup("<p>No wrong response is about an item.</p>\n");
+    }
+    add_subjects(sheet, run, &run.items());
+}
+
+/// Adds each patron or item that wrong responses are about: what changed of it, where that is known, and links to them.
+fn add_subjects(sheet: &mut Sheet, run: &Gathered, list: &SubjectList<'_>) {
+    for (id, subject) in list.subjects {
+        sheet.add_number(list.place, subject.number);
+        if run.findings.wrong <= OPEN {
+            sheet.add_markup("\" open><summary><b>");
+        } else {
+            sheet.add_markup("\"><summary><b>");
+        }
+        sheet.add("", id);
+        sheet.add("</b> ", called(list.texts, id));
+        if run.others.is_some() {
             add_size(sheet, subject.changes.len() as u64);
         }
-        sheet.add("</summary>\n", b"");
+        sheet.add_markup("</summary>\n");
         add_lines(sheet, &subject.lines);
         if !subject.changes.is_empty() {
             add_changes(sheet, &subject.changes);
         }
-        sheet.add("</details>\n", b"");
+        sheet.add_markup("</details>\n");
     }
 }
 
@@ -148,35 +193,58 @@ fn called<'t>(texts: &'t TextsById, id: &[u8]) -> &'t [u8] {
 /// Adds how many changes there are.
 fn add_size(sheet: &mut Sheet, count: u64) {
     match count {
-        0 => sheet.add(" <span>nothing changed</span>", b""),
-        1 => sheet.add(" <span>1 change</span>", b""),
+        0 => sheet.add_markup(" <span>nothing changed</span>"),
+        1 => sheet.add_markup(" <span>1 change</span>"),
         _ => {
             sheet.add_number(" <span>", count);
-            sheet.add(" changes</span>", b"");
+            sheet.add_markup(" changes</span>");
         }
     }
 }
 
 /// Adds links to lines.
 fn add_lines(sheet: &mut Sheet, lines: &[u64]) {
-    sheet.add("<p>Wrong responses: ", b"");
+    sheet.add_markup("<p>Wrong responses: ");
     let mut before = "<a href=\"#l";
     for line in lines {
         sheet.add_number(before, *line);
         sheet.add_number("\">line ", *line);
         before = "</a>, <a href=\"#l";
     }
-    sheet.add("</a>.</p>\n", b"");
+    sheet.add_markup("</a>.</p>\n");
 }
 
 /// Adds a list of changes.
 fn add_changes(sheet: &mut Sheet, changes: &[SubjectChange]) {
-    sheet.add("<ul>", b"");
+    sheet.add_markup("<ul>");
     for change in changes {
         sheet.add("<li>", &change.what);
         sheet.add(": <span>", &change.before);
         sheet.add(" &rarr;</span> ", &change.after);
-        sheet.add("</li>", b"");
+        sheet.add_markup("</li>");
     }
-    sheet.add("</ul>", b"");
+    sheet.add_markup("</ul>");
+}
+
+/// Adds what changed for patrons that no wrong response is about, `limit` changes at most.
+fn add_others(sheet: &mut Sheet, others: &[SubjectChange], limit: u64) {
+    let count = others.len() as u64;
+    sheet.add_markup("<details class=\"x\"><summary>What changed for others: ");
+    sheet.add_number("", count);
+    sheet.add_markup(" changes</summary>\n");
+    sheet.add_head(
+        "<div class=\"t\"><table class=\"c\"><caption>",
+        "Loans, fees, holds and blocks that changed",
+        &["Patron", "What", "Before", "After"],
+    );
+    for other in others.iter().take(limit as usize) {
+        sheet.add("<tr><th scope=\"row\">", &other.id);
+        sheet.add("</th><td>", &other.what);
+        sheet.add("</td><td>", &other.before);
+        sheet.add("</td><td>", &other.after);
+        sheet.add_markup("</td></tr>\n");
+    }
+    sheet.add_markup(TABLE_END);
+    sheet.add_left_out(count.saturating_sub(limit));
+    sheet.add_markup("</details>\n");
 }

@@ -1,9 +1,9 @@
 //! The head of the page and its summary.
 
-use crate::head::{HEAD, STYLE};
-use crate::index::{By, add_days, add_hours, add_index};
+use crate::gathered::Gathered;
+use crate::head::{HEAD, PARTS, STYLE};
+use crate::index::{By, add_index, add_times};
 use crate::sheet::Sheet;
-use crate::shown::View;
 use command_line::PageOptions;
 use page_words::put_day;
 use std::alloc::AllocError;
@@ -28,39 +28,33 @@ static WEIGHTS: [(u8, &str, &str); 3] = [
 ];
 
 /// Adds the head of the page: what it is of, and where its parts are.
-pub fn add_head(sheet: &mut Sheet, view: &View<'_>) -> Result<(), AllocError> {
-    let findings = view.findings;
-    let mut days = Vec::new(view.alloc);
-    put_days(&mut days, view)?;
-    sheet.add(HEAD, b"");
+pub fn add_head(sheet: &mut Sheet, run: &Gathered) -> Result<(), AllocError> {
+    let findings = &run.findings;
+    let mut days = Vec::new(run.alloc);
+    put_days(&mut days, run)?;
+    sheet.add_markup(HEAD);
     if !findings.library.is_empty() {
         sheet.add(": ", &findings.library);
         sheet.add(", ", &days);
     }
-    sheet.add(STYLE, b"");
+    sheet.add_markup(STYLE);
     if !findings.library.is_empty() {
         sheet.add("<p>Library ", &findings.library);
         sheet.add(", ", &days);
-        sheet.add("</p>\n", b"");
+        sheet.add_markup("</p>\n");
     }
+    let passed = findings.lines.saturating_sub(findings.answered);
     sheet.add_number("<p>Requests: ", findings.lines);
     sheet.add_number(". Answered by the rules: ", findings.answered);
-    sheet.add_number(
-        ". Passed over: ",
-        findings.lines.saturating_sub(findings.answered),
-    );
+    sheet.add_number(". Passed over: ", passed);
     sheet.add_number(". <strong>Wrong responses: ", findings.wrong);
-    sheet.add("</strong>.</p>\n</header>\n", b"");
-    sheet.add(
-        "<nav aria-label=\"Parts of the page\"><ul>\n<li><a href=\"#summary\">Summary</a></li>\n<li><a href=\"#wrong\">Wrong responses</a></li>\n<li><a href=\"#patrons\">Patrons</a></li>\n<li><a href=\"#items\">Items</a></li>\n<li><a href=\"#passed\">Passed over</a></li>\n</ul></nav>\n<main>\n",
-        b"",
-    );
+    sheet.add_markup(PARTS);
     Ok(())
 }
 
 /// Writes the day of the journal, or its first and its last.
-fn put_days(out: &mut Vec<u8>, view: &View<'_>) -> Result<(), AllocError> {
-    let days = &view.findings.days;
+fn put_days(out: &mut Vec<u8>, run: &Gathered) -> Result<(), AllocError> {
+    let days = &run.findings.days;
     let Some((first, _)) = days.first_key_value() else {
         return out.extend_from_slice(b"no day");
     };
@@ -77,73 +71,65 @@ fn put_days(out: &mut Vec<u8>, view: &View<'_>) -> Result<(), AllocError> {
 /// Adds the summary: the wrong responses by weight, word, message, connection and time, then what the page was made from.
 pub fn add_summary(
     sheet: &mut Sheet,
-    view: &View<'_>,
+    run: &Gathered,
     options: &PageOptions,
     made_by: &str,
 ) -> Result<(), AllocError> {
-    sheet.add("<h2 id=\"summary\">Summary</h2>\n", b"");
-    if view.findings.wrong > 0 {
-        add_weights(sheet, view);
-        add_index(sheet, view, By::Word)?;
-        add_index(sheet, view, By::Message)?;
-        add_index(sheet, view, By::Connection)?;
-        if view.findings.is_dated() {
-            add_days(sheet, view.alloc, &view.findings.days)?;
+    sheet.add_markup("<h2 id=\"summary\">Summary</h2>\n");
+    if run.findings.wrong > 0 {
+        add_weights(sheet, run);
+        add_index(sheet, run, By::Word)?;
+        add_index(sheet, run, By::Message)?;
+        add_index(sheet, run, By::Connection)?;
+        if run.findings.is_dated() {
+            add_times(sheet, run.alloc, "day", "Day", &run.findings.days)?;
         }
-        add_hours(sheet, &view.findings.hours);
+        let hours = &run.findings.hours;
+        add_times(sheet, run.alloc, "hour of the clock", "Hour", hours)?;
     }
-    add_facts(sheet, view, options, made_by);
+    add_facts(sheet, run, options, made_by);
     Ok(())
 }
 
 /// Adds how many wrong responses have each weight, with links to the first of them.
-fn add_weights(sheet: &mut Sheet, view: &View<'_>) {
-    sheet.add("<ul class=\"w\">\n", b"");
+fn add_weights(sheet: &mut Sheet, run: &Gathered) {
+    sheet.add_markup("<ul class=\"w\">\n");
     for (weight, before, after) in &WEIGHTS {
         let mut count = 0u64;
-        for group in view.findings.groups.values() {
-            if group.facts.weight == *weight {
+        for group in run.findings.groups.values() {
+            if group.weight == *weight {
                 count = count.saturating_add(group.count);
             }
         }
         if count > 0 {
             sheet.add_number(before, count);
-            sheet.add(after, b"");
+            sheet.add_markup(after);
         }
     }
-    sheet.add("</ul>\n", b"");
+    sheet.add_markup("</ul>\n");
 }
 
 /// Adds what the page was made from, and by what.
-fn add_facts(sheet: &mut Sheet, view: &View<'_>, options: &PageOptions, made_by: &str) {
-    if view.findings.lines > 0 {
-        sheet.add_number(
-            "<dl class=\"facts\">\n<dt>Lines</dt><dd>",
-            view.findings.first_line,
-        );
-        sheet.add_number(" to ", view.findings.last_line);
-        sheet.add("</dd>\n", b"");
+fn add_facts(sheet: &mut Sheet, run: &Gathered, options: &PageOptions, made_by: &str) {
+    sheet.add_markup("<dl class=\"facts\">\n<dt>Lines</dt><dd>");
+    if run.findings.lines > 0 {
+        sheet.add_number("", run.findings.first_line);
+        sheet.add_number(" to ", run.findings.last_line);
     } else {
-        sheet.add("<dl class=\"facts\">\n<dt>Lines</dt><dd>none</dd>\n", b"");
+        sheet.add_markup("none");
     }
-    sheet.add("<dt>Journal</dt><dd>", options.journal.as_bytes());
-    sheet.add(
-        "</dd>\n<dt>Tables before</dt><dd>",
-        text_or(&options.base, "not given").as_bytes(),
-    );
+    sheet.add("</dd>\n<dt>Journal</dt><dd>", options.journal.as_bytes());
+    sheet.add("</dd>\n<dt>Tables before</dt><dd>", given(&options.base));
     sheet.add("</dd>\n<dt>Output</dt><dd>", options.out.as_bytes());
-    sheet.add(
-        "</dd>\n<dt>Reasons</dt><dd>",
-        text_or(&options.why, "not given").as_bytes(),
-    );
+    sheet.add("</dd>\n<dt>Reasons</dt><dd>", given(&options.why));
     sheet.add("</dd>\n<dt>Made by</dt><dd>", made_by.as_bytes());
-    sheet.add("</dd>\n</dl>\n", b"");
+    sheet.add_markup("</dd>\n</dl>\n");
 }
 
-/// A text, or what stands for none.
-fn text_or<'t>(text: &'t Option<String>, none: &'static str) -> &'t str {
-    match text {
-        Some(text) => text.as_str(),
-        None => none,
+/// The value of an option.
+fn given(value: &Option<String>) -> &[u8] {
+    match value {
+        Some(text) => text.as_bytes(),
+        None => b"not given",
     }
 }

@@ -1,18 +1,13 @@
 //! What `sip_why` says of the wrong responses of a run.
 
-use crate::files::{FileRows, TableFile};
-use crate::reading::{REPORT, number_of};
+use crate::files::{REPORT, WHY, rows_of};
+use crate::reading::{LineRows, number_of};
 use crate::stop::PageError;
 use csv::ByteRecord;
 use csv_table::column;
-use page_words::{CaseNames, Origin, because_of, cut, put_moment};
+use page_words::{Case, CaseNames, Origin, because_of, cut, put_moment, value_in};
 use std::alloc::{AllocError, Global};
 use std::collections::BTreeMap;
-
-pub static WHY: TableFile = TableFile {
-    file: "why.csv",
-    header: &["line", "reason", "kind", "id", "since", "said"],
-};
 
 /// A date and a connection.
 #[derive(Drop)]
@@ -51,12 +46,7 @@ impl Whys {
     /// Takes in what a text says of the lines of a report.
     pub fn read(&mut self, text: &[u8], report: &[u8]) -> Result<(), PageError> {
         self.want(report)?;
-        let mut rows = FileRows::under(self.alloc, &WHY, text)?;
-        for _ in 0..u64::MAX {
-            let mut row = ByteRecord::new(self.alloc);
-            if !rows.next(&mut row)? {
-                break;
-            }
+        for row in rows_of(self.alloc, &WHY, text)? {
             self.take(row)?;
         }
         Ok(())
@@ -64,13 +54,8 @@ impl Whys {
 
     /// Adds each line of a report.
     fn want(&mut self, report: &[u8]) -> Result<(), PageError> {
-        let mut rows = FileRows::under(self.alloc, &REPORT, report)?;
-        let mut row = ByteRecord::new(self.alloc);
-        for _ in 0..u64::MAX {
-            if !rows.next(&mut row)? {
-                break;
-            }
-            if let Some(number) = number_of(column(&row, 0)) {
+        for row in &rows_of(self.alloc, &REPORT, report)? {
+            if let Some(number) = number_of(column(row, 0)) {
                 self.rows.insert(number, Vec::new(self.alloc))?;
             }
         }
@@ -114,25 +99,25 @@ impl Whys {
         }
     }
 
-    /// Writes a colon and why the response to a line of this date was wrong in these words, where that is known.
+    /// Writes a colon and why the response to a line was wrong, where that is known.
     pub fn put(
         &self,
         out: &mut Vec<u8>,
-        number: u64,
-        words: &[u8],
-        date: &[u8],
+        line: &LineRows,
+        case: &Case<'_>,
         names: &CaseNames,
     ) -> Result<(), AllocError> {
-        let Some(rows) = self.rows.get(&number) else {
+        let Some(rows) = self.rows.get(&line.number) else {
             return Ok(());
         };
         let origins = origins_of(self.alloc, rows)?;
-        let (word, _) = cut(words, b' ');
-        let Some(because) = because_of(word, self.reason_of(number), &origins) else {
+        let (word, _) = cut(line.words(), b' ');
+        let Some(because) = because_of(word, self.reason_of(line.number), &origins) else {
             return Ok(());
         };
         out.extend_from_slice(b": ")?;
         let mut since = Vec::new(self.alloc);
+        let date = value_in(&case.asked, b"date");
         self.put_since(&mut since, because.origin.since, date)?;
         because.put(out, &since, names)
     }

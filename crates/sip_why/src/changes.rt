@@ -1,11 +1,12 @@
 //! What to change in the live system: one JSON object a line for each record that isn't as it was.
 
+use crate::change_text::change_text;
 use crate::files::read_tables;
 use crate::stop::WhyError;
 use circ_records::Records;
 use line_origins::{TraceEnd, Tracer};
 use read_set::Plan;
-use record_changes::{Change, change_text, changes};
+use record_changes::{Change, changes};
 use record_tables::{Tables, write_records};
 use std::alloc::{AllocError, Global};
 use std::rt::Files;

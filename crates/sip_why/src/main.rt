@@ -4,6 +4,7 @@
 
 mod case_files;
 mod cases;
+mod change_text;
 mod changes;
 mod files;
 mod run;

@@ -11,4 +11,5 @@ event_of (calls.Create path text answer) = Create (string_bytes path) text.items
 event_of (calls.Rename from to answer) = Rename (string_bytes from) (string_bytes to) answer
 event_of (calls.Remove path) = Remove (string_bytes path)
 event_of (calls.Print text taken) = Print (string_bytes text) taken
+event_of (calls.Write bytes taken) = Print bytes.items taken
 event_of (calls.Tell text taken) = Tell (string_bytes text) taken

@@ -30,6 +30,10 @@ pub enum Call {
         text: String,
         taken: bool,
     },
+    Write {
+        bytes: Vec<u8>,
+        taken: bool,
+    },
     Tell {
         text: String,
         taken: bool,

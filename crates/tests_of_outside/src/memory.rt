@@ -215,6 +215,13 @@ impl<R: Abort> Outside for Memory<'_, R> {
         taken
     }
 
+    fn write(&mut self, bytes: &[u8]) -> bool {
+        let bytes = bytes.to_vec(self.alloc).expect(self.rt, "memory");
+        let taken = self.goes_well();
+        self.note(Call::Write { bytes, taken });
+        taken
+    }
+
     fn tell<D: Display>(&mut self, text: &D) -> bool {
         let text = format!(in self.alloc; "{text}").expect(self.rt, "memory");
         let taken = self.goes_well();

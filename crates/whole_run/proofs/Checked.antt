@@ -19,9 +19,9 @@ use Rattle.table_rules.specs.AllBroken.{broken_rules}
 use Rattle.table_rules.specs.declared.sizes.TableSizes.{TableSizes}
 use Rattle.table_rules.proofs.First.{first-is-the-fault}
 use Rattle.whole_run.specs.Checking.{AreLines, FirstIsRefused, IsRefusedFor, IsText, checked_line, count_line, faults_of, faults_of_journal, listed}
-use Rattle.whole_run.specs.Seeing.{IsOf}
-use Rattle.whole_run.specs.Telling.{remedy_of}
-use Rattle.whole_run.specs.declared.stop.RunError.{RunError}
+use Rattle.run_stops.specs.Seeing.{IsOf}
+use Rattle.run_stops.specs.Telling.{remedy_of}
+use Rattle.run_stops.specs.declared.stop.RunError.{RunError}
 
 refused-for : (policy : Terms) (read : Result (List Entry) JournalError) (base : Result Entries BaseError) (broken : List BaseError) → slice_get broken 0 ≡ result_err base
     → IsRefusedFor (with_base policy read base) (slice_get (map base_fault broken ++ faults_of_journal read) 0)

@@ -11,8 +11,8 @@ use Rattle.replay_run.specs.declared.inputs.Inputs.{Inputs}
 use Rattle.whole_run.specs.Looking.{AreApart, AreFound, AreLooked, AreLooks, input_at, is_among}
 use Rattle.whole_run.specs.Reading.{AreGiven, AreRead, StopsBefore, StopsReading}
 use Rattle.whole_run.specs.Sources.{files_of, paths_in}
-use Rattle.whole_run.specs.declared.stop.InputName.{InputName}
-use Rattle.whole_run.specs.declared.stop.RunError.{RunError}
+use Rattle.run_stops.specs.declared.stop.InputName.{InputName}
+use Rattle.run_stops.specs.declared.stop.RunError.{RunError}
 
 found_more : (paths : List (List ℕ)) (files : List (Option FileId)) (events : List Event) (path : List ℕ) (file : Option FileId)
     → AreFound paths files events → AreFound (paths ++ path ∷ []) (files ++ file ∷ []) (events ++ Find path file ∷ [])

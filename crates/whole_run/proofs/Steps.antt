@@ -3,7 +3,7 @@ use Rattle.std.proofs.Common.{◌≡◌, ◌∷◌, ℕ, [], Bool, Err, List, Ok
 use Rattle.outside.specs.Events.{Event, Read, after, noted}
 use Rattle.outside.specs.declared.failure.Failure.{Failure}
 use Rattle.whole_run.specs.Reading.{IsAbsent, StopsReading}
-use Rattle.whole_run.specs.declared.stop.RunError.{RunError}
+use Rattle.run_stops.specs.declared.stop.RunError.{RunError}
 
 -- a stop on the way, as the contracts say it
 abbrev pub Stopping : List (List ℕ × Bool) → Option (List Event) → Option (List Event) → RunError → Type 0

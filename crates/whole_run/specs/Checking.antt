@@ -20,11 +20,11 @@ use Rattle.table_rules.specs.Sizes.{AreSizes}
 use Rattle.table_rules.specs.declared.sizes.TableSizes.{TableSizes}
 use Rattle.whole_run.specs.Reading.{AreGiven, StopsBefore}
 use Rattle.whole_run.specs.Run.{IsAsked}
-use Rattle.whole_run.specs.Seeing.{IsOf}
-use Rattle.whole_run.specs.Statuses.{status_of}
-use Rattle.whole_run.specs.Telling.{remedy_of, stop_text}
-use Rattle.whole_run.specs.declared.stop.RunError.{RunError}
-use Rattle.whole_run.specs.declared.stop.RunError.TheVariants as stops
+use Rattle.run_stops.specs.Seeing.{IsOf}
+use Rattle.run_stops.specs.Statuses.{status_of}
+use Rattle.run_stops.specs.Telling.{remedy_of, stop_text}
+use Rattle.run_stops.specs.declared.stop.RunError.{RunError}
+use Rattle.run_stops.specs.declared.stop.RunError.TheVariants as stops
 
 -- the fault of a journal, if it has one
 abbrev pub faults_of_journal : Result (List Entry) JournalError → List Fault

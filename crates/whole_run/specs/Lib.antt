@@ -3,9 +3,7 @@ pub mod Doubting
 pub mod Looking
 pub mod Reading
 pub mod Run
-pub mod Seeing
 pub mod Showing
 pub mod Sources
 pub mod Statuses
-pub mod Telling
 pub mod Words

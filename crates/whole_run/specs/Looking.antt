@@ -5,11 +5,12 @@ use Rattle.outside.specs.Events.{Event, Find}
 use Rattle.outside.specs.declared.file_id.FileId.{FileId}
 use Rattle.command_line.specs.declared.chosen.Options.{Options}
 use Rattle.replay_run.specs.declared.fault.Fault.TheVariants as faults
+use Rattle.run_stops.specs.Stops.{TellsLoss}
 use Rattle.whole_run.specs.Sources.{files_of, paths_in}
-use Rattle.whole_run.specs.declared.stop.InputName.{InputName}
-use Rattle.whole_run.specs.declared.stop.InputName.TheVariants as inputs
-use Rattle.whole_run.specs.declared.stop.RunError.{RunError}
-use Rattle.whole_run.specs.declared.stop.RunError.TheVariants as stops
+use Rattle.run_stops.specs.declared.stop.InputName.{InputName}
+use Rattle.run_stops.specs.declared.stop.InputName.TheVariants as inputs
+use Rattle.run_stops.specs.declared.stop.RunError.{RunError}
+use Rattle.run_stops.specs.declared.stop.RunError.TheVariants as stops
 
 -- the paths are looked up, in this order, and these files are found
 abbrev pub AreFound : List (List ℕ) → List (Option FileId) → List Event → Type 0
@@ -44,12 +45,6 @@ AreLooked o lost events = (read : List (Option FileId)) × (written : List (Opti
 -- no path of the output leads to an input
 abbrev pub AreApart : Options → List Event → Type 0
 AreApart o events = AreLooked o None events
-
--- The input that would be replaced is named, by the folder of the output, or memory ran out.
-abbrev pub TellsLoss : Options → InputName → RunError → Type 0
-TellsLoss o input (stops.Replaces told named) = (string_bytes told ≡ string_bytes o.out) × (named ≡ input)
-TellsLoss o input (stops.Fault faults.Memory) = Unit {0}
-TellsLoss o input stop = ⊥
 
 -- files are looked up, and nothing else is asked
 abbrev pub AreLooks : List Event → Type 0

@@ -8,10 +8,11 @@ use Rattle.outside.specs.declared.file_id.FileId.{FileId}
 use Rattle.command_line.specs.declared.chosen.Options.{Options}
 use Rattle.replay_run.specs.declared.fault.Fault.TheVariants as faults
 use Rattle.replay_run.specs.declared.inputs.Inputs.{Inputs}
+use Rattle.run_stops.specs.Stops.{MayTell, MayTellFolder}
 use Rattle.whole_run.specs.Looking.{AreApart, StopsLooking}
 use Rattle.whole_run.specs.Sources.{files_of}
-use Rattle.whole_run.specs.declared.stop.RunError.{RunError}
-use Rattle.whole_run.specs.declared.stop.RunError.TheVariants as stops
+use Rattle.run_stops.specs.declared.stop.RunError.{RunError}
+use Rattle.run_stops.specs.declared.stop.RunError.TheVariants as stops
 
 -- what a file that may be missing answers, and what is taken for its bytes
 abbrev pub IsAbsent : Result (List ℕ) Failure → List ℕ → Type 0
@@ -32,18 +33,6 @@ AreRead o i events = (holds : Result (List ℕ) Failure) × IsAbsent holds i.tab
 -- The same, after no file of the output was found to be one of them.
 abbrev pub AreGiven : Options → Inputs → List Event → Type 0
 AreGiven o i events = (looks : List Event) × (reads : List Event) × AreApart o looks × AreRead o i reads × (events ≡ looks ++ reads)
-
--- A file that fails is named by its path, with the reason that it gave, or memory ran out.
-abbrev pub MayTell : List ℕ → Failure → RunError → Type 0
-MayTell path failure (stops.File told why) = (string_bytes told ≡ path) × (why ≡ failure)
-MayTell path failure (stops.Fault faults.Memory) = Unit {0}
-MayTell path failure stop = ⊥
-
--- A folder that isn't there is named by its path, with that of the file that was looked for in it, or memory ran out.
-abbrev pub MayTellFolder : List ℕ → List ℕ → RunError → Type 0
-MayTellFolder folder path (stops.NoFolder told within) = (string_bytes told ≡ path) × (string_bytes within ≡ folder)
-MayTellFolder folder path (stops.Fault faults.Memory) = Unit {0}
-MayTellFolder folder path stop = ⊥
 
 -- what is said of a file that is missing, by what its folder is found to be
 abbrev pub TellsMissing : List ℕ → List ℕ → Option FileId → RunError → Type 0

@@ -12,12 +12,13 @@ use Rattle.replay_run.specs.declared.inputs.Output.{Output}
 use Rattle.result_report.specs.declared.texts.Sizes.{Sizes}
 use Rattle.whole_run.specs.Doubting.{TellsDoubt}
 use Rattle.whole_run.specs.Reading.{AreGiven, StopsBefore, TellsIn}
-use Rattle.whole_run.specs.Seeing.{IsOf}
+use Rattle.run_stops.specs.Seeing.{IsOf}
 use Rattle.whole_run.specs.Sources.{places_of}
-use Rattle.whole_run.specs.Statuses.{ended_status, status_of}
-use Rattle.whole_run.specs.Telling.{stop_text}
-use Rattle.whole_run.specs.declared.stop.RunError.{RunError}
-use Rattle.whole_run.specs.declared.stop.RunError.TheVariants as stops
+use Rattle.run_stops.specs.Statuses.{status_of}
+use Rattle.whole_run.specs.Statuses.{ended_status}
+use Rattle.run_stops.specs.Telling.{stop_text}
+use Rattle.run_stops.specs.declared.stop.RunError.{RunError}
+use Rattle.run_stops.specs.declared.stop.RunError.TheVariants as stops
 
 -- All files are read, and the replay of exactly these bytes gives this.
 abbrev pub IsReplayed : Options → Result Output Fault → List Event → Type 0

@@ -8,8 +8,8 @@ use Rattle.command_line.specs.declared.refusal.Refusal.TheVariants as refusals
 use Rattle.replay_run.specs.declared.fault.Fault.TheVariants as faults
 use Rattle.whole_run.specs.Checking.{IsCheck}
 use Rattle.whole_run.specs.Run.{IsRun}
-use Rattle.whole_run.specs.Telling.{stop_text}
-use Rattle.whole_run.specs.declared.stop.RunError.TheVariants as stops
+use Rattle.run_stops.specs.Telling.{stop_text}
+use Rattle.run_stops.specs.declared.stop.RunError.TheVariants as stops
 
 -- Words that give no options: one text is printed, and nothing else is asked of the outside.
 abbrev pub TellsRefusal : Refusal → ℕ → List Event → Type 0

@@ -9,13 +9,13 @@ ghost use Rattle.replay_run.specs.declared.fault.Fault.TheVariants as faults;
 ghost use Rattle.whole_run.specs.Reading.{AreGiven, AreRead, IsAbsent, StopsBefore, StopsReading, TellsIn, TellsMissing, is_missing};
 ghost use Rattle.whole_run.specs.Run.{StopsAt};
 ghost use Rattle.whole_run.specs.Sources.{files_of, places_of};
-ghost use Rattle.whole_run.specs.declared.stop.RunError.TheVariants as stops;
+ghost use Rattle.run_stops.specs.declared.stop.RunError.TheVariants as stops;
 
 use crate::looking::refuse_loss;
-use crate::stop::RunError;
 use command_line::Options;
 use outside::{Failure, Outside, Unwritten, file_in_folder, write_files};
 use replay_run::{Inputs, Output, Tables};
+use run_stops::RunError;
 use std::alloc::{AllocError, Global};
 
 /// Reads all inputs, after it has seen that no file of the output is one of them.

@@ -7,11 +7,7 @@ mod doubt;
 mod files;
 mod looking;
 mod progress;
-mod remedy;
 mod replaying;
-mod seen;
-mod stop;
-mod values;
 
 pub use checking::first_is_refused;
 pub use replaying::{refuse_words, run};

@@ -7,9 +7,9 @@ ghost use Rattle.whole_run.specs.Looking.{AreApart, AreFound, AreLooks, StopsLoo
 ghost use Rattle.outside.specs.Files.{in_folder};
 ghost use Rattle.whole_run.specs.Sources.{files_of, paths_in};
 
-use crate::stop::{InputName, RunError};
 use command_line::Options;
 use outside::{FileId, Outside, file_in_folder};
+use run_stops::{InputName, RunError};
 use std::alloc::{AllocError, Global};
 
 /// Looks up each file that is read and each that is to be written. One file that is both stops the run.

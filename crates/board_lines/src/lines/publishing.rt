@@ -125,7 +125,7 @@ impl<'p, 't, J: PlanName> Lines<'p, 't, J> {
         self.rows[(line - self.plan.first()) as usize].version
     }
 
-    /// The worker's line in hand with its attempt, where it is to be published: it runs, or its publication goes on.
+    /// The worker's line in hand with its attempt, where it is to be published: it runs, or is being published.
     pub fn to_publish(&self, worker: u32) -> Option<Hand>
         ensures { IsToPublish self.now worker result }
     {

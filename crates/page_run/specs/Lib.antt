@@ -1,0 +1,5 @@
+pub mod Made
+pub mod Reading
+pub mod Run
+pub mod Sources
+pub mod Stops

@@ -1,0 +1,4 @@
+pub mod Seeing
+pub mod Statuses
+pub mod Stops
+pub mod Telling

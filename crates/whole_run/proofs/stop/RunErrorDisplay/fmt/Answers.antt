@@ -1,4 +1,0 @@
-use Rattle.whole_run.proofs.stop.RunErrorDisplay.fmt.Goals as goal
-
-pub returns-in-Replaces-clause-writes : goal.returns-in-Replaces-clause-writes
-returns-in-Replaces-clause-writes g c = rw c.in-Replaces.is c.write-in-Replaces.ensures.writes

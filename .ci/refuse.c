@@ -1,7 +1,7 @@
-/* Refuses the growth of the heap whose number REFUSE tells, counted from 1 over all threads:
+/* Refuses the growth of the heap whose number REFUSE has, counted from 1 over all threads:
    LD_PRELOAD=refuse.so REFUSE=N PROGRAM. Only what the program itself asks for is counted (by malloc and realloc, which are
    all that the kit calls), not what the C library asks for within itself. Where a growth is refused, a line goes to
-   descriptor 9. (A program with threads ends by _exit, which runs no destructor, so nothing can be told at the end.) */
+   descriptor 9. (A program with threads ends by _exit, which runs no destructor, so nothing can be reported at the end.) */
 #define _GNU_SOURCE
 #include <dlfcn.h>
 #include <errno.h>
@@ -16,7 +16,7 @@ static atomic_long seen;
 static long nth;
 static char *low, *high;
 
-/* Where the program's own code stands: in the first object that is loaded. */
+/* Where the program's own code is: in the first object that is loaded. */
 static int note(struct dl_phdr_info *object, size_t size, void *data) {
     (void)size, (void)data;
     for (int k = 0; k < object->dlpi_phnum; k++)

@@ -17,7 +17,7 @@ import day
 import model
 
 DAY, SEED, LINES_A_DAY = model.day_of('20260307'), 'bench', 20000
-# every so many answered lines have no recorded response, so that the report has rows
+# one of this number of answered lines has no recorded response, so that the report has rows
 MISSING = 400
 
 

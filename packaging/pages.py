@@ -42,7 +42,7 @@ def escaped(text):
 
 
 def lines(block):
-    """A paragraph in roff: lines that are indented stand as they are."""
+    """A paragraph in roff: lines that are indented stay as they are."""
     found, plain = [], True
     for line in block.splitlines():
         if line.startswith("  ") == plain:

@@ -1,5 +1,5 @@
 # typed.zsh FOLDER TEXT FILE: prints the line of a zsh that has the completions of FOLDER, where TEXT is typed and the tab key pressed
-# behind it. FILE and FILE.rc are made on the way.
+# after it. FILE and FILE.rc are made on the way.
 zmodload zsh/zpty
 print -r -- "PS1=
 fpath=($1 \$fpath)

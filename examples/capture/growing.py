@@ -63,7 +63,7 @@ def one_connection(file, count):
 
 
 def connections(talk, first=None, port=6001):
-    """Writes so many connections, each as this function has it, after a first one that is another."""
+    """Writes this number of connections, each made by this function, after a first one of another kind."""
     def write(file, count):
         if first:
             file.write(of_client(packets_of(first), 3_000_000))
@@ -88,7 +88,7 @@ KINDS = {
 
 
 def write(path, kind, count):
-    """Writes a capture of so many connections, or exchanges of one."""
+    """Writes a capture of this number of connections, or of exchanges on one."""
     with open(path, 'wb') as file:
         file.write(pcap([], 'ethernet'))
         KINDS[kind](file, count)

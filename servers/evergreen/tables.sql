@@ -1,6 +1,6 @@
 -- The six tables of a base, as Evergreen has them. Each *_rows has a row for each row of Evergreen: its columns as sip_replay wants
 -- them, left_out (why it is no row of the table, or '') and cleaned (what was changed in it, or '').
--- export prints them, load compares with them. Stands after "WITH maps (kind, here, sip2) AS (..)", which is the file of maps;
+-- export prints them, load compares with them. This text comes after "WITH maps (kind, here, sip2) AS (..)", which is the file of maps;
 -- sip.moment is the base's moment.
 said AS (
     SELECT COALESCE(NULLIF(current_setting('sip.moment'), '')::timestamptz, now()) AS moment

@@ -1,6 +1,6 @@
 -- The six tables of a base, as Koha has them. Each *_rows has a row for each row of Koha: its columns as sip_replay wants
 -- them, `left_out` (why it is no row of the table, or '') and `cleaned` (what was changed in it, or '').
--- export prints them, load compares with them. Stands after "WITH maps (kind, here, sip2) AS (..)", which is the file of maps,
+-- export prints them, load compares with them. This text comes after "WITH maps (kind, here, sip2) AS (..)", which is the file of maps,
 -- and @day, the day of the base's moment. NO_BACKSLASH_ESCAPES is on: the backslashes are those of regular expressions.
 people AS (
     SELECT b.borrowernumber, b.cardnumber AS card, CONCAT_WS(' ', b.firstname, b.surname) AS name, b.debarred,

@@ -1,4 +1,4 @@
-"""Why each line is answered as it is, and since when each record that it read stood so: reasons and origins once more, in plain Python.
+"""Why each line is answered as it is, and since when each record that it read was so: reasons and origins once more, in plain Python.
 
 It was written from docs/RULES.md, and says what ./sip_why has to print for a journal.
 """

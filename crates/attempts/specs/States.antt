@@ -63,7 +63,7 @@ pub record IsCounted (rows : List AttemptRow) (c : Counts) : Type 0 where
   pub balance : Balanced c
   pub live : c.live ≡ live_among rows
   pub commits : c.commits ≡ committed_among rows
-  -- each take gave a number that no other take of its line gave
+  -- each take of a line returned another number
   pub once : c.takes ≤ sum_by (λ r. r.next) rows
   pub few : length rows ≤ 2 ^ 32 - 1
   pub numbered : All IsNumbered rows

@@ -1,4 +1,4 @@
-/// How often lines were taken, and what became of it.
+/// How many attempts were begun, and how they ended.
 #[derive(Clone, Copy, PartialEq, Eq)]
 pub struct Counts {
     /// How often a line was taken, for its first attempt or a later one.

@@ -1,4 +1,4 @@
-//! Attempts: the state of each line of a journal, which attempts of it were begun, and how often lines were
+//! Attempts: the state of each line of a journal, which of its attempts were begun, and how often lines were
 //! taken, sent back and committed.
 //!
 //! An attempt's number is used once: each take of a line gives it the next one. The counts balance in every table: its

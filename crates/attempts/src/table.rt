@@ -20,7 +20,7 @@ pub struct AttemptRow {
     pub next: u64,
 }
 
-/// The state of each line of a journal, and the counts. Lines go by their numbers.
+/// The state of each line of a journal, and the counts. A line is given by its number.
 pub struct AttemptTable {
     first: u64,
     rows: Vec<AttemptRow>,

@@ -26,7 +26,7 @@ publishes (states.Done stamp) = false
 publishes (states.Checking w t i) = false
 publishes states.Committed = false
 
--- a part of what a line in this state writes is placed
+-- a line in this state may have entries of its current publication
 abbrev pub places : LineState → Bool
 places states.Waiting = false
 places (states.Running w) = false
@@ -39,12 +39,12 @@ places states.Committed = false
 abbrev pub notes_at : Board → ℕ → List Note
 notes_at b n = notes_of (row_at b n).state
 
--- the worker's line in hand is to be published; or it has none that is
+-- the worker's line in hand is to be published; or the worker has no such line
 abbrev pub IsToPublish : Board → ℕ → Option Hand → Type 0
 IsToPublish b w None = (n : ℕ) (notes : List Note) → MayPublish b w n notes → ⊥
 IsToPublish b w (Some h) = IsLine b h.line × MayPublish b w h.line (notes_at b h.line) × (suc h.attempt ≡ (row_at b h.line).next)
 
--- the version of the last act of publication of the worker's line in hand, where that line is placing
+-- the version of the last act of publication of the worker's line in hand, where that line is being published
 abbrev pub IsPlacing : Board → ℕ → Option Contents → Type 0
 IsPlacing b w None = (n : ℕ) (notes : List Note) (last : Option Contents) → (row_at b n).state ≢ Placing w notes last
 IsPlacing b w (Some v) = (n : ℕ) × (notes : List Note) × ((row_at b n).state ≡ Placing w notes (Some v))

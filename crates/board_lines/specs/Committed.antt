@@ -1,4 +1,4 @@
--- What a board gives of a committed line.
+-- The result of a committed line.
 use Rattle.std.specs.Prelude.{Option, None}
 use Rattle.sip_answer.specs.declared.answer.Answer.{Answer}
 use Rattle.board_steps.specs.Board.{State}

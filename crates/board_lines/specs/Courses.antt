@@ -21,11 +21,11 @@ use Rattle.board_lines.specs.declared.row.LineProgress.{LineProgress}
 abbrev pub FirstPlaced : Line → ℕ → Entries → ℕ → Type 0
 FirstPlaced l a writes count = (j : ℕ) (x : Key × Record) → j < count → slice_get writes j ≡ Some x → IsPlacedAt l a x.0
 
--- the same, but for the write at this key
+-- the same, except for the write at this key
 abbrev pub FirstPlacedBut : Line → ℕ → Entries → Key → ℕ → Type 0
 FirstPlacedBut l a writes k count = (j : ℕ) (x : Key × Record) → j < count → slice_get writes j ≡ Some x → (x.0 ≡ k) ⊎ IsPlacedAt l a x.0
 
--- how many writes are placed once the act is done
+-- the count of placed writes is right once the act is done
 abbrev pub ComesTo : Line → Contents → PublishAct → Type 0
 ComesTo l v (acts.Write k count) = FirstPlacedBut l v.attempt v.writes k.now count
 ComesTo l v (acts.Lift k) = Unit {0}
@@ -42,8 +42,8 @@ abbrev pub IsUnderWay : ℕ → Row → List Note → Option Contents → LinePr
 IsUnderWay n r notes None c = ⊥
 IsUnderWay n r notes (Some v) c = UnderWay n r notes v c
 
--- The next act for the line that the worker has in hand, where that line is being published: an act of the version of the last
--- act. Else None, and no change.
+-- The next act for the line that the worker has in hand, where that line is being published: an act of the same version as the
+-- last act. Else None, and no change.
 abbrev pub PublishesMore : {J : Type 0} → Planned → Board → ℕ → Option (Reply J) → Board → Type 0
 PublishesMore plan old w None new = IsPlacing old w None × (new ≡ old)
 PublishesMore plan old w (Some reply) new = (v : Contents) × IsPlacing old w (Some v) × IsVersion plan v × Answers plan old (Publish w v) reply new

@@ -13,7 +13,7 @@ use Rattle.board_lines.specs.declared.hand.Hand.{Hand}
 abbrev pub HasNoLine : Board → ℕ → Type 0
 HasNoLine b w = (n : ℕ) → holder (row_at b n).state ≢ Some w
 
--- whoever has a line in hand is a worker of the board
+-- only workers of the board have a line in hand
 abbrev pub AreWorkers : Board → Type 0
 AreWorkers b = (n w : ℕ) → holder (row_at b n).state ≡ Some w → w < b.workers
 
@@ -22,7 +22,7 @@ abbrev pub IsInHand : Board → ℕ → Option ℕ → Type 0
 IsInHand b w None = HasNoLine b w
 IsInHand b w (Some n) = holder (row_at b n).state ≡ Some w
 
--- the same with the attempt that goes on, the newest that the line has begun
+-- the line that the worker has in hand, with its attempt: the last that the line has begun
 abbrev pub IsHand : Board → ℕ → Option Hand → Type 0
 IsHand b w None = HasNoLine b w
 IsHand b w (Some h) = (holder (row_at b h.line).state ≡ Some w) × (suc h.attempt ≡ (row_at b h.line).next)
@@ -41,7 +41,7 @@ abbrev pub AreNotesOf : Planned → Board → ℕ → Option (List Noted) → Ty
 AreNotesOf plan b w None = HasNoLine b w
 AreNotesOf plan b w (Some notes) = (n : ℕ) × (holder (row_at b n).state ≡ Some w) × (notes_of (row_at b n).state ≡ notes_by plan.base notes)
 
--- the counts of the board, and how many attempts go on
+-- the counts of the board, and how many attempts are unfinished
 pub record AreCounts (b : Board) (c : Counts) : Type 0 where
   pub takes : c.takes ≡ b.takes
   pub failed : c.failed ≡ b.failed

@@ -1,4 +1,4 @@
--- What a line has noted, by places: the base's record, or what the version at a place writes.
+-- What a line has noted. A record is given by a place: it is what the version there writes; without a place it is the base's.
 use denote.Ref.{Bor}
 use Rattle.std.specs.Prelude.{◌≡◌, ◌↔◌, ◌||◌, ℕ, Bool, false, List, map, slice_get, take, Option, Some, None, option_map}
 use Rattle.std.specs.Global.{Box}
@@ -18,7 +18,7 @@ use Rattle.version_store.specs.declared.table.Place.{Place}
 use Rattle.board_lines.specs.declared.notes.PlaceNote.{PlaceNote}
 use Rattle.board_lines.specs.declared.notes.PlacedName.{PlacedName}
 
--- a note by its place: what the version there says
+-- a note, with the contents of the version at its place
 pub record Noted : Type 0 where
   pub key : Key
   pub name : Name
@@ -30,11 +30,11 @@ contents_at place = place.version.now
 abbrev pub note_with : {J : Type 0} → Key → PlacedName J → Noted
 note_with key n = record { key = key; name = n.name; contents = option_map contents_at n.place }
 
--- a note of the code
+-- a note as the code stores it
 abbrev pub noted : {J : Type 0} → PlaceNote J → Noted
 noted n = note_with n.key n.seen
 
--- the name of a note, and what the version at its place says
+-- the name of a note, and the contents of the version at its place
 abbrev pub by_place : {J : Type 0} → PlacedName J → Name × Option Contents
 by_place n = (n.name, option_map contents_at n.place)
 
@@ -56,7 +56,7 @@ key_and_name n = (n.key, n.name)
 abbrev pub key_and_name_of : Noted → Key × Name
 key_and_name_of n = (n.key, n.name)
 
--- a key that is lent, and a name
+-- a borrowed key, and a name
 abbrev pub lent : Bor Key × Name → Key × Name
 lent p = (p.0.now, p.1)
 
@@ -71,7 +71,7 @@ is_noted notes k = list_any (λ n. is_at (key_cmp k) n.key) notes
 abbrev pub IsPlaced : Noted → Type 0
 IsPlaced n = (n.name ≡ names.Base) ↔ (n.contents ≡ None)
 
--- of each note
+-- this holds of each note
 abbrev pub ArePlaced : List Noted → Type 0
 ArePlaced notes = (i : ℕ) (n : Noted) → slice_get notes i ≡ Some n → IsPlaced n
 
@@ -83,7 +83,7 @@ AreOnce notes = IsDistinct (eq_by_cmp key_cmp) (map (λ n. n.key) notes)
 abbrev pub few : {J : Type 0} → List (PlaceNote J) → List (PlaceNote J)
 few notes = take 8 notes
 
--- whether a key is noted in one of these
+-- whether a key is noted in one of these notes
 abbrev pub is_key_in : {J : Type 0} → List (PlaceNote J) → Key → Bool
 is_key_in notes k = list_any (λ n. eq_by_cmp key_cmp k n.key) notes
 

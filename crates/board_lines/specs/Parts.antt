@@ -1,4 +1,4 @@
--- The fields of a board, as data, and the board that they are.
+-- The fields of a board, as data, and the board that they represent.
 use Rattle.std.specs.Prelude.{◌≡◌, ℕ, zero, suc, ◌+◌, ◌-◌, ◌<◌, ◌≤◌, ◌⊎◌, ◌↔◌, List, [], ◌∷◌, length, slice_get, slice_index_or, Option, Some, None, option_map}
 use Rattle.circ_records.specs.Records.{Entries}
 use Rattle.sip_answer.specs.declared.answer.Answer.{Answer}
@@ -20,7 +20,7 @@ use Rattle.board_lines.specs.Courses.{IsUnderWay}
 use Rattle.board_lines.specs.declared.row.LineProgress.{LineProgress}
 use Rattle.board_lines.specs.declared.row.LineRow.{LineRow}
 
--- what the board has of a line beside its state and its entries
+-- what the board has of a line besides its state and its entries
 pub record Kept : Type 0 where
   pub notes : List Noted
   pub contents : Option Contents
@@ -55,7 +55,7 @@ state_of (states.Done stamp) notes contents = Done notes (answer_by contents) st
 state_of (states.Checking w t i) notes contents = Checking w notes (answer_by contents) t i
 state_of states.Committed notes contents = Committed (answer_by contents)
 
--- a line of these three
+-- a line, from its state, its row and its entries
 abbrev pub row_with : Entries → attempt.AttemptRow → Kept → store.Line → steps.Row
 row_with base s k l = record { state = state_of s.state (notes_by base k.notes) k.contents; next = s.next; changed = k.changed; entries = l }
 
@@ -88,14 +88,14 @@ kept_at a n = slice_index_or a.rows (n - a.states.first) no_notes
 abbrev pub HandsHold : List (Option ℕ) → (ℕ → steps.Row) → Type 0
 HandsHold hands rows = (w n : ℕ) → (slice_get hands w ≡ Some (Some n)) ↔ (holder (rows n).state ≡ Some w)
 
--- what holds of the fields
+-- what always holds of the fields
 pub record IsKept (plan : Planned) (a : Parts) : Type 0 where
   pub reached : Reached plan (board_of plan.base a)
   pub same_first : a.store.first ≡ a.states.first
   pub all_states : length a.states.rows ≡ length a.rows
   pub all_entries : length a.store.lines ≡ length a.rows
   pub hand : HandsHold a.hands (row_at (board_of plan.base a))
-  -- a line that is placing has the version of its last act, which fits, and the course says how far that has come
+  -- a line that is being published has the version of its last act, and the course says how far that has come
   pub under_way : (n w : ℕ) (notes : List Note) (last : Option Contents) → (row_at (board_of plan.base a) n).state ≡ Placing w notes last
       → IsUnderWay n (row_at (board_of plan.base a) n) notes last (kept_at a n).course
   -- the greatest clock at which a committed line changed

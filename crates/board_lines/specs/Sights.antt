@@ -1,4 +1,4 @@
--- What the parts of look and check return: which line may look, what is to be noted, and what a check compares.
+-- What the parts of `look` and `check` return: the line that looks, what it is to note, and what a check compares.
 use Rattle.std.specs.Prelude.{◌≡◌, ℕ, ◌≤◌, List, Option, Some, None, option_map, slice_get, length}
 use Rattle.circ_records.specs.declared.key.Key.{Key}
 use Rattle.sip_answer.specs.declared.answer.Answer.{Answer}
@@ -13,7 +13,7 @@ use Rattle.board_steps.specs.Steps.{MayLook, Compares, Differs, stopped}
 use Rattle.board_lines.specs.Notes.{contents_at}
 use Rattle.board_lines.specs.declared.notes.PlacedName.{PlacedName}
 
--- the line that looks
+-- the line for which the worker may look at the key
 abbrev pub IsLooking : Board → ℕ → Key → Option ℕ → Type 0
 IsLooking b w k None = (n : ℕ) (notes : List Note) → MayLook b w k n notes → ⊥
 IsLooking b w k (Some n) = (notes : List Note) × MayLook b w k n notes

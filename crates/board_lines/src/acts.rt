@@ -21,7 +21,7 @@ use version_store::{EntryStore, Place};
 /// What a publication does next.
 #[derive(Clone, Copy)]
 pub(crate) enum PublishAct<'t> {
-    /// Places the write at this key, which is borrowed from the version. Afterwards this many of the first writes are placed.
+    /// Places the write at this key, which is borrowed from the version. Afterwards the first `count` writes are placed.
     Write(&'t Key, usize),
     /// Removes the entry at this key, which an earlier attempt left.
     Lift(&'t Key),
@@ -42,7 +42,7 @@ pub(crate) fn is_publishing(state: LineState) -> bool
     }
 }
 
-/// Whether a line in this state may have some of its writes placed.
+/// Whether a line in this state may have entries of its current publication on the board.
 pub(crate) fn is_placing(state: LineState) -> bool
     ensures { result ≡ places state }
 {
@@ -59,14 +59,14 @@ pub(crate) fn is_of<J: PlanName>(version: &Version<J>, hand: Hand) -> bool
     version.attempt() == hand.attempt
 }
 
-/// Proves `IsVersion`; does nothing.
+/// Gives callers `IsVersion`, which every version has; does nothing.
 pub(crate) fn settled<J: PlanName>(place: Place<'_, J>)
     ensures { IsVersion J.plan (contents_at place.entry) }
 {
     let _reads = place.show().reads();
 }
 
-/// The next act of the publication of a version of a line. The first `placed` writes are placed: it looks at none of these again.
+/// The next act of the publication of a line's version. The first `placed` writes are placed already, and aren't looked at again.
 pub(crate) fn act_of<'t, J: PlanName>(
     entries: &EntryStore<'t, J>,
     line: u64,
@@ -88,7 +88,7 @@ pub(crate) fn act_of<'t, J: PlanName>(
     }
 }
 
-/// The index of the first write whose entry isn't of the attempt. Those of the first `placed` writes are of it.
+/// The index of the first write that has no entry of the attempt. The first `placed` writes have one, and are skipped.
 fn next_write<J: PlanName>(
     entries: &EntryStore<'_, J>,
     line: u64,

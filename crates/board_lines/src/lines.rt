@@ -1,4 +1,4 @@
-//! The lines of a board: what it keeps of them, which worker has which in hand, and how work on a line begins and ends.
+//! The lines of a board: what is stored of each, which worker has it in hand, and how work on a line begins and ends.
 
 ghost use Rattle.std.specs.Prelude.{◌≡◌, IfOk, None, max, option_copied, slice_get, unwrap_or, ◌≤◌, map, replicate};
 ghost use Rattle.board_steps.specs.Reached.{Reached};
@@ -35,7 +35,7 @@ pub struct Lines<'p, 't, J: PlanName> {
     /// The line that each worker has in hand.
     hands: Vec<Option<u64>>,
     clock: u64,
-    /// The greatest value of the clock at which the entries of a line that is now committed changed.
+    /// The clock at the last change of an entry of a committed line.
     latest: u64,
 }
 
@@ -129,7 +129,7 @@ impl<'p, 't, J: PlanName> Lines<'p, 't, J> {
         Reply::Taken { attempt }
     }
 
-    /// Commits the next line, where no line below has changed since its stamp. It compares none of the line's notes.
+    /// Commits the next line, where no entry of an earlier line has changed since the line's stamp. Compares no notes.
     pub fn commit(&mut self, line: u64) -> Reply<'t, J>
         ensures { Answers J.plan self.old (Commit line) result self.new }
     {
@@ -152,7 +152,7 @@ impl<'p, 't, J: PlanName> Lines<'p, 't, J> {
         if stamp < self.latest {
             return Reply::Later;
         }
-        // nobody reads the notes of a line that is committed
+        // the notes of a committed line are never read again
         let row = &mut self.rows[position as usize];
         row.notes.clear(&mut self.spare);
         let changed = row.changed;
@@ -192,14 +192,14 @@ impl<'p, 't, J: PlanName> Lines<'p, 't, J> {
         Some(&row.notes)
     }
 
-    /// How many attempts were begun, failed, stopped and were committed, and how many are unfinished.
+    /// How many attempts were begun, how many of them failed, stopped or were committed, and how many are unfinished.
     pub fn counts(&self) -> Counts
         ensures { AreCounts self.now result }
     {
         self.attempts.counts()
     }
 
-    /// How many workers the board was made for. Each worker that has a line in hand is one of them.
+    /// How many workers the board was made for. Only these have a line in hand.
     pub fn workers(&self) -> usize
         ensures count { result ≡ self.now.workers }
         ensures hands { AreWorkers self.now }
@@ -214,7 +214,7 @@ impl<'p, 't, J: PlanName> Lines<'p, 't, J> {
         self.attempts.counts().commits
     }
 
-    /// The clock: what it began with, and 1 more for each change of the entries of a line.
+    /// The clock: its first value, and 1 more for each change of an entry.
     pub fn clock(&self) -> u64
         ensures { result ≡ self.now.clock }
     {
@@ -250,7 +250,7 @@ fn rows_of<'t, J: PlanName>(alloc: Global, lines: usize) -> Result<Vec<LineRow<'
     Ok(rows)
 }
 
-/// Hands without a line.
+/// Hands, one for each worker, without a line.
 fn hands_of(alloc: Global, workers: u32) -> Result<Vec<Option<u64>>, AllocError>
     ensures { IfOk result (λ v. v.items ≡ replicate workers None) }
 {

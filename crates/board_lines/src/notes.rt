@@ -64,7 +64,7 @@ const FIRST_ROOM: usize = 2;
 /// The notes of a line that has some, in the order of looking.
 struct NoteList<'t, J: PlanName> {
     notes: Vec<PlaceNote<'t, J>>,
-    /// The keys of all notes after the first `SCANNED_MAX`, as an index. Most lines never have it.
+    /// An index of the keys of all notes after the first `SCANNED_MAX`. Most lines never need one.
     index: Option<Box<BTreeSet<Key>>>,
 }
 
@@ -74,8 +74,8 @@ impl<J: PlanName> Drop for NoteList<'_, J> {
     }
 }
 
-/// The memory of one line's notes, kept for those of another: usually a line is committed just before the next is run, and
-/// allocating and freeing costs more than the notes do.
+/// The memory of one line's notes, kept for the notes of another line: usually a line is committed just before the next is
+/// run, and allocating and freeing costs more than the notes do.
 pub(crate) struct Spare<'t, J: PlanName> {
     held: Option<Box<NoteList<'t, J>>>,
 }
@@ -92,14 +92,14 @@ impl<'t, J: PlanName> Spare<'t, J> {
         Spare { held: None }
     }
 
-    /// Keeps the memory of at most `SCANNED_MAX` notes, and frees that of more.
+    /// Keeps the memory of at most `SCANNED_MAX` notes; the memory of more is freed.
     fn keep(&mut self, held: Box<NoteList<'t, J>>) {
         if held.notes.len() <= SCANNED_MAX {
             self.held = Some(held);
         }
     }
 
-    /// Memory for the notes of a line that has none: the spare memory, or new memory for as many as most lines have.
+    /// Memory for the notes of a line that has none: the spare memory, or new memory for as many notes as most lines have.
     fn take(&mut self, alloc: Global) -> Result<Box<NoteList<'t, J>>, AllocError>
         ensures notes { IfOk result (λ held. held.value.notes.items ≡ []) }
         ensures index { IfOk result (λ held. held.value.index ≡ None) }
@@ -116,9 +116,9 @@ impl<'t, J: PlanName> Spare<'t, J> {
     }
 }
 
-/// What a line has noted, in the order of looking: keys, names and places, but no record. The board has this of each line until
-/// the run ends, and a line has notes only until it is committed. So they are in a box, which is allocated with the first note:
-/// without notes this is small.
+/// What a line has noted, in the order of looking: keys, names and places, but no record. The board has such a value for each
+/// line until the run ends, but a line has notes only until it is committed. So the notes are in a box, which is allocated with
+/// the first note: without notes the value is small.
 pub struct PlaceNotes<'t, J: PlanName> {
     held: Option<Box<NoteList<'t, J>>>,
 }
@@ -161,7 +161,7 @@ impl<'t, J: PlanName> PlaceNotes<'t, J> {
         }
     }
 
-    /// One more note, of a key that isn't noted; it has no place if and only if it is the base's. The first uses the spare
+    /// Adds a note, of a key that isn't noted. It has no place if and only if the base was seen. The first note uses the spare
     /// memory. Out of memory, nothing changes.
     pub(crate) fn add(
         &mut self,
@@ -182,7 +182,7 @@ impl<'t, J: PlanName> PlaceNotes<'t, J> {
         Ok(())
     }
 
-    /// Removes all notes. The memory of at most `SCANNED_MAX` notes is kept as spare memory, that of more is freed.
+    /// Removes all notes. Their memory is kept as spare memory where they are at most `SCANNED_MAX`, else it is freed.
     pub(crate) fn clear(&mut self, spare: &mut Spare<'t, J>)
         ensures { self.new ≡ [] }
     {
@@ -204,7 +204,7 @@ impl<'t, J: PlanName> PlaceNotes<'t, J> {
         key
     }
 
-    /// How many there are. No key is noted twice, and exactly the notes of the base have no place.
+    /// How many notes there are. No key is noted twice, and exactly the notes of the base have no place.
     pub fn len(&self) -> usize
         ensures count { result ≡ length self.now }
         ensures once { AreOnce self.now }
@@ -267,7 +267,7 @@ impl<'t, J: PlanName> NoteList<'t, J> {
         Some(self.notes.swap_remove(i).into_key())
     }
 
-    /// One more note, of a key that isn't noted. Out of memory, the notes stay as they are.
+    /// Adds a note, of a key that isn't noted. Out of memory, the notes stay as they are.
     fn add(&mut self, alloc: Global, key: &Key, seen: PlacedName<'t, J>) -> Result<(), AllocError>
         requires noted { AreNoted self.old.notes.items self.old.index }
         requires fresh { is_noted (map noted self.old.notes.items) key.now ≡ false }
@@ -327,7 +327,7 @@ fn first_few<'n, 't, J: PlanName>(notes: &'n [PlaceNote<'t, J>]) -> &'n [PlaceNo
     }
 }
 
-/// Whether a key is noted in one of these.
+/// Whether a key is noted in one of these notes.
 fn is_among<J: PlanName>(notes: &[PlaceNote<'_, J>], key: &Key) -> bool
     ensures { result ≡ is_key_in notes.now key.now }
 {

@@ -31,7 +31,7 @@ pub fn written<'w>(writes: &'w [(Key, Record)], key: &Key) -> Option<&'w Record>
     Some(&writes[place].1)
 }
 
-/// The record that was seen at a key: what the version at the place writes; without a place the base's.
+/// The record that was seen at a key: what the version at the place writes; the base's where there is no place.
 pub fn record_seen<'p, J: PlanName>(
     plan: &'p Plan,
     key: &Key,
@@ -83,7 +83,7 @@ fn read_note<J: PlanName>(
     })
 }
 
-/// The same record, where there is one.
+/// A copy of a record, where there is one.
 pub fn copied(found: Option<&Record>) -> Result<Option<Record>, AllocError>
     ensures { IfOk result (λ copy. copy ≡ option_copied found.entry) }
 {

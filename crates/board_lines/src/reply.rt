@@ -7,7 +7,7 @@ use version_store::{Found, Place};
 /// The reply of a call of the board.
 #[derive(Drop)]
 pub enum Reply<'t, J: PlanName> {
-    /// The call has nothing to do here; nothing changed.
+    /// The call doesn't apply to this state; nothing changed.
     Idle,
     /// The worker has the line in hand, with this attempt.
     Taken {
@@ -32,7 +32,7 @@ pub enum Reply<'t, J: PlanName> {
     Whole,
     /// The noted name is that of the visible entry.
     Same,
-    /// It differs: the line waits again, its entries are suspect.
+    /// The noted name isn't that of the visible entry: the line waits again, and its entries are suspect.
     Changed {
         key: Key,
         noted: Name,

@@ -1,4 +1,4 @@
-//! What the board has of a line beside its state and its entries.
+//! What the board has of a line besides its state and its entries.
 
 use crate::notes::PlaceNotes;
 use read_set::PlanName;
@@ -11,8 +11,8 @@ pub struct LineProgress {
     pub placed: usize,
 }
 
-/// What a line has noted, the place of the version of its newest publication, how far that has come, and the clock at the
-/// last change of the line's entries.
+/// What a line has noted, the place of the version that it published last, how far that publication has come, and the
+/// clock at the last change of the line's entries.
 pub struct LineRow<'t, J: PlanName> {
     pub notes: PlaceNotes<'t, J>,
     pub version: Option<Place<'t, J>>,

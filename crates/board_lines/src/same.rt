@@ -1,4 +1,4 @@
-//! Whether a version has read what its line has noted.
+//! Whether the notes of a version are those of its line.
 
 ghost use Rattle.std.specs.Prelude.{◌≡◌, Some, option_map, slice_get};
 ghost use Rattle.std.specs.Bool.{Decides};
@@ -29,7 +29,7 @@ pub(crate) fn same_notes<J: PlanName>(
     true
 }
 
-/// Whether a note of a version is the i-th of its line.
+/// Whether a note of a version is the i-th note of its line.
 fn same_note<J: PlanName>(plan: &Plan, ours: &PlaceNotes<'_, J>, i: usize, theirs: &Note) -> bool
     ensures { Decides result (Some theirs.now ≡ slice_get (notes_by plan.now.base ours.now) i) }
 {
@@ -48,7 +48,7 @@ fn same_note<J: PlanName>(plan: &Plan, ours: &PlaceNotes<'_, J>, i: usize, their
     same_found(plan, key, seen.place, &theirs.found)
 }
 
-/// Whether a record is what was found: the base's, or what the version at the place writes at the key.
+/// Whether a record is the one that was seen: the base's, or what the version at the place writes at the key.
 fn same_found<J: PlanName>(
     plan: &Plan,
     key: &Key,

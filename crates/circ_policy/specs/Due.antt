@@ -19,14 +19,14 @@ is_open closed day = not (get_or closed.weekdays (weekday day) true) && not (lis
 abbrev pub IsLeastOpen : Closed → ℕ → ℕ → Type 0
 IsLeastOpen closed first day = (first ≤ day) × (is_open closed day ≡ true) × ((n : ℕ) → first ≤ n → n < day → is_open closed n ≡ false)
 
--- the first open day from a day on. Some weekday is open and at most 400 dates are closed, so it is one of 401 weeks
+-- the first open day from a day on: within 401 weeks, since a weekday is open and at most 400 dates are closed
 unfoldable pub next_open : Closed → ℕ → ℕ
 next_open closed first = unwrap_or (find (is_open closed) (range_with_len first 2807)) first
 
--- the number of 1 January 9999, before which each due day lies
+-- the number of 1 January 9999; each due day is before it
 abbrev pub FIRST_DAY_OF_9999 : ℕ
 FIRST_DAY_OF_9999 = 7_304_119
 
--- Due day: the first open day at or after the day of the loan and the days of the media type
+-- Due day: the first open day at or after the day of the loan plus the days of the media type
 unfoldable pub due_day : Terms → ℕ → Media → ℕ
 due_day p day media = next_open p.closed (day + media.days)

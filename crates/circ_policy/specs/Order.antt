@@ -24,7 +24,7 @@ keys_in (member k d ms) = k ∷ keys_in ms
 abbrev pub is_among : List (List ℕ) → List ℕ → Bool
 is_among known k = list_any (pointwise ◌==◌ k) known
 
--- Unknown keys: of those that a table has and that aren't among the known ones, the least in byte order
+-- Unknown keys: the least, in byte order, of a table's keys that aren't among the known ones
 unfoldable pub least_unknown : List (List ℕ) → Members → Option (List ℕ)
 least_unknown known ms = least (filter (λ k. not (is_among known k)) (keys_in ms))
 

@@ -1,4 +1,4 @@
--- In which ranges the terms of a policy lie (the policy file, its types of media).
+-- The ranges of a policy's terms (the policy file, its types of media).
 use Rattle.std.specs.Prelude.{◌≡◌, ◌≤◌, List, [], ◌∷◌, Some}
 use Rattle.sip_reader.specs.declared.amount.TheConstants.{AMOUNT_MAX}
 use Rattle.circ_policy.specs.Policy.{media_of}

@@ -26,12 +26,12 @@ abbrev pub ◌>>=◌ : {A B : Type 0} → Result A Refusal → (A → Result B R
 (Ok x) >>= f = f x
 (Err e) >>= f = Err e
 
--- what a key's value says, where it says anything; else the key's rule is broken
+-- what was read from a key's value; where nothing was, the key's rule is broken
 abbrev pub required : {X : Type 0} → List ℕ → Option X → Result X Refusal
 required key None = Err (breaks key)
 required key (Some x) = Ok x
 
--- a key that nobody knows breaks its own rule
+-- an unknown key breaks the rule that has the key's own name
 abbrev pub unknown : Option (List ℕ) → Result (Unit {0}) Refusal
 unknown None = Ok tt
 unknown (Some key) = Err (breaks key)
@@ -40,7 +40,7 @@ unknown (Some key) = Err (breaks key)
 abbrev pub within : List ℕ → List ℕ → List ℕ
 within table key = table ++ byte.point ∷ key
 
--- no other keys than these in an entry, the least one counts
+-- an entry has no other keys than these; of several others the least is reported
 unfoldable pub only : List (List ℕ) → List ℕ → Members → Result (Unit {0}) Refusal
 only known entry ms = unknown (option_map (within entry) (least_unknown known ms))
 
@@ -114,7 +114,7 @@ section key read ms = do
 abbrev pub top_keys : List (List ℕ)
 top_keys = codes "institution" ∷ codes "currency" ∷ codes "due_form" ∷ codes "closed_weekdays" ∷ codes "closed_dates" ∷ codes "class" ∷ codes "media" ∷ []
 
--- no other keys than these in a policy, the least one counts
+-- a policy has no other keys than these; of several others the least is reported
 unfoldable pub known_keys : Members → Result (Unit {0}) Refusal
 known_keys ms = unknown (least_unknown top_keys ms)
 
@@ -138,9 +138,9 @@ currency_at = text_at currency_in (codes "currency")
 unfoldable pub due_form_at : Members → Result DueForm Refusal
 due_form_at = text_at due_form_in (codes "due_form")
 
--- Order of the rules (policy file): the policy that a document holds, or the first rule that it breaks of: no unknown
--- key, else the least one; the institution; the currency; the form of due dates; the closed weekdays; the closed dates;
--- all classes; all types of media
+-- Order of the rules (policy file): the policy that a document holds, or the first rule that it breaks. The rules are
+-- tested in this order: no unknown key (else the least is reported); institution; currency; form of due dates; closed
+-- weekdays; closed dates; all classes; all types of media
 unfoldable pub policy_in : Members → Result Terms Refusal
 policy_in ms = do
   known ← known_keys ms
@@ -160,22 +160,22 @@ abbrev pub policy_of_document : Option Members → Result Terms Refusal
 policy_of_document None = Err not_toml
 policy_of_document (Some ms) = policy_in ms
 
--- the policy that bytes say, or why they say none
+-- the policy that bytes say, or why they are refused
 abbrev pub policy_of : List ℕ → Result Terms Refusal
 policy_of bytes = policy_of_document (document_of bytes)
 
--- an error is right for what was to be read: `Memory` always may be
+-- an error is the one that the definition gives; `Memory` says nothing of the bytes
 abbrev pub Fails : {X : Type 0} → PolicyError → Result X Refusal → Type 0
 Fails error.Memory read = Unit {0}
 Fails error.Text read = read ≡ Err not_toml
 Fails (error.Rule key) read = read ≡ Err (breaks (string_bytes key))
 
--- a result is what was to be read, or its error is right
+-- a result is what the definition gives, or its error is
 abbrev pub Gives : {X Y : Type 0} → (X → Y) → Result X PolicyError → Result Y Refusal → Type 0
 Gives view (Ok x) read = read ≡ Ok (view x)
 Gives view (Err e) read = Fails e read
 
--- only bytes that are no document are refused as such
+-- bytes are refused as no TOML only where they are no document; no rule is named yet
 abbrev pub RefusesText : PolicyError → Option Members → Type 0
 RefusesText error.Memory document = Unit {0}
 RefusesText error.Text document = document ≡ None

@@ -20,7 +20,7 @@ in_range low high (pos n) = if nat_le low n && nat_le n high then Some n else No
 abbrev pub whole_of : ℕ → ℕ → Option Data → Option ℕ
 whole_of low high o = option_and_then (in_range low high) (option_and_then as_integer o)
 
--- a text that a test takes
+-- what is read from a value that is a text; other values give nothing
 abbrev pub text_of : {X : Type 0} → (List ℕ → Option X) → Option Data → Option X
 text_of take_text o = option_and_then take_text (option_and_then as_str o)
 
@@ -70,16 +70,16 @@ written_day s = do
 unfoldable pub date_in : List ℕ → Option ℕ
 date_in s = if (length s == 10) && ((slice_index s 4 == byte.hyphen) && (slice_index s 7 == byte.hyphen)) then written_day s else None
 
--- what each item of a list says, where each of them says anything
+-- what is read from each item of a list; nothing where one item gives nothing
 abbrev pub each : {X : Type 0} → (Data → Option X) → Items → Option (List X)
 each read no_items = Some []
 each read (item d ds) = option_and_then (λ x. option_map (λ xs. x ∷ xs) (each read ds)) (read d)
 
--- flags for the weekdays from Monday on, with these weekdays set as well
+-- flags for the weekdays from Monday on, with these weekdays set too
 abbrev pub marked : List Bool → List ℕ → List Bool
 marked = fold (λ flags weekday. slice_set flags weekday true)
 
--- flags that aren't all set
+-- the flags, where not all of them are set
 abbrev pub not_all : List Bool → Option (List Bool)
 not_all flags = if list_all (λ b. b) flags then None else Some flags
 
@@ -98,7 +98,7 @@ item_count (item d ds) = suc (item_count ds)
 abbrev pub at_most : ℕ → Items → Option Items
 at_most most items = if nat_le (item_count items) most then Some items else None
 
--- a set of days, rising, with these days as well
+-- a set of days, rising, with these days added
 abbrev pub day_set : List ℕ → List ℕ → List ℕ
 day_set = fold (insert_key nat_cmp)
 

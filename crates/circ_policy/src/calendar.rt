@@ -9,11 +9,11 @@ use crate::loan_days::LoanDays;
 use sip_reader::Day;
 use std::collections::BTreeSet;
 
-/// The days on which a library is closed. Some weekday is open and few dates are closed, so of 401 weeks some day is open.
+/// The days on which a library is closed. A weekday is open and at most 400 dates are closed: 401 weeks have an open day.
 pub(crate) struct Calendar {
-    /// From Monday on.
+    /// For each weekday, from Monday on, whether it is closed.
     pub closed_weekdays: [bool; 7],
-    /// By their numbers.
+    /// The closed dates, as numbers of days.
     pub closed_dates: BTreeSet<u32>,
     pub ghost some_open: { list_any not closed_weekdays ≡ true },
     pub ghost few_closed: { length closed_dates.keys ≤ 400 },
@@ -32,14 +32,14 @@ impl Calendar {
     ghost use Rattle.circ_policy.specs.Calendars.{closed_of};
     ghost use Rattle.circ_policy.specs.Due.{IsLeastOpen, is_open, next_open};
 
-    /// Whether the library is open on the day of a number.
+    /// Whether the library is open on the day with this number.
     fn is_open(&self, number: u32) -> bool
         ensures { result ≡ is_open (closed_of self.now) number }
     {
         !self.closed_weekdays[(number % 7) as usize] && !self.closed_dates.contains(&number)
     }
 
-    /// The first open day that is `days` days after a day, or later.
+    /// The first open day that is at least `days` days after a day.
     pub fn due(&self, day: Day, days: LoanDays) -> Day
         requires { day ≤ LAST_STAMP_DAY }
         ensures least { IsLeastOpen (closed_of self.now) (day + days) result }

@@ -49,7 +49,7 @@ fn closed_weekdays(value: Option<&Value>) -> Option<[bool; 7]>
     not_all(listed_weekdays(value.as_array()?)?)
 }
 
-/// The flags, where one of them isn't set.
+/// The flags; None where all of them are set.
 fn not_all(flags: [bool; 7]) -> Option<[bool; 7]>
     ensures value { result ≡ not_all flags }
     ensures some_open { IfSome result (λ open_days. list_any not open_days ≡ true) }
@@ -99,7 +99,7 @@ fn closed_dates(alloc: Global, value: Option<&Value>) -> Result<Option<BTreeSet<
     }
 }
 
-/// Whether a list of dates isn't too long.
+/// Whether a list has at most 400 dates.
 fn is_short(items: &Array) -> bool
     ensures value { result ≡ nat_le (item_count (array_view items.now)) 400 }
     ensures length { IsTrue result → length items.now.items ≤ 400 }

@@ -17,7 +17,7 @@ use toml::Table;
 /// The greatest number of loans or renewals that a class may allow.
 const LIMIT_MAX: u64 = 9_999;
 
-/// An entry, as `class.A`.
+/// An entry of a section, such as `class.A`.
 #[derive(Clone, Copy)]
 pub(crate) struct Entry<'a> {
     /// `class` or `media`.
@@ -27,7 +27,7 @@ pub(crate) struct Entry<'a> {
 }
 
 impl Entry<'_> {
-    /// Refuses a key that is none of the known ones.
+    /// Refuses the entry if it has a key that isn't among the known ones.
     #[tactic(auto, unfolding(crate::specs::Reading::only))]
     pub fn has_only(&self, alloc: Global, known: &[&str]) -> Result<(), PolicyError>
         ensures { Gives (λ u. u) result (only (map (λ k. k.now) known.now) (within self.now.section.now self.now.name.now) (table_view self.now.table.now)) }
@@ -38,7 +38,7 @@ impl Entry<'_> {
         }
     }
 
-    /// The whole number at a key, from low to high.
+    /// The whole number at a key, which must be from low to high.
     #[tactic(auto, unfolding(crate::specs::Reading::whole))]
     pub fn whole_at(
         &self,

@@ -25,7 +25,7 @@ impl Model for LoanDays {
 }
 
 impl LoanDays {
-    /// This number of days, where a loan can last as long.
+    /// This number of days; None where a loan can't last that long.
     pub fn new(days: u64) -> Option<LoanDays>
         ensures { result ≡ (if nat_le 1 days && nat_le days 3650 then Some days else None) }
     {

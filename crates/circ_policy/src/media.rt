@@ -6,12 +6,12 @@ use sip_reader::Amount;
 /// On which terms the items of one type of media are lent.
 #[derive(Clone, Copy)]
 pub struct Media {
-    /// How long a loan lasts, before closed days.
+    /// How many days a loan lasts; a due day that is closed then moves to the next open one.
     pub days: LoanDays,
     /// What a loan or a renewal costs.
     pub rental: Amount,
-    /// What each day costs by which an item comes back late.
+    /// What each day late costs.
     pub late: Amount,
-    /// The most that a late item costs.
+    /// The greatest late fee.
     pub cap: Amount,
 }

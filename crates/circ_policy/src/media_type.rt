@@ -39,7 +39,7 @@ impl MediaType {
         }
     }
 
-    /// The type that has these bytes as its code.
+    /// The type with this code, if there is one.
     #[tactic(auto, unfolding(crate::specs::Medias::media_of_code))]
     pub fn of_code(code: &[u8]) -> Option<MediaType>
         ensures { result ≡ media_of_code code.now }
@@ -49,7 +49,7 @@ impl MediaType {
             .find(|media| media.code().as_slice() == code)
     }
 
-    /// Its place among all types.
+    /// The position among all types, from 0.
     pub(crate) fn index(self) -> usize
         ensures { result ≡ media_index self }
     {

@@ -18,7 +18,7 @@ pub struct Policy {
     pub(crate) currency: [u8; 3],
     pub(crate) due_form: DueForm,
     pub(crate) calendar: Calendar,
-    /// In byte order of their names.
+    /// The classes with their names, in byte order of these.
     pub(crate) classes: Vec<(Id, Class)>,
     pub(crate) media: Vec<(MediaType, Media)>,
 }
@@ -76,7 +76,7 @@ impl Policy {
         self.due_form
     }
 
-    /// The limits of the class of this name.
+    /// The limits of the class of this name, if there is one.
     #[tactic(auto, unfolding(crate::specs::Policy::class_of))]
     pub fn class(&self, name: &Id) -> Option<Class>
         ensures { result ≡ class_of self.now name.now }
@@ -88,7 +88,7 @@ impl Policy {
         }
     }
 
-    /// The terms of this type of media.
+    /// The terms of this type of media, if the policy has it.
     #[tactic(auto, unfolding(crate::specs::Policy::media_of))]
     pub fn media(&self, media: MediaType) -> Option<Media>
         ensures { result ≡ media_of self.now media }
@@ -99,8 +99,8 @@ impl Policy {
             .map(|entry| entry.1)
     }
 
-    /// The due day of a loan of that day: the first open day at or after the day and the days of the media type. It
-    /// stays before the year 9999.
+    /// The due day of a loan that is made on this day: the first open day at or after the day plus the days of the media
+    /// type. It is before the year 9999.
     pub fn due(&self, day: Day, media: &Media) -> Day
         requires { day ≤ LAST_STAMP_DAY }
         ensures least { IsLeastOpen self.now.closed (day + media.now.days) result }

@@ -55,7 +55,7 @@ fn read_policy(alloc: Global, table: &Table) -> Result<Policy, PolicyError>
     })
 }
 
-/// Refuses a key that no policy has.
+/// Refuses the document if it has a key that no policy has.
 fn knows_keys(alloc: Global, table: &Table) -> Result<(), PolicyError>
     ensures { Gives (λ u. u) result (known_keys (table_view table.now)) }
 {
@@ -71,7 +71,7 @@ fn knows_keys(alloc: Global, table: &Table) -> Result<(), PolicyError>
     has_only(alloc, table, &known)
 }
 
-/// Refuses a key that is none of the known ones.
+/// Refuses the document if it has a key that isn't among the known ones.
 fn has_only(alloc: Global, table: &Table, known: &[&str]) -> Result<(), PolicyError>
     ensures { Gives (λ u. u) result (unknown (least_unknown (map (λ k. k.now) known.now) (table_view table.now))) }
 {

@@ -28,7 +28,7 @@ pub(crate) fn read_classes(alloc: Global, policy: &Table) -> Result<Vec<(Id, Cla
     }
 }
 
-/// The classes of the table, in byte order of their names, as the table gives them.
+/// The classes of the table, in byte order of their names, which is the table's order.
 fn class_entries(alloc: Global, table: &Table) -> Result<Vec<(Id, Class)>, PolicyError>
     ensures value { Gives (λ m. m.items) result (entries class_in (in_byte_order (table_view table.now))) }
     ensures rising { IfOk result (λ m. HaveRisingNames m.items) }
@@ -93,7 +93,7 @@ pub(crate) fn read_media_types(
     }
 }
 
-/// The types of media of the table, in byte order of their codes, as the table gives them.
+/// The types of media of the table, in byte order of their codes, which is the table's order.
 fn media_entries(alloc: Global, table: &Table) -> Result<Vec<(MediaType, Media)>, PolicyError>
     ensures { Gives (λ m. m.items) result (entries media_in (in_byte_order (table_view table.now))) }
 {
@@ -130,7 +130,7 @@ fn read_media_type(
     }
 }
 
-/// The terms on which items are lent.
+/// The terms of a type of media.
 #[tactic(auto, unfolding(crate::specs::Reading::lending))]
 fn read_lending(alloc: Global, entry: &Entry) -> Result<Media, PolicyError>
     ensures { Gives (λ m. m) result (lending (within entry.now.section.now entry.now.name.now) (table_view entry.now.table.now)) }

@@ -10,7 +10,7 @@ use crate::due_form::DueForm;
 use sip_reader::Day;
 use toml::Value;
 
-/// A number as a whole one from low to high.
+/// The number, where it is from low to high.
 fn number_in(low: u64, high: u64, number: i64) -> Option<u64>
     ensures value { result ≡ in_range low high number }
     ensures range { IfSome result (λ n. IsInRange low high n) }
@@ -26,7 +26,7 @@ fn number_in(low: u64, high: u64, number: i64) -> Option<u64>
     }
 }
 
-/// The whole number from low to high that a value is.
+/// The whole number that a value is, where it is from low to high.
 pub(crate) fn whole_of(low: u64, high: u64, value: Option<&Value>) -> Option<u64>
     ensures value { result ≡ whole_of low high (option_map (λ v. view v.now) value.entry) }
     ensures range { IfSome result (λ n. IsInRange low high n) }
@@ -113,7 +113,7 @@ pub(crate) fn date_of(text: &str) -> Option<Day>
     }
 }
 
-/// The day of the digits.
+/// The day that the digits of a text `YYYY-MM-DD` name.
 #[tactic(auto, unfolding(crate::specs::Values::written_day))]
 fn written_day(text: &[u8]) -> Option<Day>
     requires { length text.now ≡ 10 }

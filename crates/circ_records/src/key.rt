@@ -73,7 +73,7 @@ impl Key {
 }
 
 impl KeyRef<'_> {
-    /// The place of its kind in the order of keys.
+    /// The position of the key's kind in the order of keys.
     pub(crate) fn kind(&self) -> u8
         ensures { result ≡ kind (key_of self.now) }
     {

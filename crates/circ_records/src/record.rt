@@ -44,7 +44,7 @@ impl Drop for Patron {
 pub struct Item {
     pub title: Text,
     pub media: MediaType,
-    /// Its place when it isn't on loan.
+    /// Its location when it isn't on loan.
     pub location: Text,
     pub properties: Text,
     pub loan: Option<Loan>,

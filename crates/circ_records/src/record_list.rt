@@ -13,7 +13,7 @@ use std::alloc::{AllocError, Global};
 /// Records by their keys. To look for one, the keys have to rise.
 pub(crate) struct RecordList {
     pub(crate) entries: Vec<(Key, Record)>,
-    /// Where each record likely is.
+    /// Hints for the position of each record.
     hints: PositionHints,
 }
 

@@ -13,7 +13,7 @@ use std::alloc::{AllocError, Global};
 pub enum Refusal {
     /// They ask for help or for the version: its text.
     Help(String),
-    /// They are refused: what is printed of it.
+    /// They are refused: the text that is printed.
     Words(String),
     /// Memory ran out.
     Memory,

@@ -58,7 +58,7 @@ pub struct WhyOptions {
     pub lines: Vec<String>,
     /// The file that gets what to change in the live system.
     pub changes: Option<String>,
-    /// The folder of the tables of the finished run whose changes these are. It is given just where that file is.
+    /// The folder of the tables of the finished run whose changes these are. It is given if and only if that file is.
     pub out: Option<String>,
     /// The folder that gets a test case of each line that is wanted. It is given only where lines or a report are.
     pub test: Option<String>,
@@ -124,7 +124,7 @@ fn options_in(alloc: Global, matches: &ArgMatches<'_>) -> Result<WhyOptions, All
     })
 }
 
-/// The value of an option that clap lets nobody leave out.
+/// The value of an option that clap requires.
 fn required_text(alloc: Global, matches: &ArgMatches<'_>, id: &str) -> Result<String, AllocError> {
     String::from_str(alloc, matches.get_str(id).unwrap_or(""))
 }

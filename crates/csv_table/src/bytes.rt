@@ -10,7 +10,7 @@ use std::io::{ErrorKind, Read};
 /// The size of the buffer: at most this many bytes are read at once.
 const ROOM: usize = 8192;
 
-/// The first capacity, in bytes, so that they are seldom copied as more come. Memory that is never written to isn't touched.
+/// The first capacity, in bytes, so that bytes are seldom copied as more are read. Memory that is never written to isn't touched.
 const FIRST_ROOM: usize = 1 << 20;
 
 /// Returns all bytes that a reader has left. They are read through a buffer that is filled with zeros once: `fs::read` fills with zeros

@@ -1,6 +1,6 @@
-//! Tables of comma-separated rows of one length under a header, which the other crates use to
+//! Tables of comma-separated rows under a header, which the other crates use to
 //! read or write tables (journal, records, reports). The crate `csv` defines what a row is, with its
-//! defaults; here a text is a table where its rows are of one length and the first is the header.
+//! defaults; here a text is a table if its rows have the same number of fields and the first is the header.
 #![tactic(auto)]
 
 ghost use Rattle.std.specs.Prelude.{◌≡◌, map, get_or, []};
@@ -20,7 +20,7 @@ pub use text::{TableText, reads_back};
 /// Why a text is refused as a table.
 #[derive(Clone, Copy, Debug, PartialEq, Eq)]
 pub enum TableError {
-    /// Its rows are not all of one length, or its header is missing or another.
+    /// Its rows don't all have the same number of fields, or its header is missing or another.
     Table,
     /// Memory ran out.
     Memory,
@@ -52,7 +52,7 @@ fn has_fields(row: &ByteRecord, names: &[&str]) -> bool
     true
 }
 
-/// A field of a row, by its place from 0; past the last field it is empty.
+/// The field of a row at a position, from 0; past the last field an empty one.
 pub fn column(row: &ByteRecord, i: usize) -> &[u8]
     ensures { result.now ≡ get_or (fields_of row.now) i [] }
 {

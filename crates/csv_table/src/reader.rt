@@ -57,7 +57,7 @@ impl<'a> RowReader<'a> {
     ) -> Result<RowReader<'a>, TableError>
         ensures ok { IfOk result (λ rows. rows.rows ≡ rows_under (bytes_of header.now) text.now) }
         ensures table { IfErr result (λ e. e ≡ table.Table → rows_under (bytes_of header.now) text.now ≡ None) }
-        // Whoever counts the rows can do so, as each takes a byte at least.
+        // The rows can be counted, since each takes a byte at least.
         ensures size { IfOk result (λ rows. rows.size < 2 ^ 64) }
     {
         size_fits(text);

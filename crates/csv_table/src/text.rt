@@ -62,7 +62,7 @@ impl TableText {
         }
     }
 
-    /// Writes a row at the end. It has as many fields as the header.
+    /// Appends a row, which has as many fields as the header.
     pub fn row(&mut self, fields: &[&[u8]]) -> Result<(), AllocError>
         requires { IfSome self.old (λ t. length fields.now ≡ t.width) }
         ensures ok { OnOk result (self.new ≡ option_map (with_row (bytes_of fields.now)) self.old) }
@@ -100,7 +100,7 @@ fn names_of<'a>(alloc: Global, names: &[&'a str]) -> Result<Vec<&'a [u8]>, Alloc
     Ok(texts)
 }
 
-/// What is written under a header reads back.
+/// A law: the rows that are written under a header are read back.
 pub fn reads_back()
     ensures { (header : List (List ℕ)) (rows : List (List (List ℕ))) → IsPlainHeader header → AllByRecursion (λ row. length row ≡ length header) rows
         → rows_under header (table_text (header ∷ rows)) ≡ Some rows }

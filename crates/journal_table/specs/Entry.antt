@@ -1,4 +1,4 @@
--- The lines of a journal, without where they are in memory.
+-- The lines of a journal, as their contents alone.
 use Rattle.std.specs.Prelude.{◌≡◌, ◌≤◌, ◌+◌, ℕ, List, [], ◌∷◌, length, Option, Some, None, unwrap_or}
 use Rattle.sip_reader.specs.Texts.{line_number_end}
 use Rattle.journal_table.specs.declared.TheConstants.{LINE_LIMIT}
@@ -15,7 +15,7 @@ abbrev pub NumberedFrom : ℕ → List Entry → Type 0
 NumberedFrom n [] = Unit {0}
 NumberedFrom n (line ∷ rest) = (line.number ≡ n) × NumberedFrom (n + 1) rest
 
--- the numbers rise by one, from whatever the first is
+-- the numbers rise by one; the first may be any
 abbrev pub Numbered : List Entry → Type 0
 Numbered [] = Unit {0}
 Numbered (line ∷ rest) = NumberedFrom (line.number + 1) rest
@@ -24,7 +24,7 @@ abbrev pub first_number : List Entry → Option ℕ
 first_number [] = None
 first_number (line ∷ rest) = Some line.number
 
--- rule number: no line has a number above 9,999,999,999, so as many numbers as there are lines, from the first on, end before 10,000,000,000
+-- rule number: no line has a number above 9,999,999,999, so the first number and the number of lines add up to at most 10,000,000,000
 abbrev pub EndsInTime : List Entry → Type 0
 EndsInTime lines = unwrap_or (first_number lines) line_number_end + length lines ≤ line_number_end
 

@@ -1,4 +1,4 @@
--- How a line is in memory: its three texts one after the other, with a comma between.
+-- How a line is in memory: its three texts one after the other, with commas between.
 use Rattle.std.specs.Prelude.{◌≡◌, ◌≤◌, ◌+◌, ◌++◌, ◌∷◌, ℕ, List, length, take, drop}
 use Rattle.std.specs.Int.{IsInRange}
 use Rattle.sip_reader.specs.Texts.{line_number_max}
@@ -15,7 +15,7 @@ comma = 44
 abbrev pub joined : List ℕ → List ℕ → List ℕ → List ℕ
 joined connection request response = connection ++ comma ∷ (request ++ comma ∷ response)
 
--- in the journal's own bytes, or in a copy
+-- the texts of a line, in the journal's own bytes or in a copy
 abbrev pub text_of : LineTexts → List ℕ
 text_of (Lent connection request bytes) = bytes.now
 text_of (Own own) = own.value.bytes.items
@@ -28,7 +28,7 @@ abbrev pub request_len : LineTexts → ℕ
 request_len (Lent connection request bytes) = request
 request_len (Own own) = own.value.request_len
 
--- where these three texts are
+-- the texts and the lengths are those of this connection, request and response
 pub record AreTexts (texts : LineTexts) (connection request response : List ℕ) : Type 0 where
   pub joins : text_of texts ≡ joined connection request response
   pub first : connection_len texts ≡ length connection

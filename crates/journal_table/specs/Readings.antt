@@ -5,7 +5,7 @@ use Rattle.sip_reader.specs.declared.request.Reading.{Reading}
 use Rattle.sip_reader.specs.Texts.{line_number_end}
 use Rattle.journal_table.specs.Entry.{Entry}
 
--- the number of a line, and what its request is
+-- the number of a line, and what its request is read as
 pub record NumberedReading : Type 0 where
   pub number : ℕ
   pub reading : Reading
@@ -14,11 +14,11 @@ pub record NumberedReading : Type 0 where
 abbrev pub requests_read : List Entry → List Reading
 requests_read = map (λ line. reading line.request)
 
--- what some message is read as
+-- a reading is that of some message
 abbrev pub IsRead : Reading → Type 0
 IsRead r = (message : List ℕ) × (r ≡ reading message)
 
--- of each line, in order
+-- the readings of lines, in order, each with the number of its line
 abbrev pub readings_of : List Entry → List NumberedReading
 readings_of = map (λ line. record { number = line.number; reading = reading line.request })
 
@@ -43,6 +43,6 @@ abbrev pub Rises : List NumberedReading → Type 0
 Rises [] = Unit {0}
 Rises (r ∷ rest) = RisesFrom (r.number + 1) rest
 
--- no number is above 9,999,999,999: as many numbers as there are readings, from the first on, end before 10,000,000,000
+-- no number is above 9,999,999,999: the first number and the number of readings add up to at most 10,000,000,000
 abbrev pub EndInTime : List NumberedReading → Type 0
 EndInTime read = unwrap_or (first_read read) line_number_end + length read ≤ line_number_end

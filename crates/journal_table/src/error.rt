@@ -13,11 +13,11 @@ use thiserror::Error;
 /// What is wrong with a row. Its text is the rule's name.
 #[derive(Clone, Copy, Debug, PartialEq, Eq)]
 pub enum JournalRule {
-    /// The row is past the limit.
+    /// The row is past the 1,000,000th.
     Lines,
     /// The number is not one from 1 to 9,999,999,999 in decimal without leading zeros.
     Number,
-    /// The number is not the one before plus one.
+    /// The number is not that of the row before plus one.
     Sequence,
     /// The connection has more than 64 bytes.
     Connection,
@@ -42,7 +42,7 @@ impl fmt::Display for JournalRule {
 /// Why a text is no journal.
 #[derive(Debug, Drop, Error)]
 pub enum JournalError {
-    /// Its rows aren't all of one length, or its header is missing or another.
+    /// Its rows don't all have the same number of fields, or its header is missing or another.
     #[error("the table is refused, or its header is missing or another")]
     Table,
     /// The first broken rule. Rows count from 1, without the header.

@@ -17,10 +17,11 @@ use std::marker::Model;
 
 const HEADER: [&str; 4] = ["line", "connection", "request", "response"];
 
-/// The bytes of a row for which the capacity of the lines is reckoned: most journals have longer rows, and their lines never move.
+/// The list of lines gets the capacity that it needs if rows have this number of bytes. Most journals have longer rows, so that
+/// their lines never move.
 const USUAL_ROW: usize = 128;
 
-/// The lines of a journal, their numbers rising by one, at most 1,000,000; the last number is at most 9,999,999,999. They
+/// The lines of a journal, at most 1,000,000, whose numbers rise by one; the last number is at most 9,999,999,999. Lines
 /// borrow from the bytes that they were read from.
 pub struct Journal<'t> {
     lines: Vec<Line<'t>>,
@@ -44,9 +45,9 @@ impl<'t> Model for Journal<'t> {
 }
 
 impl<'t> Journal<'t> {
-    /// The journal that a text spells, or why it is refused: as no table, by the first rule that
-    /// a row breaks, or since memory ran out. Lines are made as rows come, and a broken rule is
-    /// returned only after the last row, since a text that is no table comes before any rule.
+    /// Reads a journal from its text. An error says that the text is no table, or which rule is broken first, or that
+    /// memory ran out. A line is made of each row as it is read. A broken rule is returned only after the last row was
+    /// read, since a text that is no table is refused as such, whatever rule a row breaks.
     pub fn read(alloc: Global, bytes: &'t [u8]) -> Result<Journal<'t>, JournalError>
         ensures { Gives result (journal_of bytes.now) }
     {
@@ -79,7 +80,7 @@ impl<'t> Journal<'t> {
     }
 }
 
-/// The lines of all rows, or the first rule that one breaks: then no row after it was read.
+/// The lines of all rows, or the first rule that a row breaks; the rows after that row aren't read yet.
 fn read_lines<'t>(
     alloc: Global,
     rows: &mut RowReader,
@@ -100,7 +101,7 @@ fn read_lines<'t>(
     Ok(lines)
 }
 
-/// Reads on to the end of the text, for what is left may be no table. After an error no row is read.
+/// Reads the other rows, to the end of the text or to an error: the text may still be no table.
 fn read_to_end(alloc: Global, rows: &mut RowReader) -> Result<(), TableError>
     ensures ok { OnOk result (IsSome rows.old.rows) }
     ensures table { IfErr result (λ e. e ≡ table.Table → rows.old.rows ≡ None) }

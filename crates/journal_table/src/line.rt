@@ -18,8 +18,8 @@ use csv_table::column;
 use std::alloc::{AllocError, Global};
 use std::marker::Model;
 
-/// A request, the connection that it came over, and the response that was recorded. Where the journal has the row
-/// without quotes, a line borrows its texts from there.
+/// A request, the connection that it came over, and the response that was recorded. The three texts are borrowed from
+/// the journal where the row has no quotes.
 pub struct Line<'t> {
     number: u64,
     texts: LineTexts<'t>,
@@ -34,8 +34,8 @@ impl Drop for Line<'_> {
     }
 }
 
-/// Where the three texts of a line are, with a comma between, and how long the first two are. Lines are stored until the run ends,
-/// and nearly all are borrowed: so the lengths of these take five bytes.
+/// The three texts of a line, with commas between, and how long the first two are. Lines are stored until the run ends, and nearly
+/// all are borrowed: so there the two lengths take only five bytes.
 enum LineTexts<'t> {
     /// In the bytes of the journal.
     Lent {
@@ -90,7 +90,7 @@ impl<'t> Model for Line<'t> {
 }
 
 impl<'t> LineTexts<'t> {
-    /// The texts of the next row. They are borrowed where the journal has them without quotes and their lengths fit.
+    /// The texts of the next row: borrowed where the journal has them without quotes and their lengths fit, else copied.
     fn of(
         alloc: Global,
         rows: &mut RowTexts<'t>,
@@ -162,7 +162,7 @@ impl<'t> LineTexts<'t> {
     }
 }
 
-/// Three texts one after the other, with a comma between.
+/// Three texts one after the other, with commas between.
 fn with_commas(
     alloc: Global,
     connection: &[u8],
@@ -210,7 +210,7 @@ impl<'t> Line<'t> {
         self.number
     }
 
-    /// The name of the connection, of 0 to 64 bytes of any value.
+    /// The name of the connection: 0 to 64 bytes, each of any value.
     pub fn connection(&self) -> &[u8]
         ensures value { result.now ≡ self.now.connection }
         ensures short { length self.now.connection ≤ CONNECTION_LIMIT }
@@ -236,7 +236,7 @@ impl<'t> Line<'t> {
     }
 }
 
-/// The line of a data row, counted from 1, after the line numbered `before`.
+/// The line of a row after the header. Rows count from 1; `before` is the number of the line before, if there is one.
 pub(crate) fn read_line<'t>(
     alloc: Global,
     row: usize,
@@ -266,7 +266,7 @@ pub(crate) fn read_line<'t>(
     Ok(Line::new(number, texts, connection, request, response))
 }
 
-/// Whether a number may follow the one before.
+/// Whether a line may have this number after the line before.
 fn follows(before: Option<u64>, number: u64) -> bool
     ensures { result ≡ Journal.follows before number }
 {

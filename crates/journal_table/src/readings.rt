@@ -15,10 +15,11 @@ use std::alloc::{AllocError, Global};
 use std::marker::Model;
 use std::thread::Threads;
 
-/// The number of lines that a core takes at a time, where all cores read or report them: a stretch. The last one may have fewer.
+/// The number of lines in a stretch: what one core takes at a time where all cores read or report lines. The last stretch may
+/// have fewer.
 pub const STRETCH: usize = 4096;
 
-/// What the request of each line is. The numbers of the lines rise by one from the first.
+/// What the request of each line is read as. The numbers of the lines rise by one from the first.
 ///
 /// The readings stay in the stretches in which they were read, so that none of them moves again.
 pub struct Readings {
@@ -50,7 +51,7 @@ impl Model for Readings {
 }
 
 impl Readings {
-    /// The readings of lines, from the stretches of them.
+    /// The readings of lines, from the stretches in which they were read.
     fn of(lines: &[Line], stretches: Vec<Vec<Reading>>) -> Readings
         requires lines { AreLines lines.now }
         requires read { AreStretchesOf (requests_read lines.now) (stretches_of stretches.items) }
@@ -76,7 +77,7 @@ impl Readings {
         }
     }
 
-    /// How many lines were read, at most 1,000,000. Each reading is that of a message.
+    /// How many lines were read, at most 1,000,000. The contract also says that each reading is that of some message.
     pub fn len(&self) -> usize
         ensures len { result ≡ length self.now }
         ensures few { length self.now ≤ LINE_LIMIT }
@@ -85,7 +86,7 @@ impl Readings {
         self.count
     }
 
-    /// What the line at a place is read as. Places count from 0.
+    /// What the request of the line at a position is read as. Positions count from 0.
     pub fn get(&self, place: usize) -> Option<&Reading>
         ensures { option_copied result ≡ slice_get (map reading_at self.now) place }
     {
@@ -102,8 +103,8 @@ pub fn read_in_turn(alloc: Global, journal: &Journal) -> Result<Readings, AllocE
     Ok(Readings::of(lines, read_stretches(alloc, lines)?))
 }
 
-/// Reads every request of a journal, on as many threads as there are processors. The readings are
-/// in the order of the lines, whatever the threads did.
+/// Reads every request of a journal, on all processors. The readings are in the order of the lines, whatever the threads
+/// did.
 pub fn read_all(
     rt: &(impl Threads + Sync),
     alloc: Global,
@@ -123,7 +124,7 @@ pub fn read_all(
     Ok(Readings::of(lines, stretches?))
 }
 
-/// Stretch after stretch.
+/// Reads the requests of lines, one stretch after another.
 fn read_stretches(alloc: Global, lines: &[Line]) -> Result<Vec<Vec<Reading>>, AllocError>
     ensures { IfOk result (λ v. AreStretchesOf (requests_read lines.now) (stretches_of v.items)) }
 {
@@ -137,13 +138,13 @@ fn read_stretches(alloc: Global, lines: &[Line]) -> Result<Vec<Vec<Reading>>, Al
     Ok(stretches)
 }
 
-/// One stretch.
+/// Reads the requests of one stretch of lines.
 fn read_stretch(alloc: Global, lines: &[Line]) -> Result<Vec<Reading>, AllocError>
     ensures { IfOk result (λ v. v.items ≡ requests_read lines.now) }
 {
     let mut readings = Vec::with_capacity(alloc, lines.len())?;
     for line in lines {
-        // the capacity suffices, so this tests for no growth
+        // the capacity suffices, so no growth has to be tested for
         readings.push_reserved(read_request(alloc, line.request())?);
     }
     Ok(readings)

@@ -3,8 +3,8 @@
 ghost use Rattle.std.specs.Prelude.{◌≡◌, ◌++◌, ◌∷◌, IfSome, IsTrue};
 ghost use Rattle.journal_table.specs.Layout.{comma, joined};
 
-/// The bytes of a journal, and from where on its next row is looked for. Most rows are there field for field, with commas
-/// between; one with a field in quotes isn't.
+/// The bytes of a journal, and the position from which on the next row is looked for. Most rows are in these bytes just as
+/// their fields are, with commas between; a row with a field in quotes isn't.
 pub(crate) struct RowTexts<'t> {
     bytes: &'t [u8],
     from: usize,
@@ -25,8 +25,8 @@ impl<'t> RowTexts<'t> {
         }
     }
 
-    /// The text of the next row after its number, where the bytes have it as these fields with commas between; none where it has
-    /// another form or isn't found. The row after it is then looked for after the end of that line.
+    /// The next row without its number, where the bytes have these fields with commas between; None where they don't. The row
+    /// after it will be looked for after the end of its line.
     pub(crate) fn next(
         &mut self,
         number: &[u8],
@@ -50,7 +50,7 @@ impl<'t> RowTexts<'t> {
     }
 }
 
-/// What comes after these bytes and a comma at the front of a text.
+/// The rest of a text that begins with these bytes and a comma.
 fn after<'a>(text: &'a [u8], front: &[u8]) -> Option<&'a [u8]>
     ensures { IfSome result (λ rest. text.now ≡ front.now ++ comma ∷ rest.now) }
 {
@@ -61,7 +61,7 @@ fn after<'a>(text: &'a [u8], front: &[u8]) -> Option<&'a [u8]>
     }
 }
 
-/// Where the line that a position is in ends: after its LF, or else after all bytes.
+/// The position after the first LF from a position on; the end of all bytes where there is none.
 fn after_line(bytes: &[u8], from: usize) -> usize {
     let rest = bytes.get(from..).unwrap_or(&[]);
     match rest.iter().position(|byte| *byte == b'\n') {

@@ -2,7 +2,7 @@
 
 ghost use Rattle.line_cases.specs.InRun.{CasesAreOfTheRun};
 
-/// What a case says of its line is what the whole run says of it: the row of its answers is the row that the run writes of the line.
+/// What a case says of its line is what the whole run says: the row of its answers is the row that the run writes of the line.
 pub fn cases_are_of_the_run()
     ensures { CasesAreOfTheRun }
 {}

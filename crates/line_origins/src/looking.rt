@@ -30,7 +30,7 @@ impl ShelfName for Brand {
     ghost writers = { [] };
 }
 
-/// A shelf, and what was read of it. Its type names the shelf, so what is noted stays true whatever is read.
+/// A shelf, and what was read from it. Its type names the shelf, so what is noted stays true whatever is read.
 #[derive(Drop)]
 pub struct Looking<'s, N: ShelfName> {
     shelf: &'s TracedRecords,
@@ -69,7 +69,7 @@ impl<'s, N: ShelfName> Looking<'s, N> {
         notes
     }
 
-    /// Looks at a record that isn't noted, notes it and gives it.
+    /// Looks at a record that isn't noted, notes it and returns it.
     #[tactic(auto, using(read_set::proofs::Gaining::gains_none))]
     fn take(&mut self, alloc: Global, key: &Key) -> Result<Option<Record>, Stop>
         requires { note_of self.old.notes key.now ≡ None }
@@ -106,7 +106,7 @@ impl<N: ShelfName> Source for Looking<'_, N> {
     }
 }
 
-/// It notes nothing but what it is asked for.
+/// Only the records that it is asked for are noted.
 impl<N: ShelfName> OneByOne for Looking<'_, N> {
     ghost fetches = { tt };
 }

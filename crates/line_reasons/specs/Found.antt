@@ -21,7 +21,7 @@ owed_by M (Some member) = owed M member.patron.fees
 abbrev pub asked_in : Terms → List ℕ → List ℕ → Map → Parties
 asked_in p patron item M = record { member = patron_in p M patron; article = item_in p M item; owes = owed_by M (patron_in p M patron) }
 
--- the item that came back, and whoever has it
+-- the item that came back, and its borrower
 abbrev pub returned_in : Terms → List ℕ → Map → Returned
 returned_in p item M = record { article = item_in p M item; borrower = borrower_in p M (loan_of (item_in p M item)) }
 

@@ -23,7 +23,7 @@ pub struct Parties {
     pub owes: u128,
 }
 
-/// The item that came back, and whoever has it, where they are known.
+/// The item that came back, and its borrower, where they are known.
 #[derive(Drop)]
 pub struct Returned {
     pub article: Option<Article>,
@@ -65,7 +65,7 @@ pub fn find_item<S: Source>(
     item_of(alloc, policy, source, id)
 }
 
-/// Whoever has a loan, where the patron is known.
+/// The patron who has a loan, where known.
 #[tactic(auto, using(crate::proofs::Found::borrower_means, crate::proofs::Found::gains_grow))]
 fn find_borrower<S: Source>(
     alloc: Global,
@@ -137,7 +137,7 @@ pub fn find_asked<S: Source>(
     })
 }
 
-/// Whoever has an item.
+/// The patron who has an item.
 fn find_borrower_of<S: Source>(
     alloc: Global,
     policy: &Policy,
@@ -156,7 +156,7 @@ fn find_borrower_of<S: Source>(
     }
 }
 
-/// The item that came back, and whoever has it.
+/// The item that came back, and its borrower.
 pub fn find_returned<S: Source>(
     alloc: Global,
     policy: &Policy,

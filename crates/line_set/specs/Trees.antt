@@ -5,11 +5,11 @@ use Rattle.std.specs.Prelude.{◌≡◌, ℕ, ◌+◌, ◌*◌, ◌-◌, ◌^◌
 abbrev pub node_at : List Bool → List Bool → ℕ → Bool
 node_at flags nodes i = if nat_lt i (length nodes) then slice_index_or nodes i false else slice_index_or flags (i - length nodes) false
 
--- what the two nodes below a node make of it
+-- the content of a node, from the two nodes below
 abbrev pub joined : List Bool → List Bool → ℕ → Bool
 joined flags nodes i = node_at flags nodes (2 * i) || node_at flags nodes (2 * i + 1)
 
--- each node but one is what those below it make of it
+-- each node but one has the content that those below determine
 abbrev pub AllBut : List Bool → List Bool → ℕ → Type 0
 AllBut flags nodes n = (i : ℕ) → 1 ≤ i → i < length nodes → i ≢ n → slice_index_or nodes i false ≡ joined flags nodes i
 
@@ -17,7 +17,7 @@ AllBut flags nodes n = (i : ℕ) → 1 ≤ i → i < length nodes → i ≢ n �
 abbrev pub IsPower : ℕ → Type 0
 IsPower n = (h : ℕ) × (n ≡ 2 ^ h)
 
--- the nodes cover all flags, and each is what those below it make of it
+-- the nodes cover all flags, and each has the content that those below determine
 pub record IsTree (flags nodes : List Bool) : Type 0 where
   pub power : IsPower (length nodes)
   pub covers : length flags ≤ length nodes

@@ -10,11 +10,11 @@ use std::marker::Model;
 /// The most positions of a set: as many as a journal has lines.
 pub const POSITIONS_MAX: usize = 1_000_000;
 
-/// Some of the positions from 0 up to a limit. Over the flags of the positions is a tree, each node of which says whether there is
-/// one below it: node 1 is the root, nodes 2 n and 2 n + 1 are below node n, and the flags are the last row.
+/// Some of the positions from 0 up to a limit. Over the flags of the positions is a tree; each node says whether a position is
+/// below it. Node 1 is the root, nodes 2 n and 2 n + 1 are below node n, and the flags are the last row.
 pub(crate) struct FlagTree {
     flags: Vec<bool>,
-    /// The nodes above the flags; their number is a power of two, and number 0 is none of them.
+    /// The nodes above the flags; their number is a power of two, and node 0 isn't used.
     nodes: Vec<bool>,
 }
 
@@ -149,7 +149,7 @@ fn is_set(flags: &[bool], nodes: &[bool], node: usize) -> bool
     position < flags.len() && flags[position]
 }
 
-/// What the two nodes below a node make of it.
+/// The content of a node, from the two nodes below.
 fn join(flags: &[bool], nodes: &[bool], node: usize) -> bool
     requires { node ≤ 2 * POSITIONS_MAX }
     ensures { result ≡ joined flags.now nodes.now node }
@@ -182,7 +182,7 @@ fn mend(flags: &[bool], nodes: &mut [bool], position: usize)
     }
 }
 
-/// A set node before which no flag is set, from a position on. It looks at no more nodes than twice the rows.
+/// A set node before which no flag is set, from a position on. Looks at no more nodes than twice the tree's rows.
 fn next_set(flags: &[bool], nodes: &[bool], from: usize) -> Option<usize>
     requires tree { IsTree flags.now nodes.now }
     requires within { from < length nodes.now }

@@ -10,7 +10,7 @@ use std::alloc::Global;
 pub struct LineContext<'p> {
     pub alloc: Global,
     pub policy: &'p Policy,
-    /// Its number in the journal, of which its fees have their ids.
+    /// Its number in the journal, which the ids of its fees contain.
     pub number: u64,
     /// The moment of its message.
     pub date: Stamp,
@@ -21,7 +21,7 @@ pub struct LineContext<'p> {
 pub struct LoanContext<'p> {
     pub alloc: Global,
     pub policy: &'p Policy,
-    /// The line's number in the journal, of which its fees have their ids.
+    /// The line's number in the journal, which the ids of its fees contain.
     pub number: u64,
     /// The moment of its message.
     pub date: Stamp,

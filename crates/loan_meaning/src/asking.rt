@@ -1,4 +1,4 @@
-//! The loan or the renewal for which a request asks, and what the item says of it.
+//! The loan or the renewal for which a request asks, and what the item's record says.
 
 ghost use Rattle.std.specs.Prelude.{◌≡◌, IfOk};
 ghost use Rattle.read_set.specs.Loans.{by_checkout, by_renew, due_for, charge_for, is_lent, lent_to};
@@ -11,7 +11,7 @@ use read_set::{Article, LoanRequest};
 use sip_reader::{Amount, Checkout, Day, Id, Renew};
 use std::alloc::AllocError;
 
-/// The loan or the renewal for which a checkout asks: it is forced by no block Y or by BI Y, and BI Y makes it free.
+/// The loan or the renewal for which a checkout asks: forced where no block or BI is Y; with BI Y no rental is charged.
 pub fn ask_checkout(request: &Checkout) -> Result<LoanRequest, AllocError>
     ensures { IfOk result (λ a. a ≡ by_checkout request.now) }
 {
@@ -27,7 +27,7 @@ pub fn ask_checkout(request: &Checkout) -> Result<LoanRequest, AllocError>
     })
 }
 
-/// The renewal for which a renewal asks: it is forced by no block Y alone, and never free.
+/// The renewal for which a renewal message asks: forced where no block is Y, and never free of a rental.
 pub fn ask_renew(request: &Renew) -> Result<LoanRequest, AllocError>
     ensures { IfOk result (λ a. a ≡ by_renew request.now) }
 {
@@ -56,7 +56,7 @@ pub fn due_of(asked: &LoanContext<'_>, media: &Media) -> Day
     }
 }
 
-/// What is charged for it.
+/// What is charged for the loan or renewal.
 pub fn charge_of(a: &LoanRequest, media: &Media) -> Amount
     ensures { result ≡ charge_for a.now media.now }
 {

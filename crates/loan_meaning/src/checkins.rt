@@ -44,7 +44,7 @@ fn show(item: &Item) -> Result<ReturnedItem, AllocError>
     })
 }
 
-/// In line, where an effect is made: so its answer is made in place, and doesn't move.
+/// Inlined where an effect is made, so that its answer is made in place and isn't moved.
 #[inline(always)]
 fn tell(
     line: &LineContext<'_>,

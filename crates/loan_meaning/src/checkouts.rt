@@ -193,7 +193,7 @@ fn write_lending(
     Ok(writes)
 }
 
-/// In line, so that what it does isn't moved again.
+/// Inlined, so that its effect isn't moved again.
 #[inline(always)]
 #[tactic(auto, unfolding(read_set::specs::Checkouts::lending_made))]
 fn make_loan(

@@ -106,7 +106,7 @@ pub fn make_fee(
     }
 }
 
-/// The same of an amount above 0. Most loans and returns cost nothing, and then nothing is prepared for a fee.
+/// The same for an amount above 0. Most loans and returns cost nothing, and then nothing is prepared for a fee.
 fn write_fee(
     alloc: Global,
     line: u64,

@@ -1,4 +1,4 @@
-//! What checkin, checkout, renewal and renewal of all items do, worked out over any source of records.
+//! What checkin, checkout, renewal and renewal of all items do, computed over any source of records.
 //! `read_set` says what they mean over the whole map of records; `message_meaning` adds the other kinds of messages.
 #![tactic(auto)]
 

@@ -33,7 +33,7 @@ joined first front back =
     ap (λ (rows : List (List (List ℕ))). table_text (header ∷ rows)) (rows-append first front back)
     ∙ text-append (header ∷ rows_from first front) (rows_from (first + length front) back)
 
--- one row more
+-- the journal with one row more
 pub rows-more : (n : ℕ) (ps : List Pair) (i : ℕ) (d : Pair) → i < length ps → rows_from n (take (i + 1) ps) ≡ rows_from n (take i ps) ++ row_of (n + i) (get_or ps i d) ∷ []
 rows-more n ps i d below =
     let size : length (take i ps) ≡ i = length-take-le i ps (omega arith) in

@@ -98,7 +98,7 @@ pub count : (f : List ℕ → Option ℕ) (n : ℕ) (ps : List Pair) → length 
 count f n [] = refl
 count f n (p ∷ ps) = ap (λ (k : ℕ). suc k) (count f (n + 1) ps)
 
--- what is asked of the first that waits
+-- the first request that waits: its connection, and whether it is open
 pub begins : (f : List ℕ → Option ℕ) (n : ℕ) (ps : List Pair) (p : Pair) → 0 < length ps → p ≡ get_or ps 0 p → begins_open (pending_from f n ps) ≡ is_position (f p.connection) n
 begins f n [] p some is = absurd (omega arith)
 begins f n (q ∷ ps) p some is = ap (λ (x : Pair). is_position (f x.connection) n) (sym is)

@@ -7,7 +7,7 @@ use Rattle.std.proofs.lemmas.Slice.Eq.{bytes_eq-Decides}
 use Rattle.log_pairs.specs.Pairs.{Pair, Said, Request, Response, Over, has_open, pairs_of, reply_in, settled}
 use Rattle.log_pairs.specs.Devices.Positions.{is_position, no_pair, pending_from}
 
--- what an open request is settled as, and a closed one
+-- the pair of an open request, and that of a closed one
 abbrev settle : Bool → Option (List ℕ) → Pair → Pair
 settle b r p = if b then record p { response = r } else p
 

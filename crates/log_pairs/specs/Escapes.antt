@@ -1,4 +1,4 @@
--- What the text of a message in a log spells, by how the log spells bytes.
+-- The message that a text of a log spells, for each way in which logs spell bytes.
 use Rattle.std.specs.Prelude.{◌+◌, ◌-◌, ◌*◌, ◌&&◌, ℕ, suc, zero, Bool, nat_le, nat_lt, List, [], ◌∷◌, Option, Some, None, option_map, slice_get, codes, if◌then◌else◌, nat_eq}
 use Rattle.std.specs.List.{starts_with}
 use Rattle.std.specs.Option.{option_and_then}
@@ -34,7 +34,7 @@ abbrev pub digit_at : Option ℕ → Option ℕ
 digit_at None = None
 digit_at (Some b) = digit b
 
--- two hexadecimal digits at a position
+-- the byte that two hexadecimal digits at a position spell
 abbrev pub pair : List ℕ → ℕ → Option Spelling
 pair text at = of_digits at (digit_at (slice_get text at)) (digit_at (slice_get text (at + 1)))
 
@@ -76,7 +76,7 @@ of_octal (Some high) None low = None
 of_octal (Some high) (Some middle) None = None
 of_octal (Some high) (Some middle) (Some low) = if nat_lt high 4 then Some (64 * high + 8 * middle + low, 3) else None
 
--- three octal digits of a byte, after the first byte
+-- the byte that the three octal digits after the first byte spell
 abbrev pub triple : List ℕ → Option Spelling
 triple text = of_octal (octal_at (slice_get text 1)) (octal_at (slice_get text 2)) (octal_at (slice_get text 3))
 
@@ -91,7 +91,7 @@ spelled Angle text = angle text
 spelled Hexadecimal text = pair text 0
 spelled Octal text = octal text
 
--- what a text spells after this number of bytes that are spelled already
+-- the message of a text after this number of bytes, which belong to the spelling before
 abbrev pub message_from : Escapes → ℕ → List ℕ → Option (List ℕ)
 message_from e more [] = Some []
 message_from e (suc more) (b ∷ rest) = message_from e more rest

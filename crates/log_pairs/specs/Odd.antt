@@ -31,12 +31,12 @@ is_response n =
 abbrev pub is_response_at : ℕ → ℕ → Bool
 is_response_at a b = (is_ascii_digit a && is_ascii_digit b) && is_response ((a - byte.zero) * 10 + (b - byte.zero))
 
--- whether a message of two bytes or more has an identifier of its side: of a request, one that is read
+-- whether a message begins with an identifier of a request that is read or passed over, or with one of a response
 abbrev pub has_identifier : Direction → List ℕ → Bool
 has_identifier Request m = nat_le 2 (length m) && not (is_unknown (reading (take 2 m)))
 has_identifier Response m = nat_le 2 (length m) && is_response_at (slice_index m 0) (slice_index m 1)
 
--- whether error detection ends after fewer bytes than these
+-- whether error detection ends before this number of bytes
 abbrev pub has_sum_within : ℕ → List ℕ → Bool
 has_sum_within zero m = false
 has_sum_within (suc n) m = has_trailer (take n m) || has_sum_within n m
@@ -45,7 +45,7 @@ has_sum_within (suc n) m = has_trailer (take n m) || has_sum_within n m
 abbrev pub has_sum_inside : List ℕ → Bool
 has_sum_inside m = has_sum_within (length m) m
 
--- a request without error detection, but for a resend, which has none by the standard
+-- a request without error detection, other than a request for a resend (97), which has none by the standard
 abbrev pub lacks_sum : Direction → List ℕ → Bool
 lacks_sum Request m = not (has_trailer m) && not (starts_with nat_eq m (codes "97"))
 lacks_sum Response m = false

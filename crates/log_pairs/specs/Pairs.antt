@@ -2,7 +2,7 @@
 use Rattle.std.specs.Prelude.{◌&&◌, ◌||◌, ℕ, Bool, true, false, List, [], ◌∷◌, ◌++◌, map, Option, Some, None, if◌then◌else◌}
 use Rattle.std.specs.Str.{bytes_eq}
 
--- an entry of a log: a request or a response of a connection, or that no response to its open request will come
+-- an entry of a log: a request or a response of a connection, or that no more responses come for it
 pub data Said : Type 0 where
   Request : (connection : List ℕ) → (message : List ℕ) → Said
   Response : (connection : List ℕ) → (message : List ℕ) → Said
@@ -14,7 +14,7 @@ pub record Pair : Type 0 where
   pub request : List ℕ
   pub response : Option (List ℕ)
 
--- the response to a request is what is said next of its connection, where that is a response
+-- the response to a request is the next entry of its connection, where that is a response
 abbrev pub reply_in : List Said → List ℕ → Option (List ℕ)
 reply_in [] c = None
 reply_in (Request d m ∷ rest) c = if bytes_eq d c then None else reply_in rest c
@@ -33,17 +33,17 @@ pub record Pending : Type 0 where
   pub pair : Pair
   pub is_open : Bool
 
--- how many requests came, and those of them that weren't taken
+-- how many requests came, and those that weren't taken yet, open or not
 pub record Open : Type 0 where
   pub asked : ℕ
   pub pending : List Pending
 
--- the pair of a request, by what the rest of the log says
+-- the pair of a request, once the rest of the log has come
 abbrev pub settled : List Said → Pending → Pair
 settled rest p = if p.is_open then record p.pair { response = reply_in rest p.pair.connection } else p.pair
 
--- all pairs that are still to come: those of the requests that weren't taken, and those of the rest of the log.
--- Where nothing came yet these are the pairs of the log.
+-- all pairs that are still to be taken: those of the requests that wait, and those of the rest of the log.
+-- Before the first entry these are the pairs of the log.
 abbrev pub to_come : Open → List Said → List Pair
 to_come o rest = map (settled rest) o.pending ++ pairs_of rest
 

@@ -1,5 +1,5 @@
--- The rows of a journal, one a pair: number, connection, request, response, numbered without gaps. A pair without a response
--- has an empty one.
+-- The rows of a journal, one for each pair: number, connection, request, response. The numbers rise by one. The response
+-- of a pair without one is empty.
 use Rattle.std.specs.Prelude.{◌+◌, ℕ, List, [], ◌∷◌, unwrap_or}
 use Rattle.std.specs.Fmt.{decimal}
 use Rattle.journal_table.specs.Entry.{Entry}
@@ -12,7 +12,7 @@ abbrev pub rows_from : ℕ → List Pair → List (List (List ℕ))
 rows_from n [] = []
 rows_from n (p ∷ ps) = row_of n p ∷ rows_from (n + 1) ps
 
--- the same as lines of a journal
+-- the same pairs, as a reader of the journal gets them
 abbrev pub entry_of : ℕ → Pair → Entry
 entry_of n p = record { number = n; connection = p.connection; request = p.request; response = unwrap_or p.response [] }
 

@@ -1,4 +1,4 @@
-//! Messages as logs write them: bytes that don't print are spelled.
+//! Messages as logs write them: a byte that doesn't print is written as an escape.
 
 ghost use Rattle.std.specs.Prelude.{◌≡◌, ◌<◌, ◌≤◌, IfOk, IfSome, option_map};
 ghost use Rattle.log_pairs.specs.Escapes as Spec;
@@ -10,13 +10,13 @@ use std::alloc::{AllocError, Global};
 pub enum Escapes {
     /// Each byte is written as it is.
     Bare,
-    /// `\r`, `\n`, `\t`, `\\`, and `\x` with two hexadecimal digits; another backslash stands for itself.
+    /// `\r`, `\n`, `\t`, `\\`, and `\x` with two hexadecimal digits; any other backslash is an ordinary byte.
     Backslash,
     /// `<CR>` and `<LF>`.
     Angle,
     /// Two hexadecimal digits for each byte, and nothing else.
     Hexadecimal,
-    /// `#` with three octal digits, as rsyslog writes control characters; another `#` stands for itself.
+    /// `#` with three octal digits, as rsyslog writes control characters; any other `#` is an ordinary byte.
     Octal,
 }
 
@@ -112,7 +112,7 @@ fn octal(text: &[u8]) -> Option<(u8, usize)>
     }
 }
 
-/// The byte of the three octal digits after the first byte; none of a number above 255.
+/// The byte that the three octal digits after the first byte spell; None for a number above 255.
 fn triple(text: &[u8]) -> Option<(u8, usize)>
     ensures { result ≡ Spec.triple text.now }
 {
@@ -137,7 +137,7 @@ fn octal_digit(byte: u8) -> Option<u8>
     }
 }
 
-/// The byte of the two hexadecimal digits at a position.
+/// The byte that the two hexadecimal digits at a position spell.
 fn pair(text: &[u8], at: usize) -> Option<(u8, usize)>
     requires { at ≤ 2 }
     ensures { result ≡ Spec.pair text.now at }

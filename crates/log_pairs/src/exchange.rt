@@ -48,7 +48,7 @@ impl Exchange {
         })
     }
 
-    /// Gives it its response.
+    /// Stores the response.
     pub(crate) fn answer(&mut self, response: Vec<u8>)
         ensures { self.new ≡ record self.old { response = Some response.items } }
     {

@@ -1,5 +1,6 @@
-//! Makes a journal: requests and responses come in as a server's log has them, line by line, and leave
-//! as pairs in the order of the requests, as rows of a journal. Only what is still open is kept.
+//! Makes a journal from a server's log. Requests and responses are added line by line, as the log has them; pairs
+//! of a request and its response are taken in the order of the requests, and written as rows. A pair is in memory
+//! only until it is taken.
 #![tactic(auto)]
 
 mod escapes;

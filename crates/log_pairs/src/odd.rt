@@ -6,7 +6,7 @@ ghost use Rattle.log_pairs.specs.Odd as Spec;
 use sip_reader::{Reading, Why, read_request, unsummed, without_line_end};
 use std::alloc::{AllocError, Global};
 
-/// Which kind a message is.
+/// Whether a message is a request or a response.
 #[derive(Clone, Copy)]
 pub enum Direction {
     Request,
@@ -16,9 +16,9 @@ pub enum Direction {
 /// What is odd about a message.
 #[derive(Clone, Copy)]
 pub enum Odd {
-    /// Its first two bytes are no identifier of its side.
+    /// Its first two bytes are no identifier of a request (or response).
     UnknownIdentifier,
-    /// Its error detection is wrong, or isn't its end.
+    /// Its error detection is wrong, or isn't at its end.
     WrongSum,
     /// It is a request without error detection. That is odd only where most requests have some.
     NoSum,
@@ -42,7 +42,7 @@ pub fn odd_of(alloc: Global, side: Direction, message: &[u8]) -> Result<Option<O
     }
 }
 
-/// Whether a message begins with an identifier of its side.
+/// Whether a message begins with an identifier of a request (or response).
 fn has_identifier(alloc: Global, side: Direction, message: &[u8]) -> Result<bool, AllocError>
     ensures { IfOk result (λ known. known ≡ Spec.has_identifier side message.now) }
 {
@@ -89,7 +89,7 @@ fn is_response(number: u8) -> bool
     }
 }
 
-/// Whether error detection is before the end of a message.
+/// Whether a message has error detection before its end.
 fn has_sum_inside(message: &[u8]) -> bool
     ensures { result ≡ Spec.has_sum_inside message.now }
 {
@@ -101,7 +101,7 @@ fn has_sum_inside(message: &[u8]) -> bool
     false
 }
 
-/// Whether a message is a request without error detection, which a resend never has.
+/// Whether a message is a request without error detection; a request for a resend (97) has none, and doesn't count.
 fn lacks_sum(side: Direction, message: &[u8]) -> bool
     ensures { result ≡ Spec.lacks_sum side message.now }
 {

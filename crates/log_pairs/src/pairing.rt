@@ -1,4 +1,4 @@
-//! Requests and responses in the order of a log, put together.
+//! The requests of a log, each with its response.
 
 ghost use Rattle.std.specs.Prelude.{◌≡◌, ◌+◌, ◌<◌, ◌≤◌, ◌∷◌, [], true, false, IfOk, OnOk, OnErr, IfSome, IfNone, List, ℕ, length, option_map};
 ghost use Rattle.std.specs.List.{AllByRecursion};
@@ -12,8 +12,8 @@ use std::alloc::{AllocError, Global};
 use std::collections::{BTreeMap, VecDeque};
 use std::marker::Model;
 
-/// The requests of a log that weren't taken yet, and which of them are open: the last one of its connection, where no
-/// response came since. Numbers start at 0.
+/// The requests of a log that weren't taken yet, in their order: each waits to be taken. A request is open if it is the
+/// last of its connection, and no response has come. Positions of requests count from 0 over the whole log.
 pub struct Pairing {
     taken: usize,
     waiting: VecDeque<Exchange>,
@@ -43,7 +43,7 @@ impl Model for Pairing {
 }
 
 impl Pairing {
-    /// Before the first line of a log.
+    /// No requests: the state before the first line of a log.
     pub fn new(alloc: Global) -> Pairing
         ensures { result ≡ record { asked = 0; pending = [] } }
     {
@@ -61,15 +61,15 @@ impl Pairing {
         self.taken + self.waiting()
     }
 
-    /// How many of them weren't taken.
+    /// How many requests wait: those that came and weren't taken.
     pub fn waiting(&self) -> usize
         ensures { result ≡ length self.now.pending }
     {
         self.waiting.len()
     }
 
-    /// The next line of the log is a request. One before it on its connection that is still open stays without a response.
-    /// Where there is no memory for it nothing changes.
+    /// Adds the next line of the log, a request. An earlier request of the same connection that is still open stays
+    /// without a response. Out of memory, nothing changes.
     pub fn ask(
         &mut self,
         alloc: Global,
@@ -92,8 +92,8 @@ impl Pairing {
         Ok(())
     }
 
-    /// The next line of the log is a response. Returns whether a request is open for it; if not, or out of memory,
-    /// nothing changes.
+    /// Adds the next line of the log, a response. Returns whether its connection has an open request; if not, or out of
+    /// memory, nothing changes.
     pub fn answer(
         &mut self,
         alloc: Global,
@@ -124,7 +124,7 @@ impl Pairing {
         self.open.remove(connection);
     }
 
-    /// The connection of the first request that wasn't taken yet.
+    /// The connection of the first request that waits.
     pub fn first(&self) -> Option<&[u8]>
         ensures { option_map (λ c. c.now) result ≡ first_connection self.now.pending }
     {
@@ -134,7 +134,7 @@ impl Pairing {
         }
     }
 
-    /// Takes the first request that wasn't taken yet, with its response, where that can't change any more.
+    /// Takes the first request that waits, with its response. None, and no change, where it is open or none waits.
     pub fn next(&mut self) -> Option<Exchange>
         ensures some { IfSome result (λ e. (rest : List Said) → to_come self.old rest ≡ e ∷ to_come self.new rest) }
         ensures none { IfNone result ((begins_open self.old.pending ≡ true) × (self.new ≡ self.old)) }

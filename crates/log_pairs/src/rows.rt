@@ -24,7 +24,7 @@ pub fn head_text(alloc: Global) -> Result<Vec<u8>, AllocError>
     TableText::under(alloc, &HEADER)?.finish()
 }
 
-/// The text of the rows of these exchanges, the first of which has this number.
+/// The text of the rows of these exchanges, numbered from `first` on.
 pub fn rows_text(alloc: Global, first: u64, exchanges: &[Exchange]) -> Result<Vec<u8>, AllocError>
     requires { first + length exchanges.now ≤ line_number_end }
     ensures { IfOk result (λ text. text.items ≡ table_text (rows_from first exchanges.now)) }
@@ -34,7 +34,7 @@ pub fn rows_text(alloc: Global, first: u64, exchanges: &[Exchange]) -> Result<Ve
     Vec::from_slice(alloc, &text[head..])
 }
 
-/// The table of these exchanges.
+/// A journal of these exchanges, as a table that isn't a text yet.
 fn table_of(alloc: Global, first: u64, exchanges: &[Exchange]) -> Result<TableText, AllocError>
     requires { first + length exchanges.now ≤ line_number_end }
     ensures { IfOk result (λ t. t ≡ Some (written header (rows_from first exchanges.now))) }
@@ -48,7 +48,7 @@ fn table_of(alloc: Global, first: u64, exchanges: &[Exchange]) -> Result<TableTe
     Ok(table)
 }
 
-/// Writes the row of an exchange at the end.
+/// Appends the row of an exchange.
 fn write_row(table: &mut TableText, number: u64, exchange: &Exchange) -> Result<(), AllocError>
     requires { IfSome table.old (λ t. t.width ≡ 4) }
     ensures { OnOk result (table.new ≡ option_map (with_row (row_of number exchange.now)) table.old) }
@@ -63,7 +63,7 @@ fn write_row(table: &mut TableText, number: u64, exchange: &Exchange) -> Result<
     ])
 }
 
-/// A law: a journal's text is that of its first pairs, then the rows of the others.
+/// A law: the text of a journal is the text of a journal of its first pairs, then the rows of the others.
 pub fn joins()
     ensures { (first : ℕ) (front back : List Pair) → table_text (header ∷ rows_from first (front ++ back))
         ≡ table_text (header ∷ rows_from first front) ++ table_text (rows_from (first + length front) back) }

@@ -1,4 +1,4 @@
--- Fee Paid (SIP 2.00, message 37) beside the walk over the fees (circulation rules, fee paid): on coherent records a patron's payment of a fee amount (BV) is
+-- Fee Paid (SIP 2.00, message 37) and the walk over the fees (circulation rules, fee paid): on coherent records a patron's payment of a fee amount (BV) is
 -- paid on what is meant, the fee of the fee identifier (CG) or else each fee of the patron, the oldest first, as far as the money goes.
 use Rattle.std.specs.Prelude.{◌≡◌, ◌≤◌, ◌+◌, ℕ, true, min, sum, List, [], map, take, Option, Some}
 use Rattle.std.specs.Option.{option_map_or}

@@ -1,4 +1,4 @@
-//! What each line of a plan does: the meaning of a line, worked out over any source of records.
+//! What each line of a plan does: the meaning of a line, computed over any source of records.
 //! `read_set` says what a line means over the whole map of records; the replay, by one thread or by many, calls this crate.
 #![tactic(auto)]
 

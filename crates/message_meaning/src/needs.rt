@@ -11,7 +11,7 @@ use std::alloc::{AllocError, Global};
 use std::marker::Brand;
 
 /// What a line needs after what it has read: the record for which its rule asks next, or nothing more, and then the
-/// version that its rule results in. The rule is followed from its beginning: to see all that a line wants, run
+/// version that its rule results in. The rule is followed from its beginning: to see all that a line needs, run
 /// `perform` once over a source that notes what it sees.
 pub fn need<J: PlanName>(
     alloc: Global,

@@ -59,6 +59,6 @@ is_one_run fates (Some lines) answers passed report =
     && (are_of answers (lines_that is_answered fates lines)
     && (are_of passed (lines_that is_passed fates lines) && are_of report (lines_that is_wrong fates lines)))
 
--- that a table gave a row of a line, or none: what is left of it has rows of the lines that come then
+-- that a table gave a row of a line, or none: the rest of the table has rows of later lines
 abbrev pub Taken : Bool → Row → Option (List Row) → Option (List Row) → Type 0
 Taken b line before after = (lines : List Row) → are_of before (if b then line ∷ lines else lines) ≡ are_of after lines

@@ -14,7 +14,7 @@ pub enum Fate {
     Wrong,
 }
 
-/// The fate of a line by the tables that have a row of it. None where it has rows in no table, or in tables that exclude one another.
+/// The fate of a line, by the tables that have its row. None where it has rows in no table, or in tables that exclude one another.
 pub fn fate_of(answered: bool, passed: bool, wrong: bool) -> Option<Fate>
     ensures answered { IfSome result (λ fate. is_answered fate ≡ answered) }
     ensures passed { IfSome result (λ fate. is_passed fate ≡ passed) }

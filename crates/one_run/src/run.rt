@@ -51,7 +51,7 @@ impl Drop for RowsAhead<'_> {
 }
 
 impl RowsAhead<'_> {
-    /// Takes the rows of the next line of the journal, and says what became of it.
+    /// Takes the rows of the next line of the journal, and returns what became of that line.
     fn take(&mut self, alloc: Global, line: &ByteRecord) -> Result<Fate, NoRun>
         ensures answers { IfOk result (λ fate. Taken (is_answered fate) (fields_of line.now) self.old.answers self.new.answers) }
         ensures passed { IfOk result (λ fate. Taken (is_passed fate) (fields_of line.now) self.old.passed self.new.passed) }

@@ -10,23 +10,23 @@ pub data Event : Type 0 where
   Find : List ℕ → Option FileId → Event
   -- a file was read: its bytes, or why not
   Read : List ℕ → Result (List ℕ) Failure → Event
-  -- a file was made of these bytes, or why not
+  -- a file was made at a path, with these bytes, or why not
   Create : List ℕ → List ℕ → Result ⊤ Failure → Event
-  -- a file was given another path, or why not
+  -- a file was moved to another path, or why not
   Rename : List ℕ → List ℕ → Result ⊤ Failure → Event
-  -- a file was taken away, if that could be done
+  -- a file was removed, if that could be done
   Remove : List ℕ → Event
-  -- standard output took this text, or not
+  -- this text was written to standard output: all of it, or not
   Print : List ℕ → Bool → Event
-  -- standard error took this text, or not
+  -- this text was written to standard error: all of it, or not
   Tell : List ℕ → Bool → Event
 
--- a log with one event more
+-- a log with one more event at its end
 unfoldable pub noted : Event → Option (List Event) → Option (List Event)
 noted event None = None
 noted event (Some log) = Some (log ++ event ∷ [])
 
--- a log with these events more, the first of them first
+-- a log with these events added at its end, in their order
 abbrev pub after : List Event → Option (List Event) → Option (List Event)
 after [] log = log
 after (event ∷ events) log = after events (noted event log)
@@ -36,6 +36,6 @@ abbrev pub answer_of : Result (Vec ℕ Global) Failure → Result (List ℕ) Fai
 answer_of (Ok bytes) = Ok bytes.items
 answer_of (Err failure) = Err failure
 
--- from the old log to the new one these events came, of which P says more
+-- the new log is the old one with some events added, and P holds of these
 abbrev pub Did : (List Event → Type 0) → Option (List Event) → Option (List Event) → Type 0
 Did P old new = (events : List Event) × (new ≡ after events old) × P events

@@ -1,9 +1,9 @@
--- Files that are written: each beside its place, until it is whole.
+-- Files that are written: each under a temporary path until it is whole.
 use Rattle.std.specs.Prelude.{◌≡◌, ◌++◌, ◌∷◌, ◌⊎◌, ℕ, [], Err, List, Ok, Option, codes, flat_map}
 use Rattle.outside.specs.Events.{Create, Event, Remove, Rename, after}
 use Rattle.outside.specs.declared.failure.Failure.{Failure}
 
--- a file of a folder
+-- the path of a file in a folder
 abbrev pub in_folder : List ℕ → List ℕ → List ℕ
 in_folder folder name = folder ++ (codes "/" ++ name)
 
@@ -13,11 +13,11 @@ pub record Place : Type 0 where
   pub part : List ℕ
   pub text : List ℕ
 
--- of a name and its bytes: in a folder, and beside it with one word more
+-- a file of this name, with these bytes, in a folder; the temporary path is there too, and ends in `.part`
 abbrev pub place : List ℕ → List ℕ × List ℕ → Place
 place folder file = record { path = in_folder folder file.0; part = in_folder folder (file.0 ++ codes ".part"); text = file.1 }
 
--- It is made beside its place, and gets its name when it is whole.
+-- A file is written: it is made under its temporary path, and renamed.
 abbrev pub written : Place → List Event
 written p = Create p.part p.text (Ok tt) ∷ Rename p.part p.path (Ok tt) ∷ []
 
@@ -25,19 +25,19 @@ written p = Create p.part p.text (Ok tt) ∷ Rename p.part p.path (Ok tt) ∷ []
 abbrev pub all_written : List Place → List Event
 all_written places = flat_map written places
 
--- It isn't made, or doesn't get its name, for this reason; nothing of it stays beside its place.
+-- A file can't be made, or can't be renamed, for this reason; its temporary file is removed.
 abbrev pub FailsToPlace : Place → Failure → List Event → Type 0
 FailsToPlace p failure events =
     (events ≡ Create p.part p.text (Err failure) ∷ Remove p.part ∷ [])
     ⊎ (events ≡ Create p.part p.text (Ok tt) ∷ Rename p.part p.path (Err failure) ∷ Remove p.part ∷ [])
 
--- Some files are written, in this order, and then one fails: that of this path, for this reason.
+-- The first files are written, in this order, and then the file of this path fails, for this reason.
 abbrev pub StopsWriting : List Place → List ℕ → Failure → List Event → Type 0
 StopsWriting places path failure events =
     (before : List Place) × (p : Place) × (behind : List Place) × (failed : List Event)
     × (places ≡ before ++ p ∷ behind) × (events ≡ all_written before ++ failed) × FailsToPlace p failure failed × (path ≡ p.path)
 
--- the same of one file, before its temporary file is removed
+-- one file fails, and its temporary file isn't removed yet
 abbrev pub StopsMaking : Place → Failure → Option (List Event) → Option (List Event) → Type 0
 StopsMaking p failure old new =
     (new ≡ after (Create p.part p.text (Err failure) ∷ []) old)

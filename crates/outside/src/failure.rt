@@ -8,21 +8,21 @@ use std::{fmt, io};
 /// Why a file can't be read or written.
 #[derive(Clone, Copy)]
 pub enum Failure {
-    /// There is no such file, or no such folder.
+    /// The file or its folder doesn't exist.
     Missing,
     /// Memory ran out.
     Memory,
-    /// It may not be read, or not be written.
+    /// The file may not be read, or may not be written.
     Denied,
-    /// It is a folder.
+    /// The file is a folder.
     Folder,
-    /// Its path goes through a file as if that were a folder.
+    /// A folder in its path is a file.
     NoFolder,
-    /// The disk is full, or the user's share of it.
+    /// The disk is full, or the user's quota is.
     Full,
     /// Nothing can be written to this disk.
     ReadOnly,
-    /// The system has another reason, of this number.
+    /// Another error of the system, with its number.
     System { number: u32 },
 }
 

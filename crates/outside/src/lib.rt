@@ -1,7 +1,7 @@
-//! The outside: all that a program asks of files and of its two streams, as one trait, so that a contract can say what was asked, in which
-//! order, and what was answered. `System` asks the system itself.
+//! The outside of a program: files, and standard input, output and error. All that is asked of it goes through one trait, so that a
+//! contract can say what was asked, in which order, and what was answered. `System` is the outside that asks the operating system.
 //!
-//! A file is written beside its place, and gets its name when it is whole.
+//! A file is written under a temporary path, and renamed when it is whole.
 #![tactic(auto)]
 
 mod failure;

@@ -8,25 +8,25 @@ use crate::file_id::FileId;
 use std::alloc::Global;
 use std::fmt::Display;
 
-/// The outside of a program: files, standard output and standard error. What is asked of it, and what it answers, is noted in a log, which
+/// The outside of a program: files, and standard input, output and error. What is asked of it, and what it answers, is noted in a log that
 /// exists in contracts alone.
 pub trait Outside {
-    /// What was asked so far, and what was answered, where that is known.
+    /// What was asked so far, and what was answered; None where this isn't known.
     ghost log: { Self → Option (List Event) };
 
-    /// Which file this path leads to, links followed, or none.
+    /// The file that this path leads to, with links followed; None where there is none.
     fn find(&mut self, path: &str) -> Option<FileId>
         ensures { log self.new ≡ noted (Find path.now result) (log self.old) };
 
-    /// All bytes of the file of this path; of `-` those of standard input.
+    /// All bytes of the file at this path; for the path `-` those of standard input.
     fn read(&mut self, alloc: Global, path: &str) -> Result<Vec<u8>, Failure>
         ensures { log self.new ≡ noted (Read path.now (answer_of result)) (log self.old) };
 
-    /// Makes a file of these bytes, or replaces the contents of the file with them.
+    /// Makes a file with these bytes, or replaces the contents of the file at this path.
     fn create(&mut self, path: &str, text: &[u8]) -> Result<(), Failure>
         ensures { log self.new ≡ noted (Create path.now text.now result) (log self.old) };
 
-    /// Gives a file another path, and replaces the file there, if there is one.
+    /// Moves a file to another path, and replaces the file there, if there is one.
     fn rename(&mut self, from: &str, to: &str) -> Result<(), Failure>
         ensures { log self.new ≡ noted (Rename from.now to.now result) (log self.old) };
 
@@ -34,15 +34,15 @@ pub trait Outside {
     fn remove(&mut self, path: &str)
         ensures { log self.new ≡ noted (Remove path.now) (log self.old) };
 
-    /// Prints to standard output. Says whether all of it was taken.
+    /// Prints a text to standard output. Returns whether all of it was written.
     fn print<D: Display>(&mut self, text: &D) -> bool
         ensures { IfSome (D.output text.now) (λ text. log self.new ≡ noted (Print text result) (log self.old)) };
 
-    /// Writes bytes to standard output. Says whether all of them were taken.
+    /// Writes bytes to standard output. Returns whether all of them were written.
     fn write(&mut self, bytes: &[u8]) -> bool
         ensures { log self.new ≡ noted (Print bytes.now result) (log self.old) };
 
-    /// Prints to standard error. Says whether all of it was taken.
+    /// Prints a text to standard error. Returns whether all of it was written.
     fn tell<D: Display>(&mut self, text: &D) -> bool
         ensures { IfSome (D.output text.now) (λ text. log self.new ≡ noted (Tell text result) (log self.old)) };
 

@@ -1,4 +1,4 @@
-//! The outside itself.
+//! The outside that asks the operating system.
 
 ghost use Rattle.std.specs.Prelude.{None};
 
@@ -13,14 +13,14 @@ use std::os::unix::fs::MetadataExt;
 use std::rt::Files;
 use std::{fs, io};
 
-/// The path that is standard input where a file is read.
+/// The path that means standard input.
 const INPUT: &str = "-";
 
-/// Standard input among the files of the system.
+/// The file of the operating system that is standard input.
 const INPUT_FILE: &str = "/dev/stdin";
 
-/// The outside itself: files by a runtime, and three streams. No contract says what the system was asked: that each method asks the system for what
-/// it is called for, and returns what the system returned, has to be checked by reading this file.
+/// The operating system: files through a runtime, and three streams. No contract says what the system was asked: that each method asks it for just
+/// what the trait says, and returns its reply, has to be checked by reading this file.
 pub struct System<'a, R, I, W, E> {
     pub rt: &'a R,
     pub input: I,

@@ -1,4 +1,4 @@
-//! Files that are written: each gets its name only when it is whole.
+//! Writing files, each of which gets its name only when it is whole.
 
 ghost use Rattle.std.specs.Prelude.{◌≡◌, IfErr, IfOk, OnOk, map, string_bytes};
 ghost use Rattle.outside.specs.Events.{Did, after};
@@ -9,7 +9,7 @@ use crate::failure::Failure;
 use crate::outside::Outside;
 use std::alloc::{AllocError, Global};
 
-/// The path of a file of a folder: the folder's word, `/` and the name.
+/// The path of a file in a folder: the folder's path, `/` and the name.
 pub fn file_in_folder(alloc: Global, folder: &str, name: &str) -> Result<String, AllocError>
     ensures { IfOk result (λ path. string_bytes path ≡ in_folder folder.now name.now) }
 {
@@ -18,9 +18,9 @@ pub fn file_in_folder(alloc: Global, folder: &str, name: &str) -> Result<String,
 
 /// A file that isn't written yet.
 pub struct Unwritten<'a> {
-    /// Its path.
+    /// Its path once it is whole.
     path: String,
-    /// Its temporary path until it is whole, in the same folder.
+    /// Its temporary path, in the same folder: that path and `.part`.
     part: String,
     text: &'a [u8],
 }
@@ -60,7 +60,7 @@ pub struct Unplaced<'a> {
     pub failure: Failure,
 }
 
-/// Writes these files, one after the other. Each gets its name only when it is whole. Of one that fails nothing is left; those before it stay.
+/// Writes these files, one after the other, up to the first that fails. Of that file nothing is left; the files before it stay.
 pub fn write_files<'a, O: Outside>(
     outside: &mut O,
     files: &'a [Unwritten<'_>],
@@ -79,7 +79,7 @@ pub fn write_files<'a, O: Outside>(
     Ok(())
 }
 
-/// Writes a file beside its place, and gives it its name when it is whole. Of one that can't be written nothing stays.
+/// Writes a file under its temporary path, and renames it when it is whole. If it fails, the temporary file is removed.
 fn write_whole<O: Outside>(outside: &mut O, file: &Unwritten<'_>) -> Result<(), Failure>
     ensures written { OnOk result (O.log outside.new ≡ after (written (place_of file.now)) (O.log outside.old)) }
     ensures stops { IfErr result (λ e. Did (FailsToPlace (place_of file.now) e) (O.log outside.old) (O.log outside.new)) }
@@ -93,7 +93,7 @@ fn write_whole<O: Outside>(outside: &mut O, file: &Unwritten<'_>) -> Result<(), 
     }
 }
 
-/// The same; after a failure its temporary file is left.
+/// The same, but if it fails, the temporary file stays.
 fn make_whole<O: Outside>(outside: &mut O, file: &Unwritten<'_>) -> Result<(), Failure>
     ensures written { OnOk result (O.log outside.new ≡ after (written (place_of file.now)) (O.log outside.old)) }
     ensures stops { IfErr result (λ e. StopsMaking (place_of file.now) e (O.log outside.old) (O.log outside.new)) }

@@ -34,7 +34,7 @@ abbrev pub HasStopped : (PageOptions → PageTexts → Result (List ℕ) NoPage 
 HasStopped makes o stop events = StopsReading (files_of o) stop events
     ⊎ ((no_page : NoPage) × (stop ≡ stops.NoPage no_page) × HasMade makes o (Err no_page) events)
 
--- The page that the maker makes of the files is printed, or what stops the run; nothing else is asked of the outside.
+-- The page that the maker makes from the files is printed, or what stops the run; nothing else is asked of the outside.
 abbrev pub IsPage : (PageOptions → PageTexts → Result (List ℕ) NoPage → Type 0) → PageOptions → ℕ → List Event → Type 0
 IsPage makes o status events = (reads : List Event) × (told : List Event) × (events ≡ reads ++ told)
     × (((page : List ℕ) × HasMade makes o (Ok page) reads × IsPrinted page status told)

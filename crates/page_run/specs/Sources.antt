@@ -47,7 +47,7 @@ both_in base out name need = (in_folder base name, need) ∷ (in_folder out name
 abbrev pub both_texts : BothTexts → List (List ℕ)
 both_texts t = t.before.items ∷ t.after.items ∷ []
 
--- what a run began with, and what became of it; a missing holds.csv counts as empty
+-- the tables before a run and after it; a missing holds.csv counts as empty
 abbrev pub changed_files : List ℕ → List ℕ → List (List ℕ × Presence)
 changed_files base out = names_in base ++ (both_in base out (codes "loans.csv") Must ++ (both_in base out (codes "holds.csv") May
     ++ both_in base out (codes "fees.csv") Must))

@@ -19,7 +19,7 @@ status_of (stops.NoPage (reasons.Refused text)) = 2
 status_of (stops.File path failure) = 3
 status_of stops.Output = 3
 
--- A file that fails is named by its path, with the reason that it gave, or memory ran out.
+-- A file that fails is named by its path, with the reason of the failure, or memory ran out.
 abbrev pub MayTell : List ℕ → Failure → PageStop → Type 0
 MayTell path failure (stops.File told why) = (string_bytes told ≡ path) × (why ≡ failure)
 MayTell path failure (stops.NoPage reasons.Memory) = Unit {0}

@@ -38,7 +38,7 @@ pub fn run<S: AsStr, O: Outside, M: Maker>(
     }
 }
 
-/// Reports that the system gave no words, or none that are text, and returns the status.
+/// Reports that the system passed no words, or some that are no text, and returns the status.
 pub fn refuse_words<O: Outside>(outside: &mut O, error: &io::Error) -> u8 {
     if error.kind() == io::ErrorKind::OutOfMemory {
         return PageStop::NoPage(NoPage::Memory).tell(outside);

@@ -49,7 +49,7 @@ impl Drop for BothTexts {
     }
 }
 
-/// What a run began with, where that is given, and what became of it.
+/// The tables before a run, where these are given, and those after it.
 pub struct BaseTexts {
     pub names: NameTexts,
     pub loans: BothTexts,

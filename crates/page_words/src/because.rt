@@ -12,7 +12,7 @@ pub struct Origin<'w> {
     /// `patron`, `item` or `fee`; nothing where the line read no record.
     pub kind: &'w [u8],
     pub id: &'w [u8],
-    /// What of it mattered: words with their values, with `; ` between them.
+    /// What mattered of the record: words with their values, with `; ` between them.
     pub said: &'w [u8],
     /// Since when it was so: `base`, or the number of a line.
     pub since: &'w [u8],
@@ -26,7 +26,7 @@ pub struct Because<'w> {
 }
 
 /// What is said of why a response was wrong: the word of the report, the reason of the answer, what is said of the record, the kind of the record, and
-/// the saying; `*` fits any. The first line that fits counts. A place in braces is the record's id, or what is said of it.
+/// the saying; `*` fits any. The first line that fits counts. A place in braces is the record's id, or what is said of the record.
 const BECAUSES: &str = "\
 *|unknown_patron|*|patron|no table has {id}
 *|unknown_item|*|item|no table has {id}

@@ -35,7 +35,7 @@ pub fn name_of(message: &[u8]) -> &'static [u8] {
     }
 }
 
-/// The fields of a message, in its order. Of a very long one, all that comes after the first `MOST` is one field.
+/// The fields of a message, in its order. The last of `MOST` variable fields has all the rest of a very long message.
 pub fn fields_of<'m>(alloc: Global, message: &'m [u8]) -> Result<Vec<ShownField<'m>>, AllocError> {
     let mut fields = Vec::new(alloc);
     let behind = add_fixed(&mut fields, message.trim_ascii_end())?;
@@ -43,7 +43,7 @@ pub fn fields_of<'m>(alloc: Global, message: &'m [u8]) -> Result<Vec<ShownField<
     Ok(fields)
 }
 
-/// Adds the fixed fields of a message, and gives what is after them.
+/// Adds the fixed fields of a message, and returns what is after them.
 fn add_fixed<'m>(
     fields: &mut Vec<ShownField<'m>>,
     message: &'m [u8],

@@ -1,21 +1,21 @@
--- A rule as a small program that asks for one record at a time: the order of asking is the program's.
+-- A rule as a small program that asks for one record at a time, in its own order.
 use Rattle.std.specs.Prelude.{◌≡◌, ◌⊎◌, Option, Some, None}
 use Rattle.std.specs.Option.{option_map_or}
 use Rattle.circ_records.specs.declared.key.Key.{Key}
 use Rattle.circ_records.specs.declared.record.Record.{Record}
 use Rattle.read_set.specs.Maps.{Map, Part, Grows}
 
--- It gives its result at once, or first asks for a record.
+-- A program: it gives its result at once (Give), or asks for a record and goes on by what that is (Ask).
 pub data Asks (A : Type 0) : Type 0 where
   Give : A → Asks A
   Ask : Key → (Option Record → Asks A) → Asks A
 
--- what it gives over a whole map
+-- what a program gives over a whole map
 abbrev pub over : {A : Type 0} → Map → Asks A → A
 over M (Give x) = x
 over M (Ask k rule) = over M (rule (M k))
 
--- How far it gets with what is known: to its end, or to the first unknown key.
+-- How far a program gets with what is known: to its end, or to the first unknown key.
 pub data Reached (A : Type 0) : Type 0 where
   Done : A → Reached A
   Wants : Key → Reached A
@@ -35,7 +35,7 @@ abbrev pub OnHad : Option (Option Record) → (Option Record → Type 0) → Typ
 OnHad None P = ⊥
 OnHad (Some r) P = P r
 
--- a key that it asks for, with what is known, on its way to its end or to the first unknown key
+-- a key that a program asks for, with what is known, on its way to its end or to the first unknown key
 abbrev pub IsAsked : {A : Type 0} → Part → Asks A → Key → Type 0
 IsAsked has (Give x) k = ⊥
 IsAsked has (Ask j rule) k = (k ≡ j) ⊎ OnHad (has j) (λ r. IsAsked has (rule r) k)

@@ -34,16 +34,16 @@ FitsAct (acts.Hold q) = is_text q.pickup ≡ true
 FitsAct (acts.ItemStatus q) = IfSome q.properties (λ t. is_text t ≡ true)
 FitsAct q = Unit {0}
 
--- what each request has that was read
+-- what holds of each request that was read
 abbrev pub FitsReading : Reading → Type 0
 FitsReading (readings.Asked q) = (is_stamp q.date ≡ true) × FitsAct q.act
 FitsReading r = Unit {0}
 
--- there are at most 2^64 items, since some list names them all: so no line makes more fees than that
+-- there are at most 2^64 items (a list that names them all has no more), so no line makes more fees than that
 abbrev pub HasFewItems : Map → Type 0
 HasFewItems M = (ids : List (List ℕ)) × (length ids ≤ 2 ^ 64) × ((id : List ℕ) → is_some (as_item (M (keys.Item id))) ≡ true → has_id id ids ≡ true)
 
--- line n makes of records that are coherent before it records that are coherent before line n + 1; where all are of their keys' kinds, they stay so
+-- if the records before line n are coherent, those after it are coherent before line n + 1; where all are of their keys' kinds, they stay so
 abbrev pub MeaningKeepsCoherence : Type 0
 MeaningKeepsCoherence = (policy : Terms) (n : ℕ) (r : Reading) (M : Map) → FitsPolicy policy → FitsReading r → n ≤ line_number_max
     → HasFewItems M → IsCoherentMap policy n M → IsCoherentMap policy (n + 1) (one policy n r M).0 × HasFewItems (one policy n r M).0 × (AreOfKind M → AreOfKind (one policy n r M).0)

@@ -27,7 +27,7 @@ abbrev pub fee_made : ℕ → ℕ → List ℕ → FeeType → ℕ → Entries
 fee_made n k patron kind amount =
     if nat_lt 0 amount then (keys.Fee (fee_id n k), records.Fee (record { patron = patron; kind = kind; amount = amount; paid = 0 })) ∷ [] else []
 
--- it goes last in the patron's list
+-- a made fee goes last in the patron's list
 abbrev pub with_fee : ℕ → ℕ → ℕ → List (List ℕ) → List (List ℕ)
 with_fee n k amount fees = if nat_lt 0 amount then fees ++ fee_id n k ∷ [] else fees
 

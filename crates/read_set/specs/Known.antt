@@ -1,4 +1,4 @@
--- Records that count (circulation rules, records of any moment): a record of another kind than its key's counts as none;
+-- Which records count (circulation rules, records of any moment): one of another kind than its key's counts as none;
 -- an item whose media type the policy lacks, and a patron whose class it lacks, count as unknown.
 use Rattle.std.specs.Prelude.{ℕ, List, Option, Some, None, option_map}
 use Rattle.circ_policy.specs.Policy.{class_of, media_of}
@@ -47,7 +47,7 @@ patron_in p M id = as_member p (M (keys.Patron id))
 abbrev pub fee_in : Map → List ℕ → Option Fee
 fee_in M id = as_fee (M (keys.Fee id))
 
--- whoever has a loan, where the patron is known
+-- the patron who has a loan, where known
 abbrev pub borrower_in : Terms → Map → Option Loan → Option Member
 borrower_in p M None = None
 borrower_in p M (Some loan) = patron_in p M loan.patron

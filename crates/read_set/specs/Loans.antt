@@ -20,11 +20,11 @@ use Rattle.read_set.specs.declared.verdict.LoanRequest.{LoanRequest}
 
 -- WHAT IS ASKED FOR
 
--- a checkout is forced by no block Y or BI Y, and with BI Y no rental is charged; it allows no third party
+-- a checkout is forced where no block is Y or BI is Y, and with BI Y no rental is charged; it allows no third party
 abbrev pub by_checkout : Checkout → LoanRequest
 by_checkout q = record { patron = q.patron; item = q.item; third_party = false; forced = q.no_block || q.cancel; given = q.due; agreed = q.agreed; free = q.cancel; checkout = true }
 
--- a renewal is forced by no block Y alone
+-- a renewal is forced where no block is Y
 abbrev pub by_renew : Renew → LoanRequest
 by_renew q = record { patron = q.patron; item = q.item; third_party = q.third_party; forced = q.no_block; given = q.due; agreed = q.agreed; free = false; checkout = false }
 

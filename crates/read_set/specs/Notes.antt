@@ -13,7 +13,7 @@ use Rattle.read_set.specs.declared.notes.Note.{Note}
 abbrev pub note_of : List Note → Key → Option Note
 note_of notes k = find (λ n. is_at (key_cmp k) n.key) notes
 
--- the records that notes know
+-- what is known from notes
 abbrev pub noted : List Note → Part
 noted notes k = option_map (λ n. n.found) (note_of notes k)
 

@@ -17,7 +17,7 @@ AreTrue (n ∷ more) M = (M n.key ≡ n.found) × AreTrue more M
 abbrev pub Settles : Planned → ℕ → List Note → Entries → Option Answer → Type 0
 Settles plan line notes writes answer = (M : Map) → AreTrue notes M → GivesAt plan line M (record { writes = writes; answer = answer })
 
--- what a version says
+-- the contents of a version: which attempt at which line it is of, what was read, what is written and answered
 pub record Contents : Type 0 where
   pub line : ℕ
   pub attempt : ℕ

@@ -26,7 +26,7 @@ IsOfAct (acts.Renew q) k = (k ≡ keys.Patron q.patron) ⊎ (k ≡ keys.Item q.i
 IsOfAct (acts.FeePaid q) k = k ≡ keys.Patron q.patron
 IsOfAct (acts.RenewAll q) k = k ≡ keys.Patron q.patron
 
--- of the request that a line is; a line that is none has neither
+-- the patron or the item of a line's request; a line without a request has neither
 abbrev pub IsOfReading : Reading → Key → Type 0
 IsOfReading (readings.Asked q) k = IsOfAct q.act k
 IsOfReading readings.BadSum k = ⊥
@@ -48,7 +48,7 @@ Names (Some (records.Patron p)) k = ((id : List ℕ) × Contains p.loans id × (
 Names (Some (records.Item i)) k = IsBorrower i.loan k
 Names _ k = ⊥
 
--- a known record names it
+-- a known record names the key
 abbrev pub IsNamed : Part → Key → Type 0
 IsNamed has k = (j : Key) × (r : Option Record) × (has j ≡ Some r) × Names r k
 

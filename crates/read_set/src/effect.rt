@@ -1,4 +1,4 @@
-//! What a line does.
+//! The effect of a line: what it writes and answers.
 
 ghost use Rattle.std.specs.Prelude.{◌≡◌, ◌∷◌, [], map, IfOk, OnOk, OnErr};
 ghost use Rattle.std.specs.BTreeMap.{insert_entry};
@@ -16,7 +16,7 @@ use std::alloc::{AllocError, Global};
 use std::collections::BTreeMap;
 use std::marker::Model;
 
-/// Up to this many records are a list, which costs less than a map.
+/// Up to this many records are kept in a list, which costs less than a map.
 const LIST_MAX: usize = 8;
 
 /// The first allocation has capacity for this many records: most lines that write any write two.
@@ -33,7 +33,7 @@ impl Drop for Draft {
     }
 }
 
-/// Records by rising keys. Adding one to a map is cheap, however many there are.
+/// Records by rising keys: few in a list, more in a map, where adding one is cheap, however many there are.
 enum ListOrMap {
     List(Vec<(Key, Record)>),
     Map(BTreeMap<Key, Record>),
@@ -89,7 +89,7 @@ impl Draft {
         }
     }
 
-    /// One more record. Out of memory, nothing changes.
+    /// Adds a record under its key. Out of memory, nothing changes.
     pub fn put(&mut self, key: Key, written: Record) -> Result<(), AllocError>
         ensures ok { OnOk result (self.new ≡ insert_entry key_cmp self.old key written) }
         ensures err { OnErr result (self.new ≡ self.old) }
@@ -101,8 +101,8 @@ impl Draft {
         }
     }
 
-    /// Allocates memory for the first records, and replaces the list by a map once it has `LIST_MAX`. The map is made of copies, so that
-    /// out of memory the list stays whole.
+    /// Allocates memory for the first records, and replaces the list by a map once it has `LIST_MAX` records. The map gets copies, so
+    /// that the list stays whole if memory runs out.
     fn make_room(&mut self) -> Result<(), AllocError>
         ensures { self.new ≡ self.old }
     {
@@ -206,7 +206,7 @@ impl Writes {
         self.entries.as_slice()
     }
 
-    /// Frees the capacity for more records.
+    /// Frees the spare capacity.
     pub(crate) fn shrink_to_fit(&mut self)
         ensures { self.new ≡ self.old }
     {

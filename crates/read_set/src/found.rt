@@ -1,4 +1,4 @@
-//! What a note found.
+//! What was found at the key of a note.
 
 ghost use Rattle.std.specs.Prelude.{◌≡◌, IfOk, None, Some};
 ghost use Rattle.std.specs.Bool.{Decides};
@@ -9,7 +9,7 @@ use circ_records::{Fee, Item, Patron, Record, Shared};
 use std::alloc::AllocError;
 use std::marker::Model;
 
-/// A record, or none, in a note: versions are kept until the run ends, and this is smaller than an `Option<Record>`.
+/// A record or none, as a note stores it: smaller than an `Option<Record>`, since notes are kept until the run ends.
 pub struct NotedRecord {
     held: SharedRecord,
 }
@@ -76,14 +76,14 @@ impl NotedRecord {
         }
     }
 
-    /// The same record, or none. Allocates nothing.
+    /// A copy, which shares the record. Allocates nothing.
     pub fn copy(&self) -> Result<NotedRecord, AllocError>
         ensures { IfOk result (λ n. n ≡ self.now) }
     {
         Ok(NotedRecord::new(self.record()?))
     }
 
-    /// Whether it is that record, or none.
+    /// Whether both are the same record, or both none.
     pub fn is_same(&self, other: Option<&Record>) -> bool
         ensures { Decides result (self.now ≡ option_copied other.entry) }
     {

@@ -1,4 +1,4 @@
-//! Records that count as known.
+//! Which records the rules take as known.
 
 ghost use Rattle.std.specs.Prelude.{◌≡◌};
 ghost use Rattle.read_set.specs.Known.{as_article, as_member, as_fee};
@@ -83,7 +83,7 @@ pub fn known_patron(policy: &Policy, found: Option<Record>) -> Option<Member>
     }
 }
 
-/// The fee that a record is.
+/// The fee that a record is; None for a record of another kind.
 #[tactic(auto, unfolding(crate::specs::Known::as_fee))]
 pub fn known_fee(found: Option<Record>) -> Option<Shared<Fee>>
     ensures { result ≡ as_fee found }

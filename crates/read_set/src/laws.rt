@@ -14,7 +14,7 @@ pub fn replay_keeps_coherence()
     ensures { ReplayKeepsCoherence }
 {}
 
-/// The same for the plan of any policy and journal that were read, over a base that is coherent before the first line. Callers show nothing more.
+/// The same for the plan of any policy and journal that were read, over a base that is coherent before the first line. Nothing else is required.
 pub fn read_plans_stay_coherent(base: &Records)
     ensures { ReadPlansStayCoherent base.now }
 {

@@ -1,7 +1,7 @@
 //! The plan of a replay (policy, base, reading of each line), and all rules (`specs/`): what each line reads, writes and
 //! answers. A rule reads records from a `Source`.
-//! It uses the crates that read (messages, policy, records, journal) and the answers; the meanings of the kinds of messages
-//! use it.
+//! This crate uses those that read messages, policy, records and journal, and `sip_answer`; `loan_meaning` and
+//! `message_meaning`, which have the rules in code, use it.
 #![tactic(auto)]
 
 mod effect;

@@ -15,15 +15,15 @@ use std::alloc::{AllocError, Global};
 use std::collections::BTreeMap;
 use std::marker::Model;
 
-/// Whose record it is: the base's, or that of an attempt at a line. The attempt comes first, so that it and the
-/// discriminant share a word.
+/// Who wrote a record: it is the base's, or an attempt at a line wrote it. The attempt comes first, so that it shares a
+/// machine word with the discriminant.
 #[derive(Clone, Copy, PartialEq, Eq)]
 pub enum Name {
     Base,
     Made { attempt: u32, line: u64 },
 }
 
-/// What was found at a key, a record or none, under its name.
+/// What was found at a key: a record or none, and its name.
 pub struct Note {
     pub key: Key,
     pub name: Name,
@@ -41,7 +41,7 @@ impl Drop for Note {
 }
 
 impl Note {
-    /// The same note.
+    /// A copy of the note.
     pub fn copy(&self) -> Result<Note, AllocError>
         ensures { IfOk result (λ n. n ≡ self.now) }
     {
@@ -99,7 +99,7 @@ impl Notes {
         }
     }
 
-    /// One more note, of a key that isn't noted. Out of memory, nothing changes.
+    /// Adds a note, of a key that isn't noted. Out of memory, nothing changes.
     pub fn add(&mut self, note: Note) -> Result<(), AllocError>
         requires { note_of self.old note.key ≡ None }
         ensures ok { OnOk result (self.new ≡ self.old ++ note ∷ []) }
@@ -113,7 +113,7 @@ impl Notes {
         Ok(())
     }
 
-    /// One more note that isn't among the first, and its position. Out of memory, nothing changes.
+    /// Adds a note after the first `LIST_MAX`, with its position. Out of memory, nothing changes.
     fn add_later(&mut self, note: Note) -> Result<(), AllocError>
         requires { note_of self.old note.key ≡ None }
         ensures ok { OnOk result (self.new ≡ self.old ++ note ∷ []) }
@@ -130,7 +130,7 @@ impl Notes {
         }
     }
 
-    /// The note of a key.
+    /// The note of a key, if it is noted.
     pub fn get(&self, key: &Key) -> Option<&Note>
         ensures { option_copied result ≡ note_of self.now key.now }
     {
@@ -140,7 +140,7 @@ impl Notes {
         }
     }
 
-    /// Frees the capacity for more notes.
+    /// Frees the spare capacity.
     pub(crate) fn shrink_to_fit(&mut self)
         ensures { self.new ≡ self.old }
     {
@@ -155,7 +155,7 @@ impl Notes {
         self.notes.as_slice()
     }
 
-    /// The same notes.
+    /// A copy of the notes.
     pub fn copy(&self, alloc: Global) -> Result<Notes, AllocError>
         ensures { IfOk result (λ n. n ≡ self.now) }
     {
@@ -173,7 +173,7 @@ fn make_first_room(notes: &mut Vec<Note>) -> Result<(), AllocError>
     Ok(())
 }
 
-/// The first notes.
+/// The first `LIST_MAX` notes.
 fn first(notes: &[Note]) -> &[Note]
     ensures { result.now ≡ first notes.now }
 {
@@ -184,7 +184,7 @@ fn first(notes: &[Note]) -> &[Note]
     }
 }
 
-/// The note of a key; the keys are compared one by one.
+/// The note of a key among these, if there is one; the keys are compared one by one.
 fn note_among<'n>(notes: &'n [Note], key: &Key) -> Option<&'n Note>
     ensures { option_copied result ≡ note_of notes.now key.now }
 {
@@ -196,7 +196,7 @@ fn note_among<'n>(notes: &'n [Note], key: &Key) -> Option<&'n Note>
     None
 }
 
-/// The position of a key's note, where the key has one.
+/// The position of a key's note in the map of positions, if it has one there.
 fn position_in(positions: &Option<Box<BTreeMap<Key, usize>>>, key: &Key) -> Option<usize>
     ensures { result ≡ lookup (is_at (key_cmp key.now)) (positions_in positions.now) }
 {
@@ -206,7 +206,7 @@ fn position_in(positions: &Option<Box<BTreeMap<Key, usize>>>, key: &Key) -> Opti
     }
 }
 
-/// Puts the position of a key's note. Out of memory, nothing changes.
+/// Adds the position of a key's note to the map. Out of memory, nothing changes.
 fn put_position(
     alloc: Global,
     positions: &mut Option<Box<BTreeMap<Key, usize>>>,

@@ -1,4 +1,4 @@
-//! Notes as sources of records: notes that never change, and notes that grow by what is looked at.
+//! Notes as sources of records: notes that never change, and notes to which each look adds one.
 
 ghost use Rattle.std.specs.Prelude.{◌≡◌, None, ⊤};
 ghost use Rattle.read_set.specs.Asks.{follow, Ask, Give, Gains};
@@ -12,7 +12,7 @@ use circ_records::{Key, Record};
 use std::alloc::{AllocError, Global};
 use std::marker::{Brand, PhantomData};
 
-/// A type that stands for some notes, so that contracts can name them. Each use chooses its own.
+/// A type that represents certain notes, so that contracts can name them. Each use has a type of its own.
 pub trait NotesName {
     ghost use Rattle.std.specs.Prelude.{List};
     ghost use Rattle.read_set.specs.declared.notes.Note.{Note};
@@ -26,8 +26,8 @@ impl NotesName for Brand {
     ghost notes = { [] };
 }
 
-/// Notes that never change, as a source of records: it stops at a key that isn't noted. Its type names the notes, so contracts
-/// know that no read changes them.
+/// Notes that never change, as a source of records, which stops at a key that isn't noted. The type names the notes, so
+/// contracts can say that no read changes them.
 #[derive(Drop)]
 pub struct NotesSource<'n, N: NotesName> {
     notes: &'n Notes,
@@ -63,9 +63,9 @@ impl<N: NotesName> Source for NotesSource<'_, N> {
     }
 }
 
-/// A place to look for a record that isn't noted yet.
+/// Where to look for a record that isn't noted yet.
 pub trait Looks {
-    /// The record at a key now, or that there is none, and its name; None where the attempt has to end.
+    /// The record that is now at a key, or none, and its name; the outer None where the attempt has to end.
     fn look(
         &mut self,
         alloc: Global,
@@ -73,7 +73,7 @@ pub trait Looks {
     ) -> Result<Option<(Name, Option<Record>)>, AllocError>;
 }
 
-/// A source that looks for what isn't noted yet, and notes what it sees. It stops where a look gives None.
+/// A source that looks for what isn't noted yet, and notes what it sees. It stops where a look returns None.
 #[derive(Drop)]
 pub struct Noting<L: Looks> {
     pub notes: Notes,
@@ -96,7 +96,7 @@ impl<L: Looks> Source for Noting<L> {
     }
 }
 
-/// It notes nothing but what it is asked for.
+/// Only the records that it is asked for are noted.
 impl<L: Looks> OneByOne for Noting<L> {
     ghost fetches = { tt };
 }

@@ -55,7 +55,7 @@ impl Model for Plan {
 }
 
 impl Plan {
-    /// The plan of a journal, over a base that is coherent before its first line, as any base read for it is.
+    /// The plan of a journal, over a base that is coherent before the journal's first line, as `read_base` ensures.
     pub fn new(
         alloc: Global,
         policy: Policy,
@@ -77,7 +77,7 @@ impl Plan {
     {
         let first = readings.first().unwrap_or(LINE_NUMBER_END);
         // Called for their contracts alone: there are at most `LINE_LIMIT` lines, each read from a message; the policy's terms
-        // are in their ranges; and a count holds the number of records.
+        // are in their ranges; and the number of records fits into a count.
         let _lines = readings.len();
         let _currency = policy.currency();
         let _records = base.as_slice();
@@ -96,7 +96,7 @@ impl Plan {
         &self.policy
     }
 
-    /// The number of the first line; the others count on from it. Without lines it is 10,000,000,000.
+    /// The number of the first line; the numbers of the others rise from it by one. Without lines it is 10,000,000,000.
     pub fn first(&self) -> u64
         ensures { result ≡ self.now.first }
     {
@@ -157,7 +157,7 @@ impl Plan {
         self.base.empty_map(alloc)
     }
 
-    /// The records before the first line, taken out: the plan is then that of the same lines over no records.
+    /// Moves the records before the first line out of the plan, which is then that of the same lines over no records.
     pub fn take_base(&mut self, alloc: Global) -> RecordMap
         ensures records { result ≡ self.old.base }
         ensures left { self.new ≡ plan_over self.old [] }
@@ -166,7 +166,7 @@ impl Plan {
     }
 }
 
-/// A type that stands for one plan, so that contracts can name it. Each run chooses its own.
+/// A type that represents one plan, so that contracts can name it. Each run has a type of its own.
 pub trait PlanName {
     ghost use Rattle.read_set.specs.Plans.{Planned};
 

@@ -1,4 +1,4 @@
-//! The progress of a request that goes through a list in its order.
+//! How far a request has got that goes through a list, such as that of a patron's loans.
 
 use crate::effect::Draft;
 use crate::known::Member;

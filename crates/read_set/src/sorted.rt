@@ -24,7 +24,7 @@ pub fn found_in<'e>(entries: &'e [(Key, Record)], key: &Key) -> Option<&'e Recor
     None
 }
 
-/// The position of a key, or else the position to which it goes.
+/// The position of a key (`Ok`), or else the position at which it is to be inserted (`Err`).
 fn position_of(entries: &[(Key, Record)], key: &Key) -> Result<usize, usize>
     ensures { result ≡ position_from 0 key.now entries.now }
 {

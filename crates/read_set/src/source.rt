@@ -12,7 +12,7 @@ use std::alloc::{AllocError, Global};
 /// Why the meaning of a line stopped before its end.
 #[derive(Drop)]
 pub enum Stop {
-    /// The source doesn't know whether there is a record at this key.
+    /// The source doesn't know which record, if any, is at this key.
     Unnoted(Key),
     /// Out of memory.
     Memory,
@@ -32,10 +32,10 @@ impl From<AllocError> for Stop {
 /// Where the code of a rule gets the records that it asks for. A source never loses what it has. It may fetch more than it is asked
 /// for: one that fetches a page of records at once, for example.
 pub trait Source {
-    /// What it knows at each key: nothing, the record there, or that there is none.
+    /// What the source knows at each key: nothing, the record there, or that there is none.
     ghost has: { Self → Key → Option (Option Record) };
 
-    /// A claim that holds where it fetches nothing but what it is asked for. `OneByOne` promises the claim.
+    /// A claim that is true if the source fetches nothing but what it is asked for. A type with `OneByOne` proves the claim.
     ghost one_by_one: { Type 0 };
 
     /// The record at a key, or None where there is none; a stop where the source doesn't know.
@@ -43,7 +43,7 @@ pub trait Source {
         ensures gives { Follows result (follow (has self.new) (Ask key.now Give)) }
         ensures keeps { Gains one_by_one (has self.old) (has self.new) (Ask key.now Give) };
 
-    /// The same for a patron, by id. A source may do it without making a key.
+    /// The same for the patron with this id. A source may do this without making a key.
     fn read_patron(&mut self, alloc: Global, id: &Id) -> Result<Option<Record>, Stop>
         ensures gives { Follows result (follow (has self.new) (Ask (keys.Patron id.now) Give)) }
         ensures keeps { Gains one_by_one (has self.old) (has self.new) (Ask (keys.Patron id.now) Give) }
@@ -51,7 +51,7 @@ pub trait Source {
         self.read(alloc, &Key::Patron(id.clone()?))
     }
 
-    /// The same for an item.
+    /// The same for the item with this id.
     fn read_item(&mut self, alloc: Global, id: &Id) -> Result<Option<Record>, Stop>
         ensures gives { Follows result (follow (has self.new) (Ask (keys.Item id.now) Give)) }
         ensures keeps { Gains one_by_one (has self.old) (has self.new) (Ask (keys.Item id.now) Give) }

@@ -11,9 +11,9 @@ pub struct LoanRequest {
     pub third_party: bool,
     /// Whether most tests are skipped.
     pub forced: bool,
-    /// The due day where forced.
+    /// The due day that a forced request names, if it names one.
     pub given: Option<Day>,
-    /// Whether the user agreed to a rental.
+    /// Whether the user agreed to pay a rental.
     pub agreed: bool,
     /// Whether no rental is charged.
     pub free: bool,

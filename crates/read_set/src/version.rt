@@ -1,4 +1,4 @@
-//! What a line writes and answers on what it has read.
+//! What a line writes and answers, given what it has read.
 
 ghost use Rattle.std.specs.Prelude.{◌≡◌, map};
 ghost use Rattle.std.specs.List.Sorted.{IsStrictlySortedBy};
@@ -46,7 +46,7 @@ impl<J: PlanName> Model for Version<J> {
 }
 
 impl<J: PlanName> Version<J> {
-    /// The version of an attempt at a line: what the line writes and answers where these notes are true.
+    /// The version of an attempt at a line: what the line writes and answers if these notes are true.
     pub fn new(
         line: u64,
         attempt: u32,
@@ -78,14 +78,14 @@ impl<J: PlanName> Version<J> {
         self.line
     }
 
-    /// Which attempt at the line it is of, counted from 0.
+    /// The attempt at the line, counted from 0.
     pub fn attempt(&self) -> u32
         ensures { result ≡ self.now.attempt }
     {
         self.attempt
     }
 
-    /// What it has read. This determines what it writes and answers.
+    /// What the line has read. This determines what it writes and answers.
     pub fn reads(&self) -> &Notes
         ensures reads { result.now ≡ self.now.reads }
         ensures settles { Settles J.plan self.now.line self.now.reads self.now.writes self.now.answer }
@@ -93,7 +93,7 @@ impl<J: PlanName> Version<J> {
         &self.reads
     }
 
-    /// The records that it writes with their keys, rising.
+    /// The records that the line writes, with their keys, rising.
     pub fn writes(&self) -> &[(Key, Record)]
         ensures writes { result.now ≡ self.now.writes }
         ensures rising { IsStrictlySortedBy key_cmp (map (λ e. e.0) self.now.writes) }
@@ -101,7 +101,7 @@ impl<J: PlanName> Version<J> {
         self.writes.as_slice()
     }
 
-    /// Its answer, where the line has one.
+    /// The line's answer, if it has one.
     pub fn answer(&self) -> &Option<Answer>
         ensures { result.now ≡ self.now.answer }
     {
@@ -109,7 +109,7 @@ impl<J: PlanName> Version<J> {
     }
 }
 
-/// What a line needs on what it has read.
+/// What a line needs next, given what it has read.
 #[derive(Drop)]
 pub enum Need<J: PlanName> {
     /// The record at a key that isn't noted.

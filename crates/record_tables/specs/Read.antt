@@ -65,7 +65,7 @@ pub record AreTables (t : Tables) : Type 0 where
   pub holds : IsSome (holds_rows_of t.holds.items)
 
 -- Why the reading stopped, unless memory ran out: what was due is no table, or a row breaks a rule. What is after that row wasn't
--- read, so the rule is the fault that is due where all of it is a table.
+-- read, so the rule is the fault that is due if the whole text is a table.
 abbrev pub Stops : {A : Type 0} → BaseError → Result A BaseError → Type 0 → Option BaseError → Type 0
 Stops error.Memory due AreRead fault = Unit {0}
 Stops (error.Table t) due AreRead fault = due ≡ Err (error.Table t)

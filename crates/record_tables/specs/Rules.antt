@@ -77,7 +77,7 @@ loan_rule patrons items before row =
     else if has_row 1 (field 1 row) before then Some rule.Lent
     else None
 
--- FEES: id, patron, type, amount, paid. CLOSED: the same but for what is paid
+-- FEES: id, patron, type, amount, paid. CLOSED: the same without paid
 
 unfoldable pub has_fee_texts : Row → Bool
 has_fee_texts row = is_id (field 0 row) && is_id (field 1 row)

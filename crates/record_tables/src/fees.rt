@@ -76,7 +76,7 @@ pub(crate) fn insert_fee(
     records.put(alloc, Key::Fee(said.id.clone()?), told)
 }
 
-/// The rule that an open fee breaks whatever the records are: something of it is still to be paid, and no line makes one of its id.
+/// The rule that an open fee breaks whatever the records are: a rest is to be paid, and no line makes a fee with its id.
 fn rule_of_fee(first: Option<u64>, said: &FeeRow) -> Option<BaseRule>
     ensures { result ≡ (if not (nat_lt said.now.fee.paid said.now.fee.amount) then Some rule.Paid else if MadeFees.is_taken first said.now.id then Some rule.Number else None) }
 {

@@ -105,7 +105,7 @@ fn add_item(
     records.put_rising(alloc, Key::Item(id), told)
 }
 
-/// The item of a row, which nobody has and nobody waits for.
+/// The item of a row, without a loan and without holds.
 #[tactic(auto, unfolding(crate::specs::Rules::has_item_texts))]
 fn item_of(alloc: Global, media: MediaType, row: &ByteRecord) -> Result<Item, AllocError>
     requires texts { Rules.has_item_texts (fields_of row.now) ≡ true }

@@ -8,7 +8,7 @@ use Rattle.replay_run.specs.declared.fault.Fault.TheVariants as faults
 use Rattle.replay_run.specs.declared.inputs.Inputs.{Inputs}
 use Rattle.replay_run.specs.declared.inputs.Output.{Output}
 
--- The output is that of one thread, but for the attempts.
+-- The output is that of one thread, except for the attempts.
 abbrev pub IsOutputOver : Accepted → Output → Type 0
 IsOutputOver j o = (tried : List ℕ) × IsOutputBy j.plan j.lines tried o
 
@@ -19,7 +19,7 @@ MayFail faults.ClockSpent = Unit {0}
 MayFail faults.Memory = Unit {0}
 MayFail _ = ⊥
 
--- what workers make of a plan
+-- what workers return for a plan
 abbrev pub IsMade : Accepted → Result Output Fault → Type 0
 IsMade j (Ok o) = IsOutputOver j o
 IsMade j (Err fault) = MayFail fault

@@ -1,4 +1,4 @@
--- What a run has to begin with, beside the judgement of its inputs.
+-- What a run begins with, and the judgement of its inputs.
 use Rattle.std.specs.Prelude.{◌≡◌, Result, Ok, Err}
 use Rattle.circ_records.specs.Coherent.{Coherent, number_before}
 use Rattle.journal_table.specs.Entry.{first_number}

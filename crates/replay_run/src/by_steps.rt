@@ -33,7 +33,7 @@ pub enum Run {
 /// The output of one thread, where the steps of 1 to 64 workers commit every line of the journal; its attempts are those
 /// that were committed. Else how many lines they commit. The faults: first the number of workers, then those of the inputs,
 /// then the first step that is refused, since the attempts or the clock are spent. `Look` takes the key that its line needs
-/// next, `Publish` the version that its notes give.
+/// next, `Publish` the version that its notes determine.
 pub fn rebuild_by_steps<R: Wait>(
     rt: &R,
     alloc: Global,

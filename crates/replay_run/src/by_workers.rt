@@ -175,7 +175,7 @@ fn collect_parallel<J: PlanName + 'static, R: Threads + Sync>(
 {
     let _plan = finished.plan();
     let outcome = collect(alloc, &finished)?;
-    // its memory is needed for the texts
+    // the board's memory is needed for the texts
     drop(finished);
     output_parallel(rt, alloc, plan, journal, outcome)
 }
@@ -200,7 +200,7 @@ fn output_parallel<R: Threads + Sync>(
         attempts,
     } = outcome;
     let tables = write_records(alloc, records.as_records())?;
-    // their memory is needed for the texts
+    // the records' memory is needed for the texts
     drop(records);
     let rest = Outcome {
         records: LastRecords::collected(Records::from_map(alloc, RecordMap::new(alloc))?),

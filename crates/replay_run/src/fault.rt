@@ -1,4 +1,4 @@
-//! Why a run gives no output.
+//! Why a run has no output.
 
 ghost use Rattle.std.specs.Prelude.{◌≡◌, Some};
 ghost use Rattle.replay_run.specs.Faults.{base_fault, board_fault, fault_number, fault_text, journal_fault, policy_fault};
@@ -12,7 +12,7 @@ use speculate::BoardFault;
 use std::alloc::AllocError;
 use std::fmt;
 
-/// Why a run gives no output, in the order in which the inputs are judged. `Display` prints the text that the program
+/// Why a run has no output, in the order in which the inputs are judged. `Display` prints the text that the program
 /// prints after the fault's number.
 #[derive(Drop)]
 pub enum Fault {
@@ -24,7 +24,7 @@ pub enum Fault {
     PolicyRule {
         key: String,
     },
-    /// The first table whose rows are not all of one length, or whose header is missing or another.
+    /// The first table whose rows don't all have the same number of fields, or whose header is missing or another.
     BaseTable {
         table: TableName,
     },
@@ -34,7 +34,7 @@ pub enum Fault {
         row: usize,
         rule: BaseRule,
     },
-    /// The journal's rows are not all of one length, or its header is missing or another.
+    /// The journal's rows don't all have the same number of fields, or its header is missing or another.
     JournalTable,
     /// The first rule that the journal breaks, in a row counted from 1 after the header.
     JournalRule {

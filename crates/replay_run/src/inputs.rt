@@ -1,9 +1,9 @@
-//! What a run is given, and what it gives.
+//! The inputs and the output of a run.
 
 use record_tables::Tables;
 use result_report::Sizes;
 
-/// What a run is given, as the bytes of its files.
+/// The inputs of a run, as the bytes of its files.
 pub struct Inputs {
     pub policy: Vec<u8>,
     pub tables: Tables,
@@ -20,8 +20,8 @@ impl Drop for Inputs {
     }
 }
 
-/// What a run gives: the tables after the last line and the result tables, as the bytes of their files, the numbers of
-/// rows, and of each line the number of the attempt whose answer counts, from 0.
+/// The output of a run: the tables after the last line and the result tables, as the bytes of their files, the numbers
+/// of rows, and of each line the number of the attempt whose answer counts, from 0.
 pub struct Output {
     pub tables: Tables,
     pub answers: Vec<u8>,

@@ -65,7 +65,7 @@ fn judge_base<'i>(
     }
 }
 
-/// The fault of the base beside a refused journal, or that of the journal.
+/// The fault where the journal is refused: that of the base, if it has one, else that of the journal.
 fn refuse_journal(alloc: Global, policy: &Policy, tables: &Tables, refused: JournalError) -> Fault
     ensures { Fails result (with_base policy.now (Err refused) (base_of policy.now (texts_of tables.now) None)) }
 {

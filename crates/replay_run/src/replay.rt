@@ -58,7 +58,7 @@ fn pass<G: Gate>(gate: &G, line: u64) {
 }
 
 /// Takes the line of a number on the records as they are, and puts its answer, where it has one, after the others, which have the capacity for it.
-/// Where memory runs out no clause speaks of them: the replay drops them all then.
+/// If memory runs out, no clause speaks of the answers: the replay then drops them all.
 fn take_line(
     alloc: Global,
     plan: &Plan,

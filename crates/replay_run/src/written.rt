@@ -11,7 +11,7 @@ use std::marker::Model;
 #[derive(Drop)]
 pub struct WrittenKeys {
     keys: Vec<Key>,
-    /// Of each line, which of the keys are its own.
+    /// For each line, which of the keys are those that it wrote.
     spans: Vec<Span>,
 }
 
@@ -36,7 +36,7 @@ impl Model for WrittenKeys {
 }
 
 impl WrittenKeys {
-    /// Of no line, with capacity for this number of lines.
+    /// No lines yet, with capacity for this number of lines.
     pub fn with_room(alloc: Global, lines: usize) -> Result<WrittenKeys, AllocError>
         ensures { IfOk result (λ w. w ≡ []) }
     {
@@ -46,7 +46,7 @@ impl WrittenKeys {
         })
     }
 
-    /// One line more, which writes these records.
+    /// Adds a line, which wrote these records.
     pub fn add(&mut self, writes: &[(Key, Record)]) -> Result<(), AllocError>
         ensures { OnOk result (self.new ≡ self.old ++ map (λ w. w.0) writes.now ∷ []) }
     {
@@ -72,7 +72,7 @@ impl WrittenKeys {
     }
 }
 
-/// Puts the keys of records after others.
+/// Appends the keys of records to a list of keys.
 fn put_keys(keys: &mut Vec<Key>, records: &[(Key, Record)]) -> Result<(), AllocError>
     ensures put { OnOk result (keys.new.items ≡ keys.old.items ++ map (λ w. w.0) records.now) }
     ensures behind { (more : List Key) × (keys.new.items ≡ keys.old.items ++ more) }

@@ -54,7 +54,7 @@ pub trait End<'e> {
     fn final_of(&self, key: &Key) -> Option<&Record>
         ensures { option_copied result ≡ left self.now key.now };
 
-    /// All of them, where the end already has a map of them: those at the keys of the plan and of what the lines wrote.
+    /// All last records, where the end already has a map of them: those at the keys of the plan and of what the lines wrote.
     fn records(&self) -> Option<&'e Records>
         ensures { IfSome result (λ r. AreRecordsAt (named_keys (planned self.now) (entered self.now)) (left self.now) r.now) };
 }

@@ -54,7 +54,7 @@ pub fn report(
     tell(alloc, lines, plan, answers, 0, lines.len())?.finish()
 }
 
-/// This many stretches are written in parallel and then joined: enough for all cores, and their texts are small beside the whole.
+/// This many stretches are written in parallel and then joined: enough for all cores, and their texts are small in comparison.
 const BATCH: usize = 16;
 
 /// The same, written by as many threads as there are processors, a stretch of lines at a time.

@@ -7,7 +7,7 @@ use Rattle.run_stops.specs.declared.stop.InputName.{InputName}
 use Rattle.run_stops.specs.declared.stop.RunError.{RunError}
 use Rattle.run_stops.specs.declared.stop.RunError.TheVariants as stops
 
--- A file that fails is named by its path, with the reason that it gave, or memory ran out.
+-- A file that fails is named by its path, with the reason of the failure, or memory ran out.
 abbrev pub MayTell : List ℕ → Failure → RunError → Type 0
 MayTell path failure (stops.File told why) = (string_bytes told ≡ path) × (why ≡ failure)
 MayTell path failure (stops.Fault faults.Memory) = Unit {0}

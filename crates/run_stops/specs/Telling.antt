@@ -125,7 +125,7 @@ remedy_of o (stops.File path failure) = string_bytes path ++ (codes ": " ++ (rea
 remedy_of o (stops.NoFolder path folder) = codes "no folder '" ++ (string_bytes folder ++ codes "'. Make it, or name the one that is meant.\n")
 remedy_of o stops.Output = []
 
--- what is printed: the line, and after it what to do just where that is asked for
+-- what is printed: the line, and after it what to do if that is asked for
 abbrev pub stop_text : RunError → Option Options → List ℕ
 stop_text stop None = line_of stop
 stop_text stop (Some options) = line_of stop ++ remedy_of options stop

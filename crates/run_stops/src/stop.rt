@@ -49,7 +49,7 @@ impl fmt::Display for InputName {
 /// Why a run ends before its last line is printed.
 #[derive(Drop)]
 pub enum RunError {
-    /// The replay gave no output.
+    /// The replay returned a fault.
     Fault(Fault),
     /// The same, and what is seen in the text that this fault is about.
     Seen { fault: Fault, seen: FaultDetail },

@@ -75,7 +75,7 @@ PartsFit (answers.FeePaid a) = IsDate a.date
 PartsFit (answers.RenewAll a) = IsDate a.date
 PartsFit answers.Resend = Unit {0}
 
--- An answer's own text agrees with it, with a sequence digit or without one, where no id or text of it holds a bar, CR or LF
+-- An answer's own text agrees with it, with a sequence digit or without one, where its ids and texts have no bar, CR or LF
 -- (the profile of this project).
 abbrev pub OwnTextAgrees : Type 0
 OwnTextAgrees =

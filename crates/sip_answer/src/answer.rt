@@ -1,4 +1,4 @@
-//! What is answered: for each kind of response all that is written of it.
+//! Answers: for each kind of response all that is written.
 //!
 //! Fields are in memory in their order here, and the answer of each line is stored to the end of a run: so the small ones come
 //! first, together, where none leaves a gap before the next.

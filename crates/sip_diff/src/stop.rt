@@ -19,7 +19,7 @@ pub enum DiffError {
     NoText,
     /// The words of the command line or a table are refused: what is printed of them.
     Refused(String),
-    /// A file can't be read: what is printed of it.
+    /// A file can't be read: the text that is printed.
     File(String),
     /// Standard output takes nothing more.
     Output,
@@ -38,7 +38,7 @@ impl<T: Drop> From<AllocFailed<T>> for DiffError {
 }
 
 impl DiffError {
-    /// The stop of words that the system gave with an error.
+    /// The stop where the system passes words with an error.
     pub fn of_words(error: &io::Error) -> DiffError {
         if error.kind() == io::ErrorKind::OutOfMemory {
             DiffError::Memory

@@ -1,4 +1,4 @@
-//! The forms of the six tables: what makes the name of a row, and what of it is compared.
+//! The forms of the six tables: what makes the name of a row, and which columns are compared.
 
 /// Where a row has a value.
 pub enum ValueSource {

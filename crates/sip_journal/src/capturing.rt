@@ -88,7 +88,7 @@ impl Capturing {
         }
     }
 
-    /// Nothing more comes of a connection: hands on what waits for its end, and lets go of it.
+    /// Nothing more comes of a connection: hands on what waits for its end, and forgets the connection.
     fn finish(&mut self, ends: &Ends, reading: &mut JournalReader<'_>) -> Result<(), MakingError> {
         if let Some(connection) = self.connections.get_mut(ends) {
             connection.first.close()?;
@@ -156,7 +156,7 @@ fn hear(
     Ok(())
 }
 
-/// Looks who is the client, as soon as a message has begun. Where nobody is, nothing is kept of the connection.
+/// Looks who is the client, as soon as a message has begun. Where neither is, the connection is forgotten.
 fn look(alloc: Global, connection: &mut Connection, is_first: bool) -> Result<(), AllocError> {
     if matches!(connection.talk.client, Client::Unknown) {
         let message = without_line_feeds(connection.half(is_first).open());

@@ -41,7 +41,7 @@ pub enum LogLayout {
     Single,
     /// A request, and the response to it if there was one.
     Pair,
-    /// A JSON object of the system's journal, which is read as the line that `journalctl` makes of it.
+    /// A JSON object of the system's journal, which is read as the line that `journalctl` makes from it.
     Json,
 }
 

@@ -33,7 +33,7 @@ pub struct Half {
     end: Option<u64>,
     /// The position after the last byte that came.
     last: u64,
-    /// What was heard of it, and wasn't handed on yet.
+    /// What came on the connection, and wasn't handed on yet.
     pub heard: Vec<Heard>,
 }
 

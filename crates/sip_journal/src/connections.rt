@@ -88,7 +88,7 @@ impl Connection {
         }
     }
 
-    /// Nothing of it is kept, and nothing more is heard of it.
+    /// The connection is forgotten, and nothing more comes on it.
     pub fn leave(&mut self, alloc: Global) {
         self.first = Half::new(alloc);
         self.second = Half::new(alloc);

@@ -29,7 +29,7 @@ pub struct Expressions {
 }
 
 impl Expressions {
-    /// Compiles those of a form; each has one group, but for a mark's.
+    /// Compiles those of a form; each has one group, except a mark's.
     pub fn new(alloc: Global, form: LogForm<'_>) -> Result<Expressions, MakingError> {
         let texts = [
             ("--connection", Some(form.connection.unwrap_or(NO_NAME))),

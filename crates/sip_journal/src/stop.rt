@@ -41,7 +41,7 @@ impl<T: Drop> From<AllocFailed<T>> for MakingError {
 }
 
 impl MakingError {
-    /// The stop of words that the system gave with an error.
+    /// The stop where the system passes words with an error.
     pub fn of_words(error: &io::Error) -> MakingError {
         if error.kind() == io::ErrorKind::OutOfMemory {
             MakingError::Memory

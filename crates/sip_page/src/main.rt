@@ -1,6 +1,6 @@
 //! The program `sip_page`: one page that shows a librarian what a run of `sip_replay` found. `page_run` reads the files and prints the page,
 //! `page_text` writes texts into it, `page_words` has what is said, `one_run` decides which tables are of one run; here is what is gathered
-//! from the texts of the files, and what is shown of it.
+//! from the texts of the files, and what the page shows.
 #![tactic(auto)]
 
 mod changes;

@@ -60,7 +60,7 @@ fn add_both(
     sheet.add_markup("</li>");
 }
 
-/// Adds each field in which the responses agree, but for those that the request has too.
+/// Adds each field in which the responses agree, except those that the request has too.
 fn add_agreeing(sheet: &mut Sheet, case: &Case<'_>) {
     for right in &case.right {
         if agree(other_of(&case.recorded, right), Some(right))

@@ -11,7 +11,7 @@ use command_line::PageOptions;
 use page_run::{Maker, NoPage, PageTexts};
 use std::alloc::Global;
 
-/// What the page says of its build where nobody says it.
+/// What the page says of its build where the caller doesn't say it.
 const UNKNOWN_BUILD: &str = "sip_page; its commit, and whether it is proved, are unknown";
 
 /// Makes pages, as this build.

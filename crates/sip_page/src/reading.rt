@@ -47,7 +47,7 @@ impl LineRows {
         column(&self.report, 2)
     }
 
-    /// A copy of it.
+    /// A copy.
     pub fn copy(&self) -> Result<LineRows, AllocError> {
         Ok(LineRows {
             number: self.number,

@@ -60,7 +60,7 @@ impl PageError {
         }
     }
 
-    /// The same with what is printed of it.
+    /// The same with the text that is printed.
     pub fn told(&self, alloc: Global) -> NoPage {
         let text = match self {
             PageError::Memory => return NoPage::Memory,

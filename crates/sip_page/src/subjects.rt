@@ -159,7 +159,7 @@ pub fn add_items(sheet: &mut Sheet, run: &Gathered) {
     add_subjects(sheet, run, &run.items());
 }
 
-/// Adds each patron or item that wrong responses are about: what changed of it, where that is known, and links to them.
+/// Adds each patron or item that wrong responses are about: what changed of the record, where that is known, and links.
 fn add_subjects(sheet: &mut Sheet, run: &Gathered, list: &SubjectList<'_>) {
     for (id, subject) in list.subjects {
         sheet.add_number(list.place, subject.number);

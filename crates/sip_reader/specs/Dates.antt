@@ -16,7 +16,7 @@ two_at i s = (slice_index s i - byte.zero) * 10 + (slice_index s (i + 1) - byte.
 abbrev pub year_at : List ℕ → ℕ
 year_at s = two_at 0 s * 100 + two_at 2 s
 
--- digits but for the four bytes of the zone, which is any four bytes (the profile of this project)
+-- digits except for the zone, which is any four bytes (the profile of this project)
 abbrev pub has_digits : List ℕ → Bool
 has_digits s = list_all is_ascii_digit (take 8 s) && list_all is_ascii_digit (drop 12 s)
 

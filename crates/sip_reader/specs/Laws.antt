@@ -6,7 +6,7 @@ use Rattle.sip_reader.specs.Bytes as byte
 use Rattle.sip_reader.specs.Fields.{field, pieces}
 use Rattle.sip_reader.specs.declared.amount.TheConstants.{AMOUNT_MAX}
 
--- each amount is read back from what is written of it
+-- each amount is read back from its written text
 abbrev pub AmountsReadBack : Type 0
 AmountsReadBack = (n : ℕ) → n ≤ AMOUNT_MAX → amount_of (amount_text n) ≡ Some n
 

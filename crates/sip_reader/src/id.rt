@@ -24,7 +24,7 @@ pub const ID_MAX: usize = 64;
 /// The greatest number of a line of a journal, of ten digits: the id of a fee that a line makes has the line's number in it.
 pub const LINE_NUMBER_MAX: u64 = 9_999_999_999;
 
-/// The number after it, which no line has.
+/// The number after the greatest, which no line has.
 pub const LINE_NUMBER_END: u64 = 10_000_000_000;
 
 /// The id of a patron, an item or a fee: 1 to 64 bytes without a bar, CR or LF. Ids are ordered by their bytes. Up to 14 bytes are
@@ -51,7 +51,7 @@ impl Model for Id {
 }
 
 impl Id {
-    /// The id of these bytes, where they are one.
+    /// The id that these bytes are; None where they are no id.
     pub fn read(alloc: Global, bytes: &[u8]) -> Result<Option<Id>, AllocError>
         ensures { IfOk result (λ id. id ≡ (if is_id bytes.now then Some bytes.now else None)) }
     {
@@ -61,7 +61,7 @@ impl Id {
         Ok(Some(Id::of_valid(alloc, bytes)?))
     }
 
-    /// The id of bytes that are one.
+    /// The id of bytes that are known to be an id.
     #[tactic(auto, using(crate::proofs::Clean::id_is_text))]
     pub(crate) fn of_valid(alloc: Global, bytes: &[u8]) -> Result<Id, AllocError>
         requires { is_id bytes.now ≡ true }

@@ -79,7 +79,7 @@ impl Inline {
         out.extend_from_slice(self.as_bytes())
     }
 
-    /// How they compare with others, in the order of bytes.
+    /// How these bytes compare with others, in the order of bytes.
     pub fn order(&self, other: &Inline) -> Ordering
         ensures { result ≡ slice_cmp nat_cmp self.now other.now }
     {

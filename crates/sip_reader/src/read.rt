@@ -15,7 +15,7 @@ use std::alloc::{AllocError, Global};
 /// The longest message without the end of its line, in bytes.
 pub const MESSAGE_MAX: usize = 4096;
 
-/// What a message is. Only the ids and texts of a request take memory; the error is that there is none.
+/// What a message is read as. Only the ids and texts of a request take memory; the error says that memory ran out.
 pub fn read_request(alloc: Global, message: &[u8]) -> Result<Reading, AllocError>
     ensures { IfOk result (λ r. r ≡ reading message.now) }
 {

@@ -18,7 +18,7 @@ pub fn write_case<R: Files + AllocGlobal>(
     write_at(rt, place.as_str(), case)
 }
 
-/// Writes a folder beside its place, and gives it its name when it is whole.
+/// Writes a folder under a temporary path, and renames it when it is whole.
 fn write_at<R: Files + AllocGlobal>(rt: &R, place: &str, case: &LineCase) -> Result<(), WhyError> {
     let part = format!(in rt.alloc(); "{place}.part")?;
     let part = part.as_str();

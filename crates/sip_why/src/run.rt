@@ -73,7 +73,7 @@ fn explain<R: Files + AllocGlobal, W: Write, E: Write>(
 #[derive(Clone, Copy)]
 struct Task<'a, 'i> {
     options: &'a WhyOptions,
-    /// The numbers of lines that the words gave.
+    /// The numbers of lines that the words name.
     numbers: &'a [u64],
     inputs: &'a Inputs,
     prepared: &'a Prepared<'i>,

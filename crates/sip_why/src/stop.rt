@@ -23,7 +23,7 @@ pub enum WhyError {
     NoText,
     /// The words of the command line or an input are refused: what is printed of them.
     Refused(String),
-    /// A file can't be read or written: what is printed of it.
+    /// A file can't be read or written: the text that is printed.
     File(String),
     /// Standard output takes nothing more.
     Output,
@@ -42,7 +42,7 @@ impl<T: Drop> From<AllocFailed<T>> for WhyError {
 }
 
 impl WhyError {
-    /// The stop of words that the system gave with an error.
+    /// The stop where the system passes words with an error.
     pub fn of_words(error: &io::Error) -> WhyError {
         if error.kind() == io::ErrorKind::OutOfMemory {
             WhyError::Memory

@@ -1,4 +1,4 @@
--- What a board on which all lines are committed gives beside the replay's answers and records.
+-- What a board on which all lines are committed gives besides the replay's answers and records.
 use Rattle.std.specs.Prelude.{ℕ, ◌-◌, List, map}
 use Rattle.std.specs.FinMap as fin
 use Rattle.circ_records.specs.declared.key.Key.{Key}

@@ -26,16 +26,16 @@ pub record IsDriven (plan : Planned) (b : Board) : Type 0 where
 abbrev pub RunsTo : Planned → Board → Board → Type 0
 RunsTo plan old new = (steps : List (Call × Reply)) × Run plan old steps new
 
--- What may stop it: the clock, just where the board's reply to the next act of publication says so; or being out of memory, where the
--- line runs, or where the publication that is to go on would place an entry. So neither a take, a lifting, the end of a
--- publication, a check nor a commit stops it.
+-- What may stop it: the clock at its end, exactly where the board's reply to the next act of publication says so; or running out of
+-- memory, where the line runs, or where the publication that is to go on would place an entry. So neither a take, a lifting, the end
+-- of a publication, a check nor a commit stops it.
 abbrev pub MayStop : Planned → Board → BoardFault → Type 0
 MayStop plan b (faults.Attempts line) = ⊥
 MayStop plan b faults.ClockSpent = (v : Contents) × IsVersion plan v × Step plan b (Publish 0 v) ClockSpent b
 MayStop plan b faults.Memory = HasRunning b 0 ⊎ WouldPlace plan b 0
 
--- What may stop it on any board: a line has had all its attempts, or the clock is at its end, just where the board's reply to the
--- next step says so; or being out of memory, where a worker's line runs, or where a publication that is to go on would place an entry.
+-- What may stop it on any board: a line has had all its attempts, or the clock is at its end, exactly where the board's reply to the
+-- next step says so; or running out of memory, where a worker's line runs, or where a publication to go on with would place an entry.
 abbrev pub MayHalt : Planned → Board → BoardFault → Type 0
 MayHalt plan b (faults.Attempts line) = (w : ℕ) × Step plan b (Take w line) (Attempts line) b
 MayHalt plan b faults.ClockSpent = (call : Call) × ByVersion plan call × Step plan b call ClockSpent b

@@ -1,4 +1,4 @@
--- Which replies stop what a worker does.
+-- Which replies refuse a step, so that the worker has to end.
 use Rattle.std.specs.Prelude.{Result, Ok, Err}
 use Rattle.board_lines.specs.declared.reply.Reply.{Reply}
 use Rattle.board_lines.specs.declared.reply.Reply.TheVariants as replies

@@ -1,5 +1,5 @@
--- Which lines wait, which need a check, and whose stamp counts: four sets of positions, and what they say of a board (the board:
--- the choice of a free worker).
+-- Which lines wait, which need a check, and whose stamp is valid: four sets of positions, and what they say of a board (the
+-- board: the choice of a free worker).
 use Rattle.std.specs.Prelude.{◌≡◌, ◌≢◌, ℕ, ◌-◌, ◌<◌, ◌≤◌, ◌⊎◌, Bool, true, false, ◌||◌, List, length, replicate, slice_index_or, Some, None}
 use Rattle.board_steps.specs.Board.{State, Row, Board, IsLine, row_at}
 use Rattle.board_steps.specs.Board.State.{Waiting, Running, Placing, Done, Checking, Committed}
@@ -75,12 +75,12 @@ pub record IsPosition (ready : Ready) (position : ℕ) : Type 0 where
 abbrev pub IsStill : (ℕ → Row) → ℕ → ℕ → Type 0
 IsStill rows n t = (m : ℕ) → m < n → (rows m).changed ≤ t
 
--- some line below has
+-- some line below has changed since a stamp
 abbrev pub HasTurned : (ℕ → Row) → ℕ → ℕ → Type 0
 HasTurned rows n t = (m : ℕ) × (m < n) × (t < (rows m).changed)
 
--- The mark of a line by its state: a line that is done is checked while its stamp counts, else unchecked; one that is being
--- checked has its mark while the stamp of the check counts.
+-- The mark of a line by its state: a line that is done is checked while its stamp is valid, else unchecked; a line that is being
+-- checked has the mark of that while the stamp of the check is valid.
 abbrev pub Fits : (ℕ → Row) → ℕ → State → Mark → Type 0
 Fits rows n Waiting mark = mark ≡ marks.Waiting
 Fits rows n (Running worker notes) mark = mark ≡ marks.Nowhere
@@ -120,13 +120,13 @@ lost marks.Unchecked = marks.Unchecked
 lost marks.Checked = marks.Unchecked
 lost marks.Checking = marks.Nowhere
 
--- the stamps of the lines above a position count no more
+-- the stamps of the lines above a position are no longer valid
 pub record Loses (old new : Ready) (position : ℕ) : Type 0 where
   pub above : (q : ℕ) (mark : Mark) → position < q → IsMarked old q mark → IsMarked new q (lost mark)
   pub rest : (q : ℕ) (mark : Mark) → q ≤ position → IsMarked old q mark → IsMarked new q mark
   pub same : AreAsLong old new
 
--- the mark of a line whose check is over: whether the stamp of the check counts
+-- the mark of a line whose check is over, by whether the stamp of the check is valid
 abbrev pub ended : Bool → Mark
 ended true = marks.Checked
 ended false = marks.Unchecked

@@ -12,7 +12,7 @@ use Rattle.board_lines.specs.Hands.{HasNoLine, IsHand}
 use Rattle.board_lines.specs.declared.hand.Hand.{Hand}
 use Rattle.speculate.specs.Playing.{HasRunning, HasVersion, Publishes, ToPublish, Wants}
 
--- the worker has no line in hand, or one that doesn't run: a part of it is published, or it is being checked
+-- the worker has no line in hand, or one that doesn't run: it is published in part, or is being checked
 abbrev pub HasNoneRunning : Board → ℕ → Type 0
 HasNoneRunning b w = HasNoLine b w ⊎ ((h : Hand) × IsHand b w (Some h) × (HasRunning b w → ⊥))
 
@@ -21,13 +21,13 @@ abbrev pub IsRunning : Board → ℕ → Option Hand → Type 0
 IsRunning b w None = HasNoneRunning b w
 IsRunning b w (Some h) = IsHand b w (Some h) × HasRunning b w
 
--- the key for which its rule asks, or its version; nothing where none runs
+-- the key for which the line's rule asks, or the line's version; nothing where no line runs
 abbrev pub IsNext : {J : Type 0} → Planned → Board → ℕ → Option (Need J) → Type 0
 IsNext plan b w None = HasNoneRunning b w
 IsNext plan b w (Some (needs.Key k)) = HasRunning b w × Wants plan b w k
 IsNext plan b w (Some (needs.Done v)) = HasRunning b w × HasVersion plan b w v
 
--- a version that is needed settles
+-- a version that is needed is determined by its notes
 abbrev pub SettlesIfDone : {J : Type 0} → Planned → Need J → Type 0
 SettlesIfDone plan (needs.Key k) = Unit {0}
 SettlesIfDone plan (needs.Done v) = IsVersion plan v

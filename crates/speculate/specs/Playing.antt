@@ -28,7 +28,7 @@ pub record InHand (b : Board) (w n a : ℕ) (notes : List Note) : Type 0 where
   pub attempt : suc a ≡ (row_at b n).next
   pub noted : notes_of (row_at b n).state ≡ notes
 
--- how far the rule of line n comes on what is noted for it (the order of asking)
+-- how far the rule of line n gets with what is noted for it (the order of asking)
 abbrev pub stands_at : Planned → ℕ → List Note → Outcome Effect
 stands_at plan n notes = follow (noted notes) (rule_at plan n)
 
@@ -37,7 +37,7 @@ abbrev pub Wants : Planned → Board → ℕ → Key → Type 0
 Wants plan b w k =
     (n : ℕ) × (a : ℕ) × (notes : List Note) × InHand b w n a notes × (stands_at plan n notes ≡ AsksFor k) × Wanted plan n (noted notes) k
 
--- The version of the line in hand: its number, its attempt, its notes, and what its rule results in on them. So it settles.
+-- The version of the line in hand: its number, its attempt, its notes, and what its rule results in on these. So the notes determine it.
 abbrev pub HasVersion : Planned → Board → ℕ → Contents → Type 0
 HasVersion plan b w v =
     (n : ℕ) × (a : ℕ) × (notes : List Note) × InHand b w n a notes
@@ -48,7 +48,7 @@ HasVersion plan b w v =
 abbrev pub HasLast : Board → ℕ → Contents → Type 0
 HasLast b w v = (n : ℕ) × (notes : List Note) × ((row_at b n).state ≡ Placing w notes (Some v))
 
--- what a publication goes on with, or begins with
+-- the version that a publication continues, or begins with
 abbrev pub ToPublish : Planned → Board → ℕ → Contents → Type 0
 ToPublish plan b w v = HasLast b w v ⊎ (((u : Contents) → HasLast b w u → ⊥) × HasVersion plan b w v)
 
@@ -62,7 +62,7 @@ Looks plan old w reply new =
     ((k : Key) × Wants plan old w k × Step plan old (Look w k) reply new)
     ⊎ ((HasNoLine old w ⊎ ((v : Contents) × HasVersion plan old w v)) × (reply ≡ Idle) × (new ≡ old))
 
--- A publication: of the version of the last act, else of the one that the line in hand has. It is idle where there is nothing to publish.
+-- A publication: of the version of the last act, else of the version of the line in hand. It is idle where there is nothing to publish.
 abbrev pub Publishes : Planned → Board → ℕ → Reply → Board → Type 0
 Publishes plan old w reply new =
     ((v : Contents) × ToPublish plan old w v × IsVersion plan v × Step plan old (Publish w v) reply new)
@@ -91,7 +91,7 @@ abbrev pub Plays : Planned → Board → List WorkerStep → Board → Type 0
 Plays plan old [] new = new ≡ old
 Plays plan old (step ∷ more) new = (mid : Board) × Goes plan old step mid × Plays plan mid more new
 
--- the worker's line runs: what it needs is asked and noted, and nothing of it is published yet
+-- the worker's line runs: what it needs is asked and noted, and nothing is published yet
 abbrev pub HasRunning : Board → ℕ → Type 0
 HasRunning b w = (n : ℕ) × (notes : List Note) × ((row_at b n).state ≡ Running w notes)
 
@@ -99,9 +99,9 @@ HasRunning b w = (n : ℕ) × (notes : List Note) × ((row_at b n).state ≡ Run
 abbrev pub WouldPlace : Planned → Board → ℕ → Type 0
 WouldPlace plan b w = (v : Contents) × HasLast b w v × IsVersion plan v × Grows plan b (Publish w v)
 
--- Where a step can run out of memory: where the worker's line runs, a look and a publication ask what it needs, and to follow its rule
--- over what it has noted takes memory, whatever the rule results in. Nothing else asks: a publication that is to go on takes memory
--- just where it would place an entry, and a step for a line that is published in part or is being checked takes none.
+-- Where a step can run out of memory. Where the worker's line runs, a look and a publication ask what the line needs: following its rule
+-- over its notes takes memory, whatever the rule results in. No other step asks that: a publication that is to go on takes memory
+-- exactly where it would place an entry, and a step for a line that is published in part or is being checked takes none.
 abbrev pub MayWant : Planned → Board → WorkerStep → Type 0
 MayWant plan b (steps.Look w) = HasRunning b w
 MayWant plan b (steps.Publish w) = HasRunning b w ⊎ WouldPlace plan b w
@@ -109,8 +109,8 @@ MayWant plan b (steps.Take w n) = ⊥
 MayWant plan b (steps.Check w n) = ⊥
 MayWant plan b (steps.Commit n) = ⊥
 
--- A step is refused: it has no attempt left, or no clock, just where the board's reply says so, which leaves the board; or it
--- is out of memory where it can be.
+-- A step is refused: no attempt is left, or the clock is at its end, exactly where the board's reply says so; or it runs out of
+-- memory, where it can.
 abbrev pub Refuses : Planned → Board → WorkerStep → BoardFault → Type 0
 Refuses plan b step (faults.Attempts n) = StepOf plan b step (Attempts n) b
 Refuses plan b step faults.ClockSpent = StepOf plan b step ClockSpent b
@@ -120,7 +120,7 @@ Refuses plan b step faults.Memory = MayWant plan b step
 abbrev pub IsRefused : Planned → Board → WorkerStep → BoardFault → Board → Type 0
 IsRefused plan old step fault new = Refuses plan old step fault × (new ≡ old)
 
--- A list stops: the first steps were done, as many as `halt` says, the next is refused, and the board is the one before it.
+-- A list stops: the first `halt.done` steps were made, the next is refused, and the board is the one before it.
 abbrev pub Halts : Planned → Board → List WorkerStep → Halt → Board → Type 0
 Halts plan old steps halt new =
     Plays plan old (take halt.done steps) new × (step : WorkerStep) × (slice_get steps halt.done ≡ Some step) × Refuses plan new step halt.fault

@@ -24,8 +24,8 @@ use std::alloc::{AllocError, Global};
 use std::marker::Model;
 use version_store::Place;
 
-/// The lines of a plan while workers run them, and which of them a free worker chooses. Each call is one step of the
-/// board's rules; none looks at more lines than its own and those whose stamps it makes invalid.
+/// The lines of a plan while workers run them, and which of them a free worker chooses. Each call is one step of
+/// `board_steps`; it looks only at its own line and at those lines whose stamps it makes invalid.
 pub struct Board<'p, 't, J: PlanName> {
     pub(crate) lines: Lines<'p, 't, J>,
     ready: Ready,
@@ -63,7 +63,7 @@ impl<'p, 't, J: PlanName> Board<'p, 't, J> {
         Board::starting(alloc, plan, workers, 0, 0)
     }
 
-    /// The same, with the number of each line's first attempt and the clock as they are given.
+    /// The same, but each line's first attempt and the clock begin at these numbers, not at 0.
     pub fn starting(
         alloc: Global,
         plan: &'p Plan,
@@ -81,7 +81,7 @@ impl<'p, 't, J: PlanName> Board<'p, 't, J> {
         })
     }
 
-    /// The plan. The contract also gives `Reached`, which holds of every board that steps of its rules lead to.
+    /// The plan. The contract also gives `Reached`, which holds of every board that steps lead to.
     pub fn plan(&self) -> &'p Plan
         ensures plan { result.now ≡ J.plan }
         ensures reached { Reached J.plan self.now }
@@ -120,7 +120,7 @@ impl<'p, 't, J: PlanName> Board<'p, 't, J> {
         }
     }
 
-    /// One act of publishing the version at a place for the worker's line.
+    /// One act of the publication, for the worker's line, of the version at a place.
     pub fn publish(&mut self, worker: u32, place: Place<'t, J>) -> Reply<'t, J>
         ensures { Answers J.plan self.old (Publish worker (contents_at place.entry)) result self.new }
     {
@@ -146,8 +146,8 @@ impl<'p, 't, J: PlanName> Board<'p, 't, J> {
         }
     }
 
-    /// Goes on with the publication that the worker's line is in: one act of publishing the version of the last act. It
-    /// compares no note again, and looks at no write that is placed. None, and no change, where that line is in none.
+    /// One more act of the publication that the worker's line is in, of the same version as the last act. Compares no
+    /// note again, and looks at no write that is placed. None, and no change, where the line isn't being published.
     pub fn publish_more(&mut self, worker: u32) -> Option<Reply<'t, J>>
         ensures { PublishesMore J.plan self.old worker result self.new }
     {
@@ -176,7 +176,7 @@ impl<'p, 't, J: PlanName> Board<'p, 't, J> {
         }
     }
 
-    /// Begins to check a line that is done, or goes on with it, by one noted name.
+    /// Begins or continues the check of a line that is done, and compares one noted name.
     pub fn check(&mut self, worker: u32, line: u64) -> Reply<'t, J>
         ensures { Answers J.plan self.old (Check worker line) result self.new }
     {
@@ -203,7 +203,7 @@ impl<'p, 't, J: PlanName> Board<'p, 't, J> {
         }
     }
 
-    /// Commits the next line, where no line below has changed since its stamp. It looks at no read.
+    /// Commits the next line, where no entry of an earlier line has changed since the line's stamp. Compares no notes.
     pub fn commit(&mut self, line: u64) -> Reply<'t, J>
         ensures { Answers J.plan self.old (Commit line) result self.new }
     {
@@ -231,21 +231,21 @@ impl<'p, 't, J: PlanName> Board<'p, 't, J> {
         self.lines.notes(worker)
     }
 
-    /// The place of the last act of publication of the worker's line in hand, where that line is in publication.
+    /// The place of the version that the worker's line in hand is publishing, if it has begun to.
     pub fn placing(&self, worker: u32) -> Option<Place<'t, J>>
         ensures { IsPlacing self.now worker (option_map contents_at result) }
     {
         self.lines.placing(worker)
     }
 
-    /// How often lines were taken, and what became of it.
+    /// How many attempts were begun, how many of them failed, stopped or were committed, and how many are unfinished.
     pub fn counts(&self) -> Counts
         ensures { AreCounts self.now result }
     {
         self.lines.counts()
     }
 
-    /// How many workers the board was made for: they count from 0. Whoever has a line in hand is one of them.
+    /// How many workers the board was made for. They are numbered from 0, and only these have a line in hand.
     pub fn workers(&self) -> usize
         ensures count { result ≡ self.now.workers }
         ensures some { (1 ≤ result) × (result ≤ WORKERS_MAX) }
@@ -261,15 +261,15 @@ impl<'p, 't, J: PlanName> Board<'p, 't, J> {
         self.counts().commits
     }
 
-    /// How often entries have changed, counted from where the board began.
+    /// The clock: its first value, and 1 more for each change of an entry.
     pub fn clock(&self) -> u64
         ensures { result ≡ self.now.clock }
     {
         self.lines.clock()
     }
 
-    /// The choice of a free worker: it commits the least line that isn't committed where that may commit; else checks the
-    /// least line that is done and whose last check is missing or counts no longer; else takes the least line that waits.
+    /// The choice of a free worker: to commit the least uncommitted line, if it can commit; else to check the least line
+    /// that is done and has no check, or none that is still valid; else to take the least line that waits.
     pub fn choose(&self) -> Choice
         ensures { IsChoice self.now (chosen result) }
     {
@@ -278,7 +278,7 @@ impl<'p, 't, J: PlanName> Board<'p, 't, J> {
         if committed >= lines_of(plan) as u64 {
             return Choice::End;
         }
-        // the committed lines come first: none of them is in a set
+        // the committed lines are the first ones, and in none of the sets
         let next = committed as usize;
         if self.ready.checked.has(next) {
             return Choice::Commit(plan.first() + committed);
@@ -292,7 +292,7 @@ impl<'p, 't, J: PlanName> Board<'p, 't, J> {
         Choice::Nothing
     }
 
-    /// Does the call that the choice of a free worker names, for this worker; none where it names none.
+    /// Makes the choice of a free worker, and the call that it names, for this worker; no call where it names none.
     pub fn begin(&mut self, worker: u32) -> (Choice, Option<Reply<'t, J>>)
         ensures choice { IsChoice self.old (chosen result.0) }
         ensures call { Begins J.plan self.old worker result.0 result.1 self.new }

@@ -3,13 +3,13 @@
 /// The choice of a free worker.
 #[derive(Clone, Copy, PartialEq, Eq)]
 pub enum Choice {
-    /// The least line that isn't committed may commit.
+    /// Commit this line, the least uncommitted one.
     Commit(u64),
-    /// The least line that is done and whose last check is missing or counts no longer.
+    /// Check this line, the least that is done and has no valid check.
     Check(u64),
-    /// The least line that waits.
+    /// Take this line, the least that waits.
     Take(u64),
-    /// There is nothing to do until another worker's line comes on.
+    /// Nothing to do until the line of another worker has made progress.
     Nothing,
     /// All lines are committed.
     End,

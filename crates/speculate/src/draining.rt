@@ -16,7 +16,7 @@ use std::alloc::{AllocError, Global};
 use std::sync::Wait;
 use version_store::VersionTable;
 
-/// Goes on with what each worker has in hand until no worker has a line in hand. A board on which none has is left as it is.
+/// Finishes the line that each worker has in hand, so that no worker has one. If none has one, the board stays as it is.
 pub fn drain<'t, J: PlanName, R: Wait>(
     rt: &R,
     alloc: Global,
@@ -33,12 +33,12 @@ pub fn drain<'t, J: PlanName, R: Wait>(
     for worker in 0..board.workers() {
         end_hand(rt, alloc, table, board, worker as u32)?;
     }
-    // whoever has a line in hand is one of the workers
+    // only the board's workers have lines in hand
     let _workers = board.workers();
     Ok(())
 }
 
-/// Goes on with the worker's line in hand until it has none.
+/// Makes one step after another for the worker's line in hand, until the worker has none.
 fn end_hand<'t, J: PlanName, R: Wait>(
     rt: &R,
     alloc: Global,
@@ -58,7 +58,7 @@ fn end_hand<'t, J: PlanName, R: Wait>(
     }
 }
 
-/// Goes on with the worker's line in hand until the worker has none.
+/// The same for a worker that has this line in hand.
 fn end_line<'t, J: PlanName, R: Wait>(
     rt: &R,
     alloc: Global,
@@ -80,7 +80,7 @@ fn end_line<'t, J: PlanName, R: Wait>(
     }
 }
 
-/// The next step of the worker's line in hand.
+/// Makes the next step of the worker's line in hand.
 fn work_on<'t, J: PlanName, R: Wait>(
     rt: &R,
     alloc: Global,
@@ -123,7 +123,7 @@ fn next_step<J: PlanName>(
     }
 }
 
-/// The step of a worker whose line runs and needs this.
+/// The step of a worker whose line runs and needs this key, or has this version.
 fn step_for<J: PlanName>(worker: u32, need: &Need<J>) -> Step
     ensures { result ≡ step_for worker need.now }
 {

@@ -1,4 +1,4 @@
-//! The lines of a board, one after another in the order of the journal.
+//! Running the lines of a board one after another, in the order of the journal.
 
 ghost use Rattle.std.specs.Prelude.{◌≡◌, ◌+◌, ◌<◌, ◌++◌, ◌∷◌, [], None, suc, IfErr, IfOk, OnErr, OnOk, length, map};
 ghost use Rattle.board_steps.specs.Board.{IsLine, row_at};
@@ -24,8 +24,8 @@ use std::alloc::{AllocError, Global};
 use std::sync::Wait;
 use version_store::{Place, VersionTable};
 
-/// Commits each line that isn't committed, in the order of the journal, and each before the next begins. Worker 0 does it, once what
-/// the workers have in hand is finished. On a new board it runs each line once.
+/// Commits all uncommitted lines in the order of the journal, each before the next begins. First the lines that workers have in hand
+/// are finished; worker 0 does the rest. On a new board each line runs once.
 pub fn drive_in_order<'t, J: PlanName + 'static, R: Wait>(
     rt: &R,
     alloc: Global,
@@ -110,7 +110,7 @@ fn hold_line<'t, J: PlanName + 'static, R: Wait>(
     }
 }
 
-/// Takes the next line, in an attempt of this number. None where the line is done, and all that it has read is as it was.
+/// Takes the next line, and returns the attempt's number. None where the line is done, and all that it has read is as it was.
 fn begin_line<J: PlanName>(
     board: &mut Board<'_, '_, J>,
     line: u64,
@@ -149,7 +149,7 @@ fn retake_line<J: PlanName>(
     take_line(board, line)
 }
 
-/// Takes the next line, in an attempt of this number. None, and no change, where it is done.
+/// Takes the next line, and returns the attempt's number. None, and no change, where the line is done.
 fn take_line<J: PlanName>(
     board: &mut Board<'_, '_, J>,
     line: u64,
@@ -189,7 +189,7 @@ fn recheck_line<J: PlanName>(board: &mut Board<'_, '_, J>, line: u64) -> Result<
     }
 }
 
-/// Runs a line that is taken, in an attempt of this number, and checks it.
+/// Runs a line that was taken in this attempt, and checks it.
 fn run_line<'t, J: PlanName + 'static, R: Wait>(
     rt: &R,
     alloc: Global,
@@ -211,8 +211,8 @@ fn run_line<'t, J: PlanName + 'static, R: Wait>(
     Ok(())
 }
 
-/// Looks at all that a line needs, and returns its version. What the rule will ask for is foreseen, so the rule is followed twice, and not
-/// from its beginning at each look.
+/// Looks at all that a line needs, and returns its version. What the rule will ask for is predicted: so the rule runs twice, and not from
+/// its beginning at each look.
 fn read_line<J: PlanName + 'static>(
     alloc: Global,
     board: &mut Board<'_, '_, J>,
@@ -230,7 +230,7 @@ fn read_line<J: PlanName + 'static>(
     let asked = foreseen(alloc, board, line)?;
     let mut notes = look_at_each(alloc, board, line, asked.as_slice())?;
     'keys: loop {
-        // A usize counts them, so this ends.
+        // A usize counts the notes, so this ends.
         let _count = notes.as_slice().len();
         let next = need(alloc, plan, line, attempt, &notes)?;
         settled_if_done(&next);
@@ -241,8 +241,8 @@ fn read_line<J: PlanName + 'static>(
     }
 }
 
-/// The records for which the rule of a line asks, in its order, as they are past the last line: those that the line will see,
-/// where no later line has an entry. Their names aren't noted. They decide nothing but how often the rule is followed.
+/// The records for which the rule of a line asks, in its order, as they are after the last line: those that the line will see,
+/// if no later line has entries. Their names aren't known. A wrong prediction costs time, and changes no result.
 fn foreseen<J: PlanName + 'static>(
     alloc: Global,
     board: &Board<'_, '_, J>,
@@ -258,7 +258,7 @@ fn foreseen<J: PlanName + 'static>(
     }
 }
 
-/// The records as they are past the last line.
+/// The records as they are after the last line.
 #[derive(Drop)]
 struct PastAll<'b, 'p, 't, J: PlanName> {
     board: &'b Board<'p, 't, J>,
@@ -272,7 +272,7 @@ impl<J: PlanName> Looks for PastAll<'_, '_, '_, J> {
     ) -> Result<Option<(Name, Option<Record>)>, AllocError> {
         let board = self.board;
         let found = copied(board.lines.value_of(key))?;
-        // (a rule doesn't ask whose it is)
+        // (a rule doesn't ask for the name)
         Ok(Some((Name::Base, found)))
     }
 }

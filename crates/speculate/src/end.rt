@@ -24,7 +24,7 @@ impl<'t, J: PlanName> End<'t> for Finished<'_, 't, J> {
         self.board.plan()
     }
 
-    /// That of the replay by one thread. It is in the table of versions, and outlives the board.
+    /// The answer that the replay by one thread gives. It is in the table of versions, and outlives the board.
     fn answer(&self, line: u64) -> Option<&'t Answer> {
         let board = &self.board;
         let _plan = board.plan();
@@ -49,14 +49,14 @@ impl<'t, J: PlanName> End<'t> for Finished<'_, 't, J> {
         board.lines.keys_of(line, i)
     }
 
-    /// That of the replay by one thread.
+    /// The last record that the replay by one thread gives.
     fn final_of(&self, key: &Key) -> Option<&Record> {
         let board = &self.board;
         let _plan = board.plan();
         board.lines.value_of(key)
     }
 
-    /// It has no list of them.
+    /// None: a board has no list of the last records.
     fn records(&self) -> Option<&'t Records> {
         None
     }

@@ -1,4 +1,4 @@
-//! Whether a reply stops what a worker does.
+//! Whether a reply refuses a step, so that the worker has to end.
 
 ghost use Rattle.std.specs.Prelude.{◌≡◌};
 ghost use Rattle.speculate.specs.Ending.{ended_by};
@@ -7,7 +7,7 @@ use crate::steps::BoardFault;
 use board_lines::Reply;
 use read_set::PlanName;
 
-/// Goes on where the step wasn't refused.
+/// An error where the reply refuses the step, else `Ok`.
 pub fn ended<J: PlanName>(reply: Reply<'_, J>) -> Result<(), BoardFault>
     ensures { result ≡ ended_by reply.entry }
 {

@@ -35,7 +35,7 @@ impl<'p, 't, J: PlanName> Model for Finished<'p, 't, J> {
     ghost invariant = { λ f. IsWhole f.board };
 }
 
-/// A board on which a line isn't committed yet, and how many are.
+/// A board on which some line isn't committed, and how many lines are.
 pub struct Open<'p, 't, J: PlanName> {
     pub board: Board<'p, 't, J>,
     pub committed: u64,
@@ -64,8 +64,8 @@ impl<'p, 't, J: PlanName> Open<'p, 't, J> {
 }
 
 impl<'p, 't, J: PlanName> Board<'p, 't, J> {
-    /// The outcome of the replay, where all lines are committed; else the board as it was, with the number of those
-    /// that are.
+    /// The outcome of the replay, where all lines are committed; else the board as it was, with the number of committed
+    /// lines.
     pub fn finish(self) -> Result<Finished<'p, 't, J>, Open<'p, 't, J>>
         ensures finished { IfOk result (λ finished. (finished ≡ self.entry) × IsWhole self.entry) }
         ensures all { IsWhole self.entry → OnErr result ⊥ }
@@ -84,8 +84,8 @@ impl<'p, 't, J: PlanName> Board<'p, 't, J> {
 }
 
 impl<'p, 't, J: PlanName> Finished<'p, 't, J> {
-    /// The plan. The contract also gives `Reached`, which holds of every board that steps of its rules lead to, and that all lines are
-    /// committed.
+    /// The plan. The contract also says that all lines are committed, and gives `Reached`, which holds of every board that steps lead
+    /// to.
     pub fn plan(&self) -> &'p Plan
         ensures plan { result.now ≡ J.plan }
         ensures reached { Reached J.plan self.now }

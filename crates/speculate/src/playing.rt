@@ -18,8 +18,8 @@ use std::alloc::{AllocError, Global};
 use std::sync::Wait;
 use version_store::{Place, VersionTable};
 
-/// Plays steps of workers in their order, up to one that is refused. A list that stopped can be taken up again where it
-/// stopped.
+/// Plays steps of workers in their order, up to the first that is refused. The rest of such a list can be played later
+/// from there.
 pub fn play<'t, J: PlanName, R: Wait>(
     rt: &R,
     alloc: Global,
@@ -38,7 +38,7 @@ pub fn play<'t, J: PlanName, R: Wait>(
     Ok(())
 }
 
-/// One step.
+/// Makes one step.
 pub fn act<'t, J: PlanName, R: Wait>(
     rt: &R,
     alloc: Global,
@@ -128,7 +128,7 @@ fn place_of<'t, J: PlanName, R: Wait>(
     Ok(Some(place))
 }
 
-/// The key that is needed.
+/// The key that the line needs, if it needs one.
 fn key_in<J: PlanName>(next: Option<Need<J>>) -> Option<Key>
     ensures { result ≡ needed_key next }
 {
@@ -138,7 +138,7 @@ fn key_in<J: PlanName>(next: Option<Need<J>>) -> Option<Key>
     }
 }
 
-/// The version that is needed.
+/// The version of the line, if it needs no more keys.
 fn version_in<J: PlanName>(next: Option<Need<J>>) -> Option<Version<J>>
     ensures { result ≡ needed_version next }
 {
@@ -148,7 +148,7 @@ fn version_in<J: PlanName>(next: Option<Need<J>>) -> Option<Version<J>>
     }
 }
 
-/// What the worker's line in hand needs next, where that line runs; else None, and no memory is taken.
+/// What the worker's line in hand needs next, where that line runs; else None, and no memory is allocated.
 pub fn next_need<J: PlanName>(
     alloc: Global,
     board: &Board<'_, '_, J>,
@@ -170,7 +170,7 @@ pub fn next_need<J: PlanName>(
     Ok(Some(next))
 }
 
-/// The worker's line in hand with its attempt, where it runs: no part of it is published yet, and it isn't being checked.
+/// The worker's line in hand with its attempt, where it runs: nothing is published, and it isn't being checked.
 fn running<J: PlanName>(board: &Board<'_, '_, J>, worker: u32) -> Option<Hand>
     ensures { IsRunning board.now worker result }
 {
@@ -187,7 +187,7 @@ fn running<J: PlanName>(board: &Board<'_, '_, J>, worker: u32) -> Option<Hand>
     Some(hand)
 }
 
-/// A version that a line needs settles.
+/// Gives callers `IsVersion` of a version that `need` returned; does nothing.
 pub fn settled_if_done<J: PlanName>(next: &Need<J>)
     ensures { SettlesIfDone J.plan next.now }
 {

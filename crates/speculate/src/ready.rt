@@ -59,7 +59,7 @@ impl Mark {
     }
 }
 
-/// The lines by their marks; a line goes by its position, from 0 on. Nothing but `new` takes memory.
+/// The lines by their marks, as sets of positions from 0 on. Only `new` allocates memory.
 pub struct Ready {
     pub waiting: LineSet,
     pub unchecked: LineSet,
@@ -79,7 +79,7 @@ impl Drop for Ready {
 }
 
 impl Ready {
-    /// This number of lines, at most as many as a journal may have, which all wait.
+    /// This number of lines, at most as many as a journal may have. All wait.
     pub fn new(alloc: Global, len: usize) -> Result<Ready, AllocError>
         requires { len ≤ LINE_LIMIT }
         ensures { IfOk result (λ r. r ≡ all_waiting len) }
@@ -103,8 +103,8 @@ impl Ready {
         put_flag(&mut self.checking, position, mark.is_in_check());
     }
 
-    /// The line at a position has changed: the stamps of the lines above it are no longer valid. Each of these stamps was
-    /// given by a check: so the number of checks bounds the work of all these calls.
+    /// The line at a position has changed: the stamps of later lines are no longer valid. Each of these stamps comes from
+    /// a check, so the number of checks bounds the work of all these calls.
     pub fn lose_above(&mut self, position: usize)
         requires { IsPosition self.old position }
         ensures { Loses self.old self.new position }
@@ -113,7 +113,7 @@ impl Ready {
         lose_checking(&mut self.checking, position + 1);
     }
 
-    /// All notes of a line were compared, in a check that began just now or before.
+    /// All notes of a line were compared, in a check that begins with this call or began earlier.
     pub fn end_check(&mut self, position: usize, begins: bool)
         requires { IsPosition self.old position }
         ensures { Puts self.old self.new position (ended (begins || has_position self.old.checking position)) }
@@ -121,12 +121,12 @@ impl Ready {
         if begins || self.checking.has(position) {
             self.put(position, Mark::Checked);
         } else {
-            // a line below has changed while the check went on
+            // an earlier line has changed during the check
             self.put(position, Mark::Unchecked);
         }
     }
 
-    /// A check of a line failed: it waits again. Where it has entries, its line has changed.
+    /// The check of a line failed: the line waits again. If it has entries (`changes`), these have changed.
     pub fn send_back(&mut self, position: usize, changes: bool)
         requires { IsPosition self.old position }
         ensures { SendsBack self.old self.new position changes }
@@ -138,7 +138,7 @@ impl Ready {
     }
 }
 
-/// Adds a position to a set, or takes it out.
+/// Adds a position to a set, or removes it.
 fn put_flag(set: &mut LineSet, position: usize, flag: bool)
     requires { position < length set.old }
     ensures { set.new ≡ slice_set set.old position flag }
@@ -164,7 +164,7 @@ fn lose_checked(checked: &mut LineSet, unchecked: &mut LineSet, from: usize)
     }
 }
 
-/// The checks that go on at lines from a position on count no more.
+/// The checks that go on at lines from a position on are no longer valid.
 fn lose_checking(checking: &mut LineSet, from: usize)
     ensures { GoesOut checking.old checking.new from }
 {

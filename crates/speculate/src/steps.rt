@@ -5,7 +5,7 @@ ghost use Rattle.speculate.specs.declared.steps.BoardFault.TheVariants.{Memory};
 
 use std::alloc::AllocError;
 
-/// A step of a worker. Workers count from 0, lines go by their numbers.
+/// A step of a worker. Workers are numbered from 0; a line is given by its number in the journal.
 #[derive(Clone, Copy, PartialEq, Eq)]
 pub enum Step {
     /// The worker takes the line.
@@ -27,7 +27,7 @@ pub enum BoardFault {
     Attempts { line: u64 },
     /// The clock is at its end, 18,446,744,073,709,551,615, and the step is a change.
     ClockSpent,
-    /// There was no memory.
+    /// Out of memory.
     Memory,
 }
 

@@ -1,4 +1,4 @@
--- When two sides of a table are the same, but for names that whoever keeps it made.
+-- When two sides of a table are the same, except for names that its keeper made.
 use Rattle.std.specs.Prelude.{◌≡◌, ◌<◌, ◌≤◌, [], ℕ, Bool, List, Some, false, true, length}
 use Rattle.std.specs.List.{AllByRecursion}
 use Rattle.table_diff.specs.Rows.{RowTexts, alone, copies, named, value_at}

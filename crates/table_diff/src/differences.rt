@@ -193,7 +193,7 @@ fn add_row(
     add_one_sided(out, form.table, side, row.name(), text.as_slice())
 }
 
-/// Writes what only one side has: a name, and what is said of it there.
+/// Writes what only one side has: a name, and what that side says.
 fn add_one_sided(
     out: &mut TableText,
     table: &str,

@@ -1,4 +1,4 @@
-//! A row of a table, and what is compared of it.
+//! A row of a table, and which of its values are compared.
 
 ghost use Rattle.std.specs.Prelude.{◌≡◌, ◌++◌, [], IfOk, OnOk, codes, map, get_or};
 ghost use Rattle.csv_table.specs.Text.{bytes_of};
@@ -14,7 +14,7 @@ pub struct TableForm<'a> {
     pub table: &'a str,
     /// The columns that are compared: all but those that make the name of a row.
     pub columns: &'a [&'a str],
-    /// Whether the names are made by whoever keeps the table, as those of fees are: then a row whose name the other side lacks is the
+    /// Whether the names are made by the keeper of the table, as those of fees are: then a row whose name the other side lacks is the
     /// same as one of another name that says the same.
     pub renamed: bool,
 }

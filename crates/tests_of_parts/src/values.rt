@@ -8,7 +8,7 @@ use std::test::Fail;
 
 type Date = (u16, u8, u8);
 
-/// Days beside their numbers.
+/// Days and their numbers.
 const DAYS: [(Date, u32); 5] = [
     ((1900, 1, 1), 4_346_020),
     ((2000, 2, 29), 4_382_603),
@@ -60,7 +60,7 @@ fn stamps(rt: HostRuntime) -> Result<(), Fail> {
     Ok(())
 }
 
-/// Amounts in hundredths beside their texts.
+/// Amounts in hundredths and their texts.
 const AMOUNTS: [(u128, &str); 7] = [
     (0, "0.00"),
     (5, "0.05"),

@@ -1,4 +1,4 @@
-//! What comes out beside what must.
+//! What comes out, compared with what must.
 
 use std::process::Abort;
 

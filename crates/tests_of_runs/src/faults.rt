@@ -63,7 +63,7 @@ fn leave_two<J: PlanName + Send + Sync + 'static, R: Threads + Wait + Sync + All
     assert!(rt; tells_memory(&shared.look(rt, 0, &key)), "look");
     assert!(rt; tells_memory(&shared.publish_more(rt, 0)), "publish_more");
     assert!(rt; tells_memory(&shared.check(rt, 0, 1)), "check");
-    // A line that the journal lacks wants nothing.
+    // A line that the journal lacks needs nothing.
     let Need::Done(version) = need(alloc, plan, 3, 0, &Notes::new(alloc))? else {
         panic!(rt; "a version")
     };

@@ -55,7 +55,7 @@ fn share_board<J: PlanName + 'static, R: Wait + AllocGlobal + Abort>(
     let table: VersionTable<J> = VersionTable::new(alloc)?;
     let mut board = Board::new(alloc, plan, 3)?;
     assert!(rt; play(rt, alloc, &table, &mut board, steps).is_ok(), "play");
-    // A line that the journal lacks wants nothing.
+    // A line that the journal lacks needs nothing.
     let Need::Done(version) = need(alloc, plan, 4, 0, &Notes::new(alloc))? else {
         panic!(rt; "a version")
     };

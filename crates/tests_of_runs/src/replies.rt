@@ -62,7 +62,7 @@ pub(crate) fn tell<J: PlanName>(
     }
 }
 
-/// The word of a reply that has nothing beside it.
+/// The word of a reply that has no value.
 fn word_of<J: PlanName>(reply: &Reply<'_, J>) -> &'static str {
     match reply {
         Reply::Idle => "idle",

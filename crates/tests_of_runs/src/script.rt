@@ -1,4 +1,4 @@
-//! A script of the board: calls of its workers beside their replies.
+//! A script of the board: calls of its workers, with their replies.
 
 ghost use Rattle.std.specs.Prelude.{◌≡◌};
 

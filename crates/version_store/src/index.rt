@@ -13,7 +13,7 @@ use std::collections::BTreeMap;
 const LINES_A_PART: usize = 16;
 
 /// For each key the lines that have an entry there. A key's hash chooses its part, so a look-up mostly goes through few keys. A part is
-/// a tree: whoever chooses ids can put all keys into one part, and a look-up stays short even then.
+/// a tree: chosen ids can put all keys into one part, and a look-up stays short even then.
 pub struct KeyIndex {
     parts: Vec<IndexPart>,
 }

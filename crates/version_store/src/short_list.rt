@@ -1,4 +1,4 @@
-//! Lists most of which are short.
+//! A list type for lists that are mostly short.
 
 ghost use Rattle.std.specs.Prelude.{◌≡◌, ◌<◌, ◌≤◌, [], ◌∷◌, IfOk, OnOk, OnErr, length, slice_index_or, slice_set};
 ghost use Rattle.std.specs.List.{insert, remove};

@@ -35,7 +35,7 @@ faults_of_journal (Err error) = journal_fault error ∷ []
 abbrev pub faults_of : Terms → Texts → Result (List Entry) JournalError → List Fault
 faults_of policy texts journal = map base_fault (broken_rules policy texts (first_read journal)) ++ faults_of_journal journal
 
--- what a run makes of the same: it takes them where there is no fault, and else refuses them for the first one
+-- what a run does with the same: it accepts them where there is no fault, and else refuses them for the first one
 abbrev pub IsRefusedFor : Result Accepted Refused → Option Fault → Type 0
 IsRefusedFor (Ok accepted) first = first ≡ None
 IsRefusedFor (Err (bad_policy refusal)) first = ⊥

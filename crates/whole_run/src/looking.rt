@@ -47,7 +47,7 @@ fn paths_read(alloc: Global, options: &Options) -> Result<Vec<String>, AllocErro
     Ok(vec![in alloc; policy, patrons, items, loans, fees, closed, holds, journal]?)
 }
 
-/// The paths that are written to in a folder: each file's, and the one beside it.
+/// The paths that are written to in a folder: each file's, and its temporary one.
 fn paths_written(alloc: Global, folder: &str) -> Result<Vec<String>, AllocError>
     ensures { IfOk result (λ paths. map string_bytes paths.items ≡ paths_in folder.now) }
 {

@@ -52,7 +52,7 @@ pub fn run<R: AllocGlobal + Threads + Wait + Sync + Clock + Eprint, S: AsStr, O:
     }
 }
 
-/// Reports that the system gave no words, or none that are text, and returns the status.
+/// Reports that the system passed no words, or some that are no text, and returns the status.
 pub fn refuse_words<O: Outside>(outside: &mut O, error: &io::Error) -> u8 {
     if error.kind() == io::ErrorKind::OutOfMemory {
         return RunError::Fault(Fault::Memory).tell(None, outside);

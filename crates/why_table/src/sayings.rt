@@ -61,7 +61,7 @@ fn add_amount(
 }
 
 /// What of a record mattered: of a patron the class, the block, the loans and, where its fees were read, what is owed; of an item its loan, its
-/// queue, its rental, and the due day or the late fee that the line made of them; of a fee its patron, its amount and what is paid of it.
+/// queue, its rental, and the due day or the late fee that the line made of them; of a fee its patron, its amount and what is paid.
 pub fn say(
     alloc: Global,
     asked: &AnsweredLine<'_>,

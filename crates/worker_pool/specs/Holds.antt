@@ -1,4 +1,4 @@
--- What one hold of the lock does and gives (the pool).
+-- What one hold of the lock does and returns (the pool).
 use Rattle.std.specs.Prelude.{◌≡◌, ℕ, Option, Some, None, Result, Ok, Err}
 use Rattle.read_set.specs.Plans.{Planned}
 use Rattle.board_steps.specs.Board.{Board}
@@ -24,12 +24,12 @@ abbrev pub fault_in : {J : Type 0} → Option (Reply J) → Option BoardFault
 fault_in None = None
 fault_in (Some reply) = fault_of reply
 
--- the fault that is left, if there is one; else the reply
+-- the fault that was stored, if there is one; else the reply
 abbrev pub given : {A : Type 0} → A → Option BoardFault → Result A Left
 given reply None = Ok reply
 given reply (Some fault) = Err (record { 0 = fault })
 
--- The board's call is done once. Its reply is given; but the fault for which it refuses the call is left, and given.
+-- The board's call is made once, and its reply returned; but if it refuses the call, the fault is stored and returned.
 pub record Calls {A J : Type 0} (does : Board → A → Board → Type 0) (fault_by : A → Option BoardFault) (old : FusedBoard J) (result : Result A Left) (new : FusedBoard J) : Type 0 where
   pub reply : A
   pub done : does old.board reply new.board
@@ -38,9 +38,9 @@ pub record Calls {A J : Type 0} (does : Board → A → Board → Type 0) (fault
 
 -- A hold of the lock.
 pub record Holds {A J : Type 0} (does : Board → A → Board → Type 0) (fault_by : A → Option BoardFault) (old : FusedBoard J) (result : Result A Left) (new : FusedBoard J) : Type 0 where
-  -- where a fault was left before, nothing changes, and that fault is given
+  -- where a fault was stored before, nothing changes, and that fault is returned
   pub stays : (fault : BoardFault) → old.left ≡ Some fault → (new ≡ old) × (result ≡ Err (record { 0 = fault }))
-  -- else the call is done
+  -- else the call is made
   pub calls : old.left ≡ None → Calls does fault_by old result new
 
 -- the choice of a free worker, and the call that it names

@@ -8,7 +8,7 @@ use read_set::PlanName;
 use speculate::{BoardFault, Choice};
 use std::alloc::AllocError;
 
-/// The first fault that was stored: all workers are to end.
+/// The first fault that was stored. All workers have to end.
 #[derive(Clone, Copy)]
 pub struct Left(pub BoardFault);
 
@@ -33,7 +33,7 @@ pub fn refusal<J: PlanName>(reply: &Reply<'_, J>) -> Option<BoardFault>
     }
 }
 
-/// The same of a reply, if there is one.
+/// The fault for which a reply, if there is one, refuses its call.
 pub fn refusal_in<J: PlanName>(reply: &Option<Reply<'_, J>>) -> Option<BoardFault>
     ensures { result ≡ fault_in reply.now }
 {

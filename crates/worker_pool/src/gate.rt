@@ -1,4 +1,4 @@
-//! What is called after the steps of workers.
+//! A hook that is called after certain steps of workers.
 
 /// What a worker has just done with a line.
 #[derive(Clone, Copy, PartialEq, Eq)]
@@ -7,13 +7,13 @@ pub enum Moment {
     Taken,
     /// The line's version is published.
     Whole,
-    /// All that the line has noted was compared, and nothing has changed.
+    /// All notes of the line were compared, and none has changed.
     Checked,
     /// The line is committed.
     Committed,
 }
 
-/// Is called outside the lock, after a step of a worker. A gate that doesn't return holds its worker, and no other.
+/// A hook, called outside the lock after a step of a worker. While it doesn't return, only its worker waits.
 pub trait Gate {
     fn at(&self, worker: u32, line: u64, moment: Moment);
 }

@@ -1,4 +1,4 @@
-//! What the lock guards, and what is done in one hold of it.
+//! What the lock guards, and what is done while it is held once.
 
 ghost use Rattle.std.specs.Prelude.{◌≡◌};
 ghost use Rattle.std.specs.Option.{unwrap_or};
@@ -15,8 +15,8 @@ use read_set::PlanName;
 use speculate::{Board, BoardFault};
 use version_store::Place;
 
-/// The board, and the first fault that was stored. Each step is one call of the board, and stores the fault for which the board
-/// refuses it; where a fault was stored before, it does nothing and returns that fault.
+/// The board, and the first fault that was stored. Each method is one call of the board; if the board refuses the call, the
+/// fault is stored. Once a fault is stored, a method makes no call, and returns that fault.
 #[derive(Drop)]
 pub struct FusedBoard<'p, 't, J: PlanName> {
     pub board: Board<'p, 't, J>,
@@ -69,7 +69,7 @@ impl<'p, 't, J: PlanName> FusedBoard<'p, 't, J> {
         }
     }
 
-    /// One more act of the publication that the worker's line is in; None, and no change, where it is in none.
+    /// One more act of the publication that the worker's line is in; None, and no change, where the line isn't in one.
     pub fn publish_more(&mut self, worker: u32) -> Result<Option<Reply<'t, J>>, Left>
         ensures { Holds (λ old. PublishesMore J.plan old worker) fault_in self.old result self.new }
     {
@@ -84,7 +84,7 @@ impl<'p, 't, J: PlanName> FusedBoard<'p, 't, J> {
         }
     }
 
-    /// Begins to check a line that is done, or goes on with it, by one noted name.
+    /// Begins or continues the check of a line that is done, and compares one noted name.
     pub fn check(&mut self, worker: u32, line: u64) -> Result<Reply<'t, J>, Left>
         ensures { Holds (λ old. Answers J.plan old (Check worker line)) fault_of self.old result self.new }
     {

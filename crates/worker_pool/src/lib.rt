@@ -1,7 +1,7 @@
 //! The workers: threads that run the lines of a plan over one board under one lock.
 //!
-//! A `SharedBoard` gives its board to one worker at a time, for one call; what a line needs and what it does is worked out
-//! outside the lock, and versions are in a table beside it. It knows no message and no table.
+//! A `SharedBoard` lets one worker at a time make one call of its board. The rules of lines run outside the lock, and the
+//! table of versions is outside it too. This crate knows no message and no csv table.
 #![tactic(auto)]
 
 mod calls;

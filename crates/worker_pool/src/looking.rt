@@ -1,4 +1,4 @@
-//! Looking at the board for what a line needs.
+//! Looking on the board for the records that a line needs.
 
 use crate::calls::Left;
 use crate::shared::SharedBoard;
@@ -8,13 +8,13 @@ use read_set::{Looks, Name, PlanName};
 use std::alloc::{AllocError, Global};
 use std::sync::Wait;
 
-/// Where a worker looks for its line's records: the board, one hold of the lock for each.
+/// Where a worker looks for its line's records: the board, with one hold of the lock for each look.
 #[derive(Drop)]
 pub struct OnBoard<'a, 'p, 't, J: PlanName + 'static, R: Wait> {
     pub rt: &'a R,
     pub shared: &'a SharedBoard<'p, 't, J>,
     pub worker: u32,
-    /// Why nothing more can be seen, if it isn't that the attempt has ended.
+    /// The fault that ended the looking, if it was a fault and not the end of the attempt.
     pub left: Option<Left>,
 }
 

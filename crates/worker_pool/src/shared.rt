@@ -14,17 +14,17 @@ use std::sync::{Mutex, MutexGuard, Wait};
 use std::time::Duration;
 use version_store::{Place, VersionTable};
 
-/// How often a worker tries the lock before it sleeps. A hold is a microsecond or two; to sleep and be woken costs far more, and
+/// How often a worker tries the lock before it sleeps. A hold of the lock is short; to sleep and be woken costs far more, and
 /// delays the publication of the line that the worker has in hand.
 const TRIES: u32 = 1000;
 
 /// How often a free worker tries the lock before it rests. While others keep the lock busy, one more line in hand speeds
-/// nothing up, and who holds the lock last has the board in its core's cache (`bench/threads`).
+/// nothing up, and the worker that held the lock last has the board in its core's cache (`bench/threads`).
 const TRIES_AT_EASE: u32 = 20;
 
-/// A board under a lock, with the plan and the table of the versions beside it. Each of the five steps `begin`, `look`, `publish`,
-/// `publish_more` and `check` is one hold of the lock: one call of the board, with its reply, or, once a fault was stored, no call
-/// and that fault. The two counters touch no board.
+/// A board under a lock, and, outside the lock, the plan and the table of the versions. Each of the five steps `begin`, `look`,
+/// `publish`, `publish_more` and `check` is one hold of the lock: it makes one call of the board and returns its reply; once a fault
+/// was stored, it makes no call and returns that fault. The two counters don't need the board.
 #[derive(Drop)]
 pub struct SharedBoard<'p, 't, J: PlanName> {
     plan: &'p Plan,
@@ -32,7 +32,7 @@ pub struct SharedBoard<'p, 't, J: PlanName> {
     workers: usize,
     /// How many tries at the lock have found it taken.
     vain_tries: AtomicU64,
-    /// 1 once a worker has ended. Who rests sleeps on it.
+    /// 1 once a worker has ended. A worker that rests waits for a change of this.
     ended: AtomicU64,
     held: Mutex<FusedBoard<'p, 't, J>>,
     ghost named: { plan.now ≡ J.plan },
@@ -70,12 +70,12 @@ impl<'p, 't, J: PlanName + 'static> SharedBoard<'p, 't, J> {
         self.workers
     }
 
-    /// How many tries at the lock have found it taken so far, whoever tried.
+    /// How many tries at the lock have found it taken so far, by all workers.
     pub fn vain_tries(&self) -> u64 {
         self.vain_tries.load(Ordering::Relaxed)
     }
 
-    /// Takes the lock where it is free at one of this number of tries.
+    /// Takes the lock, if it is free at one of this number of tries.
     fn try_hold(&self, tries: u32) -> Option<MutexGuard<'_, FusedBoard<'p, 't, J>>> {
         for tried in 0..tries {
             if let Some(held) = self.held.try_lock() {
@@ -97,7 +97,7 @@ impl<'p, 't, J: PlanName + 'static> SharedBoard<'p, 't, J> {
         }
     }
 
-    /// Takes the lock, where it can without sleeping, also while others sleep: `lock` alone sleeps at once where another sleeps.
+    /// Takes the lock, without sleeping if it can. (`lock` alone sleeps at once where another worker sleeps.)
     fn hold<R: Wait>(&self, rt: &R) -> MutexGuard<'_, FusedBoard<'p, 't, J>> {
         match self.try_hold(TRIES) {
             Some(held) => held,
@@ -131,17 +131,17 @@ impl<'p, 't, J: PlanName + 'static> SharedBoard<'p, 't, J> {
         self.hold(rt).publish(worker, place)
     }
 
-    /// One more act of the publication that the worker's line is in; None where it is in none.
+    /// One more act of the publication that the worker's line is in; None where the line isn't in one.
     pub fn publish_more<R: Wait>(&self, rt: &R, worker: u32) -> Result<Option<Reply<'t, J>>, Left> {
         self.hold(rt).publish_more(worker)
     }
 
-    /// Begins to check a line that is done, or goes on with it, by one noted name.
+    /// Begins or continues the check of a line that is done, and compares one noted name.
     pub fn check<R: Wait>(&self, rt: &R, worker: u32, line: u64) -> Result<Reply<'t, J>, Left> {
         self.hold(rt).check(worker, line)
     }
 
-    /// Stores a fault for which all workers are to end, unless one was stored before.
+    /// Stores a fault, unless one was stored before. Then all workers have to end.
     pub fn leave<R: Wait>(&self, rt: &R, fault: BoardFault) {
         self.hold(rt).leave(fault);
     }
@@ -156,7 +156,7 @@ impl<'p, 't, J: PlanName + 'static> SharedBoard<'p, 't, J> {
         self.ended.park_timeout(rt, 0, time);
     }
 
-    /// Wakes all workers that sleep, since one has ended: the others are to end too.
+    /// Wakes all workers that sleep. One has ended, and the others have to end too.
     pub fn end_rests(&self) {
         self.ended.store(1, Ordering::SeqCst);
         self.ended.wake_all();

@@ -21,21 +21,21 @@ use std::thread::Threads;
 use std::time::Duration;
 use version_store::Place;
 
-/// How many microseconds a worker rests before it chooses again where its choice waits for others: as long as some dozens
-/// of lines take. One that comes back at once takes the same line over and over, or one whose records others are still about to
-/// write (`bench/threads`).
+/// How many microseconds a worker rests before it chooses again, where its choice waits for others: as long as some dozens
+/// of lines take. A worker that comes back at once takes the same line over and over, or a line whose records others are still
+/// about to write (`bench/threads`).
 const STAND_BACK: u64 = 800;
 
-/// This number of tries at the lock that found it taken, in one turn of a worker, shows that it is busy. One more line in hand then speeds
+/// The lock is busy if, in one turn of a worker, at least this number of tries found it taken. One more line in hand then speeds
 /// nothing up, and slows the others down: the board goes from one core's cache to another's at each step.
 const BUSY: u64 = 10;
 
-/// How often a worker doubles the time for which it rests while the lock is busy turn after turn: up to a tenth of a second. What
-/// the others do meanwhile is little, and each of their lines takes the board from the first worker's cache.
+/// How often a worker doubles the time for which it rests while the lock is busy turn after turn: up to a tenth of a second. In that
+/// time the other workers get little done, and each of their lines takes the board from the first worker's cache.
 const DOUBLINGS: u32 = 7;
 
-/// How many pauses of the processor, of 5 to 50 nanoseconds each, the first worker rests. It never sleeps, so that a line that
-/// everybody waits for is soon in hand.
+/// For how many pause instructions of the processor (5 to 50 nanoseconds each) the first worker rests. It never sleeps, so that a
+/// line for which all others wait is soon in hand.
 const PAUSES: u32 = 5_000;
 
 /// A line that a worker has in hand.
@@ -63,23 +63,23 @@ enum StepsLeft {
     More,
     /// All is published, or all was compared.
     Whole,
-    /// It has ended, or there is none.
+    /// The publication or check has ended, or there is none.
     Over,
 }
 
 /// How a worker goes on.
 #[derive(Clone, Copy)]
 enum WorkerTurn {
-    /// It chooses again.
+    /// The worker chooses again.
     Next,
-    /// What it might choose now waits for other workers: it lets them go first.
+    /// What the worker might choose now waits for other workers: it lets them go first.
     Yield,
     /// All lines are committed.
     Last,
 }
 
-/// Runs as many workers as the board was made for, until all lines are committed or a fault was stored, which is returned. The
-/// first works in the calling thread; one whose thread can't be made is left out.
+/// Runs as many workers as the board was made for, until all lines are committed or a fault was stored; a fault is returned. The
+/// first worker runs in the calling thread; a worker whose thread can't be made is left out.
 pub fn run_workers<J: PlanName + Send + Sync + 'static, G: Gate + Sync, R: Threads + Wait + Sync>(
     rt: &R,
     alloc: Global,
@@ -163,7 +163,7 @@ fn take_turns<J: PlanName + 'static, G: Gate, R: Wait>(
     unreachable!()
 }
 
-/// Lets other workers go first. To yield alone does nothing where no one else wants the core.
+/// Lets other workers go first. Only to yield does nothing where no other thread wants the core.
 fn stand_back<J: PlanName + 'static, R: Wait>(
     rt: &R,
     shared: &SharedBoard<'_, '_, J>,
@@ -182,7 +182,7 @@ fn stand_back<J: PlanName + 'static, R: Wait>(
 }
 
 /// What a free worker does next: a commit, a check of a line, or an attempt at a line. The first worker waits for the lock; any
-/// other lets those go first that keep it busy.
+/// other lets the workers that keep the lock busy go first.
 fn take_turn<J: PlanName + 'static, G: Gate, R: Wait>(
     rt: &R,
     alloc: Global,
@@ -205,7 +205,7 @@ fn take_turn<J: PlanName + 'static, G: Gate, R: Wait>(
     }
 }
 
-/// Begins what a free worker does next; nothing where others are at the lock, but for the first worker.
+/// Begins what a free worker does next. Workers other than the first begin nothing while the lock is taken.
 fn begin<J: PlanName + 'static, R: Wait>(
     rt: &R,
     shared: &SharedBoard<'_, '_, J>,
@@ -239,7 +239,7 @@ fn duty_of<J: PlanName>(worker: u32, begun: &Result<Begun<'_, J>, Left>) -> Resu
     }
 }
 
-/// How far the publication or the check of the reply has come.
+/// How far a publication or a check has come, by the reply.
 fn course_of<J: PlanName>(reply: &Reply<'_, J>) -> StepsLeft {
     match reply {
         Reply::Placed => StepsLeft::More,
@@ -250,7 +250,7 @@ fn course_of<J: PlanName>(reply: &Reply<'_, J>) -> StepsLeft {
     }
 }
 
-/// The same of what a step gave.
+/// The same by what a step returned.
 fn course_after<J: PlanName>(given: &Result<Reply<'_, J>, Left>) -> Result<StepsLeft, Left> {
     match given {
         Ok(reply) => Ok(course_of(reply)),
@@ -296,8 +296,8 @@ fn run_line<J: PlanName + 'static, G: Gate, R: Wait>(
     publish_line(rt, shared, gate, task, place)
 }
 
-/// Runs the rule of a line over what is looked at on the board, and noted: the place of its version, which has read nothing
-/// but what the rule asks for; None where the attempt has ended.
+/// Runs the rule of a line on what the worker looks at on the board, and notes. Returns the place of the line's version, which
+/// has read only what the rule asks for; None where the attempt has ended.
 fn read_line<'t, J: PlanName + 'static, R: Wait>(
     rt: &R,
     alloc: Global,
@@ -331,7 +331,7 @@ fn read_line<'t, J: PlanName + 'static, R: Wait>(
     }
 }
 
-/// The version that a line's rule gives on these notes.
+/// The version that a line's rule results in on these notes.
 fn version_of<J: PlanName>(task: WorkerTask, notes: Notes, effect: Effect) -> Version<J>
     requires { Settles J.plan task.line notes effect.writes effect.answer }
     ensures { result ≡ record { line = task.line; attempt = task.attempt; reads = notes; writes = effect.writes; answer = effect.answer } }

@@ -1,4 +1,4 @@
--- Ordinary dirt, beside the library day. What comes of each stands in ../../trial (base, run) and in base, run and told.csv here.
+-- Ordinary dirt, besides the library day. What becomes of each row is in ../../trial (base, run) and in base, run and told.csv here.
 BEGIN;
 INSERT INTO permission.grp_tree VALUES (9, 'Seniors'), (10, 'Adult');
 INSERT INTO config.standing_penalty VALUES (5, 'PATRON_EXCEEDS_FINES', 'x', 'CIRC|FULFILL'), (100, 'ALERT_NOTE', 'x', NULL), (101, 'BANNED', 'x', 'CIRC|HOLD');

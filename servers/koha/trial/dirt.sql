@@ -1,4 +1,4 @@
--- Ordinary dirt, beside the library day. What comes of each stands in ../../trial (base, run) and in base, run and told.csv here.
+-- Ordinary dirt, besides the library day. What becomes of each row is in ../../trial (base, run) and in base, run and told.csv here.
 SET NAMES utf8mb4;
 SET SESSION sql_mode = 'NO_BACKSLASH_ESCAPES,STRICT_TRANS_TABLES';
 INSERT INTO categories (categorycode) VALUES ('SENIOR');

@@ -14,7 +14,7 @@ CREATE TABLE items (itemnumber int AUTO_INCREMENT PRIMARY KEY, biblionumber int 
 CREATE TABLE issues (issue_id int AUTO_INCREMENT PRIMARY KEY, borrowernumber int NOT NULL, itemnumber int NOT NULL UNIQUE, date_due datetime, branchcode varchar(10),
     returndate datetime, lastreneweddate datetime, renewals_count tinyint NOT NULL DEFAULT 0, issuedate datetime, note longtext,
     FOREIGN KEY (borrowernumber) REFERENCES borrowers (borrowernumber), FOREIGN KEY (itemnumber) REFERENCES items (itemnumber));
--- its columns stand in another order, as they may after upgrades
+-- its columns are in another order, as they may after upgrades
 CREATE TABLE old_issues (issue_id int PRIMARY KEY, itemnumber int, borrowernumber int, branchcode varchar(10), date_due datetime,
     returndate datetime, issuedate datetime, lastreneweddate datetime, renewals_count tinyint NOT NULL DEFAULT 0, note longtext);
 CREATE TABLE accountlines (accountlines_id int AUTO_INCREMENT PRIMARY KEY, issue_id int, borrowernumber int, itemnumber int, date timestamp NULL,

@@ -40,7 +40,7 @@ none_begins_as_made n fees = list_all (λ id. not (begins_as_made n id)) fees
 abbrev pub with_room : ℕ → Option ℕ
 with_room total = if nat_lt total (2 ^ 128) then Some total else None
 
--- a sum with an amount more: what was unknown stays so; what was known stays known just where the amount is 0, or where the fees of the line are new
+-- a sum with an amount more: what was unknown stays so; what was known stays known only where the amount is 0, or where the fees of the line are new
 -- and the sum fits
 abbrev pub sum_with : Bool → ℕ → Option ℕ → Option ℕ
 sum_with fresh amount None = None

@@ -1,4 +1,4 @@
--- For proofs alone: how open requests are kept: each connection has the position of its open request, counted from 0 over the whole log.
+-- For proofs alone. Open requests are stored in a map from a connection to the position of its open request, from 0 over the whole log.
 use Rattle.std.specs.Prelude.{◌≡◌, ◌+◌, ◌-◌, ◌<◌, ◌≤◌, ◌==◌, ℕ, Bool, false, List, [], ◌∷◌, length, Option, Some, None, get_or, Vec}
 use Rattle.std.specs.BTreeMap.{BTreeMap, get_by}
 use Rattle.std.specs.Cmp.Lexicographic.{slice_cmp}
@@ -11,7 +11,7 @@ abbrev pub is_position : Option ℕ → ℕ → Bool
 is_position None n = false
 is_position (Some i) n = i == n
 
--- the requests from a position on, where each connection has the position of its open one
+-- requests, the first of which has the position n; each is open where its connection's open request has its position
 abbrev pub pending_from : (List ℕ → Option ℕ) → ℕ → List Pair → List Pending
 pending_from position n [] = []
 pending_from position n (p ∷ ps) = record { pair = p; is_open = is_position (position p.connection) n } ∷ pending_from position (n + 1) ps
@@ -23,7 +23,7 @@ position_in m c = get_by (λ k. slice_cmp nat_cmp c k.items) m
 abbrev pub no_pair : Pair
 no_pair = record { connection = []; request = []; response = None }
 
--- a position is that of a request of the connection that waits and has no response
+-- the position is that of a request that waits, is of the connection and has no response
 pub record IsWaiting (n : ℕ) (ps : List Pair) (c : List ℕ) (i : ℕ) : Type 0 where
   pub from : n ≤ i
   pub below : i < n + length ps

@@ -29,7 +29,7 @@ pub record WorksOn (plan : Planned) (old new : Board) (w : ℕ) : Type 0 where
   pub led : RunsTo plan old new
   pub others : (v : ℕ) → v ≢ w → HasNoLine old v → HasNoLine new v
 
--- the worker has no line in hand but this one, and less is left of it
+-- the worker has no other line in hand than this one, which has less work left
 pub record ComesOn (plan : Planned) (old new : Board) (w line : ℕ) : Type 0 where
   pub works : WorksOn plan old new w
   pub mine : (n : ℕ) → holder (row_at new n).state ≡ Some w → n ≡ line

@@ -26,7 +26,7 @@ pub record Waits (plan : Planned) (b : Board) (line : ℕ) : Type 0 where
 abbrev pub IsDone : State → Type 0
 IsDone s = (notes : List Note) × (answer : Option Answer) × (stamp : Option ℕ) × (s ≡ Done notes answer stamp)
 
--- an attempt of it goes on, and what it has noted is so now
+-- an attempt of the line goes on, and what it has noted is so now
 pub record GoesOn (plan : Planned) (b : Board) (line : ℕ) (notes : List Note) : Type 0 where
   pub stands : Stands plan b line
   pub there : IsLine b line
@@ -41,7 +41,7 @@ pub record Reads (plan : Planned) (b : Board) (line : ℕ) (notes : List Note) :
 abbrev pub IsAppearing : State → Contents → Type 0
 IsAppearing s v = (s ≡ Running 0 v.reads) ⊎ (s ≡ Placing 0 v.reads (Some v))
 
--- a version of it is being published
+-- a version of the line is being published
 pub record Appears (plan : Planned) (b : Board) (line : ℕ) (v : Contents) : Type 0 where
   pub goes : GoesOn plan b line v.reads
   pub state : IsAppearing (row_at b line).state v

@@ -80,7 +80,8 @@ fn run<G: Gate + Sync, R: Threads + Wait + Sync>(
     ensures attempts { IfOk result (λ o. length o.attempts.items ≡ length journal.now) }
 {
     if workers == 1 {
-        Ok(run_in_order(rt, alloc, plan, journal, gate)?)
+        let output = run_in_order(rt, alloc, plan, journal, gate)?;
+        Ok(output)
     } else {
         run_named::<Brand, G, R>(rt, alloc, plan, journal, workers, gate)
     }
@@ -177,7 +178,8 @@ fn collect_parallel<J: PlanName + 'static, R: Threads + Sync>(
     let outcome = collect(alloc, &finished)?;
     // the board's memory is needed for the texts
     drop(finished);
-    output_parallel(rt, alloc, plan, journal, outcome)
+    let output = output_parallel(rt, alloc, plan, journal, outcome)?;
+    Ok(output)
 }
 
 /// The output of a run over the plan of a journal that ended with the records and the answers of one thread; the result tables are made by

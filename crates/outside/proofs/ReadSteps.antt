@@ -6,7 +6,7 @@ use Rattle.outside.specs.Files.{in_folder}
 use Rattle.outside.specs.Reading.{AreRead, StopsReading}
 use Rattle.outside.specs.declared.reading.IfMissing.{IfMissing}
 use Rattle.outside.specs.declared.reading.IfMissing.TheVariants.{Fails}
-use Rattle.outside.specs.declared.reading.ReadStop.{ReadStop}
+use Rattle.outside.specs.declared.reading.FileStop.{FileStop}
 
 -- a file of a folder that must be there
 abbrev pub must : List ℕ → List ℕ → List (List ℕ × IfMissing)
@@ -22,7 +22,7 @@ reads_append (x ∷ xs) (t ∷ ts) [] ys us fs h k = absurd h
 reads_append (x ∷ xs) (t ∷ ts) (Read path answer ∷ es) ys us fs (p, a, h) k = (p, a, reads_append xs ts es ys us fs h k)
 reads_append (x ∷ xs) (t ∷ ts) (_ ∷ es) ys us fs h k = absurd h
 
-stops_longer : (xs ys : List (List ℕ × IfMissing)) (stop : ReadStop) (es : List Event) → StopsReading xs stop es → StopsReading (xs ++ ys) stop es
+stops_longer : (xs ys : List (List ℕ × IfMissing)) (stop : FileStop) (es : List Event) → StopsReading xs stop es → StopsReading (xs ++ ys) stop es
 stops_longer xs ys stop [] h = h
 stops_longer [] ys stop (e ∷ es) h = absurd h
 stops_longer (x ∷ xs) ys stop (Read path (Ok bytes) ∷ es) (p, h) = (p, stops_longer xs ys stop es h)
@@ -30,7 +30,7 @@ stops_longer (x ∷ xs) ys stop (Read path (Err failure) ∷ es) (p, inl (l, h))
 stops_longer (x ∷ xs) ys stop (Read path (Err failure) ∷ es) (p, inr h) = (p, inr h)
 stops_longer (x ∷ xs) ys stop (_ ∷ es) h = absurd h
 
-stops_append : (xs : List (List ℕ × IfMissing)) (ts : List (List ℕ)) (es : List Event) (ys : List (List ℕ × IfMissing)) (stop : ReadStop) (fs : List Event)
+stops_append : (xs : List (List ℕ × IfMissing)) (ts : List (List ℕ)) (es : List Event) (ys : List (List ℕ × IfMissing)) (stop : FileStop) (fs : List Event)
     → AreRead xs ts es → StopsReading ys stop fs → StopsReading (xs ++ ys) stop (es ++ fs)
 stops_append [] [] [] ys stop fs h k = k
 stops_append [] [] (e ∷ es) ys stop fs h k = absurd h
@@ -47,12 +47,12 @@ pub more : (xs : List (List ℕ × IfMissing)) (ts : List (List ℕ)) (ys : List
 more xs ts ys us old mid new (es, p, h) (fs, q, k) = (es ++ fs, both es fs old mid new p q, reads_append xs ts es ys us fs h k)
 
 -- a stop at a file of the first ones
-pub here : (xs ys : List (List ℕ × IfMissing)) (stop : ReadStop) (old new : Option (List Event))
+pub here : (xs ys : List (List ℕ × IfMissing)) (stop : FileStop) (old new : Option (List Event))
     → Did (StopsReading xs stop) old new → Did (StopsReading (xs ++ ys) stop) old new
 here xs ys stop old new (es, p, h) = (es, p, stops_longer xs ys stop es h)
 
 -- a stop after files that were read
-pub behind : (xs : List (List ℕ × IfMissing)) (ts : List (List ℕ)) (ys : List (List ℕ × IfMissing)) (stop : ReadStop) (old mid new : Option (List Event))
+pub behind : (xs : List (List ℕ × IfMissing)) (ts : List (List ℕ)) (ys : List (List ℕ × IfMissing)) (stop : FileStop) (old mid new : Option (List Event))
     → Did (AreRead xs ts) old mid → Did (StopsReading ys stop) mid new → Did (StopsReading (xs ++ ys) stop) old new
 behind xs ts ys stop old mid new (es, p, h) (fs, q, k) = (es ++ fs, both es fs old mid new p q, stops_append xs ts es ys stop fs h k)
 

@@ -5,8 +5,8 @@ use Rattle.outside.specs.declared.failure.Failure.{Failure}
 use Rattle.outside.specs.declared.failure.Failure.TheVariants.{Missing}
 use Rattle.outside.specs.declared.reading.IfMissing.{IfMissing}
 use Rattle.outside.specs.declared.reading.IfMissing.TheVariants.{Empty}
-use Rattle.outside.specs.declared.reading.ReadStop.{ReadStop}
-use Rattle.outside.specs.declared.reading.ReadStop.TheVariants as stops
+use Rattle.outside.specs.declared.reading.FileStop.{FileStop}
+use Rattle.outside.specs.declared.reading.FileStop.TheVariants as stops
 
 -- a file that may be missing is
 abbrev pub lacks : IfMissing → Failure → Bool
@@ -25,12 +25,12 @@ AreRead (file ∷ files) (text ∷ texts) (Read path answer ∷ events) = (path 
 AreRead files texts events = ⊥
 
 -- A file that fails is named by its path, with the reason that it gave, or memory ran out.
-abbrev pub MayTell : List ℕ → Failure → ReadStop → Type 0
+abbrev pub MayTell : List ℕ → Failure → FileStop → Type 0
 MayTell path failure (stops.File told why) = (string_bytes told ≡ path) × (why ≡ failure)
 MayTell path failure stops.Memory = Unit {0}
 
 -- Some of them are read, in this order; then one fails and is named, or memory runs out.
-abbrev pub StopsReading : List (List ℕ × IfMissing) → ReadStop → List Event → Type 0
+abbrev pub StopsReading : List (List ℕ × IfMissing) → FileStop → List Event → Type 0
 StopsReading files stop [] = stop ≡ stops.Memory
 StopsReading (file ∷ files) stop (Read path (Ok bytes) ∷ events) = (path ≡ file.0) × StopsReading files stop events
 StopsReading (file ∷ files) stop (Read path (Err failure) ∷ events) = (path ≡ file.0)

@@ -17,6 +17,6 @@ pub use failure::Failure;
 pub use file_id::FileId;
 pub use folders::Folders;
 pub use outside::Outside;
-pub use reading::{IfMissing, ReadStop, read_file, read_in};
+pub use reading::{FileStop, IfMissing, read_file, read_in};
 pub use system::System;
 pub use writing::{Unplaced, Unwritten, file_in_folder, write_files};

@@ -4,7 +4,7 @@ ghost use Rattle.std.specs.Prelude.{◌≡◌, ◌∷◌, [], IfErr, IfOk};
 ghost use Rattle.outside.specs.Events.{Did};
 ghost use Rattle.outside.specs.Files.{in_folder};
 ghost use Rattle.outside.specs.Reading.{AreRead, MayTell, StopsReading, lacks};
-ghost use Rattle.outside.specs.declared.reading.ReadStop.TheVariants as stops;
+ghost use Rattle.outside.specs.declared.reading.FileStop.TheVariants as stops;
 
 use crate::failure::Failure;
 use crate::outside::Outside;
@@ -20,34 +20,34 @@ pub enum IfMissing {
     Empty,
 }
 
-/// Why files aren't read.
+/// Why something can't be done with files or folders.
 #[derive(Drop)]
-pub enum ReadStop {
+pub enum FileStop {
     /// Memory ran out.
     Memory,
-    /// The file of this path can't be read.
+    /// That of this path fails.
     File { path: String, failure: Failure },
 }
 
-impl From<AllocError> for ReadStop {
+impl From<AllocError> for FileStop {
     ghost from_gives = { λ _ stop. stop ≡ stops.Memory };
 
-    fn from(_error: AllocError) -> ReadStop {
-        ReadStop::Memory
+    fn from(_error: AllocError) -> FileStop {
+        FileStop::Memory
     }
 }
 
-impl ReadStop {
-    /// A file that failed. Where memory ran out, that is named and not the file.
-    fn of_file(alloc: Global, failure: Failure, path: &str) -> ReadStop
+impl FileStop {
+    /// The stop of a file that failed. Where memory ran out, that is named and not the file.
+    pub fn of_file(alloc: Global, failure: Failure, path: &str) -> FileStop
         ensures { MayTell path.now failure result }
     {
         if let Failure::Memory = failure {
-            return ReadStop::Memory;
+            return FileStop::Memory;
         }
         match String::from_str(alloc, path) {
-            Ok(path) => ReadStop::File { path, failure },
-            Err(error) => ReadStop::from(error),
+            Ok(path) => FileStop::File { path, failure },
+            Err(error) => FileStop::from(error),
         }
     }
 }
@@ -59,7 +59,7 @@ pub fn read_in<O: Outside>(
     folder: &str,
     name: &str,
     missing: IfMissing,
-) -> Result<Vec<u8>, ReadStop>
+) -> Result<Vec<u8>, FileStop>
     ensures read { IfOk result (λ text. Did (AreRead ((in_folder folder.now name.now, missing) ∷ []) (text.items ∷ [])) (O.log outside.old) (O.log outside.new)) }
     ensures stops { IfErr result (λ stop. Did (StopsReading ((in_folder folder.now name.now, missing) ∷ []) stop) (O.log outside.old) (O.log outside.new)) }
 {
@@ -73,7 +73,7 @@ pub fn read_file<O: Outside>(
     alloc: Global,
     path: &str,
     missing: IfMissing,
-) -> Result<Vec<u8>, ReadStop>
+) -> Result<Vec<u8>, FileStop>
     ensures read { IfOk result (λ text. Did (AreRead ((path.now, missing) ∷ []) (text.items ∷ [])) (O.log outside.old) (O.log outside.new)) }
     ensures stops { IfErr result (λ stop. Did (StopsReading ((path.now, missing) ∷ []) stop) (O.log outside.old) (O.log outside.new)) }
 {
@@ -83,7 +83,7 @@ pub fn read_file<O: Outside>(
             if may_lack(missing, failure) {
                 Ok(Vec::new(alloc))
             } else {
-                Err(ReadStop::of_file(alloc, failure, path))
+                Err(FileStop::of_file(alloc, failure, path))
             }
         }
     }

@@ -52,9 +52,11 @@ step_fails items i item stop old mid new l h (es, p, t) (e, q, k) =
     let m : map planned items ≡ map planned (take i items) ++ planned item ∷ map planned (drop (i + 1) items)
     = ap (map planned) parts ∙ map-append planned (take i items) (item ∷ drop (i + 1) items) in
     let fs : List Event = e ∷ removal (planned item).1 in
-    subst (λ steps. Did (StopsTaking steps stop) old new) (sym m)
-    (es ++ fs, both es fs old mid new p q,
-    stops_append (map planned (take i items)) es (planned item ∷ map planned (drop (i + 1) items)) stop fs t (inr (k, refl)))
+    subst (λ steps. Did (StopsTaking steps stop) old new) (sym m) (
+      es ++ fs,
+      both es fs old mid new p q,
+      stops_append (map planned (take i items)) es (planned item ∷ map planned (drop (i + 1) items)) stop fs t (inr (k, refl)),
+    )
 
 -- all steps
 pub steps_all : (items : List Action) (i : ℕ) (old new : Option (List Event))

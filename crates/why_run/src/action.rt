@@ -15,11 +15,18 @@ use std::alloc::Global;
 /// One thing that is asked of the outside.
 pub enum Action<'a> {
     /// Prints a remark to standard error.
-    Say { remark: Remark },
+    Say {
+        remark: Remark,
+    },
     /// There must be nothing of this path.
-    Claim { path: String },
+    Claim {
+        path: String,
+    },
     /// Makes a folder, in the temporary folder of a case or as this.
-    MakeFolder { path: String, part: String },
+    MakeFolder {
+        path: String,
+        part: String,
+    },
     /// Makes a file in the temporary folder of a case.
     MakeFile {
         path: String,
@@ -27,11 +34,19 @@ pub enum Action<'a> {
         part: String,
     },
     /// Gives the folder of a case its name.
-    Place { part: String, place: String },
+    Place {
+        part: String,
+        place: String,
+    },
     /// Makes a file, or replaces its contents.
-    Replace { path: &'a str, text: &'a [u8] },
+    Replace {
+        path: &'a str,
+        text: &'a [u8],
+    },
     /// Prints to standard output.
-    Print { text: &'a [u8] },
+    Print {
+        text: &'a [u8],
+    },
 }
 
 impl Drop for Action<'_> {
@@ -108,7 +123,11 @@ fn do_one<O: Folders>(outside: &mut O, alloc: Global, action: &Action<'_>) -> Re
             Ok(())
         }
         Action::Claim { path } => claim(outside, alloc, path.as_str()),
-        Action::MakeFolder { path, part: _ } => done(alloc, outside.make_folder(path.as_str()), path.as_str()),
+        Action::MakeFolder { path, part: _ } => done(
+            alloc,
+            outside.make_folder(path.as_str()),
+            path.as_str(),
+        ),
         Action::MakeFile {
             path,
             text,

@@ -150,7 +150,13 @@ fn add_files<'a>(
 {
     add_file(alloc, actions, part, "policy.toml", policy)?;
     add_file(alloc, actions, part, "journal.csv", case.journal.as_slice())?;
-    add_file(alloc, actions, part, "expected/answers.csv", case.answers.as_slice())?;
+    add_file(
+        alloc,
+        actions,
+        part,
+        "expected/answers.csv",
+        case.answers.as_slice(),
+    )?;
     add_tables(alloc, actions, part, &case.base)?;
     Ok(())
 }
@@ -164,21 +170,47 @@ fn add_tables<'a>(
 ) -> Result<(), AllocError>
     ensures { OnOk result (Gets (map (file_step part.entry.now) (table_files base.entry.now)) actions.old.items actions.new.items) }
 {
-    add_file(alloc, actions, part, "base/patrons.csv", base.patrons.as_slice())?;
-    add_file(alloc, actions, part, "base/items.csv", base.items.as_slice())?;
-    add_file(alloc, actions, part, "base/loans.csv", base.loans.as_slice())?;
+    add_file(
+        alloc,
+        actions,
+        part,
+        "base/patrons.csv",
+        base.patrons.as_slice(),
+    )?;
+    add_file(
+        alloc,
+        actions,
+        part,
+        "base/items.csv",
+        base.items.as_slice(),
+    )?;
+    add_file(
+        alloc,
+        actions,
+        part,
+        "base/loans.csv",
+        base.loans.as_slice(),
+    )?;
     add_file(alloc, actions, part, "base/fees.csv", base.fees.as_slice())?;
-    add_file(alloc, actions, part, "base/closed.csv", base.closed.as_slice())?;
-    add_file(alloc, actions, part, "base/holds.csv", base.holds.as_slice())?;
+    add_file(
+        alloc,
+        actions,
+        part,
+        "base/closed.csv",
+        base.closed.as_slice(),
+    )?;
+    add_file(
+        alloc,
+        actions,
+        part,
+        "base/holds.csv",
+        base.holds.as_slice(),
+    )?;
     Ok(())
 }
 
 /// Adds that there is nothing of this path.
-fn add_claim(
-    alloc: Global,
-    actions: &mut Vec<Action<'_>>,
-    path: &str,
-) -> Result<(), AllocError>
+fn add_claim(alloc: Global, actions: &mut Vec<Action<'_>>, path: &str) -> Result<(), AllocError>
     ensures { OnOk result (Gets (claim_step path.now ∷ []) actions.old.items actions.new.items) }
 {
     let path = String::from_str(alloc, path)?;

@@ -24,7 +24,10 @@ impl fmt::Display for Remark {
         match self {
             Remark::NoLine { number } => write!(f, "error: the journal has no line {number}\n"),
             Remark::NoAnswer { number } => write!(f, "error: line {number} has no answer\n"),
-            Remark::NoCase { number } => write!(f, "error: line {number} gives no case: alone it is answered otherwise\n"),
+            Remark::NoCase { number } => write!(
+                f,
+                "error: line {number} gives no case: alone it is answered otherwise\n"
+            ),
         }
     }
 }

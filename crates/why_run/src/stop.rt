@@ -76,9 +76,13 @@ impl fmt::Display for WhyStop {
 
     fn fmt<W: fmt::Write>(&self, f: &mut fmt::Formatter<W>) -> fmt::Result {
         match self {
-            WhyStop::NotExplained(NotExplained::Memory) | WhyStop::File(FileStop::Memory) => f.write_str("fault 10: memory\n"),
+            WhyStop::NotExplained(NotExplained::Memory) | WhyStop::File(FileStop::Memory) =>
+                f.write_str("fault 10: memory\n"),
             WhyStop::NotExplained(NotExplained::Refused(text)) => f.write_str(text.as_str()),
-            WhyStop::File(FileStop::File { path, failure }) => write!(f, "file: {path}: {failure}\n"),
+            WhyStop::File(FileStop::File { path, failure }) => write!(
+                f,
+                "file: {path}: {failure}\n"
+            ),
             WhyStop::Taken(path) => write!(f, "file: {path}: there is one already\n"),
             WhyStop::Output => f.write_str("error: standard output takes nothing more\n"),
         }

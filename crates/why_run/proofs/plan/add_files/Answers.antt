@@ -1,4 +1,4 @@
-use Rattle.std.proofs.Common.{◌++◌, ◌∷◌, List, [], codes, map, string_bytes}
+use Rattle.std.proofs.Common.{◌++◌, ◌∷◌, List, [], codes, map}
 use Rattle.why_run.proofs.Plans.{then}
 use Rattle.why_run.specs.Plan.{file_step, table_files}
 use Rattle.why_run.specs.Writing.{Planned}

@@ -1,4 +1,4 @@
-use Rattle.std.proofs.Common.{◌++◌, ◌∷◌, List, [], codes, map, string_bytes}
+use Rattle.std.proofs.Common.{◌++◌, ◌∷◌, List, [], map, string_bytes}
 use Rattle.why_run.proofs.Plans.{gets_one, then}
 use Rattle.why_run.specs.Actions.{planned}
 use Rattle.why_run.specs.Plan.{case_files, case_folders, file_step}

@@ -1,4 +1,4 @@
-use Rattle.std.proofs.Common.{◌++◌, ◌∷◌, List, [], codes, map, string_bytes}
+use Rattle.std.proofs.Common.{◌++◌, ◌∷◌, List, [], codes}
 use Rattle.why_run.proofs.Plans.{then}
 use Rattle.why_run.specs.Plan.{file_step}
 use Rattle.why_run.specs.Writing.{Planned}

@@ -11,14 +11,14 @@ use read_set::Plan;
 use record_tables::Tables;
 use replay_run::{Inputs, Prepared, judge_inputs};
 use std::alloc::{AllocError, Global};
-use why_run::{CaseTexts, Explained, Maker, NotExplained, Remark, WhyTexts};
+use why_run::{CaseTexts, Explained, Explainer, NotExplained, Remark, WhyTexts};
 use why_table::WhyTable;
 
 /// Explains lines by the rules.
 #[derive(Clone, Copy)]
-pub struct WhyMaker;
+pub struct ByRules;
 
-impl Maker for WhyMaker {
+impl Explainer for ByRules {
     ghost makes = { λ _ _ _ _. Unit {0} };
 
     fn make(

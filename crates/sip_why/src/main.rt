@@ -11,7 +11,7 @@ mod refused;
 mod tables;
 mod wanted;
 
-use crate::explained::WhyMaker;
+use crate::explained::ByRules;
 use outside::System;
 use std::env::Env;
 use std::process::ExitCode;
@@ -26,7 +26,7 @@ fn main(rt: HostRuntime) -> ExitCode {
         err: rt.stderr(),
     };
     let status = match words(&rt) {
-        Ok(words) => run(&mut system, rt.alloc(), words.as_slice(), &WhyMaker),
+        Ok(words) => run(&mut system, rt.alloc(), words.as_slice(), &ByRules),
         Err(error) => refuse_words(&mut system, &error),
     };
     ExitCode::from(status)

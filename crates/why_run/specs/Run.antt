@@ -26,11 +26,11 @@ Makes = WhyOptions → WhyTexts → Result Explained NotExplained → Type 0
 abbrev pub TellsStop : WhyStop → ℕ → List Event → Type 0
 TellsStop stop status events = (taken : Bool) × (events ≡ Tell (stop_text stop) taken ∷ []) × (status ≡ status_of stop)
 
--- All files are read, and of exactly their bytes the maker makes this.
+-- All files are read, and of exactly their bytes the explainer makes this.
 abbrev pub HasMade : Makes → WhyOptions → Result Explained NotExplained → List Event → Type 0
 HasMade makes o made events = (texts : WhyTexts) × AreRead (files_of o) (texts_of texts) events × makes o texts made
 
--- The run stops before anything is written: a file can't be read, or the maker explains nothing.
+-- The run stops before anything is written: a file can't be read, or the explainer explains nothing.
 abbrev pub HasStopped : Makes → WhyOptions → WhyStop → List Event → Type 0
 HasStopped makes o stop events =
     ((file : FileStop) × (stop ≡ stops.File file) × StopsReading (files_of o) file events)
@@ -47,7 +47,7 @@ IsWritten o made status events =
     ⊎ ((stop : WhyStop) × (done : List Event) × (told : List Event) × (events ≡ done ++ told)
     × IsCutShort o made stop done × TellsStop stop status told)
 
--- What the maker makes of the files is written, or what stops the run is reported; nothing else is asked of the outside.
+-- What the explainer makes of the files is written, or what stops the run is reported; nothing else is asked of the outside.
 abbrev pub IsExplained : Makes → WhyOptions → ℕ → List Event → Type 0
 IsExplained makes o status events = (reads : List Event) × (rest : List Event) × (events ≡ reads ++ rest)
     × (((made : Explained) × HasMade makes o (Ok made) reads × IsWritten o made status rest)

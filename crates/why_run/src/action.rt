@@ -13,6 +13,7 @@ use outside::{Failure, FileStop, Folders};
 use std::alloc::Global;
 
 /// One thing that is asked of the outside.
+#[derive(Drop)]
 pub enum Action<'a> {
     /// Prints a remark to standard error.
     Say {
@@ -47,24 +48,6 @@ pub enum Action<'a> {
     Print {
         text: &'a [u8],
     },
-}
-
-impl Drop for Action<'_> {
-    fn drop(self) {
-        match self {
-            Action::Say { remark: _ } => {}
-            Action::Claim { path: _ } => {}
-            Action::MakeFolder { path: _, part: _ } => {}
-            Action::MakeFile {
-                path: _,
-                text: _,
-                part: _,
-            } => {}
-            Action::Place { part: _, place: _ } => {}
-            Action::Replace { path: _, text: _ } => {}
-            Action::Print { text: _ } => {}
-        }
-    }
 }
 
 /// Does these, one after the other. Of a case in which one fails nothing is left; what was done before it stays.

@@ -47,7 +47,7 @@ impl Drop for CaseTexts {
     }
 }
 
-/// What a maker makes of the texts.
+/// What an explainer makes of the texts.
 pub struct Explained {
     /// What is said of lines that are wanted.
     pub remarks: Vec<Remark>,

@@ -8,8 +8,8 @@ ghost use Rattle.why_run.specs.Run.{HasMade, HasStopped, IsCutShort, IsExplained
 ghost use Rattle.why_run.specs.Writing.{AreTaken};
 
 use crate::action::do_all;
+use crate::explainer::Explainer;
 use crate::files::read_all;
-use crate::maker::Maker;
 use crate::plan::plan;
 use crate::remark::Remark;
 use crate::stop::{NotExplained, REFUSED, WhyStop};
@@ -23,7 +23,7 @@ use std::io;
 /// The status of a run that did all that was wanted.
 const WHOLE: u8 = 0;
 
-/// Reads the words, of which the first is the program's name, then the files, and writes what the maker makes of them. Gives the status of
+/// Reads the words, of which the first is the program's name, then the files, and writes what the explainer makes of them. Gives the status of
 /// the program:
 ///
 /// - 0 where the table has all that was wanted, and for help, which is printed;
@@ -31,16 +31,16 @@ const WHOLE: u8 = 0;
 /// - 3 where a file can't be read or written, standard output takes no text, or memory ran out.
 ///
 /// What stopped the run is printed on standard error.
-pub fn run<S: AsStr, O: Folders, M: Maker>(
+pub fn run<S: AsStr, O: Folders, M: Explainer>(
     outside: &mut O,
     alloc: Global,
     words: &[S],
-    maker: &M,
+    explainer: &M,
 ) -> u8
-    ensures { Did (IsWhyRun (M.makes maker.now) result) (O.log outside.old) (O.log outside.new) }
+    ensures { Did (IsWhyRun (M.makes explainer.now) result) (O.log outside.old) (O.log outside.new) }
 {
     match why_options(alloc, words) {
-        Ok(options) => explain(outside, alloc, &options, maker),
+        Ok(options) => explain(outside, alloc, &options, explainer),
         Err(refusal) => refuse(outside, &refusal),
     }
 }
@@ -80,32 +80,32 @@ fn print_help<O: Outside>(outside: &mut O, text: &[u8]) -> u8
 }
 
 /// Writes the explanation, or reports what stopped the run.
-fn explain<O: Folders, M: Maker>(
+fn explain<O: Folders, M: Explainer>(
     outside: &mut O,
     alloc: Global,
     options: &WhyOptions,
-    maker: &M,
+    explainer: &M,
 ) -> u8
-    ensures { Did (IsExplained (M.makes maker.now) options.now result) (O.log outside.old) (O.log outside.new) }
+    ensures { Did (IsExplained (M.makes explainer.now) options.now result) (O.log outside.old) (O.log outside.new) }
 {
-    match make(outside, alloc, options, maker) {
+    match make(outside, alloc, options, explainer) {
         Ok(made) => write_made(outside, alloc, options, &made),
         Err(stop) => stop.tell(outside),
     }
 }
 
 /// Reads all files before anything is made of them.
-fn make<O: Outside, M: Maker>(
+fn make<O: Outside, M: Explainer>(
     outside: &mut O,
     alloc: Global,
     options: &WhyOptions,
-    maker: &M,
+    explainer: &M,
 ) -> Result<Explained, WhyStop>
-    ensures made { IfOk result (λ made. Did (HasMade (M.makes maker.now) options.now (Ok made)) (O.log outside.old) (O.log outside.new)) }
-    ensures stops { IfErr result (λ stop. Did (HasStopped (M.makes maker.now) options.now stop) (O.log outside.old) (O.log outside.new)) }
+    ensures made { IfOk result (λ made. Did (HasMade (M.makes explainer.now) options.now (Ok made)) (O.log outside.old) (O.log outside.new)) }
+    ensures stops { IfErr result (λ stop. Did (HasStopped (M.makes explainer.now) options.now stop) (O.log outside.old) (O.log outside.new)) }
 {
     let texts = read_all(outside, alloc, options)?;
-    match maker.make(alloc, options, texts) {
+    match explainer.make(alloc, options, texts) {
         Ok(made) => Ok(made),
         Err(why) => Err(WhyStop::NotExplained(why)),
     }

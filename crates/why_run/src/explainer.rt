@@ -12,7 +12,7 @@ use command_line::WhyOptions;
 use std::alloc::Global;
 
 /// Explains lines. It has no outside, so it can ask nothing of files and streams.
-pub trait Maker {
+pub trait Explainer {
     /// What may be made of which options and texts.
     ghost makes: { Self → WhyOptions → WhyTexts → Result Explained NotExplained → Type 0 };
 

@@ -20,6 +20,12 @@ pub data Event : Type 0 where
   Print : List ℕ → Bool → Event
   -- this text was written to standard error: all of it, or not
   Tell : List ℕ → Bool → Event
+  -- whether there is something of this path, or why that isn't known
+  Exists : List ℕ → Result Bool Failure → Event
+  -- a folder was made, or why not
+  MakeFolder : List ℕ → Result ⊤ Failure → Event
+  -- a folder was taken away with all that it had, if that could be done
+  RemoveFolder : List ℕ → Event
 
 -- a log with one more event at its end
 unfoldable pub noted : Event → Option (List Event) → Option (List Event)

@@ -1,4 +1,5 @@
 pub mod Events
 pub mod Files
 pub mod Places
+pub mod Reading
 pub mod Reasons

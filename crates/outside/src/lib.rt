@@ -6,12 +6,17 @@
 
 mod failure;
 mod file_id;
+mod folders;
 mod outside;
+mod reading;
 mod system;
+mod system_folders;
 mod writing;
 
 pub use failure::Failure;
 pub use file_id::FileId;
+pub use folders::Folders;
 pub use outside::Outside;
+pub use reading::{FileStop, IfMissing, read_file, read_in};
 pub use system::System;
 pub use writing::{Unplaced, Unwritten, file_in_folder, write_files};

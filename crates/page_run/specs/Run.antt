@@ -6,7 +6,8 @@ use Rattle.command_line.specs.declared.chosen.PageOptions.{PageOptions}
 use Rattle.command_line.specs.declared.refusal.Refusal.{Refusal}
 use Rattle.command_line.specs.declared.refusal.Refusal.TheVariants as refusals
 use Rattle.outside.specs.Events.{Event, Print, Tell}
-use Rattle.page_run.specs.Reading.{AreRead, StopsReading}
+use Rattle.outside.specs.Reading.{AreRead, StopsReading}
+use Rattle.outside.specs.declared.reading.FileStop.{FileStop}
 use Rattle.page_run.specs.Sources.{files_of, texts_of}
 use Rattle.page_run.specs.Stops.{status_of, stop_text}
 use Rattle.page_run.specs.declared.stop.NoPage.{NoPage}
@@ -31,7 +32,7 @@ HasMade makes o page events = (texts : PageTexts) × AreRead (files_of o) (texts
 
 -- The run stops before anything is printed: a file can't be read, or the maker makes no page of them.
 abbrev pub HasStopped : (PageOptions → PageTexts → Result (List ℕ) NoPage → Type 0) → PageOptions → PageStop → List Event → Type 0
-HasStopped makes o stop events = StopsReading (files_of o) stop events
+HasStopped makes o stop events = ((file : FileStop) × (stop ≡ stops.File file) × StopsReading (files_of o) file events)
     ⊎ ((no_page : NoPage) × (stop ≡ stops.NoPage no_page) × HasMade makes o (Err no_page) events)
 
 -- The page that the maker makes from the files is printed, or what stops the run; nothing else is asked of the outside.

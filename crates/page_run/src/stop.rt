@@ -2,12 +2,10 @@
 
 ghost use Rattle.std.specs.Prelude.{◌≡◌, Bool, Some};
 ghost use Rattle.outside.specs.Events.{Tell, noted};
-ghost use Rattle.page_run.specs.Stops.{MayTell, status_of, stop_text};
-ghost use Rattle.page_run.specs.declared.stop.NoPage.TheVariants as reasons;
+ghost use Rattle.page_run.specs.Stops.{status_of, stop_text};
 ghost use Rattle.page_run.specs.declared.stop.PageStop.TheVariants as stops;
 
-use outside::{Failure, Outside};
-use std::alloc::{AllocError, Global};
+use outside::{FileStop, Outside};
 use std::fmt;
 
 /// The status of a command line or a table that is refused.
@@ -30,17 +28,17 @@ pub enum NoPage {
 pub enum PageStop {
     /// No page is made.
     NoPage(NoPage),
-    /// The file of this path can't be read.
-    File { path: String, failure: Failure },
+    /// A file can't be read.
+    File(FileStop),
     /// Standard output takes nothing more.
     Output,
 }
 
-impl From<AllocError> for PageStop {
-    ghost from_gives = { λ _ stop. stop ≡ stops.NoPage reasons.Memory };
+impl From<FileStop> for PageStop {
+    ghost from_gives = { λ file stop. stop ≡ stops.File file };
 
-    fn from(_error: AllocError) -> PageStop {
-        PageStop::NoPage(NoPage::Memory)
+    fn from(stop: FileStop) -> PageStop {
+        PageStop::File(stop)
     }
 }
 
@@ -50,28 +48,17 @@ impl fmt::Display for PageStop {
 
     fn fmt<W: fmt::Write>(&self, f: &mut fmt::Formatter<W>) -> fmt::Result {
         match self {
-            PageStop::NoPage(NoPage::Memory) => f.write_str("error: out of memory\n"),
+            PageStop::NoPage(NoPage::Memory) | PageStop::File(FileStop::Memory) => {
+                f.write_str("error: out of memory\n")
+            }
             PageStop::NoPage(NoPage::Refused(text)) => f.write_str(text.as_str()),
-            PageStop::File { path, failure } => write!(f, "file: {path}: {failure}\n"),
+            PageStop::File(FileStop::File { path, failure }) => write!(f, "file: {path}: {failure}\n"),
             PageStop::Output => f.write_str("error: standard output takes nothing more\n"),
         }
     }
 }
 
 impl PageStop {
-    /// The stop of a file that failed. Where memory ran out, the stop names memory and not the file.
-    pub fn of_file(alloc: Global, failure: Failure, path: &str) -> PageStop
-        ensures { MayTell path.now failure result }
-    {
-        if let Failure::Memory = failure {
-            return PageStop::NoPage(NoPage::Memory);
-        }
-        match String::from_str(alloc, path) {
-            Ok(path) => PageStop::File { path, failure },
-            Err(error) => PageStop::from(error),
-        }
-    }
-
     /// Prints what stopped the run, and returns its status. A failure to print changes no status.
     pub fn tell<O: Outside>(&self, outside: &mut O) -> u8
         ensures status { result ≡ status_of self.now }

@@ -1,45 +1,28 @@
 //! What to change in the live system: one JSON object a line for each record that isn't as it was.
 
 use crate::change_text::change_text;
-use crate::files::read_tables;
-use crate::stop::WhyError;
-use circ_records::Records;
+use crate::refused::refused;
 use line_origins::{TraceEnd, Tracer};
 use read_set::Plan;
 use record_changes::{Change, changes};
 use record_tables::{Tables, write_records};
 use std::alloc::{AllocError, Global};
-use std::rt::Files;
+use why_run::NotExplained;
 
-/// The text of the changes from the base to the records after the last line. The tables of a folder must be these.
-pub fn changes_text<R: Files + AllocGlobal>(
-    rt: &R,
+/// The text of the changes from the base to the records after the last line. The tables of this folder must be these.
+pub fn changes_text(
+    alloc: Global,
     plan: &Plan,
     folder: &str,
-) -> Result<Vec<u8>, WhyError> {
-    let alloc = rt.alloc();
+    given: &Tables,
+) -> Result<Vec<u8>, NotExplained> {
     let end = Tracer::new(alloc, plan)?
         .pass_to(alloc, plan.numbers().end)?
         .into_end(alloc)?;
-    check_tables(rt, folder, &end.records)?;
-    Ok(text_from_base(alloc, plan, &end)?)
-}
-
-/// Refuses a folder whose tables aren't these records.
-fn check_tables<R: Files + AllocGlobal>(
-    rt: &R,
-    folder: &str,
-    records: &Records,
-) -> Result<(), WhyError> {
-    let given = read_tables(rt, folder)?;
-    if are_same(&given, &write_records(rt.alloc(), records)?) {
-        Ok(())
+    if are_same(given, &write_records(alloc, &end.records)?) {
+        Ok(text_from_base(alloc, plan, &end)?)
     } else {
-        Err(WhyError::refused(
-            rt.alloc(),
-            "not the tables of a run of this journal:",
-            folder,
-        ))
+        Err(refused(alloc, "not the tables of a run of this journal:", folder))
     }
 }
 

@@ -1,28 +1,35 @@
 //! The program `sip_why`: why the answers of a journal are what they are, since when each record has been so, and what to do about it.
-//! `command_line` reads its words, and `line_origins` and the crates that it uses compute; here are the files and what is written.
+//! `why_run` reads the files and writes what is made of them, `line_origins` and the crates that it uses compute; here is what is made.
 #![tactic(auto)]
 
-mod case_files;
 mod cases;
 mod change_text;
 mod changes;
-mod files;
-mod run;
-mod stop;
+mod explained;
+mod lines;
+mod refused;
+mod tables;
 mod wanted;
 
-use crate::stop::WhyError;
+use crate::explained::ByRules;
+use outside::System;
 use std::env::Env;
 use std::process::ExitCode;
 use std::{env, io};
+use why_run::{refuse_words, run};
 
 fn main(rt: HostRuntime) -> ExitCode {
-    let mut out = rt.stdout();
-    let mut err = rt.stderr();
-    match words(&rt) {
-        Ok(words) => ExitCode::from(run::run(&rt, words.as_slice(), &mut out, &mut err)),
-        Err(error) => ExitCode::from(WhyError::of_words(&error).tell(&mut err)),
-    }
+    let mut system = System {
+        rt: &rt,
+        input: rt.stdin(),
+        out: rt.stdout(),
+        err: rt.stderr(),
+    };
+    let status = match words(&rt) {
+        Ok(words) => run(&mut system, rt.alloc(), words.as_slice(), &ByRules),
+        Err(error) => refuse_words(&mut system, &error),
+    };
+    ExitCode::from(status)
 }
 
 /// The words of the command line; a word that isn't text is an error.

@@ -1,22 +1,21 @@
 //! The lines that are wanted.
 
-use crate::files::read_file;
-use crate::stop::WhyError;
+use crate::refused::refused;
 use csv::ByteRecord;
 use csv_table::{RowReader, TableError, column};
 use journal_table::{Journal, Line, number_of};
 use std::alloc::Global;
-use std::rt::Files;
+use why_run::NotExplained;
 
 const REPORT_HEADER: [&str; 3] = ["line", "connection", "fields"];
 
 /// The numbers that words spell.
-pub fn numbers_of(alloc: Global, words: &[String]) -> Result<Vec<u64>, WhyError> {
+pub fn numbers_of(alloc: Global, words: &[String]) -> Result<Vec<u64>, NotExplained> {
     let mut numbers = Vec::new(alloc);
     for word in words {
         match number_of(word.as_bytes()) {
             Some(number) => numbers.push(number)?,
-            None => return Err(WhyError::refused(alloc, "no number of a line is", word.as_str())),
+            None => return Err(refused(alloc, "no number of a line is", word.as_str())),
         }
     }
     Ok(numbers)
@@ -24,15 +23,15 @@ pub fn numbers_of(alloc: Global, words: &[String]) -> Result<Vec<u64>, WhyError>
 
 /// The numbers of the lines that are wanted, rising, each once: these and those of a report. Nothing where there are neither, since then each answered
 /// line is wanted.
-pub fn wanted_lines<R: Files + AllocGlobal>(
-    rt: &R,
-    report: &Option<String>,
+pub fn wanted_lines(
+    alloc: Global,
+    report: &Option<Vec<u8>>,
     given: &[u64],
     journal: &Journal<'_>,
-) -> Result<Option<Vec<u64>>, WhyError> {
-    let mut numbers = Vec::from_slice(rt.alloc(), given)?;
+) -> Result<Option<Vec<u64>>, NotExplained> {
+    let mut numbers = Vec::from_slice(alloc, given)?;
     match report {
-        Some(path) => add_report(rt, path.as_str(), journal, &mut numbers)?,
+        Some(text) => add_report(alloc, text, journal, &mut numbers)?,
         None if given.is_empty() => return Ok(None),
         None => {}
     }
@@ -42,22 +41,12 @@ pub fn wanted_lines<R: Files + AllocGlobal>(
 }
 
 /// Adds the lines of a report. One that isn't of this journal is refused by its first line whose number or connection the journal lacks.
-fn add_report<R: Files + AllocGlobal>(
-    rt: &R,
-    path: &str,
-    journal: &Journal<'_>,
-    numbers: &mut Vec<u64>,
-) -> Result<(), WhyError> {
-    let text = read_file(rt, path)?;
-    lines_of_report(rt.alloc(), &text, journal, numbers)
-}
-
-fn lines_of_report(
+fn add_report(
     alloc: Global,
     text: &[u8],
     journal: &Journal<'_>,
     numbers: &mut Vec<u64>,
-) -> Result<(), WhyError> {
+) -> Result<(), NotExplained> {
     let mut rows = match RowReader::under(alloc, &REPORT_HEADER, text) {
         Ok(rows) => rows,
         Err(error) => return Err(refused_table(alloc, error)),
@@ -73,14 +62,14 @@ fn lines_of_report(
     Ok(())
 }
 
-fn refused_table(alloc: Global, error: TableError) -> WhyError {
+fn refused_table(alloc: Global, error: TableError) -> NotExplained {
     match error {
-        TableError::Table => WhyError::refused(
+        TableError::Table => refused(
             alloc,
             "the report is no table with the columns",
             "line,connection,fields",
         ),
-        TableError::Memory => WhyError::Memory,
+        TableError::Memory => NotExplained::Memory,
     }
 }
 
@@ -90,7 +79,7 @@ fn add_row(
     row: &ByteRecord,
     journal: &Journal<'_>,
     numbers: &mut Vec<u64>,
-) -> Result<(), WhyError> {
+) -> Result<(), NotExplained> {
     match number_of(column(row, 0)) {
         Some(number) if has_line(journal, number, column(row, 1)) => Ok(numbers.push(number)?),
         _ => Err(other_journal(alloc, column(row, 0))),
@@ -105,14 +94,14 @@ fn has_line(journal: &Journal<'_>, number: u64, connection: &[u8]) -> bool {
 }
 
 /// The stop of a report whose line of this number the journal lacks.
-fn other_journal(alloc: Global, number: &[u8]) -> WhyError {
+fn other_journal(alloc: Global, number: &[u8]) -> NotExplained {
     match String::from_utf8_lossy(alloc, number) {
-        Ok(text) => WhyError::refused(
+        Ok(text) => refused(
             alloc,
             "the report is of another journal: line",
             text.as_str(),
         ),
-        Err(_) => WhyError::Memory,
+        Err(_) => NotExplained::Memory,
     }
 }
 

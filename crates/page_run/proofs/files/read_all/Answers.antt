@@ -1,6 +1,6 @@
 use Rattle.std.proofs.Common.{◌++◌, string_bytes}
 use Rattle.std.proofs.lemmas.Result.{err_from_is_err_and}
-use Rattle.page_run.proofs.Steps.{behind, here, more, moved}
+use Rattle.outside.proofs.ReadSteps.{behind, here, more, moved}
 use Rattle.page_run.specs.Sources.{base_files, base_texts, file_of_why, name_texts, names_in, result_files, result_texts, text_of_why}
 use Rattle.page_run.proofs.files.read_all.Goals as goal
 

@@ -1,5 +1,5 @@
 use Rattle.std.proofs.Common.{[], refl}
-use Rattle.page_run.proofs.Steps.{moved}
+use Rattle.outside.proofs.ReadSteps.{moved}
 use Rattle.page_run.specs.Sources.{changed_files, changed_texts}
 use Rattle.page_run.proofs.files.read_base.Goals as goal
 

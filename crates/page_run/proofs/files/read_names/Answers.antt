@@ -1,6 +1,6 @@
 use Rattle.std.proofs.Common.{◌∷◌, [], codes}
 use Rattle.std.proofs.lemmas.Result.{err_from_is_err_and}
-use Rattle.page_run.proofs.Steps.{behind, here, more, must}
+use Rattle.outside.proofs.ReadSteps.{behind, here, more, must}
 use Rattle.page_run.proofs.files.read_names.Goals as goal
 
 pub returns-in_err-items-clause-stops : goal.returns-in_err-items-clause-stops

@@ -5,7 +5,7 @@ use Rattle.page_run.proofs.printing.make_page.Goals as goal
 pub returns-in_err-texts-clause-stops : goal.returns-in_err-texts-clause-stops
 returns-in_err-texts-clause-stops g c =
     let p = err_from_is_err_and c.from_residual.result c.from_residual.ensures.1 in rw (p.1, p.2)
-    (let s = c.in_err-texts.ensures.stops in (s.0, s.1, inl s.2))
+    (let s = c.in_err-texts.ensures.stops in (s.0, s.1, inl (_, refl, s.2)))
 
 pub returns-in-Ok-clause-made : goal.returns-in-Ok-clause-made
 returns-in-Ok-clause-made g c = let r = c.in_ok-texts.ensures.read in (r.0, r.1, (_, r.2, c.in-Ok.ensures))

@@ -1,6 +1,6 @@
 use Rattle.std.proofs.Common.{◌∷◌, ◌∙◌, Err, Ok, [], inr, refl, sym}
 use Rattle.outside.specs.Events.{Read}
-use Rattle.page_run.proofs.files.read_file.Goals as goal
+use Rattle.outside.proofs.reading.read_file.Goals as goal
 
 pub returns-in-Ok-clause-read : goal.returns-in-Ok-clause-read
 returns-in-Ok-clause-read g c = (Read c.args.path.now (Ok c.in-Ok.text.items) ∷ [], c.in-Ok.ensures, (refl, refl, tt))

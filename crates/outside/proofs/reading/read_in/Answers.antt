@@ -1,4 +1,4 @@
-use Rattle.page_run.proofs.files.read_in.Goals as goal
+use Rattle.outside.proofs.reading.read_in.Goals as goal
 
 pub returns-clause-read : goal.returns-clause-read
 returns-clause-read g c = rw (c.as_str.ensures.value, c.in_ok-path.ensures) at c.read_file.ensures.read

@@ -1,0 +1,57 @@
+//! The lines of the table.
+
+use line_origins::Tracer;
+use read_set::Plan;
+use std::alloc::{AllocError, Global};
+use why_run::Remark;
+use why_table::WhyTable;
+
+/// Adds each answered line to the table.
+pub fn add_all(alloc: Global, plan: &Plan, table: &mut WhyTable) -> Result<(), AllocError> {
+    let mut tracer = Tracer::new(alloc, plan)?;
+    for number in plan.numbers() {
+        tracer = reach(alloc, tracer, number)?;
+        add_line(alloc, &tracer, table)?;
+    }
+    Ok(())
+}
+
+/// Adds the lines that are wanted, whose numbers rise, to the table. One that the journal lacks, or that has no answer, is remarked.
+pub fn add_lines(
+    alloc: Global,
+    plan: &Plan,
+    wanted: &[u64],
+    table: &mut WhyTable,
+    remarks: &mut Vec<Remark>,
+) -> Result<(), AllocError> {
+    let mut tracer = Tracer::new(alloc, plan)?;
+    for &number in wanted {
+        if plan.reading(number).is_none() {
+            remarks.push(Remark::NoLine { number })?;
+            continue;
+        }
+        tracer = reach(alloc, tracer, number)?;
+        if !add_line(alloc, &tracer, table)? {
+            remarks.push(Remark::NoAnswer { number })?;
+        }
+    }
+    Ok(())
+}
+
+/// The replay before a line, which is this or a later one.
+pub fn reach<'p>(alloc: Global, tracer: Tracer<'p>, line: u64) -> Result<Tracer<'p>, AllocError> {
+    if line < tracer.next() {
+        return Ok(tracer);
+    }
+    tracer.pass_to(alloc, line)
+}
+
+/// Adds the line that a replay is before. Whether it has an answer.
+fn add_line(alloc: Global, tracer: &Tracer<'_>, table: &mut WhyTable) -> Result<bool, AllocError> {
+    let seen = tracer.see(alloc)?;
+    let Some(reason) = seen.reason else {
+        return Ok(false);
+    };
+    table.line(alloc, tracer.plan(), tracer.next(), reason, &seen.notes)?;
+    Ok(true)
+}

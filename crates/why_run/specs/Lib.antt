@@ -1,0 +1,7 @@
+pub mod Actions
+pub mod Plan
+pub mod Remarks
+pub mod Run
+pub mod Sources
+pub mod Stops
+pub mod Writing

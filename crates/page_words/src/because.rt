@@ -2,9 +2,10 @@
 
 use crate::case::CaseNames;
 use crate::days::put_day;
-use crate::lists::{cut, fits};
+use crate::lists::fits;
+use crate::parts::{cut, split};
 use crate::sayings::{put_item, put_patron};
-use std::alloc::AllocError;
+use crate::wording::Wording;
 
 /// A record that a line read, as `sip_why` describes it.
 #[derive(Clone, Copy)]
@@ -65,7 +66,7 @@ accepted|*|owed|patron|{id} owed {owed}{since}
 
 /// Why a response is wrong in a word of the report, where that is known.
 pub fn because_of<'w>(word: &[u8], reason: &[u8], origins: &[Origin<'w>]) -> Option<Because<'w>> {
-    for line in BECAUSES.as_bytes().split(|byte| *byte == b'\n') {
+    for line in split(BECAUSES.as_bytes(), b'\n') {
         let (about, line) = cut(line, b'|');
         let (why, line) = cut(line, b'|');
         if fits(about, word) && fits(why, reason) {
@@ -94,7 +95,7 @@ fn said_by<'w>(line: &'static [u8], origins: &[Origin<'w>]) -> Option<Because<'w
 
 /// What is said of a word of a record: `due` in `borrower P1; due 20260316`.
 fn said_of<'w>(said: &'w [u8], word: &[u8]) -> Option<&'w [u8]> {
-    for part in said.split(|byte| *byte == b';') {
+    for part in split(said, b';') {
         if let Some(value) = part.trim_ascii_start().strip_prefix(word) {
             if value.is_empty() || value.starts_with(b" ") {
                 return Some(value.trim_ascii_start());
@@ -106,61 +107,42 @@ fn said_of<'w>(said: &'w [u8], word: &[u8]) -> Option<&'w [u8]> {
 
 impl Because<'_> {
     /// Writes it; `since` says in words since when it was so.
-    pub fn put(
-        &self,
-        out: &mut Vec<u8>,
-        since: &[u8],
-        names: &CaseNames,
-    ) -> Result<(), AllocError> {
-        let mut rest = self.saying;
-        for _ in 0..self.saying.len() {
-            if rest.is_empty() {
-                break;
-            }
-            let (before, after) = cut(rest, b'{');
-            out.extend_from_slice(before)?;
-            let (place, after) = cut(after, b'}');
-            put_place(out, place, &self.origin, since, names)?;
-            rest = after;
+    pub fn put(&self, out: &mut Wording, since: &[u8], names: &CaseNames) {
+        for piece in split(self.saying, b'}') {
+            let (before, place) = cut(piece, b'{');
+            out.add(before);
+            put_place(out, place, &self.origin, since, names);
         }
-        Ok(())
     }
 }
 
 /// Writes the value of a place.
 fn put_place(
-    out: &mut Vec<u8>,
+    out: &mut Wording,
     place: &[u8],
     origin: &Origin<'_>,
     since: &[u8],
     names: &CaseNames,
-) -> Result<(), AllocError> {
+) {
     let value = said_of(origin.said, place).unwrap_or(b"");
     match place {
-        b"" => Ok(()),
-        b"since" => out.extend_from_slice(since),
+        b"" => {}
+        b"since" => out.add(since),
         b"id" if origin.kind == b"item".as_slice() => put_item(out, origin.id, names),
         b"id" => put_patron(out, origin.id, names),
         b"borrower" | b"first" => put_patron(out, value, names),
         b"due" | b"back" => put_day(out, value),
         b"closed" => put_days(out, value),
-        _ => out.extend_from_slice(value),
+        _ => out.add(value),
     }
 }
 
 /// Writes days that are separated by blanks.
-fn put_days(out: &mut Vec<u8>, days: &[u8]) -> Result<(), AllocError> {
-    let mut rest = days;
-    for _ in 0..days.len() {
-        if rest.is_empty() {
-            break;
-        }
-        let (day, behind) = cut(rest, b' ');
-        put_day(out, day)?;
-        if !behind.is_empty() {
-            out.extend_from_slice(b", ")?;
-        }
-        rest = behind;
+fn put_days(out: &mut Wording, days: &[u8]) {
+    let mut before = b"".as_slice();
+    for day in split(days, b' ') {
+        out.add(before);
+        put_day(out, day);
+        before = b", ";
     }
-    Ok(())
 }

@@ -1,6 +1,7 @@
 //! A line with its messages, field by field.
 
 use crate::fields::ShownField;
+use std::alloc::Global;
 use std::collections::BTreeMap;
 
 /// Texts by the ids that they belong to.
@@ -41,5 +42,18 @@ impl Drop for Case<'_> {
             recorded: _,
             right: _,
         } = self;
+    }
+}
+
+impl<'m> Case<'m> {
+    /// Without a field.
+    pub fn new(alloc: Global, kind: &'m [u8], recorded_name: &'static [u8]) -> Case<'m> {
+        Case {
+            kind,
+            recorded_name,
+            asked: Vec::new(alloc),
+            recorded: Vec::new(alloc),
+            right: Vec::new(alloc),
+        }
     }
 }

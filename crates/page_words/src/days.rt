@@ -1,24 +1,24 @@
 //! Days and times in words.
 
 use crate::lists::{MONTHS, known};
-use std::alloc::AllocError;
+use crate::wording::Wording;
 
 /// Writes a day in words, as 28 March 2026, from a text that begins with it in one of the three forms of a due date. A text without a
 /// day is written as it is, and an empty one as `no day`.
-pub fn put_day(out: &mut Vec<u8>, text: &[u8]) -> Result<(), AllocError> {
-    if text.is_empty() {
-        return out.extend_from_slice(b"no day");
-    }
+pub fn put_day(out: &mut Wording, text: &[u8]) {
     let (year, month, day) = parts_of(text);
     let name = known(MONTHS, month);
-    if name.is_empty() {
-        return out.extend_from_slice(text);
+    if text.is_empty() {
+        out.add(b"no day");
+    } else if name.is_empty() {
+        out.add(text);
+    } else {
+        out.add(day.strip_prefix(b"0").unwrap_or(day));
+        out.add(b" ");
+        out.add(name);
+        out.add(b" ");
+        out.add(year);
     }
-    out.extend_from_slice(day.strip_prefix(b"0").unwrap_or(day))?;
-    out.push(b' ')?;
-    out.extend_from_slice(name)?;
-    out.push(b' ')?;
-    out.extend_from_slice(year)
 }
 
 /// The year, the month and the day that a text begins with; none of a shorter one.
@@ -35,17 +35,17 @@ fn parts_of(text: &[u8]) -> (&[u8], &[u8], &[u8]) {
 }
 
 /// Writes the time of the clock of a transaction date, as 09:05.
-pub fn put_time(out: &mut Vec<u8>, date: &[u8]) -> Result<(), AllocError> {
-    out.extend_from_slice(date.get(12..14).unwrap_or(b"--"))?;
-    out.push(b':')?;
-    out.extend_from_slice(date.get(14..16).unwrap_or(b"--"))
+pub fn put_time(out: &mut Wording, date: &[u8]) {
+    out.add(date.get(12..14).unwrap_or(b"--"));
+    out.add(b":");
+    out.add(date.get(14..16).unwrap_or(b"--"));
 }
 
 /// Writes the time of a transaction date, and its day before it where that is asked for.
-pub fn put_moment(out: &mut Vec<u8>, date: &[u8], dated: bool) -> Result<(), AllocError> {
+pub fn put_moment(out: &mut Wording, date: &[u8], dated: bool) {
     if dated {
-        put_day(out, date.get(..8).unwrap_or(b""))?;
-        out.extend_from_slice(b", ")?;
+        put_day(out, date.get(..8).unwrap_or(b""));
+        out.add(b", ");
     }
-    put_time(out, date)
+    put_time(out, date);
 }

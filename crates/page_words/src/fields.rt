@@ -1,21 +1,18 @@
 //! The fields of a message, in the order in which it has them.
 
-use crate::lists::{KINDS, cut, known};
-use std::alloc::{AllocError, Global};
+use crate::lists::{KINDS, known};
+use crate::parts::cut;
+use crate::wording::Wording;
+use std::alloc::AllocError;
 
 /// How many variable fields of a message are kept apart.
 const MOST: usize = 100;
 
 /// A field: a fixed one by its name, another by its identifier of two characters.
+#[derive(Clone, Copy)]
 pub struct ShownField<'m> {
     pub name: &'m [u8],
     pub value: &'m [u8],
-}
-
-impl Drop for ShownField<'_> {
-    fn drop(self) {
-        let ShownField { name: _, value: _ } = self;
-    }
 }
 
 /// What is known of the messages that begin as this one.
@@ -35,12 +32,13 @@ pub fn name_of(message: &[u8]) -> &'static [u8] {
     }
 }
 
-/// The fields of a message, in its order. The last of `MOST` variable fields has all the rest of a very long message.
-pub fn fields_of<'m>(alloc: Global, message: &'m [u8]) -> Result<Vec<ShownField<'m>>, AllocError> {
-    let mut fields = Vec::new(alloc);
-    let behind = add_fixed(&mut fields, message.trim_ascii_end())?;
-    add_variable(&mut fields, behind)?;
-    Ok(fields)
+/// Adds the fields of a message, in its order. Of a very long one, all that comes after the first `MOST` is one field.
+pub fn add_fields<'m>(
+    fields: &mut Vec<ShownField<'m>>,
+    message: &'m [u8],
+) -> Result<(), AllocError> {
+    let behind = add_fixed(fields, message.trim_ascii_end())?;
+    add_variable(fields, behind)
 }
 
 /// Adds the fixed fields of a message, and returns what is after them.
@@ -93,23 +91,18 @@ pub fn value_in<'m>(fields: &[ShownField<'m>], name: &[u8]) -> &'m [u8] {
 }
 
 /// Writes the values of all fields of a name, one after the other; `none` where there is none.
-pub fn values_in(
-    out: &mut Vec<u8>,
-    fields: &[ShownField<'_>],
-    name: &[u8],
-) -> Result<(), AllocError> {
+pub fn values_in(out: &mut Wording, fields: &[ShownField<'_>], name: &[u8]) {
     let mut before = b"".as_slice();
     for field in fields {
         if field.name == name {
-            out.extend_from_slice(before)?;
-            out.extend_from_slice(field.value)?;
+            out.add(before);
+            out.add(field.value);
             before = b", ";
         }
     }
     if before.is_empty() {
-        out.extend_from_slice(b"none")?;
+        out.add(b"none");
     }
-    Ok(())
 }
 
 /// The field that stands for this one in another message: the first of its name, and where a name can come more often,

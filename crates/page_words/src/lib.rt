@@ -7,15 +7,19 @@ mod case;
 mod days;
 mod fields;
 mod lists;
+mod parts;
 mod sayings;
 mod sides;
+mod wording;
 
 pub use because::{Because, Origin, because_of};
 pub use case::{Case, CaseNames, TextsById};
 pub use days::{put_day, put_moment, put_time};
-pub use fields::{ShownField, fields_of, name_of, other_of, value_in, values_in};
+pub use fields::{ShownField, add_fields, name_of, other_of, value_in, values_in};
 pub use lists::{
-    ANSWERED, BLOCKED, FEE_TYPES, FIELDS, PLURALS, REASONS, SECRETS, WEIGHTS, WORDS, cut, known,
+    ANSWERED, BLOCKED, FEE_TYPES, FIELDS, PLURALS, REASONS, SECRETS, WEIGHTS, WORDS, known,
 };
-pub use sayings::{Saying, fill, group_saying, put_item, put_patron, say};
+pub use parts::{Parts, cut, split};
+pub use sayings::{fill, group_saying, put_item, put_patron, say};
 pub use sides::{put_recorded, put_right};
+pub use wording::Wording;

@@ -1,5 +1,7 @@
 //! What messages, fields and words are called (3M's SIP 2.00), as lists: in each line a code, `=`, and what stands for it.
 
+use crate::parts::{cut, split};
+
 /// For each message: its name, `;`, and its fixed fields, each with a picture of its length.
 pub const KINDS: &str = "\
 01=block patron;card retained:Y,date:YYYYMMDDZZZZHHMMSS
@@ -208,16 +210,6 @@ Y=blocked
 N=free
 ";
 
-/// What is before the first `mark` of a text and what is after it; without one the text and nothing.
-pub fn cut(text: &[u8], mark: u8) -> (&[u8], &[u8]) {
-    for (position, byte) in text.iter().enumerate() {
-        if *byte == mark {
-            return (&text[..position], &text[position + 1..]);
-        }
-    }
-    (text, b"")
-}
-
 /// Whether a part of a line of a list fits a text: `*` fits any.
 pub(crate) fn fits(part: &[u8], text: &[u8]) -> bool {
     part.starts_with(b"*") || part == text
@@ -225,7 +217,7 @@ pub(crate) fn fits(part: &[u8], text: &[u8]) -> bool {
 
 /// What stands for a code in a list; nothing where the list doesn't have it.
 pub fn known(list: &'static str, code: &[u8]) -> &'static [u8] {
-    for line in list.as_bytes().split(|byte| *byte == b'\n') {
+    for line in split(list.as_bytes(), b'\n') {
         let (name, words) = cut(line, b'=');
         if name == code {
             return words;

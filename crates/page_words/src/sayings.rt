@@ -3,8 +3,9 @@
 use crate::case::{Case, CaseNames, TextsById};
 use crate::days::put_day;
 use crate::fields::{ShownField, value_in, values_in};
-use crate::lists::{BLOCKED, FEE_TYPES, cut, fits, known};
-use std::alloc::AllocError;
+use crate::lists::{BLOCKED, FEE_TYPES, fits, known};
+use crate::parts::{cut, split};
+use crate::wording::Wording;
 
 /// What is said of a word of the report: the word, the identifier of the request, a field of the right response with its
 /// value, and the saying; `*` fits any. Of each word the first line that fits counts. `asked` and `right` are said after a
@@ -93,48 +94,27 @@ unreadable|*|*|the responses cannot be read|
 kind|*|*|responses to something else were recorded|
 ";
 
-/// A saying about several lines.
-#[derive(Clone, Copy)]
-pub struct Saying {
-    /// What is said where it comes out the same for all of them.
-    pub same: &'static [u8],
-    /// What is said else.
-    pub other: &'static [u8],
-}
-
-/// What can be said of several lines like this one, of which the report has this word.
-pub fn group_saying(word: &[u8], case: &Case<'_>) -> Saying {
-    let (same, other) = cut(saying_of(GROUP_SAYINGS, word, case, &case.right), b'|');
-    Saying {
-        same,
-        other: if other.is_empty() { same } else { other },
+/// What can be said of several lines like this one, of which the report has this word: where it comes out the same for all of them, and else.
+pub fn group_saying(word: &[u8], case: &Case<'_>) -> (&'static [u8], &'static [u8]) {
+    match cut(saying_of(GROUP_SAYINGS, word, case, &case.right), b'|') {
+        (same, b"") => (same, same),
+        both => both,
     }
 }
 
 /// Says what a word of the report means for a case.
-pub fn say(
-    out: &mut Vec<u8>,
-    word: &[u8],
-    case: &Case<'_>,
-    names: &CaseNames,
-) -> Result<(), AllocError> {
-    if put_saying(out, word, case, names)? {
-        put_saying(out, b"asked", case, names)?;
-        put_saying(out, b"right", case, names)?;
+pub fn say(out: &mut Wording, word: &[u8], case: &Case<'_>, names: &CaseNames) {
+    if put_saying(out, word, case, names) {
+        put_saying(out, b"asked", case, names);
+        put_saying(out, b"right", case, names);
     }
-    Ok(())
 }
 
 /// Writes what is said of a word. Returns whether the request and what is right are said after it.
-fn put_saying(
-    out: &mut Vec<u8>,
-    word: &[u8],
-    case: &Case<'_>,
-    names: &CaseNames,
-) -> Result<bool, AllocError> {
+fn put_saying(out: &mut Wording, word: &[u8], case: &Case<'_>, names: &CaseNames) -> bool {
     let saying = saying_of(SAYINGS, word, case, &case.right);
-    fill(out, saying, case, &case.right, names)?;
-    Ok(saying.ends_with(b"{}"))
+    fill(out, saying, case, &case.right, names);
+    saying.ends_with(b"{}")
 }
 
 /// What a list says of a word, where a message has these fields; nothing where no line fits.
@@ -144,7 +124,7 @@ pub(crate) fn saying_of(
     case: &Case<'_>,
     fields: &[ShownField<'_>],
 ) -> &'static [u8] {
-    for line in list.as_bytes().split(|byte| *byte == b'\n') {
+    for line in split(list.as_bytes(), b'\n') {
         let (about, line) = cut(line, b'|');
         let (kind, line) = cut(line, b'|');
         let (when, saying) = cut(line, b'|');
@@ -164,36 +144,29 @@ fn is_so(when: &[u8], fields: &[ShownField<'_>]) -> bool {
 /// Writes words, and in each place in braces what stands for it: a field of the request (`?`), of the recorded response (`-`), of the
 /// right one (`+`), or of the message that is meant (`~`).
 pub fn fill<'m>(
-    out: &mut Vec<u8>,
+    out: &mut Wording,
     words: &[u8],
     case: &Case<'m>,
     meant: &[ShownField<'m>],
     names: &CaseNames,
-) -> Result<(), AllocError> {
-    let mut rest = words;
-    for _ in 0..words.len() {
-        if rest.is_empty() {
-            break;
-        }
-        let (before, behind) = cut(rest, b'{');
-        out.extend_from_slice(before)?;
-        let (place, behind) = cut(behind, b'}');
-        put_place(out, place, case, meant, names)?;
-        rest = behind;
+) {
+    for piece in split(words, b'}') {
+        let (before, place) = cut(piece, b'{');
+        out.add(before);
+        put_place(out, place, case, meant, names);
     }
-    Ok(())
 }
 
 /// Writes what stands for a place.
 fn put_place<'m>(
-    out: &mut Vec<u8>,
+    out: &mut Wording,
     place: &[u8],
     case: &Case<'m>,
     meant: &[ShownField<'m>],
     names: &CaseNames,
-) -> Result<(), AllocError> {
+) {
     let Some((side, name)) = place.split_first() else {
-        return Ok(());
+        return;
     };
     let fields = match *side {
         b'?' => case.asked.as_slice(),
@@ -209,22 +182,17 @@ fn put_place<'m>(
 
 /// Writes the value of a field: a day and a code in words, an item with its title, a patron with the name, a count without zeros
 /// before it, any other as it is.
-fn put_value(
-    out: &mut Vec<u8>,
-    name: &[u8],
-    value: &[u8],
-    names: &CaseNames,
-) -> Result<(), AllocError> {
+fn put_value(out: &mut Wording, name: &[u8], value: &[u8], names: &CaseNames) {
     match name {
         b"AH" | b"due" => put_day(out, value),
         b"AB" | b"item" => put_item(out, value, names),
         b"AA" => put_patron(out, value, names),
-        b"type" => out.extend_from_slice(known(FEE_TYPES, value)),
-        b"blocked" => out.extend_from_slice(known(BLOCKED, value)),
+        b"type" => out.add(known(FEE_TYPES, value)),
+        b"blocked" => out.add(known(BLOCKED, value)),
         b"status" => put_status(out, value),
-        _ if value.is_empty() => out.extend_from_slice(b"none"),
-        b"renewed" | b"unrenewed" => out.extend_from_slice(without_zeros(value)),
-        _ => out.extend_from_slice(value),
+        _ if value.is_empty() => out.add(b"none"),
+        b"renewed" | b"unrenewed" => out.add(without_zeros(value)),
+        _ => out.add(value),
     }
 }
 
@@ -237,56 +205,46 @@ static DENIALS: [(usize, &str); 4] = [
 ];
 
 /// Writes what a patron status denies.
-fn put_status(out: &mut Vec<u8>, status: &[u8]) -> Result<(), AllocError> {
+fn put_status(out: &mut Wording, status: &[u8]) {
     let mut before = b"".as_slice();
     for (position, words) in &DENIALS {
         if status.get(*position) == Some(&b'Y') {
-            out.extend_from_slice(before)?;
-            out.extend_from_slice(words.as_bytes())?;
+            out.add(before);
+            out.add(words.as_bytes());
             before = b", ";
         }
     }
     if before.is_empty() {
-        out.extend_from_slice(b"nothing denied")?;
+        out.add(b"nothing denied");
     }
-    Ok(())
 }
 
 /// A count without the zeros before it, of which the last one stays.
 fn without_zeros(count: &[u8]) -> &[u8] {
-    for (position, digit) in count.iter().enumerate() {
-        if *digit != b'0' || position + 1 == count.len() {
-            return &count[position..];
-        }
+    let mut rest = count;
+    for _ in 1..count.len() {
+        rest = rest.strip_prefix(b"0").unwrap_or(rest);
     }
-    count
+    rest
 }
 
 /// Writes an item, and its title in brackets where it has one.
-pub fn put_item(out: &mut Vec<u8>, item: &[u8], names: &CaseNames) -> Result<(), AllocError> {
+pub fn put_item(out: &mut Wording, item: &[u8], names: &CaseNames) {
     put_named(out, item, &names.titles)
 }
 
 /// Writes a patron, and the name in brackets where there is one.
-pub fn put_patron(out: &mut Vec<u8>, patron: &[u8], names: &CaseNames) -> Result<(), AllocError> {
+pub fn put_patron(out: &mut Wording, patron: &[u8], names: &CaseNames) {
     put_named(out, patron, &names.patrons)
 }
 
-fn put_named(out: &mut Vec<u8>, id: &[u8], texts: &TextsById) -> Result<(), AllocError> {
-    out.extend_from_slice(id)?;
-    let text = text_in(texts, id);
-    if text.is_empty() {
-        return Ok(());
-    }
-    out.extend_from_slice(b" (")?;
-    out.extend_from_slice(text)?;
-    Ok(out.push(b')')?)
-}
-
-/// The text that belongs to an id; nothing where there is none.
-fn text_in<'t>(texts: &'t TextsById, id: &[u8]) -> &'t [u8] {
-    match texts.get(id) {
-        Some(text) => text,
-        None => b"",
+fn put_named(out: &mut Wording, id: &[u8], texts: &TextsById) {
+    out.add(id);
+    if let Some(text) = texts.get(id) {
+        if !text.is_empty() {
+            out.add(b" (");
+            out.add(text);
+            out.add(b")");
+        }
     }
 }

@@ -4,7 +4,7 @@ use crate::case::{Case, CaseNames};
 use crate::fields::ShownField;
 use crate::lists::known;
 use crate::sayings::{fill, saying_of};
-use std::alloc::AllocError;
+use crate::wording::Wording;
 
 /// What a response says about a word of the report, in few words: the word, the identifier of the request, a field of the response with
 /// its value, and what it says.
@@ -46,37 +46,27 @@ kind=whole
 ";
 
 /// Writes what was recorded where the report has this word.
-pub fn put_recorded(
-    out: &mut Vec<u8>,
-    word: &[u8],
-    case: &Case<'_>,
-    names: &CaseNames,
-) -> Result<(), AllocError> {
+pub fn put_recorded(out: &mut Wording, word: &[u8], case: &Case<'_>, names: &CaseNames) {
     match word {
-        b"missing" => out.extend_from_slice(b"nothing"),
-        b"unreadable" => out.extend_from_slice(b"not readable"),
-        b"kind" => out.extend_from_slice(case.recorded_name),
+        b"missing" => out.add(b"nothing"),
+        b"unreadable" => out.add(b"not readable"),
+        b"kind" => out.add(case.recorded_name),
         _ => put_side(out, word, case, &case.recorded, names),
     }
 }
 
 /// Writes what is right where the report has this word.
-pub fn put_right(
-    out: &mut Vec<u8>,
-    word: &[u8],
-    case: &Case<'_>,
-    names: &CaseNames,
-) -> Result<(), AllocError> {
+pub fn put_right(out: &mut Wording, word: &[u8], case: &Case<'_>, names: &CaseNames) {
     put_side(out, word, case, &case.right, names)
 }
 
 fn put_side<'m>(
-    out: &mut Vec<u8>,
+    out: &mut Wording,
     word: &[u8],
     case: &Case<'m>,
     fields: &[ShownField<'m>],
     names: &CaseNames,
-) -> Result<(), AllocError> {
+) {
     let whole = known(OF_ALL, word);
     let about = if whole.is_empty() { word } else { whole };
     let saying = saying_of(SIDES, about, case, fields);

@@ -7,7 +7,7 @@ use crate::subjects::{SubjectChange, Subjects};
 use csv::ByteRecord;
 use csv_table::column;
 use page_run::{BaseTexts, BothTexts, NameTexts};
-use page_words::{Case, CaseNames, ShownField, TextsById, cut, fill};
+use page_words::{Case, CaseNames, ShownField, TextsById, Wording, fill};
 use std::alloc::{AllocError, Global};
 use std::collections::BTreeMap;
 
@@ -95,7 +95,7 @@ fn check_same(
     out: &TextsById,
 ) -> Result<(), PageError> {
     for (id, text) in base {
-        if out.get(id.as_slice()).map(|it| it.as_slice()) != Some(text.as_slice()) {
+        if out.get(id.as_slice()) != Some(text) {
             return Err(PageError::of_row(alloc, file, id));
         }
     }
@@ -119,9 +119,9 @@ pub fn note_changes(
     let patrons = (base.names.patrons.as_slice(), after.patrons.as_slice());
     let [loans, holds, fees] = [both(&base.loans), both(&base.holds), both(&base.fees)];
     let of_items = changes_of(alloc, &OF_ITEMS, &[items, loans, holds], names)?;
-    share(alloc, &of_items, &mut findings.items)?;
+    share(alloc, of_items, &mut findings.items)?;
     let of_patrons = changes_of(alloc, &OF_PATRONS, &[patrons, loans, fees, holds], names)?;
-    share(alloc, &of_patrons, &mut findings.patrons)
+    share(alloc, of_patrons, &mut findings.patrons)
 }
 
 /// A table before the run, and after it.
@@ -129,8 +129,7 @@ fn both(texts: &BothTexts) -> (&[u8], &[u8]) {
     (texts.before.as_slice(), texts.after.as_slice())
 }
 
-/// What changed, by whom and what it is about: the old text, then, if there is one, a line feed (no text of a table
-/// has one) and the new text.
+/// What changed: the texts of `SubjectChange`, where what it says may be the old text alone.
 type Changes = BTreeMap<Vec<u8>, Vec<u8>>;
 
 /// How tables differ before the run and after it: each with the sentence of its rows.
@@ -180,9 +179,9 @@ fn filled(
     case: &Case<'_>,
     names: &CaseNames,
 ) -> Result<Vec<u8>, AllocError> {
-    let mut out = Vec::new(alloc);
-    fill(&mut out, words.as_bytes(), case, &case.right, names)?;
-    Ok(out)
+    let mut out = Wording::new(alloc);
+    fill(&mut out, words.as_bytes(), case, &case.right, names);
+    out.finish()
 }
 
 /// The columns of a row as the fields of a case. An item is there a second time to be written as its id alone, and a patron to be written
@@ -192,25 +191,17 @@ fn case_of_row<'r>(
     table: &TableFile,
     row: &'r ByteRecord,
 ) -> Result<Case<'r>, AllocError> {
-    let mut case = Case {
-        kind: b"",
-        recorded_name: b"",
-        asked: Vec::new(alloc),
-        recorded: Vec::new(alloc),
-        right: Vec::new(alloc),
-    };
+    let mut case = Case::new(alloc, b"", b"");
     for (position, header) in table.header.iter().enumerate() {
         let name = header.as_bytes();
         let value = column(row, position);
         case.right.push(ShownField { name, value })?;
-        match name {
-            b"item" => case.right.push(ShownField {
-                name: b"thing",
-                value,
-            })?,
-            b"patron" => case.right.push(ShownField { name: b"AA", value })?,
-            _ => {}
-        }
+        let name = match name {
+            b"item" => b"thing".as_slice(),
+            b"patron" => b"AA",
+            _ => continue,
+        };
+        case.right.push(ShownField { name, value })?;
     }
     Ok(case)
 }
@@ -238,28 +229,17 @@ fn compare(
 /// Gives each change to its patron or item, and returns those of others.
 fn share(
     alloc: Global,
-    changes: &Changes,
+    changes: Changes,
     subjects: &mut Subjects,
 ) -> Result<Vec<SubjectChange>, PageError> {
     let mut others = Vec::new(alloc);
     for (about, says) in changes {
-        let change = change_of(alloc, about, says)?;
-        match subjects.get_mut(change.id.as_slice()) {
+        let change = SubjectChange { about, says };
+        let [id, ..] = change.texts();
+        match subjects.get_mut(id) {
             Some(subject) => subject.changes.push(change)?,
             None => others.push(change)?,
         }
     }
     Ok(others)
-}
-
-/// What was said before and after of something.
-fn change_of(alloc: Global, about: &[u8], says: &[u8]) -> Result<SubjectChange, AllocError> {
-    let (id, what) = cut(about, b'\n');
-    let (before, after) = cut(says, b'\n');
-    Ok(SubjectChange {
-        id: Vec::from_slice(alloc, id)?,
-        what: Vec::from_slice(alloc, what)?,
-        before: Vec::from_slice(alloc, before)?,
-        after: Vec::from_slice(alloc, if after.is_empty() { b"none" } else { after })?,
-    })
 }

@@ -3,24 +3,31 @@
 use crate::groups::Group;
 use crate::reading::LineRows;
 use crate::whys::Whys;
-use page_words::{ANSWERED, Case, CaseNames, WEIGHTS, fill, group_saying, known, value_in};
+use page_words::{
+    ANSWERED, Case, CaseNames, WEIGHTS, Wording, fill, group_saying, known, split, value_in,
+};
 use std::alloc::{AllocError, Global};
 
 /// Writes what is known of a line whose response is wrong into a new group.
 pub fn put_facts(
+    alloc: Global,
     group: &mut Group,
     line: &LineRows,
     case: &Case<'_>,
     names: &CaseNames,
     whys: &Whys,
 ) -> Result<(), AllocError> {
-    put_sayings(group, line.words(), case, names)?;
-    whys.put(&mut group.same, line, case, names)?;
+    let mut same = Wording::new(alloc);
+    let mut other = Wording::new(alloc);
+    group.weight = put_sayings(&mut same, &mut other, line.words(), case, names);
+    whys.put(&mut same, line, case, names)?;
     let reason = known(ANSWERED, whys.reason_of(line.number));
     if !reason.is_empty() {
-        group.other.extend_from_slice(b": ")?;
-        group.other.extend_from_slice(reason)?;
+        other.add(b": ");
+        other.add(reason);
     }
+    group.same = same.finish()?;
+    group.other = other.finish()?;
     let date = value_in(&case.asked, b"date");
     group.words.extend_from_slice(line.words())?;
     group.kind.extend_from_slice(case.kind)?;
@@ -31,8 +38,8 @@ pub fn put_facts(
 
 /// What a group of lines with this reason is found by, and what the groups are put in order by: the weight first.
 pub fn key_of(alloc: Global, group: &Group, reason: &[u8]) -> Result<Vec<u8>, AllocError> {
-    let mut key = Vec::new(alloc);
-    key.push(group.weight)?;
+    let mut key = Wording::new(alloc);
+    key.add(&[group.weight]);
     let parts = [
         group.words.as_slice(),
         group.kind.as_slice(),
@@ -41,32 +48,33 @@ pub fn key_of(alloc: Global, group: &Group, reason: &[u8]) -> Result<Vec<u8>, Al
         group.other.as_slice(),
     ];
     for part in &parts {
-        key.push(b'\n')?;
-        key.extend_from_slice(part)?;
+        key.add(b"\n");
+        key.add(part);
     }
-    Ok(key)
+    key.finish()
 }
 
-/// Writes what each word says of a group of such lines, and weighs the group by the worst one.
+/// Writes what each word says of a group of such lines, and returns the weight of the worst one.
 fn put_sayings(
-    group: &mut Group,
+    same: &mut Wording,
+    other: &mut Wording,
     words: &[u8],
     case: &Case<'_>,
     names: &CaseNames,
-) -> Result<(), AllocError> {
-    for word in words.split(|byte| *byte == b' ') {
+) -> u8 {
+    let mut worst = b'3';
+    for word in split(words, b' ') {
         if word.is_empty() {
             break;
         }
-        if !group.other.is_empty() {
-            group.same.extend_from_slice(b"; ")?;
-            group.other.extend_from_slice(b"; ")?;
+        if !other.is_empty() {
+            same.add(b"; ");
+            other.add(b"; ");
         }
-        let saying = group_saying(word, case);
-        fill(&mut group.same, saying.same, case, &case.right, names)?;
-        group.other.extend_from_slice(saying.other)?;
-        let weight = known(WEIGHTS, word).first().copied().unwrap_or(b'1');
-        group.weight = group.weight.min(weight);
+        let (said, otherwise) = group_saying(word, case);
+        fill(same, said, case, &case.right, names);
+        other.add(otherwise);
+        worst = worst.min(known(WEIGHTS, word).first().copied().unwrap_or(b'1'));
     }
-    Ok(())
+    worst
 }

@@ -71,11 +71,9 @@ pub fn rows_of(
     let mut reader = FileRows::under(alloc, table, text)?;
     let mut rows = Vec::new(alloc);
     for _ in 0..u64::MAX {
-        let mut row = ByteRecord::new(alloc);
-        if !reader.next(&mut row)? {
+        if !reader.push_next(alloc, &mut rows)? {
             break;
         }
-        rows.push(row)?;
     }
     Ok(rows)
 }
@@ -106,6 +104,16 @@ impl<'t> FileRows<'t> {
             }),
             Err(error) => Err(PageError::of_table(error, table.file)),
         }
+    }
+
+    /// Adds the next row to those that were read, and returns false at the end of the table.
+    fn push_next(&mut self, alloc: Global, rows: &mut Vec<ByteRecord>) -> Result<bool, PageError> {
+        let mut row = ByteRecord::new(alloc);
+        let found = self.next(&mut row)?;
+        if found {
+            rows.push(row)?;
+        }
+        Ok(found)
     }
 
     /// Reads the next row, and returns false at the end of the table.

@@ -83,6 +83,17 @@ impl Findings {
         self.days.len() > 1
     }
 
+    /// How many wrong responses have this weight.
+    pub fn wrong_of(&self, weight: u8) -> u64 {
+        let mut count = 0u64;
+        for group in self.groups.values() {
+            if group.weight == weight {
+                count = count.saturating_add(group.count);
+            }
+        }
+        count
+    }
+
     /// How many responses to a message over a connection were right.
     pub fn right_at(&self, kind: &[u8], connection: &[u8]) -> Result<u64, AllocError> {
         let name = message_at(self.alloc, kind, connection)?;
@@ -117,11 +128,10 @@ impl Findings {
         }
         self.last_line = line.number;
         self.lines = self.lines.saturating_add(1);
-        match fate {
-            Fate::Passed => Ok(()),
-            Fate::Right => self.note_answered(line, false, names, whys),
-            Fate::Wrong => self.note_answered(line, true, names, whys),
+        if fate == Fate::Passed {
+            return Ok(());
         }
+        self.note_answered(line, fate == Fate::Wrong, names, whys)
     }
 
     /// Notes an answered line, whose recorded response is wrong or right.
@@ -172,7 +182,7 @@ impl Findings {
     ) -> Result<(), AllocError> {
         let right = self.right_at(case.kind, line.connection())?;
         let mut group = Group::none(self.alloc, right);
-        put_facts(&mut group, line, case, names, whys)?;
+        put_facts(self.alloc, &mut group, line, case, names, whys)?;
         let key = key_of(self.alloc, &group, whys.reason_of(line.number))?;
         count_in(self.alloc, &mut self.groups, &key, group)?;
         if self.wrong > self.limit {
@@ -196,8 +206,5 @@ impl Findings {
 
 /// The name of a message over a connection, in a tally.
 fn message_at(alloc: Global, kind: &[u8], connection: &[u8]) -> Result<Vec<u8>, AllocError> {
-    let mut name = Vec::from_slice(alloc, kind)?;
-    name.push(b' ')?;
-    name.extend_from_slice(connection)?;
-    Ok(name)
+    [kind, b" ", connection].concat(alloc)
 }

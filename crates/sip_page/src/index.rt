@@ -4,7 +4,7 @@ use crate::gathered::Gathered;
 use crate::groups::Group;
 use crate::sheet::{Sheet, TABLE_END};
 use crate::tally::Tally;
-use page_words::{PLURALS, WORDS, known, put_day};
+use page_words::{PLURALS, WORDS, Wording, known, put_day, split};
 use std::alloc::{AllocError, Global};
 use std::collections::BTreeMap;
 
@@ -100,7 +100,7 @@ fn put_group<'g>(
 
 /// Puts a group under each of its words.
 fn put_words<'g>(alloc: Global, index: &mut Index<'g>, group: &'g Group) -> Result<(), AllocError> {
-    for word in group.words.split(|byte| *byte == b' ') {
+    for word in split(&group.words, b' ') {
         if word.is_empty() {
             break;
         }
@@ -166,31 +166,24 @@ fn add_links(sheet: &mut Sheet, by: By, groups: &[&Group]) {
 }
 
 /// Adds a table of the wrong responses of each day, or of each hour of the clock.
-pub fn add_times(
-    sheet: &mut Sheet,
-    alloc: Global,
-    caption: &str,
-    head: &str,
-    times: &Tally,
-) -> Result<(), AllocError> {
+pub fn add_times(sheet: &mut Sheet, alloc: Global, caption: &str, head: &str, times: &Tally) {
     sheet.add_head(COUNTS, caption, &[head, COUNT]);
     let mut most = 1;
     for count in times.values() {
         most = most.max(*count);
     }
     for (time, count) in times {
-        let mut words = Vec::new(alloc);
+        let mut words = Wording::new(alloc);
         // an hour has two digits, and a day eight
         if time.len() == 2 {
-            words.extend_from_slice(time)?;
-            words.extend_from_slice(b":00")?;
+            words.add(time);
+            words.add(b":00");
         } else {
-            put_day(&mut words, time)?;
+            put_day(&mut words, time);
         }
-        sheet.add("<tr><th scope=\"row\">", &words);
+        sheet.add_words("<tr><th scope=\"row\">", words);
         add_bar(sheet, *count, most);
         sheet.add_markup("</tr>\n");
     }
     sheet.add_markup(TABLE_END);
-    Ok(())
 }

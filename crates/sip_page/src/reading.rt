@@ -5,7 +5,7 @@ use crate::stop::PageError;
 use csv::ByteRecord;
 use csv_table::column;
 use one_run::{Fate, RunTexts};
-use page_words::{Case, fields_of, name_of};
+use page_words::{Case, add_fields, name_of};
 use std::alloc::{AllocError, Global};
 
 /// A line of the journal with its rows of the answers and of the report.
@@ -61,13 +61,12 @@ impl LineRows {
     pub fn case(&self, alloc: Global) -> Result<Case<'_>, AllocError> {
         let request = column(&self.journal, 2);
         let response = column(&self.journal, 3);
-        Ok(Case {
-            kind: request.get(..2).unwrap_or(b""),
-            recorded_name: name_of(response),
-            asked: fields_of(alloc, request)?,
-            recorded: fields_of(alloc, response)?,
-            right: fields_of(alloc, column(&self.answer, 2))?,
-        })
+        let kind = request.get(..2).unwrap_or(b"");
+        let mut case = Case::new(alloc, kind, name_of(response));
+        add_fields(&mut case.asked, request)?;
+        add_fields(&mut case.recorded, response)?;
+        add_fields(&mut case.right, column(&self.answer, 2))?;
+        Ok(case)
     }
 }
 

@@ -1,6 +1,7 @@
 //! The page as it grows. What is added after a failure is lost, and `bytes` returns the failure.
 
 use page_text::Page;
+use page_words::Wording;
 use std::alloc::{AllocError, Global};
 
 /// The end of a table.
@@ -33,6 +34,14 @@ impl Sheet {
     pub fn add_number(&mut self, markup: &'static str, number: u64) {
         if self.page.add_number(markup, number).is_err() {
             self.failed = true;
+        }
+    }
+
+    /// Adds markup, and words after it.
+    pub fn add_words(&mut self, markup: &'static str, words: Wording) {
+        match words.finish() {
+            Ok(text) => self.add(markup, &text),
+            Err(_) => self.failed = true,
         }
     }
 

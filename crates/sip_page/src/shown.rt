@@ -7,7 +7,7 @@ use crate::messages::add_messages;
 use crate::reading::LineRows;
 use crate::sheet::{Sheet, TABLE_END};
 use crate::subjects::{add_links, items_of, patrons_of};
-use page_words::{Case, put_moment, put_recorded, put_right, say, value_in};
+use page_words::{Case, Wording, put_moment, put_recorded, put_right, say, split, value_in};
 use std::alloc::{AllocError, Global};
 
 const ROWS: &str =
@@ -48,7 +48,7 @@ fn add_group(sheet: &mut Sheet, run: &Gathered, group: &Group) -> Result<(), All
     sheet.add_markup("\" open><summary><h4>");
     match group.shown.first() {
         Some(line) if group.count == 1 => add_single(sheet, run, line)?,
-        None if group.count == 1 => add_group_sentence(sheet, run, group)?,
+        None if group.count == 1 => add_group_sentence(sheet, run, group),
         _ => add_several(sheet, run, group)?,
     }
     sheet.add_left_out(group.count.saturating_sub(group.shown.len() as u64));
@@ -82,54 +82,41 @@ fn add_line_sentence(
     line: &LineRows,
     case: &Case<'_>,
 ) -> Result<(), AllocError> {
-    let mut said = Vec::new(run.alloc);
-    put_said(&mut said, run, line.words(), case)?;
+    let mut said = Wording::new(run.alloc);
+    put_said(&mut said, run, line.words(), case);
     run.whys.put(&mut said, line, case, &run.names)?;
     let date = value_in(&case.asked, b"date");
-    add_moment(sheet, run.alloc, "", date, run.findings.is_dated())?;
+    add_moment(sheet, run.alloc, "", date, run.findings.is_dated());
     sheet.add(", ", line.connection());
     sheet.add_number(", line ", line.number);
-    sheet.add(": ", &said);
+    sheet.add_words(": ", said);
     sheet.add_markup(".</h4></summary>\n");
     Ok(())
 }
 
 /// Adds markup and the time of a transaction date, with its day where that is asked for.
-fn add_moment(
-    sheet: &mut Sheet,
-    alloc: Global,
-    markup: &'static str,
-    date: &[u8],
-    dated: bool,
-) -> Result<(), AllocError> {
-    let mut moment = Vec::new(alloc);
-    put_moment(&mut moment, date, dated)?;
-    sheet.add(markup, &moment);
-    Ok(())
+fn add_moment(sheet: &mut Sheet, alloc: Global, markup: &'static str, date: &[u8], dated: bool) {
+    let mut moment = Wording::new(alloc);
+    put_moment(&mut moment, date, dated);
+    sheet.add_words(markup, moment);
 }
 
 /// Writes what each word of the report says.
-fn put_said(
-    out: &mut Vec<u8>,
-    run: &Gathered,
-    words: &[u8],
-    case: &Case<'_>,
-) -> Result<(), AllocError> {
+fn put_said(out: &mut Wording, run: &Gathered, words: &[u8], case: &Case<'_>) {
     let mut before = b"".as_slice();
-    for word in words.split(|byte| *byte == b' ') {
+    for word in split(words, b' ') {
         if word.is_empty() {
             break;
         }
-        out.extend_from_slice(before)?;
-        say(out, word, case, &run.names)?;
+        out.add(before);
+        say(out, word, case, &run.names);
         before = b"; ";
     }
-    Ok(())
 }
 
 /// Adds the sentence of several lines, what was right around them, and each as a row with its messages.
 fn add_several(sheet: &mut Sheet, run: &Gathered, group: &Group) -> Result<(), AllocError> {
-    add_group_sentence(sheet, run, group)?;
+    add_group_sentence(sheet, run, group);
     add_right_around(sheet, run, group)?;
     sheet.add_markup(ROWS);
     for line in &group.shown {
@@ -140,23 +127,19 @@ fn add_several(sheet: &mut Sheet, run: &Gathered, group: &Group) -> Result<(), A
 }
 
 /// Adds one sentence for all lines of a group, as: `9 checkouts at SELF3, 12:18 to 16:25: due 14 March told, 16 March is right`.
-fn add_group_sentence(sheet: &mut Sheet, run: &Gathered, group: &Group) -> Result<(), AllocError> {
+fn add_group_sentence(sheet: &mut Sheet, run: &Gathered, group: &Group) {
     sheet.add_number("", group.count);
     sheet.add(" ", plural_of(&group.kind));
     sheet.add(" at ", &group.connection);
     let dated = run.findings.is_dated();
-    add_moment(sheet, run.alloc, ", ", &group.first, dated)?;
-    add_moment(sheet, run.alloc, " to ", &group.last, !group.is_one_day())?;
-    sheet.add(
-        ": ",
-        if group.is_same {
-            &group.same
-        } else {
-            &group.other
-        },
-    );
+    add_moment(sheet, run.alloc, ", ", &group.first, dated);
+    add_moment(sheet, run.alloc, " to ", &group.last, !group.is_one_day());
+    if group.is_same {
+        sheet.add(": ", &group.same);
+    } else {
+        sheet.add(": ", &group.other);
+    }
     sheet.add_markup(".</h4></summary>\n");
-    Ok(())
 }
 
 /// Says of a group that began and ended on one day how many such responses were right before, between and after its lines.
@@ -171,9 +154,9 @@ fn add_right_around(sheet: &mut Sheet, run: &Gathered, group: &Group) -> Result<
     sheet.add("<p>It began and ended within hours: of the ", plural);
     sheet.add(" at ", &group.connection);
     sheet.add_number(", ", group.right_at_first);
-    add_moment(sheet, run.alloc, " before ", &group.first, false)?;
+    add_moment(sheet, run.alloc, " before ", &group.first, false);
     sheet.add_number(" and ", after);
-    add_moment(sheet, run.alloc, " after ", &group.last, false)?;
+    add_moment(sheet, run.alloc, " after ", &group.last, false);
     sheet.add_number(" were right, and ", between);
     sheet.add_markup(" between.</p>\n");
     Ok(())
@@ -191,12 +174,12 @@ fn add_line(
     sheet.add_markup("<tr class=\"m\"><td colspan=\"6\"><details><summary>");
     sheet.add_number("Messages of line ", line.number);
     sheet.add_markup("</summary>");
-    let mut because = Vec::new(run.alloc);
+    let mut because = Wording::new(run.alloc);
     if !is_same {
         run.whys.put(&mut because, line, &case, &run.names)?;
     }
     if !because.is_empty() {
-        sheet.add("<p>Because", &because);
+        sheet.add_words("<p>Because", because);
         sheet.add_markup(".</p>\n");
     }
     add_messages(sheet, line, &case);
@@ -215,36 +198,31 @@ fn add_row(
     sheet.add_number("\"><th scope=\"row\">", line.number);
     let date = value_in(&case.asked, b"date");
     let dated = run.findings.is_dated();
-    add_moment(sheet, run.alloc, "</th><td>", date, dated)?;
+    add_moment(sheet, run.alloc, "</th><td>", date, dated);
     sheet.add_markup("</td><td>");
     add_links(sheet, &run.patrons(), &patrons_of(run.alloc, case)?);
     sheet.add_markup("</td><td>");
     add_links(sheet, &run.items(), &items_of(run.alloc, case)?);
-    add_sides(sheet, run, line.words(), case)
+    add_sides(sheet, run, line.words(), case);
+    Ok(())
 }
 
 /// Adds the cells of what was recorded and what is right, word by word, and ends the row.
-fn add_sides(
-    sheet: &mut Sheet,
-    run: &Gathered,
-    words: &[u8],
-    case: &Case<'_>,
-) -> Result<(), AllocError> {
-    let mut recorded = Vec::new(run.alloc);
-    let mut right = Vec::new(run.alloc);
-    for word in words.split(|byte| *byte == b' ') {
+fn add_sides(sheet: &mut Sheet, run: &Gathered, words: &[u8], case: &Case<'_>) {
+    let mut recorded = Wording::new(run.alloc);
+    let mut right = Wording::new(run.alloc);
+    for word in split(words, b' ') {
         if word.is_empty() {
             break;
         }
         if !recorded.is_empty() {
-            recorded.extend_from_slice(b"; ")?;
-            right.extend_from_slice(b"; ")?;
+            recorded.add(b"; ");
+            right.add(b"; ");
         }
-        put_recorded(&mut recorded, word, case, &run.names)?;
-        put_right(&mut right, word, case, &run.names)?;
+        put_recorded(&mut recorded, word, case, &run.names);
+        put_right(&mut right, word, case, &run.names);
     }
-    sheet.add("</td><td>", &recorded);
-    sheet.add("</td><td>", &right);
+    sheet.add_words("</td><td>", recorded);
+    sheet.add_words("</td><td>", right);
     sheet.add_markup("</td></tr>");
-    Ok(())
 }

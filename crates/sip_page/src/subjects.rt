@@ -2,29 +2,38 @@
 
 use crate::gathered::Gathered;
 use crate::sheet::{Sheet, TABLE_END};
-use page_words::{Case, ShownField, TextsById, value_in};
+use page_words::{Case, ShownField, TextsById, cut, value_in};
 use std::alloc::{AllocError, Global};
 use std::collections::BTreeMap;
 
 /// With at most this many wrong responses, their patrons and items are shown open.
 const OPEN: u64 = 100;
 
-/// What a run changed of a patron or an item: whose it is, what it is, before and after.
+/// What a run changed of a patron or an item, in two texts of two lines each (no text of a table has a line feed).
 pub struct SubjectChange {
-    pub id: Vec<u8>,
-    pub what: Vec<u8>,
-    pub before: Vec<u8>,
-    pub after: Vec<u8>,
+    /// Whose it is, and what it is.
+    pub about: Vec<u8>,
+    /// What it was, and what it is now, if it is anything.
+    pub says: Vec<u8>,
 }
 
 impl Drop for SubjectChange {
     fn drop(self) {
-        let SubjectChange {
-            id: _,
-            what: _,
-            before: _,
-            after: _,
-        } = self;
+        let SubjectChange { about: _, says: _ } = self;
+    }
+}
+
+impl SubjectChange {
+    /// Whose it is, what it is, what it was, and what it is now.
+    pub fn texts(&self) -> [&[u8]; 4] {
+        let (id, what) = cut(&self.about, b'\n');
+        let (before, after) = cut(&self.says, b'\n');
+        [
+            id,
+            what,
+            before,
+            if after.is_empty() { b"none" } else { after },
+        ]
     }
 }
 
@@ -71,7 +80,7 @@ fn add_renewed<'m>(ids: &mut Vec<&'m [u8]>, fields: &[ShownField<'m>]) -> Result
 
 /// Adds an id to those that don't have it yet.
 fn add_id<'m>(ids: &mut Vec<&'m [u8]>, id: &'m [u8]) -> Result<(), AllocError> {
-    if !id.is_empty() && !ids.iter().any(|known| *known == id) {
+    if !id.is_empty() && !ids.contains(&id) {
         ids.push(id)?;
     }
     Ok(())
@@ -85,10 +94,7 @@ pub fn note(
     line: u64,
 ) -> Result<(), AllocError> {
     if let Some(subject) = subjects.get_mut(id) {
-        if subject.lines.last().copied() != Some(line) {
-            subject.lines.push(line)?;
-        }
-        return Ok(());
+        return Ok(subject.lines.push(line)?);
     }
     let mut subject = Subject {
         number: (subjects.len() as u64).saturating_add(1),
@@ -218,9 +224,10 @@ fn add_lines(sheet: &mut Sheet, lines: &[u64]) {
 fn add_changes(sheet: &mut Sheet, changes: &[SubjectChange]) {
     sheet.add_markup("<ul>");
     for change in changes {
-        sheet.add("<li>", &change.what);
-        sheet.add(": <span>", &change.before);
-        sheet.add(" &rarr;</span> ", &change.after);
+        let [_, what, before, after] = change.texts();
+        sheet.add("<li>", what);
+        sheet.add(": <span>", before);
+        sheet.add(" &rarr;</span> ", after);
         sheet.add_markup("</li>");
     }
     sheet.add_markup("</ul>");
@@ -238,10 +245,11 @@ fn add_others(sheet: &mut Sheet, others: &[SubjectChange], limit: u64) {
         &["Patron", "What", "Before", "After"],
     );
     for other in others.iter().take(limit as usize) {
-        sheet.add("<tr><th scope=\"row\">", &other.id);
-        sheet.add("</th><td>", &other.what);
-        sheet.add("</td><td>", &other.before);
-        sheet.add("</td><td>", &other.after);
+        let [id, what, before, after] = other.texts();
+        sheet.add("<tr><th scope=\"row\">", id);
+        sheet.add("</th><td>", what);
+        sheet.add("</td><td>", before);
+        sheet.add("</td><td>", after);
         sheet.add_markup("</td></tr>\n");
     }
     sheet.add_markup(TABLE_END);

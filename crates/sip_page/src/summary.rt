@@ -5,7 +5,7 @@ use crate::head::{HEAD, PARTS, STYLE};
 use crate::index::{By, add_index, add_times};
 use crate::sheet::Sheet;
 use command_line::PageOptions;
-use page_words::put_day;
+use page_words::{Wording, put_day};
 use std::alloc::AllocError;
 
 /// What the three weights say, with the markup before the count of each.
@@ -30,8 +30,7 @@ static WEIGHTS: [(u8, &str, &str); 3] = [
 /// Adds the head of the page: what it is of, and where its parts are.
 pub fn add_head(sheet: &mut Sheet, run: &Gathered) -> Result<(), AllocError> {
     let findings = &run.findings;
-    let mut days = Vec::new(run.alloc);
-    put_days(&mut days, run)?;
+    let days = days_of(run)?;
     sheet.add_markup(HEAD);
     if !findings.library.is_empty() {
         sheet.add(": ", &findings.library);
@@ -52,20 +51,21 @@ pub fn add_head(sheet: &mut Sheet, run: &Gathered) -> Result<(), AllocError> {
     Ok(())
 }
 
-/// Writes the day of the journal, or its first and its last.
-fn put_days(out: &mut Vec<u8>, run: &Gathered) -> Result<(), AllocError> {
+/// The day of the journal, or its first and its last, in words.
+fn days_of(run: &Gathered) -> Result<Vec<u8>, AllocError> {
+    let mut words = Wording::new(run.alloc);
     let days = &run.findings.days;
-    let Some((first, _)) = days.first_key_value() else {
-        return out.extend_from_slice(b"no day");
-    };
-    put_day(out, first)?;
-    if let Some((last, _)) = days.last_key_value() {
-        if days.len() > 1 {
-            out.extend_from_slice(b" to ")?;
-            put_day(out, last)?;
+    match (days.first_key_value(), days.last_key_value()) {
+        (Some((first, _)), Some((last, _))) => {
+            put_day(&mut words, first);
+            if run.findings.is_dated() {
+                words.add(b" to ");
+                put_day(&mut words, last);
+            }
         }
+        _ => words.add(b"no day"),
     }
-    Ok(())
+    words.finish()
 }
 
 /// Adds the summary: the wrong responses by weight, word, message, connection and time, then what the page was made from.
@@ -82,10 +82,10 @@ pub fn add_summary(
         add_index(sheet, run, By::Message)?;
         add_index(sheet, run, By::Connection)?;
         if run.findings.is_dated() {
-            add_times(sheet, run.alloc, "day", "Day", &run.findings.days)?;
+            add_times(sheet, run.alloc, "day", "Day", &run.findings.days);
         }
         let hours = &run.findings.hours;
-        add_times(sheet, run.alloc, "hour of the clock", "Hour", hours)?;
+        add_times(sheet, run.alloc, "hour of the clock", "Hour", hours);
     }
     add_facts(sheet, run, options, made_by);
     Ok(())
@@ -95,12 +95,7 @@ pub fn add_summary(
 fn add_weights(sheet: &mut Sheet, run: &Gathered) {
     sheet.add_markup("<ul class=\"w\">\n");
     for (weight, before, after) in &WEIGHTS {
-        let mut count = 0u64;
-        for group in run.findings.groups.values() {
-            if group.weight == *weight {
-                count = count.saturating_add(group.count);
-            }
-        }
+        let count = run.findings.wrong_of(*weight);
         if count > 0 {
             sheet.add_number(before, count);
             sheet.add_markup(after);

@@ -5,7 +5,7 @@ use crate::reading::{LineRows, number_of};
 use crate::stop::PageError;
 use csv::ByteRecord;
 use csv_table::column;
-use page_words::{Case, CaseNames, Origin, because_of, cut, put_moment, value_in};
+use page_words::{Case, CaseNames, Origin, Wording, because_of, cut, put_moment, value_in};
 use std::alloc::{AllocError, Global};
 use std::collections::BTreeMap;
 
@@ -91,18 +91,15 @@ impl Whys {
     /// The reason of a line's answer; nothing where none is known.
     pub fn reason_of(&self, number: u64) -> &[u8] {
         match self.rows.get(&number) {
-            Some(rows) => match rows.first() {
-                Some(row) => column(row, 1),
-                None => b"",
-            },
-            None => b"",
+            Some(rows) if !rows.is_empty() => column(&rows[0], 1),
+            _ => b"",
         }
     }
 
     /// Writes a colon and why the response to a line was wrong, where that is known.
     pub fn put(
         &self,
-        out: &mut Vec<u8>,
+        out: &mut Wording,
         line: &LineRows,
         case: &Case<'_>,
         names: &CaseNames,
@@ -115,31 +112,32 @@ impl Whys {
         let Some(because) = because_of(word, self.reason_of(line.number), &origins) else {
             return Ok(());
         };
-        out.extend_from_slice(b": ")?;
-        let mut since = Vec::new(self.alloc);
-        let date = value_in(&case.asked, b"date");
-        self.put_since(&mut since, because.origin.since, date)?;
-        because.put(out, &since, names)
+        out.add(b": ");
+        let since = self.since_of(because.origin.since, value_in(&case.asked, b"date"))?;
+        because.put(out, &since, names);
+        Ok(())
     }
 
-    /// Writes since when something is so: `, since 09:12 (line 214, SELF2)`.
-    fn put_since(&self, out: &mut Vec<u8>, since: &[u8], date: &[u8]) -> Result<(), AllocError> {
-        let Some(number) = number_of(since) else {
-            if since == b"base".as_slice() {
-                out.extend_from_slice(b", since before the first line")?;
+    /// Since when something is so, in words: `, since 09:12 (line 214, SELF2)`.
+    fn since_of(&self, since: &[u8], date: &[u8]) -> Result<Vec<u8>, AllocError> {
+        let mut words = Wording::new(self.alloc);
+        match number_of(since) {
+            Some(number) => {
+                if let Some(Some(moment)) = self.moments.get(&number) {
+                    let dated = moment.date.get(..8) != date.get(..8);
+                    words.add(b", since ");
+                    put_moment(&mut words, &moment.date, dated);
+                    words.add(b" (line ");
+                    words.add(since);
+                    words.add(b", ");
+                    words.add(&moment.connection);
+                    words.add(b")");
+                }
             }
-            return Ok(());
-        };
-        let Some(Some(moment)) = self.moments.get(&number) else {
-            return Ok(());
-        };
-        out.extend_from_slice(b", since ")?;
-        put_moment(out, &moment.date, moment.date.get(..8) != date.get(..8))?;
-        out.extend_from_slice(b" (line ")?;
-        out.extend_from_slice(since)?;
-        out.extend_from_slice(b", ")?;
-        out.extend_from_slice(&moment.connection)?;
-        Ok(out.push(b')')?)
+            None if since == b"base".as_slice() => words.add(b", since before the first line"),
+            None => {}
+        }
+        words.finish()
     }
 }
 

@@ -1,10 +1,12 @@
 //! The calls of a script, and what the board replies.
 
-use crate::told::{id_of, tell, tell_begun, tell_choice, tell_effect};
-use circ_records::Key;
+ghost use Rattle.std.specs.Prelude.{◌≡◌};
+
+use crate::odd::key_of;
+use crate::told::{tell, tell_begun, tell_choice, tell_effect, tell_number};
 use message_meaning::need;
-use read_set::{Need, PlanName, Version};
-use speculate::{Board, Hand, read_notes};
+use read_set::{Need, Notes, Plan, PlanName, Version};
+use speculate::{Board, read_notes};
 use std::alloc::{AllocError, AllocGlobal, Global};
 use std::sync::Wait;
 use version_store::{Place, VersionTable};
@@ -14,9 +16,9 @@ pub(crate) fn number(word: &str) -> u64 {
     word.parse::<u64>().unwrap_or(u64::MAX)
 }
 
-/// The worker of a number.
-pub(crate) fn worker_of(number: u64) -> u32 {
-    u32::try_from(number).unwrap_or(u32::MAX)
+/// The same of a worker or an attempt.
+pub(crate) fn small(word: &str) -> u32 {
+    word.parse::<u32>().unwrap_or(u32::MAX)
 }
 
 /// A call, as its word and its two arguments, which may be missing.
@@ -35,10 +37,10 @@ pub(crate) fn reply_to<'t, J: PlanName, R: Wait + AllocGlobal>(
     out: &mut String,
 ) -> Result<(), AllocError> {
     let (word, first, second) = parts_of(call);
-    let worker = worker_of(number(first));
+    let worker = small(first);
     match word {
         "take" => tell(out, &board.take(worker, number(second))),
-        "look" => look(rt.alloc(), board, worker, out),
+        "look" => look(rt.alloc(), board, worker, second, out),
         "publish" => {
             let place = place_of(rt, table, board, worker, second)?;
             publish(board, worker, place, out)
@@ -63,12 +65,13 @@ fn tell_of<J: PlanName>(
 ) -> Result<(), AllocError> {
     match word {
         "choose" => tell_choice(out, board.choose()),
-        "clock" => write!(out, "{}", board.clock()),
-        "committed" => write!(out, "{}", board.committed()),
+        "clock" => tell_number(out, "", board.clock()),
+        "committed" => tell_number(out, "", board.committed()),
         "counts" => tell_counts(out, board),
-        _ => match done(next_need(alloc, board, worker)?) {
-            Some(version) => tell_effect(alloc, out, version.answer(), version.writes()),
-            None => out.push_str("nothing yet"),
+        _ => match version_of(alloc, board, worker) {
+            Ok(Some(version)) => tell_effect(alloc, out, version.answer(), version.writes()),
+            Ok(None) => out.push_str("nothing yet"),
+            Err(refused) => Err(refused),
         },
     }
 }
@@ -76,62 +79,60 @@ fn tell_of<J: PlanName>(
 /// Takes, failed checks, stops, commits and live lines.
 fn tell_counts<J: PlanName>(out: &mut String, board: &Board<'_, '_, J>) -> Result<(), AllocError> {
     let counts = board.counts();
-    let (takes, failed, stops) = (counts.takes, counts.failed, counts.stops);
-    let (commits, live) = (counts.commits, counts.live);
-    write!(out, "{takes} {failed} {stops} {commits} {live}")
+    tell_number(out, "", counts.takes)?;
+    tell_number(out, " ", counts.failed)?;
+    tell_number(out, " ", counts.stops)?;
+    tell_number(out, " ", counts.commits)?;
+    tell_number(out, " ", counts.live)
 }
 
-/// What the worker's line in hand needs next.
-fn next_need<J: PlanName>(
+/// The version that the worker's line in hand needs, if it needs no key.
+fn version_of<J: PlanName>(
     alloc: Global,
     board: &Board<'_, '_, J>,
     worker: u32,
-) -> Result<Option<Need<J>>, AllocError> {
-    let (Some(Hand { line, attempt }), Some(noted)) = (board.hand(worker), board.notes(worker))
-    else {
+) -> Result<Option<Version<J>>, AllocError> {
+    let Some(hand) = board.hand(worker) else {
         return Ok(None);
     };
-    let notes = read_notes(alloc, board.plan(), noted)?;
-    Ok(Some(need(alloc, board.plan(), line, attempt, &notes)?))
-}
-
-/// The key that is needed, if it is one.
-fn key_of<J: PlanName>(next: Option<Need<J>>) -> Option<Key> {
-    match next {
-        Some(Need::Key(key)) => Some(key),
-        _ => None,
+    let Some(noted) = board.notes(worker) else {
+        return Ok(None);
+    };
+    match read_notes(alloc, board.plan(), noted) {
+        Ok(notes) => version_on(alloc, board.plan(), hand.line, hand.attempt, &notes),
+        Err(refused) => Err(refused),
     }
 }
 
-/// The version that is needed, if it is one.
-pub(crate) fn done<J: PlanName>(next: Option<Need<J>>) -> Option<Version<J>> {
-    match next {
-        Some(Need::Done(version)) => Some(version),
-        _ => None,
+/// The version of an attempt on these notes, if it needs no further key.
+pub(crate) fn version_on<J: PlanName>(
+    alloc: Global,
+    plan: &Plan,
+    line: u64,
+    attempt: u32,
+    notes: &Notes,
+) -> Result<Option<Version<J>>, AllocError>
+    requires { plan.now ≡ J.plan }
+{
+    match need(alloc, plan, line, attempt, notes) {
+        Ok(Need::Done(version)) => Ok(Some(version)),
+        Ok(Need::Key(_)) => Ok(None),
+        Err(refused) => Err(refused),
     }
 }
 
-/// A look at the key that is needed next.
+/// A look at the key of an id.
 fn look<J: PlanName>(
     alloc: Global,
     board: &mut Board<'_, '_, J>,
     worker: u32,
+    id: &str,
     out: &mut String,
 ) -> Result<(), AllocError> {
-    match key_of(next_need(alloc, board, worker)?) {
-        Some(key) => look_at(board, worker, &key, out),
+    match key_of(alloc, id)? {
+        Some(key) => tell(out, &board.look(worker, &key)),
         None => out.push_str("no key"),
     }
-}
-
-fn look_at<J: PlanName>(
-    board: &mut Board<'_, '_, J>,
-    worker: u32,
-    key: &Key,
-    out: &mut String,
-) -> Result<(), AllocError> {
-    write!(out, "{} ", id_of(key))?;
-    tell(out, &board.look(worker, key))
 }
 
 /// The place of the version to be published: that of the last act; else that of the version which the worker's line needs, or the line
@@ -143,13 +144,14 @@ fn place_of<'t, J: PlanName, R: Wait + AllocGlobal>(
     worker: u32,
     other: &str,
 ) -> Result<Option<Place<'t, J>>, AllocError> {
-    if !other.is_empty() {
-        let next = next_need(rt.alloc(), board, worker_of(number(other)))?;
-        return Ok(put(rt, table, done(next)));
+    let placing = board.placing(worker);
+    if placing.is_some() && other.is_empty() {
+        return Ok(placing);
     }
-    match board.placing(worker) {
-        Some(place) => Ok(Some(place)),
-        None => Ok(put(rt, table, done(next_need(rt.alloc(), board, worker)?))),
+    let of = if other.is_empty() { worker } else { small(other) };
+    match version_of(rt.alloc(), board, of) {
+        Ok(version) => Ok(put(rt, table, version)),
+        Err(refused) => Err(refused),
     }
 }
 

@@ -10,7 +10,7 @@
 //! | Call of the board | What it does |
 //! |---|---|
 //! | `take WORKER LINE` | `taken ATTEMPT` |
-//! | `look WORKER` | looks at the key that the line needs next: `ID seen NAME`, a name being `base` or a line and its attempt, `1.0` |
+//! | `look WORKER ID` | `seen NAME`, a name being `base` or a line and its attempt, `1.0`; as a step, a look at the key that the line needs next |
 //! | `publish WORKER` | an act of the version of the last act, else of the one that the line needs |
 //! | `publish WORKER OTHER` | an act of a new version, the one that the other worker's line needs |
 //! | `check WORKER LINE`, `commit LINE` | the calls of these names; `changed ID NOTED FOUND` |

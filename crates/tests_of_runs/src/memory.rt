@@ -83,9 +83,12 @@ impl<'a, R: Abort> Memory<'a, R> {
     }
 
     fn place(&self, path: &str) -> Option<usize> {
-        self.files
-            .iter()
-            .position(|file| file.path.as_str() == path)
+        for place in 0..self.files.len() {
+            if self.files[place].path.as_str() == path {
+                return Some(place);
+            }
+        }
+        None
     }
 
     /// Whether the next call is answered well.

@@ -13,14 +13,14 @@ use std::alloc::{AllocError, AllocGlobal, Global};
 use std::process::Abort;
 use std::test::Fail;
 
-/// The key of an id: a patron's begins with P or X, a fee's with F, and an item's otherwise.
+/// The key of an id: a patron's begins with P or X, a fee's with F or R, and an item's otherwise.
 pub(crate) fn key_of(alloc: Global, id: &str) -> Result<Option<Key>, AllocError> {
     let Some(read) = Id::read(alloc, id.as_bytes())? else {
         return Ok(None);
     };
     Ok(Some(if id.starts_with("P") || id.starts_with("X") {
         Key::Patron(read)
-    } else if id.starts_with("F") {
+    } else if id.starts_with("F") || id.starts_with("R") {
         Key::Fee(read)
     } else {
         Key::Item(read)

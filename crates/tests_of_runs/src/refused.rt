@@ -63,6 +63,19 @@ fn by_workers<R: Threads + Wait + Sync + AllocGlobal + Abort>(
     run
 }
 
+fn run_by<R: Threads + Wait + Sync + AllocGlobal + Abort>(
+    rt: &R,
+    way: Way,
+    inputs: &Inputs,
+    steps: &[Step],
+) -> Result<Output, Fault> {
+    match way {
+        Way::OneThread => one_thread(rt.alloc(), inputs),
+        Way::Steps => by_steps(rt, inputs, steps),
+        Way::Workers => by_workers(rt, inputs),
+    }
+}
+
 /// Whether a run gave the output that is wanted. Else it was out of memory.
 fn is_given<R: Threads + Wait + Sync + AllocGlobal + Abort>(
     rt: &R,
@@ -71,16 +84,8 @@ fn is_given<R: Threads + Wait + Sync + AllocGlobal + Abort>(
 ) -> Result<bool, AllocError> {
     let inputs = inputs_of(rt.alloc(), script)?;
     let steps = steps_of(rt.alloc(), script)?;
-    let run = match way {
-        Way::OneThread => one_thread(rt.alloc(), &inputs),
-        Way::Steps => by_steps(rt, &inputs, steps.as_slice()),
-        Way::Workers => by_workers(rt, &inputs),
-    };
-    match run {
-        Ok(output) => {
-            must_be(rt, &output, script)?;
-            Ok(true)
-        }
+    match run_by(rt, way, &inputs, steps.as_slice()) {
+        Ok(output) => must_be(rt, &output, script),
         Err(fault) => {
             assert!(rt; fault.number() == MEMORY, "another fault");
             Ok(false)
@@ -91,18 +96,18 @@ fn is_given<R: Threads + Wait + Sync + AllocGlobal + Abort>(
 /// The number of the fault out of memory.
 const MEMORY: u8 = 10;
 
-/// Compares an output with the one at the end of a script.
+/// Compares an output with the one at the end of a script, as they must be the same.
 fn must_be<R: AllocGlobal + Abort>(
     rt: &R,
     output: &Output,
     script: &str,
-) -> Result<(), AllocError> {
+) -> Result<bool, AllocError> {
     let (_, wanted) = script.split_once("one thread = \n").unwrap_or(("", ""));
     let mut told = String::new(rt.alloc());
     tell_files(&mut told, output)?;
     told.push_str("\n")?;
     assert_eq!(rt; told.as_str(), wanted);
-    Ok(())
+    Ok(true)
 }
 
 /// Makes a run twice, of which one may be out of memory, and prints what they gave.
@@ -146,7 +151,7 @@ fn try_board<R: Wait + AllocGlobal + Abort + Print>(
     let steps = steps_of(alloc, script)?;
     let Prepared { plan, journal } = judge_inputs(alloc, &inputs)?;
     let output = try_over::<Brand, R>(rt, &plan, &journal, steps.as_slice(), is_driven)?;
-    must_be(rt, &output, script)?;
+    let _ = must_be(rt, &output, script)?;
     let _ = println!(rt; "full output");
     Ok(())
 }

@@ -2,13 +2,13 @@
 
 ghost use Rattle.std.specs.Prelude.{◌≡◌};
 
-use crate::calls::{number, parts_of, reply_to, worker_of};
+use crate::calls::{number, parts_of, reply_to, small};
 use crate::shared::share_board;
 use crate::texts::{inputs_of, is_same, plan_of, tell_files};
-use crate::told::tell_fault;
+use crate::told::{tell_fault, tell_number};
 use read_set::{Plan, PlanName};
 use replay_run::{Inputs, Output, Run, Step, one_thread, rebuild_by_steps};
-use speculate::{Board, drive_in_order, play};
+use speculate::{Board, Halt, drive_in_order, play};
 use std::alloc::{AllocError, AllocGlobal, Global};
 use std::marker::Brand;
 use std::process::Abort;
@@ -44,7 +44,7 @@ fn start_of<'i>(inputs: &'i Inputs, text: &str) -> Start<'i> {
     let (attempt, clock) = line.split_once(' ').unwrap_or((line, "0"));
     Start {
         inputs,
-        attempt: worker_of(number(attempt)),
+        attempt: small(attempt),
         clock: number(clock),
     }
 }
@@ -53,15 +53,15 @@ fn start_of<'i>(inputs: &'i Inputs, text: &str) -> Start<'i> {
 /// `check` and `commit`.
 fn step_of(call: &str) -> Option<Step> {
     let (word, first, second) = parts_of(call);
-    let number = first.parse::<u64>().ok()?;
-    let worker = worker_of(number);
-    let line = second.parse::<u64>().unwrap_or(0);
+    let (worker, line) = (small(first), number(second));
     match word {
         "take" => Some(Step::Take { worker, line }),
         "look" => Some(Step::Look { worker }),
         "publish" => Some(Step::Publish { worker }),
         "check" => Some(Step::Check { worker, line }),
-        "commit" => Some(Step::Commit { line: number }),
+        "commit" => Some(Step::Commit {
+            line: number(first),
+        }),
         _ => None,
     }
 }
@@ -138,7 +138,8 @@ fn play_calls<'t, J: PlanName + 'static, R: Wait + AllocGlobal>(
 ) -> Result<(), AllocError> {
     for line in calls.split('\n') {
         if let Some((call, _)) = line.split_once(" = ") {
-            write!(out, "{call} = ")?;
+            out.push_str(call)?;
+            out.push_str(" = ")?;
             play_call(rt, table, board, start, call, out)?;
             out.push_str("\n")?;
         }
@@ -156,7 +157,7 @@ fn play_call<'t, J: PlanName + 'static, R: Wait + AllocGlobal>(
     out: &mut String,
 ) -> Result<(), AllocError> {
     match call.split_once(' ') {
-        Some(("run", workers)) => tell_run(rt, start.inputs, worker_of(number(workers)), out),
+        Some(("run", workers)) => tell_run(rt, start.inputs, small(workers), out),
         Some(("one", _)) => tell_one_thread(rt.alloc(), start.inputs, out),
         Some(("play", _)) => tell_play(rt, table, board.plan(), start, out),
         _ => reply_to(rt, table, board, call, out),
@@ -182,7 +183,7 @@ fn tell_run<R: Wait + AllocGlobal>(
     let steps = steps_of(rt.alloc(), out.as_str())?;
     match rebuild_by_steps(rt, rt.alloc(), inputs, workers, steps.as_slice()) {
         Ok(Run::Output(output)) => tell_attempts(rt.alloc(), inputs, &output, out),
-        Ok(Run::Unfinished { committed }) => write!(out, "unfinished {committed}"),
+        Ok(Run::Unfinished { committed }) => tell_number(out, "unfinished ", committed),
         Err(fault) => write!(out, "{fault}"),
     }
 }
@@ -199,7 +200,7 @@ fn tell_attempts(
     }
     out.push_str("output")?;
     for attempt in output.attempts.as_slice() {
-        write!(out, " {attempt}")?;
+        tell_number(out, " ", u64::from(*attempt))?;
     }
     Ok(())
 }
@@ -226,10 +227,15 @@ fn tell_play<J: PlanName + 'static, R: Wait + AllocGlobal>(
     let steps = steps_of(alloc, out.as_str())?;
     let mut board = Board::starting(alloc, plan, WORKERS, start.attempt, start.clock)?;
     if let Err(halt) = play(rt, alloc, table, &mut board, steps.as_slice()) {
-        write!(out, "{} steps, then ", halt.done)?;
-        return tell_fault(out, halt.fault);
+        return tell_halt(out, halt);
     }
     let driven = drive_in_order(rt, alloc, table, &mut board).is_ok();
     let ended = driven && board.finish().is_ok();
     out.push_str(if ended { "driven to the end" } else { "no end" })
+}
+
+fn tell_halt(out: &mut String, halt: Halt) -> Result<(), AllocError> {
+    tell_number(out, "", halt.done as u64)?;
+    out.push_str(" steps, then ")?;
+    tell_fault(out, halt.fault)
 }

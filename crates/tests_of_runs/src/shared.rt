@@ -1,9 +1,8 @@
 //! What the steps of a shared board give, and what comes out after a fault was left.
 
-use crate::calls::{done, number, parts_of, put, worker_of};
+use crate::calls::{number, parts_of, put, small, version_on};
 use crate::odd::key_of;
-use crate::told::{tell, tell_begun, tell_fault};
-use message_meaning::need;
+use crate::told::{tell, tell_begun, tell_fault, tell_number};
 use read_set::{Notes, PlanName};
 use replay_run::NoGate;
 use speculate::{Board, BoardFault, Reply};
@@ -28,8 +27,11 @@ where
     let shared = SharedBoard::new(board, table);
     play_shared(rt, &shared, calls, out)?;
     match shared.close() {
-        Ok(_) => out.push_str("all lines\n"),
-        Err(open) => writeln!(out, "{} lines", open.committed),
+        Ok(_) => out.push_str("all lines committed\n"),
+        Err(open) => {
+            tell_number(out, "lines committed: ", open.committed)?;
+            out.push_str("\n")
+        }
     }
 }
 
@@ -42,7 +44,8 @@ fn play_shared<J: PlanName + Send + Sync + 'static, R: Threads + Wait + Sync + A
     out.push_str("\n")?;
     for line in calls.split('\n') {
         if let Some((call, _)) = line.split_once(" = ") {
-            write!(out, "{call} = ")?;
+            out.push_str(call)?;
+            out.push_str(" = ")?;
             make_call(rt, shared, call, out)?;
             out.push_str("\n")?;
         }
@@ -58,7 +61,7 @@ fn make_call<J: PlanName + Send + Sync + 'static, R: Threads + Wait + Sync + All
     out: &mut String,
 ) -> Result<(), AllocError> {
     let (word, first, second) = parts_of(call);
-    let worker = worker_of(number(first));
+    let worker = small(first);
     match word {
         "begin" => tell_beginning(out, &shared.begin(rt, worker)),
         "look" => look(rt, shared, worker, second, out),
@@ -106,8 +109,8 @@ fn publish<J: PlanName + 'static, R: Wait + AllocGlobal>(
     out: &mut String,
 ) -> Result<(), AllocError> {
     let notes = Notes::new(rt.alloc());
-    let next = need(rt.alloc(), shared.plan(), u64::MAX, 0, &notes)?;
-    match put(rt, shared.table(), done(Some(next))) {
+    let version = version_on(rt.alloc(), shared.plan(), u64::MAX, 0, &notes)?;
+    match put(rt, shared.table(), version) {
         Some(place) => tell_reply(out, &shared.publish(rt, worker, place)),
         None => out.push_str("no version"),
     }

@@ -9,9 +9,9 @@ use std::alloc::{AllocError, Global};
 use std::str::from_utf8;
 use version_store::Found;
 
-/// The id of a key.
-pub(crate) fn id_of(key: &Key) -> &str {
-    shown(key.id())
+/// A word and a number after it.
+pub(crate) fn tell_number(out: &mut String, word: &str, number: u64) -> Result<(), AllocError> {
+    write!(out, "{word}{number}")
 }
 
 fn shown(id: &Id) -> &str {
@@ -22,7 +22,10 @@ fn shown(id: &Id) -> &str {
 pub(crate) fn tell_name(out: &mut String, name: Name) -> Result<(), AllocError> {
     match name {
         Name::Base => out.push_str("base"),
-        Name::Made { line, attempt } => write!(out, "{line}.{attempt}"),
+        Name::Made { line, attempt } => {
+            tell_number(out, "", line)?;
+            tell_number(out, ".", u64::from(attempt))
+        }
     }
 }
 
@@ -30,16 +33,16 @@ pub(crate) fn tell_name(out: &mut String, name: Name) -> Result<(), AllocError> 
 pub(crate) fn tell_found(out: &mut String, found: Found) -> Result<(), AllocError> {
     match found {
         Found::Named(name) => tell_name(out, name),
-        Found::Suspect { line } => write!(out, "suspect {line}"),
+        Found::Suspect { line } => tell_number(out, "suspect ", line),
     }
 }
 
 /// The choice of a free worker.
 pub(crate) fn tell_choice(out: &mut String, choice: Choice) -> Result<(), AllocError> {
     match choice {
-        Choice::Commit(line) => write!(out, "commit {line}"),
-        Choice::Check(line) => write!(out, "check {line}"),
-        Choice::Take(line) => write!(out, "take {line}"),
+        Choice::Commit(line) => tell_number(out, "commit ", line),
+        Choice::Check(line) => tell_number(out, "check ", line),
+        Choice::Take(line) => tell_number(out, "take ", line),
         Choice::Nothing => out.push_str("nothing"),
         Choice::End => out.push_str("end"),
     }
@@ -71,16 +74,18 @@ pub(crate) fn tell<J: PlanName>(
             out.push_str("seen ")?;
             tell_name(out, *name)
         }
-        Reply::Taken { attempt } => write!(out, "taken {attempt}"),
-        Reply::Suspect { line } => write!(out, "suspect {line}"),
-        Reply::Attempts { line } => write!(out, "attempts {line}"),
-        Reply::Changed { key, noted, found } => tell_change(out, id_of(key), *noted, *found),
+        Reply::Taken { attempt } => tell_number(out, "taken ", u64::from(*attempt)),
+        Reply::Suspect { line } => tell_number(out, "suspect ", *line),
+        Reply::Attempts { line } => tell_number(out, "attempts ", *line),
+        Reply::Changed { key, noted, found } => tell_change(out, shown(key.id()), *noted, *found),
         _ => out.push_str(word_of(reply)),
     }
 }
 
 fn tell_change(out: &mut String, id: &str, noted: Name, found: Found) -> Result<(), AllocError> {
-    write!(out, "changed {id} ")?;
+    out.push_str("changed ")?;
+    out.push_str(id)?;
+    out.push_str(" ")?;
     tell_name(out, noted)?;
     out.push_str(" ")?;
     tell_found(out, found)
@@ -105,7 +110,7 @@ fn word_of<J: PlanName>(reply: &Reply<'_, J>) -> &'static str {
 /// A fault of the board.
 pub(crate) fn tell_fault(out: &mut String, fault: BoardFault) -> Result<(), AllocError> {
     match fault {
-        BoardFault::Attempts { line } => write!(out, "attempts {line}"),
+        BoardFault::Attempts { line } => tell_number(out, "attempts ", line),
         BoardFault::ClockSpent => out.push_str("clock spent"),
         BoardFault::Memory => out.push_str("memory"),
     }
@@ -123,7 +128,8 @@ pub(crate) fn tell_effect(
         out.push_str(from_utf8(text.as_slice()).unwrap_or("?"))?;
     }
     for (key, record) in writes {
-        write!(out, "; {}", id_of(key))?;
+        out.push_str("; ")?;
+        out.push_str(shown(key.id()))?;
         tell_record(out, record)?;
     }
     Ok(())
@@ -133,7 +139,9 @@ pub(crate) fn tell_effect(
 fn tell_record(out: &mut String, record: &Record) -> Result<(), AllocError> {
     match record {
         Record::Patron(patron) => {
+            out.push_str(" loans")?;
             tell_ids(out, patron.get().loans.as_slice())?;
+            out.push_str(" fees")?;
             tell_ids(out, patron.get().fees.as_slice())
         }
         Record::Item(item) => {
@@ -141,16 +149,17 @@ fn tell_record(out: &mut String, record: &Record) -> Result<(), AllocError> {
                 Some(loan) => shown(&loan.patron),
                 None => "-",
             };
-            write!(out, " {borrower} {}", item.get().holds.len())
+            out.push_str(" ")?;
+            out.push_str(borrower)?;
+            tell_number(out, " ", item.get().holds.len() as u64)
         }
-        Record::Fee(fee) => write!(out, " {}", fee.get().paid.hundredths()),
+        Record::Fee(fee) => tell_number(out, " ", fee.get().paid.hundredths()),
     }
 }
 
 fn tell_ids(out: &mut String, ids: &[Id]) -> Result<(), AllocError> {
-    out.push_str(if ids.is_empty() { " -" } else { " " })?;
-    for (place, id) in ids.iter().enumerate() {
-        out.push_str(if place > 0 { "+" } else { "" })?;
+    for id in ids {
+        out.push_str("+")?;
         out.push_str(shown(id))?;
     }
     Ok(())

@@ -7,12 +7,12 @@ journal 1,C1,2520260302    100000AOL1|AAP1|,
 journal 2,C1,2520260302    100000AOL1|AAP2|,
 
 take 0 2 = taken 0
-look 0 = P2 seen base
+look 0 P2 = seen base
 publish 0 = placed
 publish 0 = whole
 check 0 2 = same
 take 1 1 = taken 0
-look 1 = P1 seen base
+look 1 P1 = seen base
 publish 1 = placed
 publish 1 = whole
 check 0 2 = whole
@@ -36,14 +36,14 @@ journal 1,C1,2520260302    100000AOL1|AAP1|,
 journal 2,C1,11NN20260302    101500                  AOL1|AAP1|ABI1|ACx|,
 
 take 0 2 = taken 0
-look 0 = P1 seen base
-look 0 = I1 seen base
+look 0 P1 = seen base
+look 0 I1 = seen base
 publish 0 = placed
 publish 0 = placed
 publish 0 = whole
 check 0 2 = same
 take 1 1 = taken 0
-look 1 = P1 seen base
+look 1 P1 = seen base
 publish 1 = placed
 publish 1 = whole
 check 0 2 = same
@@ -56,8 +56,8 @@ commit 2 = later
 choose = check 2
 check 0 2 = changed P1 base 1.0
 take 0 2 = taken 1
-look 0 = P1 seen 1.0
-look 0 = I1 seen base
+look 0 P1 = seen 1.0
+look 0 I1 = seen base
 publish 0 = placed
 publish 0 = placed
 publish 0 = whole
@@ -72,12 +72,12 @@ journal 1,C1,2520260302    100000AOL1|AAP1|,
 journal 2,C1,2520260302    100000AOL1|AAP1|,
 
 take 0 1 = taken 0
-look 0 = P1 seen base
+look 0 P1 = seen base
 publish 0 = placed
 publish 0 = whole
 check 0 1 = same
 take 1 2 = taken 0
-look 1 = P1 seen 1.0
+look 1 P1 = seen 1.0
 publish 1 = placed
 publish 1 = whole
 check 0 1 = whole

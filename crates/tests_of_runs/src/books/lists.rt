@@ -14,8 +14,7 @@ take 0 1 = idle
 take 1 1 = idle
 take 0 0 = idle
 take 0 7 = idle
-look 0 = I1 seen base
-look 0 = no key
+look 0 I1 = seen base
 commit 1 = later
 publish 0 = placed
 publish 0 = whole
@@ -52,10 +51,9 @@ journal 1,C1,1920260302    101500AOL1|ABI1|ACx|CHtorn|,20120260302    101500ABI1
 journal 2,C1,9900302.00AY1AZFCA5,
 
 take 64 1 = idle
-look 64 = no key
 publish 64 = no version
 take 63 1 = taken 0
-look 63 = I1 seen base
+look 63 I1 = seen base
 take 63 2 = idle
 check 64 1 = idle
 commit 64 = idle

@@ -18,20 +18,20 @@ fees F2,P1,01,3.00,1.00
 put P1 patron A | F1+F2
 journal 1,C1,01N20260302    101500AOL1|AL|AAP1|,
 
-24YY Y          00020260302    101500AOL1|AAP1|AEAnn|BLY|BHUSD|BV2.00|; P1 - F1+F2
+24YY Y          00020260302    101500AOL1|AAP1|AEAnn|BLY|BHUSD|BV2.00|; P1 loans fees+F1+F2
 # a fee whose paid is above its amount has the rest 0
 fees F1,P1,01,1.00,0.00
 fees F2,P1,01,3.00,1.00
 put F1 fee 1.00 5.00
 journal 1,C1,01N20260302    101500AOL1|AL|AAP1|,
 
-24YY Y          00020260302    101500AOL1|AAP1|AEAnn|BLY|BHUSD|BV2.00|; P1 - F1+F2
+24YY Y          00020260302    101500AOL1|AAP1|AEAnn|BLY|BHUSD|BV2.00|; P1 loans fees+F1+F2
 # a checkin takes both places of an item that the list names twice
 loans P1,I1,20260316,0
 put P1 patron A I1+V1+I1 |
 journal 1,C1,09N20260302    11000020260302    110000AOL1|ABI1|,
 
-101YUN20260302    110000AOL1|ABI1|AQMain|AJOne|AAP1|CK001|; P1 V1 -; I1 - 0
+101YUN20260302    110000AOL1|ABI1|AQMain|AJOne|AAP1|CK001|; P1 loans+V1 fees; I1 - 0
 # a class that the policy lacks makes the patron unknown
 put P1 patron Z | |
 journal 1,C1,11NN20260302    101500                  AOL1|AAP1|ABI1|,
@@ -60,12 +60,12 @@ fees F2,P1,01,3.00,1.00
 put P1 patron A | F2+F2
 journal 1,C1,01N20260302    101500AOL1|AL|AAP1|,
 
-24YY Y          00020260302    101500AOL1|AAP1|AEAnn|BLY|BHUSD|BV4.00|; P1 - F2+F2
+24YY Y          00020260302    101500AOL1|AAP1|AEAnn|BLY|BHUSD|BV4.00|; P1 loans fees+F2+F2
 # the loans are counted by the places of the list
 put P1 patron A I1+I1 |
 journal 1,C1,2520260302    101500AOL1|AAP1|,
 
-26Y    Y        00020260302    101500AOL1|AAP1|AEAnn|BLY|; P1 I1+I1 -
+26Y    Y        00020260302    101500AOL1|AAP1|AEAnn|BLY|; P1 loans+I1+I1 fees
 # an item that the list names twice is renewed after its renewal
 loans P1,I1,20260310,0
 loans P2,V1,20260310,0

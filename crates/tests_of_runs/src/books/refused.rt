@@ -20,8 +20,7 @@ take 0 1 = taken 0
 take 0 1 = idle
 take 1 1 = idle
 begin 0 = nothing
-look 0 = I1 seen base
-look 0 = no key
+look 0 I1 = seen base
 check 0 1 = idle
 commit 1 = later
 publish 1 0 = idle
@@ -54,7 +53,7 @@ journal 2,C1,2520260302    100000AOL1|AAP2|,
 journal 3,C1,2520260302    100000AOL1|AAP2|,
 
 take 0 1 = taken 0
-look 0 = P1 seen base
+look 0 P1 = seen base
 publish 0 = placed
 publish 0 = whole
 take 0 2 = taken 0
@@ -68,7 +67,7 @@ take 1 3 = idle
 begin 1 = take 3: idle
 commit 1 = later
 check 1 1 = whole
-look 0 = P2 seen base
+look 0 P2 = seen base
 publish 0 = placed
 check 1 2 = idle
 commit 2 = later
@@ -81,7 +80,7 @@ journal 1,C1,2520260302    100000AOL1|AAP1|,
 journal 2,C1,9900302.00AY1AZFCA5,
 
 take 1 1 = taken 0
-look 1 = P1 seen base
+look 1 P1 = seen base
 take 0 2 = taken 0
 publish 1 0 = stranger
 publish 2 0 = idle
@@ -98,7 +97,7 @@ journal 1,C1,1920260302    101500AOL1|ABI1|ACx|CHtorn|,
 journal 2,C1,9900302.00AY1AZFCA5,
 
 take 0 1 = taken 0
-look 0 = I1 seen base
+look 0 I1 = seen base
 take 1 2 = taken 0
 publish 0 1 = stranger
 publish 0 = clock spent
@@ -114,17 +113,17 @@ journal 2,C1,11NN20260302    101500                  AOL1|AAP1|ABI1|ACx|,
 journal 3,C1,15-20260302    101500AAP2|ABI1|,
 
 take 0 2 = taken 0
-look 0 = P1 seen base
-look 0 = I1 seen base
+look 0 P1 = seen base
+look 0 I1 = seen base
 publish 0 = placed
 publish 0 = placed
 publish 0 = whole
 take 0 3 = taken 0
-look 0 = P2 seen base
-look 0 = I1 seen 2.0
+look 0 P2 = seen base
+look 0 I1 = seen 2.0
 publish 0 = whole
 take 0 1 = taken 0
-look 0 = P1 seen base
+look 0 P1 = seen base
 publish 0 = placed
 clock = 18446744073709551615
 publish 0 = whole
@@ -146,13 +145,13 @@ journal 2,C1,11NN20260302    101500                  AOL1|AAP1|ABI1|ACx|,
 journal 3,C1,09N20260302    11000020260302    110000AOL1|ABI1|,
 
 take 0 2 = taken 4294967295
-look 0 = P1 seen base
-look 0 = I1 seen base
+look 0 P1 = seen base
+look 0 I1 = seen base
 publish 0 = placed
 publish 0 = placed
 publish 0 = whole
 take 1 1 = taken 4294967295
-look 1 = P1 seen base
+look 1 P1 = seen base
 publish 1 = placed
 publish 1 = whole
 check 0 2 = changed P1 base 1.4294967295

@@ -8,13 +8,13 @@ journal 2,C1,11NN20260302    101500                  AOL1|AAP1|ABI1|ACx|,
 journal 3,C1,2520260302    101500AOL1|AAP1|,
 
 take 0 2 = taken 0
-look 0 = P1 seen base
-look 0 = I1 seen base
+look 0 P1 = seen base
+look 0 I1 = seen base
 publish 0 = placed
 publish 0 = placed
 publish 0 = whole
 take 0 1 = taken 0
-look 0 = I1 seen base
+look 0 I1 = seen base
 publish 0 = placed
 
 publish_more 0 = whole
@@ -32,7 +32,7 @@ look 1 P1 = suspect 2
 look 1 P1 = idle
 look 0 I1 = seen 1.0
 publish 0 = stranger
-1 lines
+lines committed: 1
 ";
 
 /// Two faults, and each step after them.
@@ -52,5 +52,5 @@ publish_more 0 = left memory
 check 0 1 = left memory
 publish 0 = left memory
 run workers = memory
-0 lines
+lines committed: 0
 ";

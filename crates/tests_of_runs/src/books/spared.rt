@@ -8,17 +8,15 @@ journal 1,C1,1920260302    101500AOL1|ABV1|ACx|CHtorn|,
 journal 2,C1,11NN20260302    101500                  AOL1|AAP1|ABI1|ACx|,
 
 take 0 2 = taken 0
-look 0 = P1 seen base
-look 0 = I1 seen base
-look 0 = no key
-does 0 = 121NUY20260302    101500AOL1|AAP1|ABI1|AJOne|AH20260316    235900|CK001|; P1 V1+I1 -; I1 P1 0
+look 0 P1 = seen base
+look 0 I1 = seen base
+does 0 = 121NUY20260302    101500AOL1|AAP1|ABI1|AJOne|AH20260316    235900|CK001|; P1 loans+V1+I1 fees; I1 P1 0
 publish 0 = placed
 publish 0 = placed
 publish 0 = whole
 clock = 2
 take 1 1 = taken 0
-look 1 = V1 seen base
-look 1 = no key
+look 1 V1 = seen base
 publish 1 = placed
 publish 1 = whole
 clock = 3
@@ -43,22 +41,19 @@ journal 2,C1,1920260302    101500AOL1|ABV1|ACx|CHtorn|,
 journal 3,C1,09N20260302    11000020260302    110000AOL1|ABI1|,
 
 take 0 3 = taken 0
-look 0 = I1 seen base
-look 0 = P1 seen base
-look 0 = no key
-does 0 = 101YUN20260302    110000AOL1|ABI1|AQMain|AJOne|AAP1|CK001|; P1 V1 F1; I1 - 0
+look 0 I1 = seen base
+look 0 P1 = seen base
+does 0 = 101YUN20260302    110000AOL1|ABI1|AQMain|AJOne|AAP1|CK001|; P1 loans+V1 fees+F1; I1 - 0
 publish 0 = placed
 publish 0 = placed
 publish 0 = whole
 take 1 2 = taken 0
-look 1 = V1 seen base
-look 1 = no key
+look 1 V1 = seen base
 publish 1 = placed
 publish 1 = whole
 take 1 1 = taken 0
-look 1 = P1 seen base
-look 1 = F1 seen base
-look 1 = no key
+look 1 P1 = seen base
+look 1 F1 = seen base
 publish 1 = placed
 publish 1 = whole
 clock = 4
@@ -85,17 +80,15 @@ journal 1,C1,29NN20260309    110000                  AOL1|AAP1|ABV1|BOY|,
 journal 2,C1,6520260309    120000AOL1|AAP1|,
 
 take 0 2 = taken 0
-look 0 = P1 seen base
-look 0 = V1 seen base
-look 0 = I1 seen base
-look 0 = no key
+look 0 P1 = seen base
+look 0 V1 = seen base
+look 0 I1 = seen base
 does 0 = 6610001000120260309    120000AOL1|BMI1|BNV1|; I1 P1 0
 publish 0 = placed
 publish 0 = whole
 take 1 1 = taken 0
-look 1 = P1 seen base
-look 1 = V1 seen base
-look 1 = no key
+look 1 P1 = seen base
+look 1 V1 = seen base
 publish 1 = placed
 publish 1 = placed
 publish 1 = placed

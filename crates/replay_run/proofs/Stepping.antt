@@ -1,6 +1,6 @@
 -- Why a run by steps gives no output.
-use Rattle.std.proofs.Common.{◌≡◌, ◌∙◌, ◌≤◌, ℕ, zero, suc, List, Result, Ok, Err, IfOk, length, map, ap, arith, refl}
-use Rattle.std.proofs.lemmas.List.{length-map}
+use Rattle.std.proofs.Common.{◌≡◌, ◌∙◌, ◌≤◌, ℕ, zero, suc, List, Result, Ok, Err, IfOk, length, ap, arith, refl}
+use Rattle.std.proofs.lemmas.List.{length-map, length-replicate}
 use Rattle.std.proofs.lemmas.List.FromFn.{length-map-range_with_len}
 use Rattle.sip_reader.specs.Reading.{reading}
 use Rattle.journal_table.specs.Entry.{Entry}
@@ -17,7 +17,7 @@ use Rattle.replay_run.specs.BySteps.{AreWorkers, FailsBySteps, IsRun, IsRunOf, a
 use Rattle.replay_run.specs.ByWorkers.{IsMadeOf, MayFail}
 use Rattle.replay_run.specs.Faults.{board_fault}
 use Rattle.replay_run.specs.Judgements.{Fails, Accepted, Refused}
-use Rattle.replay_run.specs.OneThread.{IsOutputBy}
+use Rattle.replay_run.specs.OneThread.{IsOutput, IsOutputBy}
 use Rattle.replay_run.specs.declared.by_steps.Run.{Run}
 use Rattle.replay_run.specs.declared.by_steps.Run.TheVariants as runs
 use Rattle.replay_run.specs.declared.inputs.Output.{Output}
@@ -76,6 +76,13 @@ pub each-once : (plan : Planned) (lines : List Entry) (b : Board) (o : Output) �
 each-once plan lines b o fits output =
     ap length output.attempts
     ∙ length-map-range_with_len (attempt_on b) plan.first (length plan.readings)
+    ∙ ap length fits
+    ∙ length-map lines (λ (line : Entry). reading line.request)
+
+pub in-order-each-once : (plan : Planned) (lines : List Entry) (o : Output) → plan.readings ≡ readings_of lines → IsOutput plan lines o → length o.attempts.items ≡ length lines
+in-order-each-once plan lines o fits output =
+    ap length output.attempts
+    ∙ length-replicate (length plan.readings) 0
     ∙ ap length fits
     ∙ length-map lines (λ (line : Entry). reading line.request)
 

@@ -9,12 +9,14 @@ ghost use Rattle.replay_run.specs.Attempts.{AreOnePerLine};
 ghost use Rattle.replay_run.specs.BySteps.{AreWorkers, attempts_on};
 ghost use Rattle.replay_run.specs.ByWorkers.{IsByWorkers, IsMade, MayFail};
 ghost use Rattle.replay_run.specs.Entries.{AreEntries};
-ghost use Rattle.replay_run.specs.OneThread.{IsOutputBy, judgement};
+ghost use Rattle.replay_run.specs.OneThread.{IsOutput, IsOutputBy, judgement};
 ghost use Rattle.speculate.specs.Driving.{RunsTo};
 
 use crate::fault::Fault;
 use crate::inputs::{Inputs, Output};
 use crate::prepared::Prepared;
+use crate::replay::replay;
+use crate::replay_end::ReplayEnd;
 use crate::run::{judge_parallel, put_together};
 use board_steps::WORKERS_MAX;
 use circ_records::{RecordMap, Records};
@@ -31,7 +33,7 @@ use std::thread::Threads;
 use version_store::VersionTable;
 use worker_pool::{Gate, SharedBoard, run_workers};
 
-/// The output of one thread, made by 1 to 64 workers in threads; its attempts are those that were committed. The faults: first
+/// The output of one thread, made by 1 to 64 workers, several of them in threads; its attempts are those that were committed. The faults: first
 /// the number of workers, then those of the inputs, then the first that a worker meets. The gate is called after each worker's
 /// steps.
 ///
@@ -54,13 +56,59 @@ pub fn rebuild<G: Gate + Sync, R: Threads + Wait + Sync>(
     }
     match judge_parallel(rt, alloc, inputs) {
         Ok(Prepared { plan, journal }) => {
-            let output = run_named::<Brand, G, R>(rt, alloc, &plan, &journal, workers, gate);
+            let output = run(rt, alloc, &plan, &journal, workers, gate);
             forget(plan);
             forget(journal);
             output
         }
         Err(fault) => Err(fault),
     }
+}
+
+/// The run over the plan of a journal: by workers round a board or, as one worker has nobody to share a board with, in order.
+fn run<G: Gate + Sync, R: Threads + Wait + Sync>(
+    rt: &R,
+    alloc: Global,
+    plan: &Plan,
+    journal: &Journal,
+    workers: u32,
+    gate: &G,
+) -> Result<Output, Fault>
+    requires fits { plan.now.readings ≡ readings_of journal.now }
+    requires workers { AreWorkers workers }
+    ensures output { IsMade (record { plan = plan.now; lines = journal.now }) result }
+    ensures attempts { IfOk result (λ o. length o.attempts.items ≡ length journal.now) }
+{
+    if workers == 1 {
+        let output = run_in_order(rt, alloc, plan, journal, gate)?;
+        Ok(output)
+    } else {
+        run_named::<Brand, G, R>(rt, alloc, plan, journal, workers, gate)
+    }
+}
+
+/// The output of one thread over the plan of a journal; the result tables are made by all cores. The outcome of the replay isn't dropped.
+fn run_in_order<G: Gate, R: Threads + Sync>(
+    rt: &R,
+    alloc: Global,
+    plan: &Plan,
+    journal: &Journal,
+    gate: &G,
+) -> Result<Output, AllocError>
+    requires { plan.now.readings ≡ readings_of journal.now }
+    ensures { IfOk result (IsOutput plan.now journal.now) }
+{
+    let replayed = replay(alloc, plan, gate)?;
+    let outcome = collect(
+        alloc,
+        &ReplayEnd {
+            plan,
+            replayed: &replayed,
+        },
+    )?;
+    let output = output_parallel(rt, alloc, plan, journal, outcome)?;
+    forget(replayed);
+    Ok(output)
 }
 
 /// The run of the workers over the plan of a journal. A fault that they return ends it, whatever is committed by then. Where they
@@ -113,7 +161,7 @@ fn finish_in_order<'p, 't, J: PlanName + 'static, R: Wait>(
     }
 }
 
-/// The output of a board on which all lines are committed; the result tables are made by all cores.
+/// The output of a board on which all lines are committed.
 fn collect_parallel<J: PlanName + 'static, R: Threads + Sync>(
     rt: &R,
     alloc: Global,
@@ -130,6 +178,24 @@ fn collect_parallel<J: PlanName + 'static, R: Threads + Sync>(
     let outcome = collect(alloc, &finished)?;
     // its memory is needed for the texts
     drop(finished);
+    let output = output_parallel(rt, alloc, plan, journal, outcome)?;
+    Ok(output)
+}
+
+/// The output of a run over the plan of a journal that ended with the records and the answers of one thread; the result tables are made by
+/// all cores.
+fn output_parallel<R: Threads + Sync>(
+    rt: &R,
+    alloc: Global,
+    plan: &Plan,
+    journal: &Journal,
+    outcome: Outcome<'_>,
+) -> Result<Output, AllocError>
+    requires fits { plan.now.readings ≡ readings_of journal.now }
+    requires answers { answers_behind outcome.answers.items ≡ answers_of plan.now }
+    requires records { AreEntries (last plan.now) outcome.records }
+    ensures { IfOk result (IsOutputBy plan.now journal.now outcome.entry.attempts.items) }
+{
     let Outcome {
         records,
         answers,

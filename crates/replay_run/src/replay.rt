@@ -17,6 +17,7 @@ use message_meaning::perform;
 use read_set::{Effect, Plan, Stop};
 use sip_answer::Answer;
 use std::alloc::{AllocError, Global};
+use worker_pool::{Gate, Moment};
 
 /// The outcome of a replay: the records after the last line, and of each line its answer, where it has one, and the keys of
 /// the records that it wrote.
@@ -27,8 +28,8 @@ pub struct Replayed {
     pub written: WrittenKeys,
 }
 
-/// The outcome of the lines of a plan, taken in order by one thread.
-pub fn replay(alloc: Global, plan: &Plan) -> Result<Replayed, AllocError>
+/// The outcome of the lines of a plan, taken in order by one thread. The gate is called as after the steps of a worker 0.
+pub fn replay<G: Gate>(alloc: Global, plan: &Plan, gate: &G) -> Result<Replayed, AllocError>
     ensures { IfOk result (IsReplay plan.now) }
 {
     let count = plan.readings().len();
@@ -37,20 +38,23 @@ pub fn replay(alloc: Global, plan: &Plan) -> Result<Replayed, AllocError>
     let mut answers = Vec::with_capacity(alloc, count)?;
     let mut written = WrittenKeys::with_room(alloc, count)?;
     for i in 0..count {
-        take_line(
-            alloc,
-            plan,
-            first + i as u64,
-            &mut live,
-            &mut answers,
-            &mut written,
-        )?;
+        let line = first + i as u64;
+        gate.at(0, line, Moment::Taken);
+        take_line(alloc, plan, line, &mut live, &mut answers, &mut written)?;
+        pass(gate, line);
     }
     Ok(Replayed {
         records: live.into_records(alloc)?,
         answers,
         written,
     })
+}
+
+/// Calls the gate for a line that is taken: nobody else changes a record, so it is published, checked and committed at once.
+fn pass<G: Gate>(gate: &G, line: u64) {
+    gate.at(0, line, Moment::Whole);
+    gate.at(0, line, Moment::Checked);
+    gate.at(0, line, Moment::Committed);
 }
 
 /// Takes the line of a number on the records as they are, and puts its answer, where it has one, after the others, which have the capacity for it.

@@ -11,14 +11,14 @@ returns-then-workers-eq0-clause-output g c = inr ((λ are. omega (arith, c.if-wo
 pub returns-then-workers-gt-WORKERS_MAX-clause-output : goal.returns-then-workers-gt-WORKERS_MAX-clause-output
 returns-then-workers-gt-WORKERS_MAX-clause-output g c = inr ((λ are. omega (arith, c.if-workers-gt-WORKERS_MAX.true, are.1)), refl)
 
-pub run_named-output-requires-clause-workers : goal.run_named-output-requires-clause-workers
-run_named-output-requires-clause-workers g c κs within = crew c.args.workers c.if-workers-eq0.false c.if-workers-gt-WORKERS_MAX.false
+pub run-output-requires-clause-workers : goal.run-output-requires-clause-workers
+run-output-requires-clause-workers g c κs within = crew c.args.workers c.if-workers-eq0.false c.if-workers-gt-WORKERS_MAX.false
 
 pub returns-in-Ok-clause-output : goal.returns-in-Ok-clause-output
 returns-in-Ok-clause-output g c =
     inl (
       crew c.args.workers c.if-workers-eq0.false c.if-workers-gt-WORKERS_MAX.false,
-      subst (λ due. IsMadeOf due c.run_named-output.result) (sym c.in-Ok.ensures.due) c.run_named-output.ensures.output,
+      subst (λ due. IsMadeOf due c.run-output.result) (sym c.in-Ok.ensures.due) c.run-output.ensures.output,
     )
 
 pub returns-in-Err-clause-output : goal.returns-in-Err-clause-output
@@ -29,4 +29,4 @@ returns-in-Err-clause-output g c =
     )
 
 pub returns-in-Ok-clause-attempts : goal.returns-in-Ok-clause-attempts
-returns-in-Ok-clause-attempts g c = subst (λ due. IfOk c.run_named-output.result (λ o. AreOnePerLine due o.attempts.items)) (sym c.in-Ok.ensures.due) c.run_named-output.ensures.attempts
+returns-in-Ok-clause-attempts g c = subst (λ due. IfOk c.run-output.result (λ o. AreOnePerLine due o.attempts.items)) (sym c.in-Ok.ensures.due) c.run-output.ensures.attempts

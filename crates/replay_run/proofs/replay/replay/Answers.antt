@@ -9,7 +9,7 @@ use Rattle.replay_run.specs.Answers.{first_answers}
 use Rattle.replay_run.proofs.replay.replay.Goals as goal
 
 pub loop-i-preserved : goal.loop-i-preserved
-loop-i-preserved c =
+loop-i-preserved g c =
     let so = c.loop-i.invariant.0 in
     let plan : Planned = c.args.plan.now in
     let before = after plan c.loop-i.i in
@@ -25,7 +25,7 @@ loop-i-preserved c =
     )
 
 pub returns : goal.returns
-returns c =
+returns g c =
     let so = c.loop-i.invariant.0 in
     let plan : Planned = c.args.plan.now in
     let all : c.loop-i.i ≡ length plan.readings = grind (arith, common_steps) in

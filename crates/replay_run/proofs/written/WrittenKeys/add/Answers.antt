@@ -1,4 +1,4 @@
-use Rattle.std.proofs.Common.{◌≡◌, ◌∙◌, ◌++◌, ◌∷◌, [], List, length, map, ap, ap₂, sym}
+use Rattle.std.proofs.Common.{◌∙◌, ◌++◌, ◌∷◌, [], List, length, map, ap, ap₂, sym}
 use Rattle.std.proofs.lemmas.List.{length-map}
 use Rattle.circ_records.specs.declared.key.Key.{Key}
 use Rattle.replay_run.specs.Devices.Spans.{keys_in}

@@ -98,8 +98,9 @@ fn version_of<J: PlanName>(
     let Some(noted) = board.notes(worker) else {
         return Ok(None);
     };
-    match read_notes(alloc, board.plan(), noted) {
-        Ok(notes) => version_on(alloc, board.plan(), hand.line, hand.attempt, &notes),
+    let plan = board.plan();
+    match read_notes(alloc, plan, noted) {
+        Ok(notes) => version_on(alloc, plan, hand.line, hand.attempt, &notes),
         Err(refused) => Err(refused),
     }
 }
@@ -148,7 +149,11 @@ fn place_of<'t, J: PlanName, R: Wait + AllocGlobal>(
     if placing.is_some() && other.is_empty() {
         return Ok(placing);
     }
-    let of = if other.is_empty() { worker } else { small(other) };
+    let of = if other.is_empty() {
+        worker
+    } else {
+        small(other)
+    };
     match version_of(rt.alloc(), board, of) {
         Ok(version) => Ok(put(rt, table, version)),
         Err(refused) => Err(refused),

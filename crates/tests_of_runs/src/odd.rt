@@ -71,7 +71,10 @@ fn ids_of(alloc: Global, text: &str) -> Result<Ids, AllocError> {
 
 /// A fee of this amount, of which so much is paid.
 fn fee_of(alloc: Global, amount: &str, paid: &str) -> Result<Option<Record>, AllocError> {
-    let (amount, paid) = (Amount::read(amount.as_bytes()), Amount::read(paid.as_bytes()));
+    let (amount, paid) = (
+        Amount::read(amount.as_bytes()),
+        Amount::read(paid.as_bytes()),
+    );
     match (Id::read(alloc, b"P1")?, amount, paid) {
         (Some(patron), Some(amount), Some(paid)) => {
             let fee = Fee {
@@ -106,12 +109,7 @@ fn put_record(alloc: Global, live: &mut Live, words: &str) -> Result<(), AllocEr
 }
 
 /// What the first line does.
-fn tell_line(
-    alloc: Global,
-    plan: &Plan,
-    text: &str,
-    out: &mut String,
-) -> Result<(), AllocError> {
+fn tell_line(alloc: Global, plan: &Plan, text: &str, out: &mut String) -> Result<(), AllocError> {
     let mut live = Live::over(alloc, plan)?;
     put_records(alloc, &mut live, text)?;
     match perform(alloc, plan, 1, &mut live) {

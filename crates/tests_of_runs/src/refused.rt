@@ -119,7 +119,14 @@ fn try_twice<R: Threads + Wait + Sync + AllocGlobal + Abort + Print>(
     let one = is_given(rt, way, script)?;
     let other = is_given(rt, way, script)?;
     assert!(rt; one || other, "out of memory twice");
-    let _ = println!(rt; "{}", if one && other { "full output" } else { "out of memory" });
+    let _ = println!(rt;
+        "{}",
+        if one && other {
+            "full output"
+        } else {
+            "out of memory"
+        }
+    );
     Ok(())
 }
 
@@ -176,7 +183,10 @@ fn try_over<J: PlanName + 'static, R: Wait + AllocGlobal + Abort + Print>(
         let other = Board::new(alloc, plan, WORKERS)?;
         let done = steps_to(rt, &table, other, &board, steps);
         let rest = steps.get(done..).unwrap_or(&[]);
-        assert!(rt; play(rt, alloc, &table, &mut board, rest).is_ok(), "out of memory twice");
+        assert!(rt;
+            play(rt, alloc, &table, &mut board, rest).is_ok(),
+            "out of memory twice"
+        );
     }
     let Ok(finished) = board.finish() else {
         panic!(rt; "a line is open")

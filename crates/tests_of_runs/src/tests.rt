@@ -6,7 +6,13 @@ use std::test::Fail;
 
 #[test]
 fn scripts_of_lines_that_run_early(rt: HostRuntime) -> Result<(), Fail> {
-    for book in [rows::STALE, rows::IN_PART, rows::SUSPECT, rows::EARLY, rows::IN_ORDER] {
+    for book in [
+        rows::STALE,
+        rows::IN_PART,
+        rows::SUSPECT,
+        rows::EARLY,
+        rows::IN_ORDER,
+    ] {
         run_scripts(&rt, book)?;
     }
     Ok(())
@@ -14,7 +20,13 @@ fn scripts_of_lines_that_run_early(rt: HostRuntime) -> Result<(), Fail> {
 
 #[test]
 fn scripts_of_calls(rt: HostRuntime) -> Result<(), Fail> {
-    for book in [checked::CHANGES, choices::CHOICES, refused::REFUSED, spared::SPARED, lists::LISTS] {
+    for book in [
+        checked::CHANGES,
+        choices::CHOICES,
+        refused::REFUSED,
+        spared::SPARED,
+        lists::LISTS,
+    ] {
         run_scripts(&rt, book)?;
     }
     Ok(())

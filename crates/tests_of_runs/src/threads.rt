@@ -29,8 +29,11 @@ const TURNS: u32 = 1_000_000;
 
 /// What a gate counts of a line that was whole, checked or committed, and of one that was held and never let go; of one that was taken, 1.
 const WHOLE: u64 = 1_000;
+
 const CHECKED: u64 = 1_000_000;
+
 pub(crate) const COMMITTED: u64 = 1_000_000_000;
+
 const GAVE_UP: u64 = 1_000_000_000_000;
 
 /// Yields until a number is no longer 0; false where it gave up.
@@ -125,7 +128,8 @@ fn tells_the_gate_of_each_step(rt: HostRuntime) {
 fn runs_the_second_line_again_that_was_whole_before_the_first(rt: HostRuntime) {
     let gate = Watch::new(Some(Moment::Whole));
     assert!(rt; attempts_by(&rt, 2, &gate) == Some((0, 1)));
-    assert!(rt; gate.count() < GAVE_UP);
+    let count = gate.count();
+    assert!(rt; count % WHOLE == 3 && count % CHECKED / WHOLE == 3 && count / COMMITTED == 2);
 }
 
 #[test]

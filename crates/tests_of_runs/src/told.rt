@@ -65,10 +65,7 @@ pub(crate) fn tell_begun<J: PlanName>(
 }
 
 /// A reply.
-pub(crate) fn tell<J: PlanName>(
-    out: &mut String,
-    reply: &Reply<'_, J>,
-) -> Result<(), AllocError> {
+pub(crate) fn tell<J: PlanName>(out: &mut String, reply: &Reply<'_, J>) -> Result<(), AllocError> {
     match reply {
         Reply::Seen { name, .. } => {
             out.push_str("seen ")?;

@@ -175,7 +175,9 @@ fn both_stores_agree(rt: HostRuntime) -> Result<(), Fail> {
     let keys = keys_of(rt.alloc())?;
     for script in [EARLY, STALE, LIFTED] {
         let mut out = String::new(rt.alloc());
-        assert!(rt; play_on_both::<Brand, HostRuntime>(&rt, keys.as_slice(), script, &mut out).is_ok());
+        assert!(rt;
+            play_on_both::<Brand, HostRuntime>(&rt, keys.as_slice(), script, &mut out).is_ok()
+        );
         assert_eq!(rt; out.as_str(), script);
     }
     Ok(())

@@ -97,7 +97,12 @@ fn has_written<R: Abort>(memory: &Memory<'_, R>, whole: &Memory<'_, R>, count: u
 }
 
 /// Whether a run of which this call fails has its status, says which file it was about, and has written the files before that.
-fn ends_so<R: Abort>(memory: &Memory<'_, R>, whole: &Memory<'_, R>, status: u8, call: usize) -> bool {
+fn ends_so<R: Abort>(
+    memory: &Memory<'_, R>,
+    whole: &Memory<'_, R>,
+    status: u8,
+    call: usize,
+) -> bool {
     // a path that can't be looked up leads to no file
     if call < LOOKS {
         return status == 0 && has_written(memory, whole, WRITTEN.len());

@@ -52,7 +52,10 @@ impl fmt::Display for PageStop {
                 f.write_str("error: out of memory\n")
             }
             PageStop::NoPage(NoPage::Refused(text)) => f.write_str(text.as_str()),
-            PageStop::File(FileStop::File { path, failure }) => write!(f, "file: {path}: {failure}\n"),
+            PageStop::File(FileStop::File { path, failure }) => write!(
+                f,
+                "file: {path}: {failure}\n"
+            ),
             PageStop::Output => f.write_str("error: standard output takes nothing more\n"),
         }
     }

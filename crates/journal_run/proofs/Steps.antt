@@ -1,12 +1,12 @@
 -- What becomes of a journal that is made, step by step.
-use Rattle.std.proofs.Common.{◌≡◌, ◌+◌, ◌-◌, ◌<◌, ◌≤◌, ℕ, suc, zero, List, [], ◌∷◌, ◌++◌, length, Option, Some, None, Bool, true, false, refl, sym, subst, ap, arith, append_assoc, length-append, ◌∙◌, inl, inr}
+use Rattle.std.proofs.Common.{◌≡◌, ◌+◌, ◌-◌, ◌<◌, ◌≤◌, ℕ, suc, List, [], ◌∷◌, ◌++◌, length, Option, Some, None, Bool, true, false, refl, sym, subst, ap, arith, append_assoc, length-append, ◌∙◌, inl, inr}
 use Rattle.std.specs.Prelude.{if◌then◌else◌, is_some, min}
 use Rattle.std.specs.List.{AllByRecursion}
 use Rattle.std.proofs.lemmas.List.{append-nil}
 use Rattle.journal_table.specs.declared.TheConstants.{LINE_LIMIT}
 use Rattle.log_pairs.specs.Pairs.{Open, Over, Pair, Pending, Request, Response, Said, answered, begins_open, first_connection, has_open, pairs_of, to_come}
-use Rattle.journal_run.specs.Heard.{Lasts, WaitsLong, response_at, responses_in, sums_of, top}
-use Rattle.journal_run.specs.Making.{Closes, Collects, Keeps, Settles, Stays, Takes}
+use Rattle.journal_run.specs.Heard.{Lasts, WaitsLong, response_at, responses_in, top}
+use Rattle.journal_run.specs.Making.{Closes, Collects, Keeps, Settles, Stays}
 use Rattle.journal_run.specs.declared.making.Making.{Making}
 use Rattle.journal_run.specs.declared.making.TheConstants.{PATIENCE}
 use Rattle.journal_run.proofs.Pairs.{answered-append, closed-come, come-length, first-replied, first-unreplied, first-come, first_of, closed-first, asked-answered, over-answered, in-front, responses-append, skipped}

@@ -1,14 +1,7 @@
 -- What was said, by what was found: the same, and that a request gets no response any more after which very many others came.
 use Rattle.std.specs.Prelude.{◌≡◌, ◌+◌, ◌-◌, ◌<◌, ◌⊎◌, ◌++◌, ◌∷◌, ℕ, suc, zero, [], List, None, Option, Some, length, min}
-use Rattle.log_pairs.specs.Pairs.{Over, Pair, Request, Response, Said, answered, pairs_of}
-use Rattle.log_pairs.specs.declared.odd.Direction.{Direction}
-use Rattle.log_pairs.specs.declared.odd.Direction.TheVariants as sides
+use Rattle.log_pairs.specs.Pairs.{Over, Pair, Response, Said, answered, pairs_of}
 use Rattle.journal_run.specs.declared.making.TheConstants.{PATIENCE}
-
--- a message of a side
-abbrev pub said_as : Direction → List ℕ → List ℕ → Said
-said_as sides.Request c m = Request c m
-said_as sides.Response c m = Response c m
 
 -- the response of the pair at this place
 abbrev pub response_at : ℕ → List Pair → Option (List ℕ)

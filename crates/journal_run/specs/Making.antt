@@ -2,7 +2,7 @@
 use Rattle.std.specs.Prelude.{◌≡◌, ◌+◌, ◌-◌, ◌≤◌, ◌++◌, ◌∷◌, ℕ, [], List, false, length, min, true}
 use Rattle.journal_table.specs.declared.TheConstants.{LINE_LIMIT}
 use Rattle.log_pairs.specs.Pairs.{Open, Pair, Said, answered, begins_open, pairs_of, to_come}
-use Rattle.journal_run.specs.Heard.{Lasts, responses_in, sums_of, top}
+use Rattle.journal_run.specs.Heard.{Heard, Lasts, responses_in, sums_of, top}
 use Rattle.journal_run.specs.declared.making.Making.{Making}
 use Rattle.journal_run.specs.declared.making.Taken.{Taken}
 use Rattle.journal_run.specs.declared.making.Taken.TheVariants.{Refused}
@@ -32,8 +32,8 @@ pub record Stays (first : ℕ) (said : List Said) (taken : List Pair) (m : Makin
 
 -- The journal takes what is said: no pair is lost, none comes twice, and none is taken as a row.
 abbrev pub Takes : Said → Making → Making → Type 0
-Takes x old new = (first : ℕ) (said : List Said) (taken : List Pair) → Stays first said taken old
-    → (after : List Said) × Lasts (said ++ x ∷ []) after × Stays first after taken new
+Takes x old new = (new.begun ≡ old.begun) × ((first : ℕ) (said : List Said) (taken : List Pair) → Stays first said taken old
+    → (after : List Said) × Lasts (said ++ x ∷ []) after × Stays first after taken new)
 
 -- the same of a message, unless it is refused
 abbrev pub TakesMessage : Taken → Said → Making → Making → Type 0
@@ -54,3 +54,13 @@ pub record Closes (first : ℕ) (said : List Said) (taken : List Pair) (m : Maki
   pub exchanges : m.exchanges ≡ (sums_of said).exchanges
   pub unanswered : m.unanswered ≡ (sums_of said).unanswered
   pub unasked : m.unasked ≡ (sums_of said).unasked
+
+-- The journal takes all this, one after the other.
+abbrev pub TakesAll : List Said → Making → Making → Type 0
+TakesAll xs old new = (new.begun ≡ old.begun) × ((first : ℕ) (said : List Said) (taken : List Pair) → Stays first said taken old
+    → (after : List Said) × Heard said xs after × Stays first after taken new)
+
+-- the same, unless it is refused
+abbrev pub TakesFound : Taken → List Said → Making → Making → Type 0
+TakesFound (Refused why) xs old new = new ≡ old
+TakesFound taken xs old new = TakesAll xs old new

@@ -2,7 +2,8 @@
 
 ghost use Rattle.std.specs.Prelude.{◌≡◌, ◌+◌, ◌<◌, ◌≤◌, ◌++◌, ◌∷◌, [], ℕ, List, OnOk, IfOk, false, true, length, is_some, if◌then◌else◌};
 ghost use Rattle.log_pairs.specs.Pairs.{Over, Pair, Request, Response, Said, begins_open};
-ghost use Rattle.journal_run.specs.Heard.{Lasts, said_as};
+ghost use Rattle.journal_run.specs.Heard.{Lasts};
+ghost use Rattle.journal_run.specs.Found.{said_as};
 ghost use Rattle.journal_run.specs.Making.{Closes, Collects, Keeps, Stays, Takes, TakesMessage};
 
 use journal_table::{CONNECTION_LIMIT, LINE_LIMIT};
@@ -61,7 +62,8 @@ pub enum Taken {
 impl Making {
     /// A journal whose first row has this number.
     pub fn new(alloc: Global, first: u64) -> Making
-        ensures { Stays first [] [] result }
+        ensures stays { Stays first [] [] result }
+        ensures begun { result.begun ≡ false }
     {
         Making {
             alloc,
@@ -136,7 +138,8 @@ impl Making {
 
     /// Leaves the first request that waits without a response, where too many came after it.
     fn give_up(&mut self) -> Result<(), AllocError>
-        ensures { OnOk result ((first : ℕ) (said : List Said) (taken : List Pair) → Keeps first said taken self.old
+        ensures begun { OnOk result (self.new.begun ≡ self.old.begun) }
+        ensures lasts { OnOk result ((first : ℕ) (said : List Said) (taken : List Pair) → Keeps first said taken self.old
             → begins_open self.old.pairing.pending ≡ true → length self.old.pairing.pending ≤ PATIENCE + 1
             → (after : List Said) × Lasts said after × Stays first after taken self.new) }
     {
@@ -154,7 +157,8 @@ impl Making {
 
     /// No message comes any more: requests that are open stay without a response.
     pub fn close(&mut self) -> Result<(), AllocError>
-        ensures { OnOk result ((first : ℕ) (said : List Said) (taken : List Pair) → Stays first said taken self.old → Closes first said taken self.new) }
+        ensures begun { OnOk result (self.new.begun ≡ self.old.begun) }
+        ensures closes { OnOk result ((first : ℕ) (said : List Said) (taken : List Pair) → Stays first said taken self.old → Closes first said taken self.new) }
     {
         self.pairing.close();
         self.collect()?;

@@ -1,6 +1,0 @@
-pub mod Ends
-pub mod Pairs
-pub mod Shown
-pub mod Steps
-pub mod Taking
-pub mod UnderWay

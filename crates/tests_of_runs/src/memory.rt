@@ -82,9 +82,7 @@ impl<'a, R: Abort> Memory<'a, R> {
         }
     }
 
-    fn place(&self, path: &str) -> Option<usize>
-        ensures { IfSome result (λ place. place < length self.now.files.items) }
-    {
+    fn place(&self, path: &str) -> Option<usize> {
         for place in 0..self.files.len() {
             if self.files[place].path.as_str() == path {
                 return Some(place);
@@ -111,9 +109,13 @@ impl<'a, R: Abort> Memory<'a, R> {
     fn take(&mut self, path: &str)
         ensures { self.new.calls ≡ self.old.calls }
     {
-        if let Some(place) = self.place(path) {
-            let _ = self.files.swap_remove(place);
+        let mut left = Vec::new(self.alloc);
+        while let Some(file) = self.files.pop() {
+            if file.path.as_str() != path {
+                left.push(file).expect(self.rt, "memory");
+            }
         }
+        self.files = left;
     }
 
     /// Puts a file in place of what was there.

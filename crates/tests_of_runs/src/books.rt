@@ -1,11 +1,5 @@
-//! The books of scripts and of lines over odd records.
+//! The books of rows and of single lines.
 
-pub mod checked;
-pub mod choices;
-pub mod entries;
-pub mod lists;
+pub mod driving;
 pub mod odd;
-pub mod refused;
-pub mod rows;
-pub mod shared;
-pub mod spared;
+pub mod wants;

@@ -1,4 +1,4 @@
-//! The outside that asks the operating system.
+//! `Outside` by calls to the operating system.
 
 ghost use Rattle.std.specs.Prelude.{None};
 
@@ -19,8 +19,8 @@ const INPUT: &str = "-";
 /// The file of the operating system that is standard input.
 const INPUT_FILE: &str = "/dev/stdin";
 
-/// The operating system: files through a runtime, and three streams. No contract says what the system was asked: that each method asks it for just
-/// what the trait says, and returns its reply, has to be checked by reading this file.
+/// The operating system: files through the handle `rt`, and three streams. It keeps no log, so no contract says which calls were made: that each
+/// method makes just the call that the trait names, and returns its result, has to be checked by reading this file.
 pub struct System<'a, R, I, W, E> {
     pub rt: &'a R,
     pub input: I,

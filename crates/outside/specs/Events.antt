@@ -14,7 +14,7 @@ pub data Event : Type 0 where
   Create : List ℕ → List ℕ → Result ⊤ Failure → Event
   -- a file was moved from one path to another, or why not
   Rename : List ℕ → List ℕ → Result ⊤ Failure → Event
-  -- a file was removed; a failure is ignored
+  -- the removal of a file was asked for; whether it failed isn't recorded
   Remove : List ℕ → Event
   -- this text was written to standard output: all of it, or not
   Print : List ℕ → Bool → Event
@@ -24,10 +24,10 @@ pub data Event : Type 0 where
   Exists : List ℕ → Result Bool Failure → Event
   -- a folder was created, or why not
   MakeFolder : List ℕ → Result ⊤ Failure → Event
-  -- a folder was removed with its contents; a failure is ignored
+  -- the removal of a folder with its contents was asked for; whether it failed isn't recorded
   RemoveFolder : List ℕ → Event
 
--- a log with one more event at its end
+-- a log with one more event at its end; a log that isn't known stays so
 unfoldable pub noted : Event → Option (List Event) → Option (List Event)
 noted event None = None
 noted event (Some log) = Some (log ++ event ∷ [])

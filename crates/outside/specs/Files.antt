@@ -25,7 +25,7 @@ written p = Create p.part p.text (Ok tt) ∷ Rename p.part p.path (Ok tt) ∷ []
 abbrev pub all_written : List Place → List Event
 all_written places = flat_map written places
 
--- A file can't be created, or can't be renamed, for this reason; its temporary file is removed.
+-- A file can't be created, or can't be renamed, for this reason; then the removal of its temporary file is asked for.
 abbrev pub FailsToPlace : Place → Failure → List Event → Type 0
 FailsToPlace p failure events =
     (events ≡ Create p.part p.text (Err failure) ∷ Remove p.part ∷ [])

@@ -8,12 +8,12 @@ use Rattle.outside.specs.declared.reading.IfMissing.TheVariants.{Empty}
 use Rattle.outside.specs.declared.reading.FileStop.{FileStop}
 use Rattle.outside.specs.declared.reading.FileStop.TheVariants as stops
 
--- whether this failure is that the file is missing, and it may be
+-- whether the failure is that the file is missing, where that is allowed
 abbrev pub lacks : IfMissing → Failure → Bool
 lacks Empty Missing = true
 lacks missing failure = false
 
--- what a read returned, and the bytes that it counts as: none if the file is missing and may be
+-- what a read returned, and the bytes that it counts as: none if the file is missing, where that is allowed
 abbrev pub IsAnswer : IfMissing → Result (List ℕ) Failure → List ℕ → Type 0
 IsAnswer missing (Ok bytes) text = bytes ≡ text
 IsAnswer missing (Err failure) text = (lacks missing failure ≡ true) × (text ≡ [])
@@ -29,7 +29,7 @@ abbrev pub MayTell : List ℕ → Failure → FileStop → Type 0
 MayTell path failure (stops.File told why) = (string_bytes told ≡ path) × (why ≡ failure)
 MayTell path failure stops.Memory = Unit {0}
 
--- The first of these files are read, in this order; then one fails and is in the error, or memory runs out.
+-- The first of these files are read, in this order; then one fails, with this error, or memory runs out.
 abbrev pub StopsReading : List (List ℕ × IfMissing) → FileStop → List Event → Type 0
 StopsReading files stop [] = stop ≡ stops.Memory
 StopsReading (file ∷ files) stop (Read path (Ok bytes) ∷ events) = (path ≡ file.0) × StopsReading files stop events

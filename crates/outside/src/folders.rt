@@ -6,7 +6,7 @@ ghost use Rattle.outside.specs.Events.{Exists, MakeFolder, RemoveFolder, noted};
 use crate::failure::Failure;
 use crate::outside::Outside;
 
-/// Folders (directories). Each call and its result are recorded in the same log.
+/// Folders (directories). Each call is recorded in the same log, with its result if it has one.
 pub trait Folders: Outside {
     /// Whether there is anything at this path.
     fn exists(&mut self, path: &str) -> Result<bool, Failure>

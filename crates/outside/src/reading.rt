@@ -38,7 +38,7 @@ impl From<AllocError> for FileStop {
 }
 
 impl FileStop {
-    /// The error for a file that failed: out of memory if that was its failure, else its path and failure.
+    /// The error for an operation on this path that failed: its path and failure, or out of memory (as the failure, or when the path is copied).
     pub fn of_file(alloc: Global, failure: Failure, path: &str) -> FileStop
         ensures { MayTell path.now failure result }
     {

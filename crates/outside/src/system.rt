@@ -20,7 +20,7 @@ const INPUT: &str = "-";
 const INPUT_FILE: &str = "/dev/stdin";
 
 /// The operating system: files through the handle `rt`, and three streams. It keeps no log, so no contract says which calls were made: that each
-/// method makes just the call that the trait names, and returns its result, has to be checked by reading this file.
+/// method does just what the trait says of it, and returns that result, has to be checked by reading this file.
 pub struct System<'a, R, I, W, E> {
     pub rt: &'a R,
     pub input: I,
@@ -90,6 +90,7 @@ impl<R: Files, I: Read, W: Write, E: Write + IsTerminal> Outside for System<'_, 
     }
 }
 
+/// All bytes of the file at this path.
 fn bytes_at<R: Files>(rt: &R, alloc: Global, path: &str) -> io::Result<Vec<u8>> {
     read_bytes(alloc, &mut fs::open(rt, path)?)
 }

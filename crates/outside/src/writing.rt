@@ -20,7 +20,7 @@ pub fn file_in_folder(alloc: Global, folder: &str, name: &str) -> Result<String,
 pub struct Unwritten<'a> {
     /// Its path once it is complete.
     path: String,
-    /// Its temporary path, in the same folder: that path and `.part`.
+    /// Its temporary path, in the same folder: `path` with `.part` at its end.
     part: String,
     text: &'a [u8],
 }

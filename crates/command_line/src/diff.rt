@@ -6,7 +6,7 @@ ghost use Rattle.command_line.specs.CommandLine.{IsOwnArg};
 ghost use Rattle.command_line.specs.Diff.{GivesDiff, HasFolders, folder_rule, sip_diff_line};
 ghost use Rattle.command_line.specs.declared.refusal.Refusal.TheVariants.{Memory};
 
-use crate::parts::{program, read, repeated, text_of, texts_of};
+use crate::parts::{bare, program, read, repeated, text_of, texts_of};
 use crate::refusal::Refusal;
 use clap::{Arg, ArgAction, ArgMatches, Command};
 use std::alloc::{AllocError, Global};
@@ -82,11 +82,9 @@ fn folder<'a>(alloc: Global, name: &'a str, value: &'a str, help: &'a str) -> Ar
     ensures own { IsOwnArg name.entry.now result }
     ensures takes { TakesValue result }
 {
-    Arg::new(alloc, name)
-        .value_name(value)
+    bare(alloc, name, value, help)
         .action(ArgAction::Set)
         .required(true)
-        .help(help)
 }
 
 /// The command line of the program.

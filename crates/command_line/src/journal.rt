@@ -1,6 +1,8 @@
 //! The words of the command line of `sip_journal`, read by `clap`.
 
-use crate::parts::{flag, free_text, optional, program, read, repeated, text_if_given, texts_of};
+use crate::parts::{
+    bare, flag, free_text, optional, program, read, repeated, text_if_given, texts_of,
+};
 use crate::refusal::Refusal;
 use clap::{Arg, ArgAction, ArgMatches, Command, value_parser};
 use std::alloc::{AllocError, Global};
@@ -47,6 +49,8 @@ const CAPTURE_HELP: &str =
 
 const PORT_HELP: &str =
     "The server's port in captures; if left out 6001, and on other ports the side that sends responses is the server";
+
+const LOGS_HELP: &str = "The logs, in the order in which they were written; - is standard input";
 
 const AFTER_HELP: &str = "Example:
   sip_journal --try server.log
@@ -201,11 +205,9 @@ fn command<'a>(alloc: Global) -> Result<Command<'a>, AllocError> {
 
 /// The logs, which have no name before them; they must be given where neither captures nor a log to try is.
 fn logs<'a>(alloc: Global) -> Result<Arg<'a>, AllocError> {
-    let arg = Arg::new(alloc, "logs")
-        .value_name("LOG")
+    let instead: [&'a str; 2] = ["try", "capture"];
+    bare(alloc, "logs", "LOG", LOGS_HELP)
         .action(ArgAction::Append)
         .num_args(1..)
-        .help("The logs, in the order in which they were written; - is standard input");
-    arg.required_unless_present("try")?
-        .required_unless_present("capture")
+        .required_unless_present_any(&instead)
 }

@@ -1,9 +1,9 @@
 //! What the command lines of the programs are made of, and how their values are read.
-ghost use Rattle.std.specs.Prelude.{◌≡◌, IfErr, IfOk, Some, is_some, map, option_map, string_bytes, true};
+ghost use Rattle.std.specs.Prelude.{◌≡◌, IfErr, IfOk, None, Some, is_some, map, option_map, string_bytes, true};
 ghost use Rattle.clap.specs.Built.{TakesValue};
 ghost use Rattle.clap.specs.Words.{HasMatchesOf, IsParsedFrom, app_of, first_value, found_of, one_of, rows_of, rule_of, takes};
 ghost use Rattle.command_line.specs.CommandLine.{Counts, IsOwnArg, IsProgram, values_of};
-ghost use Rattle.command_line.specs.CommandLine.{flag_rule, number_rule, path_rule, repeated_rule, optional_rule};
+ghost use Rattle.command_line.specs.CommandLine.{bare_rule, flag_rule, number_rule, path_rule, repeated_rule, optional_rule};
 ghost use Rattle.command_line.specs.declared.refusal.Refusal.TheVariants.{Memory};
 
 use crate::refusal::Refusal;
@@ -48,29 +48,33 @@ pub(crate) fn read<'a, S: AsStr>(
     }
 }
 
-/// An option that must be given and takes a path.
-pub(crate) fn path<'a>(alloc: Global, name: &'a str, value: &'a str, help: &'a str) -> Arg<'a>
-    ensures rule { rule_of result ≡ path_rule name.entry.now }
+/// A value that may be left out, and that has no name before it.
+pub(crate) fn bare<'a>(alloc: Global, name: &'a str, value: &'a str, help: &'a str) -> Arg<'a>
+    ensures rule { rule_of result ≡ bare_rule name.entry.now }
     ensures own { IsOwnArg name.entry.now result }
-    ensures takes { TakesValue result }
+    ensures one { (result.val_delim ≡ None) × (result.num_vals ≡ None) }
 {
-    Arg::new(alloc, name)
-        .long(name)
-        .value_name(value)
-        .action(ArgAction::Set)
-        .required(true)
-        .help(help)
+    Arg::new(alloc, name).value_name(value).help(help)
 }
 
 /// An option that takes a value and may be left out.
 pub(crate) fn optional<'a>(alloc: Global, name: &'a str, value: &'a str, help: &'a str) -> Arg<'a>
     ensures rule { rule_of result ≡ optional_rule name.entry.now }
     ensures own { IsOwnArg name.entry.now result }
+    ensures one { (result.val_delim ≡ None) × (result.num_vals ≡ None) }
 {
-    Arg::new(alloc, name)
-        .long(name)
-        .value_name(value)
-        .help(help)
+    bare(alloc, name, value, help).long(name)
+}
+
+/// An option that must be given and takes a path.
+pub(crate) fn path<'a>(alloc: Global, name: &'a str, value: &'a str, help: &'a str) -> Arg<'a>
+    ensures rule { rule_of result ≡ path_rule name.entry.now }
+    ensures own { IsOwnArg name.entry.now result }
+    ensures takes { TakesValue result }
+{
+    optional(alloc, name, value, help)
+        .action(ArgAction::Set)
+        .required(true)
 }
 
 /// An option that may be given several times.
@@ -78,11 +82,7 @@ pub(crate) fn repeated<'a>(alloc: Global, name: &'a str, value: &'a str, help: &
     ensures rule { rule_of result ≡ repeated_rule name.entry.now }
     ensures own { IsOwnArg name.entry.now result }
 {
-    Arg::new(alloc, name)
-        .long(name)
-        .value_name(value)
-        .action(ArgAction::Append)
-        .help(help)
+    optional(alloc, name, value, help).action(ArgAction::Append)
 }
 
 /// An option that takes a number and may be left out.
@@ -134,13 +134,10 @@ pub(crate) fn text_if_given(
 ) -> Result<Option<String>, AllocError>
     ensures { IfOk result (λ o. option_map string_bytes o ≡ first_value (found_of matches.now) id.now) }
 {
-    match matches.get_str(id) {
-        Some(text) => match String::from_str(alloc, text) {
-            Ok(copy) => Ok(Some(copy)),
-            Err(error) => Err(error),
-        },
-        None => Ok(None),
-    }
+    let Some(text) = matches.get_str(id) else {
+        return Ok(None);
+    };
+    Ok(Some(String::from_str(alloc, text)?))
 }
 
 /// The number of `id`; this one where it has none.

@@ -1,7 +1,7 @@
 //! The words of the command line of `sip_journal`, read by `clap`.
 
 use crate::parts::{
-    bare, flag, free_text, optional, program, read, repeated, text_if_given, texts_of,
+    Chosen, bare, flag, free_text, optional, program, read, repeated, text_if_given, texts_of,
 };
 use crate::refusal::Refusal;
 use clap::{Arg, ArgAction, ArgMatches, Command, value_parser};
@@ -123,16 +123,16 @@ impl Drop for JournalOptions {
 
 /// The options of a journal from the words of a command line, of which the first is the program's name; or why there are none.
 pub fn journal_options<S: AsStr>(alloc: Global, words: &[S]) -> Result<JournalOptions, Refusal> {
-    let matches = read(alloc, command(alloc)?, words)?;
-    Ok(options_in(alloc, &matches)?)
+    read(alloc, command(alloc), words)
 }
 
-/// The options that were read.
-fn options_in(alloc: Global, matches: &ArgMatches<'_>) -> Result<JournalOptions, AllocError> {
-    let mut options = JournalOptions::new(alloc);
-    options.read_form(alloc, matches)?;
-    options.read_files(alloc, matches)?;
-    Ok(options)
+impl Chosen for JournalOptions {
+    fn chosen(alloc: Global, matches: &ArgMatches<'_>) -> Result<JournalOptions, AllocError> {
+        let mut options = JournalOptions::new(alloc);
+        options.read_form(alloc, matches)?;
+        options.read_files(alloc, matches)?;
+        Ok(options)
+    }
 }
 
 impl JournalOptions {

@@ -83,7 +83,7 @@ fn said_by<'w>(line: &'static [u8], origins: &[Origin<'w>]) -> Option<Because<'w
     let (has, line) = cut(line, b'|');
     let (kind, saying) = cut(line, b'|');
     for origin in origins {
-        if origin.kind == kind && (has.starts_with(b"*") || said_of(origin.said, has).is_some()) {
+        if origin.kind == kind && (fits(has, b"") || said_of(origin.said, has).is_some()) {
             return Some(Because {
                 saying,
                 origin: *origin,
@@ -95,14 +95,16 @@ fn said_by<'w>(line: &'static [u8], origins: &[Origin<'w>]) -> Option<Because<'w
 
 /// What is said of a word of a record: `due` in `borrower P1; due 20260316`.
 fn said_of<'w>(said: &'w [u8], word: &[u8]) -> Option<&'w [u8]> {
-    for part in split(said, b';') {
-        if let Some(value) = part.trim_ascii_start().strip_prefix(word) {
-            if value.is_empty() || value.starts_with(b" ") {
-                return Some(value.trim_ascii_start());
-            }
-        }
+    split(said, b';').find_map(|part| value_of(part.trim_ascii_start(), word))
+}
+
+/// What a part says of a word that it begins with.
+fn value_of<'w>(part: &'w [u8], word: &[u8]) -> Option<&'w [u8]> {
+    let value = part.strip_prefix(word)?;
+    match value.first() {
+        None | Some(b' ') => Some(value.trim_ascii_start()),
+        _ => None,
     }
-    None
 }
 
 impl Because<'_> {

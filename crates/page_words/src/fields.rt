@@ -111,7 +111,7 @@ pub fn other_of<'f, 'm>(
     fields: &'f [ShownField<'m>],
     field: &ShownField<'_>,
 ) -> Option<&'f ShownField<'m>> {
-    let often = field.name == b"BM".as_slice() || field.name == b"BN".as_slice();
+    let often = matches!(field.name, b"BM" | b"BN");
     for other in fields {
         if other.name == field.name && (!often || other.value == field.value) {
             return Some(other);

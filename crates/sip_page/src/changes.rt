@@ -160,15 +160,28 @@ fn note_rows(
         return Ok(());
     }
     for row in &rows_of(alloc, &sentence.table, text)? {
-        let case = case_of_row(alloc, &sentence.table, row)?;
-        let about = filled(alloc, sentence.about, &case, names)?;
-        let says = filled(alloc, sentence.says, &case, names)?;
-        if after {
-            compare(alloc, changes, about, &says)?;
-        } else {
-            changes.insert(about, says)?;
-        }
+        note_row(alloc, changes, sentence, row, names, after)?;
     }
+    Ok(())
+}
+
+/// Takes in what a row says, before or after.
+fn note_row(
+    alloc: Global,
+    changes: &mut Changes,
+    sentence: &TableSentence,
+    row: &ByteRecord,
+    names: &CaseNames,
+    after: bool,
+) -> Result<(), AllocError> {
+    let mut case = Case::new(alloc, b"", b"");
+    add_columns(&mut case.right, sentence.table.header, row)?;
+    let about = filled(alloc, sentence.about, &case, names)?;
+    let says = filled(alloc, sentence.says, &case, names)?;
+    if after {
+        return compare(alloc, changes, about, &says);
+    }
+    changes.insert(about, says)?;
     Ok(())
 }
 
@@ -184,26 +197,28 @@ fn filled(
     out.finish()
 }
 
-/// The columns of a row as the fields of a case. An item is there a second time to be written as its id alone, and a patron to be written
-/// with the name.
-fn case_of_row<'r>(
-    alloc: Global,
-    table: &TableFile,
+/// Adds the columns of a row as fields, each under two names. By the second one an item is written as its id alone, and a patron with the name.
+fn add_columns<'r>(
+    fields: &mut Vec<ShownField<'r>>,
+    header: &[&'static str],
     row: &'r ByteRecord,
-) -> Result<Case<'r>, AllocError> {
-    let mut case = Case::new(alloc, b"", b"");
-    for (position, header) in table.header.iter().enumerate() {
-        let name = header.as_bytes();
+) -> Result<(), AllocError> {
+    for (position, name) in header.iter().enumerate() {
+        let name = name.as_bytes();
         let value = column(row, position);
-        case.right.push(ShownField { name, value })?;
-        let name = match name {
-            b"item" => b"thing".as_slice(),
-            b"patron" => b"AA",
-            _ => continue,
-        };
-        case.right.push(ShownField { name, value })?;
+        fields.push(ShownField { name, value })?;
+        let name = second_name(name);
+        fields.push(ShownField { name, value })?;
     }
-    Ok(case)
+    Ok(())
+}
+
+fn second_name(name: &'static [u8]) -> &'static [u8] {
+    match name {
+        b"item" => b"thing",
+        b"patron" => b"AA",
+        _ => name,
+    }
 }
 
 /// Compares a new text with the old one, which is dropped where they agree.

@@ -47,6 +47,17 @@ pub struct Subject {
     pub changes: Vec<SubjectChange>,
 }
 
+impl Subject {
+    /// The one of this number, without a line.
+    fn none(alloc: Global, number: u64) -> Subject {
+        Subject {
+            number,
+            lines: Vec::new(alloc),
+            changes: Vec::new(alloc),
+        }
+    }
+}
+
 /// Patrons or items by their ids.
 pub type Subjects = BTreeMap<Vec<u8>, Subject>;
 
@@ -71,7 +82,7 @@ pub fn items_of<'m>(alloc: Global, case: &Case<'m>) -> Result<Vec<&'m [u8]>, All
 /// Adds the items that a response to a renewal of all loans names.
 fn add_renewed<'m>(ids: &mut Vec<&'m [u8]>, fields: &[ShownField<'m>]) -> Result<(), AllocError> {
     for field in fields {
-        if field.name == b"BM".as_slice() || field.name == b"BN".as_slice() {
+        if matches!(field.name, b"BM" | b"BN") {
             add_id(ids, field.value)?;
         }
     }
@@ -86,23 +97,22 @@ fn add_id<'m>(ids: &mut Vec<&'m [u8]>, id: &'m [u8]) -> Result<(), AllocError> {
     Ok(())
 }
 
-/// Notes that the wrong response of a line is about a patron or an item.
+/// Notes that the wrong response of a line is about these patrons or items.
 pub fn note(
     alloc: Global,
     subjects: &mut Subjects,
-    id: &[u8],
+    ids: &[&[u8]],
     line: u64,
 ) -> Result<(), AllocError> {
-    if let Some(subject) = subjects.get_mut(id) {
-        return Ok(subject.lines.push(line)?);
+    for id in ids {
+        if !subjects.contains_key(*id) {
+            let subject = Subject::none(alloc, (subjects.len() as u64).saturating_add(1));
+            subjects.insert(Vec::from_slice(alloc, id)?, subject)?;
+        }
+        if let Some(subject) = subjects.get_mut(*id) {
+            subject.lines.push(line)?;
+        }
     }
-    let mut subject = Subject {
-        number: (subjects.len() as u64).saturating_add(1),
-        lines: Vec::new(alloc),
-        changes: Vec::new(alloc),
-    };
-    subject.lines.push(line)?;
-    subjects.insert(Vec::from_slice(alloc, id)?, subject)?;
     Ok(())
 }
 

@@ -27,42 +27,43 @@ pub struct Because<'w> {
 }
 
 /// What is said of why a response was wrong: the word of the report, the reason of the answer, what is said of the record, the kind of the record, and
-/// the saying; `*` fits any. The first line that fits counts. A place in braces is the record's id, or what is said of the record.
+/// the saying; `*` fits any. The first line that fits counts. A place in braces has a mark, and the word that it is said of: a patron (`@`), an item (`+`),
+/// a day (`#`), days (`&`), or a text as it is (`=`); `~` says since when it was so.
 const BECAUSES: &str = "\
-*|unknown_patron|*|patron|no table has {id}
-*|unknown_item|*|item|no table has {id}
-fee|*|rental|item|its rental is {rental}
+*|unknown_patron|*|patron|no table has {@id}
+*|unknown_item|*|item|no table has {+id}
+fee|*|rental|item|its rental is {=rental}
 due|*|due day given|item|the request gives that day
-due|*|closed|item|its {days} days end on a closed day: {closed}
-due|*|days|item|it is lent for {days} days
-alert|*|first|item|{first} waits for it first, of {holds}{since}
-alert|*|*|item|nobody waits for it{since}
-available|*|borrower none|item|nobody has it{since}
-available|*|borrower|item|{borrower} has it until {due}{since}
-status|*|blocked Y|patron|{id} is blocked{since}
-valid|*|class|patron|{id} is in the tables{since}
-accepted|*|owed|patron|{id} owed {owed}{since}
-*|own_loan|borrower|item|{borrower} has it until {due}{since}
-*|lent|borrower|item|{borrower} has it until {due}{since}
-*|third_party|borrower|item|{borrower} has it until {due}{since}
-*|not_lent|*|item|nobody has it{since}
-*|queue|first|item|{first} waits for it first, of {holds}{since}
-*|waited_for|first|item|{first} waits for it, of {holds}{since}
-*|blocked|*|patron|{id} is blocked{since}
-*|max_loans|*|patron|{id} has {loans} loans{since}
-*|max_fees|*|patron|{id} owes {owed}{since}
-*|max_renewals|*|item|it was renewed {renewals} times{since}
-*|rental|*|item|nobody agreed to its rental of {rental}
-*|has_entry|*|item|{first} waits for it first, of {holds}{since}
-*|queue_full|*|item|{holds} wait for it{since}
-*|no_entry|*|item|{holds} wait for it, and the patron isn't among them{since}
-*|returned_late|borrower|item|{borrower} had it until {due}{since}, and it came back on {back}
-*|returned|borrower|item|{borrower} had it until {due}{since}
-*|made|borrower none|item|nobody had it{since}
-*|made|borrower|item|{borrower} had it until {due}{since}
-*|renewed|borrower|item|{borrower} had it until {due}{since}
-*|done|class|patron|{id} is in the tables{since}
-*|done|borrower|item|{id} is in the tables{since}";
+due|*|closed|item|its {=days} days end on a closed day: {&closed}
+due|*|days|item|it is lent for {=days} days
+alert|*|first|item|{@first} waits for it first, of {=holds}{~since}
+alert|*|*|item|nobody waits for it{~since}
+available|*|borrower none|item|nobody has it{~since}
+available|*|borrower|item|{@borrower} has it until {#due}{~since}
+status|*|blocked Y|patron|{@id} is blocked{~since}
+valid|*|class|patron|{@id} is in the tables{~since}
+accepted|*|owed|patron|{@id} owed {=owed}{~since}
+*|own_loan|borrower|item|{@borrower} has it until {#due}{~since}
+*|lent|borrower|item|{@borrower} has it until {#due}{~since}
+*|third_party|borrower|item|{@borrower} has it until {#due}{~since}
+*|not_lent|*|item|nobody has it{~since}
+*|queue|first|item|{@first} waits for it first, of {=holds}{~since}
+*|waited_for|first|item|{@first} waits for it, of {=holds}{~since}
+*|blocked|*|patron|{@id} is blocked{~since}
+*|max_loans|*|patron|{@id} has {=loans} loans{~since}
+*|max_fees|*|patron|{@id} owes {=owed}{~since}
+*|max_renewals|*|item|it was renewed {=renewals} times{~since}
+*|rental|*|item|nobody agreed to its rental of {=rental}
+*|has_entry|*|item|{@first} waits for it first, of {=holds}{~since}
+*|queue_full|*|item|{=holds} wait for it{~since}
+*|no_entry|*|item|{=holds} wait for it, and the patron isn't among them{~since}
+*|returned_late|borrower|item|{@borrower} had it until {#due}{~since}, and it came back on {#back}
+*|returned|borrower|item|{@borrower} had it until {#due}{~since}
+*|made|borrower none|item|nobody had it{~since}
+*|made|borrower|item|{@borrower} had it until {#due}{~since}
+*|renewed|borrower|item|{@borrower} had it until {#due}{~since}
+*|done|class|patron|{@id} is in the tables{~since}
+*|done|borrower|item|{+id} is in the tables{~since}";
 
 /// Why a response is wrong in a word of the report, where that is known.
 pub fn because_of<'w>(word: &[u8], reason: &[u8], origins: &[Origin<'w>]) -> Option<Because<'w>> {
@@ -126,15 +127,20 @@ fn put_place(
     since: &[u8],
     names: &CaseNames,
 ) {
-    let value = said_of(origin.said, place).unwrap_or(b"");
-    match place {
-        b"" => {}
-        b"since" => out.add(since),
-        b"id" if origin.kind == b"item".as_slice() => put_item(out, origin.id, names),
-        b"id" => put_patron(out, origin.id, names),
-        b"borrower" | b"first" => put_patron(out, value, names),
-        b"due" | b"back" => put_day(out, value),
-        b"closed" => put_days(out, value),
+    let Some((mark, word)) = place.split_first() else {
+        return;
+    };
+    let value = if word == b"id".as_slice() {
+        origin.id
+    } else {
+        said_of(origin.said, word).unwrap_or(b"")
+    };
+    match *mark {
+        b'~' => out.add(since),
+        b'@' => put_patron(out, value, names),
+        b'+' => put_item(out, value, names),
+        b'#' => put_day(out, value),
+        b'&' => put_days(out, value),
         _ => out.add(value),
     }
 }

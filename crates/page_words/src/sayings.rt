@@ -180,17 +180,31 @@ fn put_place<'m>(
     }
 }
 
-/// Writes the value of a field: a day and a code in words, an item with its title, a patron with the name, a count without zeros
-/// before it, any other as it is.
+/// How a field is written that isn't written as it is: a day in words (`d`), an item with its title (`i`), a patron with the name (`p`), a
+/// type of fees (`t`) and a block (`b`) in words, what a status denies (`s`), and a count without zeros before it (`c`).
+const FORMS: &str = "\
+AH=d
+due=d
+AB=i
+item=i
+AA=p
+type=t
+blocked=b
+status=s
+renewed=c
+unrenewed=c
+";
+
+/// Writes the value of a field.
 fn put_value(out: &mut Wording, name: &[u8], value: &[u8], names: &CaseNames) {
-    match name {
-        b"AH" | b"due" => put_day(out, value),
-        b"AB" | b"item" => put_item(out, value, names),
-        b"AA" => put_patron(out, value, names),
-        b"type" => out.add(known(FEE_TYPES, value)),
-        b"blocked" => out.add(known(BLOCKED, value)),
-        b"status" => put_status(out, value),
-        b"renewed" | b"unrenewed" => put_text(out, without_zeros(value)),
+    match known(FORMS, name).first().copied().unwrap_or(b' ') {
+        b'd' => put_day(out, value),
+        b'i' => put_item(out, value, names),
+        b'p' => put_patron(out, value, names),
+        b't' => out.add(known(FEE_TYPES, value)),
+        b'b' => out.add(known(BLOCKED, value)),
+        b's' => put_status(out, value),
+        b'c' => put_text(out, without_zeros(value)),
         _ => put_text(out, value),
     }
 }

@@ -11,9 +11,11 @@ use page_words::{Case, CaseNames, ShownField, TextsById, Wording, fill};
 use std::alloc::{AllocError, Global};
 use std::collections::BTreeMap;
 
-/// How a row reads: whom and what it is about, on two lines; what it says.
+/// How a row reads: what its columns are called here (`thing` is an item that is written as its id alone, and `AA` a patron that is written with
+/// the name); whom and what it is about, on two lines; what it says.
 struct TableSentence {
     table: TableFile,
+    names: &'static [&'static str],
     about: &'static str,
     says: &'static str,
 }
@@ -22,21 +24,25 @@ struct TableSentence {
 static OF_PATRONS: [TableSentence; 4] = [
     TableSentence {
         table: PATRONS,
+        names: &["id", "name", "class", "blocked"],
         about: "{~id}\nblock",
         says: "{~blocked}",
     },
     TableSentence {
         table: LOANS,
+        names: &["patron", "item", "due", "renewals"],
         about: "{~patron}\nloan of {~item}",
         says: "until {~due}, renewals {~renewals}",
     },
     TableSentence {
         table: FEES,
+        names: &["id", "patron", "type", "amount", "paid"],
         about: "{~patron}\nfee {~id}",
         says: "{~type} {~amount}, paid {~paid}",
     },
     TableSentence {
         table: HOLDS,
+        names: &["item", "patron", "pickup"],
         about: "{~patron}\nhold on {~item}",
         says: "waits, pickup {~pickup}",
     },
@@ -46,16 +52,19 @@ static OF_PATRONS: [TableSentence; 4] = [
 static OF_ITEMS: [TableSentence; 3] = [
     TableSentence {
         table: ITEMS,
+        names: &["id", "title", "media", "location", "properties"],
         about: "{~id}\nproperties",
         says: "{~properties}",
     },
     TableSentence {
         table: LOANS,
+        names: &["AA", "thing", "due", "renewals"],
         about: "{~thing}\nloan",
         says: "to {~AA} until {~due}, renewals {~renewals}",
     },
     TableSentence {
         table: HOLDS,
+        names: &["thing", "AA", "pickup"],
         about: "{~thing}\nhold of {~AA}",
         says: "waits, pickup {~pickup}",
     },
@@ -175,7 +184,7 @@ fn note_row(
     after: bool,
 ) -> Result<(), AllocError> {
     let mut case = Case::new(alloc, b"", b"");
-    add_columns(&mut case.right, sentence.table.header, row)?;
+    add_columns(&mut case.right, sentence.names, row)?;
     let about = filled(alloc, sentence.about, &case, names)?;
     let says = filled(alloc, sentence.says, &case, names)?;
     if after {
@@ -197,28 +206,19 @@ fn filled(
     out.finish()
 }
 
-/// Adds the columns of a row as fields, each under two names. By the second one an item is written as its id alone, and a patron with the name.
+/// Adds the columns of a row as fields of these names.
 fn add_columns<'r>(
     fields: &mut Vec<ShownField<'r>>,
-    header: &[&'static str],
+    names: &[&'static str],
     row: &'r ByteRecord,
 ) -> Result<(), AllocError> {
-    for (position, name) in header.iter().enumerate() {
-        let name = name.as_bytes();
-        let value = column(row, position);
-        fields.push(ShownField { name, value })?;
-        let name = second_name(name);
-        fields.push(ShownField { name, value })?;
+    for (position, name) in names.iter().enumerate() {
+        fields.push(ShownField {
+            name: name.as_bytes(),
+            value: column(row, position),
+        })?;
     }
     Ok(())
-}
-
-fn second_name(name: &'static [u8]) -> &'static [u8] {
-    match name {
-        b"item" => b"thing",
-        b"patron" => b"AA",
-        _ => name,
-    }
 }
 
 /// Compares a new text with the old one, which is dropped where they agree.

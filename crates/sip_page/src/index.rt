@@ -74,21 +74,12 @@ pub fn add_index(sheet: &mut Sheet, run: &Gathered, by: By) -> Result<(), AllocE
 
 /// Adds a row for each name.
 fn add_names(sheet: &mut Sheet, by: By, index: &Index<'_>) {
-    let most = most_of(index);
+    let most = index.values().map(|entry| entry.count).max().unwrap_or(0);
     for (name, entry) in index {
         add_name(sheet, by, name);
         add_bar(sheet, entry.count, most);
         add_links(sheet, by, &entry.groups);
     }
-}
-
-/// The largest count.
-fn most_of(index: &Index<'_>) -> u64 {
-    let mut most = 1;
-    for entry in index.values() {
-        most = most.max(entry.count);
-    }
-    most
 }
 
 /// The groups under their words, messages or connections.
@@ -184,10 +175,7 @@ fn add_links(sheet: &mut Sheet, by: By, groups: &[&Group]) {
 /// Adds a table of the wrong responses of each day, or of each hour of the clock.
 pub fn add_times(sheet: &mut Sheet, alloc: Global, caption: &str, head: &str, times: &Tally) {
     sheet.add_head(COUNTS, caption, &[head, COUNT]);
-    let mut most = 1;
-    for count in times.values() {
-        most = most.max(*count);
-    }
+    let most = times.values().copied().max().unwrap_or(0);
     for (time, count) in times {
         sheet.add_words("<tr><th scope=\"row\">", called(alloc, time));
         add_bar(sheet, *count, most);

@@ -47,17 +47,6 @@ pub struct Subject {
     pub changes: Vec<SubjectChange>,
 }
 
-impl Subject {
-    /// The one of this number, without a line.
-    fn none(alloc: Global, number: u64) -> Subject {
-        Subject {
-            number,
-            lines: Vec::new(alloc),
-            changes: Vec::new(alloc),
-        }
-    }
-}
-
 /// Patrons or items by their ids.
 pub type Subjects = BTreeMap<Vec<u8>, Subject>;
 
@@ -106,8 +95,17 @@ pub fn note(
 ) -> Result<(), AllocError> {
     for id in ids {
         if !subjects.contains_key(*id) {
-            let subject = Subject::none(alloc, (subjects.len() as u64).saturating_add(1));
-            subjects.insert(Vec::from_slice(alloc, id)?, subject)?;
+            let name = Vec::from_slice(alloc, id)?;
+            let number = (subjects.len() as u64).saturating_add(1);
+            let (lines, changes) = (Vec::new(alloc), Vec::new(alloc));
+            subjects.insert(
+                name,
+                Subject {
+                    number,
+                    lines,
+                    changes,
+                },
+            )?;
         }
         if let Some(subject) = subjects.get_mut(*id) {
             subject.lines.push(line)?;

@@ -27,8 +27,8 @@ pub struct Because<'w> {
 }
 
 /// What is said of why a response was wrong: the word of the report, the reason of the answer, what is said of the record, the kind of the record, and
-/// the saying; `*` fits any. The first line that fits counts. A place in braces has a mark, and the word that it is said of: a patron (`@`), an item (`+`),
-/// a day (`#`), days (`&`), or a text as it is (`=`); `~` says since when it was so.
+/// the saying; `*` fits any. The first line that fits counts. A place in braces has a mark, which says how it is written, and `id` or a word of
+/// what is said of the record: a patron (`@`), an item (`+`), a day (`#`), days (`&`), or a text as it is (`=`); `~` is since when it was so.
 const BECAUSES: &str = "\
 *|unknown_patron|*|patron|no table has {@id}
 *|unknown_item|*|item|no table has {+id}
@@ -84,7 +84,7 @@ fn said_by<'w>(line: &'static [u8], origins: &[Origin<'w>]) -> Option<Because<'w
     let (has, line) = cut(line, b'|');
     let (kind, saying) = cut(line, b'|');
     for origin in origins {
-        if origin.kind == kind && (fits(has, b"") || said_of(origin.said, has).is_some()) {
+        if origin.kind == kind && (has == b"*".as_slice() || said_of(origin.said, has).is_some()) {
             return Some(Because {
                 saying,
                 origin: *origin,

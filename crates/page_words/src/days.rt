@@ -30,7 +30,7 @@ fn places_of(text: &[u8]) -> (usize, usize, usize) {
     }
 }
 
-/// So many characters of a text from a place on; none where it is shorter.
+/// This count of characters from a place of a text on; none where it is shorter.
 fn digits_at(text: &[u8], from: usize, count: usize) -> &[u8] {
     text.get(from..from.saturating_add(count)).unwrap_or(b"")
 }

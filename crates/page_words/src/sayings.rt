@@ -8,8 +8,8 @@ use crate::parts::{cut, split};
 use crate::wording::Wording;
 
 /// What is said of a word of the report: the word, the identifier of the request, a field of the right response with its
-/// value, and the saying; `*` fits any. Of each word the first line that fits counts. `asked` and `right` are said after a
-/// word whose weight is 3. A place in braces is a field of the request (`?`), of the recorded response (`-`), or of the
+/// value, and the saying; `*` fits any. Of each word the first line that fits counts. `asked` and `right` are said at the
+/// `{}` that ends the saying of a word of weight 3. A place in braces is a field of the request (`?`), of the recorded response (`-`), or of the
 /// right one (`+`).
 const SAYINGS: &str = "\
 ok|11|ok=1|the server refused {?AA} the checkout of {?AB}; it should have been lent until {+AH}
@@ -39,9 +39,9 @@ renewed|*|*|the server told {?AA} the count of renewed items as {-renewed}; righ
 unrenewed|*|*|it told the count of items that were not renewed as {-unrenewed}; right is {+unrenewed}
 renewed_items|*|*|it named other items as renewed than those that are: {-BM}; right is {+BM}
 unrenewed_items|*|*|it named other items as not renewed than those that are not: {-BN}; right is {+BN}
-missing|*|*|no response was recorded to 
-unreadable|*|*|a response that cannot be read was recorded to 
-kind|*|*|a response to something else was recorded to 
+missing|*|*|no response was recorded to {}
+unreadable|*|*|a response that cannot be read was recorded to {}
+kind|*|*|a response to something else was recorded to {}
 asked|01|*|the block of {?AA}
 asked|09|*|the return of {?AB}
 asked|11|*|the checkout of {?AB} by {?AA}

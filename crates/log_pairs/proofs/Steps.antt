@@ -1,18 +1,18 @@
 -- Each call on what waits, over its parts: n requests were taken, ps wait, and m has the positions of those that are open.
-use Rattle.std.proofs.Common.{◌≡◌, ◌+◌, ◌-◌, ◌<◌, ◌≤◌, ℕ, suc, zero, List, [], ◌∷◌, ◌++◌, length, set, take, get_or, Option, Some, None, Bool, true, false, Vec, refl, sym, ap, subst, arith, ◌∙◌}
+use Rattle.std.proofs.Common.{◌≡◌, ◌+◌, ◌-◌, ◌<◌, ◌≤◌, ℕ, suc, zero, List, [], ◌∷◌, ◌++◌, length, map, set, take, get_or, Option, Some, None, Bool, true, false, Vec, refl, sym, ap, subst, arith, ◌∙◌}
 use Rattle.std.specs.Prelude.{if◌then◌else◌}
 use Rattle.std.specs.BTreeMap.{BTreeMap, UpdatesBy}
 use Rattle.std.specs.Cmp.Lexicographic.{slice_cmp}
 use Rattle.std.specs.List.{AllByRecursion}
 use Rattle.std.specs.Ordering.{nat_cmp}
 use Rattle.std.specs.Str.{bytes_eq}
-use Rattle.std.proofs.lemmas.List.{length-append}
+use Rattle.std.proofs.lemmas.List.{append-nil, length-append}
 use Rattle.std.proofs.Math.Seq.{take-append_seam}
-use Rattle.log_pairs.specs.Pairs.{Open, Pair, Pending, Said, Request, Response, Over, begins_open, first_connection, has_open, pairs_of, to_come}
+use Rattle.log_pairs.specs.Pairs.{Open, Pair, Pending, Said, Request, Response, Over, answered as answered_of, begins_open, first_connection, has_open, pairs_of, settled, to_come}
 use Rattle.log_pairs.specs.Devices.Positions.{IsWaiting, is_position, no_pair, pending_from, position_in}
 use Rattle.log_pairs.proofs.Keeping.{AreWaiting, unanswered, waiting-answered, waiting-asked, waiting-taken}
 use Rattle.log_pairs.proofs.Keys.{position-after}
-use Rattle.log_pairs.proofs.Waiting.{Moves, answered, asked, ends, here, none-open, one-open, others, over}
+use Rattle.log_pairs.proofs.Waiting.{Moves, answered, asked, ends, here, none-open, one-more, one-open, others, over}
 
 -- what waits, as a caller sees it
 abbrev pub opened : {A : Type 0} → ℕ → List Pair → BTreeMap (Vec ℕ A) ℕ → Open
@@ -45,6 +45,20 @@ answer-pairs n ps m w c r i q at are h is rest =
     let there : position_in m c ≡ Some (n + (i - n)) = at ∙ ap (λ (x : ℕ). Some x) same in
     ap (λ (qs : List Pair). qs ++ pairs_of rest)
     (answered (position_in m) (position_in w) c r rest n (i - n) ps q (moves c c m w None refl h) there (omega arith) v.same is)
+
+pub answer-one : {A : Type 0} (n : ℕ) (ps : List Pair) (m w : BTreeMap (Vec ℕ A) ℕ) (c r : List ℕ) (i : ℕ) (q : Pair) → position_in m c ≡ Some i → AreWaiting (position_in m) n ps → Changes c m w None
+    → q ≡ record (get_or ps (i - n) no_pair) { response = Some r }
+    → answered_of (to_come (opened n (set ps (i - n) q) w) []) ≡ answered_of (to_come (opened n ps m) []) + 1
+answer-one n ps m w c r i q at are h is =
+    let v = are c i at in
+    let from = v.from in
+    let below = v.below in
+    let same : i ≡ n + (i - n) = omega arith in
+    let there : position_in m c ≡ Some (n + (i - n)) = at ∙ ap (λ (x : ℕ). Some x) same in
+    let none : (ps : List Pair) → ps ++ [] ≡ ps = λ ps. append-nil ps in
+    ap answered_of (answer-pairs n ps m w c r i q at are h is [] ∙ none (map (settled (Response c r ∷ [])) (pending_from (position_in m) n ps)))
+    ∙ one-more (position_in m) c r n (i - n) ps there (omega arith) v.same
+    ∙ ap (λ (qs : List Pair). answered_of qs + 1) (sym (none (map (settled []) (pending_from (position_in m) n ps))))
 
 pub answer-kept : {A : Type 0} (n : ℕ) (ps : List Pair) (m w : BTreeMap (Vec ℕ A) ℕ) (c : List ℕ) (i : ℕ) (q : Pair) → position_in m c ≡ Some i → AreWaiting (position_in m) n ps → Changes c m w None
     → AreWaiting (position_in w) n (set ps (i - n) q)

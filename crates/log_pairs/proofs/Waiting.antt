@@ -4,7 +4,7 @@ use Rattle.std.specs.Prelude.{◌&&◌, ◌||◌, if◌then◌else◌}
 use Rattle.std.specs.Str.{bytes_eq}
 use Rattle.std.proofs.lemmas.Bool.{cases_Bool, ne_eqb, eq-eqb}
 use Rattle.std.proofs.lemmas.Slice.Eq.{bytes_eq-Decides}
-use Rattle.log_pairs.specs.Pairs.{Pair, Said, Request, Response, Over, has_open, pairs_of, reply_in, settled}
+use Rattle.log_pairs.specs.Pairs.{Pair, Said, Request, Response, Over, answered as answered_of, has_open, pairs_of, reply_in, settled}
 use Rattle.log_pairs.specs.Devices.Positions.{is_position, no_pair, pending_from}
 
 -- the pair of an open request, and that of a closed one
@@ -164,6 +164,37 @@ one-open f c n (suc j) (p ∷ ps) at below same =
     by : (b : Bool) → (b || true) ≡ true
     by true = refl
     by false = refl
+
+-- a response answers one of the requests that wait at the end of the log
+unheard-one : (e b : Bool) (p : Pair) (m : List ℕ) → (e ≡ true → b ≡ false) → settle b (if e then Some m else None) p ≡ settle b None p
+unheard-one true b p m closed = rw (closed refl) refl
+unheard-one false b p m closed = refl
+
+unheard : (f : List ℕ → Option ℕ) (c m : List ℕ) (n : ℕ) (ps : List Pair) → Passed (f c) n
+    → map (settled (Response c m ∷ [])) (pending_from f n ps) ≡ map (settled []) (pending_from f n ps)
+unheard f c m n [] passed = refl
+unheard f c m n (p ∷ ps) passed =
+    let closed : bytes_eq c p.connection ≡ true → is_position (f p.connection) n ≡ false = λ e. rw (← same_bytes c p.connection e) (passed-one (f c) n passed) in
+    ap₂ (λ (q : Pair) (qs : List Pair). q ∷ qs) (unheard-one (bytes_eq c p.connection) (is_position (f p.connection) n) p m closed) (unheard f c m (n + 1) ps (passed-more (f c) n passed))
+
+pub one-more : (f : List ℕ → Option ℕ) (c m : List ℕ) (n j : ℕ) (ps : List Pair) → f c ≡ Some (n + j) → j < length ps → (get_or ps j no_pair).connection ≡ c
+    → answered_of (map (settled (Response c m ∷ [])) (pending_from f n ps)) ≡ answered_of (map (settled []) (pending_from f n ps)) + 1
+one-more f c m n j [] at below same = absurd (omega arith)
+one-more f c m n zero (p ∷ ps) at below same =
+    let zero_more : n + zero ≡ n = omega arith in
+    let there : f c ≡ Some n = at ∙ ap (λ (k : ℕ). Some k) zero_more in
+    let its_name : p.connection ≡ c = same in
+    let opened : is_position (f p.connection) n ≡ true = rw (its_name, there) (eq-eqb n n refl) in
+    let its : bytes_eq c p.connection ≡ true = rw its_name (here c) in
+    let passed : Passed (f c) (n + 1) = rw there (omega arith) in
+    rw (opened, its, unheard f c m (n + 1) ps passed) (omega arith)
+one-more f c m n (suc j) (p ∷ ps) at below same =
+    let one_less : n + suc j ≡ n + 1 + j = omega arith in
+    let next : f c ≡ Some (n + 1 + j) = at ∙ ap (λ (k : ℕ). Some k) one_less in
+    let past : n + suc j ≡ n → ⊥ = λ e. omega (arith, e) in
+    let closed : bytes_eq c p.connection ≡ true → is_position (f p.connection) n ≡ false = λ e. rw (← same_bytes c p.connection e, at) (apart (n + suc j) n past) in
+    let rest = one-more f c m (n + 1) j ps next (omega arith) same in
+    rw (unheard-one (bytes_eq c p.connection) (is_position (f p.connection) n) p m closed, rest) (omega arith)
 
 -- at the end of the log
 ends-one : (a b : Bool) (p : Pair) → a ≡ false → (b ≡ true → p.response ≡ None) → settle a None p ≡ settle b None p

@@ -1,5 +1,5 @@
 -- Which pairs of a request and a response a log has.
-use Rattle.std.specs.Prelude.{◌&&◌, ◌||◌, ℕ, Bool, true, false, List, [], ◌∷◌, ◌++◌, map, Option, Some, None, if◌then◌else◌}
+use Rattle.std.specs.Prelude.{◌&&◌, ◌||◌, ◌+◌, ℕ, Bool, true, false, List, [], ◌∷◌, ◌++◌, map, Option, Some, None, if◌then◌else◌, is_some}
 use Rattle.std.specs.Str.{bytes_eq}
 
 -- an entry of a log: a request or a response of a connection, or that no more responses come for it
@@ -27,6 +27,11 @@ pairs_of [] = []
 pairs_of (Request c m ∷ rest) = record { connection = c; request = m; response = reply_in rest c } ∷ pairs_of rest
 pairs_of (Response c m ∷ rest) = pairs_of rest
 pairs_of (Over c ∷ rest) = pairs_of rest
+
+-- how many pairs have a response
+abbrev pub answered : List Pair → ℕ
+answered [] = 0
+answered (p ∷ ps) = (if is_some p.response then 1 else 0) + answered ps
 
 -- a request that came, with the response that it has so far, and whether one may yet come
 pub record Pending : Type 0 where

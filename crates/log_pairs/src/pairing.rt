@@ -3,7 +3,7 @@
 ghost use Rattle.std.specs.Prelude.{◌≡◌, ◌+◌, ◌<◌, ◌≤◌, ◌∷◌, [], true, false, IfOk, OnOk, OnErr, IfSome, IfNone, List, ℕ, length, option_map};
 ghost use Rattle.std.specs.List.{AllByRecursion};
 ghost use Rattle.journal_table.specs.declared.TheConstants.{LINE_LIMIT};
-ghost use Rattle.log_pairs.specs.Pairs.{Said, Request, Response, Over, has_open, begins_open, first_connection, to_come};
+ghost use Rattle.log_pairs.specs.Pairs.{Said, Request, Response, Over, answered, has_open, begins_open, first_connection, to_come};
 ghost use Rattle.log_pairs.specs.Devices.Positions.{is_position, position_in};
 
 use crate::exchange::Exchange;
@@ -103,6 +103,7 @@ impl Pairing {
         ensures belongs { IfOk result (λ found. found ≡ has_open connection.now self.old.pending) }
         ensures counted { self.new.asked ≡ self.old.asked }
         ensures pairs { OnOk result ((rest : List Said) → to_come self.new rest ≡ to_come self.old (Response connection.now response.now ∷ rest)) }
+        ensures one { IfOk result (λ found. found ≡ true → answered (to_come self.new []) ≡ answered (to_come self.old []) + 1) }
         ensures same { OnErr result (self.new ≡ self.old) }
     {
         let bytes = Vec::from_slice(alloc, response)?;

@@ -1,8 +1,8 @@
 //! What the options of the command line choose.
 
 use crate::presets::{PLAIN, PRESETS};
-use crate::stop::MakingError;
 use command_line::JournalOptions;
+use journal_run::MakingError;
 use log_pairs::Escapes;
 use sip_reader::LINE_NUMBER_MAX;
 use std::alloc::Global;

@@ -1,7 +1,7 @@
 //! What a line of a log says, by the expressions of the command line.
 
 use crate::chosen::{LogForm, LogLayout};
-use crate::stop::MakingError;
+use journal_run::MakingError;
 use log_pairs::{Escapes, unescaped};
 use regex::RegexBuilder;
 use regex::bytes::{Matcher, Regex};
@@ -78,8 +78,16 @@ fn compile(alloc: Global, option: &str, text: Option<&str>) -> Result<Option<Reg
             "there must be just one group in the expression of",
             option,
         )),
-        Err(error) => Err(MakingError::of_expression(alloc, option, &error)),
+        Err(error) => Err(of_expression(alloc, option, &error)),
     }
+}
+
+/// The stop of the expression of an option that is none.
+fn of_expression(alloc: Global, option: &str, error: &regex::Error) -> MakingError {
+    if *error == regex::Error::OutOfMemory {
+        return MakingError::Memory;
+    }
+    MakingError::refused_text(format!(in alloc; "the expression of {option}: {error}"))
 }
 
 /// What a line says: of which connection, and a request, a response, or both.

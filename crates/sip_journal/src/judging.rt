@@ -1,6 +1,7 @@
 //! Reports of lines and messages that are none, or that a log has damaged.
 
-use crate::place::{LineHead, LogPlace};
+use crate::place::LineHead;
+use journal_run::{LogPlace, LogTally};
 use log_pairs::{Direction, Odd, odd_of};
 use std::alloc::{AllocError, Global};
 use std::collections::BTreeMap;
@@ -8,8 +9,8 @@ use std::collections::BTreeMap;
 /// How many skipped lines, and how many odd messages, are reported.
 const TOLD: usize = 3;
 
-/// More than one odd message in this number is too much.
-const TOLERATED: u64 = 10;
+/// At least one in this number of a client's requests has a checksum where those without one lack it.
+const SUMMED: u64 = 10;
 
 /// How many clients are distinguished.
 const CLIENTS: usize = 65_536;
@@ -60,7 +61,7 @@ impl Sums {
 
     /// The requests that lack a checksum: those without one, where at least one in ten of the client's has one.
     fn lacking(&self) -> u64 {
-        if self.summed >= self.bare / (TOLERATED - 1) && self.summed > 0 {
+        if self.summed >= self.bare / (SUMMED - 1) && self.summed > 0 {
             self.bare
         } else {
             0
@@ -78,9 +79,9 @@ pub struct JournalJudge {
     /// Messages that were judged.
     messages: u64,
     /// Messages whose first two bytes are no identifier of their side.
-    pub unknown: u64,
+    unknown: u64,
     /// Messages whose checksum is wrong, or isn't their end.
-    pub wrong: u64,
+    wrong: u64,
     /// What each client does, by the name of its connection.
     clients: BTreeMap<Vec<u8>, Sums>,
     /// Requests that lack a checksum, of clients of which nothing more comes, and the first of them.
@@ -108,7 +109,7 @@ impl JournalJudge {
     }
 
     /// Requests without a checksum, of clients that send some with one.
-    pub fn lacking(&self) -> u64 {
+    fn lacking(&self) -> u64 {
         let mut all = self.lacking;
         for (_, sums) in &self.clients {
             all = all.saturating_add(sums.lacking());
@@ -116,21 +117,20 @@ impl JournalJudge {
         all
     }
 
-    /// All messages that are odd.
-    pub fn odd(&self) -> u64 {
-        self.unknown
-            .saturating_add(self.wrong)
-            .saturating_add(self.lacking())
-    }
-
-    /// All messages that aren't.
-    pub fn good(&self) -> u64 {
-        self.messages.saturating_sub(self.odd())
-    }
-
-    /// Whether more than one message in ten is odd.
-    pub fn is_too_odd(&self) -> bool {
-        self.odd() > self.messages / TOLERATED
+    /// What was counted of lines.
+    pub fn tally(&self) -> LogTally {
+        LogTally {
+            is_of_packets: false,
+            lines: self.lines,
+            skipped: self.skipped,
+            messages: self.messages,
+            unknown: self.unknown,
+            wrong: self.wrong,
+            lacking: self.lacking(),
+            falls: 0,
+            gaps: 0,
+            parts: 0,
+        }
     }
 
     /// Notes a record of this number of lines that says nothing.

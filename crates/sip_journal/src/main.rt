@@ -1,41 +1,47 @@
 //! The program `sip_journal`: makes a journal from a server's log. `log_pairs` defines what is a pair, and what a journal's rows
-//! are; `command_line` reads the options; here are the expressions that find messages in lines, and the files.
+//! are; `journal_run` prints the journal; here are the expressions that find messages in lines, the captures, and the files.
 #![tactic(auto)]
 
+mod captures;
 mod capturing;
 mod chosen;
 mod connection;
 mod connections;
-mod console;
+mod exchanges;
 mod finder;
 mod headers;
 mod json_lines;
 mod judging;
+mod logs;
 mod looks;
-mod making;
 mod numbers;
 mod ordering;
 mod packets;
 mod place;
 mod presets;
+mod progress;
 mod reading;
 mod run;
 mod source;
-mod stop;
 mod times;
 mod trying;
 
-use crate::console::Console;
-use crate::stop::MakingError;
+use journal_run::refuse_words;
+use outside::System;
 use std::env::Env;
 use std::process::ExitCode;
 use std::{env, io};
 
 fn main(rt: HostRuntime) -> ExitCode {
-    let mut console = Console::new(&rt, rt.stdout(), rt.stderr());
+    let mut system = System {
+        rt: &rt,
+        input: rt.stdin(),
+        out: rt.stdout(),
+        err: rt.stderr(),
+    };
     let status = match words(&rt) {
-        Ok(words) => run::run(&mut console, words.as_slice()),
-        Err(error) => console.report_stop(&MakingError::of_words(&error)),
+        Ok(words) => run::run(&mut system, &rt, words.as_slice()),
+        Err(error) => refuse_words(&mut system, &error),
     };
     ExitCode::from(status)
 }

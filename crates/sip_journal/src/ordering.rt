@@ -1,7 +1,8 @@
 //! Messages whose times fall back.
 
-use crate::place::{LineHead, LogPlace};
+use crate::place::LineHead;
 use crate::times::{MINUTE, Onward, SECOND, Time};
+use journal_run::LogPlace;
 use std::alloc::{AllocError, Global};
 
 /// How many falls are reported.

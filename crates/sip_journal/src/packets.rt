@@ -1,7 +1,7 @@
 //! The packets of a capture, as tcpdump writes them: pcap and pcapng.
 
 use crate::numbers::ByteOrder;
-use crate::stop::MakingError;
+use journal_run::MakingError;
 use std::alloc::Global;
 use std::io;
 use std::io::Read;

@@ -1,23 +1,9 @@
-//! Where a line of a log or a packet of a capture is, and how its bytes are shown.
+//! How bytes of a line are shown.
 
 use std::fmt;
 
 /// How many bytes of a line are shown.
 const WIDTH: usize = 80;
-
-/// The place of a line or packet: its file, and its number there, from 1 on.
-#[derive(Clone, Copy)]
-pub struct LogPlace<'a> {
-    pub log: &'a str,
-    pub line: u64,
-}
-
-impl fmt::Display for LogPlace<'_> {
-    fn fmt<W: fmt::Write>(&self, f: &mut fmt::Formatter<W>) -> fmt::Result {
-        let LogPlace { log, line } = *self;
-        write!(f, "{log}:{line}")
-    }
-}
 
 /// The first bytes of a line; those that don't print are spelled.
 #[derive(Clone, Copy)]

@@ -3,9 +3,8 @@
 use crate::finder::Finder;
 use crate::json_lines::plain_line;
 use crate::looks::strange;
-use crate::place::LogPlace;
-use crate::stop::MakingError;
 use crate::times::{Onward, Time, time_of};
+use journal_run::{LogPlace, MakingError};
 use std::alloc::Global;
 use std::io::{BufRead, BufReader};
 use std::rt::Files;

@@ -5,7 +5,7 @@ use crate::finder::{Expressions, Finder};
 use crate::presets::PRESETS;
 use crate::reading::{InputKind, JournalReader};
 use crate::source::{LogSource, open_log};
-use crate::stop::MakingError;
+use journal_run::{Finding, Making, MakingError};
 use std::alloc::{AllocError, Global};
 use std::rt::Files;
 
@@ -69,28 +69,40 @@ fn fit_of(
     let expressions = Expressions::new(alloc, form)?;
     let mut finder = expressions.finder(alloc)?;
     let mut source = LogSource::new(alloc, log, text);
-    let mut reading = JournalReader::new(alloc, InputKind::Trial, 1, false);
-    read(&mut source, &mut finder, &mut reading)?;
+    let mut reading = JournalReader::new(alloc, InputKind::Lines);
+    let mut making = Making::new(alloc, 1);
+    read(&mut source, &mut finder, &mut reading, &mut making)?;
+    let tally = reading.tally();
     Ok(Fit {
         name,
-        exchanges: reading.making.exchanges,
-        odd: reading.judge.odd(),
-        skipped: reading.judge.skipped,
-        good: reading.judge.good(),
+        exchanges: making.exchanges,
+        odd: tally.odd(),
+        skipped: tally.skipped,
+        good: tally.good(),
     })
 }
 
-/// Reads the lines of a log.
+/// Reads the lines of a log. A message that a journal refuses is passed.
 fn read<'l>(
     source: &mut LogSource<'l, &[u8]>,
     finder: &mut Finder<'_>,
     reading: &mut JournalReader<'l>,
+    making: &mut Making,
 ) -> Result<(), MakingError> {
     for _ in 0..LINES {
         let Some(record) = source.next(finder)? else {
             break;
         };
         reading.take(finder, &record)?;
+        take_all(&reading.found, making)?;
+        reading.found.clear();
     }
-    reading.making.close()
+    Ok(making.close()?)
+}
+
+fn take_all(found: &[Finding], making: &mut Making) -> Result<(), AllocError> {
+    for one in found {
+        let _taken = making.take_found(one)?;
+    }
+    Ok(())
 }

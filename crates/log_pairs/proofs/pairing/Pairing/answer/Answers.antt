@@ -2,7 +2,7 @@ use Rattle.std.proofs.Common.{◌≡◌, ◌-◌, List, ℕ, Some, get_or, ap, s
 use Rattle.std.proofs.lemmas.List.{length-set}
 use Rattle.log_pairs.specs.Pairs.{Pair}
 use Rattle.log_pairs.specs.Devices.Positions.{no_pair, position_in}
-use Rattle.log_pairs.proofs.Steps.{answer-found, answer-kept, answer-none, answer-pairs, any-default, fewer-kept}
+use Rattle.log_pairs.proofs.Steps.{answer-found, answer-kept, answer-none, answer-one, answer-pairs, any-default, fewer-kept}
 use Rattle.log_pairs.proofs.Waiting.{none-open}
 use Rattle.log_pairs.proofs.pairing.Pairing.answer.Goals as goal
 
@@ -63,3 +63,19 @@ returns-clause-pairs c rest =
     rw (← c.self.view_is)
     (answer-pairs a.taken a.waiting.items a.«open» c.remove.new.self c.args.connection.now c.args.response.now c.in-Some.position c.answer.new.self (sym c.in-Some.ensures.value)
     c.self.invariant.positions c.in-Some.ensures.updates its rest)
+
+pub returns-clause-one : goal.returns-clause-one
+returns-clause-one c found =
+    let a = c.self.inside in
+    let at = c.in-Some.position - a.taken in
+    let w = c.self.invariant.positions c.args.connection.now c.in-Some.position (sym c.in-Some.ensures.value) in
+    let from = w.from in
+    let below = w.below in
+    let it : c.index_mut.result.now ≡ get_or a.waiting.items (c.in-Some.position - a.taken) no_pair =
+    any-default a.waiting.items (c.in-Some.position - a.taken) c.index_mut.result.now (omega arith) c.index_mut.ensures.value in
+    let its : c.answer.new.self ≡ record (get_or a.waiting.items (c.in-Some.position - a.taken) no_pair) { response = Some c.args.response.now } =
+    c.answer.ensures ∙ ap (λ (p : Pair). record p { response = Some c.in_ok-bytes.bytes.items }) it
+    ∙ ap (λ (r : List ℕ). record (get_or a.waiting.items (c.in-Some.position - a.taken) no_pair) { response = Some r }) c.in_ok-bytes.ensures.items in
+    rw (← c.self.view_is)
+    (answer-one a.taken a.waiting.items a.«open» c.remove.new.self c.args.connection.now c.args.response.now c.in-Some.position c.answer.new.self (sym c.in-Some.ensures.value)
+    c.self.invariant.positions c.in-Some.ensures.updates its)

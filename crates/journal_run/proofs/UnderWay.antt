@@ -1,0 +1,178 @@
+-- A journal that is under way: what each step of the run leaves of that.
+use Rattle.std.proofs.Common.{◌≡◌, ◌+◌, ℕ, List, [], ◌++◌, length, Bool, false, true, Option, Some, None, refl, sym, ap, subst, arith, append_assoc, length-append, ◌∙◌}
+use Rattle.std.proofs.lemmas.List.{append-nil}
+use Rattle.csv_table.specs.Text.{table_text}
+use Rattle.log_pairs.specs.Rows.{rows_from}
+use Rattle.log_pairs.specs.Pairs.{Open, Pair, Said, pairs_of, to_come}
+use Rattle.outside.specs.Events.{Did, Event}
+use Rattle.journal_run.specs.Found.{found_more}
+use Rattle.journal_run.specs.Heard.{Sums, sums_of}
+use Rattle.journal_run.specs.Making.{Closes, Settles, Stays, TakesAll}
+use Rattle.journal_run.specs.Printing.{BreaksOff, FailsToPrint, HasPrinted, Prints, shown, to_print}
+use Rattle.journal_run.specs.Run.{IsBrokenOff, IsPrinted, IsUnderWay, journal_text}
+use Rattle.journal_run.specs.declared.making.Making.{Making}
+use Rattle.journal_run.specs.declared.stop.JournalStop.{JournalStop}
+use Rattle.journal_run.specs.declared.stop.JournalStop.TheVariants as stops
+use Rattle.journal_run.specs.declared.stop.MakingError.{MakingError}
+use Rattle.journal_run.proofs.Shown.{broken, broken-later, printed-both, printed-none, shown-more}
+use Rattle.journal_run.proofs.Taking.{heard-both}
+use Rattle.log_pairs.proofs.Journals.{joined}
+
+moved : (all : List Said → List Pair) (w w2 : List Pair) (o o2 : Open) (e e2 u u2 : ℕ) → Settles all w o e u → w2 ≡ w → o2 ≡ o → e2 ≡ e → u2 ≡ u → Settles all w2 o2 e2 u2
+moved all w w2 o o2 e e2 u u2 s a b c d = rw (a, b, c, d) s
+
+-- what was whole is taken
+stays-printed : (first : ℕ) (said : List Said) (taken : List Pair) (old new : Making) → Stays first said taken old → HasPrinted old new → Stays first said (taken ++ old.ready.items) new
+stays-printed first said taken old new s p =
+    let k = s.keeps in
+    let number = k.number in
+    let more = p.number in
+    let size = length-append taken old.ready.items in
+    let none : (taken ++ old.ready.items) ++ new.ready.items ≡ taken ++ old.ready.items = ap (λ (ps : List Pair). (taken ++ old.ready.items) ++ ps) p.ready ∙ append-nil (taken ++ old.ready.items) in
+    record {
+      keeps = record {
+        settles = moved (λ (rest : List Said). pairs_of (said ++ rest)) (taken ++ old.ready.items) ((taken ++ old.ready.items) ++ new.ready.items) old.pairing new.pairing old.exchanges new.exchanges
+            old.unanswered new.unanswered k.settles none p.pairing p.exchanges p.unanswered;
+        number = omega arith;
+        begun = λ e. let bad : true ≡ false = sym p.begun ∙ e in cc bad;
+        fewer = k.fewer;
+        unasked = p.unasked ∙ k.unasked;
+      };
+      begins = rw p.pairing s.begins;
+      short = rw p.pairing s.short;
+    }
+
+pub under-printed : (first : ℕ) (begin mid now : Option (List Event)) (start found : Option (List Said)) (old new : Making) → IsUnderWay first begin mid start found old
+    → HasPrinted old new → Did (Prints (to_print old)) mid now → IsUnderWay first begin now start found new
+under-printed first begin mid now start found old new (heard, said, taken, is, h, s, printed) p more =
+    let text : shown old.begun first taken ++ to_print old ≡ shown new.begun first (taken ++ old.ready.items)
+    = sym (shown-more first taken old s.keeps.number s.keeps.begun) ∙ ap (λ (b : Bool). shown b first (taken ++ old.ready.items)) (sym p.begun) in (
+      heard,
+      said,
+      taken ++ old.ready.items,
+      is,
+      h,
+      stays-printed first said taken old new s p,
+      subst (λ (t : List ℕ). Did (Prints t) begin now) text (printed-both (shown old.begun first taken) (to_print old) begin mid now printed more),
+    )
+
+found-both : (heard xs : List Said) (start : Option (List Said)) → found_more xs (found_more heard start) ≡ found_more (heard ++ xs) start
+found-both heard xs None = refl
+found-both heard xs (Some found) = ap (λ (all : List Said). Some all) (append_assoc found heard xs)
+
+-- more is found, and taken
+pub under-taken : (first : ℕ) (begin mid now : Option (List Event)) (start found more : Option (List Said)) (xs : List Said) (old new : Making) → IsUnderWay first begin mid start found old
+    → more ≡ found_more xs found → TakesAll xs old new → Did (Prints []) mid now → IsUnderWay first begin now start more new
+under-taken first begin mid now start found more xs old new (heard, said, taken, is, h, s, printed) found-is (begun, takes) told =
+    let (after, all, stays) = takes first said taken s in
+    let text : shown old.begun first taken ++ [] ≡ shown new.begun first taken = append-nil (shown old.begun first taken) ∙ ap (λ (b : Bool). shown b first taken) (sym begun) in (
+      heard ++ xs,
+      after,
+      taken,
+      found-is ∙ ap (found_more xs) is ∙ found-both heard xs start,
+      heard-both [] heard said xs after h all,
+      stays,
+      subst (λ (t : List ℕ). Did (Prints t) begin now) text (printed-both (shown old.begun first taken) [] begin mid now printed told),
+    )
+
+found-none : (start : Option (List Said)) → found_more [] start ≡ start
+found-none None = refl
+found-none (Some found) = ap (λ (all : List Said). Some all) (append-nil found)
+
+-- the pairs that were taken begin the journal
+begun-so : (first : ℕ) (said : List Said) (taken : List Pair) (m : Making) → Stays first said taken m
+    → (rest : List ℕ) × (journal_text first (pairs_of said) ≡ shown m.begun first taken ++ rest)
+begun-so first said taken m s =
+    let later : List ℕ = table_text (rows_from (first + length (taken ++ m.ready.items)) (to_come m.pairing [])) in
+    let all : pairs_of said ≡ (taken ++ m.ready.items) ++ to_come m.pairing [] = ap pairs_of (sym (append-nil said)) ∙ s.keeps.settles.pairs [] in (
+      to_print m ++ later,
+      ap (journal_text first) all ∙ joined first (taken ++ m.ready.items) (to_come m.pairing []) ∙ ap (λ (t : List ℕ). t ++ later) (shown-more first taken m s.keeps.number s.keeps.begun)
+          ∙ append_assoc (shown m.begun first taken) (to_print m) later,
+    )
+
+-- a stop that prints nothing, though more was found
+pub under-stopped : (first : ℕ) (begin mid now : Option (List Event)) (start found more : Option (List Said)) (xs : List Said) (m : Making) (stop : JournalStop)
+    → IsUnderWay first begin mid start found m → more ≡ found_more xs found → Did (Prints []) mid now → FailsToPrint [] stop [] → IsBrokenOff first begin now start more stop
+under-stopped first begin mid now start found more xs m stop (heard, said, taken, is, h, s, printed) found-is told fails =
+    let (rest, text) = begun-so first said taken m s in
+    let so_far : Did (Prints (shown m.begun first taken)) begin now
+    = subst (λ (t : List ℕ). Did (Prints t) begin now) (append-nil (shown m.begun first taken)) (printed-both (shown m.begun first taken) [] begin mid now printed told) in (
+      heard,
+      xs,
+      said,
+      found-is ∙ ap (found_more xs) is ∙ found-both heard xs start,
+      h,
+      broken (shown m.begun first taken) [] rest (journal_text first (pairs_of said)) stop begin now now text so_far ([], refl, fails),
+    )
+
+-- nothing more is found, for this reason
+pub under-source : (first : ℕ) (begin mid now : Option (List Event)) (start found more : Option (List Said)) (xs : List Said) (m : Making) (error : MakingError)
+    → IsUnderWay first begin mid start found m → more ≡ found_more xs found → Did (Prints []) mid now → IsBrokenOff first begin now start more (stops.Source error)
+under-source first begin mid now start found more xs m error under is told = under-stopped first begin mid now start found more xs m (stops.Source error) under is told refl
+
+pub under-ended : (first : ℕ) (begin now : Option (List Event)) (start found : Option (List Said)) (m : Making) (error : MakingError)
+    → IsUnderWay first begin now start found m → IsBrokenOff first begin now start found (stops.Source error)
+under-ended first begin now start found m error under =
+    under-stopped first begin now now start found found [] m (stops.Source error) under (sym (found-none found)) (printed-none now) refl
+
+-- a stop while rows are printed
+pub under-broken : (first : ℕ) (begin mid now : Option (List Event)) (start found : Option (List Said)) (m : Making) (stop : JournalStop)
+    → IsUnderWay first begin mid start found m → Did (BreaksOff (to_print m) stop) mid now → IsBrokenOff first begin now start found stop
+under-broken first begin mid now start found m stop (heard, said, taken, is, h, s, printed) breaks =
+    let all : pairs_of said ≡ (taken ++ m.ready.items) ++ to_come m.pairing [] = ap pairs_of (sym (append-nil said)) ∙ s.keeps.settles.pairs [] in
+    let later : List ℕ = table_text (rows_from (first + length (taken ++ m.ready.items)) (to_come m.pairing [])) in
+    let text : journal_text first (pairs_of said) ≡ shown m.begun first taken ++ (to_print m ++ later)
+    = ap (journal_text first) all ∙ joined first (taken ++ m.ready.items) (to_come m.pairing []) ∙ ap (λ (t : List ℕ). t ++ later) (shown-more first taken m s.keeps.number s.keeps.begun)
+    ∙ append_assoc (shown m.begun first taken) (to_print m) later in (
+      heard,
+      [],
+      said,
+      is ∙ ap (λ (xs : List Said). found_more xs start) (sym (append-nil heard)),
+      h,
+      broken-later (shown m.begun first taken) (to_print m) (journal_text first (pairs_of said)) later stop begin mid now text printed breaks,
+    )
+
+-- the last rows of a journal that is closed
+whole-text : (first : ℕ) (said : List Said) (taken : List Pair) (m : Making) → Closes first said taken m → journal_text first (pairs_of said) ≡ shown m.begun first taken ++ to_print m
+whole-text first said taken m c = ap (journal_text first) c.pairs ∙ shown-more first taken m c.number c.begun
+
+pub closed-printed : (first : ℕ) (begin mid now : Option (List Event)) (start found : Option (List Said)) (old closed new : Making) → IsUnderWay first begin mid start found old
+    → closed.begun ≡ old.begun → ((first : ℕ) (said : List Said) (taken : List Pair) → Stays first said taken old → Closes first said taken closed)
+    → HasPrinted closed new → Did (Prints (to_print closed)) mid now → IsPrinted first begin now start found new
+closed-printed first begin mid now start found old closed new (heard, said, taken, is, h, s, printed) begun closes p more =
+    let c = closes first said taken s in
+    let text : shown old.begun first taken ++ to_print closed ≡ journal_text first (pairs_of said)
+    = ap (λ (b : Bool). shown b first taken ++ to_print closed) (sym begun) ∙ sym (whole-text first said taken closed c) in
+    let exchanges : new.exchanges ≡ (sums_of said).exchanges = p.exchanges ∙ c.exchanges in
+    let unanswered : new.unanswered ≡ (sums_of said).unanswered = p.unanswered ∙ c.unanswered in
+    let unasked : new.unasked ≡ (sums_of said).unasked = p.unasked ∙ c.unasked in (
+      heard,
+      said,
+      is,
+      h,
+      subst (λ (t : List ℕ). Did (Prints t) begin now) text (printed-both (shown old.begun first taken) (to_print closed) begin mid now printed more),
+      same-sums new.exchanges new.unanswered new.unasked (sums_of said).exchanges (sums_of said).unanswered (sums_of said).unasked exchanges unanswered unasked,
+    )
+  where
+    same-sums : (a b c d e f : ℕ) → a ≡ d → b ≡ e → c ≡ f
+        → ◌≡◌ {A = Sums} (record { exchanges = a; unanswered = b; unasked = c }) (record { exchanges = d; unanswered = e; unasked = f })
+    same-sums a b c d e f x y z = rw (x, y, z) refl
+
+pub closed-broken : (first : ℕ) (begin mid now : Option (List Event)) (start found : Option (List Said)) (old closed : Making) (stop : JournalStop) → IsUnderWay first begin mid start found old
+    → closed.begun ≡ old.begun → ((first : ℕ) (said : List Said) (taken : List Pair) → Stays first said taken old → Closes first said taken closed)
+    → Did (BreaksOff (to_print closed) stop) mid now → IsBrokenOff first begin now start found stop
+closed-broken first begin mid now start found old closed stop (heard, said, taken, is, h, s, printed) begun closes breaks =
+    let text : journal_text first (pairs_of said) ≡ shown old.begun first taken ++ (to_print closed ++ [])
+    = whole-text first said taken closed (closes first said taken s) ∙ ap (λ (b : Bool). shown b first taken ++ to_print closed) begun
+    ∙ ap (λ (t : List ℕ). shown old.begun first taken ++ t) (sym (append-nil (to_print closed))) in (
+      heard,
+      [],
+      said,
+      is ∙ ap (λ (xs : List Said). found_more xs start) (sym (append-nil heard)),
+      h,
+      broken-later (shown old.begun first taken) (to_print closed) (journal_text first (pairs_of said)) [] stop begin mid now text printed breaks,
+    )
+
+-- before the first message
+pub under-first : (first : ℕ) (log : Option (List Event)) (start : Option (List Said)) (m : Making) → Stays first [] [] m → m.begun ≡ false → IsUnderWay first log log start start m
+under-first first log start m s begun = ([], [], [], sym (found-none start), refl, s, subst (λ (b : Bool). Did (Prints (shown b first [])) log log) (sym begun) (printed-none log))

@@ -1,0 +1,11 @@
+use Rattle.std.proofs.Common.{◌∷◌, ◌∙◌, [], ap, false, inl, inr, refl, true}
+use Rattle.outside.specs.Events.{Print, noted}
+use Rattle.journal_run.proofs.ending.print_text.Goals as goal
+
+pub returns-then-write : goal.returns-then-write
+returns-then-write g c = (Print c.args.text.now true ∷ [], rw (c.if-write.true, c.as_bytes.ensures.value) at c.write.ensures, inl (refl, refl))
+
+pub returns-else-write : goal.returns-else-write
+returns-else-write g c =
+    let t = c.tell.ensures.told in
+    (Print c.args.text.now false ∷ _ ∷ [], t.1 ∙ ap (noted _) (rw (c.if-write.false, c.as_bytes.ensures.value) at c.write.ensures), inr (_ ∷ [], refl, (t.0, refl, c.tell.ensures.status)))

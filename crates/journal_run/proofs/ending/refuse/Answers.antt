@@ -1,0 +1,14 @@
+use Rattle.std.proofs.Common.{◌∷◌, [], refl, string_bytes}
+use Rattle.outside.specs.Events.{Tell}
+use Rattle.journal_run.proofs.ending.refuse.Goals as goal
+
+pub returns-in-Help : goal.returns-in-Help
+returns-in-Help g c = rw (c.in-Help.is) (rw (c.as_str.ensures.value) at c.print_text.ensures)
+
+pub returns-in-Words : goal.returns-in-Words
+returns-in-Words g c =
+    rw (c.in-Words.is) (Tell (string_bytes c.in-Words.text) c.tell-taken.result ∷ [], c.tell-taken.ensures, (c.tell-taken.result, refl, refl))
+
+pub returns-in-Memory : goal.returns-in-Memory
+returns-in-Memory g c =
+    rw (c.in-Memory.is) (_ ∷ [], c.tell.ensures.told.1, (c.tell.ensures.told.0, refl, c.tell.ensures.status))

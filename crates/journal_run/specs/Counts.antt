@@ -1,0 +1,38 @@
+-- What is counted of logs and captures, and the status of that.
+use Rattle.std.specs.Prelude.{◌&&◌, ◌++◌, ◌==◌, ℕ, [], Bool, List, codes, decimal, if◌then◌else◌, nat_lt}
+use Rattle.journal_run.specs.Heard.{Sums}
+use Rattle.journal_run.specs.declared.tally.LogTally.{LogTally}
+
+-- what was read, and how many exchanges that has
+abbrev pub head_counts : LogTally → ℕ → List ℕ
+head_counts t exchanges = if t.is_of_packets then codes "packets " ++ (decimal t.lines ++ (codes " exchanges " ++ decimal exchanges))
+    else codes "lines " ++ (decimal t.lines ++ (codes " exchanges " ++ decimal exchanges))
+
+-- requests and responses that are alone, and lines that say nothing
+abbrev pub spare_counts : ℕ → ℕ → ℕ → List ℕ
+spare_counts unanswered unasked skipped =
+    codes " without-response " ++ (decimal unanswered ++ (codes " without-request " ++ (decimal unasked ++ (codes " skipped " ++ decimal skipped))))
+
+-- messages that are odd
+abbrev pub odd_counts : LogTally → List ℕ
+odd_counts t = codes " unknown " ++ (decimal t.unknown ++ (codes " wrong-checksum " ++ (decimal t.wrong ++ (codes " without-checksum " ++ decimal t.lacking))))
+
+-- the counts of captured streams
+abbrev pub stretch_counts : LogTally → List ℕ
+stretch_counts t = if t.is_of_packets then codes " gaps " ++ decimal t.gaps ++ codes " parts " ++ decimal t.parts else []
+
+-- the line of counts
+abbrev pub counts_line : LogTally → Sums → List ℕ
+counts_line t s = head_counts t s.exchanges ++ (spare_counts s.unanswered s.unasked t.skipped ++ (odd_counts t ++ (stretch_counts t ++ codes "\n")))
+
+-- nothing is odd
+abbrev pub is_clean : LogTally → Bool
+is_clean t = (t.unknown == 0) && (t.wrong == 0) && (t.lacking == 0) && (t.falls == 0) && (t.gaps == 0) && (t.parts == 0)
+
+-- there are pairs, and each request has its response and each response its request
+abbrev pub is_complete : Sums → Bool
+is_complete s = (nat_lt 0 s.exchanges) && (s.unanswered == 0) && (s.unasked == 0)
+
+-- 0 where all is whole, and nothing is odd
+abbrev pub ended_status : LogTally → Sums → ℕ
+ended_status t s = if is_clean t && is_complete s then 0 else 1

@@ -1,0 +1,78 @@
+-- A journal from its first message to the status of the run.
+use Rattle.std.specs.Prelude.{◌≡◌, ◌++◌, ◌∷◌, ◌⊎◌, ℕ, [], Bool, List, Option, false, string_bytes, true}
+use Rattle.csv_table.specs.Text.{table_text}
+use Rattle.journal_table.specs.Journal.{header}
+use Rattle.log_pairs.specs.Pairs.{Pair, Said, pairs_of}
+use Rattle.log_pairs.specs.Rows.{rows_from}
+use Rattle.command_line.specs.declared.refusal.Refusal.{Refusal}
+use Rattle.command_line.specs.declared.refusal.Refusal.TheVariants as refusals
+use Rattle.outside.specs.Events.{Did, Event, Print, Tell}
+use Rattle.journal_run.specs.Counts.{counts_line, ended_status}
+use Rattle.journal_run.specs.Found.{found_more}
+use Rattle.journal_run.specs.Heard.{Heard, Sums, sums_of}
+use Rattle.journal_run.specs.Making.{Stays}
+use Rattle.journal_run.specs.Printing.{BreaksOff, Prints, shown}
+use Rattle.journal_run.specs.Stops.{status_of, stop_text}
+use Rattle.journal_run.specs.declared.making.Making.{Making}
+use Rattle.journal_run.specs.declared.stop.JournalStop.{JournalStop}
+use Rattle.journal_run.specs.declared.stop.JournalStop.TheVariants as stops
+use Rattle.journal_run.specs.declared.stop.MakingError.TheVariants as errors
+use Rattle.journal_run.specs.declared.tally.LogTally.{LogTally}
+
+-- the bytes of a journal of these pairs, whose first row has this number
+abbrev pub journal_text : ℕ → List Pair → List ℕ
+journal_text first pairs = table_text (header ∷ rows_from first pairs)
+
+-- what was counted of the pairs
+abbrev pub made_sums : Making → Sums
+made_sums m = record { exchanges = m.exchanges; unanswered = m.unanswered; unasked = m.unasked }
+
+-- What was found since the start was said, and some of its pairs were printed, and nothing else.
+abbrev pub IsUnderWay : ℕ → Option (List Event) → Option (List Event) → Option (List Said) → Option (List Said) → Making → Type 0
+IsUnderWay first begin now start found m = (heard : List Said) × (said : List Said) × (taken : List Pair)
+    × (found ≡ found_more heard start) × Heard [] heard said × Stays first said taken m × Did (Prints (shown m.begun first taken)) begin now
+
+-- The journal of all that was found is printed, and nothing else, and its pairs are counted.
+abbrev pub IsPrinted : ℕ → Option (List Event) → Option (List Event) → Option (List Said) → Option (List Said) → Making → Type 0
+IsPrinted first begin now start found m = (heard : List Said) × (said : List Said)
+    × (found ≡ found_more heard start) × Heard [] heard said × Did (Prints (journal_text first (pairs_of said))) begin now
+    × (made_sums m ≡ sums_of said)
+
+-- Of the journal of what was found up to some message a beginning is printed.
+abbrev pub IsBrokenOff : ℕ → Option (List Event) → Option (List Event) → Option (List Said) → Option (List Said) → JournalStop → Type 0
+IsBrokenOff first begin now start found stop = (heard : List Said) × (later : List Said) × (said : List Said)
+    × (found ≡ found_more (heard ++ later) start) × Heard [] heard said × Did (BreaksOff (journal_text first (pairs_of said)) stop) begin now
+
+-- What stops a run is reported once; that a journal is of no use together with what was odd, and with counts.
+abbrev pub TellsStop : JournalStop → ℕ → List Event → Type 0
+TellsStop (stops.Useless why) status events = (before : List Event) × (after : List Event) × (taken : Bool) × Prints [] before × Prints [] after
+    × (events ≡ before ++ Tell (stop_text (stops.Useless why)) taken ∷ after) × (status ≡ status_of (stops.Useless why))
+TellsStop stop status events = (taken : Bool) × (events ≡ Tell (stop_text stop) taken ∷ []) × (status ≡ status_of stop)
+
+-- The counts of a whole journal are reported, after what was odd, and give its status; or memory runs out for them.
+abbrev pub ReportsCounts : (LogTally → Type 0) → Sums → ℕ → List Event → Type 0
+ReportsCounts counts sums status events =
+    ((tally : LogTally) × (odd : List ℕ) × (taken : Bool) × counts tally × (events ≡ Tell (odd ++ counts_line tally sums) taken ∷ []) × (status ≡ ended_status tally sums))
+    ⊎ TellsStop (stops.Source errors.Memory) status events
+
+-- A journal is printed: that of the pairs of all that was found, whole and nothing else, and its counts are reported. Or the run stops: a
+-- beginning of the journal of what was found up to some message is printed, nothing else, and then it is reported what stops the run.
+abbrev pub IsJournal : ℕ → (LogTally → Type 0) → Type 0 → Option (List Said) → Option (List Said) → ℕ → List Event → Type 0
+IsJournal first counts at_end start found status events =
+    ((heard : List Said) × (said : List Said) × (printed : List Event) × (told : List Event) × (found ≡ found_more heard start) × Heard [] heard said × at_end
+    × Prints (journal_text first (pairs_of said)) printed × ReportsCounts counts (sums_of said) status told × (events ≡ printed ++ told))
+    ⊎ ((heard : List Said) × (later : List Said) × (said : List Said) × (stop : JournalStop) × (printed : List Event) × (told : List Event)
+    × (found ≡ found_more (heard ++ later) start) × Heard [] heard said × BreaksOff (journal_text first (pairs_of said)) stop printed × TellsStop stop status told
+    × (events ≡ printed ++ told))
+
+-- A text is printed once, whole, and the status is 0; or standard output doesn't take it, and that is a stop.
+abbrev pub IsText : List ℕ → ℕ → List Event → Type 0
+IsText text status events =
+    ((events ≡ Print text true ∷ []) × (status ≡ 0))
+    ⊎ ((told : List Event) × (events ≡ Print text false ∷ told) × TellsStop stops.Output status told)
+
+-- Words that give no options: help is printed, else it is said once what is wrong with them.
+abbrev pub TellsRefusal : Refusal → ℕ → List Event → Type 0
+TellsRefusal (refusals.Help text) status events = IsText (string_bytes text) status events
+TellsRefusal (refusals.Words text) status events = (taken : Bool) × (events ≡ Tell (string_bytes text) taken ∷ []) × (status ≡ 2)
+TellsRefusal refusals.Memory status events = TellsStop (stops.Source errors.Memory) status events

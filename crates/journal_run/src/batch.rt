@@ -1,0 +1,73 @@
+//! What is found, taken into a journal.
+
+ghost use Rattle.std.specs.Prelude.{◌≡◌, IfOk, OnOk, map};
+ghost use Rattle.journal_run.specs.Found.{said_in, said_of};
+ghost use Rattle.journal_run.specs.Making.{TakesAll, TakesFound};
+
+use crate::finding::Finding;
+use crate::making::{Making, Taken};
+use crate::place::LogPlace;
+use crate::stop::MakingError;
+use std::alloc::{AllocError, Global};
+
+impl Making {
+    /// Takes what is found next. Of a report nothing is taken.
+    pub fn take_found(&mut self, one: &Finding) -> Result<Taken, AllocError>
+        ensures { IfOk result (λ taken. TakesFound taken (said_of one.now) self.old self.new) }
+    {
+        match one {
+            Finding::Message {
+                side,
+                connection,
+                message,
+            } => {
+                let taken = self.take(*side, connection.as_slice(), message.as_slice())?;
+                Ok(taken)
+            }
+            Finding::Over(connection) => {
+                self.over(connection.as_slice())?;
+                Ok(Taken::Paired)
+            }
+            Finding::Note(_) => Ok(Taken::Paired),
+        }
+    }
+}
+
+/// Takes all that was found at a place, and adds what is to be reported of it. A message that is refused is an error.
+pub fn take_all(
+    alloc: Global,
+    place: LogPlace<'_>,
+    batch: &[Finding],
+    making: &mut Making,
+    notes: &mut String,
+) -> Result<(), MakingError>
+    ensures { OnOk result (TakesAll (said_in batch.now) making.old making.new) }
+{
+    for one in batch {
+        take_one(alloc, place, one, making, notes)?;
+    }
+    Ok(())
+}
+
+/// Takes one of them.
+fn take_one(
+    alloc: Global,
+    place: LogPlace<'_>,
+    one: &Finding,
+    making: &mut Making,
+    notes: &mut String,
+) -> Result<(), MakingError>
+    ensures { OnOk result (TakesAll (said_of one.now) making.old making.new) }
+{
+    if let Finding::Note(text) = one {
+        notes.push_str(text.as_str())?;
+    }
+    match making.take_found(one)? {
+        Taken::Paired => Ok(()),
+        Taken::Unasked => {
+            write!(notes, "{place}: a response without a request\n")?;
+            Ok(())
+        }
+        Taken::Refused(why) => Err(MakingError::of_line(alloc, place, why)),
+    }
+}

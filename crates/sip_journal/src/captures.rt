@@ -1,0 +1,77 @@
+//! Captures that are read one after the other; a connection may go on from one to the next.
+
+use crate::capturing::Capturing;
+use crate::exchanges::ReadsOn;
+use crate::headers::segment_of;
+use crate::packets::{Next, Packets};
+use crate::reading::JournalReader;
+use crate::source::open_file;
+use command_line::JournalOptions;
+use journal_run::{LogPlace, MakingError};
+use std::io::{BufReader, Read};
+use std::rt::Files;
+
+/// Captures that are read.
+pub struct CaptureFiles<'a, 'l, R: Files> {
+    pub rt: &'a R,
+    pub options: &'l JournalOptions,
+    pub capturing: Capturing,
+    /// How many captures were opened, and the one that is read.
+    pub opened: usize,
+    pub packets: Option<Packets<'l, BufReader<R::File>>>,
+}
+
+impl<R: Files> Drop for CaptureFiles<'_, '_, R> {
+    fn drop(self) {
+        let CaptureFiles {
+            rt: _,
+            options: _,
+            capturing: _,
+            opened: _,
+            packets: _,
+        } = self;
+    }
+}
+
+impl<'l, R: Files + AllocGlobal> ReadsOn<'l> for CaptureFiles<'_, 'l, R> {
+    fn read_on(&mut self, reading: &mut JournalReader<'l>) -> Result<bool, MakingError> {
+        if let Some(packets) = &mut self.packets {
+            if !read_packet(packets, &mut self.capturing, reading)? {
+                self.packets = None;
+            }
+            return Ok(true);
+        }
+        let Some(path) = self.options.captures.get(self.opened) else {
+            self.capturing.end(reading)?;
+            return Ok(false);
+        };
+        let (log, alloc) = (path.as_str(), self.rt.alloc());
+        self.packets = Some(Packets::new(alloc, log, open_file(self.rt, log)?)?);
+        reading.place = LogPlace { log, line: 0 };
+        self.opened = self.opened.saturating_add(1);
+        Ok(true)
+    }
+}
+
+/// Reads the next packet; false where there is none.
+fn read_packet<B: Read + Drop>(
+    packets: &mut Packets<'_, B>,
+    capturing: &mut Capturing,
+    reading: &mut JournalReader<'_>,
+) -> Result<bool, MakingError> {
+    let (link, from, to) = match packets.next()? {
+        Next::Packet { link, from, to } => (link, from, to),
+        Next::End => return Ok(false),
+        Next::Broken => {
+            reading.cut()?;
+            return Ok(false);
+        }
+    };
+    let packet = packets.bytes().get(from..to).unwrap_or(&[]);
+    let segment = segment_of(link, packet);
+    reading.count_packet(segment.is_none());
+    if let Some(segment) = &segment {
+        capturing.take(segment, reading)?;
+    }
+    Ok(true)
+}

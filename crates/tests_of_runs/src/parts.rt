@@ -1,0 +1,53 @@
+//! What no run shows of crates that read and write.
+
+use csv::ByteRecord;
+use csv_table::{RowReader, TableError};
+use sip_answer::{Answer, FeePaidAnswer, is_own_text, write_answer};
+use sip_reader::{Id, Stamp};
+use std::alloc::{AllocError, AllocGlobal, Global};
+use std::process::Abort;
+use std::test::Fail;
+
+/// An uneven row, and the end, are returned again at each further call.
+#[test]
+fn stays_at_the_end(rt: HostRuntime) {
+    let mut row = ByteRecord::new(rt.alloc());
+    let rows = RowReader::under(rt.alloc(), &["a"], b"a\nx\ny,z\n").ok();
+    let mut rows = rows.expect(&rt, "a header");
+    assert!(rt; rows.next(&mut row) == Ok(true));
+    assert!(rt; rows.next(&mut row) == Err(TableError::Table));
+    assert!(rt; rows.next(&mut row) == Err(TableError::Table));
+    let rows = RowReader::under(rt.alloc(), &["a"], b"a\nx").ok();
+    let mut rows = rows.expect(&rt, "a header");
+    assert!(rt; rows.next(&mut row) == Ok(true));
+    assert!(rt; rows.next(&mut row) == Ok(false));
+    assert!(rt; rows.next(&mut row) == Ok(false));
+}
+
+/// The response to a payment.
+fn payment(alloc: Global) -> Result<Option<Answer>, AllocError> {
+    let (institution, patron) = (Id::read(alloc, b"L1")?, Id::read(alloc, b"P1")?);
+    match (institution, patron, Stamp::new(b"20260309    120000")) {
+        (Some(institution), Some(patron), Some(date)) => Ok(Some(Answer::FeePaid(FeePaidAnswer {
+            date,
+            accepted: true,
+            institution,
+            patron,
+        }))),
+        _ => Ok(None),
+    }
+}
+
+/// An answer's own text is seen at once, a line end after it too, and no other text is.
+fn see<R: AllocGlobal + Abort>(rt: &R, answer: &Answer) -> Result<(), Fail> {
+    let written = write_answer(rt.alloc(), answer, None)?;
+    let text = written.as_slice();
+    assert!(rt; is_own_text(answer, None, text, b"38Y20260309    120000AOL1|AAP1|\r\n"));
+    assert!(rt; !is_own_text(answer, None, text, b"38Y20260309    120000AOL1|AAP2|"));
+    Ok(())
+}
+
+#[test]
+fn own_text(rt: HostRuntime) -> Result<(), Fail> {
+    see(&rt, &payment(rt.alloc())?.expect(&rt, "an answer"))
+}

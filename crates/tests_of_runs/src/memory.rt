@@ -82,7 +82,9 @@ impl<'a, R: Abort> Memory<'a, R> {
         }
     }
 
-    fn place(&self, path: &str) -> Option<usize> {
+    fn place(&self, path: &str) -> Option<usize>
+        ensures { IfSome result (λ place. place < length self.now.files.items) }
+    {
         for place in 0..self.files.len() {
             if self.files[place].path.as_str() == path {
                 return Some(place);
@@ -109,13 +111,9 @@ impl<'a, R: Abort> Memory<'a, R> {
     fn take(&mut self, path: &str)
         ensures { self.new.calls ≡ self.old.calls }
     {
-        let mut left = Vec::new(self.alloc);
-        while let Some(file) = self.files.pop() {
-            if file.path.as_str() != path {
-                left.push(file).expect(self.rt, "memory");
-            }
+        if let Some(place) = self.place(path) {
+            let _ = self.files.swap_remove(place);
         }
-        self.files = left;
     }
 
     /// Puts a file in place of what was there.

@@ -1,11 +1,9 @@
 //! The calls of a script, and what the board replies.
 
-ghost use Rattle.std.specs.Prelude.{◌≡◌};
-
 use crate::odd::key_of;
-use crate::told::{tell, tell_begun, tell_choice, tell_effect, tell_number};
+use crate::told::{tell, tell_begun, tell_choice, tell_effect, tell_id, tell_number};
 use message_meaning::need;
-use read_set::{Need, Notes, Plan, PlanName, Version};
+use read_set::{Need, PlanName};
 use speculate::{Board, read_notes};
 use std::alloc::{AllocError, AllocGlobal, Global};
 use std::sync::Wait;
@@ -68,9 +66,12 @@ fn tell_of<J: PlanName>(
         "clock" => tell_number(out, "", board.clock()),
         "committed" => tell_number(out, "", board.committed()),
         "counts" => tell_counts(out, board),
-        _ => match version_of(alloc, board, worker) {
-            Ok(Some(version)) => tell_effect(alloc, out, version.answer(), version.writes()),
-            Ok(None) => out.push_str("nothing yet"),
+        _ => match need_of(alloc, board, worker) {
+            Ok(Some(Need::Done(version))) => {
+                tell_effect(alloc, out, version.answer(), version.writes())
+            }
+            Ok(Some(Need::Key(key))) => tell_id(out, "needs ", key.id()),
+            Ok(None) => out.push_str("nothing"),
             Err(refused) => Err(refused),
         },
     }
@@ -86,12 +87,12 @@ fn tell_counts<J: PlanName>(out: &mut String, board: &Board<'_, '_, J>) -> Resul
     tell_number(out, " ", counts.live)
 }
 
-/// The version that the worker's line in hand needs, if it needs no key.
-fn version_of<J: PlanName>(
+/// What the worker's line in hand needs.
+fn need_of<J: PlanName>(
     alloc: Global,
     board: &Board<'_, '_, J>,
     worker: u32,
-) -> Result<Option<Version<J>>, AllocError> {
+) -> Result<Option<Need<J>>, AllocError> {
     let Some(hand) = board.hand(worker) else {
         return Ok(None);
     };
@@ -99,27 +100,8 @@ fn version_of<J: PlanName>(
         return Ok(None);
     };
     let plan = board.plan();
-    match read_notes(alloc, plan, noted) {
-        Ok(notes) => version_on(alloc, plan, hand.line, hand.attempt, &notes),
-        Err(refused) => Err(refused),
-    }
-}
-
-/// The version of an attempt on these notes, if it needs no further key.
-pub(crate) fn version_on<J: PlanName>(
-    alloc: Global,
-    plan: &Plan,
-    line: u64,
-    attempt: u32,
-    notes: &Notes,
-) -> Result<Option<Version<J>>, AllocError>
-    requires { plan.now ≡ J.plan }
-{
-    match need(alloc, plan, line, attempt, notes) {
-        Ok(Need::Done(version)) => Ok(Some(version)),
-        Ok(Need::Key(_)) => Ok(None),
-        Err(refused) => Err(refused),
-    }
+    let notes = read_notes(alloc, plan, noted)?;
+    Ok(Some(need(alloc, plan, hand.line, hand.attempt, &notes)?))
 }
 
 /// A look at the key of an id.
@@ -154,21 +136,18 @@ fn place_of<'t, J: PlanName, R: Wait + AllocGlobal>(
     } else {
         small(other)
     };
-    match version_of(rt.alloc(), board, of) {
-        Ok(version) => Ok(put(rt, table, version)),
-        Err(refused) => Err(refused),
-    }
+    Ok(put(rt, table, need_of(rt.alloc(), board, of)?))
 }
 
-/// Puts a version into the table, if there is one.
+/// Puts the version into the table that is needed, if one is.
 pub(crate) fn put<'t, J: PlanName, R: Wait>(
     rt: &R,
     table: &'t VersionTable<J>,
-    version: Option<Version<J>>,
+    needed: Option<Need<J>>,
 ) -> Option<Place<'t, J>> {
-    match version {
-        Some(version) => table.put(rt, version).ok(),
-        None => None,
+    match needed {
+        Some(Need::Done(version)) => table.put(rt, version).ok(),
+        _ => None,
     }
 }
 

@@ -15,7 +15,7 @@
 //! | `publish WORKER OTHER` | an act of a new version, the one that the other worker's line needs |
 //! | `check WORKER LINE`, `commit LINE` | the calls of these names; `changed ID NOTED FOUND` |
 //! | `choose`, `begin WORKER` | the choice of a free worker, `take 1`; with its reply, `take 1: taken 0` |
-//! | `does WORKER` | what the version does that the line needs: its answer, then each record that it writes (`told`) |
+//! | `does WORKER` | what the line does: its answer, then each record that it writes (`told`); or `needs ID`, a record that it needs first |
 //! | `clock`, `committed`, `counts` | the board's; of the counts takes, failed checks, stops, commits and live lines |
 //! | `run WORKERS` | a run by the steps so far: `output` and the attempts where all else is what one thread gives, `unfinished` and how many lines are committed, or the fault |
 //! | `play on` | the steps so far as a list on another board, which is then driven to its end; or after how many steps the list halts |

@@ -4,11 +4,12 @@ use crate::books::odd::ODD;
 use crate::calls::parts_of;
 use crate::texts::{inputs_of, plan_of};
 use crate::told::tell_effect;
-use circ_records::{Fee, FeeType, Ids, Key, Patron, Record};
+use circ_policy::MediaType;
+use circ_records::{Fee, FeeType, Hold, Holds, Ids, Item, Key, Loan, Patron, Record};
 use live_records::Live;
 use message_meaning::perform;
 use read_set::{Plan, Writes};
-use sip_reader::{Amount, Id, Text};
+use sip_reader::{Amount, Day, Id, Text};
 use std::alloc::{AllocError, AllocGlobal, Global};
 use std::process::Abort;
 use std::test::Fail;
@@ -27,7 +28,8 @@ pub(crate) fn key_of(alloc: Global, id: &str) -> Result<Option<Key>, AllocError>
     }))
 }
 
-/// A record in words: `patron A I1+V1 F1` (class, loans, fees) or `fee 3.00 1.00` (amount, paid). A `|` is no id.
+/// A record in words: `patron A I1+V1 F1` (class, loans, fees), `item 001 P1 P2+P1` (media type, borrower, queue) or `fee 3.00 1.00` (amount, paid).
+/// A `|` is no id.
 fn record_of(
     alloc: Global,
     kind: &str,
@@ -36,6 +38,7 @@ fn record_of(
 ) -> Result<Option<Record>, AllocError> {
     match kind {
         "patron" => patron_of(alloc, first, rest),
+        "item" => item_of(alloc, first, rest),
         _ => fee_of(alloc, first, rest),
     }
 }
@@ -67,6 +70,52 @@ fn ids_of(alloc: Global, text: &str) -> Result<Ids, AllocError> {
         }
     }
     Ok(ids)
+}
+
+/// An item of a media type, with its borrower, if it has one, and its queue.
+fn item_of(alloc: Global, media: &str, lists: &str) -> Result<Option<Record>, AllocError> {
+    let (borrower, queue) = lists.split_once(' ').unwrap_or((lists, ""));
+    let holds = queue_of(alloc, queue)?;
+    let borrower = Id::read(alloc, borrower.as_bytes())?;
+    let loan = match (borrower, Day::of(2026, 2, 16)) {
+        (Some(patron), Some(due)) => Some(Loan {
+            patron,
+            due,
+            renewals: 0,
+        }),
+        _ => None,
+    };
+    let title = Text::read(alloc, b"One")?;
+    let location = Text::read(alloc, b"Main")?;
+    let properties = Text::read(alloc, b"")?;
+    let media = MediaType::of_code(media.as_bytes());
+    match (title, location, properties, media) {
+        (Some(title), Some(location), Some(properties), Some(media)) => {
+            let item = Item {
+                title,
+                media,
+                location,
+                properties,
+                loan,
+                holds,
+            };
+            Ok(Some(Record::item(alloc, item)?))
+        }
+        _ => Ok(None),
+    }
+}
+
+/// A queue of patrons who named no place.
+fn queue_of(alloc: Global, text: &str) -> Result<Holds, AllocError> {
+    let mut holds = Holds::new(alloc);
+    for id in text.split('+') {
+        if let Some(patron) = Id::read(alloc, id.as_bytes())?
+            && let Some(pickup) = Text::read(alloc, b"")?
+        {
+            holds.push(Hold { patron, pickup })?;
+        }
+    }
+    Ok(holds)
 }
 
 /// A fee of this amount, of which so much is paid.

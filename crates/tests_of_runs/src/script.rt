@@ -20,32 +20,25 @@ use version_store::VersionTable;
 /// For how many workers each board is made: 0 to 63.
 pub(crate) const WORKERS: u32 = 64;
 
-/// What a script begins with: the files of its runs, and with which attempt and at which clock its board begins.
-struct Start<'i> {
-    inputs: &'i Inputs,
+/// A script: the files of its runs, with which attempt and at which clock its board begins, and its calls.
+#[derive(Clone, Copy)]
+struct Script<'s> {
+    inputs: &'s Inputs,
     attempt: u32,
     clock: u64,
+    calls: &'s str,
 }
 
-impl Drop for Start<'_> {
-    fn drop(self) {
-        let Start {
-            inputs: _,
-            attempt: _,
-            clock: _,
-        } = self;
-    }
-}
-
-/// The start that a script names, else that of a new board.
-fn start_of<'i>(inputs: &'i Inputs, text: &str) -> Start<'i> {
+/// The script of a text and its calls. It begins as the text says, else as a new board does.
+fn script_of<'s>(inputs: &'s Inputs, text: &str, calls: &'s str) -> Script<'s> {
     let (_, rest) = text.split_once("starting ").unwrap_or(("", "0 0"));
     let (line, _) = rest.split_once('\n').unwrap_or((rest, ""));
     let (attempt, clock) = line.split_once(' ').unwrap_or((line, "0"));
-    Start {
+    Script {
         inputs,
         attempt: small(attempt),
         clock: number(clock),
+        calls,
     }
 }
 
@@ -101,7 +94,8 @@ fn run_script<R: Threads + Wait + Sync + AllocGlobal + Abort>(
     let mut out = String::new(alloc);
     let inputs = inputs_of(alloc, text)?;
     let plan = plan_of(alloc, &inputs).expect(rt, "a plan");
-    play_script::<Brand, R>(rt, &plan, &start_of(&inputs, text), calls, &mut out)?;
+    let script = script_of(&inputs, text, calls);
+    play_script::<Brand, R>(rt, &plan, &script, &mut out)?;
     assert_eq!(rt; out.as_str(), calls);
     Ok(())
 }
@@ -110,17 +104,19 @@ fn run_script<R: Threads + Wait + Sync + AllocGlobal + Abort>(
 fn play_script<J: PlanName + Send + Sync + 'static, R: Threads + Wait + Sync + AllocGlobal>(
     rt: &R,
     plan: &Plan,
-    start: &Start<'_>,
-    calls: &str,
+    script: &Script<'_>,
     out: &mut String,
 ) -> Result<(), AllocError>
     requires { plan.now ≡ J.plan }
 {
     let alloc = rt.alloc();
-    let (calls, shared) = calls.split_once("\n\n").unwrap_or((calls, ""));
+    let (calls, shared) = script
+        .calls
+        .split_once("\n\n")
+        .unwrap_or((script.calls, ""));
     let table: VersionTable<J> = VersionTable::new(alloc)?;
-    let mut board = Board::starting(alloc, plan, WORKERS, start.attempt, start.clock)?;
-    play_calls(rt, &table, &mut board, start, calls, out)?;
+    let mut board = Board::starting(alloc, plan, WORKERS, script.attempt, script.clock)?;
+    play_calls(rt, &table, &mut board, script, calls, out)?;
     if shared.is_empty() {
         return Ok(());
     }
@@ -132,7 +128,7 @@ fn play_calls<'t, J: PlanName + 'static, R: Wait + AllocGlobal>(
     rt: &R,
     table: &'t VersionTable<J>,
     board: &mut Board<'_, 't, J>,
-    start: &Start<'_>,
+    script: &Script<'_>,
     calls: &str,
     out: &mut String,
 ) -> Result<(), AllocError> {
@@ -140,7 +136,7 @@ fn play_calls<'t, J: PlanName + 'static, R: Wait + AllocGlobal>(
         if let Some((call, _)) = line.split_once(" = ") {
             out.push_str(call)?;
             out.push_str(" = ")?;
-            play_call(rt, table, board, start, call, out)?;
+            play_call(rt, table, board, script, call, out)?;
             out.push_str("\n")?;
         }
     }
@@ -152,14 +148,14 @@ fn play_call<'t, J: PlanName + 'static, R: Wait + AllocGlobal>(
     rt: &R,
     table: &'t VersionTable<J>,
     board: &mut Board<'_, 't, J>,
-    start: &Start<'_>,
+    script: &Script<'_>,
     call: &str,
     out: &mut String,
 ) -> Result<(), AllocError> {
     match call.split_once(' ') {
-        Some(("run", workers)) => tell_run(rt, start.inputs, small(workers), out),
-        Some(("one", _)) => tell_one_thread(rt.alloc(), start.inputs, out),
-        Some(("play", _)) => tell_play(rt, table, board.plan(), start, out),
+        Some(("run", workers)) => tell_run(rt, script.inputs, small(workers), out),
+        Some(("one", _)) => tell_one_thread(rt.alloc(), script.inputs, out),
+        Some(("play", _)) => tell_play(rt, table, board.plan(), script, out),
         _ => reply_to(rt, table, board, call, out),
     }
 }
@@ -218,14 +214,14 @@ fn tell_play<J: PlanName + 'static, R: Wait + AllocGlobal>(
     rt: &R,
     table: &VersionTable<J>,
     plan: &Plan,
-    start: &Start<'_>,
+    script: &Script<'_>,
     out: &mut String,
 ) -> Result<(), AllocError>
     requires { plan.now ≡ J.plan }
 {
     let alloc = rt.alloc();
     let steps = steps_of(alloc, out.as_str())?;
-    let mut board = Board::starting(alloc, plan, WORKERS, start.attempt, start.clock)?;
+    let mut board = Board::starting(alloc, plan, WORKERS, script.attempt, script.clock)?;
     if let Err(halt) = play(rt, alloc, table, &mut board, steps.as_slice()) {
         return tell_halt(out, halt);
     }

@@ -1,8 +1,9 @@
 //! What the steps of a shared board give, and what comes out after a fault was left.
 
-use crate::calls::{number, parts_of, put, small, version_on};
+use crate::calls::{number, parts_of, put, small};
 use crate::odd::key_of;
 use crate::told::{tell, tell_begun, tell_fault, tell_number};
+use message_meaning::need;
 use read_set::{Notes, PlanName};
 use replay_run::NoGate;
 use speculate::{Board, BoardFault, Reply};
@@ -109,8 +110,8 @@ fn publish<J: PlanName + 'static, R: Wait + AllocGlobal>(
     out: &mut String,
 ) -> Result<(), AllocError> {
     let notes = Notes::new(rt.alloc());
-    let version = version_on(rt.alloc(), shared.plan(), u64::MAX, 0, &notes)?;
-    match put(rt, shared.table(), version) {
+    let needed = need(rt.alloc(), shared.plan(), u64::MAX, 0, &notes)?;
+    match put(rt, shared.table(), Some(needed)) {
         Some(place) => tell_reply(out, &shared.publish(rt, worker, place)),
         None => out.push_str("no version"),
     }

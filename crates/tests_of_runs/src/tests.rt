@@ -10,6 +10,7 @@ fn scripts_of_lines_that_run_early(rt: HostRuntime) -> Result<(), Fail> {
         rows::STALE,
         rows::IN_PART,
         rows::SUSPECT,
+        rows::LATE,
         rows::EARLY,
         rows::IN_ORDER,
     ] {

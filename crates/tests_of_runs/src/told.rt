@@ -1,6 +1,6 @@
 //! Replies of the board, and what a line does, as words.
 
-use circ_records::{Key, Record};
+use circ_records::{Hold, Key, Record};
 use read_set::{Name, PlanName};
 use sip_answer::{Answer, write_answer};
 use sip_reader::Id;
@@ -16,6 +16,12 @@ pub(crate) fn tell_number(out: &mut String, word: &str, number: u64) -> Result<(
 
 fn shown(id: &Id) -> &str {
     from_utf8(id.as_bytes()).unwrap_or("?")
+}
+
+/// A word and an id after it.
+pub(crate) fn tell_id(out: &mut String, word: &str, id: &Id) -> Result<(), AllocError> {
+    out.push_str(word)?;
+    out.push_str(shown(id))
 }
 
 /// A name: `base`, or a line and its attempt.
@@ -74,14 +80,13 @@ pub(crate) fn tell<J: PlanName>(out: &mut String, reply: &Reply<'_, J>) -> Resul
         Reply::Taken { attempt } => tell_number(out, "taken ", u64::from(*attempt)),
         Reply::Suspect { line } => tell_number(out, "suspect ", *line),
         Reply::Attempts { line } => tell_number(out, "attempts ", *line),
-        Reply::Changed { key, noted, found } => tell_change(out, shown(key.id()), *noted, *found),
+        Reply::Changed { key, noted, found } => tell_change(out, key.id(), *noted, *found),
         _ => out.push_str(word_of(reply)),
     }
 }
 
-fn tell_change(out: &mut String, id: &str, noted: Name, found: Found) -> Result<(), AllocError> {
-    out.push_str("changed ")?;
-    out.push_str(id)?;
+fn tell_change(out: &mut String, id: &Id, noted: Name, found: Found) -> Result<(), AllocError> {
+    tell_id(out, "changed ", id)?;
     out.push_str(" ")?;
     tell_name(out, noted)?;
     out.push_str(" ")?;
@@ -125,14 +130,13 @@ pub(crate) fn tell_effect(
         out.push_str(from_utf8(text.as_slice()).unwrap_or("?"))?;
     }
     for (key, record) in writes {
-        out.push_str("; ")?;
-        out.push_str(shown(key.id()))?;
+        tell_id(out, "; ", key.id())?;
         tell_record(out, record)?;
     }
     Ok(())
 }
 
-/// A patron's loans and fees, an item's borrower and how many wait for it, what is paid of a fee.
+/// A patron's loans and fees, an item's borrower and who waits for it, what is paid of a fee.
 fn tell_record(out: &mut String, record: &Record) -> Result<(), AllocError> {
     match record {
         Record::Patron(patron) => {
@@ -142,22 +146,30 @@ fn tell_record(out: &mut String, record: &Record) -> Result<(), AllocError> {
             tell_ids(out, patron.get().fees.as_slice())
         }
         Record::Item(item) => {
-            let borrower = match &item.get().loan {
-                Some(loan) => shown(&loan.patron),
-                None => "-",
-            };
-            out.push_str(" ")?;
-            out.push_str(borrower)?;
-            tell_number(out, " ", item.get().holds.len() as u64)
+            match &item.get().loan {
+                Some(loan) => tell_id(out, " ", &loan.patron)?,
+                None => out.push_str(" -")?,
+            }
+            tell_queue(out, item.get().holds.as_slice())
         }
         Record::Fee(fee) => tell_number(out, " ", fee.get().paid.hundredths()),
     }
 }
 
+/// Who waits, each with the place that was named.
+fn tell_queue(out: &mut String, queue: &[Hold]) -> Result<(), AllocError> {
+    out.push_str(" holds")?;
+    for hold in queue {
+        tell_id(out, "+", &hold.patron)?;
+        out.push_str(":")?;
+        out.push_str(from_utf8(hold.pickup.as_bytes()).unwrap_or("?"))?;
+    }
+    Ok(())
+}
+
 fn tell_ids(out: &mut String, ids: &[Id]) -> Result<(), AllocError> {
     for id in ids {
-        out.push_str("+")?;
-        out.push_str(shown(id))?;
+        tell_id(out, "+", id)?;
     }
     Ok(())
 }

@@ -10,7 +10,7 @@ use crate::odd::key_of;
 use crate::plain::PlainStore;
 use crate::told::tell_found;
 use circ_records::Key;
-use read_set::{Name, Notes, PlanName, Version, Writes};
+use read_set::{Name, Need, Notes, PlanName, Version, Writes};
 use std::alloc::{AllocError, Global};
 use std::marker::Brand;
 use std::process::Abort;
@@ -41,7 +41,7 @@ fn place_for<'t, J: PlanName, R: Wait + AllocGlobal + Abort>(
     let reads = Notes::new(rt.alloc());
     let writes = Writes::none(rt.alloc());
     let version = Version::new(line, attempt, reads, writes, None);
-    put(rt, table, Some(version)).expect(rt, "a place")
+    put(rt, table, Some(Need::Done(version))).expect(rt, "a place")
 }
 
 /// Whether both stores say the same of each line at each key, also of lines that aren't there.

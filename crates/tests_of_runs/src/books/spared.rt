@@ -10,7 +10,7 @@ journal 2,C1,11NN20260302    101500                  AOL1|AAP1|ABI1|ACx|,
 take 0 2 = taken 0
 look 0 P1 = seen base
 look 0 I1 = seen base
-does 0 = 121NUY20260302    101500AOL1|AAP1|ABI1|AJOne|AH20260316    235900|CK001|; P1 loans+V1+I1 fees; I1 P1 0
+does 0 = 121NUY20260302    101500AOL1|AAP1|ABI1|AJOne|AH20260316    235900|CK001|; P1 loans+V1+I1 fees; I1 P1 holds
 publish 0 = placed
 publish 0 = placed
 publish 0 = whole
@@ -43,7 +43,7 @@ journal 3,C1,09N20260302    11000020260302    110000AOL1|ABI1|,
 take 0 3 = taken 0
 look 0 I1 = seen base
 look 0 P1 = seen base
-does 0 = 101YUN20260302    110000AOL1|ABI1|AQMain|AJOne|AAP1|CK001|; P1 loans+V1 fees+F1; I1 - 0
+does 0 = 101YUN20260302    110000AOL1|ABI1|AQMain|AJOne|AAP1|CK001|; P1 loans+V1 fees+F1; I1 - holds
 publish 0 = placed
 publish 0 = placed
 publish 0 = whole
@@ -83,7 +83,7 @@ take 0 2 = taken 0
 look 0 P1 = seen base
 look 0 V1 = seen base
 look 0 I1 = seen base
-does 0 = 6610001000120260309    120000AOL1|BMI1|BNV1|; I1 P1 0
+does 0 = 6610001000120260309    120000AOL1|BMI1|BNV1|; I1 P1 holds
 publish 0 = placed
 publish 0 = whole
 take 1 1 = taken 0

@@ -19,7 +19,7 @@ use replay_run::{
     Fault, Inputs, Output, Prepared, Run, Step, collect_output, judge_inputs, one_thread, rebuild,
     rebuild_by_steps,
 };
-use speculate::{Board, BoardFault, PlaceNotes, drive_in_order, play};
+use speculate::{Board, BoardFault, Halt, drive_in_order, play};
 use std::alloc::{AllocError, AllocGlobal};
 use std::io::Print;
 use std::marker::Brand;
@@ -155,21 +155,20 @@ fn try_board<R: Wait + AllocGlobal + Abort + Print>(
 ) -> Result<(), Fault> {
     let alloc = rt.alloc();
     let inputs = inputs_of(alloc, script)?;
-    let steps = steps_of(alloc, script)?;
+    let steps = steps_of(alloc, if is_driven { "" } else { script })?;
     let Prepared { plan, journal } = judge_inputs(alloc, &inputs)?;
-    let output = try_over::<Brand, R>(rt, &plan, &journal, steps.as_slice(), is_driven)?;
+    let output = try_over::<Brand, R>(rt, &plan, &journal, steps.as_slice())?;
     let _ = must_be(rt, &output, script)?;
     let _ = println!(rt; "full output");
     Ok(())
 }
 
-/// The output of a board after all steps. One that is out of memory goes on.
+/// The output of a board after all steps. One that is out of memory goes on where it was.
 fn try_over<J: PlanName + 'static, R: Wait + AllocGlobal + Abort + Print>(
     rt: &R,
     plan: &Plan,
     journal: &Journal,
     steps: &[Step],
-    is_driven: bool,
 ) -> Result<Output, AllocError>
     requires named { plan.now ≡ J.plan }
     requires fits { plan.now.readings ≡ readings_of journal.now }
@@ -177,14 +176,12 @@ fn try_over<J: PlanName + 'static, R: Wait + AllocGlobal + Abort + Print>(
     let alloc = rt.alloc();
     let table: VersionTable<J> = VersionTable::new(alloc)?;
     let mut board = Board::new(alloc, plan, WORKERS)?;
-    if let Some(fault) = halt_of(rt, &table, &mut board, steps, is_driven) {
-        assert!(rt; fault == BoardFault::Memory, "another fault");
+    if let Err(halt) = make_steps(rt, &table, &mut board, steps) {
+        assert!(rt; halt.fault == BoardFault::Memory, "another fault");
         let _ = println!(rt; "out of memory");
-        let other = Board::new(alloc, plan, WORKERS)?;
-        let done = steps_to(rt, &table, other, &board, steps);
-        let rest = steps.get(done..).unwrap_or(&[]);
+        let rest = steps.get(halt.done..).unwrap_or(&[]);
         assert!(rt;
-            play(rt, alloc, &table, &mut board, rest).is_ok(),
+            make_steps(rt, &table, &mut board, rest).is_ok(),
             "out of memory twice"
         );
     }
@@ -194,72 +191,19 @@ fn try_over<J: PlanName + 'static, R: Wait + AllocGlobal + Abort + Print>(
     collect_output(alloc, plan, journal, &finished)
 }
 
-/// Why the steps, or the drive that makes them, were stopped.
-fn halt_of<'t, J: PlanName + 'static, R: Wait + AllocGlobal>(
+/// Plays the steps; where there are none, drives the board in order.
+fn make_steps<'t, J: PlanName + 'static, R: Wait + AllocGlobal>(
     rt: &R,
     table: &'t VersionTable<J>,
     board: &mut Board<'_, 't, J>,
     steps: &[Step],
-    is_driven: bool,
-) -> Option<BoardFault> {
-    if is_driven {
-        return drive_in_order(rt, rt.alloc(), table, board).err();
+) -> Result<(), Halt> {
+    if !steps.is_empty() {
+        return play(rt, rt.alloc(), table, board, steps);
     }
-    match play(rt, rt.alloc(), table, board, steps) {
-        Ok(()) => None,
-        Err(halt) => Some(halt.fault),
-    }
-}
-
-/// After how many of the steps a new board looks as one does that is out of memory.
-fn steps_to<'t, J: PlanName, R: Wait + AllocGlobal + Abort>(
-    rt: &R,
-    table: &'t VersionTable<J>,
-    mut other: Board<'_, 't, J>,
-    board: &Board<'_, 't, J>,
-    steps: &[Step],
-) -> usize {
-    let mut done: usize = 0;
-    for step in steps {
-        if looks_as(&other, board) {
-            return done;
-        }
-        assert!(rt; play(rt, rt.alloc(), table, &mut other, &[*step]).is_ok());
-        done = done.saturating_add(1);
-    }
-    panic!(rt; "no such board")
-}
-
-/// Whether two boards have the same counts, committed lines, clock and choice, and each worker the same line in hand and the same notes.
-fn looks_as<J: PlanName>(one: &Board<'_, '_, J>, other: &Board<'_, '_, J>) -> bool {
-    for worker in 0..WORKERS {
-        if one.hand(worker) != other.hand(worker)
-            || !are_same_notes(one.notes(worker), other.notes(worker))
-        {
-            return false;
-        }
-    }
-    one.counts() == other.counts()
-        && one.committed() == other.committed()
-        && one.clock() == other.clock()
-        && one.choose() == other.choose()
-}
-
-fn are_same_notes<J: PlanName>(
-    one: Option<&PlaceNotes<'_, J>>,
-    other: Option<&PlaceNotes<'_, J>>,
-) -> bool {
-    match (one, other) {
-        (Some(one), Some(other)) => {
-            for i in 0..one.len() {
-                if one.named(i) != other.named(i) {
-                    return false;
-                }
-            }
-            one.len() == other.len()
-        }
-        (None, None) => true,
-        _ => false,
+    match drive_in_order(rt, rt.alloc(), table, board) {
+        Ok(()) => Ok(()),
+        Err(fault) => Err(Halt { done: 0, fault }),
     }
 }
 

@@ -2,7 +2,6 @@
 
 pub mod checked;
 pub mod choices;
-pub mod entries;
 pub mod lists;
 pub mod odd;
 pub mod refused;

@@ -40,10 +40,25 @@ fn payment(alloc: Global) -> Result<Option<Answer>, AllocError> {
 
 /// An answer's own text is seen at once, a line end after it too, and no other text is.
 fn see<R: AllocGlobal + Abort>(rt: &R, answer: &Answer) -> Result<(), Fail> {
-    let written = write_answer(rt.alloc(), answer, None)?;
+    let sequence = Some(b'3');
+    let written = write_answer(rt.alloc(), answer, sequence)?;
     let text = written.as_slice();
-    assert!(rt; is_own_text(answer, None, text, b"38Y20260309    120000AOL1|AAP1|\r\n"));
-    assert!(rt; !is_own_text(answer, None, text, b"38Y20260309    120000AOL1|AAP2|"));
+    assert!(rt;
+        is_own_text(
+            answer,
+            sequence,
+            text,
+            b"38Y20260309    120000AOL1|AAP1|AY3AZF793\r\n"
+        )
+    );
+    assert!(rt;
+        !is_own_text(
+            answer,
+            sequence,
+            text,
+            b"38Y20260309    120000AOL1|AAP2|AY3AZF792\r\n"
+        )
+    );
     Ok(())
 }
 

@@ -26,6 +26,7 @@ fn scripts_of_calls(rt: HostRuntime) -> Result<(), Fail> {
         choices::CHOICES,
         refused::REFUSED,
         spared::SPARED,
+        spared::NEEDED,
         lists::LISTS,
     ] {
         run_scripts(&rt, book)?;

@@ -21,12 +21,22 @@ use version_store::VersionTable;
 pub(crate) const WORKERS: u32 = 64;
 
 /// A script: the files of its runs, with which attempt and at which clock its board begins, and its calls.
-#[derive(Clone, Copy)]
 struct Script<'s> {
     inputs: &'s Inputs,
     attempt: u32,
     clock: u64,
     calls: &'s str,
+}
+
+impl Drop for Script<'_> {
+    fn drop(self) {
+        let Script {
+            inputs: _,
+            attempt: _,
+            clock: _,
+            calls: _,
+        } = self;
+    }
 }
 
 /// The script of a text and its calls. It begins as the text says, else as a new board does.

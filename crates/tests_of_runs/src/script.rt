@@ -101,22 +101,20 @@ fn run_script<R: Threads + Wait + Sync + AllocGlobal + Abort>(
     calls: &str,
 ) -> Result<(), Fail> {
     let alloc = rt.alloc();
-    let mut out = String::new(alloc);
     let inputs = inputs_of(alloc, text)?;
     let plan = plan_of(alloc, &inputs).expect(rt, "a plan");
     let script = script_of(&inputs, text, calls);
-    play_script::<Brand, R>(rt, &plan, &script, &mut out)?;
+    let out = play_script::<Brand, R>(rt, &plan, &script)?;
     assert_eq!(rt; out.as_str(), calls);
     Ok(())
 }
 
-/// Plays the calls of a script on a board, and further ones on that board where it is shared.
+/// The calls of a script with their replies, on a board, and of further ones on that board where it is shared.
 fn play_script<J: PlanName + Send + Sync + 'static, R: Threads + Wait + Sync + AllocGlobal>(
     rt: &R,
     plan: &Plan,
     script: &Script<'_>,
-    out: &mut String,
-) -> Result<(), AllocError>
+) -> Result<String, AllocError>
     requires { plan.now ≡ J.plan }
 {
     let alloc = rt.alloc();
@@ -126,11 +124,13 @@ fn play_script<J: PlanName + Send + Sync + 'static, R: Threads + Wait + Sync + A
         .unwrap_or((script.calls, ""));
     let table: VersionTable<J> = VersionTable::new(alloc)?;
     let mut board = Board::starting(alloc, plan, WORKERS, script.attempt, script.clock)?;
-    play_calls(rt, &table, &mut board, script, calls, out)?;
+    let mut out = String::new(alloc);
+    play_calls(rt, &table, &mut board, script, calls, &mut out)?;
     if shared.is_empty() {
-        return Ok(());
+        return Ok(out);
     }
-    share_board(rt, &table, board, shared, out)
+    share_board(rt, &table, board, shared, &mut out)?;
+    Ok(out)
 }
 
 /// Plays the calls, each of which is before its reply. Other lines are of the reply above them.

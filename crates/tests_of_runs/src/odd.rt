@@ -109,13 +109,19 @@ fn item_of(alloc: Global, media: &str, lists: &str) -> Result<Option<Record>, Al
 fn queue_of(alloc: Global, text: &str) -> Result<Holds, AllocError> {
     let mut holds = Holds::new(alloc);
     for id in text.split('+') {
-        if let Some(patron) = Id::read(alloc, id.as_bytes())?
-            && let Some(pickup) = Text::read(alloc, b"")?
-        {
-            holds.push(Hold { patron, pickup })?;
+        if let Some(hold) = hold_of(alloc, id)? {
+            holds.push(hold)?;
         }
     }
     Ok(holds)
+}
+
+fn hold_of(alloc: Global, id: &str) -> Result<Option<Hold>, AllocError> {
+    let pickup = Text::read(alloc, b"")?;
+    Ok(match (Id::read(alloc, id.as_bytes())?, pickup) {
+        (Some(patron), Some(pickup)) => Some(Hold { patron, pickup }),
+        _ => None,
+    })
 }
 
 /// A fee of this amount, of which so much is paid.

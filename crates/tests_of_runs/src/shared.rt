@@ -5,13 +5,12 @@ use crate::odd::key_of;
 use crate::told::{tell, tell_begun, tell_fault, tell_number};
 use message_meaning::need;
 use read_set::{Notes, PlanName};
-use replay_run::NoGate;
 use speculate::{Board, BoardFault, Reply};
 use std::alloc::{AllocError, AllocGlobal};
 use std::sync::Wait;
 use std::thread::Threads;
 use version_store::VersionTable;
-use worker_pool::{Begun, Left, SharedBoard, run_workers};
+use worker_pool::{Begun, Left, NoGate, SharedBoard, run_workers};
 
 /// Shares a board, plays the calls on it, and closes it.
 pub(crate) fn share_board<'t, J, R>(

@@ -2,8 +2,10 @@
 use Rattle.std.proofs.Common.{refl, ap, subst, ◌∙◌, ◌≡◌, ℕ, Bool, List, [], Option, Some, None, Result, Ok, Err, codes, false, true}
 use Rattle.std.specs.Prelude.{unwrap_or}
 use Rattle.std.specs.Str.Parse.{ParsesUnsigned}
-use Rattle.clap.specs.Words.{App, HasMatchesOf, ReadsOne, Text, all_of, app_of, first_of, first_value, found_of, is_simple, matches_of, one_of, one_text, rows_of, takes}
-use Rattle.std.specs.Result.{IfErr, IsErrAnd}
+use Rattle.clap.specs.Words.{App, IsParsedFrom, ReadsOne, Row, Text, all_of, app_of, first_of, first_value, found_of, is_simple, matches_of, one_of, one_text, rows_of, takes}
+use Rattle.std.proofs.lemmas.Result.{IfOk-at_ok, IfOk-weaker}
+use Rattle.std.specs.Result.{IfOk}
+use Rattle.std.specs.declared.alloc.AllocError.{AllocError}
 use Rattle.command_line.specs.declared.refusal.Refusal.{Refusal}
 use Rattle.command_line.specs.declared.refusal.Refusal.TheVariants.{Memory}
 use Rattle.clap.specs.declared.builder.command.Command.{Command}
@@ -11,11 +13,16 @@ use Rattle.clap.specs.declared.parser.matches.ArgMatches.{ArgMatches}
 use Rattle.clap.specs.declared.parser.matches.Found.{Found}
 use Rattle.clap.proofs.WalkLemmas.{first_value-rows, one_text-rows, raw_values-rows}
 use Rattle.command_line.specs.CommandLine.{Counts, Says, values_of}
+use Rattle.command_line.specs.Read.{IsReadBy}
 
--- what a line gives the words is what was read
-pub rows_of_line : (c : Command) (line : App) (words : List Text) (m : ArgMatches) → app_of c ≡ line → is_simple line ≡ true
-    → HasMatchesOf (app_of c) words m → rows_of (found_of m) ≡ matches_of line words
-rows_of_line c line words m same simple h = (h (ap is_simple same ∙ simple)).0 ∙ ap (λ a. matches_of a words) same
+-- what holds of the rows that were read holds of those that the line gives the words
+pub given_by : {C : Type 0} (G : List Row → C → Type 0) (H : ArgMatches → Type 0) (made : Result Command AllocError) (line : App) (words : List Text) (chosen : C)
+    → IfOk made (λ c. app_of c ≡ line) → IfOk made (λ c. (m : ArgMatches) → IsParsedFrom c m → H m) → is_simple line ≡ true
+    → IsReadBy (λ m o. H m → G (rows_of (found_of m)) o) made words chosen → G (matches_of line words) chosen
+given_by G H made line words chosen line_is has simple r =
+    let same : app_of r.command ≡ line = IfOk-at_ok (λ c. app_of c ≡ line) r.is line_is in
+    let rows : rows_of (found_of r.found) ≡ matches_of line words = (r.matches (ap is_simple same ∙ simple)).0 ∙ ap (λ a. matches_of a words) same in
+    subst (λ rows. G rows chosen) rows (r.given (IfOk-at_ok (λ c. (m : ArgMatches) → IsParsedFrom c m → H m) r.is has r.found r.parsed))
 
 -- a text that a getter reads is one of the rows
 pub of_rows : (f : Found) (id : Text) (t : Option Text) → t ≡ first_value f id → t ≡ first_of id (rows_of f)
@@ -45,7 +52,7 @@ pub says_rows : (f : Found) (id : Text) (b : Bool) → (one_text f id ≡ None �
 says_rows f id b none is isnt = subst (λ o. Says o b) (one_text-rows f id) (says (one_text f id) b none is isnt)
 
 -- a refusal that is handed on comes of words that the line doesn't take, or of memory
-pub still_accepts : {X : Type 0} (r : Result X Refusal) (e : Refusal) (c : Command) (line : App) (words : List Text) → app_of c ≡ line
-    → IsErrAnd r (λ f. f ≡ e) → (takes (app_of c) words ≡ true → e ≡ Memory) → IfErr r (λ f. takes line words ≡ true → f ≡ Memory)
-still_accepts (Ok x) e c line words same given accepts = tt
-still_accepts (Err f) e c line words same given accepts = λ taken. given ∙ accepts (ap (λ a. takes a words) same ∙ taken)
+pub still_accepts : (made : Result Command AllocError) (line : App) (words : List Text) (e : Refusal) → IfOk made (λ c. app_of c ≡ line)
+    → (IfOk made (λ c. takes (app_of c) words ≡ true) → e ≡ Memory) → takes line words ≡ true → e ≡ Memory
+still_accepts made line words e line_is accepts taken =
+    accepts (IfOk-weaker made (λ c. app_of c ≡ line) (λ c. takes (app_of c) words ≡ true) (λ c same. ap (λ a. takes a words) same ∙ taken) line_is)

@@ -14,6 +14,10 @@ use Rattle.clap.specs.declared.parser.matches.Found.{Found}
 use Rattle.clap.specs.declared.builder.value_parser.ValueParser.TheVariants.{Signed}
 use Rattle.command_line.specs.declared.chosen.Options.{Options}
 
+-- a value that may be left out, and that has no name before it
+abbrev pub bare_rule : Text → Rule
+bare_rule name = record (new_rule name) { value_names = 1 }
+
 -- an argument that must be given and takes a path
 abbrev pub path_rule : Text → Rule
 path_rule name = record (new_rule name) { long = Some name; value_names = 1; required = true; action = Some Set }

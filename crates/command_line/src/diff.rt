@@ -6,7 +6,7 @@ ghost use Rattle.command_line.specs.CommandLine.{IsOwnArg};
 ghost use Rattle.command_line.specs.Diff.{GivesDiff, HasFolders, folder_rule, sip_diff_line};
 ghost use Rattle.command_line.specs.declared.refusal.Refusal.TheVariants.{Memory};
 
-use crate::parts::{program, read, repeated, text_of, texts_of};
+use crate::parts::{Chosen, bare, program, read, repeated, text_of, texts_of};
 use crate::refusal::Refusal;
 use clap::{Arg, ArgAction, ArgMatches, Command};
 use std::alloc::{AllocError, Global};
@@ -61,19 +61,18 @@ pub fn diff_options<S: AsStr>(alloc: Global, words: &[S]) -> Result<DiffOptions,
     ensures accepts { IfErr result (λ e. takes sip_diff_line (map S.text words.now) ≡ true
         → e ≡ Memory) }
 {
-    let matches = read(alloc, command(alloc)?, words)?;
-    Ok(options_in(alloc, &matches)?)
+    read(alloc, command(alloc), words)
 }
 
-/// The options that were read.
-fn options_in(alloc: Global, matches: &ArgMatches<'_>) -> Result<DiffOptions, AllocError>
-    requires folders { HasFolders (found_of matches.now) }
-    ensures { IfOk result (GivesDiff (rows_of (found_of matches.now))) }
-{
-    let left = text_of(alloc, matches, "left")?;
-    let right = text_of(alloc, matches, "right")?;
-    let leave = texts_of(alloc, matches, "leave")?;
-    Ok(DiffOptions { left, right, leave })
+impl Chosen for DiffOptions {
+    ghost gives = { λ m o. HasFolders (found_of m) → GivesDiff (rows_of (found_of m)) o };
+
+    fn chosen(alloc: Global, matches: &ArgMatches<'_>) -> Result<DiffOptions, AllocError> {
+        let left = text_of(alloc, matches, "left")?;
+        let right = text_of(alloc, matches, "right")?;
+        let leave = texts_of(alloc, matches, "leave")?;
+        Ok(DiffOptions { left, right, leave })
+    }
 }
 
 /// A folder, which must be given; its place among the words says which.
@@ -82,11 +81,9 @@ fn folder<'a>(alloc: Global, name: &'a str, value: &'a str, help: &'a str) -> Ar
     ensures own { IsOwnArg name.entry.now result }
     ensures takes { TakesValue result }
 {
-    Arg::new(alloc, name)
-        .value_name(value)
+    bare(alloc, name, value, help)
         .action(ArgAction::Set)
         .required(true)
-        .help(help)
 }
 
 /// The command line of the program.

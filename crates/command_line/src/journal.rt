@@ -1,6 +1,8 @@
 //! The words of the command line of `sip_journal`, read by `clap`.
 
-use crate::parts::{flag, free_text, optional, program, read, repeated, text_if_given, texts_of};
+use crate::parts::{
+    Chosen, bare, flag, free_text, optional, program, read, repeated, text_if_given, texts_of,
+};
 use crate::refusal::Refusal;
 use clap::{Arg, ArgAction, ArgMatches, Command, value_parser};
 use std::alloc::{AllocError, Global};
@@ -47,6 +49,8 @@ const CAPTURE_HELP: &str =
 
 const PORT_HELP: &str =
     "The server's port in captures; if left out 6001, and on other ports the side that sends responses is the server";
+
+const LOGS_HELP: &str = "The logs, in the order in which they were written; - is standard input";
 
 const AFTER_HELP: &str = "Example:
   sip_journal --try server.log
@@ -119,16 +123,16 @@ impl Drop for JournalOptions {
 
 /// The options of a journal from the words of a command line, of which the first is the program's name; or why there are none.
 pub fn journal_options<S: AsStr>(alloc: Global, words: &[S]) -> Result<JournalOptions, Refusal> {
-    let matches = read(alloc, command(alloc)?, words)?;
-    Ok(options_in(alloc, &matches)?)
+    read(alloc, command(alloc), words)
 }
 
-/// The options that were read.
-fn options_in(alloc: Global, matches: &ArgMatches<'_>) -> Result<JournalOptions, AllocError> {
-    let mut options = JournalOptions::new(alloc);
-    options.read_form(alloc, matches)?;
-    options.read_files(alloc, matches)?;
-    Ok(options)
+impl Chosen for JournalOptions {
+    fn chosen(alloc: Global, matches: &ArgMatches<'_>) -> Result<JournalOptions, AllocError> {
+        let mut options = JournalOptions::new(alloc);
+        options.read_form(alloc, matches)?;
+        options.read_files(alloc, matches)?;
+        Ok(options)
+    }
 }
 
 impl JournalOptions {
@@ -201,11 +205,9 @@ fn command<'a>(alloc: Global) -> Result<Command<'a>, AllocError> {
 
 /// The logs, which have no name before them; they must be given where neither captures nor a log to try is.
 fn logs<'a>(alloc: Global) -> Result<Arg<'a>, AllocError> {
-    let arg = Arg::new(alloc, "logs")
-        .value_name("LOG")
+    let instead: [&'a str; 2] = ["try", "capture"];
+    bare(alloc, "logs", "LOG", LOGS_HELP)
         .action(ArgAction::Append)
         .num_args(1..)
-        .help("The logs, in the order in which they were written; - is standard input");
-    arg.required_unless_present("try")?
-        .required_unless_present("capture")
+        .required_unless_present_any(&instead)
 }

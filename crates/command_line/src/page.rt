@@ -5,7 +5,9 @@ ghost use Rattle.command_line.specs.Page.{GivesPage, HasPagePaths, sip_page_line
 ghost use Rattle.command_line.specs.declared.refusal.Refusal.TheVariants.{Memory};
 
 use crate::chosen::PageOptions;
-use crate::parts::{number, number_or, optional, path, program, read, text_if_given, text_of};
+use crate::parts::{
+    Chosen, number, number_or, optional, path, program, read, text_if_given, text_of,
+};
 use crate::refusal::Refusal;
 use clap::{ArgMatches, Command};
 use std::alloc::{AllocError, Global};
@@ -42,26 +44,25 @@ pub fn page_options<S: AsStr>(alloc: Global, words: &[S]) -> Result<PageOptions,
     ensures accepts { IfErr result (λ e. takes sip_page_line (map S.text words.now) ≡ true
         → e ≡ Memory) }
 {
-    let matches = read(alloc, command(alloc)?, words)?;
-    Ok(options_in(alloc, &matches)?)
+    read(alloc, command(alloc), words)
 }
 
-/// The options that were read.
-fn options_in(alloc: Global, matches: &ArgMatches<'_>) -> Result<PageOptions, AllocError>
-    requires paths { HasPagePaths (found_of matches.now) }
-    ensures { IfOk result (GivesPage (rows_of (found_of matches.now))) }
-{
-    let journal = text_of(alloc, matches, "journal")?;
-    let base = text_if_given(alloc, matches, "base")?;
-    let out = text_of(alloc, matches, "out")?;
-    let why = text_if_given(alloc, matches, "why")?;
-    Ok(PageOptions {
-        journal,
-        base,
-        out,
-        why,
-        limit: number_or(matches, "limit", DEFAULT_LIMIT),
-    })
+impl Chosen for PageOptions {
+    ghost gives = { λ m o. HasPagePaths (found_of m) → GivesPage (rows_of (found_of m)) o };
+
+    fn chosen(alloc: Global, matches: &ArgMatches<'_>) -> Result<PageOptions, AllocError> {
+        let journal = text_of(alloc, matches, "journal")?;
+        let base = text_if_given(alloc, matches, "base")?;
+        let out = text_of(alloc, matches, "out")?;
+        let why = text_if_given(alloc, matches, "why")?;
+        Ok(PageOptions {
+            journal,
+            base,
+            out,
+            why,
+            limit: number_or(matches, "limit", DEFAULT_LIMIT),
+        })
+    }
 }
 
 /// The command line of the program.

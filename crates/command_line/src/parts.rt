@@ -1,9 +1,11 @@
 //! What the command lines of the programs are made of, and how their values are read.
-ghost use Rattle.std.specs.Prelude.{◌≡◌, IfErr, IfOk, Some, is_some, map, option_map, string_bytes, true};
+ghost use Rattle.std.specs.Prelude.{◌≡◌, IfErr, IfOk, None, Some, ⊤, map, option_map, string_bytes, true};
 ghost use Rattle.clap.specs.Built.{TakesValue};
-ghost use Rattle.clap.specs.Words.{HasMatchesOf, IsParsedFrom, app_of, first_value, found_of, one_of, rows_of, rule_of, takes};
-ghost use Rattle.command_line.specs.CommandLine.{Counts, IsOwnArg, IsProgram, values_of};
-ghost use Rattle.command_line.specs.CommandLine.{flag_rule, number_rule, path_rule, repeated_rule, optional_rule};
+ghost use Rattle.clap.specs.Words.{app_of, first_value, found_of, one_of, rows_of, rule_of, takes};
+ghost use Rattle.command_line.specs.CommandLine.{Counts, HasValue, IsOwnArg, IsProgram, values_of};
+ghost use Rattle.command_line.specs.Read.{IsReadBy};
+ghost use Rattle.clap.specs.declared.parser.matches.ArgMatches.{ArgMatches};
+ghost use Rattle.command_line.specs.CommandLine.{bare_rule, flag_rule, number_rule, path_rule, repeated_rule, optional_rule};
 ghost use Rattle.command_line.specs.declared.refusal.Refusal.TheVariants.{Memory};
 
 use crate::refusal::Refusal;
@@ -31,21 +33,49 @@ pub(crate) fn program<'a>(
         .args(args)
 }
 
-/// What the words say on a command line; or why they say nothing.
-pub(crate) fn read<'a, S: AsStr>(
+/// Options that the words of a command line give.
+pub(crate) trait Chosen: Sized {
+    /// Which options these may be, of what was read.
+    ghost gives: { ArgMatches → Self → Type 0 } = { λ _ _. ⊤ };
+
+    /// The options that were read.
+    fn chosen(alloc: Global, matches: &ArgMatches<'_>) -> Result<Self, AllocError>
+        ensures { IfOk result (gives matches.now) };
+}
+
+/// The options that the words give on a command line, where there was memory for it; or why they give none.
+pub(crate) fn read<'a, S: AsStr, C: Chosen>(
     alloc: Global,
-    command: Command<'a>,
+    command: Result<Command<'a>, AllocError>,
     words: &'a [S],
-) -> Result<ArgMatches<'a>, Refusal>
-    ensures parsed { IfOk result (IsParsedFrom command.entry) }
-    ensures matches { IfOk result (HasMatchesOf (app_of command.entry) (map S.text words.entry.now)) }
-    ensures accepts { IfErr result (λ e. takes (app_of command.entry) (map S.text words.entry.now) ≡ true
+) -> Result<C, Refusal>
+    ensures given { IfOk result (IsReadBy C.gives command.entry (map S.text words.entry.now)) }
+    ensures accepts { IfErr result (λ e. IfOk command.entry (λ c. takes (app_of c) (map S.text words.entry.now) ≡ true)
         → e ≡ Memory) }
 {
+    let command = command?;
     match command.try_get_matches_from(words) {
-        Ok(matches) => Ok(matches),
+        Ok(matches) => Ok(C::chosen(alloc, &matches)?),
         Err(error) => Err(Refusal::of_error(alloc, &error)),
     }
+}
+
+/// A value that may be left out, and that has no name before it.
+pub(crate) fn bare<'a>(alloc: Global, name: &'a str, value: &'a str, help: &'a str) -> Arg<'a>
+    ensures rule { rule_of result ≡ bare_rule name.entry.now }
+    ensures own { IsOwnArg name.entry.now result }
+    ensures one { (result.val_delim ≡ None) × (result.num_vals ≡ None) }
+{
+    Arg::new(alloc, name).value_name(value).help(help)
+}
+
+/// An option that takes a value and may be left out.
+pub(crate) fn optional<'a>(alloc: Global, name: &'a str, value: &'a str, help: &'a str) -> Arg<'a>
+    ensures rule { rule_of result ≡ optional_rule name.entry.now }
+    ensures own { IsOwnArg name.entry.now result }
+    ensures one { (result.val_delim ≡ None) × (result.num_vals ≡ None) }
+{
+    bare(alloc, name, value, help).long(name)
 }
 
 /// An option that must be given and takes a path.
@@ -54,23 +84,9 @@ pub(crate) fn path<'a>(alloc: Global, name: &'a str, value: &'a str, help: &'a s
     ensures own { IsOwnArg name.entry.now result }
     ensures takes { TakesValue result }
 {
-    Arg::new(alloc, name)
-        .long(name)
-        .value_name(value)
+    optional(alloc, name, value, help)
         .action(ArgAction::Set)
         .required(true)
-        .help(help)
-}
-
-/// An option that takes a value and may be left out.
-pub(crate) fn optional<'a>(alloc: Global, name: &'a str, value: &'a str, help: &'a str) -> Arg<'a>
-    ensures rule { rule_of result ≡ optional_rule name.entry.now }
-    ensures own { IsOwnArg name.entry.now result }
-{
-    Arg::new(alloc, name)
-        .long(name)
-        .value_name(value)
-        .help(help)
 }
 
 /// An option that may be given several times.
@@ -78,11 +94,7 @@ pub(crate) fn repeated<'a>(alloc: Global, name: &'a str, value: &'a str, help: &
     ensures rule { rule_of result ≡ repeated_rule name.entry.now }
     ensures own { IsOwnArg name.entry.now result }
 {
-    Arg::new(alloc, name)
-        .long(name)
-        .value_name(value)
-        .action(ArgAction::Append)
-        .help(help)
+    optional(alloc, name, value, help).action(ArgAction::Append)
 }
 
 /// An option that takes a number and may be left out.
@@ -114,16 +126,15 @@ pub(crate) fn flag<'a>(alloc: Global, name: &'a str, help: &'a str) -> Arg<'a>
         .help(help)
 }
 
-/// The first value of `id`, copied.
+/// The first value of `id`, which must be given, copied.
 pub(crate) fn text_of(
     alloc: Global,
     matches: &ArgMatches<'_>,
     id: &str,
 ) -> Result<String, AllocError>
-    requires { is_some (first_value (found_of matches.now) id.now) ≡ true }
-    ensures { IfOk result (λ s. Some (string_bytes s) ≡ first_value (found_of matches.now) id.now) }
+    ensures { IfOk result (λ s. HasValue (found_of matches.now) id.now → Some (string_bytes s) ≡ first_value (found_of matches.now) id.now) }
 {
-    String::from_str(alloc, matches.get_str(id).unwrap())
+    String::from_str(alloc, matches.get_str(id).unwrap_or(""))
 }
 
 /// The first value of `id`, copied, where it has one.
@@ -134,13 +145,10 @@ pub(crate) fn text_if_given(
 ) -> Result<Option<String>, AllocError>
     ensures { IfOk result (λ o. option_map string_bytes o ≡ first_value (found_of matches.now) id.now) }
 {
-    match matches.get_str(id) {
-        Some(text) => match String::from_str(alloc, text) {
-            Ok(copy) => Ok(Some(copy)),
-            Err(error) => Err(error),
-        },
-        None => Ok(None),
-    }
+    let Some(text) = matches.get_str(id) else {
+        return Ok(None);
+    };
+    Ok(Some(String::from_str(alloc, text)?))
 }
 
 /// The number of `id`; this one where it has none.

@@ -2,7 +2,7 @@
 //! clap's definition doesn't say what words mean: so it isn't proved here, only that the two options of changes go together.
 ghost use Rattle.std.specs.Prelude.{◌≡◌, IfOk, None, is_some};
 
-use crate::parts::{free_text, program, read, repeated, text_if_given, texts_of};
+use crate::parts::{Chosen, free_text, program, read, repeated, text_if_given, text_of, texts_of};
 use crate::refusal::Refusal;
 use clap::{ArgMatches, Command};
 use std::alloc::{AllocError, Global};
@@ -83,8 +83,7 @@ impl Drop for WhyOptions {
 pub fn why_options<S: AsStr>(alloc: Global, words: &[S]) -> Result<WhyOptions, Refusal>
     ensures together { IfOk result (λ o. is_some o.changes ≡ is_some o.out) }
 {
-    let matches = read(alloc, command(alloc)?, words)?;
-    fitting(alloc, options_in(alloc, &matches)?)
+    fitting(alloc, read(alloc, command(alloc), words)?)
 }
 
 /// The options, where they go together.
@@ -110,23 +109,19 @@ fn misfit(options: &WhyOptions) -> Option<&'static str>
     None
 }
 
-/// The options that were read.
-fn options_in(alloc: Global, matches: &ArgMatches<'_>) -> Result<WhyOptions, AllocError> {
-    Ok(WhyOptions {
-        policy: required_text(alloc, matches, "policy")?,
-        base: required_text(alloc, matches, "base")?,
-        journal: required_text(alloc, matches, "journal")?,
-        report: text_if_given(alloc, matches, "report")?,
-        lines: texts_of(alloc, matches, "line")?,
-        changes: text_if_given(alloc, matches, "changes")?,
-        out: text_if_given(alloc, matches, "out")?,
-        test: text_if_given(alloc, matches, "test")?,
-    })
-}
-
-/// The value of an option that clap requires.
-fn required_text(alloc: Global, matches: &ArgMatches<'_>, id: &str) -> Result<String, AllocError> {
-    String::from_str(alloc, matches.get_str(id).unwrap_or(""))
+impl Chosen for WhyOptions {
+    fn chosen(alloc: Global, matches: &ArgMatches<'_>) -> Result<WhyOptions, AllocError> {
+        Ok(WhyOptions {
+            policy: text_of(alloc, matches, "policy")?,
+            base: text_of(alloc, matches, "base")?,
+            journal: text_of(alloc, matches, "journal")?,
+            report: text_if_given(alloc, matches, "report")?,
+            lines: texts_of(alloc, matches, "line")?,
+            changes: text_if_given(alloc, matches, "changes")?,
+            out: text_if_given(alloc, matches, "out")?,
+            test: text_if_given(alloc, matches, "test")?,
+        })
+    }
 }
 
 /// The command line of the program.

@@ -5,7 +5,7 @@ ghost use Rattle.command_line.specs.CommandLine.{GivesOptions, HasPaths, sip_rep
 ghost use Rattle.command_line.specs.declared.refusal.Refusal.TheVariants.{Memory};
 
 use crate::chosen::Options;
-use crate::parts::{flag, number, number_or, path, program, read, text_of};
+use crate::parts::{Chosen, flag, number, number_or, path, program, read, text_of};
 use crate::refusal::Refusal;
 use clap::{ArgMatches, Command};
 use std::alloc::{AllocError, Global};
@@ -61,28 +61,27 @@ pub fn options<S: AsStr>(alloc: Global, words: &[S]) -> Result<Options, Refusal>
     ensures accepts { IfErr result (λ e. takes sip_replay_line (map S.text words.now) ≡ true
         → e ≡ Memory) }
 {
-    let matches = read(alloc, command(alloc)?, words)?;
-    Ok(options_in(alloc, &matches)?)
+    read(alloc, command(alloc), words)
 }
 
-/// The options that were read.
-fn options_in(alloc: Global, matches: &ArgMatches<'_>) -> Result<Options, AllocError>
-    requires paths { HasPaths (found_of matches.now) }
-    ensures { IfOk result (GivesOptions (rows_of (found_of matches.now))) }
-{
-    let policy = text_of(alloc, matches, "policy")?;
-    let base = text_of(alloc, matches, "base")?;
-    let journal = text_of(alloc, matches, "journal")?;
-    let out = text_of(alloc, matches, "out")?;
-    Ok(Options {
-        policy,
-        base,
-        journal,
-        out,
-        workers: number_or(matches, "workers", DEFAULT_WORKERS),
-        explain: matches.get_flag("explain"),
-        check: matches.get_flag("check"),
-    })
+impl Chosen for Options {
+    ghost gives = { λ m o. HasPaths (found_of m) → GivesOptions (rows_of (found_of m)) o };
+
+    fn chosen(alloc: Global, matches: &ArgMatches<'_>) -> Result<Options, AllocError> {
+        let policy = text_of(alloc, matches, "policy")?;
+        let base = text_of(alloc, matches, "base")?;
+        let journal = text_of(alloc, matches, "journal")?;
+        let out = text_of(alloc, matches, "out")?;
+        Ok(Options {
+            policy,
+            base,
+            journal,
+            out,
+            workers: number_or(matches, "workers", DEFAULT_WORKERS),
+            explain: matches.get_flag("explain"),
+            check: matches.get_flag("check"),
+        })
+    }
 }
 
 /// The command line of the program.

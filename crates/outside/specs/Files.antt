@@ -1,4 +1,4 @@
--- Files that are written: each under a temporary path until it is whole.
+-- Files that are written: each under a temporary path until it is complete.
 use Rattle.std.specs.Prelude.{◌≡◌, ◌++◌, ◌∷◌, ◌⊎◌, ℕ, [], Err, List, Ok, Option, codes, flat_map}
 use Rattle.outside.specs.Events.{Create, Event, Remove, Rename, after}
 use Rattle.outside.specs.declared.failure.Failure.{Failure}
@@ -7,7 +7,7 @@ use Rattle.outside.specs.declared.failure.Failure.{Failure}
 abbrev pub in_folder : List ℕ → List ℕ → List ℕ
 in_folder folder name = folder ++ (codes "/" ++ name)
 
--- a file that is to be written: its path, its temporary path until it is whole, and its bytes
+-- a file that is to be written: its path, its temporary path until it is complete, and its bytes
 pub record Place : Type 0 where
   pub path : List ℕ
   pub part : List ℕ
@@ -17,7 +17,7 @@ pub record Place : Type 0 where
 abbrev pub place : List ℕ → List ℕ × List ℕ → Place
 place folder file = record { path = in_folder folder file.0; part = in_folder folder (file.0 ++ codes ".part"); text = file.1 }
 
--- A file is written: it is made under its temporary path, and renamed.
+-- A file is written: it is created under its temporary path, and renamed.
 abbrev pub written : Place → List Event
 written p = Create p.part p.text (Ok tt) ∷ Rename p.part p.path (Ok tt) ∷ []
 
@@ -25,7 +25,7 @@ written p = Create p.part p.text (Ok tt) ∷ Rename p.part p.path (Ok tt) ∷ []
 abbrev pub all_written : List Place → List Event
 all_written places = flat_map written places
 
--- A file can't be made, or can't be renamed, for this reason; its temporary file is removed.
+-- A file can't be created, or can't be renamed, for this reason; then the removal of its temporary file is asked for.
 abbrev pub FailsToPlace : Place → Failure → List Event → Type 0
 FailsToPlace p failure events =
     (events ≡ Create p.part p.text (Err failure) ∷ Remove p.part ∷ [])
@@ -34,8 +34,8 @@ FailsToPlace p failure events =
 -- The first files are written, in this order, and then the file of this path fails, for this reason.
 abbrev pub StopsWriting : List Place → List ℕ → Failure → List Event → Type 0
 StopsWriting places path failure events =
-    (before : List Place) × (p : Place) × (behind : List Place) × (failed : List Event)
-    × (places ≡ before ++ p ∷ behind) × (events ≡ all_written before ++ failed) × FailsToPlace p failure failed × (path ≡ p.path)
+    (before : List Place) × (p : Place) × (rest : List Place) × (failed : List Event)
+    × (places ≡ before ++ p ∷ rest) × (events ≡ all_written before ++ failed) × FailsToPlace p failure failed × (path ≡ p.path)
 
 -- one file fails, and its temporary file isn't removed yet
 abbrev pub StopsMaking : Place → Failure → Option (List Event) → Option (List Event) → Type 0

@@ -1,4 +1,4 @@
--- A file that isn't written yet, as a place.
+-- The place (path, temporary path, bytes) of a file that is still to be written.
 use Rattle.std.specs.Prelude.{string_bytes}
 use Rattle.outside.specs.Files.{Place}
 use Rattle.outside.specs.declared.writing.Unwritten.{Unwritten}

@@ -8,12 +8,12 @@ use Rattle.outside.specs.declared.reading.IfMissing.TheVariants.{Empty}
 use Rattle.outside.specs.declared.reading.FileStop.{FileStop}
 use Rattle.outside.specs.declared.reading.FileStop.TheVariants as stops
 
--- a file that may be missing is
+-- whether the failure is that the file is missing, where that is allowed
 abbrev pub lacks : IfMissing → Failure → Bool
 lacks Empty Missing = true
 lacks missing failure = false
 
--- what a file answers, and its bytes: none where it may be missing and is
+-- what a read returned, and the bytes that it counts as: none if the file is missing, where that is allowed
 abbrev pub IsAnswer : IfMissing → Result (List ℕ) Failure → List ℕ → Type 0
 IsAnswer missing (Ok bytes) text = bytes ≡ text
 IsAnswer missing (Err failure) text = (lacks missing failure ≡ true) × (text ≡ [])
@@ -24,12 +24,12 @@ AreRead [] [] [] = Unit {0}
 AreRead (file ∷ files) (text ∷ texts) (Read path answer ∷ events) = (path ≡ file.0) × IsAnswer file.1 answer text × AreRead files texts events
 AreRead files texts events = ⊥
 
--- A file that fails is named by its path, with the reason that it gave, or memory ran out.
+-- The error has the file's path and its failure, or it is out of memory.
 abbrev pub MayTell : List ℕ → Failure → FileStop → Type 0
 MayTell path failure (stops.File told why) = (string_bytes told ≡ path) × (why ≡ failure)
 MayTell path failure stops.Memory = Unit {0}
 
--- Some of them are read, in this order; then one fails and is named, or memory runs out.
+-- The first of these files are read, in this order; then one fails, with this error, or memory runs out.
 abbrev pub StopsReading : List (List ℕ × IfMissing) → FileStop → List Event → Type 0
 StopsReading files stop [] = stop ≡ stops.Memory
 StopsReading (file ∷ files) stop (Read path (Ok bytes) ∷ events) = (path ≡ file.0) × StopsReading files stop events

@@ -18,11 +18,11 @@ pub enum Failure {
     Folder,
     /// A folder in its path is a file.
     NoFolder,
-    /// The disk is full, or the user's quota is.
+    /// The disk is full, or the user's quota is used up.
     Full,
     /// Nothing can be written to this disk.
     ReadOnly,
-    /// Another error of the system, with its number.
+    /// Any other error of the system: its errno, or 0.
     System { number: u32 },
 }
 

@@ -1,6 +1,6 @@
 //! Which file a path leads to.
 
-/// A file by its device and its number (inode) there: paths with the same `FileId` lead to one file.
+/// A file by its device and inode number: paths with the same `FileId` lead to one file.
 #[derive(Clone, Copy)]
 pub struct FileId {
     pub device: u64,

@@ -1,7 +1,7 @@
-//! The outside of a program: files, and standard input, output and error. All that is asked of it goes through one trait, so that a
-//! contract can say what was asked, in which order, and what was answered. `System` is the outside that asks the operating system.
+//! Input and output of a program: files, folders and the standard streams, by calls of the traits `Outside` and `Folders`, so that a contract can
+//! say which calls were made, in which order, and what they returned. `System` implements both by calls to the operating system.
 //!
-//! A file is written under a temporary path, and renamed when it is whole.
+//! A file is written under a temporary path, and renamed when it is complete.
 #![tactic(auto)]
 
 mod failure;

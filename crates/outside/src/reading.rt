@@ -11,21 +11,21 @@ use crate::outside::Outside;
 use crate::writing::file_in_folder;
 use std::alloc::{AllocError, Global};
 
-/// What a file is taken for where it is missing.
+/// What to do if a file is missing.
 #[derive(Clone, Copy)]
 pub enum IfMissing {
-    /// It must be there.
+    /// It is an error.
     Fails,
     /// It counts as empty.
     Empty,
 }
 
-/// Why something can't be done with files or folders.
+/// Why an operation on files or folders failed.
 #[derive(Drop)]
 pub enum FileStop {
     /// Memory ran out.
     Memory,
-    /// That of this path fails.
+    /// The operation on this path failed.
     File { path: String, failure: Failure },
 }
 
@@ -38,7 +38,7 @@ impl From<AllocError> for FileStop {
 }
 
 impl FileStop {
-    /// The stop of a file that failed. Where memory ran out, that is named and not the file.
+    /// The error for an operation on this path that failed: its path and failure, or out of memory (as the failure, or when the path is copied).
     pub fn of_file(alloc: Global, failure: Failure, path: &str) -> FileStop
         ensures { MayTell path.now failure result }
     {

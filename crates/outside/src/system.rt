@@ -1,4 +1,4 @@
-//! The outside that asks the operating system.
+//! `Outside` by calls to the operating system.
 
 ghost use Rattle.std.specs.Prelude.{None};
 
@@ -19,8 +19,8 @@ const INPUT: &str = "-";
 /// The file of the operating system that is standard input.
 const INPUT_FILE: &str = "/dev/stdin";
 
-/// The operating system: files through a runtime, and three streams. No contract says what the system was asked: that each method asks it for just
-/// what the trait says, and returns its reply, has to be checked by reading this file.
+/// The operating system: files through the handle `rt`, and three streams. It keeps no log, so no contract says which calls were made: that each
+/// method does just what the trait says of it, and returns that result, has to be checked by reading this file.
 pub struct System<'a, R, I, W, E> {
     pub rt: &'a R,
     pub input: I,
@@ -90,6 +90,7 @@ impl<R: Files, I: Read, W: Write, E: Write + IsTerminal> Outside for System<'_, 
     }
 }
 
+/// All bytes of the file at this path.
 fn bytes_at<R: Files>(rt: &R, alloc: Global, path: &str) -> io::Result<Vec<u8>> {
     read_bytes(alloc, &mut fs::open(rt, path)?)
 }

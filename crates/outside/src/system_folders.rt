@@ -1,4 +1,4 @@
-//! Folders of the outside itself. As of its files, no contract says what the system was asked: that has to be checked by reading this file.
+//! `Folders` for `System`. As for its files, no contract says which calls were made: that has to be checked by reading this file.
 
 use crate::failure::Failure;
 use crate::folders::Folders;

@@ -1,4 +1,4 @@
-//! Writing files, each of which gets its name only when it is whole.
+//! Writing files, each of which gets its name only when it is complete.
 
 ghost use Rattle.std.specs.Prelude.{◌≡◌, IfErr, IfOk, OnOk, map, string_bytes};
 ghost use Rattle.outside.specs.Events.{Did, after};
@@ -16,11 +16,11 @@ pub fn file_in_folder(alloc: Global, folder: &str, name: &str) -> Result<String,
     format!(in alloc; "{folder}/{name}")
 }
 
-/// A file that isn't written yet.
+/// A file that is still to be written.
 pub struct Unwritten<'a> {
-    /// Its path once it is whole.
+    /// Its path once it is complete.
     path: String,
-    /// Its temporary path, in the same folder: that path and `.part`.
+    /// Its temporary path, in the same folder: `path` with `.part` at its end.
     part: String,
     text: &'a [u8],
 }
@@ -53,14 +53,14 @@ impl<'a> Unwritten<'a> {
     }
 }
 
-/// A file that couldn't be written, and why.
+/// The path of a file that couldn't be written, and why.
 #[derive(Clone, Copy)]
 pub struct Unplaced<'a> {
     pub path: &'a str,
     pub failure: Failure,
 }
 
-/// Writes these files, one after the other, up to the first that fails. Of that file nothing is left; the files before it stay.
+/// Writes these files, one after the other, up to the first that fails. Its temporary file is removed, if possible; the files before it stay.
 pub fn write_files<'a, O: Outside>(
     outside: &mut O,
     files: &'a [Unwritten<'_>],
@@ -79,7 +79,7 @@ pub fn write_files<'a, O: Outside>(
     Ok(())
 }
 
-/// Writes a file under its temporary path, and renames it when it is whole. If it fails, the temporary file is removed.
+/// Writes a file under its temporary path, and renames it when it is complete. If that fails, the temporary file is removed; a failure of that is ignored.
 fn write_whole<O: Outside>(outside: &mut O, file: &Unwritten<'_>) -> Result<(), Failure>
     ensures written { OnOk result (O.log outside.new ≡ after (written (place_of file.now)) (O.log outside.old)) }
     ensures stops { IfErr result (λ e. Did (FailsToPlace (place_of file.now) e) (O.log outside.old) (O.log outside.new)) }
@@ -93,7 +93,7 @@ fn write_whole<O: Outside>(outside: &mut O, file: &Unwritten<'_>) -> Result<(), 
     }
 }
 
-/// The same, but if it fails, the temporary file stays.
+/// The same, but if it fails, the temporary file isn't removed.
 fn make_whole<O: Outside>(outside: &mut O, file: &Unwritten<'_>) -> Result<(), Failure>
     ensures written { OnOk result (O.log outside.new ≡ after (written (place_of file.now)) (O.log outside.old)) }
     ensures stops { IfErr result (λ e. StopsMaking (place_of file.now) e (O.log outside.old) (O.log outside.new)) }

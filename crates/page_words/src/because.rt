@@ -27,42 +27,43 @@ pub struct Because<'w> {
 }
 
 /// What is said of why a response was wrong: the word of the report, the reason of the answer, what is said of the record, the kind of the record, and
-/// the saying; `*` fits any. The first line that fits counts. A place in braces is the record's id, or what is said of the record.
+/// the saying; `*` fits any. The first line that fits counts. A place in braces has a mark, which says how it is written, and `id` or a word of
+/// what is said of the record: a patron (`@`), an item (`+`), a day (`#`), days (`&`), or a text as it is (`=`); `~` is since when it was so.
 const BECAUSES: &str = "\
-*|unknown_patron|*|patron|no table has {id}
-*|unknown_item|*|item|no table has {id}
-fee|*|rental|item|its rental is {rental}
+*|unknown_patron|*|patron|no table has {@id}
+*|unknown_item|*|item|no table has {+id}
+fee|*|rental|item|its rental is {=rental}
 due|*|due day given|item|the request gives that day
-due|*|closed|item|its {days} days end on a closed day: {closed}
-due|*|days|item|it is lent for {days} days
-alert|*|first|item|{first} waits for it first, of {holds}{since}
-alert|*|*|item|nobody waits for it{since}
-available|*|borrower none|item|nobody has it{since}
-available|*|borrower|item|{borrower} has it until {due}{since}
-status|*|blocked Y|patron|{id} is blocked{since}
-valid|*|class|patron|{id} is in the tables{since}
-accepted|*|owed|patron|{id} owed {owed}{since}
-*|own_loan|borrower|item|{borrower} has it until {due}{since}
-*|lent|borrower|item|{borrower} has it until {due}{since}
-*|third_party|borrower|item|{borrower} has it until {due}{since}
-*|not_lent|*|item|nobody has it{since}
-*|queue|first|item|{first} waits for it first, of {holds}{since}
-*|waited_for|first|item|{first} waits for it, of {holds}{since}
-*|blocked|*|patron|{id} is blocked{since}
-*|max_loans|*|patron|{id} has {loans} loans{since}
-*|max_fees|*|patron|{id} owes {owed}{since}
-*|max_renewals|*|item|it was renewed {renewals} times{since}
-*|rental|*|item|nobody agreed to its rental of {rental}
-*|has_entry|*|item|{first} waits for it first, of {holds}{since}
-*|queue_full|*|item|{holds} wait for it{since}
-*|no_entry|*|item|{holds} wait for it, and the patron isn't among them{since}
-*|returned_late|borrower|item|{borrower} had it until {due}{since}, and it came back on {back}
-*|returned|borrower|item|{borrower} had it until {due}{since}
-*|made|borrower none|item|nobody had it{since}
-*|made|borrower|item|{borrower} had it until {due}{since}
-*|renewed|borrower|item|{borrower} had it until {due}{since}
-*|done|class|patron|{id} is in the tables{since}
-*|done|borrower|item|{id} is in the tables{since}";
+due|*|closed|item|its {=days} days end on a closed day: {&closed}
+due|*|days|item|it is lent for {=days} days
+alert|*|first|item|{@first} waits for it first, of {=holds}{~since}
+alert|*|*|item|nobody waits for it{~since}
+available|*|borrower none|item|nobody has it{~since}
+available|*|borrower|item|{@borrower} has it until {#due}{~since}
+status|*|blocked Y|patron|{@id} is blocked{~since}
+valid|*|class|patron|{@id} is in the tables{~since}
+accepted|*|owed|patron|{@id} owed {=owed}{~since}
+*|own_loan|borrower|item|{@borrower} has it until {#due}{~since}
+*|lent|borrower|item|{@borrower} has it until {#due}{~since}
+*|third_party|borrower|item|{@borrower} has it until {#due}{~since}
+*|not_lent|*|item|nobody has it{~since}
+*|queue|first|item|{@first} waits for it first, of {=holds}{~since}
+*|waited_for|first|item|{@first} waits for it, of {=holds}{~since}
+*|blocked|*|patron|{@id} is blocked{~since}
+*|max_loans|*|patron|{@id} has {=loans} loans{~since}
+*|max_fees|*|patron|{@id} owes {=owed}{~since}
+*|max_renewals|*|item|it was renewed {=renewals} times{~since}
+*|rental|*|item|nobody agreed to its rental of {=rental}
+*|has_entry|*|item|{@first} waits for it first, of {=holds}{~since}
+*|queue_full|*|item|{=holds} wait for it{~since}
+*|no_entry|*|item|{=holds} wait for it, and the patron isn't among them{~since}
+*|returned_late|borrower|item|{@borrower} had it until {#due}{~since}, and it came back on {#back}
+*|returned|borrower|item|{@borrower} had it until {#due}{~since}
+*|made|borrower none|item|nobody had it{~since}
+*|made|borrower|item|{@borrower} had it until {#due}{~since}
+*|renewed|borrower|item|{@borrower} had it until {#due}{~since}
+*|done|class|patron|{@id} is in the tables{~since}
+*|done|borrower|item|{+id} is in the tables{~since}";
 
 /// Why a response is wrong in a word of the report, where that is known.
 pub fn because_of<'w>(word: &[u8], reason: &[u8], origins: &[Origin<'w>]) -> Option<Because<'w>> {
@@ -83,7 +84,7 @@ fn said_by<'w>(line: &'static [u8], origins: &[Origin<'w>]) -> Option<Because<'w
     let (has, line) = cut(line, b'|');
     let (kind, saying) = cut(line, b'|');
     for origin in origins {
-        if origin.kind == kind && (has.starts_with(b"*") || said_of(origin.said, has).is_some()) {
+        if origin.kind == kind && (has == b"*".as_slice() || said_of(origin.said, has).is_some()) {
             return Some(Because {
                 saying,
                 origin: *origin,
@@ -95,14 +96,16 @@ fn said_by<'w>(line: &'static [u8], origins: &[Origin<'w>]) -> Option<Because<'w
 
 /// What is said of a word of a record: `due` in `borrower P1; due 20260316`.
 fn said_of<'w>(said: &'w [u8], word: &[u8]) -> Option<&'w [u8]> {
-    for part in split(said, b';') {
-        if let Some(value) = part.trim_ascii_start().strip_prefix(word) {
-            if value.is_empty() || value.starts_with(b" ") {
-                return Some(value.trim_ascii_start());
-            }
-        }
+    split(said, b';').find_map(|part| value_of(part.trim_ascii_start(), word))
+}
+
+/// What a part says of a word that it begins with.
+fn value_of<'w>(part: &'w [u8], word: &[u8]) -> Option<&'w [u8]> {
+    let value = part.strip_prefix(word)?;
+    match value.first() {
+        None | Some(b' ') => Some(value.trim_ascii_start()),
+        _ => None,
     }
-    None
 }
 
 impl Because<'_> {
@@ -124,15 +127,20 @@ fn put_place(
     since: &[u8],
     names: &CaseNames,
 ) {
-    let value = said_of(origin.said, place).unwrap_or(b"");
-    match place {
-        b"" => {}
-        b"since" => out.add(since),
-        b"id" if origin.kind == b"item".as_slice() => put_item(out, origin.id, names),
-        b"id" => put_patron(out, origin.id, names),
-        b"borrower" | b"first" => put_patron(out, value, names),
-        b"due" | b"back" => put_day(out, value),
-        b"closed" => put_days(out, value),
+    let Some((mark, word)) = place.split_first() else {
+        return;
+    };
+    let value = if word == b"id".as_slice() {
+        origin.id
+    } else {
+        said_of(origin.said, word).unwrap_or(b"")
+    };
+    match *mark {
+        b'~' => out.add(since),
+        b'@' => put_patron(out, value, names),
+        b'+' => put_item(out, value, names),
+        b'#' => put_day(out, value),
+        b'&' => put_days(out, value),
         _ => out.add(value),
     }
 }

@@ -1,4 +1,4 @@
-//! Days and times in words.
+//! Days, times and counts in words.
 
 use crate::lists::{MONTHS, known};
 use crate::wording::Wording;
@@ -6,31 +6,40 @@ use crate::wording::Wording;
 /// Writes a day in words, as 28 March 2026, from a text that begins with it in one of the three forms of a due date. A text without a
 /// day is written as it is, and an empty one as `no day`.
 pub fn put_day(out: &mut Wording, text: &[u8]) {
-    let (year, month, day) = parts_of(text);
-    let name = known(MONTHS, month);
+    let (year, month, day) = places_of(text);
+    let name = known(MONTHS, digits_at(text, month, 2));
     if text.is_empty() {
         out.add(b"no day");
-    } else if name.is_empty() {
+    } else if name.is_empty() || text.len() < 8 {
         out.add(text);
     } else {
-        out.add(day.strip_prefix(b"0").unwrap_or(day));
+        out.add(without_zeros(digits_at(text, day, 2)));
         out.add(b" ");
         out.add(name);
         out.add(b" ");
-        out.add(year);
+        out.add(digits_at(text, year, 4));
     }
 }
 
-/// The year, the month and the day that a text begins with; none of a shorter one.
-fn parts_of(text: &[u8]) -> (&[u8], &[u8], &[u8]) {
-    if text.len() >= 10 && text[4] == b'-' {
-        (&text[0..4], &text[5..7], &text[8..10])
-    } else if text.len() >= 10 && text[2] == b'/' {
-        (&text[6..10], &text[0..2], &text[3..5])
-    } else if text.len() >= 8 {
-        (&text[0..4], &text[4..6], &text[6..8])
-    } else {
-        (b"", b"", b"")
+/// Where a text that begins with a day has its year, month and day.
+fn places_of(text: &[u8]) -> (usize, usize, usize) {
+    match (text.get(4), text.get(2)) {
+        (Some(b'-'), _) if text.len() >= 10 => (0, 5, 8),
+        (_, Some(b'/')) if text.len() >= 10 => (6, 0, 3),
+        _ => (0, 4, 6),
+    }
+}
+
+/// This count of characters from a place of a text on; none where it is shorter.
+fn digits_at(text: &[u8], from: usize, count: usize) -> &[u8] {
+    text.get(from..from.saturating_add(count)).unwrap_or(b"")
+}
+
+/// A count without the zeros before it, of which the last one stays.
+pub(crate) fn without_zeros(count: &[u8]) -> &[u8] {
+    match count.iter().position(|digit| *digit != b'0') {
+        Some(zeros) => &count[zeros..],
+        None => count.get(..1).unwrap_or(b""),
     }
 }
 

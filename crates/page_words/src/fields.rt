@@ -1,7 +1,7 @@
 //! The fields of a message, in the order in which it has them.
 
 use crate::lists::{KINDS, known};
-use crate::parts::cut;
+use crate::parts::{cut, split};
 use crate::wording::Wording;
 use std::alloc::AllocError;
 
@@ -47,35 +47,22 @@ fn add_fixed<'m>(
     message: &'m [u8],
 ) -> Result<&'m [u8], AllocError> {
     let mut rest = message.get(2..).unwrap_or(b"");
-    let (_, mut layout) = cut(kind_of(message), b';');
-    for _ in 0..layout.len() {
-        let (field, more) = cut(layout, b',');
+    let (_, layout) = cut(kind_of(message), b';');
+    for field in split(layout, b',') {
         let (name, picture) = cut(field, b':');
-        if name.is_empty() {
-            break;
-        }
         let (value, behind) = rest.split_at(rest.len().min(picture.len()));
         fields.push(ShownField { name, value })?;
         rest = behind;
-        layout = more;
     }
     Ok(rest)
 }
 
 /// Adds the variable fields, each of which ends at a `|`.
 fn add_variable<'m>(fields: &mut Vec<ShownField<'m>>, text: &'m [u8]) -> Result<(), AllocError> {
-    let mut rest = text;
-    for count in 1..=MOST {
-        let (field, behind) = if count == MOST {
-            (rest, b"".as_slice())
-        } else {
-            cut(rest, b'|')
-        };
-        if field.len() >= 2 {
-            let (name, value) = field.split_at(2);
+    for field in text.splitn(MOST, |byte| *byte == b'|') {
+        if let Some((name, value)) = field.split_at_checked(2) {
             fields.push(ShownField { name, value })?;
         }
-        rest = behind;
     }
     Ok(())
 }
@@ -111,7 +98,7 @@ pub fn other_of<'f, 'm>(
     fields: &'f [ShownField<'m>],
     field: &ShownField<'_>,
 ) -> Option<&'f ShownField<'m>> {
-    let often = field.name == b"BM".as_slice() || field.name == b"BN".as_slice();
+    let often = matches!(field.name, b"BM" | b"BN");
     for other in fields {
         if other.name == field.name && (!often || other.value == field.value) {
             return Some(other);

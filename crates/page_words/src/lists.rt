@@ -212,7 +212,7 @@ N=free
 
 /// Whether a part of a line of a list fits a text: `*` fits any.
 pub(crate) fn fits(part: &[u8], text: &[u8]) -> bool {
-    part.starts_with(b"*") || part == text
+    part == b"*".as_slice() || part == text
 }
 
 /// What stands for a code in a list; nothing where the list doesn't have it.

@@ -1,15 +1,15 @@
 //! What went wrong, and what changed, in words.
 
 use crate::case::{Case, CaseNames, TextsById};
-use crate::days::put_day;
+use crate::days::{put_day, without_zeros};
 use crate::fields::{ShownField, value_in, values_in};
-use crate::lists::{BLOCKED, FEE_TYPES, fits, known};
+use crate::lists::{BLOCKED, FEE_TYPES, WEIGHTS, fits, known};
 use crate::parts::{cut, split};
 use crate::wording::Wording;
 
 /// What is said of a word of the report: the word, the identifier of the request, a field of the right response with its
-/// value, and the saying; `*` fits any. Of each word the first line that fits counts. `asked` and `right` are said after a
-/// saying that ends with `{}`. A place in braces is a field of the request (`?`), of the recorded response (`-`), or of the
+/// value, and the saying; `*` fits any. Of each word the first line that fits counts. `asked` and `right` are said at the
+/// `{}` that ends the saying of a word of weight 3. A place in braces is a field of the request (`?`), of the recorded response (`-`), or of the
 /// right one (`+`).
 const SAYINGS: &str = "\
 ok|11|ok=1|the server refused {?AA} the checkout of {?AB}; it should have been lent until {+AH}
@@ -104,17 +104,17 @@ pub fn group_saying(word: &[u8], case: &Case<'_>) -> (&'static [u8], &'static [u
 
 /// Says what a word of the report means for a case.
 pub fn say(out: &mut Wording, word: &[u8], case: &Case<'_>, names: &CaseNames) {
-    if put_saying(out, word, case, names) {
+    put_saying(out, word, case, names);
+    if known(WEIGHTS, word) == b"3".as_slice() {
         put_saying(out, b"asked", case, names);
         put_saying(out, b"right", case, names);
     }
 }
 
-/// Writes what is said of a word. Returns whether the request and what is right are said after it.
-fn put_saying(out: &mut Wording, word: &[u8], case: &Case<'_>, names: &CaseNames) -> bool {
+/// Writes what is said of a word.
+fn put_saying(out: &mut Wording, word: &[u8], case: &Case<'_>, names: &CaseNames) {
     let saying = saying_of(SAYINGS, word, case, &case.right);
     fill(out, saying, case, &case.right, names);
-    saying.ends_with(b"{}")
 }
 
 /// What a list says of a word, where a message has these fields; nothing where no line fits.
@@ -180,20 +180,38 @@ fn put_place<'m>(
     }
 }
 
-/// Writes the value of a field: a day and a code in words, an item with its title, a patron with the name, a count without zeros
-/// before it, any other as it is.
+/// How a field is written that isn't written as it is: a day in words (`d`), an item with its title (`i`), a patron with the name (`p`), a
+/// type of fees (`t`) and a block (`b`) in words, what a status denies (`s`), and a count without zeros before it (`c`).
+const FORMS: &str = "\
+AH=d
+due=d
+AB=i
+item=i
+AA=p
+type=t
+blocked=b
+status=s
+renewed=c
+unrenewed=c
+";
+
+/// Writes the value of a field.
 fn put_value(out: &mut Wording, name: &[u8], value: &[u8], names: &CaseNames) {
-    match name {
-        b"AH" | b"due" => put_day(out, value),
-        b"AB" | b"item" => put_item(out, value, names),
-        b"AA" => put_patron(out, value, names),
-        b"type" => out.add(known(FEE_TYPES, value)),
-        b"blocked" => out.add(known(BLOCKED, value)),
-        b"status" => put_status(out, value),
-        _ if value.is_empty() => out.add(b"none"),
-        b"renewed" | b"unrenewed" => out.add(without_zeros(value)),
-        _ => out.add(value),
+    match known(FORMS, name).first().copied().unwrap_or(b' ') {
+        b'd' => put_day(out, value),
+        b'i' => put_item(out, value, names),
+        b'p' => put_patron(out, value, names),
+        b't' => out.add(known(FEE_TYPES, value)),
+        b'b' => out.add(known(BLOCKED, value)),
+        b's' => put_status(out, value),
+        b'c' => put_text(out, without_zeros(value)),
+        _ => put_text(out, value),
     }
+}
+
+/// Writes a text; `none` for an empty one.
+fn put_text(out: &mut Wording, text: &[u8]) {
+    out.add(if text.is_empty() { b"none" } else { text });
 }
 
 /// The positions of a patron status that are compared, and what each denies.
@@ -219,15 +237,6 @@ fn put_status(out: &mut Wording, status: &[u8]) {
     }
 }
 
-/// A count without the zeros before it, of which the last one stays.
-fn without_zeros(count: &[u8]) -> &[u8] {
-    let mut rest = count;
-    for _ in 1..count.len() {
-        rest = rest.strip_prefix(b"0").unwrap_or(rest);
-    }
-    rest
-}
-
 /// Writes an item, and its title in brackets where it has one.
 pub fn put_item(out: &mut Wording, item: &[u8], names: &CaseNames) {
     put_named(out, item, &names.titles)
@@ -240,11 +249,12 @@ pub fn put_patron(out: &mut Wording, patron: &[u8], names: &CaseNames) {
 
 fn put_named(out: &mut Wording, id: &[u8], texts: &TextsById) {
     out.add(id);
-    if let Some(text) = texts.get(id) {
-        if !text.is_empty() {
+    match texts.get(id) {
+        Some(text) if !text.is_empty() => {
             out.add(b" (");
             out.add(text);
             out.add(b")");
         }
+        _ => {}
     }
 }

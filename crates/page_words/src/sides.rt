@@ -67,8 +67,9 @@ fn put_side<'m>(
     fields: &[ShownField<'m>],
     names: &CaseNames,
 ) {
-    let whole = known(OF_ALL, word);
-    let about = if whole.is_empty() { word } else { whole };
-    let saying = saying_of(SIDES, about, case, fields);
+    let mut saying = saying_of(SIDES, word, case, fields);
+    if saying.is_empty() {
+        saying = saying_of(SIDES, known(OF_ALL, word), case, fields);
+    }
     fill(out, saying, case, fields, names)
 }

@@ -25,9 +25,7 @@ impl Wording {
 
     /// Adds to its end.
     pub fn add(&mut self, more: &[u8]) {
-        if self.text.extend_from_slice(more).is_err() {
-            self.failed = true;
-        }
+        self.failed |= self.text.extend_from_slice(more).is_err();
     }
 
     /// Whether it has nothing in it.

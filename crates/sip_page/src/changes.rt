@@ -11,9 +11,11 @@ use page_words::{Case, CaseNames, ShownField, TextsById, Wording, fill};
 use std::alloc::{AllocError, Global};
 use std::collections::BTreeMap;
 
-/// How a row reads: whom and what it is about, on two lines; what it says.
+/// How a row reads: what its columns are called here (`thing` is an item that is written as its id alone, and `AA` a patron that is written with
+/// the name); whom and what it is about, on two lines; what it says.
 struct TableSentence {
     table: TableFile,
+    names: &'static [&'static str],
     about: &'static str,
     says: &'static str,
 }
@@ -22,21 +24,25 @@ struct TableSentence {
 static OF_PATRONS: [TableSentence; 4] = [
     TableSentence {
         table: PATRONS,
+        names: &["id", "name", "class", "blocked"],
         about: "{~id}\nblock",
         says: "{~blocked}",
     },
     TableSentence {
         table: LOANS,
+        names: &["patron", "item", "due", "renewals"],
         about: "{~patron}\nloan of {~item}",
         says: "until {~due}, renewals {~renewals}",
     },
     TableSentence {
         table: FEES,
+        names: &["id", "patron", "type", "amount", "paid"],
         about: "{~patron}\nfee {~id}",
         says: "{~type} {~amount}, paid {~paid}",
     },
     TableSentence {
         table: HOLDS,
+        names: &["item", "patron", "pickup"],
         about: "{~patron}\nhold on {~item}",
         says: "waits, pickup {~pickup}",
     },
@@ -46,16 +52,19 @@ static OF_PATRONS: [TableSentence; 4] = [
 static OF_ITEMS: [TableSentence; 3] = [
     TableSentence {
         table: ITEMS,
+        names: &["id", "title", "media", "location", "properties"],
         about: "{~id}\nproperties",
         says: "{~properties}",
     },
     TableSentence {
         table: LOANS,
+        names: &["AA", "thing", "due", "renewals"],
         about: "{~thing}\nloan",
         says: "to {~AA} until {~due}, renewals {~renewals}",
     },
     TableSentence {
         table: HOLDS,
+        names: &["thing", "AA", "pickup"],
         about: "{~thing}\nhold of {~AA}",
         says: "waits, pickup {~pickup}",
     },
@@ -160,15 +169,28 @@ fn note_rows(
         return Ok(());
     }
     for row in &rows_of(alloc, &sentence.table, text)? {
-        let case = case_of_row(alloc, &sentence.table, row)?;
-        let about = filled(alloc, sentence.about, &case, names)?;
-        let says = filled(alloc, sentence.says, &case, names)?;
-        if after {
-            compare(alloc, changes, about, &says)?;
-        } else {
-            changes.insert(about, says)?;
-        }
+        note_row(alloc, changes, sentence, row, names, after)?;
     }
+    Ok(())
+}
+
+/// Takes in what a row says, before or after.
+fn note_row(
+    alloc: Global,
+    changes: &mut Changes,
+    sentence: &TableSentence,
+    row: &ByteRecord,
+    names: &CaseNames,
+    after: bool,
+) -> Result<(), AllocError> {
+    let mut case = Case::new(alloc, b"", b"");
+    add_columns(&mut case.right, sentence.names, row)?;
+    let about = filled(alloc, sentence.about, &case, names)?;
+    let says = filled(alloc, sentence.says, &case, names)?;
+    if after {
+        return compare(alloc, changes, about, &says);
+    }
+    changes.insert(about, says)?;
     Ok(())
 }
 
@@ -184,26 +206,19 @@ fn filled(
     out.finish()
 }
 
-/// The columns of a row as the fields of a case. An item is there a second time to be written as its id alone, and a patron to be written
-/// with the name.
-fn case_of_row<'r>(
-    alloc: Global,
-    table: &TableFile,
+/// Adds the columns of a row as fields of these names.
+fn add_columns<'r>(
+    fields: &mut Vec<ShownField<'r>>,
+    names: &[&'static str],
     row: &'r ByteRecord,
-) -> Result<Case<'r>, AllocError> {
-    let mut case = Case::new(alloc, b"", b"");
-    for (position, header) in table.header.iter().enumerate() {
-        let name = header.as_bytes();
-        let value = column(row, position);
-        case.right.push(ShownField { name, value })?;
-        let name = match name {
-            b"item" => b"thing".as_slice(),
-            b"patron" => b"AA",
-            _ => continue,
-        };
-        case.right.push(ShownField { name, value })?;
+) -> Result<(), AllocError> {
+    for (position, name) in names.iter().enumerate() {
+        fields.push(ShownField {
+            name: name.as_bytes(),
+            value: column(row, position),
+        })?;
     }
-    Ok(case)
+    Ok(())
 }
 
 /// Compares a new text with the old one, which is dropped where they agree.

@@ -40,18 +40,17 @@ pub fn put_facts(
 pub fn key_of(alloc: Global, group: &Group, reason: &[u8]) -> Result<Vec<u8>, AllocError> {
     let mut key = Wording::new(alloc);
     key.add(&[group.weight]);
-    let parts = [
-        group.words.as_slice(),
-        group.kind.as_slice(),
-        group.connection.as_slice(),
-        reason,
-        group.other.as_slice(),
-    ];
-    for part in &parts {
-        key.add(b"\n");
-        key.add(part);
-    }
+    add_part(&mut key, &group.words);
+    add_part(&mut key, &group.kind);
+    add_part(&mut key, &group.connection);
+    add_part(&mut key, reason);
+    add_part(&mut key, &group.other);
     key.finish()
+}
+
+fn add_part(key: &mut Wording, part: &[u8]) {
+    key.add(b"\n");
+    key.add(part);
 }
 
 /// Writes what each word says of a group of such lines, and returns the weight of the worst one.

@@ -194,13 +194,10 @@ impl Findings {
 
     /// Notes whom and what a wrong response is about.
     fn note_subjects(&mut self, line: u64, case: &Case<'_>) -> Result<(), AllocError> {
-        for id in &patrons_of(self.alloc, case)? {
-            note(self.alloc, &mut self.patrons, id, line)?;
-        }
-        for id in &items_of(self.alloc, case)? {
-            note(self.alloc, &mut self.items, id, line)?;
-        }
-        Ok(())
+        let patrons = patrons_of(self.alloc, case)?;
+        note(self.alloc, &mut self.patrons, &patrons, line)?;
+        let items = items_of(self.alloc, case)?;
+        note(self.alloc, &mut self.items, &items, line)
     }
 }
 

@@ -89,12 +89,17 @@ impl Gathered {
         })
     }
 
-    /// Notes what became of each line of a run, and counts the reasons of those that were passed over.
+    /// Notes what became of each line of a run.
     fn note(&mut self, texts: &RunTexts<'_>) -> Result<(), PageError> {
         let fates = fates(self.alloc, texts)?;
         self.findings
             .note_lines(texts, &fates, &self.names, &mut self.whys)?;
-        for row in &rows_of(self.alloc, &PASSED, texts.passed)? {
+        self.count_passed(texts.passed)
+    }
+
+    /// Counts the reasons of the lines that were passed over.
+    fn count_passed(&mut self, passed: &[u8]) -> Result<(), PageError> {
+        for row in &rows_of(self.alloc, &PASSED, passed)? {
             count(self.alloc, &mut self.passed, column(row, 2), 1)?;
         }
         Ok(())

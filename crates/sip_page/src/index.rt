@@ -65,23 +65,30 @@ pub fn plural_of(kind: &[u8]) -> &'static [u8] {
 
 /// Adds a table of the groups under their words, messages or connections.
 pub fn add_index(sheet: &mut Sheet, run: &Gathered, by: By) -> Result<(), AllocError> {
-    let mut index = BTreeMap::new(run.alloc);
-    for group in run.findings.groups.values() {
-        put_group(run.alloc, &mut index, by, group)?;
-    }
-    let mut most = 1;
-    for entry in index.values() {
-        most = most.max(entry.count);
-    }
     let (caption, first, last) = by.heads();
     sheet.add_head(COUNTS, caption, &[first, COUNT, last]);
-    for (name, entry) in &index {
+    add_names(sheet, by, &index_of(run, by)?);
+    sheet.add_markup(TABLE_END);
+    Ok(())
+}
+
+/// Adds a row for each name.
+fn add_names(sheet: &mut Sheet, by: By, index: &Index<'_>) {
+    let most = index.values().map(|entry| entry.count).max().unwrap_or(0);
+    for (name, entry) in index {
         add_name(sheet, by, name);
         add_bar(sheet, entry.count, most);
         add_links(sheet, by, &entry.groups);
     }
-    sheet.add_markup(TABLE_END);
-    Ok(())
+}
+
+/// The groups under their words, messages or connections.
+fn index_of(run: &Gathered, by: By) -> Result<Index<'_>, AllocError> {
+    let mut index = BTreeMap::new(run.alloc);
+    for group in run.findings.groups.values() {
+        put_group(run.alloc, &mut index, by, group)?;
+    }
+    Ok(index)
 }
 
 /// Puts a group under each of its words, its message or its connection.
@@ -116,17 +123,17 @@ fn put<'g>(
     name: &[u8],
     group: &'g Group,
 ) -> Result<(), AllocError> {
+    if !index.contains_key(name) {
+        let groups = Vec::new(alloc);
+        index.insert(
+            Vec::from_slice(alloc, name)?,
+            NameCount { count: 0, groups },
+        )?;
+    }
     if let Some(entry) = index.get_mut(name) {
         entry.count = entry.count.saturating_add(group.count);
         entry.groups.push(group)?;
-        return Ok(());
     }
-    let mut entry = NameCount {
-        count: group.count,
-        groups: Vec::new(alloc),
-    };
-    entry.groups.push(group)?;
-    index.insert(Vec::from_slice(alloc, name)?, entry)?;
     Ok(())
 }
 
@@ -168,22 +175,23 @@ fn add_links(sheet: &mut Sheet, by: By, groups: &[&Group]) {
 /// Adds a table of the wrong responses of each day, or of each hour of the clock.
 pub fn add_times(sheet: &mut Sheet, alloc: Global, caption: &str, head: &str, times: &Tally) {
     sheet.add_head(COUNTS, caption, &[head, COUNT]);
-    let mut most = 1;
-    for count in times.values() {
-        most = most.max(*count);
-    }
+    let most = times.values().copied().max().unwrap_or(0);
     for (time, count) in times {
-        let mut words = Wording::new(alloc);
-        // an hour has two digits, and a day eight
-        if time.len() == 2 {
-            words.add(time);
-            words.add(b":00");
-        } else {
-            put_day(&mut words, time);
-        }
-        sheet.add_words("<tr><th scope=\"row\">", words);
+        sheet.add_words("<tr><th scope=\"row\">", called(alloc, time));
         add_bar(sheet, *count, most);
         sheet.add_markup("</tr>\n");
     }
     sheet.add_markup(TABLE_END);
+}
+
+/// What a day or an hour of the clock is called: an hour has two digits, and a day eight.
+fn called(alloc: Global, time: &[u8]) -> Wording {
+    let mut words = Wording::new(alloc);
+    if time.len() == 2 {
+        words.add(time);
+        words.add(b":00");
+    } else {
+        put_day(&mut words, time);
+    }
+    words
 }

@@ -51,7 +51,7 @@ fn add_both(
     recorded: Option<&ShownField<'_>>,
     right: Option<&ShownField<'_>>,
 ) {
-    if named.name == b"AY".as_slice() {
+    if matches!(named.name, b"AY") {
         return;
     }
     add_name(sheet, "<li>", named);

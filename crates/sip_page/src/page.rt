@@ -67,7 +67,7 @@ fn add_page(
     options: &PageOptions,
     build: &str,
 ) -> Result<(), PageError> {
-    add_head(sheet, run)?;
+    add_head(sheet, run);
     add_summary(sheet, run, options, build)?;
     add_wrong(sheet, run)?;
     add_patrons(sheet, run);

@@ -25,16 +25,12 @@ impl Sheet {
 
     /// Adds markup, and a text after it.
     pub fn add(&mut self, markup: &'static str, text: &[u8]) {
-        if self.page.add(markup, text).is_err() {
-            self.failed = true;
-        }
+        self.failed |= self.page.add(markup, text).is_err();
     }
 
     /// Adds markup, and a number after it.
     pub fn add_number(&mut self, markup: &'static str, number: u64) {
-        if self.page.add_number(markup, number).is_err() {
-            self.failed = true;
-        }
+        self.failed |= self.page.add_number(markup, number).is_err();
     }
 
     /// Adds markup, and words after it.

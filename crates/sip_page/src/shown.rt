@@ -62,16 +62,22 @@ fn add_single(sheet: &mut Sheet, run: &Gathered, line: &LineRows) -> Result<(), 
     add_line_sentence(sheet, run, line, &case)?;
     sheet.add_number("<p id=\"l", line.number);
     sheet.add_markup("\">");
-    let patrons = patrons_of(run.alloc, &case)?;
-    let items = items_of(run.alloc, &case)?;
+    add_about(sheet, run, &case)?;
+    sheet.add_markup("</p><details><summary>Messages</summary>");
+    add_messages(sheet, line, &case);
+    sheet.add_markup("</details>\n");
+    Ok(())
+}
+
+/// Adds whom and what a line is about.
+fn add_about(sheet: &mut Sheet, run: &Gathered, case: &Case<'_>) -> Result<(), AllocError> {
+    let patrons = patrons_of(run.alloc, case)?;
+    let items = items_of(run.alloc, case)?;
     add_links(sheet, &run.patrons(), &patrons);
     if !patrons.is_empty() && !items.is_empty() {
         sheet.add_markup(" &middot; ");
     }
     add_links(sheet, &run.items(), &items);
-    sheet.add_markup("</p><details><summary>Messages</summary>");
-    add_messages(sheet, line, &case);
-    sheet.add_markup("</details>\n");
     Ok(())
 }
 

@@ -71,7 +71,7 @@ pub fn items_of<'m>(alloc: Global, case: &Case<'m>) -> Result<Vec<&'m [u8]>, All
 /// Adds the items that a response to a renewal of all loans names.
 fn add_renewed<'m>(ids: &mut Vec<&'m [u8]>, fields: &[ShownField<'m>]) -> Result<(), AllocError> {
     for field in fields {
-        if field.name == b"BM".as_slice() || field.name == b"BN".as_slice() {
+        if matches!(field.name, b"BM" | b"BN") {
             add_id(ids, field.value)?;
         }
     }
@@ -86,23 +86,31 @@ fn add_id<'m>(ids: &mut Vec<&'m [u8]>, id: &'m [u8]) -> Result<(), AllocError> {
     Ok(())
 }
 
-/// Notes that the wrong response of a line is about a patron or an item.
+/// Notes that the wrong response of a line is about these patrons or items.
 pub fn note(
     alloc: Global,
     subjects: &mut Subjects,
-    id: &[u8],
+    ids: &[&[u8]],
     line: u64,
 ) -> Result<(), AllocError> {
-    if let Some(subject) = subjects.get_mut(id) {
-        return Ok(subject.lines.push(line)?);
+    for id in ids {
+        if !subjects.contains_key(*id) {
+            let name = Vec::from_slice(alloc, id)?;
+            let number = (subjects.len() as u64).saturating_add(1);
+            let (lines, changes) = (Vec::new(alloc), Vec::new(alloc));
+            subjects.insert(
+                name,
+                Subject {
+                    number,
+                    lines,
+                    changes,
+                },
+            )?;
+        }
+        if let Some(subject) = subjects.get_mut(*id) {
+            subject.lines.push(line)?;
+        }
     }
-    let mut subject = Subject {
-        number: (subjects.len() as u64).saturating_add(1),
-        lines: Vec::new(alloc),
-        changes: Vec::new(alloc),
-    };
-    subject.lines.push(line)?;
-    subjects.insert(Vec::from_slice(alloc, id)?, subject)?;
     Ok(())
 }
 

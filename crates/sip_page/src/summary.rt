@@ -28,31 +28,32 @@ static WEIGHTS: [(u8, &str, &str); 3] = [
 ];
 
 /// Adds the head of the page: what it is of, and where its parts are.
-pub fn add_head(sheet: &mut Sheet, run: &Gathered) -> Result<(), AllocError> {
+pub fn add_head(sheet: &mut Sheet, run: &Gathered) {
     let findings = &run.findings;
-    let days = days_of(run)?;
     sheet.add_markup(HEAD);
-    if !findings.library.is_empty() {
-        sheet.add(": ", &findings.library);
-        sheet.add(", ", &days);
-    }
+    add_library(sheet, run, ": ", "");
     sheet.add_markup(STYLE);
-    if !findings.library.is_empty() {
-        sheet.add("<p>Library ", &findings.library);
-        sheet.add(", ", &days);
-        sheet.add_markup("</p>\n");
-    }
+    add_library(sheet, run, "<p>Library ", "</p>\n");
     let passed = findings.lines.saturating_sub(findings.answered);
     sheet.add_number("<p>Requests: ", findings.lines);
     sheet.add_number(". Answered by the rules: ", findings.answered);
     sheet.add_number(". Passed over: ", passed);
     sheet.add_number(". <strong>Wrong responses: ", findings.wrong);
     sheet.add_markup(PARTS);
-    Ok(())
+}
+
+/// Adds the library and the days of the journal, where the library is known.
+fn add_library(sheet: &mut Sheet, run: &Gathered, before: &'static str, after: &'static str) {
+    let library = &run.findings.library;
+    if !library.is_empty() {
+        sheet.add(before, library);
+        sheet.add_words(", ", days_of(run));
+        sheet.add_markup(after);
+    }
 }
 
 /// The day of the journal, or its first and its last, in words.
-fn days_of(run: &Gathered) -> Result<Vec<u8>, AllocError> {
+fn days_of(run: &Gathered) -> Wording {
     let mut words = Wording::new(run.alloc);
     let days = &run.findings.days;
     match (days.first_key_value(), days.last_key_value()) {
@@ -65,7 +66,7 @@ fn days_of(run: &Gathered) -> Result<Vec<u8>, AllocError> {
         }
         _ => words.add(b"no day"),
     }
-    words.finish()
+    words
 }
 
 /// Adds the summary: the wrong responses by weight, word, message, connection and time, then what the page was made from.

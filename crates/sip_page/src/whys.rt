@@ -46,7 +46,7 @@ impl Whys {
     /// Takes in what a text says of the lines of a report.
     pub fn read(&mut self, text: &[u8], report: &[u8]) -> Result<(), PageError> {
         self.want(report)?;
-        for row in rows_of(self.alloc, &WHY, text)? {
+        for row in &rows_of(self.alloc, &WHY, text)? {
             self.take(row)?;
         }
         Ok(())
@@ -63,14 +63,13 @@ impl Whys {
     }
 
     /// Takes in a row, where it is of a wanted line.
-    fn take(&mut self, row: ByteRecord) -> Result<(), PageError> {
-        let Some(number) = number_of(column(&row, 0)) else {
+    fn take(&mut self, row: &ByteRecord) -> Result<(), PageError> {
+        let Some(number) = number_of(column(row, 0)) else {
             return Err(PageError::Table(WHY.file));
         };
-        let since = number_of(column(&row, 4));
         if let Some(rows) = self.rows.get_mut(&number) {
-            rows.push(row)?;
-            if let Some(line) = since {
+            rows.push(row.clone()?)?;
+            if let Some(line) = number_of(column(row, 4)) {
                 self.moments.insert(line, None)?;
             }
         }

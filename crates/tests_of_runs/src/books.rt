@@ -2,6 +2,7 @@
 
 pub mod checked;
 pub mod choices;
+pub mod entries;
 pub mod lists;
 pub mod odd;
 pub mod refused;

@@ -1,6 +1,6 @@
 //! Tests of what no contract says and no run of the built program shows: replies of the board step by step, lists of steps, workers in threads whose
-//! gate is called at each step, faults that were left, lines over records that don't fit together, whole runs over an outside of which each call fails
-//! in turn, and runs of which one growth of the heap is refused, by `.ci/growths`. Data are texts.
+//! gate is called at each step, faults that were left, lines over records that don't fit together, two stores of entries side by side, whole runs over
+//! an outside of which each call fails in turn, and runs of which one growth of the heap is refused, by `.ci/growths`. Data are texts.
 //!
 //! A book is a text of scripts. A script begins with `#` and its title, and the rows of its files, each after the name of its file: `loans P1,I1,20260316,0`.
 //! They come after those of the library with which each run begins (`texts`): patrons P1 (Ann) and P2 (Bob) of class A, the book I1 and the video tapes
@@ -37,6 +37,8 @@ mod odd;
 #[cfg(test)]
 mod parts;
 #[cfg(test)]
+mod plain;
+#[cfg(test)]
 mod refused;
 #[cfg(test)]
 mod script;
@@ -50,6 +52,8 @@ mod texts;
 mod threads;
 #[cfg(test)]
 mod told;
+#[cfg(test)]
+mod versions;
 #[cfg(test)]
 mod whole;
 

@@ -78,7 +78,10 @@ fn tell_of<J: PlanName>(
 }
 
 /// Takes, failed checks, stops, commits and live lines.
-fn tell_counts<J: PlanName>(out: &mut String, board: &Board<'_, '_, J>) -> Result<(), AllocError> {
+pub(crate) fn tell_counts<J: PlanName>(
+    out: &mut String,
+    board: &Board<'_, '_, J>,
+) -> Result<(), AllocError> {
     let counts = board.counts();
     tell_number(out, "", counts.takes)?;
     tell_number(out, " ", counts.failed)?;

@@ -4,7 +4,7 @@ use read_set::Name;
 use std::alloc::{AllocError, Global};
 use version_store::Found;
 
-/// An entry of a line, at the key of this number.
+/// An entry of a line, from 1 on, at the key of this number.
 #[derive(Clone, Copy)]
 struct PlainEntry {
     line: u64,
@@ -30,46 +30,20 @@ impl PlainStore {
         }
     }
 
-    /// The entry that a line sees at a key, suspect or not: that of the greatest line below it.
-    fn latest(&self, key: usize, below: u64) -> Option<PlainEntry> {
-        let mut found: Option<PlainEntry> = None;
+    /// What a line sees at a key: the entry of the greatest line below it.
+    pub(crate) fn name(&self, key: usize, below: u64) -> Found {
+        let (mut latest, mut found) = (0, Found::Named(Name::Base));
         for entry in &self.entries {
-            if entry.line < below && entry.key == key {
-                found = Some(later(found, *entry));
+            if entry.key == key && latest < entry.line && entry.line < below {
+                latest = entry.line;
+                found = found_in(*entry);
             }
         }
         found
     }
 
-    pub(crate) fn name(&self, key: usize, below: u64) -> Found {
-        match self.latest(key, below) {
-            None => Found::Named(Name::Base),
-            Some(entry) => {
-                let (line, attempt) = (entry.line, entry.attempt);
-                if entry.suspect {
-                    Found::Suspect { line }
-                } else {
-                    Found::Named(Name::Made { line, attempt })
-                }
-            }
-        }
-    }
-
-    /// The i-th key at which a line has an entry, and the attempt of that entry.
-    pub(crate) fn keys_of(&self, line: u64, i: usize) -> Option<(usize, u32)> {
-        let mut smaller: usize = 0;
-        for key in 0..3 {
-            if let Some(attempt) = self.attempt_at(line, key) {
-                if smaller == i {
-                    return Some((key, attempt));
-                }
-                smaller = smaller.saturating_add(1);
-            }
-        }
-        None
-    }
-
-    fn attempt_at(&self, line: u64, key: usize) -> Option<u32> {
+    /// The attempt of a line's entry at a key.
+    pub(crate) fn attempt_at(&self, line: u64, key: usize) -> Option<u32> {
         for entry in &self.entries {
             if entry.line == line && entry.key == key {
                 return Some(entry.attempt);
@@ -80,16 +54,14 @@ impl PlainStore {
 
     pub(crate) fn place(&mut self, line: u64, attempt: u32, key: usize) -> Result<(), AllocError> {
         self.lift(line, key);
-        let entry = PlainEntry {
+        let suspect = false;
+        self.entries.push(PlainEntry {
             line,
             key,
             attempt,
-            suspect: false,
-        };
-        match self.entries.push(entry) {
-            Ok(()) => Ok(()),
-            Err(_) => Err(AllocError),
-        }
+            suspect,
+        })?;
+        Ok(())
     }
 
     pub(crate) fn lift(&mut self, line: u64, key: usize) {
@@ -99,23 +71,16 @@ impl PlainStore {
 
     pub(crate) fn suspect_all(&mut self, line: u64) {
         for entry in self.entries.iter_mut() {
-            if entry.line == line {
-                entry.suspect = true;
-            }
+            entry.suspect |= entry.line == line;
         }
     }
 }
 
-/// The entry of the greater line.
-fn later(found: Option<PlainEntry>, entry: PlainEntry) -> PlainEntry {
-    match found {
-        Some(other) => {
-            if other.line > entry.line {
-                other
-            } else {
-                entry
-            }
-        }
-        None => entry,
+fn found_in(entry: PlainEntry) -> Found {
+    let (line, attempt) = (entry.line, entry.attempt);
+    if entry.suspect {
+        Found::Suspect { line }
+    } else {
+        Found::Named(Name::Made { line, attempt })
     }
 }

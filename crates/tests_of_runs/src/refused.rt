@@ -10,19 +10,22 @@ ghost use Rattle.std.specs.Prelude.{◌≡◌};
 ghost use Rattle.read_set.specs.Plans.{readings_of};
 
 use crate::books::rows::{IN_ORDER, IN_PART, STALE, SUSPECT};
+use crate::calls::tell_counts;
 use crate::script::{WORKERS, steps_of};
 use crate::texts::{inputs_of, tell_files};
 use crate::threads::{COMMITTED, Watch};
+use crate::told::{tell_id, tell_name, tell_number};
 use journal_table::Journal;
 use read_set::{Plan, PlanName};
 use replay_run::{
     Fault, Inputs, Output, Prepared, Run, Step, collect_output, judge_inputs, one_thread, rebuild,
     rebuild_by_steps,
 };
-use speculate::{Board, BoardFault, Halt, drive_in_order, play};
-use std::alloc::{AllocError, AllocGlobal};
+use speculate::{Board, BoardFault, drive_in_order, play};
+use std::alloc::{AllocError, AllocGlobal, Global};
 use std::io::Print;
 use std::marker::Brand;
+use std::ops::Range;
 use std::process::Abort;
 use std::sync::Wait;
 use std::thread::Threads;
@@ -147,7 +150,7 @@ fn rebuild_refused(rt: HostRuntime) {
     let _ = try_twice(&rt, Way::Workers, IN_ORDER);
 }
 
-/// Plays the steps of a script on a board, or drives the board in order. Only the test's own growths are given back as a fault.
+/// Plays the steps of a script on a board, or drives the board, which makes the same steps. Only the test's own growths are given back as a fault.
 fn try_board<R: Wait + AllocGlobal + Abort + Print>(
     rt: &R,
     script: &str,
@@ -155,20 +158,21 @@ fn try_board<R: Wait + AllocGlobal + Abort + Print>(
 ) -> Result<(), Fault> {
     let alloc = rt.alloc();
     let inputs = inputs_of(alloc, script)?;
-    let steps = steps_of(alloc, if is_driven { "" } else { script })?;
+    let steps = steps_of(alloc, script)?;
     let Prepared { plan, journal } = judge_inputs(alloc, &inputs)?;
-    let output = try_over::<Brand, R>(rt, &plan, &journal, steps.as_slice())?;
+    let output = try_over::<Brand, R>(rt, &plan, &journal, steps.as_slice(), is_driven)?;
     let _ = must_be(rt, &output, script)?;
     let _ = println!(rt; "full output");
     Ok(())
 }
 
-/// The output of a board after all steps. One that is out of memory goes on where it was.
+/// The output of a board after all steps. One that is out of memory is as it was before the refused step, and the rest is played on it.
 fn try_over<J: PlanName + 'static, R: Wait + AllocGlobal + Abort + Print>(
     rt: &R,
     plan: &Plan,
     journal: &Journal,
     steps: &[Step],
+    is_driven: bool,
 ) -> Result<Output, AllocError>
     requires named { plan.now ≡ J.plan }
     requires fits { plan.now.readings ≡ readings_of journal.now }
@@ -176,12 +180,15 @@ fn try_over<J: PlanName + 'static, R: Wait + AllocGlobal + Abort + Print>(
     let alloc = rt.alloc();
     let table: VersionTable<J> = VersionTable::new(alloc)?;
     let mut board = Board::new(alloc, plan, WORKERS)?;
-    if let Err(halt) = make_steps(rt, &table, &mut board, steps) {
-        assert!(rt; halt.fault == BoardFault::Memory, "another fault");
+    if let Some((fault, done)) = halted(rt, &table, &mut board, steps, is_driven) {
+        assert!(rt; fault == BoardFault::Memory, "another fault");
         let _ = println!(rt; "out of memory");
-        let rest = steps.get(halt.done..).unwrap_or(&[]);
+        let seen = sight(alloc, &board)?;
+        let found = same_sight(rt, &table, plan, steps, done, seen.as_str())?;
+        let done = found.expect(rt, "another board");
+        let rest = steps.get(done..).unwrap_or(&[]);
         assert!(rt;
-            make_steps(rt, &table, &mut board, rest).is_ok(),
+            play(rt, alloc, &table, &mut board, rest).is_ok(),
             "out of memory twice"
         );
     }
@@ -191,20 +198,79 @@ fn try_over<J: PlanName + 'static, R: Wait + AllocGlobal + Abort + Print>(
     collect_output(alloc, plan, journal, &finished)
 }
 
-/// Plays the steps; where there are none, drives the board in order.
-fn make_steps<'t, J: PlanName + 'static, R: Wait + AllocGlobal>(
+/// Plays the steps, or drives the board in order. The fault, and how many steps were made: as `play` says; any number where the board is driven.
+fn halted<'t, J: PlanName + 'static, R: Wait + AllocGlobal>(
     rt: &R,
     table: &'t VersionTable<J>,
     board: &mut Board<'_, 't, J>,
     steps: &[Step],
-) -> Result<(), Halt> {
-    if !steps.is_empty() {
-        return play(rt, rt.alloc(), table, board, steps);
+    is_driven: bool,
+) -> Option<(BoardFault, Range<usize>)> {
+    if is_driven {
+        let fault = drive_in_order(rt, rt.alloc(), table, board).err()?;
+        return Some((fault, 0..steps.len()));
     }
-    match drive_in_order(rt, rt.alloc(), table, board) {
-        Ok(()) => Ok(()),
-        Err(fault) => Err(Halt { done: 0, fault }),
+    let halt = play(rt, rt.alloc(), table, board, steps).err()?;
+    Some((halt.fault, halt.done..halt.done.saturating_add(1)))
+}
+
+/// The first of these numbers of steps after which another board is seen so.
+fn same_sight<J: PlanName + 'static, R: Wait + AllocGlobal + Abort>(
+    rt: &R,
+    table: &VersionTable<J>,
+    plan: &Plan,
+    steps: &[Step],
+    numbers: Range<usize>,
+    seen: &str,
+) -> Result<Option<usize>, AllocError>
+    requires { plan.now ≡ J.plan }
+{
+    for number in numbers {
+        let made = steps.get(..number).unwrap_or(steps);
+        let mut board = Board::new(rt.alloc(), plan, WORKERS)?;
+        assert!(rt; play(rt, rt.alloc(), table, &mut board, made).is_ok());
+        if sight(rt.alloc(), &board)?.as_str() == seen {
+            return Ok(Some(number));
+        }
     }
+    Ok(None)
+}
+
+/// What is seen of a board: its counts, committed lines and clock, and what each worker has in hand.
+fn sight<J: PlanName>(alloc: Global, board: &Board<'_, '_, J>) -> Result<String, AllocError> {
+    let mut out = String::new(alloc);
+    tell_counts(&mut out, board)?;
+    tell_number(&mut out, ", ", board.committed())?;
+    tell_number(&mut out, " at ", board.clock())?;
+    for worker in 0..WORKERS {
+        if let Some(hand) = board.hand(worker) {
+            tell_number(&mut out, "; ", hand.line)?;
+            tell_number(&mut out, ".", u64::from(hand.attempt))?;
+            tell_notes(&mut out, board, worker)?;
+        }
+    }
+    Ok(out)
+}
+
+/// What a worker has noted, and whether its publication was begun.
+fn tell_notes<J: PlanName>(
+    out: &mut String,
+    board: &Board<'_, '_, J>,
+    worker: u32,
+) -> Result<(), AllocError> {
+    if let Some(noted) = board.notes(worker) {
+        for i in 0..noted.len() {
+            if let Some((key, name)) = noted.named(i) {
+                tell_id(out, " ", key.id())?;
+                tell_name(out, name)?;
+            }
+        }
+    }
+    out.push_str(if board.placing(worker).is_some() {
+        " placing"
+    } else {
+        ""
+    })
 }
 
 #[test]

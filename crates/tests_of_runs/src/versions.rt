@@ -5,12 +5,12 @@ ghost use Rattle.read_set.specs.Plans.{no_plan};
 ghost use Rattle.version_store.specs.Entries.{HasLines};
 
 use crate::books::entries::{EARLY, LIFTED, STALE};
-use crate::calls::{number, parts_of, put};
+use crate::calls::{number, parts_of};
 use crate::odd::key_of;
 use crate::plain::PlainStore;
 use crate::told::tell_found;
 use circ_records::Key;
-use read_set::{Name, Need, Notes, PlanName, Version, Writes};
+use read_set::{Name, Notes, PlanName, Version, Writes};
 use std::alloc::{AllocError, Global};
 use std::marker::Brand;
 use std::process::Abort;
@@ -41,52 +41,48 @@ fn place_for<'t, J: PlanName, R: Wait + AllocGlobal + Abort>(
     let reads = Notes::new(rt.alloc());
     let writes = Writes::none(rt.alloc());
     let version = Version::new(line, attempt, reads, writes, None);
-    put(rt, table, Some(Need::Done(version))).expect(rt, "a place")
+    table.put(rt, version).ok().expect(rt, "a place")
 }
 
-/// Whether both stores say the same of each line at each key, also of lines that aren't there.
+/// Whether both stores say the same of each line, also of lines that aren't there.
 fn agree<J: PlanName>(store: &EntryStore<'_, J>, plain: &PlainStore, keys: &[Key]) -> bool {
-    for (i, key) in keys.iter().enumerate() {
-        for line in 0..6 {
-            if !agree_at(store, plain, key, i, line) || !agree_of(store, plain, keys, line, i) {
-                return false;
-            }
+    for line in 0..6 {
+        if !agree_of(store, plain, keys, line) {
+            return false;
         }
     }
     true
 }
 
-/// Whether they see the same at a key.
-fn agree_at<J: PlanName>(
-    store: &EntryStore<'_, J>,
-    plain: &PlainStore,
-    key: &Key,
-    i: usize,
-    line: u64,
-) -> bool {
-    let name = plain.name(i, line);
-    let seen = match store.see(key, line) {
-        SeenEntry::Base => Found::Named(Name::Base),
-        SeenEntry::Suspect { line } => Found::Suspect { line },
-        SeenEntry::Made { name, .. } => Found::Named(name),
-    };
-    name == seen && name == store.name(key, line)
-}
-
-/// Whether a line has the same i-th key in both, of the same attempt.
+/// Whether a line sees the same in both at each key, and has entries at the same keys, in their order, of the same attempts.
 fn agree_of<J: PlanName>(
     store: &EntryStore<'_, J>,
     plain: &PlainStore,
     keys: &[Key],
     line: u64,
-    i: usize,
 ) -> bool {
-    match (store.keys_of(line, i), plain.keys_of(line, i)) {
-        (Some((key, attempt)), Some((place, other))) => {
-            attempt == other && keys.get(place) == Some(key)
+    let mut count: usize = 0;
+    for (i, key) in keys.iter().enumerate() {
+        let name = plain.name(i, line);
+        if name != store.name(key, line) || name != seen(store, key, line) {
+            return false;
         }
-        (None, None) => true,
-        _ => false,
+        if let Some(attempt) = plain.attempt_at(line, i) {
+            if store.keys_of(line, count) != Some((key, attempt)) {
+                return false;
+            }
+            count = count.saturating_add(1);
+        }
+    }
+    store.keys_of(line, count).is_none()
+}
+
+/// The name that a line sees, beside its place.
+fn seen<J: PlanName>(store: &EntryStore<'_, J>, key: &Key, line: u64) -> Found {
+    match store.see(key, line) {
+        SeenEntry::Base => Found::Named(Name::Base),
+        SeenEntry::Suspect { line } => Found::Suspect { line },
+        SeenEntry::Made { name, .. } => Found::Named(name),
     }
 }
 

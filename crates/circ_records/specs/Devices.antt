@@ -1,6 +1,5 @@
 -- For proofs alone: how things are stored or counted. No promise needs it.
 pub mod Behind
-pub mod IdLists
 pub mod KeyRefs
 pub mod Positions
 pub mod Sharing

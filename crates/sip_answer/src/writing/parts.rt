@@ -1,6 +1,6 @@
 //! The parts of which a response is made, each appended to what is written before.
 
-ghost use Rattle.std.specs.Prelude.{◌≡◌, ◌++◌, ◌<◌, ◌/◌, ◌%◌, OnOk, Some, codes, decimal};
+ghost use Rattle.std.specs.Prelude.{◌≡◌, ◌++◌, ◌∷◌, [], ◌<◌, ◌/◌, ◌%◌, OnOk, Some, codes, decimal};
 ghost use Rattle.circ_policy.specs.Medias.{media_code};
 ghost use Rattle.sip_reader.specs.Amounts.{amount_text};
 ghost use Rattle.sip_answer.specs.Texts.{money};
@@ -76,20 +76,18 @@ pub fn put_filled(out: &mut Vec<u8>, id: &[u8; 2], text: &[u8]) -> Result<(), Al
 
 /// 1 or 0.
 #[tactic(auto, unfolding(crate::specs::Parts::digit))]
-pub fn put_digit(out: &mut Vec<u8>, yes: bool) -> Result<(), AllocError>
-    ensures { OnOk result (out.new.items ≡ out.old.items ++ digit yes) }
+pub fn digit(yes: bool) -> u8
+    ensures { digit yes ≡ result ∷ [] }
 {
-    out.push(if yes { b'1' } else { b'0' })?;
-    Ok(())
+    if yes { b'1' } else { b'0' }
 }
 
 /// Y or N.
 #[tactic(auto, unfolding(crate::specs::Parts::flag))]
-pub fn put_flag(out: &mut Vec<u8>, yes: bool) -> Result<(), AllocError>
-    ensures { OnOk result (out.new.items ≡ out.old.items ++ flag yes) }
+pub fn flag(yes: bool) -> u8
+    ensures { flag yes ≡ result ∷ [] }
 {
-    out.push(if yes { b'Y' } else { b'N' })?;
-    Ok(())
+    if yes { b'Y' } else { b'N' }
 }
 
 /// A field that holds a number.

@@ -18,8 +18,7 @@ pub fn put_due(out: &mut Vec<u8>, form: DueForm, due: Option<Day>) -> Result<(),
     if let Some(day) = due {
         put_day(out, form, day)?;
     }
-    out.push(b'|')?;
-    Ok(())
+    out.extend_from_slice(b"|")
 }
 
 #[tactic(auto, unfolding(crate::specs::DueDates::due_text))]

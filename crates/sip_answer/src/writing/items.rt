@@ -6,7 +6,9 @@ ghost use Rattle.circ_policy.specs.Medias.{media_code};
 ghost use Rattle.sip_answer.specs.Parts.{digit, field, filled, flag, given};
 ghost use Rattle.sip_answer.specs.Texts.{checkin_text, hold_text, item_status_text, position_text};
 
-use super::parts::{digit, flag, put_field, put_filled, put_id, put_media, put_number, put_text};
+use super::parts::{
+    digit, flag, put_field, put_filled, put_id, put_media, put_number, put_patron_ids, put_text,
+};
 use crate::answer::{
     CheckinAnswer, HoldAnswer, ItemStatusAnswer, QueuePosition, ReturnedItem, TitledItem,
 };
@@ -112,8 +114,7 @@ pub fn put_hold(out: &mut Vec<u8>, answer: &HoldAnswer) -> Result<(), AllocError
     out.extend_from_slice(&[b'1', b'6', digit(answer.ok), flag(answer.available)])?;
     out.extend_from_slice(answer.date.as_bytes())?;
     put_position(out, &answer.position)?;
-    put_id(out, b"AO", &answer.institution)?;
-    put_id(out, b"AA", &answer.patron)?;
+    put_patron_ids(out, &answer.institution, &answer.patron)?;
     put_id(out, b"AB", &answer.item)?;
     put_title(out, &answer.title)
 }

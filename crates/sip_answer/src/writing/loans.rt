@@ -8,7 +8,9 @@ ghost use Rattle.sip_answer.specs.Parts.{count, digit, each, field, filled, flag
 ghost use Rattle.sip_answer.specs.Texts.{loan_text, money, renew_all_text};
 
 use super::dates::{four_digits, put_due};
-use super::parts::{COUNT_MAX, digit, flag, put_field, put_filled, put_id, put_media, put_money};
+use super::parts::{
+    COUNT_MAX, digit, flag, put_field, put_filled, put_id, put_media, put_money, put_patron_ids,
+};
 use crate::answer::{KnownItem, LoanAnswer, RenewAllAnswer};
 use sip_reader::{Amount, Id};
 use std::alloc::AllocError;
@@ -42,8 +44,7 @@ fn put_loan_names(out: &mut Vec<u8>, answer: &LoanAnswer) -> Result<(), AllocErr
         ++ field (codes "AB") answer.now.item
         ++ field (codes "AJ") (option_map_or (λ i. i.title) answer.now.known [])) }
 {
-    put_id(out, b"AO", &answer.institution)?;
-    put_id(out, b"AA", &answer.patron)?;
+    put_patron_ids(out, &answer.institution, &answer.patron)?;
     put_id(out, b"AB", &answer.item)?;
     put_title(out, &answer.known)
 }

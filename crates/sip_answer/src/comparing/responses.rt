@@ -1,6 +1,6 @@
 //! The words for each kind of response. None where what is compared can't be read.
 
-ghost use Rattle.std.specs.Prelude.{◌≡◌, ◌≤◌, ◌<◌, ◌+◌, ◌++◌, ◌==◌, IfOk, length, drop, unwrap_or};
+ghost use Rattle.std.specs.Prelude.{◌≡◌, ◌≤◌, ◌<◌, ◌+◌, ◌++◌, ◌==◌, Some, IfOk, length, drop, unwrap_or};
 ghost use Rattle.std.specs.Option.{option_map};
 ghost use Rattle.sip_answer.specs.declared.field.Field.TheVariants as words;
 ghost use Rattle.sip_reader.specs.Bytes as byte;
@@ -71,7 +71,7 @@ pub fn compare_patron(
         (Field::Status, is_same_status(answer.status, response)),
         (Field::Valid, is_same(answer.known.is_some(), is_valid)),
     ];
-    Ok(Some(words_unless(alloc, &compared)?))
+    words_unless(alloc, &compared)
 }
 
 /// Whether the positions 0, 1, 5 and 11 are set alike.
@@ -122,7 +122,7 @@ pub fn compare_checkin(
         (Field::Ok, is_same(answer.known.is_some(), ok)),
         (Field::Alert, is_same(answer.alert, alert)),
     ];
-    Ok(Some(words_unless(alloc, &compared)?))
+    words_unless(alloc, &compared)
 }
 
 /// Of a checkout response or a renew response.
@@ -150,7 +150,7 @@ pub fn compare_loan(
         (Field::Due, is_same_due(answer.due, ok, recorded)),
         (Field::Fee, rental_of(answer.rental) == fee),
     ];
-    Ok(Some(words_unless(alloc, &compared)?))
+    words_unless(alloc, &compared)
 }
 
 fn rental_of(rental: Option<Amount>) -> u64
@@ -188,7 +188,7 @@ pub fn compare_item_status(
     }
     let is_stored = response[OK_AT] == b'1';
     let compared = [(Field::Ok, is_same(answer.known.is_some(), is_stored))];
-    Ok(Some(words_unless(alloc, &compared)?))
+    words_unless(alloc, &compared)
 }
 
 /// Of a fee paid response.
@@ -207,7 +207,7 @@ pub fn compare_fee_paid(
         return Ok(None);
     };
     let compared = [(Field::Accepted, is_same(answer.accepted, accepted))];
-    Ok(Some(words_unless(alloc, &compared)?))
+    words_unless(alloc, &compared)
 }
 
 /// Of a renew all response.
@@ -232,24 +232,23 @@ pub fn compare_renew_all(
         return Ok(None);
     };
     let (_, rest) = response.split_at(RENEW_ALL_FIXED);
-    let words = renew_all_words(alloc, answer, ok, renewed, unrenewed, rest)?;
-    Ok(Some(words))
+    compare_lists(alloc, answer, ok, renewed, unrenewed, rest)
 }
 
-/// The words where the ok, both counts and the fields after the fixed part were read.
-fn renew_all_words(
+/// The same, where its ok and its counts are these, and these its fields.
+fn compare_lists(
     alloc: Global,
     answer: &RenewAllAnswer,
     ok: bool,
     renewed: usize,
     unrenewed: usize,
     rest: &[u8],
-) -> Result<Vec<Field>, AllocError>
-    ensures { IfOk result (λ v. v.items ≡ word_unless words.Ok (is_same answer.now.ok ok)
+) -> Result<Option<Vec<Field>>, AllocError>
+    ensures { IfOk result (λ w. option_map (λ v. v.items) w ≡ Some (word_unless words.Ok (is_same answer.now.ok ok)
         ++ word_unless words.Renewed (capped (length answer.now.renewed) == renewed)
         ++ word_unless words.Unrenewed (capped (length answer.now.unrenewed) == unrenewed)
         ++ word_unless words.RenewedItems (are_same_items answer.now.renewed (items_in byte.B byte.M rest.now))
-        ++ word_unless words.UnrenewedItems (are_same_items answer.now.unrenewed (items_in byte.B byte.N rest.now))) }
+        ++ word_unless words.UnrenewedItems (are_same_items answer.now.unrenewed (items_in byte.B byte.N rest.now)))) }
 {
     let made = answer.renewed.as_slice();
     let not_made = answer.unrenewed.as_slice();
@@ -294,5 +293,5 @@ pub fn compare_hold(
         (Field::Ok, is_same(answer.ok, ok)),
         (Field::Available, is_same(answer.available, available)),
     ];
-    Ok(Some(words_unless(alloc, &compared)?))
+    words_unless(alloc, &compared)
 }

@@ -64,14 +64,11 @@ fn all_capitals(text: &[u8]) -> bool
 pub(crate) fn due_form_of(text: &str) -> Option<DueForm>
     ensures { result ≡ due_form_in text.now }
 {
-    if text == "sip" {
-        Some(DueForm::Sip)
-    } else if text == "iso" {
-        Some(DueForm::Iso)
-    } else if text == "us" {
-        Some(DueForm::Us)
-    } else {
-        None
+    match text {
+        "sip" => Some(DueForm::Sip),
+        "iso" => Some(DueForm::Iso),
+        "us" => Some(DueForm::Us),
+        _ => None,
     }
 }
 
@@ -81,22 +78,15 @@ pub(crate) fn weekday_of(text: &str) -> Option<usize>
     ensures value { result ≡ weekday_in text.now }
     ensures range { IfSome result (λ w. w ≤ 6) }
 {
-    if text == "monday" {
-        Some(0)
-    } else if text == "tuesday" {
-        Some(1)
-    } else if text == "wednesday" {
-        Some(2)
-    } else if text == "thursday" {
-        Some(3)
-    } else if text == "friday" {
-        Some(4)
-    } else if text == "saturday" {
-        Some(5)
-    } else if text == "sunday" {
-        Some(6)
-    } else {
-        None
+    match text {
+        "monday" => Some(0),
+        "tuesday" => Some(1),
+        "wednesday" => Some(2),
+        "thursday" => Some(3),
+        "friday" => Some(4),
+        "saturday" => Some(5),
+        "sunday" => Some(6),
+        _ => None,
     }
 }
 
@@ -119,11 +109,17 @@ fn written_day(text: &[u8]) -> Option<Day>
     requires { length text.now ≡ 10 }
     ensures { result ≡ written_day text.now }
 {
-    let century = two_digits(text[0], text[1])?;
-    let year = two_digits(text[2], text[3])?;
-    let month = two_digits(text[5], text[6])?;
-    let day = two_digits(text[8], text[9])?;
-    Day::of(100 * u16::from(century) + u16::from(year), month, day)
+    match (
+        two_digits(text[0], text[1]),
+        two_digits(text[2], text[3]),
+        two_digits(text[5], text[6]),
+        two_digits(text[8], text[9]),
+    ) {
+        (Some(century), Some(year), Some(month), Some(day)) => {
+            Day::of(100 * u16::from(century) + u16::from(year), month, day)
+        }
+        _ => None,
+    }
 }
 
 /// The number that two digits spell.

@@ -1,6 +1,7 @@
 //! In what recorded responses differ from answers.
 
 ghost use Rattle.std.specs.Prelude.{◌≡◌, ◌≤◌, ◌∷◌, [], IfOk, length};
+ghost use Rattle.std.specs.Option.{option_map};
 ghost use Rattle.sip_answer.specs.Differ.{differ, differ_body, identifier_of, is_response, words_of};
 
 mod due_dates;
@@ -19,7 +20,6 @@ use responses::{
 };
 use sip_reader::{unsummed, without_line_end};
 use std::alloc::{AllocError, Global};
-use words::ReportWords;
 
 /// In what a recorded response differs from an answer, in the order of the report's words; nothing where it agrees.
 /// `Missing`, `Unreadable` and `Kind` come alone. The response may have error detection, whose sum isn't looked at, and
@@ -59,7 +59,7 @@ fn differences_of(alloc: Global, answer: &Answer, response: &[u8]) -> Result<Vec
         return alone(alloc, Field::Kind);
     }
     match compare(alloc, answer, response)? {
-        Some(words) => Ok(words.into_vec()),
+        Some(words) => Ok(words),
         None => alone(alloc, Field::Unreadable),
     }
 }
@@ -95,8 +95,8 @@ fn compare(
     alloc: Global,
     answer: &Answer,
     response: &[u8],
-) -> Result<Option<ReportWords>, AllocError>
-    ensures { IfOk result (λ w. w ≡ words_of answer.now response.now) }
+) -> Result<Option<Vec<Field>>, AllocError>
+    ensures { IfOk result (λ w. option_map (λ v. v.items) w ≡ words_of answer.now response.now) }
 {
     match answer {
         Answer::BlockPatron(a) => compare_patron(alloc, a, response),
@@ -108,6 +108,6 @@ fn compare(
         Answer::Renew(a) => compare_loan(alloc, a, response),
         Answer::FeePaid(a) => compare_fee_paid(alloc, a, response),
         Answer::RenewAll(a) => compare_renew_all(alloc, a, response),
-        Answer::Resend => Ok(Some(ReportWords::new(alloc))),
+        Answer::Resend => Ok(Some(Vec::new(alloc))),
     }
 }

@@ -1,11 +1,15 @@
 //! The words for each kind of response. None where what is compared can't be read.
 
-ghost use Rattle.std.specs.Prelude.{◌≡◌, ◌≤◌, ◌<◌, ◌+◌, ◌++◌, IfOk, length, drop, unwrap_or};
-ghost use Rattle.sip_answer.specs.Differ.{capped, checkin_words, due_words, fee_paid_words, hold_words, is_same, is_same_status, is_set, item_status_words, loan_words, patron_words, renew_all_words, word_unless};
+ghost use Rattle.std.specs.Prelude.{◌≡◌, ◌≤◌, ◌<◌, ◌+◌, ◌++◌, ◌==◌, Some, IfOk, length, drop, unwrap_or};
+ghost use Rattle.std.specs.Option.{option_map};
+ghost use Rattle.sip_answer.specs.declared.field.Field.TheVariants as words;
+ghost use Rattle.sip_reader.specs.Bytes as byte;
+ghost use Rattle.sip_answer.specs.Recorded.{items_in};
+ghost use Rattle.sip_answer.specs.Differ.{are_same_items, capped, checkin_words, due_words, fee_paid_words, hold_words, is_same, is_same_status, is_set, item_status_words, loan_words, patron_words, renew_all_words, word_unless};
 
 use super::items::is_same_as_recorded;
 use super::recorded::{count_at, due_and_fee, flag_of, ok_of, valid_in};
-use super::words::ReportWords;
+use super::words::words_unless;
 use crate::answer::{
     CheckinAnswer, FeePaidAnswer, HoldAnswer, ItemStatusAnswer, LoanAnswer, PatronAnswer,
     PatronStatus, RenewAllAnswer,
@@ -55,18 +59,19 @@ pub fn compare_patron(
     alloc: Global,
     answer: &PatronAnswer,
     response: &[u8],
-) -> Result<Option<ReportWords>, AllocError>
-    ensures { IfOk result (λ w. w ≡ patron_words answer.now response.now) }
+) -> Result<Option<Vec<Field>>, AllocError>
+    ensures { IfOk result (λ w. option_map (λ v. v.items) w ≡ patron_words answer.now response.now) }
 {
     if response.len() < PATRON_FIXED {
         return Ok(None);
     }
     let (_, rest) = response.split_at(PATRON_FIXED);
     let is_valid = valid_in(rest);
-    let words = ReportWords::new(alloc)
-        .unless(Field::Status, is_same_status(answer.status, response))?
-        .unless(Field::Valid, is_same(answer.known.is_some(), is_valid))?;
-    Ok(Some(words))
+    let compared = [
+        (Field::Status, is_same_status(answer.status, response)),
+        (Field::Valid, is_same(answer.known.is_some(), is_valid)),
+    ];
+    words_unless(alloc, &compared)
 }
 
 /// Whether the positions 0, 1, 5 and 11 are set alike.
@@ -101,8 +106,8 @@ pub fn compare_checkin(
     alloc: Global,
     answer: &CheckinAnswer,
     response: &[u8],
-) -> Result<Option<ReportWords>, AllocError>
-    ensures { IfOk result (λ w. w ≡ checkin_words answer.now response.now) }
+) -> Result<Option<Vec<Field>>, AllocError>
+    ensures { IfOk result (λ w. option_map (λ v. v.items) w ≡ checkin_words answer.now response.now) }
 {
     if response.len() < LOAN_FIXED {
         return Ok(None);
@@ -113,10 +118,11 @@ pub fn compare_checkin(
     let Some(alert) = flag_of(response[ALERT_AT]) else {
         return Ok(None);
     };
-    let words = ReportWords::new(alloc)
-        .unless(Field::Ok, is_same(answer.known.is_some(), ok))?
-        .unless(Field::Alert, is_same(answer.alert, alert))?;
-    Ok(Some(words))
+    let compared = [
+        (Field::Ok, is_same(answer.known.is_some(), ok)),
+        (Field::Alert, is_same(answer.alert, alert)),
+    ];
+    words_unless(alloc, &compared)
 }
 
 /// Of a checkout response or a renew response.
@@ -125,8 +131,8 @@ pub fn compare_loan(
     alloc: Global,
     answer: &LoanAnswer,
     response: &[u8],
-) -> Result<Option<ReportWords>, AllocError>
-    ensures { IfOk result (λ w. w ≡ loan_words answer.now response.now) }
+) -> Result<Option<Vec<Field>>, AllocError>
+    ensures { IfOk result (λ w. option_map (λ v. v.items) w ≡ loan_words answer.now response.now) }
 {
     if response.len() < LOAN_FIXED {
         return Ok(None);
@@ -139,10 +145,12 @@ pub fn compare_loan(
     let Some(fee) = fee else {
         return Ok(None);
     };
-    let words = ReportWords::new(alloc).unless(Field::Ok, is_same(answer.due.is_some(), ok))?;
-    let words = compare_due(words, answer.due, ok, recorded)?;
-    let words = words.unless(Field::Fee, rental_of(answer.rental) == fee)?;
-    Ok(Some(words))
+    let compared = [
+        (Field::Ok, is_same(answer.due.is_some(), ok)),
+        (Field::Due, is_same_due(answer.due, ok, recorded)),
+        (Field::Fee, rental_of(answer.rental) == fee),
+    ];
+    words_unless(alloc, &compared)
 }
 
 fn rental_of(rental: Option<Amount>) -> u64
@@ -154,25 +162,15 @@ fn rental_of(rental: Option<Amount>) -> u64
     }
 }
 
-/// The word for the due day, which is compared where both oks are 1.
+/// Whether the due days are the same, which are compared where both oks are 1.
 #[tactic(auto, unfolding(crate::specs::Differ::due_words, crate::specs::Differ::word_unless))]
-fn compare_due(
-    words: ReportWords,
-    due: Option<Day>,
-    ok: bool,
-    recorded: Option<Day>,
-) -> Result<ReportWords, AllocError>
-    ensures { IfOk result (λ w. w ≡ words ++ due_words due ok recorded) }
+fn is_same_due(due: Option<Day>, ok: bool, recorded: Option<Day>) -> bool
+    ensures { due_words due ok recorded ≡ word_unless words.Due result }
 {
-    let Some(day) = due else {
-        return Ok(words);
-    };
-    if !ok {
-        return Ok(words);
-    }
-    match recorded {
-        Some(recorded) => words.unless(Field::Due, day.number() == recorded.number()),
-        None => words.unless(Field::Due, false),
+    match (due, recorded) {
+        (Some(day), Some(recorded)) => !ok || day.number() == recorded.number(),
+        (Some(_), None) => !ok,
+        (None, _) => true,
     }
 }
 
@@ -182,18 +180,15 @@ pub fn compare_item_status(
     alloc: Global,
     answer: &ItemStatusAnswer,
     response: &[u8],
-) -> Result<Option<ReportWords>, AllocError>
-    ensures { IfOk result (λ w. w ≡ item_status_words answer.now response.now) }
+) -> Result<Option<Vec<Field>>, AllocError>
+    ensures { IfOk result (λ w. option_map (λ v. v.items) w ≡ item_status_words answer.now response.now) }
 {
     if response.len() < SHORT_FIXED {
         return Ok(None);
     }
     let is_stored = response[OK_AT] == b'1';
-    let words = ReportWords::new(alloc).unless(
-        Field::Ok,
-        is_same(answer.known.is_some(), is_stored),
-    )?;
-    Ok(Some(words))
+    let compared = [(Field::Ok, is_same(answer.known.is_some(), is_stored))];
+    words_unless(alloc, &compared)
 }
 
 /// Of a fee paid response.
@@ -202,8 +197,8 @@ pub fn compare_fee_paid(
     alloc: Global,
     answer: &FeePaidAnswer,
     response: &[u8],
-) -> Result<Option<ReportWords>, AllocError>
-    ensures { IfOk result (λ w. w ≡ fee_paid_words answer.now response.now) }
+) -> Result<Option<Vec<Field>>, AllocError>
+    ensures { IfOk result (λ w. option_map (λ v. v.items) w ≡ fee_paid_words answer.now response.now) }
 {
     if response.len() < SHORT_FIXED {
         return Ok(None);
@@ -211,11 +206,8 @@ pub fn compare_fee_paid(
     let Some(accepted) = flag_of(response[OK_AT]) else {
         return Ok(None);
     };
-    let words = ReportWords::new(alloc).unless(
-        Field::Accepted,
-        is_same(answer.accepted, accepted),
-    )?;
-    Ok(Some(words))
+    let compared = [(Field::Accepted, is_same(answer.accepted, accepted))];
+    words_unless(alloc, &compared)
 }
 
 /// Of a renew all response.
@@ -224,8 +216,8 @@ pub fn compare_renew_all(
     alloc: Global,
     answer: &RenewAllAnswer,
     response: &[u8],
-) -> Result<Option<ReportWords>, AllocError>
-    ensures { IfOk result (λ w. w ≡ renew_all_words answer.now response.now) }
+) -> Result<Option<Vec<Field>>, AllocError>
+    ensures { IfOk result (λ w. option_map (λ v. v.items) w ≡ renew_all_words answer.now response.now) }
 {
     if response.len() < RENEW_ALL_FIXED {
         return Ok(None);
@@ -240,21 +232,36 @@ pub fn compare_renew_all(
         return Ok(None);
     };
     let (_, rest) = response.split_at(RENEW_ALL_FIXED);
-    let as_renewed = is_same_as_recorded(alloc, answer.renewed.as_slice(), rest, b'B', b'M')?;
-    let as_unrenewed = is_same_as_recorded(alloc, answer.unrenewed.as_slice(), rest, b'B', b'N')?;
-    let words = ReportWords::new(alloc)
-        .unless(Field::Ok, is_same(answer.ok, ok))?
-        .unless(
-            Field::Renewed,
-            capped(answer.renewed.as_slice().len()) == renewed,
-        )?
-        .unless(
-            Field::Unrenewed,
-            capped(answer.unrenewed.as_slice().len()) == unrenewed,
-        )?
-        .unless(Field::RenewedItems, as_renewed)?
-        .unless(Field::UnrenewedItems, as_unrenewed)?;
-    Ok(Some(words))
+    compare_lists(alloc, answer, ok, renewed, unrenewed, rest)
+}
+
+/// The same, where its ok and its counts are these, and these its fields.
+fn compare_lists(
+    alloc: Global,
+    answer: &RenewAllAnswer,
+    ok: bool,
+    renewed: usize,
+    unrenewed: usize,
+    rest: &[u8],
+) -> Result<Option<Vec<Field>>, AllocError>
+    ensures { IfOk result (λ w. option_map (λ v. v.items) w ≡ Some (word_unless words.Ok (is_same answer.now.ok ok)
+        ++ word_unless words.Renewed (capped (length answer.now.renewed) == renewed)
+        ++ word_unless words.Unrenewed (capped (length answer.now.unrenewed) == unrenewed)
+        ++ word_unless words.RenewedItems (are_same_items answer.now.renewed (items_in byte.B byte.M rest.now))
+        ++ word_unless words.UnrenewedItems (are_same_items answer.now.unrenewed (items_in byte.B byte.N rest.now)))) }
+{
+    let made = answer.renewed.as_slice();
+    let not_made = answer.unrenewed.as_slice();
+    let as_made = is_same_as_recorded(alloc, made, rest, b'B', b'M')?;
+    let as_not_made = is_same_as_recorded(alloc, not_made, rest, b'B', b'N')?;
+    let compared = [
+        (Field::Ok, is_same(answer.ok, ok)),
+        (Field::Renewed, capped(made.len()) == renewed),
+        (Field::Unrenewed, capped(not_made.len()) == unrenewed),
+        (Field::RenewedItems, as_made),
+        (Field::UnrenewedItems, as_not_made),
+    ];
+    words_unless(alloc, &compared)
 }
 
 /// The number that a count has in four digits: 9,999 for a greater one.
@@ -270,8 +277,8 @@ pub fn compare_hold(
     alloc: Global,
     answer: &HoldAnswer,
     response: &[u8],
-) -> Result<Option<ReportWords>, AllocError>
-    ensures { IfOk result (λ w. w ≡ hold_words answer.now response.now) }
+) -> Result<Option<Vec<Field>>, AllocError>
+    ensures { IfOk result (λ w. option_map (λ v. v.items) w ≡ hold_words answer.now response.now) }
 {
     if response.len() < HOLD_FIXED {
         return Ok(None);
@@ -282,8 +289,9 @@ pub fn compare_hold(
     let Some(available) = flag_of(response[AVAILABLE_AT]) else {
         return Ok(None);
     };
-    let words = ReportWords::new(alloc)
-        .unless(Field::Ok, is_same(answer.ok, ok))?
-        .unless(Field::Available, is_same(answer.available, available))?;
-    Ok(Some(words))
+    let compared = [
+        (Field::Ok, is_same(answer.ok, ok)),
+        (Field::Available, is_same(answer.available, available)),
+    ];
+    words_unless(alloc, &compared)
 }

@@ -1,57 +1,24 @@
-ghost use Rattle.std.specs.Prelude.{◌≡◌, ◌++◌, [], IfOk};
+ghost use Rattle.std.specs.Prelude.{◌≡◌, ◌++◌, [], Some, IfOk};
+ghost use Rattle.std.specs.List.{flat_map};
+ghost use Rattle.std.specs.Option.{option_map};
 ghost use Rattle.sip_answer.specs.Differ.{word_unless};
 
 use crate::field::Field;
 use std::alloc::{AllocError, Global};
-use std::marker::Model;
 
-/// The words that were found so far.
-pub struct ReportWords {
-    fields: Vec<Field>,
-}
-
-impl Drop for ReportWords {
-    fn drop(self) {
-        let ReportWords { fields: _ } = self;
-    }
-}
-
-impl Model for ReportWords {
-    ghost use Rattle.std.specs.Prelude.{List};
-    ghost use Rattle.sip_answer.specs.declared.field.Field.{Field};
-
-    ghost Value = { List Field };
-
-    ghost view = { λ w. w.fields.items };
-}
-
-impl ReportWords {
-    /// None so far.
-    pub fn new(alloc: Global) -> ReportWords
-        ensures { result ≡ [] }
-    {
-        ReportWords {
-            fields: Vec::new(alloc),
-        }
-    }
-
-    /// With this word too, unless the two agree.
-    #[tactic(auto, unfolding(crate::specs::Differ::word_unless))]
-    pub fn unless(self, field: Field, agree: bool) -> Result<ReportWords, AllocError>
-        ensures { IfOk result (λ w. w ≡ self ++ word_unless field agree) }
-    {
-        let ReportWords { mut fields } = self;
+/// The words of those that don't agree, in their order: the result for a response that can be read.
+#[tactic(auto, unfolding(crate::specs::Differ::word_unless))]
+pub fn words_unless(
+    alloc: Global,
+    compared: &[(Field, bool)],
+) -> Result<Option<Vec<Field>>, AllocError>
+    ensures { IfOk result (λ w. option_map (λ v. v.items) w ≡ Some (flat_map (λ c. word_unless c.0 c.1) compared.now)) }
+{
+    let mut words = Vec::new(alloc);
+    for (word, agree) in compared {
         if !agree {
-            fields.push(field)?;
+            words.push(*word)?;
         }
-        Ok(ReportWords { fields })
     }
-
-    /// The words as a list.
-    pub fn into_vec(self) -> Vec<Field>
-        ensures { result.items ≡ self }
-    {
-        let ReportWords { fields } = self;
-        fields
-    }
+    Ok(Some(words))
 }

@@ -18,8 +18,7 @@ pub fn put_due(out: &mut Vec<u8>, form: DueForm, due: Option<Day>) -> Result<(),
     if let Some(day) = due {
         put_day(out, form, day)?;
     }
-    out.push(b'|')?;
-    Ok(())
+    out.extend_from_slice(b"|")
 }
 
 #[tactic(auto, unfolding(crate::specs::DueDates::due_text))]
@@ -42,49 +41,35 @@ fn put_date(
     requires day { day < 100 }
     ensures { OnOk result (out.new.items ≡ out.old.items ++ date_text form year month day) }
 {
+    let [c, x, y, z] = four_digits(year);
+    let [m, n] = two_digits(month);
+    let [d, e] = two_digits(day);
     match form {
-        DueForm::Sip => {
-            put_four(out, year)?;
-            put_two(out, month)?;
-            put_two(out, day)?;
-            out.extend_from_slice(b"    235900")
-        }
-        DueForm::Iso => {
-            put_four(out, year)?;
-            out.push(b'-')?;
-            put_two(out, month)?;
-            out.push(b'-')?;
-            put_two(out, day)
-        }
-        DueForm::Us => {
-            put_two(out, month)?;
-            out.push(b'/')?;
-            put_two(out, day)?;
-            out.push(b'/')?;
-            put_four(out, year)
-        }
+        DueForm::Sip => out.extend_from_slice(&[
+            c, x, y, z, m, n, d, e, b' ', b' ', b' ', b' ', b'2', b'3', b'5', b'9', b'0', b'0',
+        ]),
+        DueForm::Iso => out.extend_from_slice(&[c, x, y, z, b'-', m, n, b'-', d, e]),
+        DueForm::Us => out.extend_from_slice(&[m, n, b'/', d, e, b'/', c, x, y, z]),
     }
 }
 
 #[tactic(auto, unfolding(crate::specs::DueDates::two_digits))]
-fn put_two(out: &mut Vec<u8>, n: u8) -> Result<(), AllocError>
+fn two_digits(n: u8) -> [u8; 2]
     requires { n < 100 }
-    ensures { OnOk result (out.new.items ≡ out.old.items ++ two_digits n) }
+    ensures { result ≡ two_digits n }
 {
-    out.extend_from_slice(&[b'0' + n / 10, b'0' + n % 10])
+    [b'0' + n / 10, b'0' + n % 10]
 }
 
-/// Four digits.
 #[tactic(auto, unfolding(crate::specs::DueDates::four_digits))]
-pub fn put_four(out: &mut Vec<u8>, n: u16) -> Result<(), AllocError>
+pub fn four_digits(n: u16) -> [u8; 4]
     requires { n < 10000 }
-    ensures { OnOk result (out.new.items ≡ out.old.items ++ four_digits n) }
+    ensures { result ≡ four_digits n }
 {
-    let digits = [
+    [
         b'0' + (n / 1000) as u8,
         b'0' + (n / 100 % 10) as u8,
         b'0' + (n / 10 % 10) as u8,
         b'0' + (n % 10) as u8,
-    ];
-    out.extend_from_slice(&digits)
+    ]
 }

@@ -7,7 +7,7 @@ ghost use Rattle.sip_answer.specs.Parts.{digit, field, filled, flag, given};
 ghost use Rattle.sip_answer.specs.Texts.{checkin_text, hold_text, item_status_text, position_text};
 
 use super::parts::{
-    put_digit, put_field, put_filled, put_flag, put_id, put_media, put_number, put_text,
+    digit, flag, put_field, put_filled, put_id, put_media, put_number, put_patron_ids, put_text,
 };
 use crate::answer::{
     CheckinAnswer, HoldAnswer, ItemStatusAnswer, QueuePosition, ReturnedItem, TitledItem,
@@ -19,8 +19,7 @@ use std::alloc::AllocError;
 pub fn put_item_status(out: &mut Vec<u8>, answer: &ItemStatusAnswer) -> Result<(), AllocError>
     ensures { OnOk result (out.new.items ≡ out.old.items ++ item_status_text answer.now) }
 {
-    out.extend_from_slice(b"20")?;
-    put_digit(out, answer.known.is_some())?;
+    out.extend_from_slice(&[b'2', b'0', digit(answer.known.is_some())])?;
     out.extend_from_slice(answer.date.as_bytes())?;
     put_id(out, b"AB", &answer.item)?;
     put_titled(out, &answer.known)
@@ -57,11 +56,15 @@ fn put_checkin_head(out: &mut Vec<u8>, answer: &CheckinAnswer) -> Result<(), All
         ++ codes "10" ++ digit (is_some answer.now.known) ++ flag (is_some answer.now.known)
         ++ codes "U" ++ flag answer.now.alert ++ answer.now.date) }
 {
-    out.extend_from_slice(b"10")?;
-    put_digit(out, answer.known.is_some())?;
-    put_flag(out, answer.known.is_some())?;
-    out.push(b'U')?;
-    put_flag(out, answer.alert)?;
+    let is_known = answer.known.is_some();
+    out.extend_from_slice(&[
+        b'1',
+        b'0',
+        digit(is_known),
+        flag(is_known),
+        b'U',
+        flag(answer.alert),
+    ])?;
     out.extend_from_slice(answer.date.as_bytes())
 }
 
@@ -108,13 +111,10 @@ fn put_borrower(out: &mut Vec<u8>, borrower: &Option<Id>) -> Result<(), AllocErr
 pub fn put_hold(out: &mut Vec<u8>, answer: &HoldAnswer) -> Result<(), AllocError>
     ensures { OnOk result (out.new.items ≡ out.old.items ++ hold_text answer.now) }
 {
-    out.extend_from_slice(b"16")?;
-    put_digit(out, answer.ok)?;
-    put_flag(out, answer.available)?;
+    out.extend_from_slice(&[b'1', b'6', digit(answer.ok), flag(answer.available)])?;
     out.extend_from_slice(answer.date.as_bytes())?;
     put_position(out, &answer.position)?;
-    put_id(out, b"AO", &answer.institution)?;
-    put_id(out, b"AA", &answer.patron)?;
+    put_patron_ids(out, &answer.institution, &answer.patron)?;
     put_id(out, b"AB", &answer.item)?;
     put_title(out, &answer.title)
 }

@@ -1,15 +1,15 @@
 //! Answers about loans: checkout, renew, renew all.
 
-ghost use Rattle.std.specs.Prelude.{◌≡◌, ◌++◌, OnOk, [], is_some, codes};
+ghost use Rattle.std.specs.Prelude.{◌≡◌, ◌++◌, OnOk, [], is_some, codes, length};
 ghost use Rattle.std.specs.Option.{option_map, option_map_or};
 ghost use Rattle.circ_policy.specs.Medias.{media_code};
 ghost use Rattle.sip_answer.specs.DueDates.{due_text};
 ghost use Rattle.sip_answer.specs.Parts.{count, digit, each, field, filled, flag, given};
 ghost use Rattle.sip_answer.specs.Texts.{loan_text, money, renew_all_text};
 
-use super::dates::{put_due, put_four};
+use super::dates::{four_digits, put_due};
 use super::parts::{
-    COUNT_MAX, put_digit, put_field, put_filled, put_flag, put_id, put_media, put_money,
+    COUNT_MAX, digit, flag, put_field, put_filled, put_id, put_media, put_money, put_patron_ids,
 };
 use crate::answer::{KnownItem, LoanAnswer, RenewAllAnswer};
 use sip_reader::{Amount, Id};
@@ -32,11 +32,9 @@ fn put_loan_head(out: &mut Vec<u8>, id: &[u8], answer: &LoanAnswer) -> Result<()
         ++ id.now ++ digit (is_some answer.now.due) ++ flag answer.now.renewed
         ++ codes "U" ++ flag (is_some answer.now.due) ++ answer.now.date) }
 {
+    let is_made = answer.due.is_some();
     out.extend_from_slice(id)?;
-    put_digit(out, answer.due.is_some())?;
-    put_flag(out, answer.renewed)?;
-    out.push(b'U')?;
-    put_flag(out, answer.due.is_some())?;
+    out.extend_from_slice(&[digit(is_made), flag(answer.renewed), b'U', flag(is_made)])?;
     out.extend_from_slice(answer.date.as_bytes())
 }
 
@@ -46,8 +44,7 @@ fn put_loan_names(out: &mut Vec<u8>, answer: &LoanAnswer) -> Result<(), AllocErr
         ++ field (codes "AB") answer.now.item
         ++ field (codes "AJ") (option_map_or (λ i. i.title) answer.now.known [])) }
 {
-    put_id(out, b"AO", &answer.institution)?;
-    put_id(out, b"AA", &answer.patron)?;
+    put_patron_ids(out, &answer.institution, &answer.patron)?;
     put_id(out, b"AB", &answer.item)?;
     put_title(out, &answer.known)
 }
@@ -96,25 +93,30 @@ pub fn put_renew_all(out: &mut Vec<u8>, answer: &RenewAllAnswer) -> Result<(), A
 {
     let renewed = answer.renewed.as_slice();
     let unrenewed = answer.unrenewed.as_slice();
-    out.extend_from_slice(b"66")?;
-    put_digit(out, answer.ok)?;
-    put_count(out, renewed.len())?;
-    put_count(out, unrenewed.len())?;
+    out.extend_from_slice(&[b'6', b'6', digit(answer.ok)])?;
+    put_counts(out, renewed.len(), unrenewed.len())?;
     out.extend_from_slice(answer.date.as_bytes())?;
     put_id(out, b"AO", &answer.institution)?;
     put_each(out, b"BM", renewed)?;
     put_each(out, b"BN", unrenewed)
 }
 
+fn put_counts(out: &mut Vec<u8>, renewed: usize, unrenewed: usize) -> Result<(), AllocError>
+    ensures { OnOk result (out.new.items ≡ out.old.items ++ count renewed ++ count unrenewed) }
+{
+    out.extend_from_slice(&count(renewed))?;
+    out.extend_from_slice(&count(unrenewed))
+}
+
 /// A count of four digits.
 #[tactic(auto, unfolding(crate::specs::Parts::count))]
-fn put_count(out: &mut Vec<u8>, n: usize) -> Result<(), AllocError>
-    ensures { OnOk result (out.new.items ≡ out.old.items ++ count n) }
+fn count(n: usize) -> [u8; 4]
+    ensures { result ≡ count n }
 {
     if n > COUNT_MAX {
-        out.extend_from_slice(b"9999")
+        *b"9999"
     } else {
-        put_four(out, n as u16)
+        four_digits(n as u16)
     }
 }
 

@@ -1,6 +1,6 @@
 //! The parts of which a response is made, each appended to what is written before.
 
-ghost use Rattle.std.specs.Prelude.{◌≡◌, ◌++◌, ◌<◌, ◌/◌, ◌%◌, OnOk, Some, codes, decimal};
+ghost use Rattle.std.specs.Prelude.{◌≡◌, ◌++◌, ◌∷◌, [], ◌<◌, ◌/◌, ◌%◌, OnOk, Some, codes, decimal};
 ghost use Rattle.circ_policy.specs.Medias.{media_code};
 ghost use Rattle.sip_reader.specs.Amounts.{amount_text};
 ghost use Rattle.sip_answer.specs.Texts.{money};
@@ -25,8 +25,7 @@ pub fn put_field(out: &mut Vec<u8>, id: &[u8; 2], text: &[u8]) -> Result<(), All
 {
     out.extend_from_slice(id)?;
     out.extend_from_slice(text)?;
-    out.push(b'|')?;
-    Ok(())
+    out.extend_from_slice(b"|")
 }
 
 /// A field of an id. Most ids are short, and are copied without a call. Inlined, for the same reason.
@@ -37,8 +36,16 @@ pub fn put_id(out: &mut Vec<u8>, id: &[u8; 2], named: &Id) -> Result<(), AllocEr
 {
     out.extend_from_slice(id)?;
     named.append_to(out)?;
-    out.push(b'|')?;
-    Ok(())
+    out.extend_from_slice(b"|")
+}
+
+/// The institution and the patron.
+pub fn put_patron_ids(out: &mut Vec<u8>, institution: &Id, patron: &Id) -> Result<(), AllocError>
+    ensures { OnOk result (out.new.items ≡ out.old.items
+        ++ field (codes "AO") institution.now ++ field (codes "AA") patron.now) }
+{
+    put_id(out, b"AO", institution)?;
+    put_id(out, b"AA", patron)
 }
 
 /// A field of a text that is mostly short: then it is copied without a call. Inlined, for the same reason.
@@ -49,8 +56,7 @@ pub fn put_text(out: &mut Vec<u8>, id: &[u8; 2], text: &Text) -> Result<(), Allo
 {
     out.extend_from_slice(id)?;
     text.append_to(out)?;
-    out.push(b'|')?;
-    Ok(())
+    out.extend_from_slice(b"|")
 }
 
 /// The field of a media type, whose six bytes are copied at once.
@@ -76,20 +82,18 @@ pub fn put_filled(out: &mut Vec<u8>, id: &[u8; 2], text: &[u8]) -> Result<(), Al
 
 /// 1 or 0.
 #[tactic(auto, unfolding(crate::specs::Parts::digit))]
-pub fn put_digit(out: &mut Vec<u8>, yes: bool) -> Result<(), AllocError>
-    ensures { OnOk result (out.new.items ≡ out.old.items ++ digit yes) }
+pub fn digit(yes: bool) -> u8
+    ensures { digit yes ≡ result ∷ [] }
 {
-    out.push(if yes { b'1' } else { b'0' })?;
-    Ok(())
+    if yes { b'1' } else { b'0' }
 }
 
 /// Y or N.
 #[tactic(auto, unfolding(crate::specs::Parts::flag))]
-pub fn put_flag(out: &mut Vec<u8>, yes: bool) -> Result<(), AllocError>
-    ensures { OnOk result (out.new.items ≡ out.old.items ++ flag yes) }
+pub fn flag(yes: bool) -> u8
+    ensures { flag yes ≡ result ∷ [] }
 {
-    out.push(if yes { b'Y' } else { b'N' })?;
-    Ok(())
+    if yes { b'Y' } else { b'N' }
 }
 
 /// A field that holds a number.
@@ -107,8 +111,7 @@ pub fn put_money(out: &mut Vec<u8>, currency: &[u8], hundredths: u128) -> Result
     put_field(out, b"BH", currency)?;
     out.extend_from_slice(b"BV")?;
     put_amount(out, hundredths)?;
-    out.push(b'|')?;
-    Ok(())
+    out.extend_from_slice(b"|")
 }
 
 /// An amount in hundredths. Most fit 64 bits, which are divided much faster than 128.

@@ -1,11 +1,11 @@
 //! Answers about patrons: block patron, patron enable, fee paid.
 
-ghost use Rattle.std.specs.Prelude.{◌≡◌, ◌++◌, OnOk, [], is_some, codes};
+ghost use Rattle.std.specs.Prelude.{◌≡◌, ◌++◌, ◌∷◌, OnOk, [], is_some, codes};
 ghost use Rattle.std.specs.Option.{option_map_or};
-ghost use Rattle.sip_answer.specs.Parts.{field, flag};
+ghost use Rattle.sip_answer.specs.Parts.{field, flag, mark};
 ghost use Rattle.sip_answer.specs.Texts.{fee_paid_text, owed_text, patron_text, status_text};
 
-use super::parts::{put_field, put_flag, put_id, put_money};
+use super::parts::{flag, put_field, put_money, put_patron_ids};
 use crate::answer::{FeePaidAnswer, KnownPatron, PatronAnswer, PatronStatus};
 use std::alloc::AllocError;
 
@@ -21,18 +21,15 @@ pub fn put_block_patron(out: &mut Vec<u8>, answer: &PatronAnswer) -> Result<(), 
 }
 
 /// A patron enable response, or the same under another identifier.
-#[tactic(auto, unfolding(crate::specs::Parts::flag))]
 pub fn put_patron(out: &mut Vec<u8>, id: &[u8], answer: &PatronAnswer) -> Result<(), AllocError>
     ensures { OnOk result (out.new.items ≡ out.old.items ++ patron_text id.now answer.now) }
 {
     out.extend_from_slice(id)?;
-    put_status(out, answer.status)?;
-    out.extend_from_slice(b"000")?;
+    put_status_and_language(out, answer.status)?;
     out.extend_from_slice(answer.date.as_bytes())?;
-    put_id(out, b"AO", &answer.institution)?;
-    put_id(out, b"AA", &answer.patron)?;
+    put_patron_ids(out, &answer.institution, &answer.patron)?;
     put_name(out, &answer.known)?;
-    put_field(out, b"BL", if answer.known.is_some() { b"Y" } else { b"N" })
+    put_field(out, b"BL", &[flag(answer.known.is_some())])
 }
 
 fn put_name(out: &mut Vec<u8>, known: &Option<KnownPatron>) -> Result<(), AllocError>
@@ -44,27 +41,32 @@ fn put_name(out: &mut Vec<u8>, known: &Option<KnownPatron>) -> Result<(), AllocE
     }
 }
 
-#[tactic(auto, unfolding(crate::specs::Parts::mark))]
-fn put_status(out: &mut Vec<u8>, status: PatronStatus) -> Result<(), AllocError>
-    ensures { OnOk result (out.new.items ≡ out.old.items ++ status_text status) }
+/// The fourteen positions of the status, and a language of three digits.
+fn put_status_and_language(out: &mut Vec<u8>, status: PatronStatus) -> Result<(), AllocError>
+    ensures { OnOk result (out.new.items ≡ out.old.items ++ status_text status ++ codes "000") }
 {
-    let mark = |set: bool| if set { b'Y' } else { b' ' };
-    let mut positions = [b' '; 14];
-    positions[0] = mark(status.charge_denied);
-    positions[1] = mark(status.renewal_denied);
-    positions[3] = mark(status.hold_denied);
-    positions[5] = mark(status.too_many_items);
-    positions[11] = mark(status.excessive_fees);
-    out.extend_from_slice(&positions)
+    let mut text = *b"              000";
+    text[0] = mark(status.charge_denied);
+    text[1] = mark(status.renewal_denied);
+    text[3] = mark(status.hold_denied);
+    text[5] = mark(status.too_many_items);
+    text[11] = mark(status.excessive_fees);
+    out.extend_from_slice(&text)
+}
+
+/// A position that is set or not.
+#[tactic(auto, unfolding(crate::specs::Parts::mark))]
+fn mark(yes: bool) -> u8
+    ensures { mark yes ≡ result ∷ [] }
+{
+    if yes { b'Y' } else { b' ' }
 }
 
 /// A fee paid response.
 pub fn put_fee_paid(out: &mut Vec<u8>, answer: &FeePaidAnswer) -> Result<(), AllocError>
     ensures { OnOk result (out.new.items ≡ out.old.items ++ fee_paid_text answer.now) }
 {
-    out.extend_from_slice(b"38")?;
-    put_flag(out, answer.accepted)?;
+    out.extend_from_slice(&[b'3', b'8', flag(answer.accepted)])?;
     out.extend_from_slice(answer.date.as_bytes())?;
-    put_id(out, b"AO", &answer.institution)?;
-    put_id(out, b"AA", &answer.patron)
+    put_patron_ids(out, &answer.institution, &answer.patron)
 }

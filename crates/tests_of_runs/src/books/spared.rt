@@ -289,18 +289,25 @@ take 23 24 = taken 0
 does 23 = 
 take 24 25 = taken 0
 does 24 = 96AZFEF6
-# what is refused before that needs no fee; another's renewal needs no fee of the borrower; a renewal of all needs the fees once
+# what is refused before, forced or a hold needs no fee; another's renewal needs none of the borrower's; a renewal of all needs the fees once
 patrons P3,Cyd,A,Y
+items I2,Two,001,Main,
 loans P1,I1,20260316,0
 loans P1,V1,20260310,0
+loans P2,I2,20260310,1
 fees F1,P1,01,5.00,0.00
 fees F2,P1,01,1.00,0.00
-fees F3,P2,01,1.00,0.00
 fees F4,P2,01,2.00,0.00
+fees F3,P2,01,1.00,0.00
 fees F5,P3,01,1.00,0.00
 journal 1,C1,11NN20260302    101500                  AOL1|AAP3|ABV2|BOY|,
 journal 2,C1,29YN20260316    100000                  AOL1|AAP2|ABI1|,
 journal 3,C1,6520260309    120000AOL1|AAP1|BOY|,
+journal 4,C1,11NY20260302    101500                  AOL1|AAP3|ABI1|,
+journal 5,C1,29NN20260316    100000                  AOL1|AAP1|ABI1|,
+journal 6,C1,15+20260302    101500AOL1|AAP1|ABV2|BSMain|,
+journal 7,C1,6520260309    120000AOL1|AAP2|,
+journal 8,C1,6520260309    120000AOL1|AAX9|,
 
 take 0 1 = taken 0
 does 0 = needs P3
@@ -313,10 +320,10 @@ does 1 = needs P2
 look 1 P2 = seen base
 does 1 = needs I1
 look 1 I1 = seen base
-does 1 = needs F3
-look 1 F3 = seen base
 does 1 = needs F4
 look 1 F4 = seen base
+does 1 = needs F3
+look 1 F3 = seen base
 does 1 = 301YUY20260316    100000AOL1|AAP2|ABI1|AJOne|AH20260330    235900|CK001|; I1 P1 holds
 take 2 3 = taken 0
 does 2 = needs P1
@@ -330,4 +337,38 @@ look 2 F2 = seen base
 does 2 = needs V1
 look 2 V1 = seen base
 does 2 = 6610002000020260309    120000AOL1|BMI1|BMV1|; P1 loans+I1+V1 fees+F1+F2+R3-0; I1 P1 holds; V1 P1 holds; R3-0 0
+take 3 4 = taken 0
+does 3 = needs P3
+look 3 P3 = seen base
+does 3 = needs I1
+look 3 I1 = seen base
+does 3 = needs P1
+look 3 P1 = seen base
+does 3 = 121NUY20260302    101500AOL1|AAP3|ABI1|AJOne|AH20260316    235900|CK001|; P1 loans+V1 fees+F1+F2; P3 loans+I1 fees+F5; I1 P3 holds
+take 4 5 = taken 0
+does 4 = needs P1
+look 4 P1 = seen base
+does 4 = needs I1
+look 4 I1 = seen base
+does 4 = needs F1
+look 4 F1 = seen base
+does 4 = needs F2
+look 4 F2 = seen base
+does 4 = 301YUY20260316    100000AOL1|AAP1|ABI1|AJOne|AH20260330    235900|CK001|; I1 P1 holds
+take 5 6 = taken 0
+does 5 = needs P1
+look 5 P1 = seen base
+does 5 = needs V2
+look 5 V2 = seen base
+does 5 = 161Y20260302    101500BR1|BSMain|AOL1|AAP1|ABV2|AJThree|; V2 - holds+P1:Main
+take 6 7 = taken 0
+does 6 = needs P2
+look 6 P2 = seen base
+does 6 = needs I2
+look 6 I2 = seen base
+does 6 = 6610000000120260309    120000AOL1|BNI2|
+take 7 8 = taken 0
+does 7 = needs X9
+look 7 X9 = seen base
+does 7 = 6600000000020260309    120000AOL1|
 ";

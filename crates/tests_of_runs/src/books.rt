@@ -1,5 +1,11 @@
-//! The books of rows and of single lines.
+//! The books of scripts and of lines over odd records.
 
-pub mod driving;
+pub mod checked;
+pub mod choices;
+pub mod entries;
+pub mod lists;
 pub mod odd;
-pub mod wants;
+pub mod refused;
+pub mod rows;
+pub mod shared;
+pub mod spared;

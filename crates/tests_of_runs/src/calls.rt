@@ -1,59 +1,55 @@
 //! The calls of a script, and what the board replies.
 
-use crate::again::writing_again;
-use crate::replies::{id_of, tell, tell_choice, tell_version};
-use crate::shelf::key_in;
-use crate::sight::tell_counts;
-use circ_records::Key;
+use crate::odd::key_of;
+use crate::told::{tell, tell_begun, tell_choice, tell_effect, tell_id, tell_number};
 use message_meaning::need;
-use read_set::{Need, PlanName, Version};
-use speculate::{Board, Hand, read_notes};
+use read_set::{Need, PlanName};
+use speculate::{Board, read_notes};
 use std::alloc::{AllocError, AllocGlobal, Global};
-use std::process::Abort;
 use std::sync::Wait;
 use version_store::{Place, VersionTable};
 
-fn number(word: &str) -> u64 {
+/// The number that a word is; else the greatest.
+pub(crate) fn number(word: &str) -> u64 {
     word.parse::<u64>().unwrap_or(u64::MAX)
 }
 
-/// What the board replies to a call. A place that the script keeps is put where `kept` is.
-pub(crate) fn reply_to<'t, J: PlanName, R: Wait + AllocGlobal + Abort>(
+/// The same of a worker or an attempt.
+pub(crate) fn small(word: &str) -> u32 {
+    word.parse::<u32>().unwrap_or(u32::MAX)
+}
+
+/// A call, as its word and its two arguments, which may be missing.
+pub(crate) fn parts_of(call: &str) -> (&str, &str, &str) {
+    let (word, rest) = call.split_once(' ').unwrap_or((call, ""));
+    let (first, second) = rest.split_once(' ').unwrap_or((rest, ""));
+    (word, first, second)
+}
+
+/// Makes a call, and says what the board replies.
+pub(crate) fn reply_to<'t, J: PlanName, R: Wait + AllocGlobal>(
     rt: &R,
     table: &'t VersionTable<J>,
     board: &mut Board<'_, 't, J>,
-    kept: &mut Option<Place<'t, J>>,
     call: &str,
-) -> Result<String, AllocError> {
-    let alloc = rt.alloc();
-    let (word, rest) = call.split_once(' ').unwrap_or((call, ""));
-    let (first, rest) = rest.split_once(' ').unwrap_or((rest, ""));
-    let first = number(first);
-    let worker = u32::try_from(first).unwrap_or(u32::MAX);
+    out: &mut String,
+) -> Result<(), AllocError> {
+    let (word, first, second) = parts_of(call);
+    let worker = small(first);
     match word {
-        "take" => {
-            let reply = board.take(worker, number(rest));
-            tell(alloc, "", &reply)
-        }
-        "look" => look(alloc, board, worker, rest),
-        "keep" => {
-            *kept = put(rt, table, version_of(alloc, board, worker, "")?);
-            String::from_str(alloc, "kept")
-        }
+        "take" => tell(out, &board.take(worker, number(second))),
+        "look" => look(rt.alloc(), board, worker, second, out),
         "publish" => {
-            let place = place_of(rt, table, board, *kept, worker, rest)?;
-            publish(alloc, board, worker, place)
+            let place = place_of(rt, table, board, worker, second)?;
+            publish(board, worker, place, out)
         }
-        "check" => {
-            let reply = board.check(worker, number(rest));
-            tell(alloc, "", &reply)
+        "check" => tell(out, &board.check(worker, number(second))),
+        "commit" => tell(out, &board.commit(number(first))),
+        "begin" => {
+            let (choice, reply) = board.begin(worker);
+            tell_begun(out, choice, &reply)
         }
-        "commit" => {
-            let reply = board.commit(first);
-            tell(alloc, "", &reply)
-        }
-        "begin" => begin(alloc, board, worker),
-        _ => tell_of(alloc, board, word, worker),
+        _ => tell_of(rt.alloc(), board, word, worker, out),
     }
 }
 
@@ -63,153 +59,110 @@ fn tell_of<J: PlanName>(
     board: &Board<'_, '_, J>,
     word: &str,
     worker: u32,
-) -> Result<String, AllocError> {
+    out: &mut String,
+) -> Result<(), AllocError> {
     match word {
-        "choose" => tell_choice(alloc, board.choose()),
-        "clock" => format!(in alloc; "{}", board.clock()),
-        "committed" => format!(in alloc; "{}", board.committed()),
-        "does" => match next_need(alloc, board, worker)? {
-            Some(Need::Done(version)) => tell_version(alloc, &version),
-            _ => String::from_str(alloc, "nothing yet"),
+        "choose" => tell_choice(out, board.choose()),
+        "clock" => tell_number(out, "", board.clock()),
+        "committed" => tell_number(out, "", board.committed()),
+        "counts" => tell_counts(out, board),
+        _ => match need_of(alloc, board, worker) {
+            Ok(Some(Need::Done(version))) => {
+                tell_effect(alloc, out, version.answer(), version.writes())
+            }
+            Ok(Some(Need::Key(key))) => tell_id(out, "needs ", key.id()),
+            Ok(None) => out.push_str("nothing"),
+            Err(refused) => Err(refused),
         },
-        _ => {
-            let mut text = String::new(alloc);
-            tell_counts(&mut text, board)?;
-            Ok(text)
-        }
     }
 }
 
-/// What the worker's line in hand needs next.
-fn next_need<J: PlanName>(
+/// Takes, failed checks, stops, commits and live lines.
+pub(crate) fn tell_counts<J: PlanName>(
+    out: &mut String,
+    board: &Board<'_, '_, J>,
+) -> Result<(), AllocError> {
+    let counts = board.counts();
+    tell_number(out, "", counts.takes)?;
+    tell_number(out, " ", counts.failed)?;
+    tell_number(out, " ", counts.stops)?;
+    tell_number(out, " ", counts.commits)?;
+    tell_number(out, " ", counts.live)
+}
+
+/// What the worker's line in hand needs.
+fn need_of<J: PlanName>(
     alloc: Global,
     board: &Board<'_, '_, J>,
     worker: u32,
 ) -> Result<Option<Need<J>>, AllocError> {
-    let (Some(Hand { line, attempt }), Some(noted)) = (board.hand(worker), board.notes(worker))
-    else {
+    let Some(hand) = board.hand(worker) else {
         return Ok(None);
     };
-    let notes = read_notes(alloc, board.plan(), noted)?;
-    Ok(Some(need(alloc, board.plan(), line, attempt, &notes)?))
+    let Some(noted) = board.notes(worker) else {
+        return Ok(None);
+    };
+    let plan = board.plan();
+    let notes = read_notes(alloc, plan, noted)?;
+    Ok(Some(need(alloc, plan, hand.line, hand.attempt, &notes)?))
 }
 
-/// A look at the key that is needed next, or `at` another one.
+/// A look at the key of an id.
 fn look<J: PlanName>(
     alloc: Global,
     board: &mut Board<'_, '_, J>,
     worker: u32,
-    rest: &str,
-) -> Result<String, AllocError> {
-    let key = match rest.strip_prefix("at ") {
-        Some(key) => key_in(alloc, key)?,
-        None => key_of(next_need(alloc, board, worker)?),
-    };
-    let Some(key) = key else {
-        return String::from_str(alloc, "idle");
-    };
-    let reply = board.look(worker, &key);
-    tell(alloc, id_of(&key), &reply)
-}
-
-/// The key that is needed, if it is one.
-fn key_of<J: PlanName>(next: Option<Need<J>>) -> Option<Key> {
-    match next {
-        Some(Need::Key(key)) => Some(key),
-        _ => None,
+    id: &str,
+    out: &mut String,
+) -> Result<(), AllocError> {
+    match key_of(alloc, id)? {
+        Some(key) => tell(out, &board.look(worker, &key)),
+        None => out.push_str("no key"),
     }
 }
 
-/// The place of the version to be published: that of the last act, the one that was `kept`, or that of a version that is put
-/// into the table.
-fn place_of<'t, J: PlanName, R: Wait + AllocGlobal + Abort>(
+/// The place of the version to be published: that of the last act; else that of the version which the worker's line needs, or the line
+/// of the worker that is named.
+fn place_of<'t, J: PlanName, R: Wait + AllocGlobal>(
     rt: &R,
     table: &'t VersionTable<J>,
     board: &Board<'_, 't, J>,
-    kept: Option<Place<'t, J>>,
     worker: u32,
-    rest: &str,
+    other: &str,
 ) -> Result<Option<Place<'t, J>>, AllocError> {
-    if rest == "kept" {
-        return Ok(kept);
-    }
     let placing = board.placing(worker);
-    if rest.is_empty() && placing.is_some() {
+    if placing.is_some() && other.is_empty() {
         return Ok(placing);
     }
-    Ok(put(rt, table, version_of(rt.alloc(), board, worker, rest)?))
+    let of = if other.is_empty() {
+        worker
+    } else {
+        small(other)
+    };
+    Ok(put(rt, table, need_of(rt.alloc(), board, of)?))
 }
 
-/// Puts a version into the table, if there is one.
-fn put<'t, J: PlanName, R: Wait + Abort>(
+/// Puts the version into the table that is needed, if one is.
+pub(crate) fn put<'t, J: PlanName, R: Wait>(
     rt: &R,
     table: &'t VersionTable<J>,
-    version: Option<Version<J>>,
+    needed: Option<Need<J>>,
 ) -> Option<Place<'t, J>> {
-    match version {
-        Some(version) => Some(table.put(rt, version).ok().expect(rt, "a place")),
-        None => None,
-    }
-}
-
-/// The version that is needed, `of` this worker or another; or one of equal notes that is `writing` a record again as it is noted.
-fn version_of<J: PlanName>(
-    alloc: Global,
-    board: &Board<'_, '_, J>,
-    worker: u32,
-    rest: &str,
-) -> Result<Option<Version<J>>, AllocError> {
-    let other = match rest.strip_prefix("of ") {
-        Some(other) => other.parse::<u32>().unwrap_or(u32::MAX),
-        None => worker,
-    };
-    match next_need(alloc, board, other)? {
-        Some(Need::Done(version)) => as_asked(alloc, version, rest),
-        _ => Ok(None),
-    }
-}
-
-/// The version, or the one of equal notes that is `writing` a record again, where that is asked for.
-fn as_asked<J: PlanName>(
-    alloc: Global,
-    version: Version<J>,
-    rest: &str,
-) -> Result<Option<Version<J>>, AllocError> {
-    let Some(key) = rest.strip_prefix("writing ") else {
-        return Ok(Some(version));
-    };
-    match key_in(alloc, key)? {
-        Some(key) => writing_again(alloc, &version, key),
-        None => Ok(None),
+    match needed {
+        Some(Need::Done(version)) => table.put(rt, version).ok(),
+        _ => None,
     }
 }
 
 /// An act of publication of the version at a place, if there is one.
 fn publish<'t, J: PlanName>(
-    alloc: Global,
     board: &mut Board<'_, 't, J>,
     worker: u32,
     place: Option<Place<'t, J>>,
-) -> Result<String, AllocError> {
+    out: &mut String,
+) -> Result<(), AllocError> {
     match place {
-        Some(place) => {
-            let reply = board.publish(worker, place);
-            tell(alloc, "", &reply)
-        }
-        None => String::from_str(alloc, "idle"),
+        Some(place) => tell(out, &board.publish(worker, place)),
+        None => out.push_str("no version"),
     }
-}
-
-/// The call that a free worker chooses, with its reply.
-fn begin<J: PlanName>(
-    alloc: Global,
-    board: &mut Board<'_, '_, J>,
-    worker: u32,
-) -> Result<String, AllocError> {
-    let (choice, reply) = board.begin(worker);
-    let mut text = tell_choice(alloc, choice)?;
-    if let Some(reply) = &reply {
-        write!(text, ": {}", tell(alloc, "", reply)?)?;
-    }
-    Ok(text)
 }

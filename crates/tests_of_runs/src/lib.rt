@@ -1,90 +1,60 @@
-//! Tests of whole runs: what rules do over records that need not fit together, and days by one thread, in books of texts; runs by workers in threads,
-//! whose gate is called at each step; what the steps of a shared board give; boards that are driven to their end from wherever steps leave them; faults
-//! that were left; and runs of which one growth of the heap is refused, by `.ci/growths`. What a run of the built program shows is in `books` and `cases`.
+//! Tests of what no contract says and no run of the built program shows: replies of the board step by step, lists of steps, workers in threads whose
+//! gate is called at each step, faults that were left, lines over records that don't fit together, two stores of entries side by side, whole runs over
+//! an outside of which each call fails in turn, and runs of which one growth of the heap is refused, by `.ci/growths`. Data are texts.
 //!
-//! A book is a text. A row begins with `#` and its title; each line after it says one thing:
+//! A book is a text of scripts. A script begins with `#` and its title, and the rows of its files, each after the name of its file: `loans P1,I1,20260316,0`.
+//! They come after those of the library with which each run begins (`texts`): patrons P1 (Ann) and P2 (Bob) of class A, the book I1 and the video tapes
+//! V1 and V2, closed on Sundays. `starting ATTEMPT CLOCK` says with which attempt and at which clock its board begins, else 0 and 0. After an empty
+//! line come calls, each with the reply that must come after ` = `; after a second one, calls of the same board, which is shared from then on.
 //!
-//! | Line | Says |
-//! |---|---|
-//! | `base TABLE ROW` | a row more in a table that the run begins with |
-//! | `first NUMBER` | the number of the first line, else 1 |
-//! | `asked REQUEST` | the next line of the journal |
-//! | `recorded RESPONSE` | what was recorded as its response, else nothing |
-//! | `answer TEXT` | the line's answer |
-//! | `passed WHY` | the line has no answer |
-//! | `differs WORDS` | the line's row in the report; `agrees` says that no line has one |
-//! | `after TABLE ROW` | a row of a table after the last line, all of whose rows are given so; `after TABLE` says that it has none |
-//! | `fault TEXT` | the run gives this fault |
-//! | `policy TEXT` | another policy |
-//! | `list WORKERS: STEPS => TEXT` | what a run by this list of steps gives: `output` and the attempts, `unfinished` and how many lines are committed, or the fault |
-//!
-//! Each run begins with the same library: patrons P1 (Ann) and P2 (Bob) of class A, the book I1 and the video tapes V1
-//! and V2, closed on Sundays.
-//!
-//! Each row is run by one thread, and driven in order through a board. Both must give the same tables and the same report.
-//!
-//! A script of the board begins as a row does. `starting ATTEMPT CLOCK` says with which
-//! attempt and at which clock its board begins, else 0 and 0. Then come calls, each with the reply that must come after ` = `,
-//! and what is refused must leave the board as it was. `given TEXT` says, of a script that is steps alone, what the run by them gives
-//! as soon as all lines are committed; each beginning of the script is run. `halts NUMBER: FAULT` says after how many steps the script halts as a
-//! list:
-//!
-//! | Call | What it does |
+//! | Call of the board | What it does |
 //! |---|---|
 //! | `take WORKER LINE` | `taken ATTEMPT` |
-//! | `look WORKER` | looks at the key that the line needs next: `seen ID NAME`, a name being `base` or a line and its attempt, `1.0`; `look WORKER at item ID` looks at this one |
+//! | `look WORKER ID` | `seen NAME`, a name being `base` or a line and its attempt, `1.0`; as a step, a look at the key that the line needs next |
 //! | `publish WORKER` | an act of the version of the last act, else of the one that the line needs |
-//! | `publish WORKER of OTHER` | an act of a new version, the one that the other worker's line needs |
-//! | `publish WORKER writing item ID` | an act of a new version of equal notes, which writes the noted record again |
-//! | `keep WORKER`, `publish WORKER kept` | the version that the line needs is kept, and published later |
+//! | `publish WORKER OTHER` | an act of a new version, the one that the other worker's line needs |
 //! | `check WORKER LINE`, `commit LINE` | the calls of these names; `changed ID NOTED FOUND` |
 //! | `choose`, `begin WORKER` | the choice of a free worker, `take 1`; with its reply, `take 1: taken 0` |
-//! | `does WORKER` | what the version does that the line needs: its answer, then each record that it writes |
+//! | `does WORKER` | what the line does: its answer, then each record that it writes (`told`); or `needs ID`, a record that it needs first |
 //! | `clock`, `committed`, `counts` | the board's; of the counts takes, failed checks, stops, commits and live lines |
+//! | `run WORKERS` | a run by the steps so far: `output` and the attempts where all else is what one thread gives, `unfinished` and how many lines are committed, or the fault |
+//! | `play on` | the steps so far as a list on another board, which is then driven to its end; or after how many steps the list halts |
+//! | `one thread` | the nine files that one thread gives |
 //!
-//! A single line names records that need not fit together, one line, the records for which it asks (`wants`), in the order of
-//! asking, and what it does. `{9998}` means that many places of P2 in a queue.
+//! Of a shared board: `begin`, `look WORKER ID`, `publish WORKER` (the version of a line that the journal lacks), `publish_more`, `check`, `leave FAULT`,
+//! `run workers`, and last how many lines are committed as it is closed.
 #![tactic(auto)]
 
-#[cfg(test)]
-mod again;
-#[cfg(test)]
-mod any_board;
+mod asked;
 #[cfg(test)]
 mod books;
 #[cfg(test)]
 mod calls;
 #[cfg(test)]
-mod checked;
+mod memory;
 #[cfg(test)]
-mod driven;
+mod odd;
 #[cfg(test)]
-mod faults;
+mod parts;
 #[cfg(test)]
-mod gates;
-#[cfg(test)]
-mod holds;
-#[cfg(test)]
-mod library;
+mod plain;
 #[cfg(test)]
 mod refused;
 #[cfg(test)]
-mod replies;
-#[cfg(test)]
-mod row;
-#[cfg(test)]
-mod runs;
-#[cfg(test)]
 mod script;
 #[cfg(test)]
-mod shelf;
-#[cfg(test)]
-mod sight;
-#[cfg(test)]
-mod single;
-#[cfg(test)]
-mod steps;
+mod shared;
 #[cfg(test)]
 mod tests;
 #[cfg(test)]
-mod workers;
+mod texts;
+#[cfg(test)]
+mod threads;
+#[cfg(test)]
+mod told;
+#[cfg(test)]
+mod versions;
+#[cfg(test)]
+mod whole;
+
+pub use asked::Call;

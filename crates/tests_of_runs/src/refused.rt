@@ -9,72 +9,40 @@
 ghost use Rattle.std.specs.Prelude.{◌≡◌};
 ghost use Rattle.read_set.specs.Plans.{readings_of};
 
-use crate::books::driving::DAYS;
-use crate::driven::output_of;
-use crate::gates::Watch;
-use crate::row::{Prepared, Row, prepare};
-use crate::runs::compare;
-use crate::script::{Script, WORKERS};
-use crate::sight::sight;
-use crate::steps::rows::{EARLY, IN_PART, ORDERED, SUSPECT};
-use crate::tests::row_of;
+use crate::books::rows::{IN_ORDER, IN_PART, STALE, SUSPECT};
+use crate::calls::tell_counts;
+use crate::script::{WORKERS, steps_of};
+use crate::texts::{inputs_of, tell_files};
+use crate::threads::{COMMITTED, Watch};
+use crate::told::{tell_id, tell_name, tell_number};
 use journal_table::Journal;
 use read_set::{Plan, PlanName};
-use replay_run::{Fault, Inputs, Moment, Output, Run, Step, one_thread, rebuild, rebuild_by_steps};
+use replay_run::{
+    Fault, Inputs, Output, Prepared, Run, Step, collect_output, judge_inputs, one_thread, rebuild,
+    rebuild_by_steps,
+};
 use speculate::{Board, BoardFault, drive_in_order, play};
-use std::alloc::{AllocError, AllocGlobal};
+use std::alloc::{AllocError, AllocGlobal, Global};
 use std::io::Print;
 use std::marker::Brand;
+use std::ops::Range;
 use std::process::Abort;
 use std::sync::Wait;
-use std::sync::atomic::Ordering;
 use std::thread::Threads;
 use version_store::VersionTable;
 
-/// Whether a run gave the output that the row wants. Else it was out of memory.
-fn is_given<R: Abort>(rt: &R, run: Result<Output, Fault>, row: &Row) -> bool {
-    match run {
-        Ok(output) => {
-            compare(rt, "a run", &output, row);
-            true
-        }
-        Err(Fault::Memory) => false,
-        Err(_) => panic!(rt; "another fault"),
-    }
+/// How many lines the longest of the journals here has.
+const LINES: u64 = 6;
+
+/// How a run is made.
+#[derive(Clone, Copy)]
+enum Way {
+    OneThread,
+    Steps,
+    Workers,
 }
 
-/// Prints what the two runs of a call gave, of which one may have been out of memory.
-fn tell<R: Abort + Print>(rt: &R, one: bool, other: bool) {
-    assert!(rt; one || other, "out of memory twice");
-    if one && other {
-        let _ = println!(rt; "full output");
-    } else {
-        let _ = println!(rt; "out of memory");
-    }
-}
-
-/// The text between the first `#` of a book and the second.
-pub(crate) fn first_of(book: &str) -> &str {
-    let (_, rows) = book.split_once('#').unwrap_or(("", book));
-    let (row, _) = rows.split_once('#').unwrap_or((rows, ""));
-    let (_, lines) = row.split_once('\n').unwrap_or(("", row));
-    lines
-}
-
-fn try_one_thread<R: AllocGlobal + Abort + Print>(rt: &R) -> Result<(), AllocError> {
-    let row = row_of(rt, "a day", first_of(DAYS))?;
-    let one = is_given(rt, one_thread(rt.alloc(), &row.inputs), &row);
-    let other = is_given(rt, one_thread(rt.alloc(), &row.inputs), &row);
-    tell(rt, one, other);
-    Ok(())
-}
-
-#[test]
-fn one_thread_refused(rt: HostRuntime) {
-    let _ = try_one_thread(&rt);
-}
-
-/// The run by steps that commit all lines.
+/// A run by the steps of a script, which commit all lines.
 fn by_steps<R: Wait + AllocGlobal + Abort>(
     rt: &R,
     inputs: &Inputs,
@@ -87,178 +55,240 @@ fn by_steps<R: Wait + AllocGlobal + Abort>(
     }
 }
 
-fn try_steps<R: Wait + AllocGlobal + Abort + Print>(rt: &R, book: &str) -> Result<(), AllocError> {
-    let script = Script::read(rt, "steps", first_of(book))?;
-    let steps = script.steps(rt.alloc())?;
-    let row = &script.row;
-    let one = is_given(rt, by_steps(rt, &row.inputs, steps.as_slice()), row);
-    let other = is_given(rt, by_steps(rt, &row.inputs, steps.as_slice()), row);
-    tell(rt, one, other);
+/// A run by two workers. One that is out of memory doesn't begin again, so no line is committed twice.
+fn by_workers<R: Threads + Wait + Sync + AllocGlobal + Abort>(
+    rt: &R,
+    inputs: &Inputs,
+) -> Result<Output, Fault> {
+    let gate = Watch::new(None);
+    let run = rebuild(rt, rt.alloc(), inputs, 2, &gate);
+    assert!(rt; gate.count() / COMMITTED <= LINES, "committed twice");
+    run
+}
+
+fn run_by<R: Threads + Wait + Sync + AllocGlobal + Abort>(
+    rt: &R,
+    way: Way,
+    inputs: &Inputs,
+    steps: &[Step],
+) -> Result<Output, Fault> {
+    match way {
+        Way::OneThread => one_thread(rt.alloc(), inputs),
+        Way::Steps => by_steps(rt, inputs, steps),
+        Way::Workers => by_workers(rt, inputs),
+    }
+}
+
+/// Whether a run gave the output that is wanted. Else it was out of memory.
+fn is_given<R: Threads + Wait + Sync + AllocGlobal + Abort>(
+    rt: &R,
+    way: Way,
+    script: &str,
+) -> Result<bool, AllocError> {
+    let inputs = inputs_of(rt.alloc(), script)?;
+    let steps = steps_of(rt.alloc(), script)?;
+    match run_by(rt, way, &inputs, steps.as_slice()) {
+        Ok(output) => must_be(rt, &output, script),
+        Err(fault) => {
+            assert!(rt; fault.number() == MEMORY, "another fault");
+            Ok(false)
+        }
+    }
+}
+
+/// The number of the fault out of memory.
+const MEMORY: u8 = 10;
+
+/// Compares an output with the one at the end of a script, as they must be the same.
+fn must_be<R: AllocGlobal + Abort>(
+    rt: &R,
+    output: &Output,
+    script: &str,
+) -> Result<bool, AllocError> {
+    let (_, wanted) = script.split_once("one thread = \n").unwrap_or(("", ""));
+    let mut told = String::new(rt.alloc());
+    tell_files(&mut told, output)?;
+    told.push_str("\n")?;
+    assert_eq!(rt; told.as_str(), wanted);
+    Ok(true)
+}
+
+/// Makes a run twice, of which one may be out of memory, and prints what they gave.
+fn try_twice<R: Threads + Wait + Sync + AllocGlobal + Abort + Print>(
+    rt: &R,
+    way: Way,
+    script: &str,
+) -> Result<(), AllocError> {
+    let one = is_given(rt, way, script)?;
+    let other = is_given(rt, way, script)?;
+    assert!(rt; one || other, "out of memory twice");
+    let _ = println!(rt;
+        "{}",
+        if one && other {
+            "full output"
+        } else {
+            "out of memory"
+        }
+    );
     Ok(())
+}
+
+#[test]
+fn one_thread_refused(rt: HostRuntime) {
+    let _ = try_twice(&rt, Way::OneThread, IN_ORDER);
 }
 
 #[test]
 fn rebuild_by_steps_refused(rt: HostRuntime) {
-    for book in [IN_PART, SUSPECT, EARLY] {
-        let _ = try_steps(&rt, book);
+    for script in [STALE, IN_PART, SUSPECT] {
+        let _ = try_twice(&rt, Way::Steps, script);
     }
-}
-
-/// A run by workers. One that is out of memory doesn't begin again, so no line is committed twice.
-fn by_workers<R: Threads + Wait + Sync + AllocGlobal + Abort>(
-    rt: &R,
-    row: &Row,
-) -> Result<Output, Fault> {
-    let gate = Watch::new(false, Moment::Taken);
-    let run = rebuild(rt, rt.alloc(), &row.inputs, 2, &gate);
-    let committed = gate.committed.load(Ordering::SeqCst);
-    assert!(rt; committed <= row.asked, "committed twice");
-    run
-}
-
-fn try_workers<R: Threads + Wait + Sync + AllocGlobal + Abort + Print>(
-    rt: &R,
-) -> Result<(), AllocError> {
-    let row = row_of(rt, "a day", first_of(DAYS))?;
-    let one = is_given(rt, by_workers(rt, &row), &row);
-    let other = is_given(rt, by_workers(rt, &row), &row);
-    tell(rt, one, other);
-    Ok(())
 }
 
 #[test]
 fn rebuild_refused(rt: HostRuntime) {
-    let _ = try_workers(&rt);
+    let _ = try_twice(&rt, Way::Workers, IN_ORDER);
 }
 
-/// Plays the steps of a script on a board, or drives the board in order. Only the test's own growths are given back as a fault.
+/// Plays the steps of a script on a board, or drives the board, which makes the same steps. Only the test's own growths are given back as a fault.
 fn try_board<R: Wait + AllocGlobal + Abort + Print>(
     rt: &R,
-    book: &str,
+    script: &str,
     is_driven: bool,
 ) -> Result<(), Fault> {
     let alloc = rt.alloc();
-    let script = Script::read(rt, "a board", first_of(book))?;
-    let steps = script.steps(alloc)?;
-    let Prepared { plan, journal } = prepare(alloc, &script.row.inputs)?;
-    let tried = Tried {
-        steps: steps.as_slice(),
-        is_driven,
-        row: &script.row,
-    };
-    try_over::<Brand, R>(rt, &plan, &journal, &tried)?;
+    let inputs = inputs_of(alloc, script)?;
+    let steps = steps_of(alloc, script)?;
+    let Prepared { plan, journal } = judge_inputs(alloc, &inputs)?;
+    let output = try_over::<Brand, R>(rt, &plan, &journal, steps.as_slice(), is_driven)?;
+    let _ = must_be(rt, &output, script)?;
+    let _ = println!(rt; "full output");
     Ok(())
 }
 
-/// What is tried on a board: steps, or the drive that does them, and what they must result in.
-struct Tried<'a> {
-    steps: &'a [Step],
-    is_driven: bool,
-    row: &'a Row,
-}
-
-impl Drop for Tried<'_> {
-    fn drop(self) {
-        let Tried {
-            steps: _,
-            is_driven: _,
-            row: _,
-        } = self;
-    }
-}
-
+/// The output of a board after all steps. One that is out of memory is as it was before the refused step, and the rest is played on it.
 fn try_over<J: PlanName + 'static, R: Wait + AllocGlobal + Abort + Print>(
     rt: &R,
     plan: &Plan,
     journal: &Journal,
-    tried: &Tried<'_>,
-) -> Result<(), AllocError>
+    steps: &[Step],
+    is_driven: bool,
+) -> Result<Output, AllocError>
     requires named { plan.now ≡ J.plan }
     requires fits { plan.now.readings ≡ readings_of journal.now }
 {
     let alloc = rt.alloc();
     let table: VersionTable<J> = VersionTable::new(alloc)?;
     let mut board = Board::new(alloc, plan, WORKERS)?;
-    let halted = if tried.is_driven {
-        match drive_in_order(rt, alloc, &table, &mut board) {
-            Ok(()) => None,
-            Err(fault) => Some(fault),
-        }
-    } else {
-        match play(rt, alloc, &table, &mut board, tried.steps) {
-            Ok(()) => None,
-            Err(halt) => Some(halt.fault),
-        }
-    };
-    match halted {
-        None => end(rt, plan, journal, tried, board)?,
-        Some(fault) => {
-            assert!(rt; fault == BoardFault::Memory, "another fault");
-            let _ = println!(rt; "out of memory");
-            let gone_on = go_on(rt, &table, plan, journal, tried, board);
-            assert!(rt; gone_on.is_ok(), "out of memory twice");
-        }
+    if let Some((fault, done)) = halted(rt, &table, &mut board, steps, is_driven) {
+        assert!(rt; fault == BoardFault::Memory, "another fault");
+        let _ = println!(rt; "out of memory");
+        let seen = sight(alloc, &board)?;
+        let found = same_sight(rt, &table, plan, steps, done, seen.as_str())?;
+        let done = found.expect(rt, "another board");
+        let rest = steps.get(done..).unwrap_or(&[]);
+        assert!(rt;
+            play(rt, alloc, &table, &mut board, rest).is_ok(),
+            "out of memory twice"
+        );
     }
-    let _ = println!(rt; "full output");
-    Ok(())
+    let Ok(finished) = board.finish() else {
+        panic!(rt; "a line is open")
+    };
+    collect_output(alloc, plan, journal, &finished)
 }
 
-/// Goes on from a board that is out of memory: it is seen as one is that some of the steps lead to, and the others commit all lines.
-fn go_on<'t, J: PlanName + 'static, R: Wait + AllocGlobal + Abort>(
+/// Plays the steps, or drives the board in order. The fault, and how many steps were made: as `play` says; any number where the board is driven.
+fn halted<'t, J: PlanName + 'static, R: Wait + AllocGlobal>(
     rt: &R,
     table: &'t VersionTable<J>,
-    plan: &Plan,
-    journal: &Journal,
-    tried: &Tried<'_>,
-    mut board: Board<'_, 't, J>,
-) -> Result<(), AllocError>
-    requires named { plan.now ≡ J.plan }
-    requires fits { plan.now.readings ≡ readings_of journal.now }
-{
-    let alloc = rt.alloc();
-    let seen = sight(alloc, &board)?;
-    let mut other = Board::new(alloc, plan, WORKERS)?;
-    let mut done: usize = 0;
-    for step in tried.steps {
-        if sight(alloc, &other)?.as_str() == seen.as_str() {
-            break;
-        }
-        assert!(rt; play(rt, alloc, table, &mut other, &[*step]).is_ok());
-        done = done.saturating_add(1);
+    board: &mut Board<'_, 't, J>,
+    steps: &[Step],
+    is_driven: bool,
+) -> Option<(BoardFault, Range<usize>)> {
+    if is_driven {
+        let fault = drive_in_order(rt, rt.alloc(), table, board).err()?;
+        return Some((fault, 0..steps.len()));
     }
-    let rest = tried.steps.get(done..).unwrap_or(&[]);
-    assert!(rt; play(rt, alloc, table, &mut board, rest).is_ok());
-    end(rt, plan, journal, tried, board)
+    let halt = play(rt, rt.alloc(), table, board, steps).err()?;
+    Some((halt.fault, halt.done..halt.done.saturating_add(1)))
 }
 
-/// Compares what a board results in on which all lines are committed.
-fn end<J: PlanName + 'static, R: AllocGlobal + Abort>(
+/// The first of these numbers of steps after which another board is seen so.
+fn same_sight<J: PlanName + 'static, R: Wait + AllocGlobal + Abort>(
     rt: &R,
+    table: &VersionTable<J>,
     plan: &Plan,
-    journal: &Journal,
-    tried: &Tried<'_>,
-    board: Board<'_, '_, J>,
-) -> Result<(), AllocError>
-    requires { plan.now.readings ≡ readings_of journal.now }
+    steps: &[Step],
+    numbers: Range<usize>,
+    seen: &str,
+) -> Result<Option<usize>, AllocError>
+    requires { plan.now ≡ J.plan }
 {
-    let output = output_of(rt, rt.alloc(), plan, journal, board)?;
-    compare(rt, "a board", &output, tried.row);
-    Ok(())
+    for number in numbers {
+        let made = steps.get(..number).unwrap_or(steps);
+        let mut board = Board::new(rt.alloc(), plan, WORKERS)?;
+        assert!(rt; play(rt, rt.alloc(), table, &mut board, made).is_ok());
+        if sight(rt.alloc(), &board)?.as_str() == seen {
+            return Ok(Some(number));
+        }
+    }
+    Ok(None)
 }
 
-/// The test's own growth was refused, or none of it.
-fn is_own(tried: Result<(), Fault>) -> bool {
-    matches!(tried, Ok(()) | Err(Fault::Memory))
+/// What is seen of a board: its counts, committed lines and clock, and what each worker has in hand.
+fn sight<J: PlanName>(alloc: Global, board: &Board<'_, '_, J>) -> Result<String, AllocError> {
+    let mut out = String::new(alloc);
+    tell_counts(&mut out, board)?;
+    tell_number(&mut out, ", ", board.committed())?;
+    tell_number(&mut out, " at ", board.clock())?;
+    for worker in 0..WORKERS {
+        if let Some(hand) = board.hand(worker) {
+            tell_number(&mut out, "; ", hand.line)?;
+            tell_number(&mut out, ".", u64::from(hand.attempt))?;
+            tell_notes(&mut out, board, worker)?;
+        }
+    }
+    Ok(out)
+}
+
+/// What a worker has noted, and whether its publication was begun.
+fn tell_notes<J: PlanName>(
+    out: &mut String,
+    board: &Board<'_, '_, J>,
+    worker: u32,
+) -> Result<(), AllocError> {
+    if let Some(noted) = board.notes(worker) {
+        for i in 0..noted.len() {
+            if let Some((key, name)) = noted.named(i) {
+                tell_id(out, " ", key.id())?;
+                tell_name(out, name)?;
+            }
+        }
+    }
+    out.push_str(if board.placing(worker).is_some() {
+        " placing"
+    } else {
+        ""
+    })
 }
 
 #[test]
 fn play_refused(rt: HostRuntime) {
-    for book in [IN_PART, SUSPECT, EARLY] {
-        assert!(rt; is_own(try_board(&rt, book, false)));
+    for script in [STALE, IN_PART, SUSPECT] {
+        assert!(rt; is_own(try_board(&rt, script, false)));
     }
 }
 
 #[test]
 fn drive_in_order_refused(rt: HostRuntime) {
-    assert!(rt; is_own(try_board(&rt, ORDERED, true)));
+    assert!(rt; is_own(try_board(&rt, IN_ORDER, true)));
+}
+
+/// The test's own growth was refused, or none of it.
+fn is_own(tried: Result<(), Fault>) -> bool {
+    match tried {
+        Ok(()) => true,
+        Err(fault) => fault.number() == MEMORY,
+    }
 }

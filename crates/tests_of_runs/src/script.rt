@@ -1,202 +1,247 @@
-//! A script of the board: calls of its workers, with their replies.
+//! Scripts: calls of the board beside their replies, and what runs and lists of steps give.
 
 ghost use Rattle.std.specs.Prelude.{◌≡◌};
 
-use crate::calls::reply_to;
-use crate::checked::must_be;
-use crate::row::{Prepared, Row, prepare};
-use crate::runs::run_beginnings;
-use crate::sight::sight;
+use crate::calls::{number, parts_of, reply_to, small};
+use crate::shared::share_board;
+use crate::texts::{inputs_of, is_same, plan_of, tell_files};
+use crate::told::{tell_fault, tell_number};
 use read_set::{Plan, PlanName};
-use speculate::{Board, BoardFault, Halt, Step, play};
+use replay_run::{Inputs, Output, Run, Step, one_thread, rebuild_by_steps};
+use speculate::{Board, Halt, drive_in_order, play};
 use std::alloc::{AllocError, AllocGlobal, Global};
 use std::marker::Brand;
 use std::process::Abort;
 use std::sync::Wait;
 use std::test::Fail;
-use version_store::{Place, VersionTable};
+use std::thread::Threads;
+use version_store::VersionTable;
 
-/// How many workers each script has: 0, 1 and 2.
-pub(crate) const WORKERS: u32 = 3;
+/// For how many workers each board is made: 0 to 63.
+pub(crate) const WORKERS: u32 = 64;
 
-/// A script: the inputs of its run, its calls, and what else it says.
-pub(crate) struct Script<'a> {
-    pub(crate) title: &'a str,
-    pub(crate) row: Row,
-    pub(crate) lines: &'a str,
-    /// No text where the script isn't steps alone.
-    given: &'a str,
-    /// Where the script as a list of steps halts. No text where it isn't played so.
-    halts: &'a str,
-    /// With which attempt and at which clock its board begins.
+/// A script: the files of its runs, with which attempt and at which clock its board begins, and its calls.
+struct Script<'s> {
+    inputs: &'s Inputs,
     attempt: u32,
     clock: u64,
+    calls: &'s str,
 }
 
 impl Drop for Script<'_> {
     fn drop(self) {
         let Script {
-            title: _,
-            row: _,
-            lines: _,
-            given: _,
-            halts: _,
+            inputs: _,
             attempt: _,
             clock: _,
+            calls: _,
         } = self;
     }
 }
 
-impl<'a> Script<'a> {
-    /// The script of a text.
-    pub(crate) fn read<R: AllocGlobal + Abort>(
-        rt: &R,
-        title: &'a str,
-        lines: &'a str,
-    ) -> Result<Script<'a>, AllocError> {
-        let mut script = Script {
-            title,
-            row: Row::new(rt.alloc())?,
-            lines,
-            given: "",
-            halts: "",
-            attempt: 0,
-            clock: 0,
-        };
-        for line in lines.split('\n') {
-            if !line.contains(" = ") {
-                assert!(rt; script.take(rt.alloc(), line)?, "{title}: {line}");
-            }
-        }
-        Ok(script)
-    }
-
-    /// Takes in a line that is no call. False where it is none of a script.
-    fn take(&mut self, alloc: Global, line: &'a str) -> Result<bool, AllocError> {
-        let (word, rest) = line.split_once(' ').unwrap_or((line, ""));
-        match word {
-            "given" => self.given = rest,
-            "halts" => self.halts = rest,
-            "starting" => {
-                let (attempt, clock) = rest.split_once(' ').unwrap_or((rest, "0"));
-                self.attempt = attempt.parse::<u32>().unwrap_or(0);
-                self.clock = clock.parse::<u64>().unwrap_or(0);
-            }
-            _ => return self.row.take(alloc, line),
-        }
-        Ok(true)
-    }
-
-    /// Its calls that are steps.
-    pub(crate) fn steps(&self, alloc: Global) -> Result<Vec<Step>, AllocError> {
-        let mut steps = Vec::new(alloc);
-        for line in self.lines.split('\n') {
-            if let Some((call, _)) = line.split_once(" = ")
-                && let Some(step) = step_of(call)
-            {
-                steps.push(step)?;
-            }
-        }
-        Ok(steps)
+/// The script of a text and its calls. It begins as the text says, else as a new board does.
+fn script_of<'s>(inputs: &'s Inputs, text: &str, calls: &'s str) -> Script<'s> {
+    let (_, rest) = text.split_once("starting ").unwrap_or(("", "0 0"));
+    let (line, _) = rest.split_once('\n').unwrap_or((rest, ""));
+    let (attempt, clock) = line.split_once(' ').unwrap_or((line, "0"));
+    Script {
+        inputs,
+        attempt: small(attempt),
+        clock: number(clock),
+        calls,
     }
 }
 
 /// The step of a call, if it is one: a `look` at the key that the line needs, a `publish` of its version, and each `take`,
 /// `check` and `commit`.
-pub(crate) fn step_of(call: &str) -> Option<Step> {
-    let (word, rest) = call.split_once(' ')?;
-    let (first, second) = rest.split_once(' ').unwrap_or((rest, "0"));
-    let number = first.parse::<u64>().ok()?;
-    let worker = u32::try_from(number).unwrap_or(u32::MAX);
-    let line = second.parse::<u64>().ok()?;
+fn step_of(call: &str) -> Option<Step> {
+    let (word, first, second) = parts_of(call);
+    let (worker, line) = (small(first), number(second));
     match word {
         "take" => Some(Step::Take { worker, line }),
         "look" => Some(Step::Look { worker }),
         "publish" => Some(Step::Publish { worker }),
         "check" => Some(Step::Check { worker, line }),
-        "commit" => Some(Step::Commit { line: number }),
+        "commit" => Some(Step::Commit {
+            line: number(first),
+        }),
         _ => None,
     }
 }
 
-/// Runs a script: plays its calls on a board. Where it is steps alone, the run by each of its beginnings is tried too.
-pub(crate) fn run_script<R: Wait + AllocGlobal + Abort>(
+/// The calls of a text that are steps.
+pub(crate) fn steps_of(alloc: Global, text: &str) -> Result<Vec<Step>, AllocError> {
+    let mut steps = Vec::new(alloc);
+    for line in text.split('\n') {
+        if let Some((call, _)) = line.split_once(" = ")
+            && let Some(step) = step_of(call)
+        {
+            steps.push(step)?;
+        }
+    }
+    Ok(steps)
+}
+
+/// Runs each script of a book: its files, an empty line, its calls with their replies, and perhaps an empty line and calls of a shared board.
+pub(crate) fn run_scripts<R: Threads + Wait + Sync + AllocGlobal + Abort>(
     rt: &R,
-    title: &str,
-    lines: &str,
+    book: &str,
 ) -> Result<(), Fail> {
-    let script = Script::read(rt, title, lines)?;
-    let Ok(Prepared { plan, journal: _ }) = prepare(rt.alloc(), &script.row.inputs) else {
-        panic!(rt; "a plan");
-    };
-    play_on_boards::<Brand, R>(rt, &plan, &script)?;
-    if script.given.is_empty() {
-        return Ok(());
-    }
-    run_beginnings(rt, title, &script.row, lines, script.given)
-}
-
-/// Plays the calls of a script one after another on a new board, and its steps as a list on another one where it says where that halts.
-fn play_on_boards<J: PlanName, R: Wait + AllocGlobal + Abort>(
-    rt: &R,
-    plan: &Plan,
-    script: &Script<'_>,
-) -> Result<(), AllocError>
-    requires { plan.now ≡ J.plan }
-{
-    let alloc = rt.alloc();
-    let (attempt, clock) = (script.attempt, script.clock);
-    let table: VersionTable<J> = VersionTable::new(alloc)?;
-    let mut board = Board::starting(alloc, plan, WORKERS, attempt, clock)?;
-    play_calls(rt, &table, &mut board, script)?;
-    if !script.halts.is_empty() {
-        let mut board = Board::starting(alloc, plan, WORKERS, attempt, clock)?;
-        let steps = script.steps(alloc)?;
-        let told = match play(rt, alloc, &table, &mut board, steps.as_slice()) {
-            Ok(()) => String::new(alloc),
-            Err(halt) => tell_halt(alloc, halt)?,
-        };
-        must_be(rt, told.as_str(), script.halts, script.title, "halts");
-    }
-    Ok(())
-}
-
-fn tell_halt(alloc: Global, halt: Halt) -> Result<String, AllocError> {
-    let done = halt.done;
-    match halt.fault {
-        BoardFault::Attempts { line } => format!(in alloc; "{done}: attempts {line}"),
-        BoardFault::ClockSpent => format!(in alloc; "{done}: clock spent"),
-        BoardFault::Memory => format!(in alloc; "{done}: memory"),
-    }
-}
-
-/// Plays the calls of a script, which are before their replies. What is refused must leave the board as it was, as far as it is seen.
-fn play_calls<'t, J: PlanName, R: Wait + AllocGlobal + Abort>(
-    rt: &R,
-    table: &'t VersionTable<J>,
-    board: &mut Board<'_, 't, J>,
-    script: &Script<'_>,
-) -> Result<(), AllocError> {
-    let mut kept: Option<Place<'t, J>> = None;
-    for line in script.lines.split('\n') {
-        if let Some((call, wanted)) = line.split_once(" = ") {
-            let before = sight(rt.alloc(), board)?;
-            let told = reply_to(rt, table, board, &mut kept, call)?;
-            must_be(rt, told.as_str(), wanted, script.title, line);
-            if is_refusal(wanted) {
-                let after = sight(rt.alloc(), board)?;
-                must_be(rt, after.as_str(), before.as_str(), script.title, line);
-            }
+    for script in book.split('#') {
+        if let Some((text, calls)) = script.split_once("\n\n") {
+            run_script(rt, text, calls)?;
         }
     }
     Ok(())
 }
 
-/// Whether a call with this reply changes nothing. The reply to a `begin` is after its choice.
-fn is_refusal(told: &str) -> bool {
-    let (_, reply) = told.split_once(": ").unwrap_or(("", told));
-    match reply {
-        "idle" | "later" | "stranger" | "clock spent" | "memory" | "nothing" | "end" => true,
-        _ => reply.starts_with("attempts "),
+fn run_script<R: Threads + Wait + Sync + AllocGlobal + Abort>(
+    rt: &R,
+    text: &str,
+    calls: &str,
+) -> Result<(), Fail> {
+    let alloc = rt.alloc();
+    let inputs = inputs_of(alloc, text)?;
+    let plan = plan_of(alloc, &inputs).expect(rt, "a plan");
+    let script = script_of(&inputs, text, calls);
+    let out = play_script::<Brand, R>(rt, &plan, &script)?;
+    assert_eq!(rt; out.as_str(), calls);
+    Ok(())
+}
+
+/// The calls of a script with their replies, on a board, and of further ones on that board where it is shared.
+fn play_script<J: PlanName + Send + Sync + 'static, R: Threads + Wait + Sync + AllocGlobal>(
+    rt: &R,
+    plan: &Plan,
+    script: &Script<'_>,
+) -> Result<String, AllocError>
+    requires { plan.now ≡ J.plan }
+{
+    let alloc = rt.alloc();
+    let (calls, shared) = script
+        .calls
+        .split_once("\n\n")
+        .unwrap_or((script.calls, ""));
+    let table: VersionTable<J> = VersionTable::new(alloc)?;
+    let mut board = Board::starting(alloc, plan, WORKERS, script.attempt, script.clock)?;
+    let mut out = String::new(alloc);
+    play_calls(rt, &table, &mut board, script, calls, &mut out)?;
+    if shared.is_empty() {
+        return Ok(out);
     }
+    share_board(rt, &table, board, shared, &mut out)?;
+    Ok(out)
+}
+
+/// Plays the calls, each of which is before its reply. Other lines are of the reply above them.
+fn play_calls<'t, J: PlanName + 'static, R: Wait + AllocGlobal>(
+    rt: &R,
+    table: &'t VersionTable<J>,
+    board: &mut Board<'_, 't, J>,
+    script: &Script<'_>,
+    calls: &str,
+    out: &mut String,
+) -> Result<(), AllocError> {
+    for line in calls.split('\n') {
+        if let Some((call, _)) = line.split_once(" = ") {
+            out.push_str(call)?;
+            out.push_str(" = ")?;
+            play_call(rt, table, board, script, call, out)?;
+            out.push_str("\n")?;
+        }
+    }
+    Ok(())
+}
+
+/// A call of the board, or a run by its steps so far.
+fn play_call<'t, J: PlanName + 'static, R: Wait + AllocGlobal>(
+    rt: &R,
+    table: &'t VersionTable<J>,
+    board: &mut Board<'_, 't, J>,
+    script: &Script<'_>,
+    call: &str,
+    out: &mut String,
+) -> Result<(), AllocError> {
+    match call.split_once(' ') {
+        Some(("run", workers)) => tell_run(rt, script.inputs, small(workers), out),
+        Some(("one", _)) => tell_one_thread(rt.alloc(), script.inputs, out),
+        Some(("play", _)) => tell_play(rt, table, board.plan(), script, out),
+        _ => reply_to(rt, table, board, call, out),
+    }
+}
+
+/// What one thread gives.
+fn tell_one_thread(alloc: Global, inputs: &Inputs, out: &mut String) -> Result<(), AllocError> {
+    out.push_str("\n")?;
+    match one_thread(alloc, inputs) {
+        Ok(output) => tell_files(out, &output),
+        Err(fault) => write!(out, "{fault}"),
+    }
+}
+
+/// What a run by the steps so far gives.
+fn tell_run<R: Wait + AllocGlobal>(
+    rt: &R,
+    inputs: &Inputs,
+    workers: u32,
+    out: &mut String,
+) -> Result<(), AllocError> {
+    let steps = steps_of(rt.alloc(), out.as_str())?;
+    match rebuild_by_steps(rt, rt.alloc(), inputs, workers, steps.as_slice()) {
+        Ok(Run::Output(output)) => tell_attempts(rt.alloc(), inputs, &output, out),
+        Ok(Run::Unfinished { committed }) => tell_number(out, "unfinished ", committed),
+        Err(fault) => write!(out, "{fault}"),
+    }
+}
+
+/// The attempts that were committed, where all else is what one thread gives.
+fn tell_attempts(
+    alloc: Global,
+    inputs: &Inputs,
+    output: &Output,
+    out: &mut String,
+) -> Result<(), AllocError> {
+    if !is_of_one_thread(alloc, inputs, output) {
+        return out.push_str("another output");
+    }
+    out.push_str("output")?;
+    for attempt in output.attempts.as_slice() {
+        tell_number(out, " ", u64::from(*attempt))?;
+    }
+    Ok(())
+}
+
+/// Whether one thread gives the same.
+pub(crate) fn is_of_one_thread(alloc: Global, inputs: &Inputs, output: &Output) -> bool {
+    match one_thread(alloc, inputs) {
+        Ok(one) => is_same(&one, output),
+        Err(_) => false,
+    }
+}
+
+/// Plays the steps so far as a list on another board, and drives that board to its end; or says where the list halts.
+fn tell_play<J: PlanName + 'static, R: Wait + AllocGlobal>(
+    rt: &R,
+    table: &VersionTable<J>,
+    plan: &Plan,
+    script: &Script<'_>,
+    out: &mut String,
+) -> Result<(), AllocError>
+    requires { plan.now ≡ J.plan }
+{
+    let alloc = rt.alloc();
+    let steps = steps_of(alloc, out.as_str())?;
+    let mut board = Board::starting(alloc, plan, WORKERS, script.attempt, script.clock)?;
+    if let Err(halt) = play(rt, alloc, table, &mut board, steps.as_slice()) {
+        return tell_halt(out, halt);
+    }
+    let driven = drive_in_order(rt, alloc, table, &mut board).is_ok();
+    let ended = driven && board.finish().is_ok();
+    out.push_str(if ended { "driven to the end" } else { "no end" })
+}
+
+fn tell_halt(out: &mut String, halt: Halt) -> Result<(), AllocError> {
+    tell_number(out, "", halt.done as u64)?;
+    out.push_str(" steps, then ")?;
+    tell_fault(out, halt.fault)
 }

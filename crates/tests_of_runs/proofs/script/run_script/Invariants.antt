@@ -1,5 +1,5 @@
 use Rattle.tests_of_runs.proofs.script.run_script.Given as goal
 
--- the plan of the script
-abbrev pub ghosts-play_on_boards : goal.ghosts-play_on_boards
-ghosts-play_on_boards g a = record { plan = a.plan.now }
+-- the plan that was just made
+abbrev pub ghosts-play_script : goal.ghosts-play_script
+ghosts-play_script g a = record { plan = a.plan.now }

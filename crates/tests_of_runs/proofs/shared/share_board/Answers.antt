@@ -1,0 +1,6 @@
+use mathlib.Core.List.{not-mem-nil}
+use Rattle.tests_of_runs.proofs.shared.share_board.Goals as goal
+
+-- a plan's name lives as long as any place
+pub drop-shared-requires-in_err-play_shared-2-lives-T-Destruct : goal.drop-shared-requires-in_err-play_shared-2-lives-T-Destruct
+drop-shared-requires-in_err-play_shared-2-lives-T-Destruct g c κs within = λ a m. absurd (not-mem-nil (c.type_bounds.static-J a m))

@@ -59,19 +59,20 @@ fn read_packet<B: Read + Drop>(
     capturing: &mut Capturing,
     reading: &mut JournalReader<'_>,
 ) -> Result<bool, MakingError> {
-    let (link, from, to) = match packets.next()? {
-        Next::Packet { link, from, to } => (link, from, to),
-        Next::End => return Ok(false),
+    match packets.next()? {
+        Next::Packet { link, from, to } => {
+            let packet = packets.bytes().get(from..to).unwrap_or(&[]);
+            let segment = segment_of(link, packet);
+            reading.count_packet(segment.is_none());
+            if let Some(segment) = &segment {
+                capturing.take(segment, reading)?;
+            }
+            Ok(true)
+        }
+        Next::End => Ok(false),
         Next::Broken => {
             reading.cut()?;
-            return Ok(false);
+            Ok(false)
         }
-    };
-    let packet = packets.bytes().get(from..to).unwrap_or(&[]);
-    let segment = segment_of(link, packet);
-    reading.count_packet(segment.is_none());
-    if let Some(segment) = &segment {
-        capturing.take(segment, reading)?;
     }
-    Ok(true)
 }

@@ -5,7 +5,6 @@ use crate::connections::{Client, Connection, Connections, Ends, Talk};
 use crate::headers::TcpSegment;
 use crate::reading::JournalReader;
 use capture_streams::StreamPiece;
-use journal_run::MakingError;
 use log_pairs::{Direction, Odd, odd_of};
 use sip_reader::{unsummed, without_line_end};
 use std::alloc::{AllocError, Global};
@@ -36,7 +35,7 @@ impl Capturing {
         &mut self,
         segment: &TcpSegment<'_>,
         reading: &mut JournalReader<'_>,
-    ) -> Result<(), MakingError> {
+    ) -> Result<(), AllocError> {
         self.settle(reading)?;
         let is_first = segment.from <= segment.to;
         let ends = if is_first {
@@ -62,7 +61,7 @@ impl Capturing {
     }
 
     /// A segment comes: lets go of what no segment can change any more.
-    fn settle(&mut self, reading: &mut JournalReader<'_>) -> Result<(), MakingError> {
+    fn settle(&mut self, reading: &mut JournalReader<'_>) -> Result<(), AllocError> {
         if let Some(client) = self.connections.settle()? {
             reading.over(client)?;
         }
@@ -89,7 +88,7 @@ impl Capturing {
     }
 
     /// Nothing more comes of a connection: hands on what waits for its end, and forgets the connection.
-    fn finish(&mut self, ends: &Ends, reading: &mut JournalReader<'_>) -> Result<(), MakingError> {
+    fn finish(&mut self, ends: &Ends, reading: &mut JournalReader<'_>) -> Result<(), AllocError> {
         if let Some(connection) = self.connections.get_mut(ends) {
             connection.first.close()?;
             hand_on(self.alloc, connection, true, reading)?;
@@ -104,7 +103,7 @@ impl Capturing {
     }
 
     /// The capture is at its end.
-    pub fn end(&mut self, reading: &mut JournalReader<'_>) -> Result<(), MakingError> {
+    pub fn end(&mut self, reading: &mut JournalReader<'_>) -> Result<(), AllocError> {
         for _ in 0..u64::MAX {
             let Some(ends) = self.connections.first() else {
                 break;
@@ -121,7 +120,7 @@ fn begin_again(
     is_first: bool,
     segment: &TcpSegment<'_>,
     reading: &mut JournalReader<'_>,
-) -> Result<(), MakingError> {
+) -> Result<(), AllocError> {
     let is_new = segment.begins && !connection.half(is_first).is_begun_at(segment.number);
     if !is_new || matches!(connection.talk.client, Client::Nobody) {
         return Ok(());
@@ -140,7 +139,7 @@ fn hear(
     is_first: bool,
     segment: &TcpSegment<'_>,
     reading: &mut JournalReader<'_>,
-) -> Result<(), MakingError> {
+) -> Result<(), AllocError> {
     if matches!(connection.talk.client, Client::Nobody) {
         return Ok(());
     }
@@ -152,8 +151,7 @@ fn hear(
     connection.is_over = connection.is_over || is_over;
     hand_on(alloc, connection, !is_first, reading)?;
     hand_on(alloc, connection, is_first, reading)?;
-    look(alloc, connection, is_first)?;
-    Ok(())
+    look(alloc, connection, is_first)
 }
 
 /// Looks who is the client, as soon as a message has begun. Where neither is, the connection is forgotten.
@@ -176,17 +174,16 @@ fn hand_on(
     connection: &mut Connection,
     is_first: bool,
     reading: &mut JournalReader<'_>,
-) -> Result<(), MakingError> {
+) -> Result<(), AllocError> {
     let heard = connection.take_heard(alloc, is_first);
     for one in &heard {
-        match one {
-            Heard::Missing(count) => {
-                hand_on_gap(&mut connection.talk, is_first, *count, reading)?;
-            }
+        let handed = match one {
+            Heard::Missing(count) => hand_on_gap(&mut connection.talk, is_first, *count, reading),
             Heard::Piece(piece) => {
-                hand_on_piece(alloc, &mut connection.talk, is_first, piece, reading)?;
+                hand_on_piece(alloc, &mut connection.talk, is_first, piece, reading)
             }
-        }
+        };
+        handed?;
     }
     Ok(())
 }
@@ -214,7 +211,7 @@ fn hand_on_piece(
     is_first: bool,
     piece: &StreamPiece,
     reading: &mut JournalReader<'_>,
-) -> Result<(), MakingError> {
+) -> Result<(), AllocError> {
     let message = without_line_feeds(piece.bytes());
     if message.is_empty() {
         return Ok(());
@@ -230,8 +227,7 @@ fn hand_on_piece(
         talk.lacks_request = !is_message;
     }
     if !is_message {
-        reading.broken(side, client, message)?;
-        return Ok(());
+        return reading.broken(side, client, message);
     }
     // (no request has a connection without a name: what may answer a missing request is reported as a response without one)
     let name = if talk.lacks_request {
@@ -258,11 +254,12 @@ fn exchange(from: &mut Half, to: &mut Half, segment: &TcpSegment<'_>) -> Result<
 
 /// The bytes of a piece without the line feeds that may follow a carriage return.
 fn without_line_feeds(bytes: &[u8]) -> &[u8] {
-    let from = bytes
-        .iter()
-        .position(|byte| *byte != b'\n')
-        .unwrap_or(bytes.len());
-    &bytes[from..]
+    for (at, byte) in bytes.iter().enumerate() {
+        if *byte != b'\n' {
+            return &bytes[at..];
+        }
+    }
+    b""
 }
 
 /// Whether a piece is a whole message: none that ends in a gap; after a gap one with a right checksum.
@@ -284,21 +281,15 @@ fn is_whole(
 
 /// Who is the client, by the first message of a connection and the end that sends it.
 fn client_by(alloc: Global, message: &[u8], is_first: bool) -> Result<Client, AllocError> {
-    let is_client = if has_identifier(alloc, Direction::Request, message)? {
-        is_first
-    } else if has_identifier(alloc, Direction::Response, message)? {
-        !is_first
-    } else {
-        return Ok(Client::Nobody);
-    };
-    Ok(if is_client {
-        Client::First
-    } else {
-        Client::Second
-    })
-}
-
-fn has_identifier(alloc: Global, side: Direction, message: &[u8]) -> Result<bool, AllocError> {
-    let odd = odd_of(alloc, side, message)?;
-    Ok(!matches!(odd, Some(Odd::UnknownIdentifier)))
+    for side in &[Direction::Request, Direction::Response] {
+        let odd = odd_of(alloc, *side, message)?;
+        if !matches!(odd, Some(Odd::UnknownIdentifier)) {
+            return Ok(if matches!(side, Direction::Request) == is_first {
+                Client::First
+            } else {
+                Client::Second
+            });
+        }
+    }
+    Ok(Client::Nobody)
 }

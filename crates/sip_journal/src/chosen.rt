@@ -81,35 +81,25 @@ pub fn task_of(alloc: Global, options: &JournalOptions) -> Result<JournalTask<'_
 
 /// The form of lines that the options and the preset say together: what else is given counts instead of the preset's.
 fn form_of(alloc: Global, options: &JournalOptions) -> Result<LogForm<'_>, MakingError> {
-    let (request, response) = (text(&options.request), text(&options.response));
-    let known = match (text(&options.preset), request, response) {
-        (Some(name), _, _) => named(alloc, &PRESETS, "no preset is named", name)?,
-        (None, Some(request), Some(response)) => LogForm {
-            request,
-            response,
-            ..PLAIN
-        },
-        _ => {
+    let mut form = match text(&options.preset) {
+        Some(name) => named(alloc, &PRESETS, "no preset is named", name)?,
+        None if options.request.is_some() && options.response.is_some() => PLAIN,
+        None => {
             let what = "--preset is needed, or";
             return Err(MakingError::refused(alloc, what, "--request and --response"));
         }
     };
-    let layout = match text(&options.layout) {
-        Some(word) => named(alloc, &LAYOUTS, "no layout of lines is named", word)?,
-        None => known.layout,
-    };
-    let escapes = match text(&options.escapes) {
-        Some(word) => named(alloc, &SPELLINGS, "no way of spelling bytes is named", word)?,
-        None => known.escapes,
-    };
-    Ok(LogForm {
-        request: request.unwrap_or(known.request),
-        response: response.unwrap_or(known.response),
-        connection: text(&options.connection).or(known.connection),
-        mark: text(&options.mark).or(known.mark),
-        layout,
-        escapes,
-    })
+    form.request = text(&options.request).unwrap_or(form.request);
+    form.response = text(&options.response).unwrap_or(form.response);
+    form.connection = text(&options.connection).or(form.connection);
+    form.mark = text(&options.mark).or(form.mark);
+    if let Some(word) = text(&options.layout) {
+        form.layout = named(alloc, &LAYOUTS, "no layout of lines is named", word)?;
+    }
+    if let Some(word) = text(&options.escapes) {
+        form.escapes = named(alloc, &SPELLINGS, "no way of spelling bytes is named", word)?;
+    }
+    Ok(form)
 }
 
 fn text(option: &Option<String>) -> Option<&str> {

@@ -22,7 +22,6 @@ pub enum Heard {
 }
 
 /// What one end of a connection sends.
-#[derive(Drop)]
 pub struct Half {
     alloc: Global,
     /// The number of the begin, where that was captured.
@@ -35,6 +34,20 @@ pub struct Half {
     last: u64,
     /// What came on the connection, and wasn't handed on yet.
     pub heard: Vec<Heard>,
+}
+
+impl Drop for Half {
+    fn drop(self) {
+        let Half {
+            alloc: _,
+            begun_at: _,
+            stream: _,
+            cutter: _,
+            end: _,
+            last: _,
+            heard: _,
+        } = self;
+    }
 }
 
 impl Half {

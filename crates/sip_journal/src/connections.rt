@@ -62,7 +62,6 @@ impl Talk {
 }
 
 /// What was heard of a connection.
-#[derive(Drop)]
 pub struct Connection {
     pub first: Half,
     pub second: Half,
@@ -70,6 +69,18 @@ pub struct Connection {
     pub is_over: bool,
     /// The segment that ended it, where it is over and is remembered; else the one by which it was heard of last.
     heard_at: u64,
+}
+
+impl Drop for Connection {
+    fn drop(self) {
+        let Connection {
+            first: _,
+            second: _,
+            talk: _,
+            is_over: _,
+            heard_at: _,
+        } = self;
+    }
 }
 
 impl Connection {

@@ -6,7 +6,7 @@ use std::net::{IpAddr, Ipv4Addr, Ipv6Addr, SocketAddr};
 /// How the numbers of headers are written.
 const NETWORK: ByteOrder = ByteOrder::BigFirst;
 
-const TCP: u8 = 6;
+const TCP: u16 = 6;
 
 /// A TCP segment.
 #[derive(Clone, Copy)]
@@ -24,16 +24,9 @@ pub struct TcpSegment<'p> {
     pub payload: &'p [u8],
 }
 
-/// The TCP segment of a packet of a link: Ethernet, Linux cooked, loopback, or bare IP. Nothing where it has none, or a part of one.
+/// The TCP segment of a packet of a link. Nothing where it has none, or a part of one.
 pub fn segment_of(link: usize, packet: &[u8]) -> Option<TcpSegment<'_>> {
-    let internet = match link {
-        0 | 108 => packet.get(4..)?,
-        1 => in_ethernet(packet)?,
-        12 | 14 | 101 | 228 | 229 => packet,
-        113 => packet.get(16..)?,
-        276 => packet.get(20..)?,
-        _ => return None,
-    };
+    let internet = in_link(link, packet)?;
     match *internet.first()? / 16 {
         4 => of_version_4(internet),
         6 => of_version_6(internet),
@@ -41,13 +34,25 @@ pub fn segment_of(link: usize, packet: &[u8]) -> Option<TcpSegment<'_>> {
     }
 }
 
+/// What a packet of a link carries: Ethernet, Linux cooked, loopback, or bare IP.
+fn in_link(link: usize, packet: &[u8]) -> Option<&[u8]> {
+    let header = match link {
+        0 | 108 => 4,
+        1 => return in_ethernet(packet),
+        12 | 14 | 101 | 228 | 229 => 0,
+        113 => 16,
+        276 => 20,
+        _ => return None,
+    };
+    packet.get(header..)
+}
+
 /// What an Ethernet frame carries, where that is IP; the tags of networks within networks are passed.
 fn in_ethernet(frame: &[u8]) -> Option<&[u8]> {
-    let mut rest = frame.get(12..)?;
-    for _ in 0..3 {
-        match rest.get(..2)? {
-            [0x81, 0x00] | [0x88, 0xa8] => rest = rest.get(4..)?,
-            [0x08, 0x00] | [0x86, 0xdd] => return rest.get(2..),
+    for at in &[12usize, 16, 20] {
+        match NETWORK.short(frame, *at) {
+            0x8100 | 0x88a8 => {}
+            0x0800 | 0x86dd => return frame.get(at.saturating_add(2)..),
             _ => return None,
         }
     }
@@ -56,14 +61,14 @@ fn in_ethernet(frame: &[u8]) -> Option<&[u8]> {
 
 fn of_version_4(packet: &[u8]) -> Option<TcpSegment<'_>> {
     let header = usize::from(*packet.first()? % 16) * 4;
-    let fragment = NETWORK.short(packet, 6)? % 0x4000;
-    if *packet.get(9)? != TCP || fragment != 0 {
+    let fragment = NETWORK.short(packet, 6) % 0x4000;
+    if packet.len() < 20 || NETWORK.short(packet, 8) % 0x100 != TCP || fragment != 0 {
         return None;
     }
-    let from = Ipv4Addr::from(*packet.get(12..)?.first_chunk::<4>()?);
-    let to = Ipv4Addr::from(*packet.get(16..)?.first_chunk::<4>()?);
+    let from = Ipv4Addr::from(NETWORK.long(packet, 12));
+    let to = Ipv4Addr::from(NETWORK.long(packet, 16));
     // (a card that cuts long segments itself is handed packets without a length)
-    let whole = match usize::from(NETWORK.short(packet, 2)?) {
+    let whole = match usize::from(NETWORK.short(packet, 2)) {
         0 => packet.len(),
         len => len.min(packet.len()),
     };
@@ -71,22 +76,21 @@ fn of_version_4(packet: &[u8]) -> Option<TcpSegment<'_>> {
 }
 
 fn of_version_6(packet: &[u8]) -> Option<TcpSegment<'_>> {
-    let from = Ipv6Addr::from(*packet.get(8..)?.first_chunk::<16>()?);
-    let to = Ipv6Addr::from(*packet.get(24..)?.first_chunk::<16>()?);
-    let whole = match usize::from(NETWORK.short(packet, 4)?) {
+    let (from, to) = (address_6(packet, 8)?, address_6(packet, 24)?);
+    let whole = match usize::from(NETWORK.short(packet, 4)) {
         0 => packet.len(),
         len => (len + 40).min(packet.len()),
     };
-    let mut kind = *packet.get(6)?;
+    let mut kind = NETWORK.short(packet, 6) / 0x100;
     let mut rest = packet.get(40..whole)?;
     for _ in 0..8 {
         match kind {
-            TCP => return of_tcp(IpAddr::V6(from), IpAddr::V6(to), rest),
+            TCP => return of_tcp(from, to, rest),
             // options for each hop, a route, options for the end: each says how long it is
             0 | 43 | 60 => {
-                let len = usize::from(*rest.get(1)?) * 8 + 8;
-                kind = *rest.first()?;
-                rest = rest.get(len..)?;
+                let head = NETWORK.short(rest, 0);
+                kind = head / 0x100;
+                rest = rest.get(usize::from(head % 0x100) * 8 + 8..)?;
             }
             _ => return None,
         }
@@ -94,21 +98,29 @@ fn of_version_6(packet: &[u8]) -> Option<TcpSegment<'_>> {
     None
 }
 
+/// The address of sixteen bytes at a place.
+fn address_6(packet: &[u8], at: usize) -> Option<IpAddr> {
+    let bytes = packet.get(at..)?.first_chunk::<16>()?;
+    Some(IpAddr::V6(Ipv6Addr::from(*bytes)))
+}
+
 fn of_tcp(from: IpAddr, to: IpAddr, segment: &[u8]) -> Option<TcpSegment<'_>> {
-    let header = usize::from(*segment.get(12)? / 16) * 4;
+    // how many words of four bytes the header has, and what the segment is to do
+    let head = NETWORK.short(segment, 12);
+    let header = usize::from(head / 0x1000) * 4;
     if header < 20 {
         return None;
     }
-    let flags = *segment.get(13)?;
-    let waited_for = NETWORK.long(segment, 8)?;
+    let payload = segment.get(header..)?;
+    let waited_for = NETWORK.long(segment, 8);
     Some(TcpSegment {
-        from: SocketAddr::new(from, NETWORK.short(segment, 0)?),
-        to: SocketAddr::new(to, NETWORK.short(segment, 2)?),
-        number: NETWORK.long(segment, 4)?,
-        acknowledged: (flags & 16 != 0).then_some(waited_for),
-        begins: flags & 2 != 0,
-        ends: flags & 1 != 0,
-        resets: flags & 4 != 0,
-        payload: segment.get(header..)?,
+        from: SocketAddr::new(from, NETWORK.short(segment, 0)),
+        to: SocketAddr::new(to, NETWORK.short(segment, 2)),
+        number: NETWORK.long(segment, 4),
+        acknowledged: (head & 16 != 0).then_some(waited_for),
+        begins: head & 2 != 0,
+        ends: head & 1 != 0,
+        resets: head & 4 != 0,
+        payload,
     })
 }

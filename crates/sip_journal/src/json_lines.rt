@@ -27,8 +27,11 @@ fn line_of(alloc: Global, value: &Value) -> Result<Option<Vec<u8>>, AllocError> 
     };
     let mut line = Vec::new(alloc);
     for (name, other, after) in &FIELDS {
-        let field = value.get(*name).and_then(|field| field.as_str());
-        line.extend_from_slice(field.unwrap_or(*other).as_bytes())?;
+        let field = match value.get(*name) {
+            Some(Value::String(text)) => text.as_str(),
+            _ => *other,
+        };
+        line.extend_from_slice(field.as_bytes())?;
         line.extend_from_slice(after.as_bytes())?;
     }
     let has_message = push_message(&mut line, message)?;

@@ -1,7 +1,7 @@
 //! Reports of lines and messages that are none, or that a log has damaged.
 
 use crate::place::LineHead;
-use journal_run::{LogPlace, LogTally};
+use journal_run::LogPlace;
 use log_pairs::{Direction, Odd, odd_of};
 use std::alloc::{AllocError, Global};
 use std::collections::BTreeMap;
@@ -77,11 +77,11 @@ pub struct JournalJudge {
     pub lines: u64,
     pub skipped: u64,
     /// Messages that were judged.
-    messages: u64,
+    pub messages: u64,
     /// Messages whose first two bytes are no identifier of their side.
-    unknown: u64,
+    pub unknown: u64,
     /// Messages whose checksum is wrong, or isn't their end.
-    wrong: u64,
+    pub wrong: u64,
     /// What each client does, by the name of its connection.
     clients: BTreeMap<Vec<u8>, Sums>,
     /// Requests that lack a checksum, of clients of which nothing more comes, and the first of them.
@@ -109,28 +109,12 @@ impl JournalJudge {
     }
 
     /// Requests without a checksum, of clients that send some with one.
-    fn lacking(&self) -> u64 {
+    pub fn lacking(&self) -> u64 {
         let mut all = self.lacking;
         for (_, sums) in &self.clients {
             all = all.saturating_add(sums.lacking());
         }
         all
-    }
-
-    /// What was counted of lines.
-    pub fn tally(&self) -> LogTally {
-        LogTally {
-            is_of_packets: false,
-            lines: self.lines,
-            skipped: self.skipped,
-            messages: self.messages,
-            unknown: self.unknown,
-            wrong: self.wrong,
-            lacking: self.lacking(),
-            falls: 0,
-            gaps: 0,
-            parts: 0,
-        }
     }
 
     /// Notes a record of this number of lines that says nothing.
@@ -189,7 +173,7 @@ impl JournalJudge {
 
     /// Nothing more comes of a connection: of its client only what is lacking is kept.
     pub fn over(&mut self, connection: &[u8]) -> Result<(), AllocError> {
-        let Some(mut sums) = self.clients.remove(connection) else {
+        let Some(sums) = self.clients.remove(connection) else {
             return Ok(());
         };
         let lacking = sums.lacking();
@@ -197,7 +181,7 @@ impl JournalJudge {
             return Ok(());
         }
         self.lacking = self.lacking.saturating_add(lacking);
-        if let Some(shown) = sums.first.take() {
+        if let Some(shown) = sums.first {
             self.bare.push(shown)?;
             self.bare.sort_unstable_by_key(|shown| shown.number);
             self.bare.truncate(TOLD);

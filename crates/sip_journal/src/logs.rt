@@ -100,14 +100,14 @@ impl<'l, B: BufRead> ReadsOn<'l> for MergedLogs<'l, '_, B> {
 
 /// The position of the log whose next record is due first; of several, the first.
 fn first_due<B: BufRead>(sources: &[LogSource<'_, B>]) -> Option<usize> {
-    let mut least: Option<(usize, u64)> = None;
+    let (mut first, mut least) = (None, 0);
     for (at, source) in sources.iter().enumerate() {
         if let Some(due) = source.due() {
-            match least {
-                Some((_, time)) if time <= due => {}
-                _ => least = Some((at, due)),
+            if first.is_none() || due < least {
+                first = Some(at);
+                least = due;
             }
         }
     }
-    Some(least?.0)
+    first
 }

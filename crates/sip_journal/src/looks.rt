@@ -53,14 +53,20 @@ fn is_wide(bytes: &[u8]) -> bool {
     let Some(head) = bytes.get(..16) else {
         return false;
     };
-    head.chunks(2).all(|pair| matches!(pair, [0, _]))
-        || head.chunks(2).all(|pair| matches!(pair, [_, 0]))
+    let mut zeros = [true; 2];
+    for (at, byte) in head.iter().enumerate() {
+        zeros[at % 2] &= *byte == 0;
+    }
+    zeros[0] || zeros[1]
 }
 
 /// More than one in twenty of the first bytes is a control character that no line has.
 fn is_binary(bytes: &[u8]) -> bool {
     let head = &bytes[..bytes.len().min(HEAD)];
-    let odd = head.iter().filter(|byte| is_control(**byte)).count();
+    let mut odd: usize = 0;
+    for byte in head {
+        odd = odd.saturating_add(usize::from(is_control(*byte)));
+    }
     odd > head.len() / 20
 }
 

@@ -8,21 +8,27 @@ pub enum ByteOrder {
 }
 
 impl ByteOrder {
-    /// The number of two bytes at a place.
-    pub fn short(self, bytes: &[u8], at: usize) -> Option<u16> {
-        let pair = bytes.get(at..)?.first_chunk::<2>()?;
-        Some(match self {
-            ByteOrder::LittleFirst => u16::from_le_bytes(*pair),
-            ByteOrder::BigFirst => u16::from_be_bytes(*pair),
-        })
+    /// The number of two bytes at a place; 0 where there are fewer.
+    pub fn short(self, bytes: &[u8], at: usize) -> u16 {
+        let pair = match bytes.get(at..) {
+            Some([one, two, ..]) => [*one, *two],
+            _ => [0; 2],
+        };
+        match self {
+            ByteOrder::LittleFirst => u16::from_le_bytes(pair),
+            ByteOrder::BigFirst => u16::from_be_bytes(pair),
+        }
     }
 
-    /// The number of four bytes at a place.
-    pub fn long(self, bytes: &[u8], at: usize) -> Option<u32> {
-        let four = bytes.get(at..)?.first_chunk::<4>()?;
-        Some(match self {
-            ByteOrder::LittleFirst => u32::from_le_bytes(*four),
-            ByteOrder::BigFirst => u32::from_be_bytes(*four),
-        })
+    /// The number of four bytes at a place; 0 where there are fewer.
+    pub fn long(self, bytes: &[u8], at: usize) -> u32 {
+        let four = match bytes.get(at..) {
+            Some([one, two, three, four, ..]) => [*one, *two, *three, *four],
+            _ => [0; 4],
+        };
+        match self {
+            ByteOrder::LittleFirst => u32::from_le_bytes(four),
+            ByteOrder::BigFirst => u32::from_be_bytes(four),
+        }
     }
 }

@@ -56,6 +56,8 @@ pub struct Packets<'l, B> {
     /// The links of the interfaces of a section of pcapng.
     links: Vec<usize>,
     bytes: Vec<u8>,
+    /// Why no more can be read, where that isn't the end of the file.
+    failure: Option<MakingError>,
 }
 
 impl<B: Drop> Drop for Packets<'_, B> {
@@ -68,14 +70,14 @@ impl<B: Drop> Drop for Packets<'_, B> {
             link: _,
             links: _,
             bytes: _,
+            failure: _,
         } = self;
     }
 }
 
 /// Whether a file that begins with these bytes is a capture.
 pub fn is_capture(head: &[u8]) -> bool {
-    let mark = head.get(..4).unwrap_or(&[]);
-    mark == SECTION || order_of(&PCAP, mark).is_some()
+    head.starts_with(SECTION) || order_of(&PCAP, head).is_some()
 }
 
 impl<'l, B: Read + Drop> Packets<'l, B> {
@@ -89,34 +91,36 @@ impl<'l, B: Read + Drop> Packets<'l, B> {
             link: None,
             links: Vec::new(alloc),
             bytes: Vec::new(alloc),
+            failure: None,
         };
-        if !packets.begin()? {
-            return Err(MakingError::refused(
-                alloc,
-                name,
-                "is no capture of packets, as tcpdump writes it",
-            ));
+        let is_capture = packets.begin();
+        match packets.failure.take() {
+            Some(error) => Err(error),
+            None if is_capture => Ok(packets),
+            None => {
+                let what = "is no capture of packets, as tcpdump writes it";
+                Err(MakingError::refused(alloc, name, what))
+            }
         }
-        Ok(packets)
     }
 
     /// Reads the head of the file; false where it is none of a capture.
-    fn begin(&mut self) -> Result<bool, MakingError> {
-        if !self.fill(4)? {
-            return Ok(false);
+    fn begin(&mut self) -> bool {
+        if !self.fill(4) {
+            return false;
         }
         if self.bytes() == SECTION {
             return self.begin_section();
         }
         let Some(order) = order_of(&PCAP, self.bytes()) else {
-            return Ok(false);
+            return false;
         };
         self.order = order;
-        if !self.fill(20)? {
-            return Ok(false);
+        if !self.fill(20) {
+            return false;
         }
         self.link = Some(self.long(16) % 0x1000_0000);
-        Ok(true)
+        true
     }
 
     /// The bytes that were read last.
@@ -126,56 +130,61 @@ impl<'l, B: Read + Drop> Packets<'l, B> {
 
     /// Reads the next packet.
     pub fn next(&mut self) -> Result<Next, MakingError> {
-        match self.link {
+        let next = match self.link {
             Some(link) => self.next_pcap(link),
             None => self.next_block(),
+        };
+        match self.failure.take() {
+            Some(error) => Err(error),
+            None => Ok(next),
         }
     }
 
-    fn next_pcap(&mut self, link: usize) -> Result<Next, MakingError> {
-        if !self.fill(16)? {
-            return Ok(self.end());
+    fn next_pcap(&mut self, link: usize) -> Next {
+        if !self.fill(16) {
+            return self.end();
         }
         let to = self.long(8);
-        if to > LONGEST || !self.fill(to)? {
-            return Ok(Next::Broken);
+        if to > LONGEST || !self.fill(to) {
+            return Next::Broken;
         }
-        Ok(Next::Packet { link, from: 0, to })
+        Next::Packet { link, from: 0, to }
     }
 
     /// Reads blocks up to the next one with a packet.
-    fn next_block(&mut self) -> Result<Next, MakingError> {
+    fn next_block(&mut self) -> Next {
         for _ in 0..u64::MAX {
-            if !self.fill(4)? {
-                return Ok(self.end());
+            if !self.fill(4) {
+                return self.end();
             }
             let kind = self.long(0);
             let is_whole = if self.bytes.as_slice() == SECTION {
-                self.begin_section()?
+                self.begin_section()
             } else {
-                self.read_block()?
+                self.read_block()
             };
             if !is_whole {
-                return Ok(Next::Broken);
+                break;
             }
-            if kind == INTERFACE {
-                let link = self.short(0);
-                self.links.push(link)?;
+            let link = self.short(0);
+            if kind == INTERFACE && self.links.push(link).is_err() {
+                self.failure = Some(MakingError::Memory);
+                break;
             }
             if let Some(next) = self.packet_in(kind) {
-                return Ok(next);
+                return next;
             }
         }
-        Ok(Next::Broken)
+        Next::Broken
     }
 
     /// Reads what follows the kind of a block, up to its end; `bytes` are its body then.
-    fn read_block(&mut self) -> Result<bool, MakingError> {
-        if !self.fill(4)? {
-            return Ok(false);
+    fn read_block(&mut self) -> bool {
+        if !self.fill(4) {
+            return false;
         }
         let len = self.long(0);
-        Ok(len >= 12 && len <= LONGEST && self.fill(len - 8)?)
+        len >= 12 && len <= LONGEST && self.fill(len - 8)
     }
 
     /// The packet in a block of this kind, whose body was read; nothing where such a block has none.
@@ -198,17 +207,17 @@ impl<'l, B: Read + Drop> Packets<'l, B> {
     }
 
     /// Reads the head of a section after its kind.
-    fn begin_section(&mut self) -> Result<bool, MakingError> {
-        if !self.fill(8)? {
-            return Ok(false);
+    fn begin_section(&mut self) -> bool {
+        if !self.fill(8) {
+            return false;
         }
         let Some(order) = order_of(&PCAPNG, self.bytes().get(4..).unwrap_or(&[])) else {
-            return Ok(false);
+            return false;
         };
         self.order = order;
         self.links.clear();
         let len = self.long(0);
-        Ok(len >= 16 && len <= LONGEST && self.fill(len - 12)?)
+        len >= 16 && len <= LONGEST && self.fill(len - 12)
     }
 
     /// What the end of the file is, where no more could be read.
@@ -220,29 +229,32 @@ impl<'l, B: Read + Drop> Packets<'l, B> {
         }
     }
 
-    /// Reads this number of bytes in place of those that were read before; false where the file has fewer.
-    fn fill(&mut self, count: usize) -> Result<bool, MakingError> {
+    /// Reads this number of bytes in place of those that were read before; false where the file has fewer, or fails.
+    fn fill(&mut self, count: usize) -> bool {
         match read_some(&mut self.reader, count, &mut self.bytes) {
-            Ok(is_whole) => Ok(is_whole),
-            Err(error) => Err(MakingError::of_file(self.alloc, &error, self.name)),
+            Ok(is_whole) => is_whole,
+            Err(error) => {
+                self.failure = Some(MakingError::of_file(self.alloc, &error, self.name));
+                false
+            }
         }
     }
 
     /// The number of four bytes at a place of what was read; 0 where it has fewer.
     fn long(&self, at: usize) -> usize {
-        self.order.long(self.bytes(), at).unwrap_or(0) as usize
+        self.order.long(self.bytes(), at) as usize
     }
 
     /// The number of two bytes at a place of what was read; 0 where it has fewer.
     fn short(&self, at: usize) -> usize {
-        usize::from(self.order.short(self.bytes(), at).unwrap_or(0))
+        usize::from(self.order.short(self.bytes(), at))
     }
 }
 
-/// The order of bytes that a mark stands for, if it is one of these.
+/// The order of bytes that a mark stands for, if what was found begins with one of these.
 fn order_of(marks: &[(&[u8], ByteOrder)], found: &[u8]) -> Option<ByteOrder> {
     for (mark, order) in marks {
-        if *mark == found {
+        if found.starts_with(mark) {
             return Some(*order);
         }
     }

@@ -13,15 +13,12 @@ impl fmt::Display for LineHead<'_> {
     fn fmt<W: fmt::Write>(&self, f: &mut fmt::Formatter<W>) -> fmt::Result {
         let line = self.0;
         for byte in &line[..line.len().min(WIDTH)] {
-            if byte.is_ascii_graphic() || *byte == b' ' {
-                f.write_char(char::from(*byte))?;
-            } else {
-                write!(f, "\\x{byte:02x}")?;
-            }
+            let written = match *byte {
+                b' '..=b'~' => f.write_char(char::from(*byte)),
+                _ => write!(f, "\\x{byte:02x}"),
+            };
+            written?;
         }
-        if line.len() > WIDTH {
-            f.write_str("..")?;
-        }
-        Ok(())
+        f.write_str(if line.len() > WIDTH { ".." } else { "" })
     }
 }

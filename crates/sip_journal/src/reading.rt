@@ -4,10 +4,11 @@ use crate::finder::Finder;
 use crate::judging::JournalJudge;
 use crate::ordering::Order;
 use crate::place::LineHead;
-use crate::source::LogRecord;
+use crate::source::{LogRecord, LogSource};
 use journal_run::{Finding, LogPlace, LogTally, MakingError};
 use log_pairs::Direction;
 use std::alloc::{AllocError, Global};
+use std::io::BufRead;
 use std::net::SocketAddr;
 
 const OUT_OF_ORDER: &str =
@@ -65,17 +66,29 @@ impl<'l> JournalReader<'l> {
         }
     }
 
-    /// Takes the next record.
+    /// Takes the next record of a log; false where there is none.
+    pub fn take_next<B: BufRead>(
+        &mut self,
+        finder: &mut Finder<'_>,
+        source: &mut LogSource<'l, B>,
+    ) -> Result<bool, MakingError> {
+        let Some(record) = source.next(finder)? else {
+            return Ok(false);
+        };
+        self.take(finder, &record)?;
+        Ok(true)
+    }
+
+    /// Takes a record.
     pub fn take(
         &mut self,
         finder: &mut Finder<'_>,
         record: &LogRecord<'l>,
-    ) -> Result<(), MakingError> {
+    ) -> Result<(), AllocError> {
         self.place = record.place;
         self.judge.lines = self.judge.lines.saturating_add(record.lines);
         let Some(said) = finder.find(self.alloc, &record.text)? else {
-            self.judge.skip(record.lines, self.place, &record.text)?;
-            return Ok(());
+            return self.judge.skip(record.lines, self.place, &record.text);
         };
         if let Some(time) = record.time {
             let mut note = String::new(self.alloc);
@@ -88,10 +101,10 @@ impl<'l> JournalReader<'l> {
         if let Some(request) = &said.request {
             self.message(said.connection, Direction::Request, request)?;
         }
-        if let Some(response) = &said.response {
-            self.message(said.connection, Direction::Response, response)?;
+        match &said.response {
+            Some(response) => self.message(said.connection, Direction::Response, response),
+            None => Ok(()),
         }
-        Ok(())
     }
 
     /// Takes a message.
@@ -100,7 +113,7 @@ impl<'l> JournalReader<'l> {
         connection: &[u8],
         side: Direction,
         message: &[u8],
-    ) -> Result<(), MakingError> {
+    ) -> Result<(), AllocError> {
         self.judge.judge(self.place, connection, side, message)?;
         let connection = Vec::from_slice(self.alloc, connection)?;
         let message = Vec::from_slice(self.alloc, message)?;
@@ -113,11 +126,9 @@ impl<'l> JournalReader<'l> {
     }
 
     /// Nothing more comes of the connection of a client, which its address and port name.
-    pub fn over(&mut self, client: SocketAddr) -> Result<(), MakingError> {
-        let name = format!(in self.alloc; "{client}")?;
-        let connection = name.as_str().as_bytes();
-        self.judge.over(connection)?;
-        let connection = Vec::from_slice(self.alloc, connection)?;
+    pub fn over(&mut self, client: SocketAddr) -> Result<(), AllocError> {
+        let connection = format!(in self.alloc; "{client}")?.into_bytes();
+        self.judge.over(&connection)?;
         self.found.push(Finding::Over(connection))?;
         Ok(())
     }
@@ -170,11 +181,8 @@ impl<'l> JournalReader<'l> {
 
     /// Has a text reported.
     fn note(&mut self, text: Result<String, AllocError>) -> Result<(), AllocError> {
-        let text = text?;
-        match self.found.push(Finding::Note(text)) {
-            Ok(()) => Ok(()),
-            Err(_) => Err(AllocError),
-        }
+        self.found.push(Finding::Note(text?))?;
+        Ok(())
     }
 
     /// Reports what was odd.
@@ -188,12 +196,18 @@ impl<'l> JournalReader<'l> {
 
     /// What was counted.
     pub fn tally(&self) -> LogTally {
+        let judge = &self.judge;
         LogTally {
             is_of_packets: matches!(self.kind, InputKind::Packets),
+            lines: judge.lines,
+            skipped: judge.skipped,
+            messages: judge.messages,
+            unknown: judge.unknown,
+            wrong: judge.wrong,
+            lacking: judge.lacking(),
             falls: self.order.falls,
             gaps: self.gaps,
             parts: self.broken,
-            ..self.judge.tally()
         }
     }
 }

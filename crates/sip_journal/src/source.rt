@@ -35,6 +35,8 @@ pub struct LogSource<'l, B> {
     clock: Onward,
     /// Its time, or that of the one before where it has none.
     due: u64,
+    /// Why no more can be read, where that isn't the end of the log.
+    failure: Option<MakingError>,
 }
 
 impl<B: Drop> Drop for LogSource<'_, B> {
@@ -46,6 +48,7 @@ impl<B: Drop> Drop for LogSource<'_, B> {
             ahead: _,
             clock: _,
             due: _,
+            failure: _,
         } = self;
     }
 }
@@ -60,6 +63,7 @@ impl<'l, B: BufRead> LogSource<'l, B> {
             ahead: None,
             clock: Onward::new(),
             due: 0,
+            failure: None,
         }
     }
 
@@ -79,16 +83,17 @@ impl<'l, B: BufRead> LogSource<'l, B> {
     /// The next record, if there is one.
     pub fn next(&mut self, finder: &mut Finder<'_>) -> Result<Option<LogRecord<'l>>, MakingError> {
         let mut text = Vec::new(self.alloc);
-        if !self.read_line(&mut text)? {
-            return Ok(None);
-        }
+        let mut lines = u64::from(self.read_line(&mut text));
         let place = self.place;
-        let mut lines = 1;
-        if finder.is_mark(&text) {
+        if lines == 1 && finder.is_mark(&text) {
             text.push(b'\n')?;
-            if self.read_line(&mut text)? {
-                lines = 2;
-            }
+            lines += u64::from(self.read_line(&mut text));
+        }
+        if let Some(error) = self.failure.take() {
+            return Err(error);
+        }
+        if lines == 0 {
+            return Ok(None);
         }
         if finder.reads_json() {
             if let Some(plain) = plain_line(self.alloc, &text)? {
@@ -104,34 +109,40 @@ impl<'l, B: BufRead> LogSource<'l, B> {
         }))
     }
 
-    /// The first lines of a log with their ends, at most this number.
-    pub fn first_lines(&mut self, most: usize) -> Result<Vec<u8>, MakingError> {
-        let mut text = Vec::new(self.alloc);
+    /// Adds the next lines to a text, at most this number, with their ends.
+    pub fn read_lines(&mut self, most: usize, text: &mut Vec<u8>) -> Result<(), MakingError> {
         for _ in 0..most {
-            if !self.read_whole_line(&mut text)? {
+            if !self.read_whole_line(text) {
                 break;
             }
         }
-        Ok(text)
-    }
-
-    /// Adds the next line to a text, with its end; false where there is none.
-    fn read_whole_line(&mut self, text: &mut Vec<u8>) -> Result<bool, MakingError> {
-        match self.reader.read_until(b'\n', text) {
-            Ok(count) => Ok(count > 0),
-            Err(error) => Err(MakingError::of_file(self.alloc, &error, self.place.log)),
+        match self.failure.take() {
+            Some(error) => Err(error),
+            None => Ok(()),
         }
     }
 
-    /// Adds the next line to a text, without its end; false where there is none.
-    fn read_line(&mut self, text: &mut Vec<u8>) -> Result<bool, MakingError> {
-        if !self.read_whole_line(text)? {
-            return Ok(false);
+    /// Adds the next line to a text, with its end; false where there is none, or it can't be read.
+    fn read_whole_line(&mut self, text: &mut Vec<u8>) -> bool {
+        match self.reader.read_until(b'\n', text) {
+            Ok(count) => count > 0,
+            Err(error) => {
+                let failure = MakingError::of_file(self.alloc, &error, self.place.log);
+                self.failure = Some(failure);
+                false
+            }
+        }
+    }
+
+    /// Adds the next line to a text, without its end; false where there is none, or it can't be read.
+    fn read_line(&mut self, text: &mut Vec<u8>) -> bool {
+        if !self.read_whole_line(text) {
+            return false;
         }
         self.place.line = self.place.line.saturating_add(1);
         without(text, b'\n');
         without(text, b'\r');
-        Ok(true)
+        true
     }
 
     /// Reads the next record ahead, and the time when it is due.

@@ -82,8 +82,8 @@ fn epoch(head: &[u8]) -> Option<u64> {
 /// The number that a count of digits spells, from a place on.
 fn number(text: &[u8], from: usize, count: usize) -> Option<u64> {
     let mut number: u64 = 0;
-    for byte in text.get(from..from.checked_add(count)?)? {
-        number = number.checked_mul(10)?.checked_add(digit(*byte)?)?;
+    for byte in text.get(from..from.saturating_add(count))? {
+        number = number.saturating_mul(10).saturating_add(digit(*byte)?);
     }
     Some(number)
 }
@@ -95,7 +95,7 @@ fn digit(byte: u8) -> Option<u64> {
 
 /// The seconds of a clock that a text begins with.
 fn clock(text: &[u8]) -> Option<u64> {
-    if *text.get(2)? != b':' || *text.get(5)? != b':' {
+    if !matches!(text, [_, _, b':', _, _, b':', ..]) {
         return None;
     }
     let hours = number(text, 0, 2)?;
@@ -110,7 +110,7 @@ fn clock(text: &[u8]) -> Option<u64> {
 
 /// The number of the day whose date a text ends with, with a space or a T after it: year, month and day.
 fn whole_date(text: &[u8]) -> Option<u64> {
-    let date = text.get(text.len().checked_sub(11)?..)?;
+    let date = text.last_chunk::<11>()?;
     let year = number(date, 0, 4)?;
     let month = number(date, 5, 2)?;
     let day = number(date, 8, 2)?;
@@ -119,22 +119,18 @@ fn whole_date(text: &[u8]) -> Option<u64> {
 
 /// The same of the name of a month, and a day. The year is taken to be a leap year.
 fn yearless_date(text: &[u8]) -> Option<u64> {
-    let date = text.get(text.len().checked_sub(7)?..)?;
-    let name = date.get(..3)?;
-    let month = MONTHS.iter().position(|month| *month == name)? as u64;
-    let day = match *date.get(4)? {
-        b' ' => number(date, 5, 1)?,
-        _ => number(date, 4, 2)?,
-    };
-    day_number(2000, month.checked_add(1)?, day)
+    let date = text.last_chunk::<7>()?;
+    let month = MONTHS.iter().position(|name| date.starts_with(name))?;
+    let from = if date[4] == b' ' { 5 } else { 4 };
+    let day = number(date, from, 6 - from)?;
+    day_number(2000, (month as u64).saturating_add(1), day)
 }
 
 fn day_number(year: u64, month: u64, day: u64) -> Option<u64> {
-    let day = Day::of(
-        u16::try_from(year).ok()?,
-        u8::try_from(month).ok()?,
-        u8::try_from(day).ok()?,
-    )?;
+    if year > 9999 || month > 12 || day > 31 {
+        return None;
+    }
+    let day = Day::of(year as u16, month as u8, day as u8)?;
     Some(u64::from(day.number()))
 }
 
@@ -171,10 +167,8 @@ fn without_zone(local: u64, text: &[u8]) -> u64 {
 
 fn minutes_of(text: &[u8]) -> Option<u64> {
     let hours = number(text, 0, 2)?;
-    let minutes = match *text.get(2)? {
-        b':' => number(text, 3, 2)?,
-        _ => number(text, 2, 2)?,
-    };
+    let has_colon = matches!(text, [_, _, b':', ..]);
+    let minutes = number(text, if has_colon { 3 } else { 2 }, 2)?;
     Some(hours.saturating_mul(60).saturating_add(minutes))
 }
 

@@ -25,14 +25,16 @@ struct Fit {
 
 /// A table of the presets, the best first: exchanges, odd messages and skipped lines of the first lines of a log.
 pub fn try_presets<R: Files + AllocGlobal>(rt: &R, log: &str) -> Result<String, MakingError> {
-    let alloc = rt.alloc();
-    let text = {
-        let mut source = open_log(rt, log, false)?;
-        source.first_lines(LINES)?
-    };
+    let mut text = Vec::new(rt.alloc());
+    open_log(rt, log, false)?.read_lines(LINES, &mut text)?;
+    fits_of(rt.alloc(), log, &text)
+}
+
+/// The table of what the presets find in the lines of a log.
+fn fits_of(alloc: Global, log: &str, text: &[u8]) -> Result<String, MakingError> {
     let mut fits = Vec::new(alloc);
     for (name, form) in &PRESETS {
-        fits.push(fit_of(alloc, name, *form, log, &text)?)?;
+        fits.push(fit_of(alloc, name, *form, log, text)?)?;
     }
     fits.sort_by(|one, other| {
         other
@@ -90,10 +92,9 @@ fn read<'l>(
     making: &mut Making,
 ) -> Result<(), MakingError> {
     for _ in 0..LINES {
-        let Some(record) = source.next(finder)? else {
+        if !reading.take_next(finder, source)? {
             break;
-        };
-        reading.take(finder, &record)?;
+        }
         take_all(&reading.found, making)?;
         reading.found.clear();
     }

@@ -1,3 +1,4 @@
+pub mod Causes
 pub mod Ends
 pub mod Pairs
 pub mod Shown

@@ -1,6 +1,7 @@
 -- A journal that is under way: what each step of the run leaves of that.
 use Rattle.std.proofs.Common.{◌≡◌, ◌+◌, ℕ, List, [], ◌++◌, length, Bool, false, true, Option, Some, None, refl, sym, ap, subst, arith, append_assoc, length-append, ◌∙◌}
 use Rattle.std.proofs.lemmas.List.{append-nil}
+use Rattle.std.specs.Prelude.{⊤}
 use Rattle.csv_table.specs.Text.{table_text}
 use Rattle.log_pairs.specs.Rows.{rows_from}
 use Rattle.log_pairs.specs.Pairs.{Open, Pair, Said, pairs_of, to_come}
@@ -8,12 +9,14 @@ use Rattle.outside.specs.Events.{Did, Event}
 use Rattle.journal_run.specs.Found.{found_more}
 use Rattle.journal_run.specs.Heard.{Sums, sums_of}
 use Rattle.journal_run.specs.Making.{Closes, Settles, Stays, TakesAll}
-use Rattle.journal_run.specs.Printing.{BreaksOff, FailsToPrint, HasPrinted, Prints, shown, to_print}
-use Rattle.journal_run.specs.Run.{IsBrokenOff, IsPrinted, IsUnderWay, journal_text}
+use Rattle.journal_run.specs.Printing.{BreaksOff, HasPrinted, Prints, shown, to_print}
+use Rattle.journal_run.specs.Run.{FindsNothing, HasCause, IsBrokenOff, IsPrinted, IsUnderWay, journal_text}
 use Rattle.journal_run.specs.declared.making.Making.{Making}
 use Rattle.journal_run.specs.declared.stop.JournalStop.{JournalStop}
 use Rattle.journal_run.specs.declared.stop.JournalStop.TheVariants as stops
 use Rattle.journal_run.specs.declared.stop.MakingError.{MakingError}
+use Rattle.journal_run.specs.declared.tally.LogTally.{LogTally}
+use Rattle.journal_run.proofs.Causes.{either}
 use Rattle.journal_run.proofs.Shown.{broken, broken-later, printed-both, printed-none, shown-more}
 use Rattle.journal_run.proofs.Taking.{heard-both}
 use Rattle.log_pairs.proofs.Journals.{joined}
@@ -90,10 +93,14 @@ begun-so first said taken m s =
           ∙ append_assoc (shown m.begun first taken) (to_print m) later,
     )
 
--- a stop that prints nothing, though more was found
-pub under-stopped : (first : ℕ) (begin mid now : Option (List Event)) (start found more : Option (List Said)) (xs : List Said) (m : Making) (stop : JournalStop)
-    → IsUnderWay first begin mid start found m → more ≡ found_more xs found → Did (Prints []) mid now → FailsToPrint [] stop [] → IsBrokenOff first begin now start more stop
-under-stopped first begin mid now start found more xs m stop (heard, said, taken, is, h, s, printed) found-is told fails =
+-- whatever was counted
+abbrev anything : LogTally → Type 0
+anything tally = ⊤
+
+-- nothing more is found, for this reason, which is no journal of no use
+pub under-source : (first : ℕ) (begin mid now : Option (List Event)) (start found more : Option (List Said)) (xs : List Said) (m : Making) (error : MakingError)
+    → IsUnderWay first begin mid start found m → more ≡ found_more xs found → Did (Prints []) mid now → IsBrokenOff first true anything ⊤ begin now start more (stops.Source error)
+under-source first begin mid now start found more xs m error (heard, said, taken, is, h, s, printed) found-is told =
     let (rest, text) = begun-so first said taken m s in
     let so_far : Did (Prints (shown m.begun first taken)) begin now
     = subst (λ (t : List ℕ). Did (Prints t) begin now) (append-nil (shown m.begun first taken)) (printed-both (shown m.begun first taken) [] begin mid now printed told) in (
@@ -102,23 +109,19 @@ under-stopped first begin mid now start found more xs m stop (heard, said, taken
       said,
       found-is ∙ ap (found_more xs) is ∙ found-both heard xs start,
       h,
-      broken (shown m.begun first taken) [] rest (journal_text first (pairs_of said)) stop begin now now text so_far ([], refl, fails),
+      tt,
+      broken (shown m.begun first taken) [] rest (journal_text first (pairs_of said)) (stops.Source error) begin now now text so_far ([], refl, refl),
     )
 
--- nothing more is found, for this reason
-pub under-source : (first : ℕ) (begin mid now : Option (List Event)) (start found more : Option (List Said)) (xs : List Said) (m : Making) (error : MakingError)
-    → IsUnderWay first begin mid start found m → more ≡ found_more xs found → Did (Prints []) mid now → IsBrokenOff first begin now start more (stops.Source error)
-under-source first begin mid now start found more xs m error under is told = under-stopped first begin mid now start found more xs m (stops.Source error) under is told refl
-
 pub under-ended : (first : ℕ) (begin now : Option (List Event)) (start found : Option (List Said)) (m : Making) (error : MakingError)
-    → IsUnderWay first begin now start found m → IsBrokenOff first begin now start found (stops.Source error)
-under-ended first begin now start found m error under =
-    under-stopped first begin now now start found found [] m (stops.Source error) under (sym (found-none found)) (printed-none now) refl
+    → IsUnderWay first begin now start found m → IsBrokenOff first true anything ⊤ begin now start found (stops.Source error)
+under-ended first begin now start found m error under = under-source first begin now now start found found [] m error under (sym (found-none found)) (printed-none now)
 
 -- a stop while rows are printed
-pub under-broken : (first : ℕ) (begin mid now : Option (List Event)) (start found : Option (List Said)) (m : Making) (stop : JournalStop)
-    → IsUnderWay first begin mid start found m → Did (BreaksOff (to_print m) stop) mid now → IsBrokenOff first begin now start found stop
-under-broken first begin mid now start found m stop (heard, said, taken, is, h, s, printed) breaks =
+pub under-broken : (first : ℕ) (force : Bool) (counts : LogTally → Type 0) (at_end : Type 0) (begin mid now : Option (List Event)) (start found : Option (List Said)) (m : Making)
+    (stop : JournalStop) → IsUnderWay first begin mid start found m → HasCause force counts ⊥ stop → Did (BreaksOff (to_print m) stop) mid now
+    → IsBrokenOff first force counts at_end begin now start found stop
+under-broken first force counts at_end begin mid now start found m stop (heard, said, taken, is, h, s, printed) cause breaks =
     let all : pairs_of said ≡ (taken ++ m.ready.items) ++ to_come m.pairing [] = ap pairs_of (sym (append-nil said)) ∙ s.keeps.settles.pairs [] in
     let later : List ℕ = table_text (rows_from (first + length (taken ++ m.ready.items)) (to_come m.pairing [])) in
     let text : journal_text first (pairs_of said) ≡ shown m.begun first taken ++ (to_print m ++ later)
@@ -129,6 +132,7 @@ under-broken first begin mid now start found m stop (heard, said, taken, is, h, 
       said,
       is ∙ ap (λ (xs : List Said). found_more xs start) (sym (append-nil heard)),
       h,
+      either force counts (FindsNothing at_end [] said) stop cause,
       broken-later (shown m.begun first taken) (to_print m) (journal_text first (pairs_of said)) later stop begin mid now text printed breaks,
     )
 
@@ -158,10 +162,12 @@ closed-printed first begin mid now start found old closed new (heard, said, take
         → ◌≡◌ {A = Sums} (record { exchanges = a; unanswered = b; unasked = c }) (record { exchanges = d; unanswered = e; unasked = f })
     same-sums a b c d e f x y z = rw (x, y, z) refl
 
-pub closed-broken : (first : ℕ) (begin mid now : Option (List Event)) (start found : Option (List Said)) (old closed : Making) (stop : JournalStop) → IsUnderWay first begin mid start found old
+pub closed-broken : (first : ℕ) (force : Bool) (counts : LogTally → Type 0) (at_end : Type 0) (begin mid now : Option (List Event)) (start found : Option (List Said)) (old closed : Making)
+    (stop : JournalStop) → IsUnderWay first begin mid start found old
     → closed.begun ≡ old.begun → ((first : ℕ) (said : List Said) (taken : List Pair) → Stays first said taken old → Closes first said taken closed)
-    → Did (BreaksOff (to_print closed) stop) mid now → IsBrokenOff first begin now start found stop
-closed-broken first begin mid now start found old closed stop (heard, said, taken, is, h, s, printed) begun closes breaks =
+    → ((said : List Said) (taken : List Pair) → Closes first said taken closed → HasCause force counts (FindsNothing at_end [] said) stop)
+    → Did (BreaksOff (to_print closed) stop) mid now → IsBrokenOff first force counts at_end begin now start found stop
+closed-broken first force counts at_end begin mid now start found old closed stop (heard, said, taken, is, h, s, printed) begun closes cause breaks =
     let text : journal_text first (pairs_of said) ≡ shown old.begun first taken ++ (to_print closed ++ [])
     = whole-text first said taken closed (closes first said taken s) ∙ ap (λ (b : Bool). shown b first taken ++ to_print closed) begun
     ∙ ap (λ (t : List ℕ). shown old.begun first taken ++ t) (sym (append-nil (to_print closed))) in (
@@ -170,6 +176,7 @@ closed-broken first begin mid now start found old closed stop (heard, said, take
       said,
       is ∙ ap (λ (xs : List Said). found_more xs start) (sym (append-nil heard)),
       h,
+      cause said taken (closes first said taken s),
       broken-later (shown old.begun first taken) (to_print closed) (journal_text first (pairs_of said)) [] stop begin mid now text printed breaks,
     )
 

@@ -1,5 +1,5 @@
 -- What is counted of logs and captures, and the status of that.
-use Rattle.std.specs.Prelude.{◌&&◌, ◌++◌, ◌==◌, ℕ, [], Bool, List, codes, decimal, if◌then◌else◌, nat_lt}
+use Rattle.std.specs.Prelude.{◌&&◌, ◌++◌, ◌+◌, ◌/◌, ◌==◌, ℕ, [], Bool, List, codes, decimal, if◌then◌else◌, nat_lt}
 use Rattle.journal_run.specs.Heard.{Sums}
 use Rattle.journal_run.specs.declared.tally.LogTally.{LogTally}
 
@@ -24,6 +24,10 @@ stretch_counts t = if t.is_of_packets then codes " gaps " ++ decimal t.gaps ++ c
 -- the line of counts
 abbrev pub counts_line : LogTally → Sums → List ℕ
 counts_line t s = head_counts t s.exchanges ++ (spare_counts s.unanswered s.unasked t.skipped ++ (odd_counts t ++ (stretch_counts t ++ codes "\n")))
+
+-- more than one message in ten is odd
+abbrev pub is_too_odd : LogTally → Bool
+is_too_odd t = nat_lt (t.messages / 10) (t.unknown + t.wrong + t.lacking)
 
 -- nothing is odd
 abbrev pub is_clean : LogTally → Bool

@@ -1,5 +1,5 @@
 -- What is printed of a run that stops, and its status.
-use Rattle.std.specs.Prelude.{◌++◌, ℕ, List, codes, string_bytes}
+use Rattle.std.specs.Prelude.{◌++◌, ℕ, List, codes, string_bytes, ⊤}
 use Rattle.journal_run.specs.declared.stop.JournalStop.{JournalStop}
 use Rattle.journal_run.specs.declared.stop.JournalStop.TheVariants as stops
 use Rattle.journal_run.specs.declared.stop.MakingError.{MakingError}
@@ -20,3 +20,13 @@ abbrev pub status_of : JournalStop → ℕ
 status_of (stops.Source (errors.Refused text)) = 2
 status_of (stops.Useless text) = 2
 status_of stop = 3
+
+-- a journal of no use stops the run
+abbrev pub IsUseless : JournalStop → Type 0
+IsUseless (stops.Useless text) = ⊤
+IsUseless stop = ⊥
+
+-- what else stops it
+abbrev pub IsFailure : JournalStop → Type 0
+IsFailure (stops.Useless text) = ⊥
+IsFailure stop = ⊤

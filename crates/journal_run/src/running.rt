@@ -1,12 +1,15 @@
 //! A journal of what a source finds, printed as it becomes whole.
 
-ghost use Rattle.std.specs.Prelude.{◌≡◌, ℕ, IfErr, IfOk, List, OnOk, Option, false, []};
+ghost use Rattle.std.specs.Prelude.{◌≡◌, ◌==◌, ◌⊎◌, ℕ, IfErr, IfOk, List, OnOk, Option, false, true, []};
 ghost use Rattle.log_pairs.specs.Pairs.{Said};
 ghost use Rattle.outside.specs.Events.{Did, Event};
 ghost use Rattle.journal_run.specs.Found.{said_in};
 ghost use Rattle.journal_run.specs.Making.{TakesAll};
 ghost use Rattle.journal_run.specs.Printing.{BreaksOff, HasPrinted, Prints, to_print};
-ghost use Rattle.journal_run.specs.Run.{IsBrokenOff, IsPrinted, IsUnderWay};
+ghost use Rattle.journal_run.specs.Counts.{is_too_odd};
+ghost use Rattle.journal_run.specs.Run.{HasCause, IsBrokenOff, IsPrinted, IsUnderWay, IsWanted};
+ghost use Rattle.journal_run.specs.Stops.{IsUseless};
+ghost use Rattle.journal_run.specs.declared.tally.LogTally.{LogTally};
 
 use crate::batch::take_all;
 use crate::finding::Finding;
@@ -42,15 +45,36 @@ pub fn run_through<O: Outside, S: ExchangeSource>(
     making: &mut Making,
 ) -> Result<(), JournalStop>
     ensures end { OnOk result (S.at_end source.new) }
+    ensures wanted { OnOk result (IsWanted force (S.counts source.new) making.new.exchanges) }
     ensures printed { OnOk result ((first : ℕ) (begin : Option (List Event)) (start : Option (List Said)) → IsUnderWay first begin (O.log outside.old) start (S.found source.old) making.old
         → IsPrinted first begin (O.log outside.new) start (S.found source.new) making.new) }
     ensures stops { IfErr result (λ stop. (first : ℕ) (begin : Option (List Event)) (start : Option (List Said)) → IsUnderWay first begin (O.log outside.old) start (S.found source.old) making.old
-        → IsBrokenOff first begin (O.log outside.new) start (S.found source.new) stop) }
+        → IsBrokenOff first force (S.counts source.new) (S.at_end source.new) begin (O.log outside.new) start (S.found source.new) stop) }
 {
     find_all(outside, alloc, force, source, making)?;
     making.close()?;
-    print_useful(outside, force, source, making)?;
+    check_found(force, source, making)?;
+    print_good(outside, force, source, making)?;
     Ok(())
+}
+
+/// Refuses a journal without exchanges, unless it is wanted all the same.
+fn check_found<S: ExchangeSource>(
+    force: bool,
+    source: &S,
+    making: &Making,
+) -> Result<(), JournalStop>
+    ensures found { OnOk result ((force ≡ true) ⊎ ((making.now.exchanges == 0) ≡ false)) }
+    ensures cause { IfErr result (λ stop. IsUseless stop × (force ≡ false) × (making.now.exchanges ≡ 0)) }
+{
+    if force || making.exchanges > 0 {
+        return Ok(());
+    }
+    Err(JournalStop::Useless(if source.tally().is_of_packets {
+        NOTHING_IN_PACKETS
+    } else {
+        NOTHING_IN_LINES
+    }))
 }
 
 /// Takes all that the source finds, and prints the rows that are whole.
@@ -65,7 +89,7 @@ fn find_all<O: Outside, S: ExchangeSource>(
     ensures goes { OnOk result ((first : ℕ) (begin : Option (List Event)) (start : Option (List Said)) → IsUnderWay first begin (O.log outside.old) start (S.found source.old) making.old
         → IsUnderWay first begin (O.log outside.new) start (S.found source.new) making.new) }
     ensures stops { IfErr result (λ stop. (first : ℕ) (begin : Option (List Event)) (start : Option (List Said)) → IsUnderWay first begin (O.log outside.old) start (S.found source.old) making.old
-        → IsBrokenOff first begin (O.log outside.new) start (S.found source.new) stop) }
+        → IsBrokenOff first force (S.counts source.new) (S.at_end source.new) begin (O.log outside.new) start (S.found source.new) stop) }
 {
     let mut batch = Vec::new(alloc);
     // the turns are counted, so that the loop is known to end
@@ -90,7 +114,7 @@ fn find_more<O: Outside, S: ExchangeSource>(
     ensures goes { OnOk result ((first : ℕ) (begin : Option (List Event)) (start : Option (List Said)) → IsUnderWay first begin (O.log outside.old) start (S.found source.old) making.old
         → IsUnderWay first begin (O.log outside.new) start (S.found source.new) making.new) }
     ensures stops { IfErr result (λ stop. (first : ℕ) (begin : Option (List Event)) (start : Option (List Said)) → IsUnderWay first begin (O.log outside.old) start (S.found source.old) making.old
-        → IsBrokenOff first begin (O.log outside.new) start (S.found source.new) stop) }
+        → IsBrokenOff first force (S.counts source.new) (S.at_end source.new) begin (O.log outside.new) start (S.found source.new) stop) }
 {
     batch.clear();
     let more = source.next(batch)?;
@@ -137,50 +161,46 @@ fn print_full<O: Outside, S: ExchangeSource>(
     ensures goes { OnOk result ((first : ℕ) (begin : Option (List Event)) (start found : Option (List Said)) → IsUnderWay first begin (O.log outside.old) start found making.old
         → IsUnderWay first begin (O.log outside.new) start found making.new) }
     ensures stops { IfErr result (λ stop. (first : ℕ) (begin : Option (List Event)) (start found : Option (List Said)) → IsUnderWay first begin (O.log outside.old) start found making.old
-        → IsBrokenOff first begin (O.log outside.new) start found stop) }
+        → IsBrokenOff first force (S.counts source.now) (S.at_end source.now) begin (O.log outside.new) start found stop) }
 {
     if !making.is_full() {
         return Ok(());
     }
-    print_useful(outside, force, source, making)?;
+    print_good(outside, force, source, making)?;
     Ok(())
 }
 
-/// Prints the rows that are whole, if it is a journal of use, or is wanted all the same.
-fn print_useful<O: Outside, S: ExchangeSource>(
+/// Prints the rows that are whole, unless too much is odd; or where they are wanted all the same.
+fn print_good<O: Outside, S: ExchangeSource>(
     outside: &mut O,
     force: bool,
     source: &S,
     making: &mut Making,
 ) -> Result<(), JournalStop>
+    ensures good { OnOk result ((force ≡ true) ⊎ ((tally : LogTally) × S.counts source.now tally × (is_too_odd tally ≡ false))) }
     ensures printed { OnOk result (HasPrinted making.old making.new) }
     ensures text { OnOk result (Did (Prints (to_print making.old)) (O.log outside.old) (O.log outside.new)) }
+    ensures cause { IfErr result (HasCause force (S.counts source.now) ⊥) }
     ensures stops { IfErr result (λ stop. Did (BreaksOff (to_print making.old) stop) (O.log outside.old) (O.log outside.new)) }
 {
     if !force {
-        if let Some(why) = useless(making.exchanges, &source.tally()) {
-            return Err(JournalStop::Useless(why));
-        }
+        refuse_odd(&source.tally())?;
     }
     making.print(outside)?;
     Ok(())
 }
 
-/// Why a journal is of no use, if it is of none: nothing was found, or too much of it is odd.
-fn useless(exchanges: u64, tally: &LogTally) -> Option<&'static str> {
-    if exchanges == 0 {
-        Some(if tally.is_of_packets {
-            NOTHING_IN_PACKETS
-        } else {
-            NOTHING_IN_LINES
-        })
-    } else if tally.is_too_odd() {
-        Some(if tally.is_of_packets {
-            ODD_PACKETS
-        } else {
-            ODD_LINES
-        })
-    } else {
-        None
+/// Refuses a journal of which too much is odd.
+fn refuse_odd(tally: &LogTally) -> Result<(), JournalStop>
+    ensures good { OnOk result (is_too_odd tally.now ≡ false) }
+    ensures cause { IfErr result (λ stop. IsUseless stop × (is_too_odd tally.now ≡ true)) }
+{
+    if !tally.is_too_odd() {
+        return Ok(());
     }
+    Err(JournalStop::Useless(if tally.is_of_packets {
+        ODD_PACKETS
+    } else {
+        ODD_LINES
+    }))
 }

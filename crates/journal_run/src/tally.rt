@@ -1,7 +1,8 @@
 //! What is counted of logs and captures.
 
-ghost use Rattle.std.specs.Prelude.{◌≡◌, ◌++◌, Some};
-ghost use Rattle.journal_run.specs.Counts.{counts_line, ended_status, head_counts, is_clean, is_complete, odd_counts, spare_counts, stretch_counts};
+ghost use Rattle.std.specs.Prelude.{◌≡◌, ◌+◌, ◌++◌, Some, min};
+ghost use Rattle.journal_run.specs.Heard.{top};
+ghost use Rattle.journal_run.specs.Counts.{counts_line, ended_status, head_counts, is_clean, is_complete, is_too_odd, odd_counts, spare_counts, stretch_counts};
 
 use std::fmt;
 
@@ -39,7 +40,9 @@ pub struct LogTally {
 
 impl LogTally {
     /// All messages that are odd.
-    pub fn odd(&self) -> u64 {
+    pub fn odd(&self) -> u64
+        ensures { result ≡ min top (self.now.unknown + self.now.wrong + self.now.lacking) }
+    {
         self.unknown
             .saturating_add(self.wrong)
             .saturating_add(self.lacking)
@@ -51,7 +54,9 @@ impl LogTally {
     }
 
     /// Whether more than one message in ten is odd.
-    pub(crate) fn is_too_odd(&self) -> bool {
+    pub(crate) fn is_too_odd(&self) -> bool
+        ensures { result ≡ is_too_odd self.now }
+    {
         self.odd() > self.messages / TOLERATED
     }
 

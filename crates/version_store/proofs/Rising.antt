@@ -95,7 +95,7 @@ put_in (x ∷ ns) (suc i) n m =
     ap (λ b. eq_by_cmp nat_cmp x m || b) (put_in ns i n m)
     ∙ or_later (eq_by_cmp nat_cmp n m) (has ns m) (eq_by_cmp nat_cmp x m)
 
-pub has_put : (ns ms : List ℕ) (i n : ℕ) → ms ≡ insert ns i n → (m : ℕ) → has ms m ≡ cond (eq_by_cmp nat_cmp n m) true (has ns m)
+has_put : (ns ms : List ℕ) (i n : ℕ) → ms ≡ insert ns i n → (m : ℕ) → has ms m ≡ cond (eq_by_cmp nat_cmp n m) true (has ns m)
 has_put ns ms i n is m = ap (λ l. has l m) is ∙ put_in ns i n m
 
 -- a line that was there
@@ -147,17 +147,17 @@ take_at (x ∷ ns) n (suc i) m rise l e =
     ∙ but_later (eq_by_cmp nat_cmp n m) (has ns m) (eq_by_cmp nat_cmp x m)
     (λ t. apart x m (λ s. omega (arith, rise 0 (suc i) 0 (omega arith) l, is_one n m t, s, e)))
 
-pub has_out : (ns : List ℕ) (n i : ℕ) → Rising ns → StandsAt ns n i → (m : ℕ) → has (remove ns i) m ≡ cond (eq_by_cmp nat_cmp n m) false (has ns m)
+has_out : (ns : List ℕ) (n i : ℕ) → Rising ns → StandsAt ns n i → (m : ℕ) → has (remove ns i) m ≡ cond (eq_by_cmp nat_cmp n m) false (has ns m)
 has_out ns n i rise at m = take_at ns n i m rise at.within at.same
 
 -- a line that wasn't there
-pub has_never : (ns : List ℕ) (n i : ℕ) → GoesTo ns n i → (m : ℕ) → has ns m ≡ cond (eq_by_cmp nat_cmp n m) false (has ns m)
+has_never : (ns : List ℕ) (n i : ℕ) → GoesTo ns n i → (m : ℕ) → has ns m ≡ cond (eq_by_cmp nat_cmp n m) false (has ns m)
 has_never ns n i gap m = but_none _ _ (λ e. ap (has ns) (sym (is_one n m e)) ∙ has_none ns n (λ k l s. elim (cases_lt k i) [
   | inl b ↦ omega (arith, gap.below k b, s)
   | inr b ↦ omega (arith, gap.above k (omega (arith, b)) l, s)
 ]))
 
-pub rising_out : (ns : List ℕ) (n i : ℕ) → Rising ns → StandsAt ns n i → Rising (remove ns i)
+rising_out : (ns : List ℕ) (n i : ℕ) → Rising ns → StandsAt ns n i → Rising (remove ns i)
 rising_out ns n i rise at = all_pairs_remove (λ a b. a < b) ns i at.within rise
 
 -- ---- the greatest line below
@@ -177,7 +177,7 @@ last_is ns below count n rise are some is = (
 pub last_below : (ns : List ℕ) (below count n : ℕ) → Rising ns → AreBelow ns below count → 0 < count → n ≡ get_or ns (count - 1) n → IsLatest (has ns) below (Some n)
 last_below ns below count n rise are some is = last_is ns below count n rise are some (is ∙ get_or_default ns (count - 1) n 0 (omega (arith, some, are.within)))
 
--- ---- the newest line behind the older ones
+-- ---- the newest line after the older ones
 length_end : (ns : List ℕ) (n : ℕ) → length (ns ++ n ∷ []) ≡ length ns + 1
 length_end [] n = refl
 length_end (x ∷ ns) n = omega (arith, length_end ns n)
@@ -224,7 +224,7 @@ at_front ns n m i at = record { within = omega (arith, at.within, length_end ns 
 pub at_end : (ns : List ℕ) (n : ℕ) → StandsAt (ns ++ n ∷ []) n (length ns)
 at_end ns n = record { within = omega (arith, length_end ns n); same = end_at ns n }
 
-pub gap_front : (ns : List ℕ) (n m i : ℕ) → GoesTo ns m i → m < n → GoesTo (ns ++ n ∷ []) m i
+gap_front : (ns : List ℕ) (n m i : ℕ) → GoesTo ns m i → m < n → GoesTo (ns ++ n ∷ []) m i
 gap_front ns n m i gap less = record {
   within = omega (arith, gap.within, length_end ns n);
   below = λ j l. omega (arith, gap.below j l, front_at ns n j 0 (omega (arith, l, gap.within)));

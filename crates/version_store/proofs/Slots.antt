@@ -1,5 +1,5 @@
 -- The index, after a change of one slot or of what the parts have.
-use Rattle.std.proofs.Common.{◌≡◌, ◌≤◌, ℕ, zero, suc, Bool, true, false, cond, Option, Some, None, Result, Ok, Err, List, [], ◌∷◌, length, refl, sym, ap, ◌∙◌, inl, inr, length-set}
+use Rattle.std.proofs.Common.{◌≡◌, ◌≤◌, ℕ, zero, suc, Bool, true, false, cond, Some, None, Result, Ok, Err, List, [], ◌∷◌, length, refl, sym, ap, ◌∙◌, inl, inr, length-set}
 use Rattle.std.specs.Prelude.{OnErr, OnOk, replicate, slice_get, slice_set}
 use Rattle.std.specs.Option.{option_flatten}
 use Rattle.std.specs.Ordering.{nat_cmp, eq_by_cmp}
@@ -27,7 +27,7 @@ with_same : (s : Slot) (f g : Key → ℕ → Bool) (q : Key) (m : ℕ) → g q 
 with_same None f g q m e = refl
 with_same (Some p) f g q m e = ap (λ b. cond (eq_by_cmp key_cmp p.0 q) (has p.1 m) b) e
 
-pub changed_at : (slots : List Slot) (i : ℕ) (p new : Slot) (f g : Key → ℕ → Bool) (k : Key) (n : ℕ) (w : Bool)
+changed_at : (slots : List Slot) (i : ℕ) (p new : Slot) (f g : Key → ℕ → Bool) (k : Key) (n : ℕ) (w : Bool)
     → i ≡ position_in (length slots) k
     → slice_get slots i ≡ Some p
     → ((q : Key) (m : ℕ) → position_in (length slots) q ≡ i → by_slot new g q m ≡ with_at k n w (by_slot p f) q m)
@@ -84,7 +84,7 @@ other_changed slots i own k was f g n w here there apart v =
     (λ t. ap (eq_by_cmp key_cmp own) (sym (same_key k q t)) ∙ sym apart))
     (λ q m away. elsewhere slots i k f g n w here v q m away)
 
--- a key comes to a slot that has none
+-- a key in a slot that had none
 pub first_in : (slots : List Slot) (i : ℕ) (k : Key) (f : Key → ℕ → Bool) (n : ℕ)
     → i ≡ position_in (length slots) k
     → slice_get slots i ≡ Some None

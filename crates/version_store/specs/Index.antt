@@ -36,7 +36,7 @@ column_at parts i k = option_and_then (λ part. get key_cmp part k) (slice_get p
 abbrev pub in_parts : List Part → Key → ℕ → Bool
 in_parts parts k n = in_column (column_at parts (position_in (length parts) k) k) n
 
--- a key, if one came to the slot, and its column
+-- the key that is in the slot, if one is, and its column
 abbrev pub Slot : Type 0
 Slot = Option (Key × List ℕ)
 

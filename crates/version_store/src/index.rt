@@ -12,15 +12,15 @@ use std::alloc::{AllocError, Global};
 /// There is a slot for each two lines, so that most keys are in their slots.
 const LINES_A_SLOT: usize = 2;
 
-/// For each key the lines that have an entry there. A key's hash chooses its slot. The first key that comes to a slot stays there,
-/// and most look-ups go no further. A key whose slot another has is in the parts.
+/// For each key the lines that have an entry there. A key's hash chooses its slot. The first key of a slot stays in it, and most
+/// look-ups go no further. A key whose slot is another's is in the parts.
 pub struct KeyIndex {
     slots: Vec<KeySlot>,
     others: KeyParts,
     ghost kept: { (k : Key) (n : ℕ) → slot_of slots.items k ≡ None → in_parts others.parts.items k n ≡ false },
 }
 
-/// A key, if one came, and its lines.
+/// The key that is in the slot, if one is, and its lines.
 type KeySlot = Option<(Key, Column)>;
 
 impl Drop for KeyIndex {

@@ -1,7 +1,8 @@
 //! The entries of one line.
 
-ghost use Rattle.std.specs.Prelude.{◌≡◌, ◌^◌, ◌<◌, OnOk, OnErr, Some, None, MatchOption, MatchResult, length, slice_get, option_map};
+ghost use Rattle.std.specs.Prelude.{◌≡◌, ◌^◌, ◌<◌, ◌≤◌, OnOk, OnErr, Some, None, MatchOption, MatchResult, length, slice_get, option_map};
 ghost use Rattle.std.specs.FinMap as fin;
+ghost use Rattle.std.specs.List.{insert};
 ghost use Rattle.version_store.specs.Entries.{AllOf, IsLeastLeft, IsNamedAt, keyed, line_of, no_entries, shown, suspected};
 ghost use Rattle.version_store.specs.Devices.Positions.{IsAt, IsGap, Rise, all_marked};
 
@@ -14,7 +15,11 @@ use std::marker::Model;
 /// An entry, and its key, borrowed from the writes of the version at its place: with a key of its own it would take more memory.
 type Placed<'t, J> = (&'t Key, StoredEntry<'t, J>);
 
-/// The entries of one line, rising by key.
+/// Most lines that write have this many entries.
+const USUAL_ENTRIES: usize = 2;
+
+/// The entries of one line, rising by key. `SmallVec` would hold a few inline, but its elements need a default, which a reference
+/// doesn't have.
 pub struct LineEntries<'t, J: PlanName> {
     entries: Vec<Placed<'t, J>>,
 }
@@ -71,9 +76,7 @@ impl<'t, J: PlanName> LineEntries<'t, J> {
     {
         match position_of(&self.entries, key) {
             Ok(position) => self.entries[position] = (key, made),
-            Err(position) => {
-                self.entries.insert(position, (key, made))?;
-            }
+            Err(position) => insert_at(&mut self.entries, position, (key, made))?,
         }
         Ok(())
     }
@@ -127,6 +130,23 @@ fn position_of<J: PlanName>(entries: &[Placed<'_, J>], key: &Key) -> Result<usiz
     ensures { MatchResult result (IsAt (keyed entries.now) key.now) (IsGap (keyed entries.now) key.now) }
 {
     entries.binary_search_by(|entry| (*entry.0).cmp(key))
+}
+
+/// Inserts an entry at a position. The first takes memory for no more than most lines need, since there are many lines.
+fn insert_at<'t, J: PlanName>(
+    entries: &mut Vec<Placed<'t, J>>,
+    position: usize,
+    entry: Placed<'t, J>,
+) -> Result<(), AllocError>
+    requires { position ≤ length entries.old.items }
+    ensures put { OnOk result (entries.new.items ≡ insert entries.old.items position entry.entry) }
+    ensures same { OnErr result (entries.new.items ≡ entries.old.items) }
+{
+    if entries.is_empty() {
+        entries.reserve_exact(USUAL_ENTRIES)?;
+    }
+    entries.insert(position, entry)?;
+    Ok(())
 }
 
 /// Makes each entry suspect.

@@ -1,7 +1,7 @@
-use Rattle.std.proofs.Common.{◌≡◌, ◌<◌, ◌∷◌, ◌++◌, [], ◌∙◌, Err, None, Ok, Some, ap, arith, length, subst, sym, rules}
+use Rattle.std.proofs.Common.{◌≡◌, ◌<◌, ◌∷◌, ◌++◌, [], ◌∙◌, Err, Ok, ap, length, subst, sym, rules}
 use Rattle.version_store.specs.Index.{has}
 use Rattle.version_store.specs.Devices.Columns.{GoesTo, IsColumn, Rising, StandsAt}
-use Rattle.version_store.proofs.Rising.{at_end, at_front, has_newer, has_older, has_still, placed, rising_front, rising_newer, rising_older, rising_one}
+use Rattle.version_store.proofs.Rising.{at_end, at_front, has_newer, has_older, has_still, placed, rising_front, rising_older, rising_one}
 use Rattle.version_store.proofs.column.Column.insert.Goals as goal
 
 pub invariant_of-self : goal.invariant_of-self

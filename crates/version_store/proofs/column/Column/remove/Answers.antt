@@ -1,5 +1,4 @@
-use Rattle.std.proofs.Common.{◌≡◌, ◌∷◌, ◌++◌, [], ◌∙◌, Err, Ok, Some, length, rules, subst, sym, vec_len}
-use Rattle.version_store.specs.Index.{has}
+use Rattle.std.proofs.Common.{◌≡◌, Err, Ok, length, rules, subst, sym, vec_len}
 use Rattle.version_store.specs.Devices.Columns.{GoesTo, IsColumn, Rising, StandsAt}
 use Rattle.version_store.proofs.Rising.{has_left, has_neither, has_no_newer, placed, popped, popped_column, rising_front, rising_left}
 use Rattle.version_store.proofs.column.Column.remove.Goals as goal

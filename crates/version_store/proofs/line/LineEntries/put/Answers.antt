@@ -18,11 +18,11 @@ set_here g c =
     keyed_set es c.in-Ok.position (c.args.key, c.args.made)
     ∙ set_put (keyed es) c.args.key.now c.args.made c.in-Ok.position c.self.invariant at
 
-inserted_here : (g : _) (c : goal.In_ok-insert-in-Err g) → keyed c.insert.new.self.items ≡ put key_cmp c.args.key.now c.args.made (keyed c.self.inside.entries.items)
+inserted_here : (g : _) (c : goal.In_ok-insert_at-in-Err g) → keyed c.insert_at.new.entries.items ≡ put key_cmp c.args.key.now c.args.made (keyed c.self.inside.entries.items)
 inserted_here g c =
     let es = c.self.inside.entries.items in
     let gap = subst (λ l. IsGap (keyed l) c.args.key.now c.in-Err.position) c.deref.ensures.value c.in-Err.ensures in
-    ap (λ l. keyed l) c.in_ok-insert-in-Err.ensures.items
+    ap (λ l. keyed l) c.in_ok-insert_at-in-Err.ensures.put
     ∙ keyed_insert es c.in-Err.position (c.args.key, c.args.made)
     ∙ gap_put (keyed es) c.args.key.now c.args.made c.in-Err.position gap
 
@@ -32,17 +32,17 @@ invariant_of-self g c = subst Rise (sym (set_here g c)) (is_sorted-put key_cmp k
 pub invariant_of-self-in-Continue-1 : goal.invariant_of-self-in-Continue-1
 invariant_of-self-in-Continue-1 g c = subst Rise (sym (inserted_here g c)) (is_sorted-put key_cmp key_cmp_total c.args.key.now c.args.made (keyed c.self.inside.entries.items) c.self.invariant)
 
-pub insert-requires : goal.insert-requires
-insert-requires g c = omega (arith, c.in-Err.ensures.within, keyed_length c.deref.result.now, c.deref.ensures.len)
+pub insert_at-requires : goal.insert_at-requires
+insert_at-requires g c = omega (arith, c.in-Err.ensures.within, keyed_length c.deref.result.now, c.deref.ensures.len)
 
 pub returns-in-Ok-clause-put : goal.returns-in-Ok-clause-put
 returns-in-Ok-clause-put g c = rw (← c.self.view_is) (ap line_of (set_here g c) ∙ line_put (keyed c.self.inside.entries.items) c.args.key.now c.args.made)
 
-pub returns-in_ok-insert-in-Err-clause-put : goal.returns-in_ok-insert-in-Err-clause-put
-returns-in_ok-insert-in-Err-clause-put g c = rw (← c.self.view_is) (ap line_of (inserted_here g c) ∙ line_put (keyed c.self.inside.entries.items) c.args.key.now c.args.made)
+pub returns-in_ok-insert_at-in-Err-clause-put : goal.returns-in_ok-insert_at-in-Err-clause-put
+returns-in_ok-insert_at-in-Err-clause-put g c = rw (← c.self.view_is) (ap line_of (inserted_here g c) ∙ line_put (keyed c.self.inside.entries.items) c.args.key.now c.args.made)
 
-pub returns-in_err-insert-in-Err-clause-absent : goal.returns-in_err-insert-in-Err-clause-absent
-returns-in_err-insert-in-Err-clause-absent g c =
+pub returns-in_err-insert_at-in-Err-clause-absent : goal.returns-in_err-insert_at-in-Err-clause-absent
+returns-in_err-insert_at-in-Err-clause-absent g c =
     let es = keyed c.self.inside.entries.items in
     let gap = subst (λ l. IsGap (keyed l) c.args.key.now c.in-Err.position) c.deref.ensures.value c.in-Err.ensures in
     let none = get_shown es c.args.key.now ∙ ap (option_map shown) (gap_find es c.args.key.now c.in-Err.position gap) in

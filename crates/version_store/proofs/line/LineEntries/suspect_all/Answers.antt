@@ -1,9 +1,7 @@
-use denote.Ref.{Bor}
-use Rattle.std.proofs.Common.{◌≡◌, List, ap, rules, sym, subst, ◌∙◌}
+use Rattle.std.proofs.Common.{◌≡◌, ap, rules, sym, subst, ◌∙◌}
 use Rattle.std.specs.Prelude.{T}
 use Rattle.std.specs.Vec.{with_items}
 use Rattle.std.proofs.lemmas.List.{places, with_items_is}
-use Rattle.circ_records.specs.declared.key.Key.{Key}
 use Rattle.version_store.specs.Entries.{keyed, line_of}
 use Rattle.version_store.specs.Devices.Positions.{Rise, all_marked, marked}
 use Rattle.version_store.proofs.Keyed.{keyed_marked}

@@ -1,14 +1,19 @@
 -- What a journal takes, one after the other.
-use Rattle.std.proofs.Common.{◌≡◌, ◌+◌, ◌<◌, ℕ, List, [], ◌∷◌, ◌++◌, length, take, get_or, refl, sym, ap, subst, append_assoc, ◌∙◌}
-use Rattle.std.proofs.lemmas.List.{append-nil, take_more}
+use Rattle.std.proofs.Common.{◌≡◌, ◌+◌, ◌<◌, ℕ, List, [], ◌∷◌, ◌++◌, codes, length, take, drop, get_or, refl, sym, ap, subst, append_assoc, ◌∙◌}
+use Rattle.std.proofs.lemmas.List.{append-nil, drop_more, take-append-drop, take_more}
+use Rattle.std.specs.Borrow.{Bor}
 use Rattle.log_pairs.specs.Pairs.{Said}
 use Rattle.journal_run.specs.Found.{said_in, said_of}
 use Rattle.journal_run.specs.Heard.{Heard}
-use Rattle.journal_run.specs.Making.{Takes, TakesAll, TakesFound, TakesMessage}
+use Rattle.journal_run.specs.Making.{StopsTaking, Takes, TakesAll, TakesFound, TakesMessage}
+use Rattle.journal_run.specs.Stops.{IsRefusal, Tells, place_text}
 use Rattle.journal_run.specs.declared.finding.Finding.{Finding}
 use Rattle.journal_run.specs.declared.making.Making.{Making}
 use Rattle.journal_run.specs.declared.making.Taken.{Taken}
 use Rattle.journal_run.specs.declared.making.Taken.TheVariants.{Paired, Refused, Unasked}
+use Rattle.journal_run.specs.declared.place.LogPlace.{LogPlace}
+use Rattle.journal_run.specs.declared.stop.MakingError.{MakingError}
+use Rattle.journal_run.specs.declared.stop.MakingError.TheVariants as errors
 
 pub takes-one : (x : Said) (old new : Making) → Takes x old new → TakesAll (x ∷ []) old new
 takes-one x old new (begun, takes) = (begun, λ first said taken s. let (after, lasts, stays) = takes first said taken s in (after, (after, lasts, refl), stays))
@@ -16,7 +21,7 @@ takes-one x old new (begun, takes) = (begun, λ first said taken s. let (after, 
 pub takes-message : (t : Taken) (x : Said) (old new : Making) → TakesMessage t x old new → TakesFound t (x ∷ []) old new
 takes-message Paired x old new takes = takes-one x old new takes
 takes-message Unasked x old new takes = takes-one x old new takes
-takes-message (Refused why) x old new same = same
+takes-message (Refused why) x old new (same, is) = (same, (x, refl, is))
 
 pub heard-both : (before xs : List Said) (between ys after : List Said) → Heard before xs between → Heard between ys after → Heard before (xs ++ ys) after
 heard-both before [] between ys after is heard = subst (λ (b : List Said). Heard b ys after) is heard
@@ -46,3 +51,38 @@ takes-more fs i f old mid new below is before now =
     let all : said_in (take (i + 1) fs) ≡ said_in (take i fs) ++ said_of f
     = ap said_in one ∙ said-append (take i fs) (f ∷ []) ∙ ap (λ (xs : List Said). said_in (take i fs) ++ xs) (append-nil (said_of f)) in
     subst (λ (xs : List Said). TakesAll xs old new) (sym all) (takes-both (said_in (take i fs)) (said_of f) old mid new before now)
+
+-- a message is refused
+pub stops-at : (t : Taken) (why : Bor (List ℕ)) (place : LogPlace) (xs : List Said) (old new : Making) (error : MakingError) → t ≡ Refused why → TakesFound t xs old new
+    → Tells (place_text place ++ (codes ": " ++ why.now)) error → StopsTaking xs old new error
+stops-at t why place xs old new error is takes told = by error (subst (λ (r : Taken). TakesFound r xs old new) is takes) told
+  where
+    by : (e : MakingError) → TakesFound (Refused why) xs old new → Tells (place_text place ++ (codes ": " ++ why.now)) e → StopsTaking xs old new e
+    by errors.Memory takes told = tt
+    by (errors.Refused text) (same, (x, only, refused)) told =
+        ([], x, [], only, subst (TakesAll [] old) (sym same) (takes-none old), (place, why.now, subst (λ (m : Making). IsRefusal m.pairing.asked x why.now) (sym same) refused, told))
+    by (errors.File text) takes told = absurd told
+
+-- a stop at a finding, after those before it
+pub stops-later : (fs : List Finding) (i : ℕ) (f : Finding) (old mid new : Making) (error : MakingError) → i < length fs → f ≡ get_or fs i f → TakesAll (said_in (take i fs)) old mid
+    → StopsTaking (said_of f) mid new error → StopsTaking (said_in fs) old new error
+stops-later fs i f old mid new error below is before now = by error now
+  where
+    after : List Said
+    after = said_in (drop (i + 1) fs)
+
+    all : said_in fs ≡ said_in (take i fs) ++ (said_of f ++ after)
+    all =
+        ap said_in (sym (take-append-drop i fs)) ∙ said-append (take i fs) (drop i fs)
+        ∙ ap (λ (gs : List Finding). said_in (take i fs) ++ said_in gs) (drop_more fs i f below ∙ ap (λ (g : Finding). g ∷ drop (i + 1) fs) (sym is))
+
+    split : (ys rest : List Said) (x : Said) → said_of f ≡ ys ++ x ∷ rest → said_in fs ≡ (said_in (take i fs) ++ ys) ++ x ∷ (rest ++ after)
+    split ys rest x same =
+        all ∙ ap (λ (zs : List Said). said_in (take i fs) ++ (zs ++ after)) same ∙ ap (λ (zs : List Said). said_in (take i fs) ++ zs) (append_assoc ys (x ∷ rest) after)
+        ∙ sym (append_assoc (said_in (take i fs)) ys (x ∷ (rest ++ after)))
+
+    by : (e : MakingError) → StopsTaking (said_of f) mid new e → StopsTaking (said_in fs) old new e
+    by errors.Memory stops = tt
+    by (errors.Refused text) (ys, x, rest, same, takes, refused) =
+        (said_in (take i fs) ++ ys, x, rest ++ after, split ys rest x same, takes-both (said_in (take i fs)) ys old mid new before takes, refused)
+    by (errors.File text) (ys, x, rest, same, takes, refused) = absurd refused

@@ -40,6 +40,8 @@ impl<'l, R: Clock + Eprint, T: ReadsOn<'l>> ExchangeSource for Exchanges<'_, 'l,
 
     ghost counts = { λ _ _. Unit {0} };
 
+    ghost fails = { λ _ _. Unit {0} };
+
     fn next(&mut self, batch: &mut Vec<Finding>) -> Result<bool, MakingError> {
         let more = self.input.read_on(&mut self.reading);
         mem::swap(&mut self.reading.found, batch);

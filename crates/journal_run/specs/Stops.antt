@@ -51,13 +51,13 @@ place_text p = p.log.now ++ (codes ":" ++ decimal p.line)
 abbrev pub IsLongName : List ℕ → List ℕ → Type 0
 IsLongName c why = (CONNECTION_LIMIT < length c) × (why ≡ codes "the name of the connection has more than 64 bytes")
 
--- A message after so many requests is refused, for this reason.
+-- A message after this number of requests is refused, for this reason.
 abbrev pub IsRefusal : ℕ → Said → List ℕ → Type 0
 IsRefusal asked (Request c m) why = IsLongName c why ⊎ ((LINE_LIMIT ≤ asked) × (why ≡ codes "more than 1,000,000 requests: a journal has no more lines"))
 IsRefusal asked (Response c m) why = IsLongName c why
 IsRefusal asked (Over c) why = ⊥
 
--- This message after so many requests is refused, and the error says why, after a place.
+-- This message after this number of requests is refused, and the error says why, after a place.
 abbrev pub IsRefused : ℕ → Said → MakingError → Type 0
 IsRefused asked x (errors.Refused told) = (place : LogPlace) × (why : List ℕ) × IsRefusal asked x why × (string_bytes told ≡ place_text place ++ (codes ": " ++ why))
 IsRefused asked x error = ⊥

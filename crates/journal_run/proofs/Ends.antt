@@ -25,7 +25,7 @@ tells-stop stops.Output status taken is = (taken, refl, is)
 pub journal-printed : (first : ℕ) (force : Bool) (counts : LogTally → Type 0) (fails : MakingError → Type 0) (at_end : Type 0) (start found : Option (List Said)) (status : ℕ) (m : Making) (old mid new : Option (List Event))
     → IsPrinted first old mid start found m → at_end → IsWanted force counts m.exchanges → Did (ReportsCounts counts (made_sums m) status) mid new
     → Did (IsJournal first force counts fails at_end start found status) old new
-journal-printed first force counts fails at_end start found status m old mid new (heard, said, is, h, (es, p, prints), sums) ended wanted (fs, q, reports) = (
+journal-printed first force counts fails at_end start found status m old mid new (heard, said, is, h, within, (es, p, prints), sums) ended wanted (fs, q, reports) = (
   es ++ fs,
   both es fs old mid new p q,
   inl (
@@ -36,6 +36,7 @@ journal-printed first force counts fails at_end start found status m old mid new
     is,
     h,
     ended,
+    within,
     subst (λ (s : Sums). IsWanted force counts s.exchanges) sums wanted,
     prints,
     subst (λ (s : Sums). ReportsCounts counts s status fs) sums reports,

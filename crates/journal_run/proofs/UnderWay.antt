@@ -20,7 +20,7 @@ use Rattle.journal_run.specs.declared.tally.LogTally.{LogTally}
 use Rattle.journal_run.proofs.Causes.{caused, either, past-end}
 use Rattle.journal_run.proofs.Shown.{broken, broken-later, printed-both, printed-none, shown-more}
 use Rattle.journal_run.proofs.Steps.{asked-now}
-use Rattle.journal_run.proofs.Taking.{heard-both}
+use Rattle.journal_run.proofs.Taking.{all-both, heard-both}
 use Rattle.log_pairs.proofs.Journals.{joined}
 
 moved : (all : List Said → List Pair) (w w2 : List Pair) (o o2 : Open) (e e2 u u2 : ℕ) → Settles all w o e u → w2 ≡ w → o2 ≡ o → e2 ≡ e → u2 ≡ u → Settles all w2 o2 e2 u2
@@ -49,7 +49,7 @@ stays-printed first said taken old new s p =
 
 pub under-printed : (first : ℕ) (begin mid now : Option (List Event)) (start found : Option (List Said)) (old new : Making) → IsUnderWay first begin mid start found old
     → HasPrinted old new → Did (Prints (to_print old)) mid now → IsUnderWay first begin now start found new
-under-printed first begin mid now start found old new (heard, said, taken, is, h, s, printed) p more =
+under-printed first begin mid now start found old new (heard, said, taken, is, h, n, s, printed) p more =
     let text : shown old.begun first taken ++ to_print old ≡ shown new.begun first (taken ++ old.ready.items)
     = sym (shown-more first taken old s.keeps.number s.keeps.begun) ∙ ap (λ (b : Bool). shown b first (taken ++ old.ready.items)) (sym p.begun) in (
       heard,
@@ -57,6 +57,7 @@ under-printed first begin mid now start found old new (heard, said, taken, is, h
       taken ++ old.ready.items,
       is,
       h,
+      n,
       stays-printed first said taken old new s p,
       subst (λ (t : List ℕ). Did (Prints t) begin now) text (printed-both (shown old.begun first taken) (to_print old) begin mid now printed more),
     )
@@ -68,7 +69,7 @@ found-both heard xs (Some found) = ap (λ (all : List Said). Some all) (append_a
 -- more is found, and taken
 pub under-taken : (first : ℕ) (begin mid now : Option (List Event)) (start found more : Option (List Said)) (xs : List Said) (old new : Making) → IsUnderWay first begin mid start found old
     → more ≡ found_more xs found → TakesAll xs old new → Did (Prints []) mid now → IsUnderWay first begin now start more new
-under-taken first begin mid now start found more xs old new (heard, said, taken, is, h, s, printed) found-is (begun, takes) told =
+under-taken first begin mid now start found more xs old new (heard, said, taken, is, h, n, s, printed) found-is (begun, more-named, takes) told =
     let (after, all, stays) = takes first said taken s in
     let text : shown old.begun first taken ++ [] ≡ shown new.begun first taken = append-nil (shown old.begun first taken) ∙ ap (λ (b : Bool). shown b first taken) (sym begun) in (
       heard ++ xs,
@@ -76,6 +77,7 @@ under-taken first begin mid now start found more xs old new (heard, said, taken,
       taken,
       found-is ∙ ap (found_more xs) is ∙ found-both heard xs start,
       heard-both [] heard said xs after h all,
+      all-both heard xs n more-named,
       stays,
       subst (λ (t : List ℕ). Did (Prints t) begin now) text (printed-both (shown old.begun first taken) [] begin mid now printed told),
     )
@@ -99,7 +101,7 @@ begun-so first said taken m s =
 pub under-source : (first : ℕ) (force : Bool) (counts : LogTally → Type 0) (fails : MakingError → Type 0) (at_end : Type 0) (begin mid now : Option (List Event)) (start found more : Option (List Said))
     (xs : List Said) (m : Making) (error : MakingError) → IsUnderWay first begin mid start found m → more ≡ found_more xs found → Did (Prints []) mid now
     → IsFailure fails (stops.Source error) → IsBrokenOff first force counts fails at_end begin now start more (stops.Source error)
-under-source first force counts fails at_end begin mid now start found more xs m error (heard, said, taken, is, h, s, printed) found-is told cause =
+under-source first force counts fails at_end begin mid now start found more xs m error (heard, said, taken, is, h, n, s, printed) found-is told cause =
     let (rest, text) = begun-so first said taken m s in
     let so_far : Did (Prints (shown m.begun first taken)) begin now
     = subst (λ (t : List ℕ). Did (Prints t) begin now) (append-nil (shown m.begun first taken)) (printed-both (shown m.begun first taken) [] begin mid now printed told) in (
@@ -125,8 +127,8 @@ pub under-refused : (first : ℕ) (force : Bool) (counts : LogTally → Type 0) 
 under-refused first force counts fails at_end begin mid now start found more xs old new errors.Memory under found-is stops told =
     under-source first force counts fails at_end begin mid now start found more xs old errors.Memory under found-is told tt
 under-refused first force counts fails at_end begin mid now start found more xs old new (errors.File text) under found-is (ys, x, rest, same, takes, refused) told = absurd refused
-under-refused first force counts fails at_end begin mid now start found more xs old new (errors.Refused told) (heard, said, taken, is, h, s, printed) found-is
-    (ys, x, rest, same, (begun, takes), refused) quietly =
+under-refused first force counts fails at_end begin mid now start found more xs old new (errors.Refused told) (heard, said, taken, is, h, n, s, printed) found-is
+    (ys, x, rest, same, (begun, more-named, takes), refused) quietly =
     let (after, all, stays) = takes first said taken s in
     let (later, text) = begun-so first after taken new stays in
     let so_far : Did (Prints (shown new.begun first taken)) begin now
@@ -146,7 +148,7 @@ under-refused first force counts fails at_end begin mid now start found more xs 
 pub under-broken : (first : ℕ) (force : Bool) (counts : LogTally → Type 0) (fails : MakingError → Type 0) (at_end : Type 0) (begin mid now : Option (List Event)) (start found : Option (List Said)) (m : Making)
     (stop : JournalStop) → IsUnderWay first begin mid start found m → HasCause force counts ⊥ (IsPastEnd (m.number + length m.ready.items)) stop
     → Did (BreaksOff (to_print m) stop) mid now → IsBrokenOff first force counts fails at_end begin now start found stop
-under-broken first force counts fails at_end begin mid now start found m stop (heard, said, taken, is, h, s, printed) cause breaks =
+under-broken first force counts fails at_end begin mid now start found m stop (heard, said, taken, is, h, n, s, printed) cause breaks =
     let all : pairs_of said ≡ (taken ++ m.ready.items) ++ to_come m.pairing [] = ap pairs_of (sym (append-nil said)) ∙ s.keeps.settles.pairs [] in
     let later : List ℕ = table_text (rows_from (first + length (taken ++ m.ready.items)) (to_come m.pairing [])) in
     let text : journal_text first (pairs_of said) ≡ shown m.begun first taken ++ (to_print m ++ later)
@@ -173,17 +175,23 @@ whole-text first said taken m c = ap (journal_text first) c.pairs ∙ shown-more
 pub closed-printed : (first : ℕ) (begin mid now : Option (List Event)) (start found : Option (List Said)) (old closed new : Making) → IsUnderWay first begin mid start found old
     → closed.begun ≡ old.begun → ((first : ℕ) (said : List Said) (taken : List Pair) → Stays first said taken old → Closes first said taken closed)
     → HasPrinted closed new → Did (Prints (to_print closed)) mid now → IsPrinted first begin now start found new
-closed-printed first begin mid now start found old closed new (heard, said, taken, is, h, s, printed) begun closes p more =
+closed-printed first begin mid now start found old closed new (heard, said, taken, is, h, n, s, printed) begun closes p more =
     let c = closes first said taken s in
     let text : shown old.begun first taken ++ to_print closed ≡ journal_text first (pairs_of said)
     = ap (λ (b : Bool). shown b first taken ++ to_print closed) (sym begun) ∙ sym (whole-text first said taken closed c) in
     let exchanges : new.exchanges ≡ (sums_of said).exchanges = p.exchanges ∙ c.exchanges in
     let unanswered : new.unanswered ≡ (sums_of said).unanswered = p.unanswered ∙ c.unanswered in
-    let unasked : new.unasked ≡ (sums_of said).unasked = p.unasked ∙ c.unasked in (
+    let unasked : new.unasked ≡ (sums_of said).unasked = p.unasked ∙ c.unasked in
+    let asked = asked-now first said taken old s in
+    let few = s.keeps.settles.few in
+    let room = p.room in
+    let number = c.number in
+    let size : length (pairs_of said) ≡ length taken + length closed.ready.items = ap length c.pairs ∙ length-append taken closed.ready.items in (
       heard,
       said,
       is,
       h,
+      (n, omega (arith, asked, few), omega (arith, room, number, size)),
       subst (λ (t : List ℕ). Did (Prints t) begin now) text (printed-both (shown old.begun first taken) (to_print closed) begin mid now printed more),
       same-sums new.exchanges new.unanswered new.unasked (sums_of said).exchanges (sums_of said).unanswered (sums_of said).unasked exchanges unanswered unasked,
     )
@@ -207,7 +215,7 @@ pub closed-broken : (first : ℕ) (force : Bool) (counts : LogTally → Type 0) 
     → closed.begun ≡ old.begun → ((first : ℕ) (said : List Said) (taken : List Pair) → Stays first said taken old → Closes first said taken closed)
     → ((said : List Said) (taken : List Pair) → Closes first said taken closed → HasCause force counts (FindsNothing at_end [] said) (IsToBlame fails first [] said) stop)
     → Did (BreaksOff (to_print closed) stop) mid now → IsBrokenOff first force counts fails at_end begin now start found stop
-closed-broken first force counts fails at_end begin mid now start found old closed stop (heard, said, taken, is, h, s, printed) begun closes cause breaks =
+closed-broken first force counts fails at_end begin mid now start found old closed stop (heard, said, taken, is, h, n, s, printed) begun closes cause breaks =
     let text : journal_text first (pairs_of said) ≡ shown old.begun first taken ++ (to_print closed ++ [])
     = whole-text first said taken closed (closes first said taken s) ∙ ap (λ (b : Bool). shown b first taken ++ to_print closed) begun
     ∙ ap (λ (t : List ℕ). shown old.begun first taken ++ t) (sym (append-nil (to_print closed))) in (
@@ -222,4 +230,4 @@ closed-broken first force counts fails at_end begin mid now start found old clos
 
 -- before the first message
 pub under-first : (first : ℕ) (log : Option (List Event)) (start : Option (List Said)) (m : Making) → Stays first [] [] m → m.begun ≡ false → IsUnderWay first log log start start m
-under-first first log start m s begun = ([], [], [], sym (found-none start), refl, s, subst (λ (b : Bool). Did (Prints (shown b first [])) log log) (sym begun) (printed-none log))
+under-first first log start m s begun = ([], [], [], sym (found-none start), refl, tt, s, subst (λ (b : Bool). Did (Prints (shown b first [])) log log) (sym begun) (printed-none log))

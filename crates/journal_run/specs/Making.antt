@@ -1,9 +1,10 @@
 -- A journal while it is made: which pairs left it, are whole, or still come.
 use Rattle.std.specs.Prelude.{◌≡◌, ◌+◌, ◌-◌, ◌≤◌, ◌++◌, ◌∷◌, ℕ, [], List, false, length, min, true, ⊤}
+use Rattle.std.specs.List.{AllByRecursion}
 use Rattle.journal_table.specs.declared.TheConstants.{LINE_LIMIT}
 use Rattle.log_pairs.specs.Pairs.{Open, Pair, Said, answered, begins_open, pairs_of, to_come}
 use Rattle.journal_run.specs.Heard.{Heard, Lasts, responses_in, sums_of, top}
-use Rattle.journal_run.specs.Stops.{IsRefusal, IsRefused}
+use Rattle.journal_run.specs.Stops.{IsNamed, IsRefusal, IsRefused}
 use Rattle.journal_run.specs.declared.making.Making.{Making}
 use Rattle.journal_run.specs.declared.making.Taken.{Taken}
 use Rattle.journal_run.specs.declared.making.Taken.TheVariants.{Refused}
@@ -43,6 +44,11 @@ abbrev pub TakesMessage : Taken → Said → Making → Making → Type 0
 TakesMessage (Refused why) x old new = (new ≡ old) × IsRefusal old.pairing.asked x why.now
 TakesMessage taken x old new = Takes x old new
 
+-- a message that is refused
+abbrev pub Refuses : Taken → Type 0
+Refuses (Refused why) = ⊤
+Refuses taken = ⊥
+
 -- Of what waits some becomes whole; nothing else changes.
 abbrev pub Collects : Making → Making → Type 0
 Collects old new = ((all : List Said → List Pair) (taken : List Pair) → Settles all (taken ++ old.ready.items) old.pairing old.exchanges old.unanswered
@@ -58,9 +64,9 @@ pub record Closes (first : ℕ) (said : List Said) (taken : List Pair) (m : Maki
   pub unanswered : m.unanswered ≡ (sums_of said).unanswered
   pub unasked : m.unasked ≡ (sums_of said).unasked
 
--- The journal takes all this, one after the other.
+-- The journal takes all this, one after the other, and no name is too long.
 abbrev pub TakesAll : List Said → Making → Making → Type 0
-TakesAll xs old new = (new.begun ≡ old.begun) × ((first : ℕ) (said : List Said) (taken : List Pair) → Stays first said taken old
+TakesAll xs old new = (new.begun ≡ old.begun) × AllByRecursion IsNamed xs × ((first : ℕ) (said : List Said) (taken : List Pair) → Stays first said taken old
     → (after : List Said) × Heard said xs after × Stays first after taken new)
 
 -- the same, unless it is refused, for this reason

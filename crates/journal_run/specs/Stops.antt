@@ -47,6 +47,12 @@ Tells text (errors.File told) = ⊥
 abbrev pub place_text : LogPlace → List ℕ
 place_text p = p.log.now ++ (codes ":" ++ decimal p.line)
 
+-- its connection's name isn't too long
+abbrev pub IsNamed : Said → Type 0
+IsNamed (Request c m) = length c ≤ CONNECTION_LIMIT
+IsNamed (Response c m) = length c ≤ CONNECTION_LIMIT
+IsNamed (Over c) = ⊤
+
 -- A connection with this name is refused, for this reason.
 abbrev pub IsLongName : List ℕ → List ℕ → Type 0
 IsLongName c why = (CONNECTION_LIMIT < length c) × (why ≡ codes "the name of the connection has more than 64 bytes")

@@ -32,7 +32,7 @@ impl<R, T: Drop> Drop for Exchanges<'_, '_, R, T> {
     }
 }
 
-/// No contract says what was found: that is to be checked by reading, and by tests.
+/// No contract says what was found, what was counted or which errors end it: that is to be checked by reading, and by tests.
 impl<'l, R: Clock + Eprint, T: ReadsOn<'l>> ExchangeSource for Exchanges<'_, 'l, R, T> {
     ghost found = { λ _. None };
 

@@ -11,7 +11,7 @@ ghost use Rattle.read_set.specs.Replay.{one_at};
 ghost use Rattle.replay_run.specs.ReplayEnd.{IsReplay};
 
 use crate::written::WrittenKeys;
-use circ_records::Records;
+use circ_records::{LikelyPositions, Records};
 use live_records::Live;
 use message_meaning::perform;
 use read_set::{Effect, Plan, Stop};
@@ -28,6 +28,9 @@ pub struct Replayed {
     pub written: WrittenKeys,
 }
 
+/// The records that lines name are looked for this number of lines in advance.
+const AHEAD: u64 = 64;
+
 /// The outcome of the lines of a plan, taken in order by one thread. The gate is called as after the steps of a worker 0.
 pub fn replay<G: Gate>(alloc: Global, plan: &Plan, gate: &G) -> Result<Replayed, AllocError>
     ensures { IfOk result (IsReplay plan.now) }
@@ -35,10 +38,12 @@ pub fn replay<G: Gate>(alloc: Global, plan: &Plan, gate: &G) -> Result<Replayed,
     let count = plan.readings().len();
     let first = plan.first();
     let mut live = Live::over(alloc, plan)?;
+    let mut likely = Vec::with_capacity(alloc, AHEAD as usize)?;
     let mut answers = Vec::with_capacity(alloc, count)?;
     let mut written = WrittenKeys::with_room(alloc, count)?;
     for i in 0..count {
         let line = first + i as u64;
+        expect(plan, line, &mut live, &mut likely)?;
         gate.at(0, line, Moment::Taken);
         take_line(alloc, plan, line, &mut live, &mut answers, &mut written)?;
         pass(gate, line);
@@ -48,6 +53,29 @@ pub fn replay<G: Gate>(alloc: Global, plan: &Plan, gate: &G) -> Result<Replayed,
         answers,
         written,
     })
+}
+
+/// Has the records that a line names be looked for first where they likely are. Where no line is left for which that is known, the next
+/// `AHEAD` lines' records are looked for: one after the other, while no rule runs, so that these look-ups wait for memory side by side.
+fn expect(
+    plan: &Plan,
+    line: u64,
+    live: &mut Live,
+    likely: &mut Vec<LikelyPositions>,
+) -> Result<(), AllocError>
+    ensures { OnOk result (live.new ≡ live.old) }
+{
+    if likely.is_empty() {
+        // the last of these lines first: its positions are taken last
+        for i in (0..AHEAD).rev() {
+            let reading = plan.reading(line.saturating_add(i));
+            likely.push(live.likely(reading))?;
+        }
+    }
+    if let Some(positions) = likely.pop() {
+        live.expect(positions);
+    }
+    Ok(())
 }
 
 /// Calls the gate for a line that is taken: nobody else changes a record, so it is published, checked and committed at once.

@@ -20,6 +20,7 @@ pub use changes::{ListChange, put_fee};
 pub use holds::{Hold, Holds, QUEUE_MAX};
 pub use ids::Ids;
 pub use key::Key;
+pub use position_hints::LikelyPositions;
 pub use record::{Fee, FeeType, Item, Loan, Patron, Record};
 pub use record_map::RecordMap;
 pub use records::Records;

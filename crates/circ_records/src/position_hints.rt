@@ -18,19 +18,48 @@ const TRIES: usize = 8;
 /// The content of a slot that no record took.
 const FREE: u32 = u32::MAX;
 
+/// Where the records of one patron and one item likely are in a list: those that a line names, looked for in advance.
+#[derive(Clone, Copy)]
+pub struct LikelyPositions {
+    pub(crate) patron: Option<usize>,
+    pub(crate) item: Option<usize>,
+}
+
+impl LikelyPositions {
+    fn of(&self, key: &KeyRef<'_>) -> Option<usize> {
+        match key {
+            KeyRef::Patron(_) => self.patron,
+            KeyRef::Item(_) => self.item,
+            KeyRef::Fee(_) => None,
+        }
+    }
+}
+
 /// A hash table with the positions of most records of a list, by the hashes of their ids. A position is a hint: if the list has
 /// another key there, binary search follows. So only the time of a look-up depends on the hints.
 pub(crate) struct PositionHints {
     slots: Vec<u32>,
     /// At most this many slots are taken.
     taken: usize,
+    /// The positions that are looked at before any slot.
+    pub(crate) likely: LikelyPositions,
 }
 
 impl Drop for PositionHints {
     fn drop(self) {
-        let PositionHints { slots: _, taken: _ } = self;
+        let PositionHints {
+            slots: _,
+            taken: _,
+            likely: _,
+        } = self;
     }
 }
+
+/// No positions.
+const UNLIKELY: LikelyPositions = LikelyPositions {
+    patron: None,
+    item: None,
+};
 
 impl PositionHints {
     /// No hints, not for added records either.
@@ -38,6 +67,7 @@ impl PositionHints {
         PositionHints {
             slots: Vec::new(alloc),
             taken: 0,
+            likely: UNLIKELY,
         }
     }
 
@@ -52,8 +82,11 @@ impl PositionHints {
             };
             take_slot(&mut slots, entry.0.hash(), position);
         }
-        let taken = listed.len();
-        Ok(PositionHints { slots, taken })
+        Ok(PositionHints {
+            slots,
+            taken: listed.len(),
+            likely: UNLIKELY,
+        })
     }
 
     /// How many records the list had from which these hints were made.
@@ -85,17 +118,24 @@ impl PositionHints {
 
     /// The same hints, for a list that likely has the same keys.
     pub(crate) fn copy(&self) -> Result<PositionHints, AllocError> {
-        let slots = self.slots.clone()?;
-        let taken = self.taken;
-        Ok(PositionHints { slots, taken })
+        Ok(PositionHints {
+            slots: self.slots.clone()?,
+            taken: self.taken,
+            likely: self.likely,
+        })
     }
 
-    /// The position of a key in a list, where a slot has it.
+    /// The position of a key in a list, where it is likely or a slot has it.
     #[inline(always)]
     pub(crate) fn position(&self, listed: &[(Key, Record)], key: &KeyRef<'_>) -> Option<usize>
         requires { AreRising listed.now }
         ensures { IfSome result (λ position. position_from 0 (key_of key.now) listed.now ≡ Ok position) }
     {
+        if let Some(position) = self.likely.of(key) {
+            if is_at(listed, position, key) {
+                return Some(position);
+            }
+        }
         if self.slots.is_empty() {
             return None;
         }

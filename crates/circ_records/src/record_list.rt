@@ -1,6 +1,6 @@
 //! Records as a list, rising by key, in which one is found by a hint of its position or by binary search.
 
-ghost use Rattle.std.specs.Prelude.{◌≡◌, ◌++◌, ◌∷◌, [], Err, IfOk, IsTrue, OnErr, OnOk, length, option_copied};
+ghost use Rattle.std.specs.Prelude.{◌≡◌, ◌++◌, ◌∷◌, [], Err, IfOk, IfSome, IsTrue, Ok, OnErr, OnOk, length, option_copied};
 ghost use Rattle.circ_records.specs.Devices.KeyRefs.{key_of};
 ghost use Rattle.circ_records.specs.Devices.Positions.{position_from};
 ghost use Rattle.circ_records.specs.Records.{AreRising, record_at};
@@ -14,7 +14,7 @@ use std::alloc::{AllocError, Global};
 pub(crate) struct RecordList {
     pub(crate) entries: Vec<(Key, Record)>,
     /// Hints for the position of each record.
-    hints: PositionHints,
+    pub(crate) hints: PositionHints,
 }
 
 impl Drop for RecordList {
@@ -77,13 +77,21 @@ impl RecordList {
         }
     }
 
+    /// The position of a key, where a hint has it.
+    pub(crate) fn hint(&self, key: &KeyRef<'_>) -> Option<usize>
+        requires { AreRising self.now.entries.items }
+        ensures { IfSome result (λ position. position_from 0 (key_of key.now) self.now.entries.items ≡ Ok position) }
+    {
+        self.hints.position(self.entries.as_slice(), key)
+    }
+
     /// The position of a key, or else the position at which it would have to be inserted. First a hint is tried, then whether
     /// the key comes after all others, then binary search.
     pub(crate) fn position(&self, key: &KeyRef<'_>) -> Result<usize, usize>
         requires { AreRising self.now.entries.items }
         ensures { result ≡ position_from 0 (key_of key.now) self.now.entries.items }
     {
-        match self.hints.position(self.entries.as_slice(), key) {
+        match self.hint(key) {
             Some(position) => Ok(position),
             None => self.position_without_hint(key),
         }

@@ -14,6 +14,7 @@ ghost use Rattle.circ_records.specs.declared.record.Record.{Record};
 
 use crate::changes::{ListChange, apply};
 use crate::key::{Key, KeyRef};
+use crate::position_hints::LikelyPositions;
 use crate::record::Record;
 use crate::record_list::RecordList;
 use crate::rule::BaseRule;
@@ -100,6 +101,27 @@ impl RecordMap {
         ensures { option_copied result ≡ record_at self.now (keys.Item id.now) }
     {
         self.found(&KeyRef::Item(id))
+    }
+
+    /// Where the records of a patron and an item likely are. Asked for several lines one after the other, the look-ups wait for
+    /// memory side by side.
+    pub fn likely(&self, patron: Option<&Id>, item: Option<&Id>) -> LikelyPositions {
+        let patron = match patron {
+            Some(id) => self.listed.hint(&KeyRef::Patron(id)),
+            None => None,
+        };
+        let item = match item {
+            Some(id) => self.listed.hint(&KeyRef::Item(id)),
+            None => None,
+        };
+        LikelyPositions { patron, item }
+    }
+
+    /// From now on a patron or an item is looked for at these positions first. Only the time of look-ups depends on them.
+    pub fn expect(&mut self, likely: LikelyPositions)
+        ensures { self.new ≡ self.old }
+    {
+        self.listed.hints.likely = likely;
     }
 
     fn found(&self, key: &KeyRef<'_>) -> Option<&Record>

@@ -2,9 +2,9 @@
 
 ghost use Rattle.std.specs.Prelude.{◌≡◌};
 
-use circ_records::{Key, Record, RecordMap, Records};
-use read_set::{Plan, Source, Stop, Writes};
-use sip_reader::Id;
+use circ_records::{Key, LikelyPositions, Record, RecordMap, Records};
+use read_set::{Plan, Source, Stop, Writes, named};
+use sip_reader::{Id, Reading};
 use std::alloc::{AllocError, Global};
 use std::marker::Model;
 
@@ -53,6 +53,22 @@ impl Live {
         ensures { option_copied result ≡ record_at self.now key.now }
     {
         self.records.get(key)
+    }
+
+    /// Where the records that a reading names likely are.
+    pub fn likely(&self, reading: Option<&Reading>) -> LikelyPositions {
+        let (patron, item) = match reading {
+            Some(Reading::Asked(request)) => named(&request.act),
+            _ => (None, None),
+        };
+        self.records.likely(patron, item)
+    }
+
+    /// From now on looks for a patron or an item at these positions first.
+    pub fn expect(&mut self, likely: LikelyPositions)
+        ensures { self.new ≡ self.old }
+    {
+        self.records.expect(likely);
     }
 
     /// Puts what a line writes over the records. Out of memory, part of it may be there: the caller drops all records then.

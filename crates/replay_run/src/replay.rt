@@ -11,7 +11,7 @@ ghost use Rattle.read_set.specs.Replay.{one_at};
 ghost use Rattle.replay_run.specs.ReplayEnd.{IsReplay};
 
 use crate::written::WrittenKeys;
-use circ_records::Records;
+use circ_records::{LikelyPositions, Records};
 use live_records::Live;
 use message_meaning::perform;
 use read_set::{Effect, Plan, Stop};
@@ -28,6 +28,9 @@ pub struct Replayed {
     pub written: WrittenKeys,
 }
 
+/// The records that lines name are looked for this number of lines in advance.
+const AHEAD: usize = 64;
+
 /// The outcome of the lines of a plan, taken in order by one thread. The gate is called as after the steps of a worker 0.
 pub fn replay<G: Gate>(alloc: Global, plan: &Plan, gate: &G) -> Result<Replayed, AllocError>
     ensures { IfOk result (IsReplay plan.now) }
@@ -35,10 +38,17 @@ pub fn replay<G: Gate>(alloc: Global, plan: &Plan, gate: &G) -> Result<Replayed,
     let count = plan.readings().len();
     let first = plan.first();
     let mut live = Live::over(alloc, plan)?;
+    let mut likely = Vec::with_capacity(alloc, AHEAD)?;
     let mut answers = Vec::with_capacity(alloc, count)?;
     let mut written = WrittenKeys::with_room(alloc, count)?;
     for i in 0..count {
         let line = first + i as u64;
+        if i % AHEAD == 0 {
+            look_ahead(plan, &live, line, &mut likely)?;
+        }
+        if let Some(likely) = likely.get(i % AHEAD) {
+            live.expect(*likely);
+        }
         gate.at(0, line, Moment::Taken);
         take_line(alloc, plan, line, &mut live, &mut answers, &mut written)?;
         pass(gate, line);
@@ -48,6 +58,21 @@ pub fn replay<G: Gate>(alloc: Global, plan: &Plan, gate: &G) -> Result<Replayed,
         answers,
         written,
     })
+}
+
+/// Where the records that the next lines name likely are. Found one after the other, while no rule runs, these wait for memory side by
+/// side, and are in the cache when their line is taken.
+fn look_ahead(
+    plan: &Plan,
+    live: &Live,
+    line: u64,
+    likely: &mut Vec<LikelyPositions>,
+) -> Result<(), AllocError> {
+    likely.clear();
+    for i in 0..AHEAD as u64 {
+        likely.push(live.likely(plan.reading(line.saturating_add(i))))?;
+    }
+    Ok(())
 }
 
 /// Calls the gate for a line that is taken: nobody else changes a record, so it is published, checked and committed at once.

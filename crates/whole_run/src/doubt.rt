@@ -7,8 +7,9 @@ use circ_policy::Policy;
 use csv::{ByteRecord, ReaderBuilder};
 use journal_table::Journal;
 use memchr::memmem;
+use read_set::named;
 use replay_run::{Inputs, Sizes};
-use sip_reader::{Act, Id, Reading, read_request};
+use sip_reader::{Id, Reading, read_request};
 use std::alloc::{AllocError, Global};
 use std::collections::BTreeSet;
 use std::fmt;
@@ -156,7 +157,7 @@ impl Named {
         };
         for line in journal.lines() {
             if let Reading::Asked(request) = &read_request(alloc, line.request())? {
-                let (patron, item) = names_of(&request.act);
+                let (patron, item) = named(&request.act);
                 named.count(
                     patron.map(|id| patrons.contains(id)),
                     item.map(|id| items.contains(id)),
@@ -204,19 +205,4 @@ impl Named {
 /// Whether it is more than a quarter.
 fn is_many(unknown: u64, named: u64) -> bool {
     unknown > named / QUARTER
-}
-
-/// The patron and the item that a request names.
-fn names_of(act: &Act) -> (Option<&Id>, Option<&Id>) {
-    match act {
-        Act::BlockPatron(asked) => (Some(&asked.patron), None),
-        Act::Checkin(asked) => (None, Some(&asked.item)),
-        Act::Checkout(asked) => (Some(&asked.patron), Some(&asked.item)),
-        Act::Hold(asked) => (Some(&asked.patron), Some(&asked.item)),
-        Act::ItemStatus(asked) => (None, Some(&asked.item)),
-        Act::PatronEnable(asked) => (Some(&asked.patron), None),
-        Act::Renew(asked) => (Some(&asked.patron), Some(&asked.item)),
-        Act::FeePaid(asked) => (Some(&asked.patron), None),
-        Act::RenewAll(asked) => (Some(&asked.patron), None),
-    }
 }

@@ -29,7 +29,7 @@ pub struct Replayed {
 }
 
 /// The records that lines name are looked for this number of lines in advance.
-const AHEAD: usize = 64;
+const AHEAD: u64 = 64;
 
 /// The outcome of the lines of a plan, taken in order by one thread. The gate is called as after the steps of a worker 0.
 pub fn replay<G: Gate>(alloc: Global, plan: &Plan, gate: &G) -> Result<Replayed, AllocError>
@@ -38,17 +38,12 @@ pub fn replay<G: Gate>(alloc: Global, plan: &Plan, gate: &G) -> Result<Replayed,
     let count = plan.readings().len();
     let first = plan.first();
     let mut live = Live::over(alloc, plan)?;
-    let mut likely = Vec::with_capacity(alloc, AHEAD)?;
+    let mut likely = Vec::with_capacity(alloc, AHEAD as usize)?;
     let mut answers = Vec::with_capacity(alloc, count)?;
     let mut written = WrittenKeys::with_room(alloc, count)?;
     for i in 0..count {
         let line = first + i as u64;
-        if i % AHEAD == 0 {
-            look_ahead(plan, &live, line, &mut likely)?;
-        }
-        if let Some(likely) = likely.get(i % AHEAD) {
-            live.expect(*likely);
-        }
+        expect(plan, line, &mut live, &mut likely)?;
         gate.at(0, line, Moment::Taken);
         take_line(alloc, plan, line, &mut live, &mut answers, &mut written)?;
         pass(gate, line);
@@ -60,17 +55,25 @@ pub fn replay<G: Gate>(alloc: Global, plan: &Plan, gate: &G) -> Result<Replayed,
     })
 }
 
-/// Where the records that the next lines name likely are. Found one after the other, while no rule runs, these wait for memory side by
-/// side, and are in the cache when their line is taken.
-fn look_ahead(
+/// Has the records that a line names be looked for first where they likely are. Where no line is left for which that is known, the next
+/// `AHEAD` lines' records are looked for: one after the other, while no rule runs, so that these look-ups wait for memory side by side.
+fn expect(
     plan: &Plan,
-    live: &Live,
     line: u64,
+    live: &mut Live,
     likely: &mut Vec<LikelyPositions>,
-) -> Result<(), AllocError> {
-    likely.clear();
-    for i in 0..AHEAD as u64 {
-        likely.push(live.likely(plan.reading(line.saturating_add(i))))?;
+) -> Result<(), AllocError>
+    ensures { OnOk result (live.new ≡ live.old) }
+{
+    if likely.is_empty() {
+        // the last of these lines first: its positions are taken last
+        for i in (0..AHEAD).rev() {
+            let reading = plan.reading(line.saturating_add(i));
+            likely.push(live.likely(reading))?;
+        }
+    }
+    if let Some(positions) = likely.pop() {
+        live.expect(positions);
     }
     Ok(())
 }

@@ -10,15 +10,15 @@ use Rattle.replay_run.proofs.replay.replay.Goals as goal
 
 pub loop-i-preserved : goal.loop-i-preserved
 loop-i-preserved g c =
-    let so = c.loop-i.invariant.0 in
     let plan : Planned = c.args.plan.now in
+    let so = subst (λ (live : Entries). SoFar plan c.loop-i.i (record_at live) c.loop-i.answers.items c.loop-i.written) (sym c.in_ok-expect.ensures) c.loop-i.invariant.0 in
     let before = after plan c.loop-i.i in
     let line = ap (λ first. first + c.loop-i.i) c.first-first.ensures in
     let answer = (one_at plan (c.first-first.result + c.loop-i.i) before).1 in
     let wrote = c.in_ok-take_line.ensures.written in (
       subst (λ answers. SoFar plan (c.loop-i.i + 1) (record_at c.take_line.new.live) answers c.take_line.new.written) (sym (c.in_ok-take_line.ensures.answer before so.records))
           (subst (λ written. SoFar plan (c.loop-i.i + 1) (record_at c.take_line.new.live) (c.loop-i.answers.items ++ answer ∷ []) written) (sym wrote.1)
-          (next plan c.loop-i.i _ (record_at c.loop-i.live) (record_at c.take_line.new.live) c.loop-i.answers.items answer c.loop-i.written wrote.0 line so refl
+          (next plan c.loop-i.i _ (record_at c.expect.new.live) (record_at c.take_line.new.live) c.loop-i.answers.items answer c.loop-i.written wrote.0 line so refl
           (c.in_ok-take_line.ensures.records before so.records) wrote.2)),
       c.in_ok-take_line.ensures.len ∙ ap (λ n. n + 1) c.loop-i.invariant.1,
       c.in_ok-take_line.ensures.capacity ∙ c.loop-i.invariant.2,

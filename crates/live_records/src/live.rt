@@ -3,7 +3,7 @@
 ghost use Rattle.std.specs.Prelude.{◌≡◌};
 
 use circ_records::{Key, LikelyPositions, Record, RecordMap, Records};
-use read_set::{Plan, Source, Stop, Writes, named};
+use read_set::{Plan, Source, Stop, Writes, named_by};
 use sip_reader::{Id, Reading};
 use std::alloc::{AllocError, Global};
 use std::marker::Model;
@@ -58,7 +58,7 @@ impl Live {
     /// Where the records that a reading names likely are.
     pub fn likely(&self, reading: Option<&Reading>) -> LikelyPositions {
         let (patron, item) = match reading {
-            Some(Reading::Asked(request)) => named(&request.act),
+            Some(Reading::Asked(request)) => named_by(&request.act),
             _ => (None, None),
         };
         self.records.likely(patron, item)

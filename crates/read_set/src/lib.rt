@@ -22,7 +22,7 @@ pub use effect::{Draft, Effect, Writes};
 pub use found::NotedRecord;
 pub use known::{Article, Member, known_fee, known_item, known_patron};
 pub use laws::{meaning_keeps_coherence, read_plans_stay_coherent, replay_keeps_coherence};
-pub use names::named;
+pub use names::named_by;
 pub use notes::{Name, Note, Notes};
 pub use noting::{Looks, NotesName, NotesSource, Noting};
 pub use plan::{Plan, PlanName};

@@ -3,7 +3,7 @@
 use sip_reader::{Act, Id};
 
 /// The patron and the item that a request names.
-pub fn named(act: &Act) -> (Option<&Id>, Option<&Id>) {
+pub fn named_by(act: &Act) -> (Option<&Id>, Option<&Id>) {
     match act {
         Act::BlockPatron(asked) => (Some(&asked.patron), None),
         Act::Checkin(asked) => (None, Some(&asked.item)),

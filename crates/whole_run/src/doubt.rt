@@ -7,7 +7,7 @@ use circ_policy::Policy;
 use csv::{ByteRecord, ReaderBuilder};
 use journal_table::Journal;
 use memchr::memmem;
-use read_set::named;
+use read_set::named_by;
 use replay_run::{Inputs, Sizes};
 use sip_reader::{Id, Reading, read_request};
 use std::alloc::{AllocError, Global};
@@ -157,7 +157,7 @@ impl Named {
         };
         for line in journal.lines() {
             if let Reading::Asked(request) = &read_request(alloc, line.request())? {
-                let (patron, item) = named(&request.act);
+                let (patron, item) = named_by(&request.act);
                 named.count(
                     patron.map(|id| patrons.contains(id)),
                     item.map(|id| items.contains(id)),

@@ -8,8 +8,8 @@ use Rattle.std.proofs.lemmas.Bool.Decides.{nat_tests}
 use Rattle.circ_records.specs.Keys.{key_cmp, key_cmp_total}
 use Rattle.circ_records.specs.declared.key.Key.{Key}
 use Rattle.version_store.specs.Entries.{Shown, Line, Store, IsLine, line_at, with_line, as_suspect, suspected}
-use Rattle.version_store.specs.Index.{at, with_at}
-use Rattle.version_store.specs.Indexed.{IsIndexed}
+use Rattle.version_store.specs.Index.{with_at}
+use Rattle.version_store.specs.Indexed.{IsIndexed, at}
 use Rattle.version_store.specs.declared.index.KeyIndex.{KeyIndex}
 use Rattle.version_store.proofs.Columns.{same_key}
 use Rattle.version_store.proofs.Views.{turn, get_suspected}

@@ -21,7 +21,7 @@ same_key k q e = key_cmp-IsAntisymmetric k q (tie (key_cmp k q) e)
 pub some_is : {A : Type 0} (o : Option A) (x : A) → o ≡ Some x → IsSome o
 some_is o x e = rw e refl
 
-alone : (b : Bool) → b || false ≡ cond b true false
+pub alone : (b : Bool) → b || false ≡ cond b true false
 alone true = refl
 alone false = refl
 

@@ -6,4 +6,5 @@ pub mod Views
 pub mod Sights
 pub mod Changes
 pub mod Walks
-pub mod Parts
+pub mod Hashed
+pub mod Slots

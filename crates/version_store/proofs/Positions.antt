@@ -1,5 +1,5 @@
--- Entries by their positions: what a search finds, and what is there after one was put or removed.
-use Rattle.std.proofs.Common.{◌≡◌, ℕ, zero, suc, ◌+◌, ◌<◌, ◌≤◌, Bool, true, false, cond, Some, None, List, [], ◌∷◌, ◌++◌, length, get_or, set, take, drop, refl, sym, ap, ◌∙◌, arith}
+-- Entries by their positions: what is found at one, and what is there after one was put or removed.
+use Rattle.std.proofs.Common.{◌≡◌, ℕ, zero, suc, ◌+◌, ◌<◌, Bool, true, false, cond, Some, None, List, [], ◌∷◌, ◌++◌, length, get_or, set, take, drop, refl, sym, ap, ◌∙◌, arith}
 use Rattle.std.specs.Prelude.{◌&&◌, not, T}
 use Rattle.std.specs.List.{insert, remove}
 use Rattle.std.specs.List.Sorted.{IsNonDecreasingBy}
@@ -9,7 +9,7 @@ use Rattle.std.specs.declared.cmp.Ordering.TheVariants.{Less, Equal, Greater}
 use Rattle.std.specs.FinMap.Entries.{below_all, by_order, find, put, where_key}
 use Rattle.std.proofs.lemmas.Cmp.{tied_itself}
 use Rattle.std.proofs.lemmas.List.Sorted.{searchable_from_sorted}
-use Rattle.circ_records.specs.Keys.{key_cmp, key_cmp_total, key_cmp-IsAntisymmetric}
+use Rattle.circ_records.specs.Keys.{key_cmp, key_cmp_total}
 use Rattle.circ_records.specs.declared.key.Key.{Key}
 use Rattle.version_store.specs.Devices.Positions.{IsAt, IsGap, Rise, all_marked, marked}
 use Rattle.version_store.specs.declared.entry.StoredEntry.{StoredEntry}
@@ -43,17 +43,6 @@ others k x = not (eq_by_cmp key_cmp k x)
 not_less : (o : Ordering) → o ≡ Less → is_lt (ordering_reverse o) ≡ false
 not_less o e = ap (λ x. is_lt (ordering_reverse x)) e
 
--- what is at or before a lesser one is less, and what is at or after a greater one is greater
-least : (a b : Ordering) → b ≡ Less → ordering_index a ≤ ordering_index b → a ≡ Less
-least Less b e le = refl
-least Equal b e le = absurd (omega (arith, le, ap ordering_index e))
-least Greater b e le = absurd (omega (arith, le, ap ordering_index e))
-
-greatest : (a b : Ordering) → a ≡ Greater → ordering_index a ≤ ordering_index b → b ≡ Greater
-greatest a Less e le = absurd (omega (arith, le, ap ordering_index e))
-greatest a Equal e le = absurd (omega (arith, le, ap ordering_index e))
-greatest a Greater e le = refl
-
 module _ {X : Type 0} where
   -- ---- keys that rise
   below_at : (x : Key) (es : List (Key × X)) (i : ℕ) (d : Key × X) → T (below_all key_cmp x es) → i < length es → key_cmp x (get_or es i d).0 ≡ Less
@@ -69,52 +58,9 @@ module _ {X : Type 0} where
   rising_at (e ∷ es) (suc i) (suc j) d s lt within = rising_at es i j d (second _ _ s) (omega (arith, lt)) (omega (arith, within))
 
   -- ---- a search
-  searchable : (es : List (Key × X)) → Rise es → (k : Key) → IsNonDecreasingBy (λ (e : Key × X). ordering_index (key_cmp e.0 k)) es
+  pub searchable : (es : List (Key × X)) → Rise es → (k : Key) → IsNonDecreasingBy (λ (e : Key × X). ordering_index (key_cmp e.0 k)) es
   searchable es s k = searchable_from_sorted key_cmp_total (λ (e : Key × X). e.0) es k
       (λ i d low high. ap is_lt (key_cmp_total.antisymm (get_or es (i + 1) d).0 (get_or es i d).0) ∙ not_less (key_cmp (get_or es i d).0 (get_or es (i + 1) d).0) (rising_at es i (i + 1) d s (omega arith) high))
-
-  -- where a key may still be: those before are less, and those from the end on are greater
-  pub record IsBetween (es : List (Key × X)) (k : Key) (low high : ℕ) : Type 0 where
-    pub order : low ≤ high
-    pub within : high ≤ length es
-    pub below : (j : ℕ) (d : Key × X) → j < low → key_cmp (get_or es j d).0 k ≡ Less
-    pub above : (j : ℕ) (d : Key × X) → high ≤ j → j < length es → key_cmp (get_or es j d).0 k ≡ Greater
-
-  pub between_all : (es : List (Key × X)) (k : Key) (n : ℕ) → n ≡ length es → IsBetween es k 0 n
-  between_all es k n whole = record {
-    order = omega arith;
-    within = omega (arith, whole);
-    below = λ j d l. absurd (omega (arith, l));
-    above = λ j d l h. absurd (omega (arith, l, h, whole));
-  }
-
-  pub between_less : (es : List (Key × X)) (k : Key) (low high m n : ℕ) → Rise es → IsBetween es k low high → m < high → n ≡ m + 1
-      → ((d : Key × X) → key_cmp (get_or es m d).0 k ≡ Less) → IsBetween es k n high
-  between_less es k low high m n s b lt next is = record {
-    order = omega (arith, lt, next);
-    within = b.within;
-    below = λ j d l. least _ _ (is d) (searchable es s k j m d (omega (arith, l, next)) (omega (arith, lt, b.within)));
-    above = b.above;
-  }
-
-  pub between_greater : (es : List (Key × X)) (k : Key) (low high m : ℕ) → Rise es → IsBetween es k low high → low ≤ m → m < high
-      → ((d : Key × X) → key_cmp (get_or es m d).0 k ≡ Greater) → IsBetween es k low m
-  between_greater es k low high m s b le lt is = record {
-    order = le;
-    within = omega (arith, lt, b.within);
-    below = b.below;
-    above = λ j d l h. greatest _ _ (is d) (searchable es s k m j d l h);
-  }
-
-  pub between_gap : (es : List (Key × X)) (k : Key) (low high : ℕ) → IsBetween es k low high → high ≤ low → IsGap es k low
-  between_gap es k low high b past = record {
-    within = omega (arith, b.order, b.within);
-    below = b.below;
-    above = λ j d l h. b.above j d (omega (arith, l, past)) h;
-  }
-
-  pub found : (es : List (Key × X)) (k : Key) (i : ℕ) → i < length es → ((d : Key × X) → key_cmp (get_or es i d).0 k ≡ Equal) → IsAt es k i
-  found es k i within is = record { within = within; same = λ d. key_cmp-IsAntisymmetric (get_or es i d).0 k (is d) }
 
   -- ---- without the first
   at_tail : (e : Key × X) (es : List (Key × X)) (k : Key) (i : ℕ) → IsAt (e ∷ es) k (suc i) → IsAt es k i

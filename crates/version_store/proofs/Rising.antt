@@ -1,17 +1,17 @@
 -- The lines of a column, which rise: what is in it after a line was put or taken out, and what is below a line.
-use Rattle.std.proofs.Common.{◌≡◌, ℕ, zero, suc, ◌+◌, ◌-◌, ◌<◌, ◌≤◌, Bool, true, false, cond, Some, None, List, [], ◌∷◌, Result, Ok, Err, length, get_or, refl, sym, ap, subst, ◌∙◌, arith, inl, inr}
-use Rattle.std.specs.Prelude.{◌||◌, ◌⊎◌, MatchResult}
+use Rattle.std.proofs.Common.{◌≡◌, ℕ, zero, suc, ◌+◌, ◌-◌, ◌<◌, ◌≤◌, Bool, true, false, cond, nat_lt, Option, Some, None, List, [], ◌∷◌, ◌++◌, Result, Ok, Err, length, get_or, refl, sym, ap, subst, ◌∙◌, arith, inl, inr}
+use Rattle.std.specs.Prelude.{◌||◌, ◌⊎◌, MatchOption, MatchResult, option_to_list}
 use Rattle.std.specs.List.{insert, remove}
-use Rattle.std.specs.List.Sorted.{IsBinarySearchResult}
+use Rattle.std.specs.List.Sorted.{IsBinarySearchResult, IsPartitionPoint, IsPartitionedBy}
 use Rattle.std.specs.Ordering.{nat_cmp, eq_by_cmp}
-use Rattle.std.proofs.lemmas.Bool.{cases_eq, cases_lt}
+use Rattle.std.proofs.lemmas.Bool.{cases_eq, cases_lt, lt-ltb, ltb-false, ltb-true}
 use Rattle.std.proofs.lemmas.Bool.Decides.{nat_tests}
-use Rattle.std.proofs.lemmas.List.{get_or_default}
+use Rattle.std.proofs.lemmas.List.{append-nil, get_or_default}
 use Rattle.std.proofs.lemmas.List.Edits.{length-insert, get_or-insert_below, get_or-insert_at, get_or-insert_above}
 use Rattle.std.proofs.lemmas.List.Quantifiers.{all_pairs_remove}
 use Rattle.std.proofs.lemmas.List.Sorted as sorted
 use Rattle.version_store.specs.Index.{IsLatest, has}
-use Rattle.version_store.specs.Devices.Columns.{AreBelow, GoesTo, Rising, StandsAt}
+use Rattle.version_store.specs.Devices.Columns.{AreBelow, GoesTo, IsColumn, Rising, StandsAt, lines_of}
 
 -- ---- numbers that are the same, and tests
 apart : (m n : ℕ) → (m ≡ n → ⊥) → eq_by_cmp nat_cmp m n ≡ false
@@ -75,18 +75,15 @@ pub placed : (ns : List ℕ) (n : ℕ) (r : Result ℕ ℕ) → Rising ns → Is
 placed ns n (Ok i) rise found = let h = sorted.searched ns n (Ok i) found (far ns rise) in record { within = h.0; same = h.1 }
 placed ns n (Err i) rise found = let h = sorted.searched ns n (Err i) found (far ns rise) in record { within = h.0; below = h.1; above = h.2 }
 
-pub below_at : (ns : List ℕ) (n i : ℕ) → Rising ns → StandsAt ns n i → AreBelow ns n i
-below_at ns n i rise at = record {
-  within = omega (arith, at.within);
-  below = λ j l. omega (arith, rise j i 0 l at.within, at.same);
-  rest = λ j l h. omega (arith, far ns rise i j l h, at.same);
-}
+-- a test by which the lines are parted
+pub parted_by : (ns : List ℕ) (below : ℕ) → Rising ns → IsPartitionedBy (λ m. nat_lt m below) ns
+parted_by ns below rise i j d l h t = lt-ltb (get_or ns i d) below (omega (arith, ltb-true _ _ t, get_or_default ns i 0 d (omega (arith, l, h)), get_or_default ns j 0 d h, far ns rise i j l h))
 
-pub below_gap : (ns : List ℕ) (n i : ℕ) → GoesTo ns n i → AreBelow ns n i
-below_gap ns n i gap = record {
-  within = gap.within;
-  below = gap.below;
-  rest = λ j l h. omega (arith, gap.above j l h);
+pub parted : (ns : List ℕ) (below count : ℕ) → count ≤ length ns → IsPartitionPoint (λ m. nat_lt m below ≡ true) (λ m. nat_lt m below ≡ false) ns count → AreBelow ns below count
+parted ns below count within p = record {
+  within = within;
+  below = λ j l. ltb-true _ _ (p.0 j 0 (omega arith) l);
+  rest = λ j l h. ltb-false _ _ (p.1 j 0 l h);
 }
 
 -- ---- a line that is put
@@ -98,7 +95,7 @@ put_in (x ∷ ns) (suc i) n m =
     ap (λ b. eq_by_cmp nat_cmp x m || b) (put_in ns i n m)
     ∙ or_later (eq_by_cmp nat_cmp n m) (has ns m) (eq_by_cmp nat_cmp x m)
 
-pub has_put : (ns ms : List ℕ) (i n : ℕ) → ms ≡ insert ns i n → (m : ℕ) → has ms m ≡ cond (eq_by_cmp nat_cmp n m) true (has ns m)
+has_put : (ns ms : List ℕ) (i n : ℕ) → ms ≡ insert ns i n → (m : ℕ) → has ms m ≡ cond (eq_by_cmp nat_cmp n m) true (has ns m)
 has_put ns ms i n is m = ap (λ l. has l m) is ∙ put_in ns i n m
 
 -- a line that was there
@@ -139,11 +136,6 @@ rising_put : (ns : List ℕ) (n i : ℕ) → Rising ns → GoesTo ns n i → Ris
 rising_put ns n i rise gap = rising_from (insert ns i n) (λ j k l h.
     put_two ns n i j k rise gap l (omega (arith, h, length-insert ns i n gap.within)) (put_at ns n i j gap.within) (put_at ns n i k gap.within))
 
--- whether there was memory for it or not
-pub rising_then : (done : Bool) (ns ms : List ℕ) (n i : ℕ) → Rising ns → GoesTo ns n i → ms ≡ cond done (insert ns i n) ns → Rising ms
-rising_then true ns ms n i rise gap is = subst Rising (sym is) (rising_put ns n i rise gap)
-rising_then false ns ms n i rise gap is = subst Rising (sym is) rise
-
 -- ---- a line that is taken out
 take_at : (ns : List ℕ) (n i m : ℕ) → Rising ns → i < length ns → get_or ns i 0 ≡ n → has (remove ns i) m ≡ cond (eq_by_cmp nat_cmp n m) false (has ns m)
 take_at [] n i m rise l e = absurd (omega (arith, l))
@@ -155,17 +147,17 @@ take_at (x ∷ ns) n (suc i) m rise l e =
     ∙ but_later (eq_by_cmp nat_cmp n m) (has ns m) (eq_by_cmp nat_cmp x m)
     (λ t. apart x m (λ s. omega (arith, rise 0 (suc i) 0 (omega arith) l, is_one n m t, s, e)))
 
-pub has_out : (ns : List ℕ) (n i : ℕ) → Rising ns → StandsAt ns n i → (m : ℕ) → has (remove ns i) m ≡ cond (eq_by_cmp nat_cmp n m) false (has ns m)
+has_out : (ns : List ℕ) (n i : ℕ) → Rising ns → StandsAt ns n i → (m : ℕ) → has (remove ns i) m ≡ cond (eq_by_cmp nat_cmp n m) false (has ns m)
 has_out ns n i rise at m = take_at ns n i m rise at.within at.same
 
 -- a line that wasn't there
-pub has_never : (ns : List ℕ) (n i : ℕ) → GoesTo ns n i → (m : ℕ) → has ns m ≡ cond (eq_by_cmp nat_cmp n m) false (has ns m)
+has_never : (ns : List ℕ) (n i : ℕ) → GoesTo ns n i → (m : ℕ) → has ns m ≡ cond (eq_by_cmp nat_cmp n m) false (has ns m)
 has_never ns n i gap m = but_none _ _ (λ e. ap (has ns) (sym (is_one n m e)) ∙ has_none ns n (λ k l s. elim (cases_lt k i) [
   | inl b ↦ omega (arith, gap.below k b, s)
   | inr b ↦ omega (arith, gap.above k (omega (arith, b)) l, s)
 ]))
 
-pub rising_out : (ns : List ℕ) (n i : ℕ) → Rising ns → StandsAt ns n i → Rising (remove ns i)
+rising_out : (ns : List ℕ) (n i : ℕ) → Rising ns → StandsAt ns n i → Rising (remove ns i)
 rising_out ns n i rise at = all_pairs_remove (λ a b. a < b) ns i at.within rise
 
 -- ---- the greatest line below
@@ -184,3 +176,138 @@ last_is ns below count n rise are some is = (
 
 pub last_below : (ns : List ℕ) (below count n : ℕ) → Rising ns → AreBelow ns below count → 0 < count → n ≡ get_or ns (count - 1) n → IsLatest (has ns) below (Some n)
 last_below ns below count n rise are some is = last_is ns below count n rise are some (is ∙ get_or_default ns (count - 1) n 0 (omega (arith, some, are.within)))
+
+-- ---- the newest line after the older ones
+length_end : (ns : List ℕ) (n : ℕ) → length (ns ++ n ∷ []) ≡ length ns + 1
+length_end [] n = refl
+length_end (x ∷ ns) n = omega (arith, length_end ns n)
+
+end_at : (ns : List ℕ) (n : ℕ) → get_or (ns ++ n ∷ []) (length ns) 0 ≡ n
+end_at [] n = refl
+end_at (x ∷ ns) n = end_at ns n
+
+front_at : (ns : List ℕ) (n i d : ℕ) → i < length ns → get_or (ns ++ n ∷ []) i d ≡ get_or ns i d
+front_at [] n i d l = absurd (omega (arith, l))
+front_at (x ∷ ns) n zero d l = refl
+front_at (x ∷ ns) n (suc i) d l = front_at ns n i d (omega (arith, l))
+
+insert_front : (ns : List ℕ) (n i m : ℕ) → i ≤ length ns → insert (ns ++ n ∷ []) i m ≡ insert ns i m ++ n ∷ []
+insert_front [] n zero m l = refl
+insert_front [] n (suc i) m l = absurd (omega (arith, l))
+insert_front (x ∷ ns) n zero m l = refl
+insert_front (x ∷ ns) n (suc i) m l = ap (λ (xs : List ℕ). x ∷ xs) (insert_front ns n i m (omega (arith, l)))
+
+insert_end : (ns : List ℕ) (n : ℕ) → insert ns (length ns) n ≡ ns ++ n ∷ []
+insert_end [] n = refl
+insert_end (x ∷ ns) n = ap (λ (xs : List ℕ). x ∷ xs) (insert_end ns n)
+
+remove_front : (ns : List ℕ) (n i : ℕ) → i < length ns → remove (ns ++ n ∷ []) i ≡ remove ns i ++ n ∷ []
+remove_front [] n i l = absurd (omega (arith, l))
+remove_front (x ∷ ns) n zero l = refl
+remove_front (x ∷ ns) n (suc i) l = ap (λ (xs : List ℕ). x ∷ xs) (remove_front ns n i (omega (arith, l)))
+
+remove_end : (ns : List ℕ) (n : ℕ) → remove (ns ++ n ∷ []) (length ns) ≡ ns
+remove_end [] n = refl
+remove_end (x ∷ ns) n = ap (λ (xs : List ℕ). x ∷ xs) (remove_end ns n)
+
+pub rising_front : (ns : List ℕ) (n : ℕ) → Rising (ns ++ n ∷ []) → Rising ns
+rising_front ns n rise = rising_from ns (λ j k l h.
+    omega (arith, rise j k 0 l (omega (arith, h, length_end ns n)), front_at ns n j 0 (omega (arith, l, h)), front_at ns n k 0 h))
+
+-- each line is at most the newest
+at_most : (ns : List ℕ) (n i : ℕ) → Rising (ns ++ n ∷ []) → i < length (ns ++ n ∷ []) → get_or (ns ++ n ∷ []) i 0 ≤ n
+at_most ns n i rise h = omega (arith, far (ns ++ n ∷ []) rise i (length ns) (omega (arith, h, length_end ns n)) (omega (arith, length_end ns n)), end_at ns n)
+
+pub at_front : (ns : List ℕ) (n m i : ℕ) → StandsAt ns m i → StandsAt (ns ++ n ∷ []) m i
+at_front ns n m i at = record { within = omega (arith, at.within, length_end ns n); same = front_at ns n i 0 at.within ∙ at.same }
+
+pub at_end : (ns : List ℕ) (n : ℕ) → StandsAt (ns ++ n ∷ []) n (length ns)
+at_end ns n = record { within = omega (arith, length_end ns n); same = end_at ns n }
+
+gap_front : (ns : List ℕ) (n m i : ℕ) → GoesTo ns m i → m < n → GoesTo (ns ++ n ∷ []) m i
+gap_front ns n m i gap less = record {
+  within = omega (arith, gap.within, length_end ns n);
+  below = λ j l. omega (arith, gap.below j l, front_at ns n j 0 (omega (arith, l, gap.within)));
+  above = λ j l h. elim (cases_lt j (length ns)) [
+    | inl a ↦ omega (arith, gap.above j l a, front_at ns n j 0 a)
+    | inr a ↦ let e : j ≡ length ns = omega (arith, a, h, length_end ns n) in omega (arith, less, ap (λ x. get_or (ns ++ n ∷ []) x 0) e, end_at ns n)
+  ];
+}
+
+gap_end : (ns : List ℕ) (n m : ℕ) → Rising (ns ++ n ∷ []) → n < m → GoesTo (ns ++ n ∷ []) m (length (ns ++ n ∷ []))
+gap_end ns n m rise less = record {
+  within = omega arith;
+  below = λ j l. omega (arith, at_most ns n j rise l, less);
+  above = λ j l h. absurd (omega (arith, l, h));
+}
+
+-- ---- a column that was changed
+pub has_newer : (ns : List ℕ) (n m : ℕ) → has (ns ++ n ∷ []) m ≡ cond (eq_by_cmp nat_cmp n m) true (has ns m)
+has_newer ns n m = has_put ns (ns ++ n ∷ []) (length ns) n (sym (insert_end ns n)) m
+
+pub rising_newer : (ns : List ℕ) (n m : ℕ) → Rising (ns ++ n ∷ []) → n < m → Rising ((ns ++ n ∷ []) ++ m ∷ [])
+rising_newer ns n m rise less = subst Rising (insert_end (ns ++ n ∷ []) m) (rising_put (ns ++ n ∷ []) m (length (ns ++ n ∷ [])) rise (gap_end ns n m rise less))
+
+pub rising_one : (n : ℕ) → Rising (n ∷ [])
+rising_one n = λ i j d l h. absurd (omega (arith, l, h))
+
+-- a line among the older ones
+pub has_older : (ns ms : List ℕ) (n i m : ℕ) → GoesTo ns m i → ms ≡ insert ns i m → (k : ℕ) → has (ms ++ n ∷ []) k ≡ cond (eq_by_cmp nat_cmp m k) true (has (ns ++ n ∷ []) k)
+has_older ns ms n i m gap is = has_put (ns ++ n ∷ []) (ms ++ n ∷ []) i m (ap (λ (xs : List ℕ). xs ++ n ∷ []) is ∙ sym (insert_front ns n i m gap.within))
+
+-- whether there was memory for it or not
+pub rising_older : (done : Bool) (ns ms : List ℕ) (n i m : ℕ) → Rising (ns ++ n ∷ []) → GoesTo ns m i → m < n → ms ≡ cond done (insert ns i m) ns → Rising (ms ++ n ∷ [])
+rising_older true ns ms n i m rise gap less is =
+    subst Rising (insert_front ns n i m gap.within ∙ ap (λ (xs : List ℕ). xs ++ n ∷ []) (sym is)) (rising_put (ns ++ n ∷ []) m i rise (gap_front ns n m i gap less))
+rising_older false ns ms n i m rise gap less is = subst (λ xs. Rising (xs ++ n ∷ [])) (sym is) rise
+
+pub has_left : (ns ms : List ℕ) (n i m : ℕ) → Rising (ns ++ n ∷ []) → StandsAt ns m i → ms ≡ remove ns i → (k : ℕ) → has (ms ++ n ∷ []) k ≡ cond (eq_by_cmp nat_cmp m k) false (has (ns ++ n ∷ []) k)
+has_left ns ms n i m rise at is k =
+    ap (λ (xs : List ℕ). has xs k) (ap (λ (xs : List ℕ). xs ++ n ∷ []) is ∙ sym (remove_front ns n i at.within))
+    ∙ has_out (ns ++ n ∷ []) m i rise (at_front ns n m i at) k
+
+pub rising_left : (ns ms : List ℕ) (n i m : ℕ) → Rising (ns ++ n ∷ []) → StandsAt ns m i → ms ≡ remove ns i → Rising (ms ++ n ∷ [])
+rising_left ns ms n i m rise at is =
+    subst Rising (remove_front ns n i at.within ∙ ap (λ (xs : List ℕ). xs ++ n ∷ []) (sym is)) (rising_out (ns ++ n ∷ []) m i rise (at_front ns n m i at))
+
+pub has_no_newer : (ns : List ℕ) (n : ℕ) → Rising (ns ++ n ∷ []) → (k : ℕ) → has ns k ≡ cond (eq_by_cmp nat_cmp n k) false (has (ns ++ n ∷ []) k)
+has_no_newer ns n rise k = ap (λ (xs : List ℕ). has xs k) (sym (remove_end ns n)) ∙ has_out (ns ++ n ∷ []) n (length ns) rise (at_end ns n) k
+
+-- a line that wasn't there
+pub has_neither : (ns : List ℕ) (n i m : ℕ) → GoesTo ns m i → (n ≡ m → ⊥) → (k : ℕ) → has (ns ++ n ∷ []) k ≡ cond (eq_by_cmp nat_cmp m k) false (has (ns ++ n ∷ []) k)
+has_neither ns n i m gap other k = but_none _ _ (λ e.
+    has_newer ns n k
+    ∙ ap (λ b. cond b true (has ns k)) (apart n k (λ s. other (s ∙ sym (is_one m k e))))
+    ∙ has_never ns m i gap k ∙ ap (λ b. cond b false (has ns k)) e)
+
+none_of : (ns : List ℕ) → length ns ≡ 0 → ns ≡ []
+none_of [] e = refl
+none_of (x ∷ ns) e = absurd (omega (arith, e))
+
+-- the last of the older lines becomes the newest
+pub popped : (r : Option ℕ) (ns ms : List ℕ) (a b : ℕ) → a ≡ length ns → ns ≡ ms ++ option_to_list r → MatchOption r ((a ≡ 0) × (b ≡ 0)) (λ x. b + 1 ≡ a) → lines_of r ms ≡ ns
+popped None ns ms a b long is none = sym (none_of ns (sym long ∙ none.0))
+popped (Some x) ns ms a b long is some = sym is
+
+pub popped_column : (r : Option ℕ) (ns ms : List ℕ) (a b : ℕ) → a ≡ length ns → Rising ns → ns ≡ ms ++ option_to_list r → MatchOption r ((a ≡ 0) × (b ≡ 0)) (λ x. b + 1 ≡ a) → IsColumn r ms
+popped_column None ns ms a b long rise is none = sym (append-nil ms) ∙ sym is ∙ none_of ns (sym long ∙ none.0)
+popped_column (Some x) ns ms a b long rise is some = subst Rising is rise
+
+-- ---- the greatest line below, where the newest isn't below, and where it is
+before_newest : (ns : List ℕ) (n m : ℕ) → m < n → has (ns ++ n ∷ []) m ≡ has ns m
+before_newest ns n m l = has_newer ns n m ∙ ap (λ b. cond b true (has ns m)) (apart n m (λ e. omega (arith, e, l)))
+
+pub latest_older : (ns : List ℕ) (n below : ℕ) (r : Option ℕ) → below ≤ n → IsLatest (has ns) below r → IsLatest (has (ns ++ n ∷ [])) below r
+latest_older ns n below None le h = λ m l. before_newest ns n m (omega (arith, l, le)) ∙ h m l
+latest_older ns n below (Some r) le h = (
+  h.0,
+  before_newest ns n r (omega (arith, h.0, le)) ∙ h.1,
+  λ m a b. before_newest ns n m (omega (arith, b, le)) ∙ h.2 m a b,
+)
+
+pub latest_newest : (ns : List ℕ) (n below : ℕ) → Rising (ns ++ n ∷ []) → n < below → IsLatest (has (ns ++ n ∷ [])) below (Some n)
+latest_newest ns n below rise l = (
+  l,
+  has_newer ns n n ∙ ap (λ b. cond b true (has ns n)) (itself n),
+  λ m a b. has_none (ns ++ n ∷ []) m (λ k h s. omega (arith, at_most ns n k rise h, s, a)),
+)

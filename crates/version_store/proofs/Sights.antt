@@ -9,8 +9,7 @@ use Rattle.std.proofs.lemmas.List.{get_or-replicate, get_or_past, get_or_default
 use Rattle.circ_records.specs.Keys.{key_cmp}
 use Rattle.circ_records.specs.declared.key.Key.{Key}
 use Rattle.version_store.specs.Entries.{Shown, Line, Store, no_entries, IsLine, HasLines, line_at, with_line, position_of, no_rows, none_placed, above, visible}
-use Rattle.version_store.specs.Index.{at}
-use Rattle.version_store.specs.Indexed.{IsIndexed}
+use Rattle.version_store.specs.Indexed.{IsIndexed, at}
 use Rattle.version_store.specs.declared.index.KeyIndex.{KeyIndex}
 
 -- ---- lines by their numbers

@@ -1,4 +1,3 @@
 -- For proofs alone: how things are stored or counted. No promise needs it.
 pub mod Columns
 pub mod Positions
-pub mod ShortLists

@@ -1,43 +1,50 @@
 //! Which lines have an entry, key by key.
 
-ghost use Rattle.std.specs.Prelude.{◌≡◌, ℕ, IfOk, OnOk, OnErr, true, false};
+ghost use Rattle.std.specs.Prelude.{◌≡◌, ℕ, List, None, IfOk, replicate, false};
 ghost use Rattle.circ_records.specs.declared.key.Key.{Key};
-ghost use Rattle.version_store.specs.Index.{IsLatest, at, in_part, position_in, with_at};
+ghost use Rattle.version_store.specs.Index.{in_parts, slot_of};
 
 use crate::column::Column;
+use crate::parts::{KeyParts, position_in};
 use circ_records::Key;
 use std::alloc::{AllocError, Global};
-use std::collections::BTreeMap;
 
-/// There is a part for each 16 lines, so that a part has few keys.
-const LINES_A_PART: usize = 16;
+/// There is a slot for each two lines, so that most keys are in their slots.
+const LINES_A_SLOT: usize = 2;
 
-/// For each key the lines that have an entry there. A key's hash chooses its part, so a look-up mostly goes through few keys. A part is
-/// a tree: chosen ids can put all keys into one part, and a look-up stays short even then.
+/// For each key the lines that have an entry there. A key's hash chooses its slot. The first key of a slot stays in it, and most
+/// look-ups go no further. A key whose slot is another's is in the parts.
 pub struct KeyIndex {
-    parts: Vec<IndexPart>,
+    slots: Vec<KeySlot>,
+    others: KeyParts,
+    ghost kept: { (k : Key) (n : ℕ) → slot_of slots.items k ≡ None → in_parts others.parts.items k n ≡ false },
 }
 
-/// Some of the keys, with their lines.
-type IndexPart = BTreeMap<Key, Column>;
+/// The key that is in the slot, if one is, and its lines.
+type KeySlot = Option<(Key, Column)>;
 
 impl Drop for KeyIndex {
     fn drop(self) {
-        let KeyIndex { parts: _ } = self;
+        let KeyIndex {
+            slots: _,
+            others: _,
+        } = self;
     }
 }
 
 impl KeyIndex {
+    ghost use Rattle.std.specs.Prelude.{OnOk, OnErr, true};
+    ghost use Rattle.version_store.specs.Index.{IsLatest, with_at};
+    ghost use Rattle.version_store.specs.Indexed.{at};
+
     /// An index for this many lines, none of which has an entry.
     pub fn new(alloc: Global, lines: usize) -> Result<KeyIndex, AllocError>
         ensures { IfOk result (λ index. (q : Key) (m : ℕ) → at index q m ≡ false) }
     {
-        let count = lines / LINES_A_PART + 1;
-        let mut parts = Vec::with_capacity(alloc, count)?;
-        for _i in 0..count {
-            parts.push(BTreeMap::new(alloc))?;
-        }
-        Ok(KeyIndex { parts })
+        Ok(KeyIndex {
+            slots: no_slots(alloc, lines / LINES_A_SLOT + 1)?,
+            others: KeyParts::new(alloc, lines)?,
+        })
     }
 
     /// Notes that the line has an entry at the key.
@@ -45,25 +52,32 @@ impl KeyIndex {
         ensures put { OnOk result ((q : Key) (m : ℕ) → at self.new q m ≡ with_at key.now line true (at self.old) q m) }
         ensures same { OnErr result ((q : Key) (m : ℕ) → at self.new q m ≡ at self.old q m) }
     {
-        let position = position_in(self.parts.len(), key);
-        if position >= self.parts.len() {
+        let position = position_in(self.slots.len(), key);
+        if position >= self.slots.len() {
             return Err(AllocError);
         }
-        let part = &mut self.parts[position];
-        add(part, alloc, key, line)
+        match &mut self.slots[position] {
+            Some((own, column)) if *own == *key => column.insert(line),
+            Some(_) => self.others.set(alloc, key, line),
+            slot => {
+                *slot = Some((key.clone()?, Column::of(alloc, line)));
+                Ok(())
+            }
+        }
     }
 
     /// Notes that the line has no entry at the key.
     pub fn clear(&mut self, key: &Key, line: u64)
         ensures { (q : Key) (m : ℕ) → at self.new q m ≡ with_at key.now line false (at self.old) q m }
     {
-        let position = position_in(self.parts.len(), key);
-        if position >= self.parts.len() {
+        let position = position_in(self.slots.len(), key);
+        if position >= self.slots.len() {
             return;
         }
-        let part = &mut self.parts[position];
-        if let Some(column) = part.get_mut(key) {
-            column.remove(line);
+        match &mut self.slots[position] {
+            Some((own, column)) if *own == *key => column.remove(line),
+            Some(_) => self.others.clear(key, line),
+            None => {}
         }
     }
 
@@ -71,27 +85,23 @@ impl KeyIndex {
     pub fn latest_below(&self, key: &Key, below: u64) -> Option<u64>
         ensures { IsLatest (at self.now key.now) below result }
     {
-        let position = position_in(self.parts.len(), key);
-        let column = self.parts.get(position)?.get(key)?;
-        column.latest_below(below)
+        let position = position_in(self.slots.len(), key);
+        let (own, column) = self.slots.get(position)?.as_ref()?;
+        if *own == *key {
+            column.latest_below(below)
+        } else {
+            self.others.latest_below(key, below)
+        }
     }
 }
 
-/// The position, among this many parts, of the part that a key's hash chooses. A hash has 32 bits, so no division is needed.
-fn position_in(parts: usize, key: &Key) -> usize
-    ensures { result ≡ position_in parts key.now }
+/// Slots that have no key.
+fn no_slots(alloc: Global, count: usize) -> Result<Vec<KeySlot>, AllocError>
+    ensures { IfOk result (λ slots. slots.items ≡ replicate count None) }
 {
-    (key.hash().wrapping_mul(parts as u64) / 4_294_967_296) as usize
-}
-
-/// Adds a line at a key of a part.
-fn add(part: &mut IndexPart, alloc: Global, key: &Key, line: u64) -> Result<(), AllocError>
-    ensures put { OnOk result ((q : Key) (m : ℕ) → in_part part.new q m ≡ with_at key.now line true (in_part part.old) q m) }
-    ensures same { OnErr result ((q : Key) (m : ℕ) → in_part part.new q m ≡ in_part part.old q m) }
-{
-    if let Some(column) = part.get_mut(key) {
-        return column.insert(line);
+    let mut slots = Vec::with_capacity(alloc, count)?;
+    for _i in 0..count {
+        slots.push(None)?;
     }
-    part.insert(key.clone()?, Column::of(alloc, line)?)?;
-    Ok(())
+    Ok(slots)
 }

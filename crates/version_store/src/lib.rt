@@ -9,7 +9,7 @@ mod column;
 mod entry;
 mod index;
 mod line;
-mod short_list;
+mod parts;
 mod store;
 mod table;
 

@@ -1,25 +1,27 @@
 //! The entries of one line.
 
-ghost use Rattle.std.specs.Prelude.{◌≡◌, ◌^◌, ◌<◌, OnOk, OnErr, Some, None, MatchOption, MatchResult, length, slice_get, option_map};
+ghost use Rattle.std.specs.Prelude.{◌≡◌, ◌^◌, ◌<◌, ◌≤◌, OnOk, OnErr, Some, None, MatchOption, MatchResult, length, slice_get, option_map};
 ghost use Rattle.std.specs.FinMap as fin;
-ghost use Rattle.circ_records.specs.Keys.{key_cmp};
+ghost use Rattle.std.specs.List.{insert};
 ghost use Rattle.version_store.specs.Entries.{AllOf, IsLeastLeft, IsNamedAt, keyed, line_of, no_entries, shown, suspected};
 ghost use Rattle.version_store.specs.Devices.Positions.{IsAt, IsGap, Rise, all_marked};
 
 use crate::entry::StoredEntry;
-use crate::short_list::ShortList;
 use circ_records::Key;
 use read_set::PlanName;
 use std::alloc::{AllocError, Global};
-use std::cmp::Ordering;
 use std::marker::Model;
 
 /// An entry, and its key, borrowed from the writes of the version at its place: with a key of its own it would take more memory.
 type Placed<'t, J> = (&'t Key, StoredEntry<'t, J>);
 
-/// The entries of one line as a list that rises by key. Most lines that write have two: those are inline.
+/// Most lines that write have this many entries.
+const USUAL_ENTRIES: usize = 2;
+
+/// The entries of one line, rising by key. `SmallVec` would hold a few inline, but its elements need a default, which a reference
+/// doesn't have.
 pub struct LineEntries<'t, J: PlanName> {
-    entries: ShortList<Placed<'t, J>>,
+    entries: Vec<Placed<'t, J>>,
 }
 
 impl<J: PlanName> Drop for LineEntries<'_, J> {
@@ -39,20 +41,20 @@ impl<'t, J: PlanName> Model for LineEntries<'t, J> {
 
     ghost use Rattle.version_store.specs.Entries.{keyed, line_of};
 
-    ghost view = { λ l. line_of (keyed l.entries) };
+    ghost view = { λ l. line_of (keyed l.entries.items) };
 
     ghost use Rattle.version_store.specs.Devices.Positions.{Rise};
 
-    ghost invariant = { λ l. Rise (keyed l.entries) };
+    ghost invariant = { λ l. Rise (keyed l.entries.items) };
 }
 
 impl<'t, J: PlanName> LineEntries<'t, J> {
     /// No entries.
-    pub fn new() -> LineEntries<'t, J>
+    pub fn new(alloc: Global) -> LineEntries<'t, J>
         ensures { result ≡ no_entries }
     {
         LineEntries {
-            entries: ShortList::new(),
+            entries: Vec::new(alloc),
         }
     }
 
@@ -67,19 +69,14 @@ impl<'t, J: PlanName> LineEntries<'t, J> {
     }
 
     /// Puts an entry at a key, and borrows the key.
-    pub fn put(
-        &mut self,
-        alloc: Global,
-        key: &'t Key,
-        made: StoredEntry<'t, J>,
-    ) -> Result<(), AllocError>
+    pub fn put(&mut self, key: &'t Key, made: StoredEntry<'t, J>) -> Result<(), AllocError>
         ensures put { OnOk result (self.new ≡ fin.insert self.old key.now (shown made.entry)) }
         ensures same { OnErr result (self.new ≡ self.old) }
         ensures absent { OnErr result (fin.get self.old key.now ≡ None) }
     {
         match position_of(&self.entries, key) {
-            Ok(position) => self.entries.set(position, (key, made)),
-            Err(position) => self.entries.insert(alloc, position, (key, made))?,
+            Ok(position) => self.entries[position] = (key, made),
+            Err(position) => insert_at(&mut self.entries, position, (key, made))?,
         }
         Ok(())
     }
@@ -89,7 +86,7 @@ impl<'t, J: PlanName> LineEntries<'t, J> {
         ensures { self.new ≡ fin.remove self.old key.now }
     {
         if let Ok(position) = position_of(&self.entries, key) {
-            self.entries.remove(position);
+            let _ = self.entries.remove(position);
         }
     }
 
@@ -128,36 +125,41 @@ impl<'t, J: PlanName> LineEntries<'t, J> {
 }
 
 /// The position of a key, or else the position to which it goes.
-fn position_of<J: PlanName>(entries: &ShortList<Placed<'_, J>>, key: &Key) -> Result<usize, usize>
+fn position_of<J: PlanName>(entries: &[Placed<'_, J>], key: &Key) -> Result<usize, usize>
     requires { Rise (keyed entries.now) }
     ensures { MatchResult result (IsAt (keyed entries.now) key.now) (IsGap (keyed entries.now) key.now) }
 {
-    let mut low = 0;
-    let mut high = entries.len();
-    while low < high {
-        let middle = low + (high - low) / 2;
-        match entries[middle].0.cmp(key) {
-            Ordering::Equal => return Ok(middle),
-            Ordering::Less => low = middle + 1,
-            Ordering::Greater => high = middle,
-        }
+    entries.binary_search_by(|entry| (*entry.0).cmp(key))
+}
+
+/// Inserts an entry at a position. The first takes memory for no more than most lines need, since there are many lines.
+fn insert_at<'t, J: PlanName>(
+    entries: &mut Vec<Placed<'t, J>>,
+    position: usize,
+    entry: Placed<'t, J>,
+) -> Result<(), AllocError>
+    requires { position ≤ length entries.old.items }
+    ensures put { OnOk result (entries.new.items ≡ insert entries.old.items position entry.entry) }
+    ensures same { OnErr result (entries.new.items ≡ entries.old.items) }
+{
+    if entries.is_empty() {
+        entries.reserve_exact(USUAL_ENTRIES)?;
     }
-    Err(low)
+    entries.insert(position, entry)?;
+    Ok(())
 }
 
 /// Makes each entry suspect.
-fn mark_all<J: PlanName>(entries: &mut ShortList<Placed<'_, J>>)
+fn mark_all<J: PlanName>(entries: &mut [Placed<'_, J>])
     ensures { entries.new ≡ all_marked entries.old }
 {
     for i in 0..entries.len() {
-        let (key, mut made) = entries[i];
-        made.suspect = true;
-        entries.set(i, (key, made));
+        entries[i].1.suspect = true;
     }
 }
 
 /// The least key whose entry isn't of this attempt.
-fn left_key<'t, J: PlanName>(entries: &ShortList<Placed<'t, J>>, attempt: u32) -> Option<&'t Key>
+fn left_key<'t, J: PlanName>(entries: &[Placed<'t, J>], attempt: u32) -> Option<&'t Key>
     requires { Rise (keyed entries.now) }
     ensures { MatchOption result (AllOf (line_of (keyed entries.now)) attempt) (λ k. IsLeastLeft (line_of (keyed entries.now)) attempt k.now) }
 {

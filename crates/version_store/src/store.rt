@@ -164,7 +164,7 @@ impl<'t, J: PlanName> EntryStore<'t, J> {
         };
         self.index.set(alloc, key, line)?;
         let row = &mut self.lines[(line - self.first) as usize];
-        match row.put(alloc, key, made) {
+        match row.put(key, made) {
             Ok(()) => Ok(()),
             Err(refused) => {
                 self.index.clear(key, line);
@@ -229,7 +229,7 @@ fn no_lines<'t, J: PlanName>(
 {
     let mut rows = Vec::with_capacity(alloc, lines)?;
     for _i in 0..lines {
-        rows.push(LineEntries::new())?;
+        rows.push(LineEntries::new(alloc))?;
     }
     Ok(rows)
 }

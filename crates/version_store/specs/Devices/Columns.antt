@@ -1,10 +1,18 @@
--- For proofs alone: the position of a line among the lines of a column, which rise.
-use Rattle.std.specs.Prelude.{◌≡◌, ℕ, ◌<◌, ◌≤◌, List, length, slice_index_or}
+-- For proofs alone: how the lines of a column are stored, which rise, and the position of a line among them.
+use Rattle.std.specs.Prelude.{◌≡◌, ℕ, ◌<◌, ◌≤◌, List, [], ◌∷◌, ◌++◌, Option, Some, None, length, slice_index_or}
 use Rattle.std.specs.List.{AllPairs}
 
 -- each line is below those after it
 abbrev pub Rising : List ℕ → Type 0
 Rising column = AllPairs (λ m n. m < n) column
+
+abbrev pub lines_of : Option ℕ → List ℕ → List ℕ
+lines_of None older = []
+lines_of (Some newest) older = older ++ newest ∷ []
+
+abbrev pub IsColumn : Option ℕ → List ℕ → Type 0
+IsColumn None older = older ≡ []
+IsColumn (Some newest) older = Rising (older ++ newest ∷ [])
 
 -- the line is at the position
 pub record StandsAt (column : List ℕ) (line i : ℕ) : Type 0 where

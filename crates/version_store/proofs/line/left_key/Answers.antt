@@ -11,10 +11,10 @@ loop-i-init g c = went_start _ _ _ refl c.requires
 pub returns-then-made-attempt : goal.returns-then-made-attempt
 returns-then-made-attempt g c =
     let es = keyed c.args.entries.now in
-    let e = c.index.result.now in
+    let e = c.index-entries-i.result in
     let i = c.loop-i.i in
-    let lt : i < length c.args.entries.now = omega (arith, c.loop-i-test.true, c.len-i-end.ensures) in
-    let more : drop i es ≡ (e.0.now, e.1) ∷ drop (i + 1) es = keyed_more c.args.entries.now i e lt c.index.ensures in
+    let lt : i < length c.args.entries.now = omega (arith, c.loop-i-test.true) in
+    let more : drop i es ≡ (e.0.now, e.1) ∷ drop (i + 1) es = keyed_more c.args.entries.now i e lt c.index-entries-i.is in
     least_left es c.args.attempt e.0.now e.1
     (went_here (IsOwn c.args.attempt) es (drop i es) (drop (i + 1) es) e.0.now e.1 more c.loop-i.invariant)
     c.if-made-attempt.true
@@ -23,14 +23,14 @@ returns-then-made-attempt g c =
 pub loop-i-preserved : goal.loop-i-preserved
 loop-i-preserved g c =
     let es = keyed c.args.entries.now in
-    let e = c.index.result.now in
+    let e = c.index-entries-i.result in
     let i = c.loop-i.i in
-    let lt : i < length c.args.entries.now = omega (arith, c.loop-i-test.true, c.len-i-end.ensures) in
-    let more : drop i es ≡ (e.0.now, e.1) ∷ drop (i + 1) es = keyed_more c.args.entries.now i e lt c.index.ensures in
+    let lt : i < length c.args.entries.now = omega (arith, c.loop-i-test.true) in
+    let more : drop i es ≡ (e.0.now, e.1) ∷ drop (i + 1) es = keyed_more c.args.entries.now i e lt c.index-entries-i.is in
     went_on (IsOwn c.args.attempt) es (drop i es) (drop (i + 1) es) e.0.now e.1 more c.loop-i.invariant (omega (arith, c.if-made-attempt.false))
 
 pub returns : goal.returns
 returns g c =
     let es = keyed c.args.entries.now in
-    let past : drop c.loop-i.i es ≡ [] = drop_all c.loop-i.i es (omega (arith, c.loop-i-test.false, c.len-i-end.ensures, keyed_length c.args.entries.now)) in
+    let past : drop c.loop-i.i es ≡ [] = drop_all c.loop-i.i es (omega (arith, c.loop-i-test.false, keyed_length c.args.entries.now)) in
     all_own es c.args.attempt (went_all (IsOwn c.args.attempt) es (drop c.loop-i.i es) past c.loop-i.invariant)

@@ -1,39 +1,48 @@
-use Rattle.std.proofs.Common.{◌≡◌, ◌<◌, ◌∙◌, ap, sym, arith, length, rules, Some, false}
-use Rattle.std.specs.BTreeMap.{get}
+use Rattle.std.proofs.Common.{◌≡◌, ◌<◌, ◌∙◌, ap, arith, length, refl, rules, Some, false, sym}
 use Rattle.std.proofs.lemmas.Option.{slice_get-get_or}
-use Rattle.circ_records.specs.Keys.{key_cmp}
-use Rattle.version_store.specs.Index.{position_in}
-use Rattle.version_store.proofs.Columns.{changed, untouched, some_is}
-use Rattle.version_store.proofs.Parts.{cleared_past, entered}
+use Rattle.version_store.specs.Index.{in_parts, position_in}
+use Rattle.version_store.proofs.Slots.{kept_then, none_in, none_past, other_changed, own_changed}
 use Rattle.version_store.proofs.index.KeyIndex.clear.Goals as goal
-
-pub returns-in-Some : goal.returns-in-Some
-returns-in-Some c =
-    let parts = c.args.self.now.parts.items in
-    let part = c.index_mut-part.result.now in
-    let i = c.position_in-position.result in
-    let here : i ≡ position_in (length parts) c.args.key.now = search rules in
-    let within : i < length parts = search rules in
-    let there = slice_get-get_or parts i part within ∙ ap Some (sym c.index_mut-part.ensures.value) in
-    let column = sym c.in-Some.ensures.value in
-    let update = (c.get_mut.follows.holds c.remove.new.self).3 (some_is _ _ column) in
-    entered parts i part _ c.args.key.now c.args.line false here there
-    (λ q m. changed (get key_cmp part) _ c.args.key.now q c.args.line m false _ c.remove.new.self column update.0 c.remove.ensures)
-
-pub returns-in_default : goal.returns-in_default
-returns-in_default c =
-    let parts = c.args.self.now.parts.items in
-    let part = c.index_mut-part.result.now in
-    let i = c.position_in-position.result in
-    let here : i ≡ position_in (length parts) c.args.key.now = search rules in
-    let within : i < length parts = search rules in
-    let there = slice_get-get_or parts i part within ∙ ap Some (sym c.index_mut-part.ensures.value) in
-    entered parts i part _ c.args.key.now c.args.line false here there
-    (λ q m. rw c.get_mut.follows.holds-at-none (untouched (get key_cmp part) c.args.key.now q c.args.line m (sym c.in_default.ensures.value)))
 
 pub returns-then-position-len : goal.returns-then-position-len
 returns-then-position-len c =
-    let parts = c.args.self.now.parts.items in
-    let here : c.position_in-position.result ≡ position_in (length parts) c.args.key.now = search rules in
-    let end : c.len-2.result ≡ length parts = search rules in
-    cleared_past parts c.args.key.now c.args.line (omega (arith, here, end, c.if-position-len.true))
+    let slots = c.args.self.now.slots.items in
+    let here : c.position_in-position.result ≡ position_in (length slots) c.args.key.now = search rules in
+    let end : c.len-2.result ≡ length slots = search rules in
+    none_past slots c.args.key.now (in_parts c.args.self.now.others.parts.items) c.args.line (omega (arith, here, end, c.if-position-len.true))
+
+pub invariant_of-self : goal.invariant_of-self
+invariant_of-self c =
+    let slots = c.args.self.now.slots.items in
+    let i = c.position_in-position.result in
+    let within : i < length slots = search rules in
+    let there = slice_get-get_or slots i c.index_mut.result.now within ∙ ap Some (sym c.index_mut.ensures.value) in
+    let others = in_parts c.args.self.now.others.parts.items in
+    record { kept = kept_then slots i _ (c.in-Some.own, c.remove.new.self) others others there c.args.self.now.kept (λ q m apart. refl) }
+
+pub returns-in-Some : goal.returns-in-Some
+returns-in-Some c =
+    let slots = c.args.self.now.slots.items in
+    let i = c.position_in-position.result in
+    let here : i ≡ position_in (length slots) c.args.key.now = search rules in
+    let within : i < length slots = search rules in
+    let there = slice_get-get_or slots i c.index_mut.result.now within ∙ ap Some (sym c.index_mut.ensures.value ∙ c.in-Some.is) in
+    own_changed slots i c.in-Some.own c.args.key.now c.in-Some.column c.remove.new.self (in_parts c.args.self.now.others.parts.items) c.args.line false here there c.if-eq.ensures c.remove.ensures
+
+pub returns-in-Some-2 : goal.returns-in-Some-2
+returns-in-Some-2 c =
+    let slots = c.args.self.now.slots.items in
+    let i = c.position_in-position.result in
+    let here : i ≡ position_in (length slots) c.args.key.now = search rules in
+    let within : i < length slots = search rules in
+    let there = slice_get-get_or slots i c.index_mut.result.now within ∙ ap Some (sym c.index_mut.ensures.value ∙ c.in-Some.is) in
+    other_changed slots i c.in-Some.own c.args.key.now c.in-Some.column (in_parts c.args.self.now.others.parts.items) (in_parts c.clear.new.self.parts.items) c.args.line false here there c.if-eq.ensures c.clear.ensures
+
+pub returns-in-None : goal.returns-in-None
+returns-in-None c =
+    let slots = c.args.self.now.slots.items in
+    let i = c.position_in-position.result in
+    let here : i ≡ position_in (length slots) c.args.key.now = search rules in
+    let within : i < length slots = search rules in
+    let there = slice_get-get_or slots i c.index_mut.result.now within ∙ ap Some (sym c.index_mut.ensures.value) in
+    none_in slots i c.index_mut.result.now c.args.key.now (in_parts c.args.self.now.others.parts.items) c.args.line here there c.in-None.is

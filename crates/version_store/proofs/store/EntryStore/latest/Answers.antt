@@ -1,7 +1,8 @@
 use Rattle.std.proofs.Common.{◌≡◌, ◌<◌, ◌-◌, length, sym, ap, ◌∙◌, arith, rules, Some, None, true}
 use Rattle.std.specs.Prelude.{is_some}
 use Rattle.std.specs.FinMap.{get}
-use Rattle.version_store.specs.Index.{IsLatest, at}
+use Rattle.version_store.specs.Index.{IsLatest}
+use Rattle.version_store.specs.Indexed.{at}
 use Rattle.version_store.specs.Entries.{Store, IsLine, Line, line_at, shown}
 use Rattle.version_store.proofs.Sights.{is_line, has_none, has_one, line_read, visible_none, visible_last}
 use Rattle.version_store.proofs.store.EntryStore.latest.Goals as goal

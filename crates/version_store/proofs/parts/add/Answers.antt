@@ -3,7 +3,7 @@ use Rattle.std.specs.BTreeMap.{get}
 use Rattle.std.proofs.lemmas.Result.{on_ok_weaker, on_err_weaker}
 use Rattle.circ_records.specs.Keys.{key_cmp}
 use Rattle.version_store.proofs.Columns.{begun, changed, kept, some_is}
-use Rattle.version_store.proofs.index.add.Goals as goal
+use Rattle.version_store.proofs.parts.add.Goals as goal
 
 pub returns-in-Some-clause-put : goal.returns-in-Some-clause-put
 returns-in-Some-clause-put c =
@@ -21,4 +21,4 @@ pub returns-clause-put : goal.returns-clause-put
 returns-clause-put c = λ q m.
     let own : c.in_ok-clone.field-0 ≡ c.args.key.now = c.in_ok-clone.ensures.cases in
     begun (get key_cmp c.args.part.now) (get key_cmp c.insert-2.new.self) c.args.key.now q c.args.line m (sym c.in_default.ensures.value)
-    (rw (← own, ← c.in_ok-of.ensures, ← c.get_mut.follows.holds-at-none) c.in_ok-insert.ensures.updates.0)
+    (rw (← own, ← c.of.ensures, ← c.get_mut.follows.holds-at-none) c.in_ok-insert.ensures.updates.0)

@@ -10,6 +10,7 @@ use Rattle.journal_run.specs.Stops.{status_of, stop_text}
 use Rattle.journal_run.specs.declared.making.Making.{Making}
 use Rattle.journal_run.specs.declared.stop.JournalStop.{JournalStop}
 use Rattle.journal_run.specs.declared.stop.JournalStop.TheVariants as stops
+use Rattle.journal_run.specs.declared.stop.MakingError.{MakingError}
 use Rattle.journal_run.specs.declared.stop.MakingError.TheVariants as errors
 use Rattle.journal_run.specs.declared.tally.LogTally.{LogTally}
 use Rattle.std.specs.Borrow.{Bor}
@@ -21,10 +22,10 @@ tells-stop (stops.Useless why) status taken is = ([], [], taken, refl, refl, ref
 tells-stop stops.Output status taken is = (taken, refl, is)
 
 -- all was printed, and its counts are reported
-pub journal-printed : (first : ℕ) (force : Bool) (counts : LogTally → Type 0) (at_end : Type 0) (start found : Option (List Said)) (status : ℕ) (m : Making) (old mid new : Option (List Event))
+pub journal-printed : (first : ℕ) (force : Bool) (counts : LogTally → Type 0) (fails : MakingError → Type 0) (at_end : Type 0) (start found : Option (List Said)) (status : ℕ) (m : Making) (old mid new : Option (List Event))
     → IsPrinted first old mid start found m → at_end → IsWanted force counts m.exchanges → Did (ReportsCounts counts (made_sums m) status) mid new
-    → Did (IsJournal first force counts at_end start found status) old new
-journal-printed first force counts at_end start found status m old mid new (heard, said, is, h, (es, p, prints), sums) ended wanted (fs, q, reports) = (
+    → Did (IsJournal first force counts fails at_end start found status) old new
+journal-printed first force counts fails at_end start found status m old mid new (heard, said, is, h, within, (es, p, prints), sums) ended wanted (fs, q, reports) = (
   es ++ fs,
   both es fs old mid new p q,
   inl (
@@ -35,6 +36,7 @@ journal-printed first force counts at_end start found status m old mid new (hear
     is,
     h,
     ended,
+    within,
     subst (λ (s : Sums). IsWanted force counts s.exchanges) sums wanted,
     prints,
     subst (λ (s : Sums). ReportsCounts counts s status fs) sums reports,
@@ -43,17 +45,17 @@ journal-printed first force counts at_end start found status m old mid new (hear
 )
 
 -- the run was stopped, and that is reported
-pub journal-stopped : (first : ℕ) (force : Bool) (counts : LogTally → Type 0) (at_end : Type 0) (start found : Option (List Said)) (status : ℕ) (stop : JournalStop) (old mid new : Option (List Event))
-    → IsBrokenOff first force counts at_end old mid start found stop → Did (TellsStop stop status) mid new → Did (IsJournal first force counts at_end start found status) old new
-journal-stopped first force counts at_end start found status stop old mid new (heard, later, said, is, h, cause, (es, p, breaks)) (fs, q, tells) =
+pub journal-stopped : (first : ℕ) (force : Bool) (counts : LogTally → Type 0) (fails : MakingError → Type 0) (at_end : Type 0) (start found : Option (List Said)) (status : ℕ) (stop : JournalStop) (old mid new : Option (List Event))
+    → IsBrokenOff first force counts fails at_end old mid start found stop → Did (TellsStop stop status) mid new → Did (IsJournal first force counts fails at_end start found status) old new
+journal-stopped first force counts fails at_end start found status stop old mid new (heard, later, said, is, h, cause, (es, p, breaks)) (fs, q, tells) =
     (es ++ fs, both es fs old mid new p q, inr (heard, later, said, stop, es, fs, is, h, cause, breaks, tells, refl))
 
 -- the journal is of no use, or memory runs out for saying so
-pub journal-useless : (first : ℕ) (force : Bool) (counts : LogTally → Type 0) (at_end : Type 0) (start found : Option (List Said)) (status : ℕ) (why : Bor (List ℕ)) (old mid new : Option (List Event))
-    → IsBrokenOff first force counts at_end old mid start found (stops.Useless why)
+pub journal-useless : (first : ℕ) (force : Bool) (counts : LogTally → Type 0) (fails : MakingError → Type 0) (at_end : Type 0) (start found : Option (List Said)) (status : ℕ) (why : Bor (List ℕ)) (old mid new : Option (List Event))
+    → IsBrokenOff first force counts fails at_end old mid start found (stops.Useless why)
     → Did (λ events. TellsStop (stops.Useless why) status events ⊎ TellsStop (stops.Source errors.Memory) status events) mid new
-    → Did (IsJournal first force counts at_end start found status) old new
-journal-useless first force counts at_end start found status why old mid new (heard, later, said, is, h, cause, (es, p, breaks)) (fs, q, inl tells) =
+    → Did (IsJournal first force counts fails at_end start found status) old new
+journal-useless first force counts fails at_end start found status why old mid new (heard, later, said, is, h, cause, (es, p, breaks)) (fs, q, inl tells) =
     (es ++ fs, both es fs old mid new p q, inr (heard, later, said, stops.Useless why, es, fs, is, h, cause, breaks, tells, refl))
-journal-useless first force counts at_end start found status why old mid new (heard, later, said, is, h, cause, (es, p, breaks)) (fs, q, inr tells) =
+journal-useless first force counts fails at_end start found status why old mid new (heard, later, said, is, h, cause, (es, p, breaks)) (fs, q, inr tells) =
     (es ++ fs, both es fs old mid new p q, inr (heard, later, said, stops.Source errors.Memory, es, fs, is, h, tt, breaks, tells, refl))

@@ -111,6 +111,10 @@ all-now said whole o e u s =
     let now : length (pairs_of said) ≡ length (whole ++ to_come o []) = ap (λ (xs : List Said). length (pairs_of xs)) (sym (append-nil said)) ∙ ap length (s.pairs []) in
     omega arith
 
+-- how many requests were said
+pub asked-now : (first : ℕ) (said : List Said) (taken : List Pair) (m : Making) → Stays first said taken m → m.pairing.asked ≡ length (pairs_of said)
+asked-now first said taken m s = s.keeps.settles.asked ∙ sym (all-now said (taken ++ m.ready.items) m.pairing m.exchanges m.unanswered s.keeps.settles)
+
 pub long : (said : List Said) (whole : List Pair) (o : Open) (e u : ℕ) (c : List ℕ) → Settles (said_then said) whole o e u → begins_open o.pending ≡ true
     → Some c ≡ first_connection o.pending → PATIENCE < length o.pending → WaitsLong said c
 long said whole o e u c s begins first more =

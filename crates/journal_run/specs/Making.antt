@@ -1,12 +1,16 @@
 -- A journal while it is made: which pairs left it, are whole, or still come.
-use Rattle.std.specs.Prelude.{◌≡◌, ◌+◌, ◌-◌, ◌≤◌, ◌++◌, ◌∷◌, ℕ, [], List, false, length, min, true}
+use Rattle.std.specs.Prelude.{◌≡◌, ◌+◌, ◌-◌, ◌≤◌, ◌++◌, ◌∷◌, ℕ, [], List, false, length, min, true, ⊤}
+use Rattle.std.specs.List.{AllByRecursion}
 use Rattle.journal_table.specs.declared.TheConstants.{LINE_LIMIT}
 use Rattle.log_pairs.specs.Pairs.{Open, Pair, Said, answered, begins_open, pairs_of, to_come}
 use Rattle.journal_run.specs.Heard.{Heard, Lasts, responses_in, sums_of, top}
+use Rattle.journal_run.specs.Stops.{IsNamed, IsRefusal, IsRefused}
 use Rattle.journal_run.specs.declared.making.Making.{Making}
 use Rattle.journal_run.specs.declared.making.Taken.{Taken}
 use Rattle.journal_run.specs.declared.making.Taken.TheVariants.{Refused}
 use Rattle.journal_run.specs.declared.making.TheConstants.{PATIENCE}
+use Rattle.journal_run.specs.declared.stop.MakingError.{MakingError}
+use Rattle.journal_run.specs.declared.stop.MakingError.TheVariants as errors
 
 -- Whatever is said from now on, all pairs are those that are whole, then those that are to come; and the whole ones are counted.
 pub record Settles (all : List Said → List Pair) (whole : List Pair) (waits : Open) (exchanges unanswered : ℕ) : Type 0 where
@@ -35,10 +39,15 @@ abbrev pub Takes : Said → Making → Making → Type 0
 Takes x old new = (new.begun ≡ old.begun) × ((first : ℕ) (said : List Said) (taken : List Pair) → Stays first said taken old
     → (after : List Said) × Lasts (said ++ x ∷ []) after × Stays first after taken new)
 
--- the same of a message, unless it is refused
+-- the same of a message, unless it is refused, for this reason
 abbrev pub TakesMessage : Taken → Said → Making → Making → Type 0
-TakesMessage (Refused why) x old new = new ≡ old
+TakesMessage (Refused why) x old new = (new ≡ old) × IsRefusal old.pairing.asked x why.now
 TakesMessage taken x old new = Takes x old new
+
+-- a message that is refused
+abbrev pub Refuses : Taken → Type 0
+Refuses (Refused why) = ⊤
+Refuses taken = ⊥
 
 -- Of what waits some becomes whole; nothing else changes.
 abbrev pub Collects : Making → Making → Type 0
@@ -55,12 +64,17 @@ pub record Closes (first : ℕ) (said : List Said) (taken : List Pair) (m : Maki
   pub unanswered : m.unanswered ≡ (sums_of said).unanswered
   pub unasked : m.unasked ≡ (sums_of said).unasked
 
--- The journal takes all this, one after the other.
+-- The journal takes all this, one after the other, and no name is too long.
 abbrev pub TakesAll : List Said → Making → Making → Type 0
-TakesAll xs old new = (new.begun ≡ old.begun) × ((first : ℕ) (said : List Said) (taken : List Pair) → Stays first said taken old
+TakesAll xs old new = (new.begun ≡ old.begun) × AllByRecursion IsNamed xs × ((first : ℕ) (said : List Said) (taken : List Pair) → Stays first said taken old
     → (after : List Said) × Heard said xs after × Stays first after taken new)
 
--- the same, unless it is refused
+-- the same, unless it is refused, for this reason
 abbrev pub TakesFound : Taken → List Said → Making → Making → Type 0
-TakesFound (Refused why) xs old new = new ≡ old
+TakesFound (Refused why) xs old new = (new ≡ old) × ((x : Said) × (xs ≡ x ∷ []) × IsRefusal old.pairing.asked x why.now)
 TakesFound taken xs old new = TakesAll xs old new
+
+-- The journal takes what comes before a message that is refused, as the error says; or memory runs out.
+abbrev pub StopsTaking : List Said → Making → Making → MakingError → Type 0
+StopsTaking xs old new errors.Memory = ⊤
+StopsTaking xs old new error = (ys : List Said) × (x : Said) × (rest : List Said) × (xs ≡ ys ++ x ∷ rest) × TakesAll ys old new × IsRefused new.pairing.asked x error

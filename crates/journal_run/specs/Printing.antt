@@ -1,10 +1,11 @@
 -- What is printed of a journal.
-use Rattle.std.specs.Prelude.{◌≡◌, ◌+◌, ◌++◌, ◌∷◌, ℕ, [], Bool, List, false, length, true, if◌then◌else◌}
+use Rattle.std.specs.Prelude.{◌≡◌, ◌+◌, ◌≤◌, ◌++◌, ◌∷◌, ℕ, [], Bool, List, false, length, true, if◌then◌else◌}
 use Rattle.csv_table.specs.Text.{table_text}
 use Rattle.journal_table.specs.Journal.{header}
 use Rattle.log_pairs.specs.Pairs.{Pair}
 use Rattle.log_pairs.specs.Rows.{rows_from}
 use Rattle.outside.specs.Events.{Event, Print, Tell}
+use Rattle.sip_reader.specs.Texts.{line_number_end}
 use Rattle.journal_run.specs.declared.making.Making.{Making}
 use Rattle.journal_run.specs.declared.stop.JournalStop.{JournalStop}
 use Rattle.journal_run.specs.declared.stop.JournalStop.TheVariants as stops
@@ -38,8 +39,9 @@ to_print m = head_to_print m.begun ++ table_text (rows_from m.number m.ready.ite
 abbrev pub shown : Bool → ℕ → List Pair → List ℕ
 shown begun first taken = if begun then table_text (header ∷ rows_from first taken) else []
 
--- The pairs that were whole are taken as rows.
+-- The pairs that were whole are taken as rows, whose numbers have ten digits at most.
 pub record HasPrinted (old new : Making) : Type 0 where
+  pub room : old.number + length old.ready.items ≤ line_number_end
   pub begun : new.begun ≡ true
   pub ready : new.ready.items ≡ []
   pub number : new.number ≡ old.number + length old.ready.items

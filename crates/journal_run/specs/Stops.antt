@@ -1,5 +1,9 @@
--- What is printed of a run that stops, and its status.
-use Rattle.std.specs.Prelude.{◌++◌, ℕ, List, codes, string_bytes, ⊤}
+-- What is printed of a run that stops, its status, and which messages and numbers stop it.
+use Rattle.std.specs.Prelude.{◌≡◌, ◌<◌, ◌≤◌, ◌⊎◌, ◌++◌, ℕ, List, codes, decimal, length, string_bytes, ⊤}
+use Rattle.journal_table.specs.declared.TheConstants.{CONNECTION_LIMIT, LINE_LIMIT}
+use Rattle.log_pairs.specs.Pairs.{Over, Request, Response, Said}
+use Rattle.sip_reader.specs.Texts.{line_number_end}
+use Rattle.journal_run.specs.declared.place.LogPlace.{LogPlace}
 use Rattle.journal_run.specs.declared.stop.JournalStop.{JournalStop}
 use Rattle.journal_run.specs.declared.stop.JournalStop.TheVariants as stops
 use Rattle.journal_run.specs.declared.stop.MakingError.{MakingError}
@@ -26,7 +30,45 @@ abbrev pub IsUseless : JournalStop → Type 0
 IsUseless (stops.Useless text) = ⊤
 IsUseless stop = ⊥
 
--- what else stops it
-abbrev pub IsFailure : JournalStop → Type 0
-IsFailure (stops.Useless text) = ⊥
-IsFailure stop = ⊤
+-- what else stops it: lack of memory, standard output, or an error, for this cause
+abbrev pub IsFailure : (MakingError → Type 0) → JournalStop → Type 0
+IsFailure cause (stops.Useless text) = ⊥
+IsFailure cause (stops.Source errors.Memory) = ⊤
+IsFailure cause (stops.Source error) = cause error
+IsFailure cause stops.Output = ⊤
+
+-- the error has this text, unless memory ran out for it
+abbrev pub Tells : List ℕ → MakingError → Type 0
+Tells text errors.Memory = ⊤
+Tells text (errors.Refused told) = string_bytes told ≡ text
+Tells text (errors.File told) = ⊥
+
+-- a file, and the number of a line in it
+abbrev pub place_text : LogPlace → List ℕ
+place_text p = p.log.now ++ (codes ":" ++ decimal p.line)
+
+-- its connection's name isn't too long
+abbrev pub IsNamed : Said → Type 0
+IsNamed (Request c m) = length c ≤ CONNECTION_LIMIT
+IsNamed (Response c m) = length c ≤ CONNECTION_LIMIT
+IsNamed (Over c) = ⊤
+
+-- A connection with this name is refused, for this reason.
+abbrev pub IsLongName : List ℕ → List ℕ → Type 0
+IsLongName c why = (CONNECTION_LIMIT < length c) × (why ≡ codes "the name of the connection has more than 64 bytes")
+
+-- A message after this number of requests is refused, for this reason.
+abbrev pub IsRefusal : ℕ → Said → List ℕ → Type 0
+IsRefusal asked (Request c m) why = IsLongName c why ⊎ ((LINE_LIMIT ≤ asked) × (why ≡ codes "more than 1,000,000 requests: a journal has no more lines"))
+IsRefusal asked (Response c m) why = IsLongName c why
+IsRefusal asked (Over c) why = ⊥
+
+-- This message after this number of requests is refused, and the error says why, after a place.
+abbrev pub IsRefused : ℕ → Said → MakingError → Type 0
+IsRefused asked x (errors.Refused told) = (place : LogPlace) × (why : List ℕ) × IsRefusal asked x why × (string_bytes told ≡ place_text place ++ (codes ": " ++ why))
+IsRefused asked x error = ⊥
+
+-- The numbers before this one go past the greatest that a row may have, and the error says so.
+abbrev pub IsPastEnd : ℕ → MakingError → Type 0
+IsPastEnd after (errors.Refused told) = (line_number_end < after) × (string_bytes told ≡ codes "the number of a row would be past 9999999999")
+IsPastEnd after error = ⊥

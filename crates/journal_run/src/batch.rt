@@ -1,8 +1,8 @@
 //! What is found, taken into a journal.
 
-ghost use Rattle.std.specs.Prelude.{◌≡◌, IfOk, OnOk, map};
+ghost use Rattle.std.specs.Prelude.{◌≡◌, IfErr, IfOk, OnOk, map};
 ghost use Rattle.journal_run.specs.Found.{said_in, said_of};
-ghost use Rattle.journal_run.specs.Making.{TakesAll, TakesFound};
+ghost use Rattle.journal_run.specs.Making.{StopsTaking, TakesAll, TakesFound};
 
 use crate::finding::Finding;
 use crate::making::{Making, Taken};
@@ -41,7 +41,8 @@ pub fn take_all(
     making: &mut Making,
     notes: &mut String,
 ) -> Result<(), MakingError>
-    ensures { OnOk result (TakesAll (said_in batch.now) making.old making.new) }
+    ensures took { OnOk result (TakesAll (said_in batch.now) making.old making.new) }
+    ensures stops { IfErr result (StopsTaking (said_in batch.now) making.old making.new) }
 {
     for one in batch {
         take_one(alloc, place, one, making, notes)?;
@@ -57,7 +58,8 @@ fn take_one(
     making: &mut Making,
     notes: &mut String,
 ) -> Result<(), MakingError>
-    ensures { OnOk result (TakesAll (said_of one.now) making.old making.new) }
+    ensures took { OnOk result (TakesAll (said_of one.now) making.old making.new) }
+    ensures stops { IfErr result (StopsTaking (said_of one.now) making.old making.new) }
 {
     if let Finding::Note(text) = one {
         notes.push_str(text.as_str())?;

@@ -29,7 +29,7 @@ pub fn make_journal<O: Outside, S: ExchangeSource>(
     force: bool,
     source: &mut S,
 ) -> u8
-    ensures { Did (IsJournal first force (S.counts source.new) (S.at_end source.new) (S.found source.old) (S.found source.new) result) (O.log outside.old) (O.log outside.new) }
+    ensures { Did (IsJournal first force (S.counts source.new) (S.fails source.new) (S.at_end source.new) (S.found source.old) (S.found source.new) result) (O.log outside.old) (O.log outside.new) }
 {
     let mut making = Making::new(alloc, first);
     match run_through(outside, alloc, force, source, &mut making) {

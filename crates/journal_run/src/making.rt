@@ -1,10 +1,11 @@
 //! A journal while it is made: exchanges leave it as soon as they are whole.
 
 ghost use Rattle.std.specs.Prelude.{◌≡◌, ◌+◌, ◌<◌, ◌≤◌, ◌++◌, ◌∷◌, [], ℕ, List, OnOk, IfOk, false, true, length, is_some, if◌then◌else◌};
+ghost use Rattle.journal_table.specs.declared.TheConstants.{CONNECTION_LIMIT};
 ghost use Rattle.log_pairs.specs.Pairs.{Over, Pair, Request, Response, Said, begins_open};
 ghost use Rattle.journal_run.specs.Heard.{Lasts};
 ghost use Rattle.journal_run.specs.Found.{said_as};
-ghost use Rattle.journal_run.specs.Making.{Closes, Collects, Keeps, Stays, Takes, TakesMessage};
+ghost use Rattle.journal_run.specs.Making.{Closes, Collects, Keeps, Refuses, Stays, Takes, TakesMessage};
 
 use journal_table::{CONNECTION_LIMIT, LINE_LIMIT};
 use log_pairs::{Direction, Exchange, Pairing};
@@ -89,7 +90,8 @@ impl Making {
         connection: &[u8],
         message: &[u8],
     ) -> Result<Taken, AllocError>
-        ensures { IfOk result (λ taken. TakesMessage taken (said_as side connection.now message.now) self.old self.new) }
+        ensures takes { IfOk result (λ taken. TakesMessage taken (said_as side connection.now message.now) self.old self.new) }
+        ensures long { CONNECTION_LIMIT < length connection.now → IfOk result Refuses }
     {
         if connection.len() > CONNECTION_LIMIT {
             return Ok(Taken::Refused("the name of the connection has more than 64 bytes"));

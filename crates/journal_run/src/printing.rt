@@ -1,12 +1,12 @@
 //! Rows of a journal, printed.
 
-ghost use Rattle.std.specs.Prelude.{◌≡◌, IfErr, OnOk, Some, [], ◌∷◌, true};
+ghost use Rattle.std.specs.Prelude.{◌≡◌, ◌+◌, IfErr, OnOk, Some, [], ◌∷◌, length, true};
 ghost use Rattle.csv_table.specs.Text.{table_text};
 ghost use Rattle.journal_table.specs.Journal.{header};
 ghost use Rattle.log_pairs.specs.Rows.{rows_from};
 ghost use Rattle.outside.specs.Events.{Did};
 ghost use Rattle.journal_run.specs.Printing.{BreaksOff, FailsToPrint, HasPrinted, Prints, head_to_print, to_print};
-ghost use Rattle.journal_run.specs.Stops.{IsFailure};
+ghost use Rattle.journal_run.specs.Stops.{IsFailure, IsPastEnd};
 
 use crate::making::Making;
 use crate::stop::{JournalStop, MakingError};
@@ -19,7 +19,7 @@ impl Making {
     pub(crate) fn print<O: Outside>(&mut self, outside: &mut O) -> Result<(), JournalStop>
         ensures printed { OnOk result (HasPrinted self.old self.new) }
         ensures text { OnOk result (Did (Prints (to_print self.old)) (O.log outside.old) (O.log outside.new)) }
-        ensures kind { IfErr result IsFailure }
+        ensures kind { IfErr result (IsFailure (IsPastEnd (self.old.number + length self.old.ready.items))) }
         ensures stops { IfErr result (λ stop. Did (BreaksOff (to_print self.old) stop) (O.log outside.old) (O.log outside.new)) }
     {
         self.print_head(outside)?;
@@ -31,7 +31,7 @@ impl Making {
     fn print_head<O: Outside>(&mut self, outside: &mut O) -> Result<(), JournalStop>
         ensures printed { OnOk result (self.new ≡ record self.old { begun = true }) }
         ensures text { OnOk result (Did (Prints (head_to_print self.old.begun)) (O.log outside.old) (O.log outside.new)) }
-        ensures kind { IfErr result IsFailure }
+        ensures kind { IfErr result (IsFailure (λ _. ⊥)) }
         ensures stops { IfErr result (λ stop. Did (FailsToPrint (head_to_print self.old.begun) stop) (O.log outside.old) (O.log outside.new)) }
     {
         if self.begun {
@@ -48,7 +48,7 @@ impl Making {
         requires { self.old.begun ≡ true }
         ensures printed { OnOk result (HasPrinted self.old self.new) }
         ensures text { OnOk result (Did (Prints (table_text (rows_from self.old.number self.old.ready.items))) (O.log outside.old) (O.log outside.new)) }
-        ensures kind { IfErr result IsFailure }
+        ensures kind { IfErr result (IsFailure (IsPastEnd (self.old.number + length self.old.ready.items))) }
         ensures stops { IfErr result (λ stop. Did (FailsToPrint (table_text (rows_from self.old.number self.old.ready.items)) stop) (O.log outside.old) (O.log outside.new)) }
     {
         let after = self.number.saturating_add(self.ready.len() as u64);
@@ -68,7 +68,7 @@ impl Making {
 /// Prints these bytes.
 fn print_bytes<O: Outside>(outside: &mut O, bytes: &[u8]) -> Result<(), JournalStop>
     ensures text { OnOk result (Did (Prints bytes.now) (O.log outside.old) (O.log outside.new)) }
-    ensures kind { IfErr result IsFailure }
+    ensures kind { IfErr result (IsFailure (λ _. ⊥)) }
     ensures stops { IfErr result (λ stop. Did (FailsToPrint bytes.now stop) (O.log outside.old) (O.log outside.new)) }
 {
     if outside.write(bytes) {

@@ -1,14 +1,14 @@
 //! A journal of what a source finds, printed as it becomes whole.
 
-ghost use Rattle.std.specs.Prelude.{◌≡◌, ◌==◌, ◌⊎◌, ℕ, IfErr, IfOk, List, OnOk, Option, false, true, []};
+ghost use Rattle.std.specs.Prelude.{◌≡◌, ◌==◌, ◌+◌, ◌⊎◌, ℕ, IfErr, IfOk, List, OnOk, Option, false, length, true, []};
 ghost use Rattle.log_pairs.specs.Pairs.{Said};
 ghost use Rattle.outside.specs.Events.{Did, Event};
 ghost use Rattle.journal_run.specs.Found.{said_in};
-ghost use Rattle.journal_run.specs.Making.{TakesAll};
+ghost use Rattle.journal_run.specs.Making.{StopsTaking, TakesAll};
 ghost use Rattle.journal_run.specs.Printing.{BreaksOff, HasPrinted, Prints, to_print};
 ghost use Rattle.journal_run.specs.Counts.{is_too_odd};
 ghost use Rattle.journal_run.specs.Run.{HasCause, IsBrokenOff, IsPrinted, IsUnderWay, IsWanted};
-ghost use Rattle.journal_run.specs.Stops.{IsUseless};
+ghost use Rattle.journal_run.specs.Stops.{IsPastEnd, IsUseless};
 ghost use Rattle.journal_run.specs.declared.tally.LogTally.{LogTally};
 
 use crate::batch::take_all;
@@ -49,7 +49,7 @@ pub fn run_through<O: Outside, S: ExchangeSource>(
     ensures printed { OnOk result ((first : ℕ) (begin : Option (List Event)) (start : Option (List Said)) → IsUnderWay first begin (O.log outside.old) start (S.found source.old) making.old
         → IsPrinted first begin (O.log outside.new) start (S.found source.new) making.new) }
     ensures stops { IfErr result (λ stop. (first : ℕ) (begin : Option (List Event)) (start : Option (List Said)) → IsUnderWay first begin (O.log outside.old) start (S.found source.old) making.old
-        → IsBrokenOff first force (S.counts source.new) (S.at_end source.new) begin (O.log outside.new) start (S.found source.new) stop) }
+        → IsBrokenOff first force (S.counts source.new) (S.fails source.new) (S.at_end source.new) begin (O.log outside.new) start (S.found source.new) stop) }
 {
     find_all(outside, alloc, force, source, making)?;
     making.close()?;
@@ -89,7 +89,7 @@ fn find_all<O: Outside, S: ExchangeSource>(
     ensures goes { OnOk result ((first : ℕ) (begin : Option (List Event)) (start : Option (List Said)) → IsUnderWay first begin (O.log outside.old) start (S.found source.old) making.old
         → IsUnderWay first begin (O.log outside.new) start (S.found source.new) making.new) }
     ensures stops { IfErr result (λ stop. (first : ℕ) (begin : Option (List Event)) (start : Option (List Said)) → IsUnderWay first begin (O.log outside.old) start (S.found source.old) making.old
-        → IsBrokenOff first force (S.counts source.new) (S.at_end source.new) begin (O.log outside.new) start (S.found source.new) stop) }
+        → IsBrokenOff first force (S.counts source.new) (S.fails source.new) (S.at_end source.new) begin (O.log outside.new) start (S.found source.new) stop) }
 {
     let mut batch = Vec::new(alloc);
     // the turns are counted, so that the loop is known to end
@@ -114,7 +114,7 @@ fn find_more<O: Outside, S: ExchangeSource>(
     ensures goes { OnOk result ((first : ℕ) (begin : Option (List Event)) (start : Option (List Said)) → IsUnderWay first begin (O.log outside.old) start (S.found source.old) making.old
         → IsUnderWay first begin (O.log outside.new) start (S.found source.new) making.new) }
     ensures stops { IfErr result (λ stop. (first : ℕ) (begin : Option (List Event)) (start : Option (List Said)) → IsUnderWay first begin (O.log outside.old) start (S.found source.old) making.old
-        → IsBrokenOff first force (S.counts source.new) (S.at_end source.new) begin (O.log outside.new) start (S.found source.new) stop) }
+        → IsBrokenOff first force (S.counts source.new) (S.fails source.new) (S.at_end source.new) begin (O.log outside.new) start (S.found source.new) stop) }
 {
     batch.clear();
     let more = source.next(batch)?;
@@ -132,6 +132,7 @@ fn take_batch<O: Outside, S: ExchangeSource>(
     making: &mut Making,
 ) -> Result<(), MakingError>
     ensures took { OnOk result (TakesAll (said_in batch.now) making.old making.new) }
+    ensures stops { IfErr result (StopsTaking (said_in batch.now) making.old making.new) }
     ensures told { Did (Prints []) (O.log outside.old) (O.log outside.new) }
 {
     let mut notes = String::new(alloc);
@@ -161,7 +162,7 @@ fn print_full<O: Outside, S: ExchangeSource>(
     ensures goes { OnOk result ((first : ℕ) (begin : Option (List Event)) (start found : Option (List Said)) → IsUnderWay first begin (O.log outside.old) start found making.old
         → IsUnderWay first begin (O.log outside.new) start found making.new) }
     ensures stops { IfErr result (λ stop. (first : ℕ) (begin : Option (List Event)) (start found : Option (List Said)) → IsUnderWay first begin (O.log outside.old) start found making.old
-        → IsBrokenOff first force (S.counts source.now) (S.at_end source.now) begin (O.log outside.new) start found stop) }
+        → IsBrokenOff first force (S.counts source.now) (S.fails source.now) (S.at_end source.now) begin (O.log outside.new) start found stop) }
 {
     if !making.is_full() {
         return Ok(());
@@ -180,7 +181,7 @@ fn print_good<O: Outside, S: ExchangeSource>(
     ensures good { OnOk result ((force ≡ true) ⊎ ((tally : LogTally) × S.counts source.now tally × (is_too_odd tally ≡ false))) }
     ensures printed { OnOk result (HasPrinted making.old making.new) }
     ensures text { OnOk result (Did (Prints (to_print making.old)) (O.log outside.old) (O.log outside.new)) }
-    ensures cause { IfErr result (HasCause force (S.counts source.now) ⊥) }
+    ensures cause { IfErr result (HasCause force (S.counts source.now) ⊥ (IsPastEnd (making.old.number + length making.old.ready.items))) }
     ensures stops { IfErr result (λ stop. Did (BreaksOff (to_print making.old) stop) (O.log outside.old) (O.log outside.new)) }
 {
     if !force {

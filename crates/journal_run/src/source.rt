@@ -1,8 +1,9 @@
 //! What finds messages.
 
-ghost use Rattle.std.specs.Prelude.{◌≡◌, IfOk, List, Option, false};
+ghost use Rattle.std.specs.Prelude.{◌≡◌, IfErr, IfOk, List, Option, false};
 ghost use Rattle.log_pairs.specs.Pairs.{Said};
 ghost use Rattle.journal_run.specs.Found.{found_more, said_in};
+ghost use Rattle.journal_run.specs.declared.stop.MakingError.{MakingError};
 ghost use Rattle.journal_run.specs.declared.tally.LogTally.{LogTally};
 
 use crate::finding::Finding;
@@ -22,10 +23,14 @@ pub trait ExchangeSource {
     /// What may be counted.
     ghost counts: { Self → LogTally → Type 0 };
 
+    /// Why it may have found nothing more.
+    ghost fails: { Self → MakingError → Type 0 };
+
     /// Reads on, and puts what it finds into an empty list. Says whether there is more.
     fn next(&mut self, batch: &mut Vec<Finding>) -> Result<bool, MakingError>
         ensures found { found self.new ≡ found_more (said_in batch.new.items) (found self.old) }
-        ensures end { IfOk result (λ more. more ≡ false → at_end self.new) };
+        ensures end { IfOk result (λ more. more ≡ false → at_end self.new) }
+        ensures error { IfErr result (fails self.new) };
 
     /// The place of what was read last.
     fn place(&self) -> LogPlace<'_>;

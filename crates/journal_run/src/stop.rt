@@ -1,8 +1,8 @@
 //! What ends a run before its journal is whole, and the status of that.
 
-ghost use Rattle.std.specs.Prelude.{◌≡◌, Bool, Some};
+ghost use Rattle.std.specs.Prelude.{◌≡◌, ◌++◌, ℕ, Bool, IfOk, List, Some, codes, string_bytes};
 ghost use Rattle.outside.specs.Events.{Tell, noted};
-ghost use Rattle.journal_run.specs.Stops.{error_text, status_of, stop_text};
+ghost use Rattle.journal_run.specs.Stops.{Tells, error_text, place_text, status_of, stop_text};
 ghost use Rattle.journal_run.specs.declared.stop.JournalStop.TheVariants as stops;
 ghost use Rattle.journal_run.specs.declared.stop.MakingError.TheVariants as errors;
 
@@ -69,17 +69,23 @@ impl MakingError {
     }
 
     /// What is refused, and the word that is to blame.
-    pub fn refused(alloc: Global, what: &str, word: &str) -> MakingError {
+    pub fn refused(alloc: Global, what: &str, word: &str) -> MakingError
+        ensures { Tells (what.now ++ (codes " " ++ word.now)) result }
+    {
         MakingError::refused_text(format!(in alloc; "{what} {word}"))
     }
 
     /// A line of a log that is refused.
-    pub fn of_line(alloc: Global, place: LogPlace<'_>, why: &str) -> MakingError {
+    pub fn of_line(alloc: Global, place: LogPlace<'_>, why: &str) -> MakingError
+        ensures { Tells (place_text place.entry ++ (codes ": " ++ why.now)) result }
+    {
         MakingError::refused_text(format!(in alloc; "{place}: {why}"))
     }
 
     /// What is refused, by this text, unless memory ran out for it.
-    pub fn refused_text(text: Result<String, AllocError>) -> MakingError {
+    pub fn refused_text(text: Result<String, AllocError>) -> MakingError
+        ensures { (bytes : List ℕ) → IfOk text (λ told. string_bytes told ≡ bytes) → Tells bytes result }
+    {
         match text {
             Ok(text) => MakingError::Refused(text),
             Err(_) => MakingError::Memory,

@@ -32,13 +32,15 @@ impl<R, T: Drop> Drop for Exchanges<'_, '_, R, T> {
     }
 }
 
-/// No contract says what was found: that is to be checked by reading, and by tests.
+/// No contract says what was found, what was counted or which errors end it: that is to be checked by reading, and by tests.
 impl<'l, R: Clock + Eprint, T: ReadsOn<'l>> ExchangeSource for Exchanges<'_, 'l, R, T> {
     ghost found = { λ _. None };
 
     ghost at_end = { λ _. Unit {0} };
 
     ghost counts = { λ _ _. Unit {0} };
+
+    ghost fails = { λ _ _. Unit {0} };
 
     fn next(&mut self, batch: &mut Vec<Finding>) -> Result<bool, MakingError> {
         let more = self.input.read_on(&mut self.reading);

@@ -1,5 +1,4 @@
 use Rattle.std.proofs.lemmas.Result.{err_from_is_err_and}
-use Rattle.journal_run.specs.declared.stop.MakingError.TheVariants.{Memory}
 use Rattle.journal_run.proofs.UnderWay.{under-ended}
 use Rattle.journal_run.proofs.running.find_all.Goals as goal
 
@@ -15,4 +14,7 @@ pub loop-turn-preserved : goal.loop-turn-preserved
 loop-turn-preserved g c first begin start under = c.in_ok-find_more.ensures.goes first begin start (c.loop-turn.invariant first begin start under)
 
 pub returns-clause-stops : goal.returns-clause-stops
-returns-clause-stops g c first begin start under = under-ended first begin _ start _ c.loop-turn.making Memory (c.loop-turn.invariant first begin start under)
+returns-clause-stops g c first begin start under =
+    let s = c.loop-turn.source in
+    under-ended first c.args.force (g.S.ExchangeSource.counts s) (g.S.ExchangeSource.fails s) (g.S.ExchangeSource.at_end s) begin _ start _ c.loop-turn.making
+    (c.loop-turn.invariant first begin start under)

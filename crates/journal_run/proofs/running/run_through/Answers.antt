@@ -1,31 +1,39 @@
+use Rattle.std.proofs.Common.{[]}
 use Rattle.std.proofs.lemmas.Result.{err_from_is_err_and}
 use Rattle.journal_run.specs.Printing.{to_print}
-use Rattle.journal_run.specs.declared.stop.MakingError.TheVariants.{Memory}
-use Rattle.journal_run.proofs.Causes.{either, nothing-found, useless-quiet, wanted}
+use Rattle.journal_run.specs.Run.{IsToBlame}
+use Rattle.journal_run.proofs.Causes.{nothing-found, useless-quiet, wanted}
 use Rattle.journal_run.proofs.Shown.{quiet}
-use Rattle.journal_run.proofs.UnderWay.{closed-broken, closed-printed, under-ended}
+use Rattle.journal_run.proofs.UnderWay.{closed-broken, closed-past, closed-printed, under-ended}
 use Rattle.journal_run.proofs.running.run_through.Goals as goal
 
 pub returns-in_err-close-clause-stops : goal.returns-in_err-close-clause-stops
 returns-in_err-close-clause-stops g c =
+    let s = c.find_all.new.source in
     let p = err_from_is_err_and c.from_residual-in_err-close.result c.from_residual-in_err-close.ensures.1 in rw (p.1, p.2)
-    (λ first begin start under. under-ended first begin _ start _ c.find_all.new.making Memory (c.in_ok-find_all.ensures.goes first begin start under))
+    (λ first begin start under. under-ended first c.args.force (g.S.ExchangeSource.counts s) (g.S.ExchangeSource.fails s) (g.S.ExchangeSource.at_end s) begin _ start _ c.find_all.new.making
+    (c.in_ok-find_all.ensures.goes first begin start under))
 
 pub returns-in_err-check_found-clause-stops : goal.returns-in_err-check_found-clause-stops
 returns-in_err-check_found-clause-stops g c =
+    let s = c.find_all.new.source in
     let p = err_from_is_err_and c.from_residual-in_err-check_found.result c.from_residual-in_err-check_found.ensures.1 in
     let why = c.in_err-check_found.ensures.cause in rw (p.1, p.2)
-    (λ first begin start under. closed-broken first c.args.force _ _ begin _ _ start _ c.find_all.new.making c.close.new.self _ (c.in_ok-find_all.ensures.goes first begin start under)
+    (λ first begin start under. closed-broken first c.args.force (g.S.ExchangeSource.counts s) (g.S.ExchangeSource.fails s) (g.S.ExchangeSource.at_end s) begin _ _ start _ c.find_all.new.making
+    c.close.new.self _ (c.in_ok-find_all.ensures.goes first begin start under)
     c.in_ok-close.ensures.begun c.in_ok-close.ensures.closes
-    (λ said taken closed. nothing-found c.args.force _ _ first said taken c.close.new.self _ closed why.0 why.1 c.in_ok-find_all.ensures.end why.2)
+    (λ said taken closed. nothing-found c.args.force (g.S.ExchangeSource.counts s) (g.S.ExchangeSource.at_end s) (IsToBlame (g.S.ExchangeSource.fails s) first [] said) first said taken c.close.new.self _
+    closed why.0 why.1 c.in_ok-find_all.ensures.end why.2)
     (quiet (to_print c.close.new.self) _ _ (useless-quiet _ why.0)))
 
 pub returns-in_err-print_good-clause-stops : goal.returns-in_err-print_good-clause-stops
 returns-in_err-print_good-clause-stops g c =
+    let s = c.find_all.new.source in
     let p = err_from_is_err_and c.from_residual-in_err-print_good.result c.from_residual-in_err-print_good.ensures.1 in rw (p.1, p.2)
-    (λ first begin start under. closed-broken first c.args.force _ _ begin _ _ start _ c.find_all.new.making c.close.new.self _ (c.in_ok-find_all.ensures.goes first begin start under)
+    (λ first begin start under. closed-broken first c.args.force (g.S.ExchangeSource.counts s) (g.S.ExchangeSource.fails s) (g.S.ExchangeSource.at_end s) begin _ _ start _ c.find_all.new.making
+    c.close.new.self _ (c.in_ok-find_all.ensures.goes first begin start under)
     c.in_ok-close.ensures.begun c.in_ok-close.ensures.closes
-    (λ said taken closed. either c.args.force _ _ _ c.in_err-print_good.ensures.cause) c.in_err-print_good.ensures.stops)
+    (λ said taken closed. closed-past c.args.force _ (g.S.ExchangeSource.fails s) _ first said taken c.close.new.self _ closed c.in_err-print_good.ensures.cause) c.in_err-print_good.ensures.stops)
 
 pub returns-clause-wanted : goal.returns-clause-wanted
 returns-clause-wanted g c =

@@ -1,5 +1,5 @@
 -- Records added to a base.
-use Rattle.std.proofs.Common.{◌≡◌, ◌∙◌, ◌<◌, ℕ, List, length, get_or, Bool, true, false, cond, Some, None, inl, inr, refl, sym, ap, subst}
+use Rattle.std.proofs.Common.{◌≡◌, ◌∙◌, ◌<◌, ℕ, List, length, get_or, Bool, true, false, cond, Some, None, Result, Ok, Err, IfOk, inl, inr, refl, sym, ap, subst}
 use Rattle.std.specs.Prelude.{◌⊎◌, Contains, is_some}
 use Rattle.std.proofs.lemmas.List.Elements.{Contains-get_or}
 use Rattle.std.specs.Ordering.{eq_by_cmp}
@@ -59,3 +59,9 @@ adds_from P M a b c same adds k = by (adds k)
     by : (c k ≡ a k) ⊎ ((a k ≡ None) × P k × (is_some (M k) ≡ true)) → (c k ≡ b k) ⊎ ((b k ≡ None) × P k × (is_some (M k) ≡ true))
     by (inl e) = inl (e ∙ same k)
     by (inr e) = inr (sym (same k) ∙ e.0, e.1, e.2)
+
+-- what is added to a map that is made of other entries
+pub adds_made : {E : Type 0} (P : Key → Type 0) (M a : Map) (es : Entries) (result : Result Entries E) → Adds P M a (record_at es)
+    → IfOk result (λ r. r ≡ es) → IfOk result (λ r. Adds P M a (record_at r))
+adds_made P M a es (Ok r) adds same = subst (λ (rs : Entries). Adds P M a (record_at rs)) (sym same) adds
+adds_made P M a es (Err e) adds same = tt

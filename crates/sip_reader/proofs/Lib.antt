@@ -1,7 +1,6 @@
 pub mod AmountTexts
 pub mod Barless
 pub mod Bits
-pub mod Blocks
 pub mod Clean
 pub mod Covers
 pub mod Digits

@@ -4,4 +4,3 @@ pub mod Digits
 pub mod Hashes
 pub mod Held
 pub mod Padding
-pub mod Plain

@@ -1,16 +1,13 @@
 //! Amounts of money.
 
-ghost use Rattle.std.specs.Prelude.{◌≡◌, ◌≤◌, ◌<◌, ◌^◌, ◌+◌, ◌++◌, if◌then◌else◌, nat_le, Some, None, true, length, take, IfSome, OnErr, OnOk};
-ghost use Rattle.std.specs.Char.{is_ascii_digit};
+ghost use Rattle.std.specs.Prelude.{◌≡◌, ◌≤◌, ◌<◌, ◌++◌, if◌then◌else◌, nat_le, Some, None, length, take, IfSome, OnErr, OnOk};
 ghost use Rattle.std.specs.Cmp.{partial_order_from_own_ties};
 ghost use Rattle.std.specs.Cmp.Rules.{comparing};
-ghost use Rattle.std.specs.List.{list_all};
 ghost use Rattle.std.specs.Ordering.{nat_cmp, as_partial_cmp, eq_by_cmp};
-ghost use Rattle.std.specs.Str.Parse.{digits_value};
 ghost use Rattle.std.proofs.Common.{rules};
 ghost use Rattle.sip_reader.specs.Amounts.{amount_of, amount_text, fraction_of, is_fraction, whole_len};
 
-use crate::numerals::{all_digits, digit};
+use crate::numerals::{all_digits, digit, number_of_digits};
 use itoa::Buffer;
 use std::alloc::AllocError;
 use std::cmp::Ordering;
@@ -52,11 +49,18 @@ impl Amount {
     }
 
     /// The amount that a text spells: 1 to 9 digits, then optionally a point and one or two digits.
+    #[tactic(auto, unfolding(crate::specs::Amounts::amount_of))]
     pub fn read(text: &[u8]) -> Option<Amount>
         ensures { result ≡ amount_of text.now }
     {
-        match hundredths_of(text) {
-            Some(in_hundredths) => Some(Amount { in_hundredths }),
+        let len = digits_at_front(text);
+        if len < 1 || len > 9 {
+            return None;
+        }
+        match hundredths_behind(&text[len..]) {
+            Some(hundredths) => Some(Amount {
+                in_hundredths: number_of_digits(&text[..len]) * 100 + hundredths,
+            }),
             None => None,
         }
     }
@@ -70,21 +74,6 @@ impl Amount {
     }
 }
 
-#[tactic(auto, unfolding(crate::specs::Amounts::amount_of))]
-fn hundredths_of(text: &[u8]) -> Option<u64>
-    ensures value { result ≡ amount_of text.now }
-    ensures small { IfSome result (λ n. n ≤ AMOUNT_MAX) }
-{
-    let len = digits_at_front(text);
-    if len < 1 || len > 9 {
-        return None;
-    }
-    match hundredths_behind(&text[len..]) {
-        Some(hundredths) => Some(whole(&text[..len]) * 100 + hundredths),
-        None => None,
-    }
-}
-
 /// How many digits the text begins with.
 fn digits_at_front(text: &[u8]) -> usize
     ensures value { result ≡ whole_len text.now }
@@ -95,20 +84,6 @@ fn digits_at_front(text: &[u8]) -> usize
         len += 1;
     }
     len
-}
-
-/// The number that digits spell.
-fn whole(digits: &[u8]) -> u64
-    requires few { length digits.now ≤ 9 }
-    requires digits { list_all is_ascii_digit digits.now ≡ true }
-    ensures value { result ≡ digits_value 10 digits.now }
-    ensures small { result < 10 ^ 9 }
-{
-    let mut number = 0;
-    for b in digits {
-        number = number * 10 + digit(*b);
-    }
-    number
 }
 
 /// The hundredths that the text after the whole digits spells: nothing, or a point and one or two digits.

@@ -6,8 +6,10 @@ ghost use Rattle.std.specs.Simd.Lanes.{chunk};
 ghost use Rattle.sip_reader.specs.Devices.Bars.{is_clean};
 ghost use Rattle.sip_reader.specs.Texts.{is_barred};
 
-use crate::checks::BLOCK;
 use std::simd::prelude::*;
+
+/// How many bytes a processor looks at at once.
+const BLOCK: usize = 16;
 
 /// Whether a bar, CR or LF is among the bytes.
 pub(crate) fn has_barred(bytes: &[u8]) -> bool

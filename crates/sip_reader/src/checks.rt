@@ -1,21 +1,16 @@
 //! The tests that a request of a layout has to pass.
 
-ghost use Rattle.std.specs.Prelude.{◌≡◌, ◌≤◌, ◌+◌, [], IsTrue, length, unwrap_or};
-ghost use Rattle.std.specs.List.{list_all, list_any};
+ghost use Rattle.std.specs.Prelude.{◌≡◌, [], length, unwrap_or};
+ghost use Rattle.std.specs.List.{list_all};
 ghost use Rattle.std.specs.Option.{option_and_then, option_copied};
 ghost use Rattle.sip_reader.specs.Amounts.{amount_of};
-ghost use Rattle.sip_reader.specs.Reading.{has_bad_amount, has_bad_field, has_bad_flag, is_blank, is_hold_mode, is_yes_or_no, lacks_field, names_title};
-ghost use Rattle.sip_reader.specs.Devices.Plain.{IsPlainBetween};
-ghost use Rattle.sip_reader.specs.Texts.{is_line_end};
+ghost use Rattle.sip_reader.specs.Reading.{has_bad_amount, has_bad_field, has_bad_flag, is_hold_mode, is_yes_or_no, lacks_field, names_title};
 ghost use Rattle.sip_reader.specs.Views.{texts_behind};
 
 use crate::fields::Fields;
 use crate::kind::FieldLayout;
 use crate::{Amount, ID_MAX, TEXT_MAX};
-use std::simd::prelude::*;
-
-/// How many bytes a processor looks at at once.
-pub(crate) const BLOCK: usize = 16;
+use memchr::memchr2;
 
 /// Whether a flag isn't one.
 #[tactic(auto, unfolding(crate::specs::Reading::has_bad_flag))]
@@ -42,11 +37,11 @@ fn are_hold_modes(flags: &[u8]) -> bool
 }
 
 /// Whether the variable part has a CR or LF, a piece of one byte, or a field that is used and too long.
-#[tactic(auto, unfolding(crate::specs::Reading::has_bad_field))]
+#[tactic(auto, using(crate::proofs::Pieces::any_found), unfolding(crate::specs::Reading::has_bad_field))]
 pub fn is_bad_field(layout: &FieldLayout, rest: &[u8], fields: &Fields<'_>) -> bool
     ensures { result ≡ has_bad_field layout.now rest.now (texts_behind fields.now) }
 {
-    has_line_end(rest)
+    memchr2(b'\r', b'\n', rest).is_some()
         || fields.short
         || layout.patron && len_of(fields.patron) > ID_MAX
         || layout.item && len_of(fields.item) > ID_MAX
@@ -54,41 +49,7 @@ pub fn is_bad_field(layout: &FieldLayout, rest: &[u8], fields: &Fields<'_>) -> b
         || layout.pickup && len_of(fields.pickup) > TEXT_MAX
 }
 
-/// Whether a CR or LF is among the bytes. Mostly all 16 bytes of each block are greater than both; then no single byte is looked at.
-fn has_line_end(rest: &[u8]) -> bool
-    ensures { result ≡ list_any is_line_end rest.now }
-{
-    if rest.len() >= BLOCK && is_plain_by_blocks(rest) {
-        return false;
-    }
-    rest.iter().any(|b| *b == b'\r' || *b == b'\n')
-}
-
-/// Whether all bytes are greater than CR, seen in blocks. The last block may reach over a part of the one before.
-fn is_plain_by_blocks(bytes: &[u8]) -> bool
-    requires { BLOCK ≤ length bytes.now }
-    ensures { IsTrue result → IsPlainBetween bytes.now 0 (length bytes.now) }
-{
-    let mut at = 0;
-    while bytes.len() - at > BLOCK {
-        if !is_plain_block(bytes, at) {
-            return false;
-        }
-        at += BLOCK;
-    }
-    is_plain_block(bytes, bytes.len() - BLOCK)
-}
-
-/// Whether the bytes of one block are greater than CR.
-fn is_plain_block(bytes: &[u8], at: usize) -> bool
-    requires { at + BLOCK ≤ length bytes.now }
-    ensures { IsTrue result → IsPlainBetween bytes.now at (at + BLOCK) }
-{
-    let small = u8x16::from_slice(&bytes[at..]).simd_le(u8x16::splat(b'\r'));
-    small.to_bitmask() == 0
-}
-
-/// The length of a text, where it is there.
+/// The length of a text, 0 where it is missing.
 fn len_of(text: Option<&[u8]>) -> usize
     ensures { result ≡ length (unwrap_or (option_copied text.entry) []) }
 {
@@ -98,18 +59,12 @@ fn len_of(text: Option<&[u8]>) -> usize
     }
 }
 
-fn is_missing_or_empty(text: Option<&[u8]>) -> bool
-    ensures { result ≡ is_blank (option_copied text.entry) }
-{
-    len_of(text) == 0
-}
-
 /// Whether a title names the item, in place of its id.
 #[tactic(auto, unfolding(crate::specs::Reading::names_title))]
 pub fn is_by_title(layout: &FieldLayout, fields: &Fields<'_>) -> bool
     ensures { result ≡ names_title layout.now (texts_behind fields.now) }
 {
-    layout.title && is_missing_or_empty(fields.item) && !is_missing_or_empty(fields.title)
+    layout.title && len_of(fields.item) == 0 && len_of(fields.title) > 0
 }
 
 /// Whether a required id is missing or empty, or a required amount is missing.
@@ -117,8 +72,8 @@ pub fn is_by_title(layout: &FieldLayout, fields: &Fields<'_>) -> bool
 pub fn is_lacking(layout: &FieldLayout, fields: &Fields<'_>) -> bool
     ensures { result ≡ lacks_field layout.now (texts_behind fields.now) }
 {
-    layout.patron && is_missing_or_empty(fields.patron)
-        || layout.item && is_missing_or_empty(fields.item)
+    layout.patron && len_of(fields.patron) == 0
+        || layout.item && len_of(fields.item) == 0
         || layout.amount && fields.amount.is_none()
 }
 

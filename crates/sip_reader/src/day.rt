@@ -60,10 +60,14 @@ impl Day {
     }
 
     /// Whether the calendar has the day with these parts, in the years 1900 to 9999. Most are seen at once: each month has 28 days.
+    #[tactic(auto, using(crate::proofs::Real::early_real))]
     pub(crate) fn is_real(year: u32, month: u32, day: u32) -> bool
         ensures { result ≡ is_real year month day }
     {
-        is_early(year, month, day) || Day::spelt(year, month, day).is_some()
+        if day < 1 || day > 28 || month < 1 || month > 12 || year < 1900 || year > 9999 {
+            return Day::spelt(year, month, day).is_some();
+        }
+        true
     }
 
     /// The day with this number, where it lies in the years 1900 to 9999.
@@ -93,17 +97,6 @@ impl Day {
     {
         parts_of(self.number())
     }
-}
-
-/// Whether these are the parts of one of the first 28 days of a month.
-#[tactic(auto, using(crate::proofs::Real::early_real))]
-fn is_early(year: u32, month: u32, day: u32) -> bool
-    ensures { IsTrue result → is_real year month day ≡ true }
-{
-    if day < 1 || day > 28 || month < 1 || month > 12 || year < 1900 || year > 9999 {
-        return false;
-    }
-    true
 }
 
 /// The number of the day with these parts, where the calendar has it, in the years 1900 to 9999.

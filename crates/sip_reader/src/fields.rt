@@ -1,12 +1,10 @@
 //! The variable fields of a request.
 
-ghost use Rattle.std.specs.Prelude.{◌≡◌, ◌≤◌, ◌||◌, ◌==◌, [], drop, get_or, length};
-ghost use Rattle.std.specs.Option.{option_copied};
-ghost use Rattle.sip_reader.specs.Fields.{text_after, or_else, pieces, texts};
+ghost use Rattle.std.specs.Prelude.{◌≡◌, []};
+ghost use Rattle.sip_reader.specs.Fields.{pieces, texts};
 ghost use Rattle.sip_reader.specs.Views.{texts_behind, with_piece};
 
-use crate::bars::bar_from;
-use crate::checks::BLOCK;
+use memchr::memchr;
 
 /// The texts of the variable fields that the rules use, each of the first piece with its identifier.
 #[derive(Clone, Copy)]
@@ -52,87 +50,35 @@ impl<'a> Fields<'a> {
         }
     }
 
-    /// Notes the pieces of the variable part, which begins at byte `fixed` of the message. They are noted in place, since the fields are
-    /// large to move.
-    pub fn note_behind(&mut self, message: &'a [u8], fixed: usize)
-        requires long { BLOCK ≤ length message.now }
-        requires within { fixed ≤ length message.now }
-        requires none { texts_behind self.old ≡ texts [] }
-        ensures { texts_behind self.new ≡ texts (pieces (drop fixed message.now)) }
+    /// Notes the pieces of a variable part. They are noted in place, since the fields are large to move.
+    pub fn note_all(&mut self, part: &'a [u8])
+        requires { texts_behind self.old ≡ texts [] }
+        ensures { texts_behind self.new ≡ texts (pieces part.now) }
     {
-        let mut at = fixed;
-        let mut end = bar_from(message, at);
-        while end < message.len() {
-            self.note(&message[at..end]);
-            at = end + 1;
-            end = bar_from(message, at);
+        let mut rest = part;
+        while let Some(bar) = memchr(b'|', rest) {
+            self.note(&rest[..bar]);
+            rest = &rest[bar + 1..];
         }
-        self.note(&message[at..]);
+        self.note(rest);
     }
 
-    /// Notes one more piece. Its first two bytes say which of the fields it may be.
+    /// Notes one more piece. The first with an identifier counts.
     fn note(&mut self, piece: &'a [u8])
         ensures { texts_behind self.new ≡ with_piece (texts_behind self.old) piece.now }
     {
-        // written before the bytes are looked at, so that the compiler needn't read it again
-        self.short = is_short_so_far(self.short, piece);
-        let (letter, second) = (first_byte(piece), second_byte(piece));
-        if letter == b'A' {
-            if second == b'A' {
-                self.patron = first(self.patron, b'A', b'A', piece);
-            } else if second == b'B' {
-                self.item = first(self.item, b'A', b'B', piece);
-            } else if second == b'J' {
-                self.title = first(self.title, b'A', b'J', piece);
-            }
-        } else if letter == b'B' {
-            if second == b'I' {
-                self.cancel = first(self.cancel, b'B', b'I', piece);
-            } else if second == b'O' {
-                self.agreed = first(self.agreed, b'B', b'O', piece);
-            } else if second == b'S' {
-                self.pickup = first(self.pickup, b'B', b'S', piece);
-            } else if second == b'V' {
-                self.amount = first(self.amount, b'B', b'V', piece);
-            }
-        } else if letter == b'C' {
-            if second == b'G' {
-                self.fee = first(self.fee, b'C', b'G', piece);
-            } else if second == b'H' {
-                self.properties = first(self.properties, b'C', b'H', piece);
-            }
+        match piece {
+            [b'A', b'A', text @ ..] => self.patron = self.patron.or(Some(text)),
+            [b'A', b'B', text @ ..] => self.item = self.item.or(Some(text)),
+            [b'A', b'J', text @ ..] => self.title = self.title.or(Some(text)),
+            [b'B', b'I', text @ ..] => self.cancel = self.cancel.or(Some(text)),
+            [b'B', b'O', text @ ..] => self.agreed = self.agreed.or(Some(text)),
+            [b'B', b'S', text @ ..] => self.pickup = self.pickup.or(Some(text)),
+            [b'B', b'V', text @ ..] => self.amount = self.amount.or(Some(text)),
+            [b'C', b'G', text @ ..] => self.fee = self.fee.or(Some(text)),
+            [b'C', b'H', text @ ..] => self.properties = self.properties.or(Some(text)),
+            [_] => self.short = true,
+            _ => {}
         }
-    }
-}
-
-/// Whether a piece has one byte, this one or one before it.
-fn is_short_so_far(before: bool, piece: &[u8]) -> bool
-    ensures { result ≡ (before || (length piece.now == 1)) }
-{
-    before || piece.len() == 1
-}
-
-/// The first byte of a piece, 0 where it has none.
-fn first_byte(piece: &[u8]) -> u8
-    ensures { result ≡ get_or piece.now 0 0 }
-{
-    if piece.is_empty() { 0 } else { piece[0] }
-}
-
-/// The second byte of a piece, 0 where it has none.
-fn second_byte(piece: &[u8]) -> u8
-    ensures { result ≡ get_or piece.now 1 0 }
-{
-    if piece.len() < 2 { 0 } else { piece[1] }
-}
-
-/// The text that was found before, or else that of this piece where it has the identifier.
-fn first<'a>(found: Option<&'a [u8]>, a: u8, b: u8, piece: &'a [u8]) -> Option<&'a [u8]>
-    ensures { option_copied result ≡ or_else (option_copied found.entry) (text_after a b piece.now) }
-{
-    match found {
-        Some(text) => Some(text),
-        None if piece.len() >= 2 && piece[0] == a && piece[1] == b => Some(&piece[2..]),
-        None => None,
     }
 }

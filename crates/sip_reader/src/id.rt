@@ -10,8 +10,8 @@ ghost use Rattle.sip_reader.specs.Devices.Hashes.{id_hash};
 ghost use Rattle.sip_reader.specs.Texts.{fee_id, is_id};
 
 use crate::barred::has_barred;
+use crate::held::Held;
 use crate::inline::hash_of;
-use crate::text::Text;
 use arrayvec::ArrayVec;
 use itoa::Buffer;
 use std::alloc::{AllocError, Global};
@@ -30,24 +30,25 @@ pub const LINE_NUMBER_END: u64 = 10_000_000_000;
 /// The id of a patron, an item or a fee: 1 to 64 bytes without a bar, CR or LF. Ids are ordered by their bytes. Up to 14 bytes are
 /// inline; a longer id is on the heap once for all its copies, so a clone takes no memory.
 pub struct Id {
-    text: Text,
+    held: Held,
 }
 
 impl Drop for Id {
     fn drop(self) {
-        let Id { text: _ } = self;
+        let Id { held: _ } = self;
     }
 }
 
 impl Model for Id {
     ghost use Rattle.std.specs.Prelude.{ℕ, List, ◌≡◌, true};
+    ghost use Rattle.sip_reader.specs.Devices.Held.{bytes_held};
     ghost use Rattle.sip_reader.specs.Texts.{is_id};
 
     ghost Value = { List ℕ };
 
-    ghost view = { λ i. i.text };
+    ghost view = { λ i. bytes_held i.held };
 
-    ghost invariant = { λ i. is_id i.text ≡ true };
+    ghost invariant = { λ i. is_id (bytes_held i.held) ≡ true };
 }
 
 impl Id {
@@ -62,13 +63,12 @@ impl Id {
     }
 
     /// The id of bytes that are known to be an id.
-    #[tactic(auto, using(crate::proofs::Clean::id_is_text))]
     pub(crate) fn of_valid(alloc: Global, bytes: &[u8]) -> Result<Id, AllocError>
         requires { is_id bytes.now ≡ true }
         ensures { IfOk result (λ id. id ≡ bytes.now) }
     {
-        let text = Text::new(alloc, bytes)?;
-        Ok(Id { text })
+        let held = Held::of(alloc, bytes)?;
+        Ok(Id { held })
     }
 
     /// The id of a fee that a line of the journal makes, by the line's number and the count of fees that it made before.
@@ -89,9 +89,9 @@ impl Id {
     pub fn hash(&self) -> u64
         ensures { result ≡ id_hash self.now }
     {
-        match self.text.inline() {
-            Some(inline) => inline.hash(),
-            None => hash_of(self.as_bytes()),
+        match &self.held {
+            Held::Inline(inline) => inline.hash(),
+            held => hash_of(held.as_slice()),
         }
     }
 
@@ -99,7 +99,7 @@ impl Id {
     pub fn as_bytes(&self) -> &[u8]
         ensures { result.now ≡ self.now }
     {
-        self.text.as_bytes()
+        self.held.as_slice()
     }
 
     /// Appends its bytes to others; out of memory, those stay as they are.
@@ -107,14 +107,17 @@ impl Id {
         ensures ok { OnOk result (out.new.items ≡ out.old.items ++ self.now) }
         ensures err { OnErr result (out.new.items ≡ out.old.items) }
     {
-        self.text.append_to(out)
+        match &self.held {
+            Held::Inline(inline) => inline.append_to(out),
+            held => held.append_to(out),
+        }
     }
 
     /// A lemma: does nothing at run time; gives callers the type's promise that its bytes are an id.
     pub fn keeps_its_form(&self)
         ensures { is_id self.now ≡ true }
     {
-        let Id { text: _text } = self;
+        let Id { held: _held } = self;
     }
 }
 
@@ -142,8 +145,8 @@ impl Clone for Id {
     ghost is_clone = { λ x y. y ≡ x };
 
     fn clone(&self) -> Result<Id, AllocError> {
-        let text = self.text.clone()?;
-        Ok(Id { text })
+        let held = self.held.copy()?;
+        Ok(Id { held })
     }
 }
 
@@ -171,8 +174,8 @@ impl Ord for Id {
     ghost matches_eq = { Prim.search (comparing, rules) };
 
     fn cmp(&self, other: &Id) -> Ordering {
-        match (self.text.inline(), other.text.inline()) {
-            (Some(inline), Some(others)) => inline.order(others),
+        match (&self.held, &other.held) {
+            (Held::Inline(inline), Held::Inline(others)) => inline.order(others),
             _ => self.as_bytes().cmp(other.as_bytes()),
         }
     }

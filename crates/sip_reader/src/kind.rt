@@ -1,7 +1,7 @@
 //! Identifiers of messages, and the layouts of requests.
 
 ghost use Rattle.std.specs.Prelude.{◌≡◌};
-ghost use Rattle.sip_reader.specs.Kinds.{command_numbered, command_at, layout_of};
+ghost use Rattle.sip_reader.specs.Kinds.{command_at, layout_of};
 
 use crate::stamp::STAMP_LEN;
 use crate::{Kind, Passed};
@@ -14,12 +14,15 @@ pub enum Command {
 }
 
 impl Command {
-    /// The command that the two digits of an identifier number.
-    #[tactic(auto, unfolding(crate::specs::Kinds::command_numbered))]
-    pub fn numbered(number: u8) -> Option<Command>
-        ensures { result ≡ command_numbered number }
+    /// The command of a message that begins with these two bytes, the digits of its identifier.
+    #[tactic(auto, unfolding(crate::specs::Kinds::command_at, crate::specs::Kinds::command_numbered))]
+    pub fn spelt(a: u8, b: u8) -> Option<Command>
+        ensures { result ≡ command_at a b }
     {
-        Some(match number {
+        if !a.is_ascii_digit() || !b.is_ascii_digit() {
+            return None;
+        }
+        Some(match (a - b'0') * 10 + (b - b'0') {
             1 => Command::Request(Kind::BlockPatron),
             9 => Command::Request(Kind::Checkin),
             11 => Command::Request(Kind::Checkout),
@@ -38,18 +41,6 @@ impl Command {
             99 => Command::Passed(Passed::TerminalStatus),
             _ => return None,
         })
-    }
-
-    /// The command of a message that begins with these two bytes.
-    #[tactic(auto, unfolding(crate::specs::Kinds::command_at))]
-    pub fn spelt(a: u8, b: u8) -> Option<Command>
-        ensures { result ≡ command_at a b }
-    {
-        if a.is_ascii_digit() && b.is_ascii_digit() {
-            Command::numbered((a - b'0') * 10 + (b - b'0'))
-        } else {
-            None
-        }
     }
 }
 

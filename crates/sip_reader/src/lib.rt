@@ -8,10 +8,10 @@
 mod act;
 mod amount;
 mod barred;
-mod bars;
 mod checks;
 mod day;
 mod fields;
+mod held;
 mod id;
 mod inline;
 mod kind;

@@ -18,6 +18,7 @@ pub fn number_of_digits(digits: &[u8]) -> u64
     requires digits { list_all is_ascii_digit digits.now ≡ true }
     ensures value { result ≡ digits_value 10 digits.now }
     ensures small { result < 10 ^ 10 }
+    ensures width { result < 10 ^ length digits.now }
 {
     let mut number = 0;
     for b in digits {

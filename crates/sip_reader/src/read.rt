@@ -1,25 +1,40 @@
 //! The reading of a message.
 
 ghost use Rattle.std.specs.Prelude.{◌≡◌, IfOk};
-ghost use Rattle.sip_reader.specs.Reading.{reading, reading_trimmed, reading_of, reading_as, trimmed};
-ghost use Rattle.sip_reader.specs.declared.request.Reading.TheVariants.{Asked};
+ghost use Rattle.sip_reader.specs.Reading.{reading, reading_as, trimmed};
 
 use crate::act::asked_act;
 use crate::checks::{is_bad_amount, is_bad_field, is_bad_flag, is_by_title, is_lacking};
 use crate::fields::Fields;
 use crate::kind::Command;
 use crate::sum::{is_right, unsummed};
-use crate::{Act, Kind, Passed, Reading, Request, STAMP_LEN, Stamp, Why};
+use crate::{Kind, Passed, Reading, Request, STAMP_LEN, Stamp, Why};
 use std::alloc::{AllocError, Global};
 
 /// The longest message without the end of its line, in bytes.
 pub const MESSAGE_MAX: usize = 4096;
 
 /// What a message is read as. Only the ids and texts of a request take memory; the error says that memory ran out.
+#[tactic(auto, unfolding(crate::specs::Reading::reading_trimmed, crate::specs::Reading::reading_of))]
 pub fn read_request(alloc: Global, message: &[u8]) -> Result<Reading, AllocError>
     ensures { IfOk result (λ r. r ≡ reading message.now) }
 {
-    read_trimmed(alloc, without_line_end(message))
+    let message = without_line_end(message);
+    if message.len() > MESSAGE_MAX {
+        return Ok(Reading::Unread(Why::TooLong));
+    }
+    let (body, sequence) = unsummed(message);
+    if sequence.is_some() && !is_right(message) {
+        return Ok(Reading::BadSum);
+    }
+    if body.len() < 2 {
+        return Ok(Reading::Unread(Why::TooShort));
+    }
+    match Command::spelt(body[0], body[1]) {
+        None => Ok(Reading::Unread(Why::UnknownKind)),
+        Some(Command::Passed(passed)) => Ok(Reading::Passed(passed)),
+        Some(Command::Request(kind)) => read_kind(alloc, sequence, kind, body),
+    }
 }
 
 /// The message without the CR and LF bytes at its end.
@@ -34,34 +49,7 @@ pub fn without_line_end(message: &[u8]) -> &[u8]
     &message[..n]
 }
 
-#[tactic(auto, unfolding(crate::specs::Reading::reading_trimmed))]
-fn read_trimmed(alloc: Global, message: &[u8]) -> Result<Reading, AllocError>
-    ensures { IfOk result (λ r. r ≡ reading_trimmed message.now) }
-{
-    if message.len() > MESSAGE_MAX {
-        return Ok(Reading::Unread(Why::TooLong));
-    }
-    let (body, sequence) = unsummed(message);
-    if sequence.is_some() && !is_right(message) {
-        return Ok(Reading::BadSum);
-    }
-    read_body(alloc, sequence, body)
-}
-
-#[tactic(auto, unfolding(crate::specs::Reading::reading_of))]
-fn read_body(alloc: Global, sequence: Option<u8>, message: &[u8]) -> Result<Reading, AllocError>
-    ensures { IfOk result (λ r. r ≡ reading_of sequence message.now) }
-{
-    if message.len() < 2 {
-        return Ok(Reading::Unread(Why::TooShort));
-    }
-    match Command::spelt(message[0], message[1]) {
-        None => Ok(Reading::Unread(Why::UnknownKind)),
-        Some(Command::Passed(passed)) => Ok(Reading::Passed(passed)),
-        Some(Command::Request(kind)) => read_kind(alloc, sequence, kind, message),
-    }
-}
-
+/// The reading of a request of a kind: the first test that it fails, or what it asks.
 #[tactic(auto, unfolding(crate::specs::Reading::reading_by))]
 fn read_kind(
     alloc: Global,
@@ -85,7 +73,7 @@ fn read_kind(
     }
     let rest = &message[fixed..];
     let mut fields = Fields::none();
-    fields.note_behind(message, fixed);
+    fields.note_all(rest);
     if is_bad_field(&layout, rest, &fields) {
         return Ok(Reading::Unread(Why::BadField));
     }
@@ -99,16 +87,9 @@ fn read_kind(
         return Ok(Reading::Unread(Why::BadAmount));
     }
     let act = asked_act(alloc, kind, message, &fields)?;
-    Ok(asked(sequence, date, act))
-}
-
-/// The reading of a request that passed all tests.
-fn asked(sequence: Option<u8>, date: Stamp, act: Act) -> Reading
-    ensures { result ≡ Asked (record { sequence = sequence; date = date; act = act }) }
-{
-    Reading::Asked(Request {
+    Ok(Reading::Asked(Request {
         sequence,
         date,
         act,
-    })
+    }))
 }

@@ -1,6 +1,6 @@
 //! Dates and times of messages.
 
-ghost use Rattle.std.specs.Prelude.{◌≡◌, ◌<◌, ◌≤◌, ◌+◌, ◌-◌, if◌then◌else◌, Some, None, true, length, IsTrue, nat_lt};
+ghost use Rattle.std.specs.Prelude.{◌≡◌, ◌<◌, ◌≤◌, ◌+◌, ◌-◌, if◌then◌else◌, Some, None, true, length, nat_lt};
 ghost use Rattle.sip_reader.specs.Days.{LAST_STAMP_DAY};
 ghost use Rattle.sip_reader.specs.Devices.Bars.{other_bits};
 ghost use Rattle.sip_reader.specs.Devices.Digits.{ArePair};
@@ -37,24 +37,33 @@ impl Model for Stamp {
 
 impl Stamp {
     /// The date that these bytes are.
+    #[tactic(auto, unfolding(crate::specs::Dates::is_stamp))]
     pub fn new(bytes: &[u8]) -> Option<Stamp>
         ensures { result ≡ (if is_stamp bytes.now then Some bytes.now else None) }
     {
-        if is_date(bytes) {
+        if bytes.len() == STAMP_LEN
+            && are_digits(bytes)
+            && is_written_day(bytes)
+            && is_time(bytes)
+        {
             let mut copied = [0; STAMP_LEN];
             copied.copy_from_slice(bytes);
-            Some(Stamp { bytes: copied })
-        } else {
-            None
+            return Some(Stamp { bytes: copied });
         }
+        None
     }
 
     /// The day that is written in it; its zone isn't interpreted.
+    #[tactic(auto, using(crate::proofs::Stamps::stamp_len, crate::proofs::Stamps::stamp_digits, crate::proofs::Stamps::stamp_year, crate::proofs::Stamps::stamp_real), unfolding(crate::specs::Dates::day_of))]
     pub fn day(&self) -> Day
         ensures value { result ≡ day_of self.now }
         ensures early { result ≤ LAST_STAMP_DAY }
     {
-        written_day(&self.bytes)
+        let s = &self.bytes;
+        match Day::spelt(year(s), two(s, 4), two(s, 6)) {
+            Some(day) => day,
+            None => unreachable!(),
+        }
     }
 
     /// Its bytes.
@@ -63,14 +72,6 @@ impl Stamp {
     {
         self.bytes.as_slice()
     }
-}
-
-#[tactic(auto, unfolding(crate::specs::Dates::is_stamp))]
-fn is_date(s: &[u8]) -> bool
-    ensures value { result ≡ is_stamp s.now }
-    ensures long { IsTrue result → length s.now ≡ STAMP_LEN }
-{
-    s.len() == STAMP_LEN && are_digits(s) && is_written_day(s) && is_time(s)
 }
 
 fn are_digits(s: &[u8]) -> bool
@@ -119,28 +120,12 @@ fn is_sixtieth(s: &[u8], i: usize) -> bool
 }
 
 /// The day of bytes, where they are a date.
-#[inline(always)]
-#[tactic(auto, unfolding(crate::specs::Dates::is_stamp, crate::specs::Dates::day_of))]
 pub(crate) fn day_in(bytes: &[u8]) -> Option<Day>
     ensures { result ≡ given_day bytes.now }
 {
-    if bytes.len() == STAMP_LEN && are_digits(bytes) && is_time(bytes) && year(bytes) <= 9900 {
-        Day::spelt(year(bytes), two(bytes, 4), two(bytes, 6))
-    } else {
-        None
-    }
-}
-
-/// The day of a date.
-#[tactic(auto, using(crate::proofs::Stamps::stamp_len, crate::proofs::Stamps::stamp_digits, crate::proofs::Stamps::stamp_year, crate::proofs::Stamps::stamp_real), unfolding(crate::specs::Dates::day_of))]
-fn written_day(s: &[u8]) -> Day
-    requires { is_stamp s.now ≡ true }
-    ensures value { result ≡ day_of s.now }
-    ensures early { result ≤ LAST_STAMP_DAY }
-{
-    match Day::spelt(year(s), two(s, 4), two(s, 6)) {
-        Some(day) => day,
-        None => unreachable!(),
+    match Stamp::new(bytes) {
+        Some(date) => Some(date.day()),
+        None => None,
     }
 }
 

@@ -1,0 +1,109 @@
+//! The bytes of an id or a text: a few inline, more of them in memory that clones share.
+
+ghost use Rattle.std.specs.Prelude.{◌≡◌, ◌++◌, IfOk, OnErr, OnOk};
+ghost use Rattle.sip_reader.specs.Devices.Held.{bytes_held};
+
+use crate::inline::{INLINE_MAX, Inline};
+use arrayvec::ArrayVec;
+use std::alloc::{AllocError, Global};
+use std::ops::Deref;
+use std::sync::{Arc, ArcSlice};
+
+/// The greatest number of bytes in one block of memory: a greater block would waste more on most titles.
+const BLOCK_MAX: usize = 32;
+
+/// Where the bytes are.
+pub enum Held {
+    /// Inline, as those of most ids.
+    Inline(Inline),
+    /// In a block of memory that it shares with its clones, as those of most titles.
+    Block(Arc<ArrayVec<u8, BLOCK_MAX>>),
+    /// The same, where a block is too small: more bytes, in memory of their size.
+    Many(ArcSlice<u8>),
+}
+
+impl Drop for Held {
+    fn drop(self) {
+        match self {
+            Held::Inline(_) => {}
+            Held::Block(_) => {}
+            Held::Many(_) => {}
+        }
+    }
+}
+
+impl Held {
+    /// These bytes. More than 14 take memory.
+    pub fn of(alloc: Global, bytes: &[u8]) -> Result<Held, AllocError>
+        ensures { IfOk result (λ held. bytes_held held ≡ bytes.now) }
+    {
+        if bytes.len() <= INLINE_MAX {
+            return Ok(Held::Inline(Inline::of(bytes)));
+        }
+        Held::of_more(alloc, bytes)
+    }
+
+    /// Bytes that take memory.
+    #[inline(never)]
+    fn of_more(alloc: Global, bytes: &[u8]) -> Result<Held, AllocError>
+        ensures { IfOk result (λ held. bytes_held held ≡ bytes.now) }
+    {
+        if let Ok(block) = ArrayVec::try_from(bytes) {
+            return Held::block(alloc, block);
+        }
+        let bytes = ArcSlice::from_slice(alloc, bytes)?;
+        Ok(Held::Many(bytes))
+    }
+
+    /// Bytes that one block of memory holds.
+    fn block(alloc: Global, bytes: ArrayVec<u8, BLOCK_MAX>) -> Result<Held, AllocError>
+        ensures { IfOk result (λ held. bytes_held held ≡ bytes.items) }
+    {
+        match Arc::new(alloc, bytes) {
+            Ok(block) => Ok(Held::Block(block)),
+            Err(_) => Err(AllocError),
+        }
+    }
+
+    /// The bytes.
+    pub fn as_slice(&self) -> &[u8]
+        ensures { result.now ≡ bytes_held self.now }
+    {
+        match self {
+            Held::Inline(inline) => inline.as_bytes(),
+            Held::Block(block) => Deref::deref(block).as_slice(),
+            Held::Many(bytes) => bytes.as_slice(),
+        }
+    }
+
+    /// Appends them to other bytes, wherever they are. Never inlined, so that the path of inline bytes stays short.
+    #[inline(never)]
+    pub fn append_to(&self, out: &mut Vec<u8>) -> Result<(), AllocError>
+        ensures ok { OnOk result (out.new.items ≡ out.old.items ++ bytes_held self.now) }
+        ensures err { OnErr result (out.new.items ≡ out.old.items) }
+    {
+        out.extend_from_slice(self.as_slice())
+    }
+
+    /// The same bytes. Most are inline, and this path copies those alone, so that the compiler copies two words.
+    pub fn copy(&self) -> Result<Held, AllocError>
+        ensures { IfOk result (λ held. bytes_held held ≡ bytes_held self.now) }
+    {
+        if let Held::Inline(inline) = self {
+            return Ok(Held::Inline(*inline));
+        }
+        self.copy_any()
+    }
+
+    /// The same, wherever they are.
+    #[inline(never)]
+    fn copy_any(&self) -> Result<Held, AllocError>
+        ensures { IfOk result (λ held. bytes_held held ≡ bytes_held self.now) }
+    {
+        match self {
+            Held::Inline(inline) => Ok(Held::Inline(*inline)),
+            Held::Block(block) => Ok(Held::Block(Arc::try_clone(block)?)),
+            Held::Many(bytes) => Ok(Held::Many(bytes.clone()?)),
+        }
+    }
+}

@@ -27,9 +27,9 @@ fn are_clean(bytes: &[u8]) -> bool
     if len >= BLOCK {
         are_clean_by_blocks(bytes)
     } else if len >= 8 {
-        is_clean_eight(bytes, 0) && is_clean_eight(bytes, len - 8)
+        is_clean_block::<8>(bytes, 0) && is_clean_block::<8>(bytes, len - 8)
     } else if len >= 4 {
-        is_clean_four(bytes, 0) && is_clean_four(bytes, len - 4)
+        is_clean_block::<4>(bytes, 0) && is_clean_block::<4>(bytes, len - 4)
     } else {
         bytes
             .iter()
@@ -44,40 +44,21 @@ fn are_clean_by_blocks(bytes: &[u8]) -> bool
 {
     let mut at = 0;
     while bytes.len() - at > BLOCK {
-        if !is_clean_block(bytes, at) {
+        if !is_clean_block::<BLOCK>(bytes, at) {
             return false;
         }
         at += BLOCK;
     }
-    is_clean_block(bytes, bytes.len() - BLOCK)
+    is_clean_block::<BLOCK>(bytes, bytes.len() - BLOCK)
 }
 
-/// Whether none is in the block of 16 bytes from a place on.
-fn is_clean_block(bytes: &[u8], at: usize) -> bool
-    requires { at + BLOCK ≤ length bytes.now }
-    ensures { result ≡ list_all is_clean (chunk at BLOCK bytes.now) }
+/// Whether none is among the N bytes from a place on.
+fn is_clean_block<const N: usize>(bytes: &[u8], at: usize) -> bool
+    requires few { N ≤ 64 }
+    requires room { at + N ≤ length bytes.now }
+    ensures { result ≡ list_all is_clean (chunk at N bytes.now) }
 {
-    let block = u8x16::from_slice(&bytes[at..]);
-    let ends = block.simd_eq(u8x16::splat(b'\r')) | block.simd_eq(u8x16::splat(b'\n'));
-    (block.simd_eq(u8x16::splat(b'|')) | ends).to_bitmask() == 0
-}
-
-/// Whether none is among the eight bytes from a place on.
-fn is_clean_eight(bytes: &[u8], at: usize) -> bool
-    requires { at + 8 ≤ length bytes.now }
-    ensures { result ≡ list_all is_clean (chunk at 8 bytes.now) }
-{
-    let block = u8x8::from_slice(&bytes[at..]);
-    let ends = block.simd_eq(u8x8::splat(b'\r')) | block.simd_eq(u8x8::splat(b'\n'));
-    (block.simd_eq(u8x8::splat(b'|')) | ends).to_bitmask() == 0
-}
-
-/// Whether none is among the four bytes from a place on.
-fn is_clean_four(bytes: &[u8], at: usize) -> bool
-    requires { at + 4 ≤ length bytes.now }
-    ensures { result ≡ list_all is_clean (chunk at 4 bytes.now) }
-{
-    let block = u8x4::from_slice(&bytes[at..]);
-    let ends = block.simd_eq(u8x4::splat(b'\r')) | block.simd_eq(u8x4::splat(b'\n'));
-    (block.simd_eq(u8x4::splat(b'|')) | ends).to_bitmask() == 0
+    let block = Simd::<u8, N>::from_slice(&bytes[at..]);
+    let ends = block.simd_eq(Simd::splat(b'\r')) | block.simd_eq(Simd::splat(b'\n'));
+    (block.simd_eq(Simd::splat(b'|')) | ends).to_bitmask() == 0
 }

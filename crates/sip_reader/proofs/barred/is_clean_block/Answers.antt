@@ -1,6 +1,5 @@
-use Rattle.std.proofs.Common.{arith}
 use Rattle.sip_reader.proofs.Covers.{no_lane}
 use Rattle.sip_reader.proofs.barred.is_clean_block.Goals as goal
 
 pub returns : goal.returns
-returns c = no_lane 16 c.args.bytes.now c.args.at (omega arith) c.requires c.type_inv.bytes
+returns o c = no_lane _ c.args.bytes.now c.args.at c.requires.few c.requires.room c.type_inv.bytes

@@ -1,6 +1,6 @@
 -- What the bytes of a date have.
-use Rattle.std.proofs.Common.{◌≡◌, ◌≢◌, ◌≤◌, ◌<◌, ◌+◌, ◌-◌, ◌%◌, ◌^◌, ℕ, Bool, true, List, [], ◌∷◌, map, length, get_or, replicate, cond, eqb, leb, ltb, ◌&&◌, not, false, take, drop, Fits, w8, None, refl, sym, ap, ap₂, ◌∙◌, arith}
-use Rattle.std.proofs.lemmas.Bool.{and_parts, eqb-true, le-ltb, leb-true, lt-leb, lt-ltb, ltb-false, ltb-true, ne_eqb}
+use Rattle.std.proofs.Common.{◌≡◌, ◌≤◌, ◌<◌, ◌+◌, ◌-◌, ◌%◌, ◌^◌, ℕ, Bool, true, List, [], ◌∷◌, map, length, get_or, replicate, cond, eqb, leb, ltb, ◌&&◌, not, false, take, drop, Fits, w8, refl, sym, ap, ap₂, ◌∙◌, arith}
+use Rattle.std.proofs.lemmas.Bool.{and_parts, eqb-true, le-ltb, leb-true, lt-ltb, ltb-false, ltb-true}
 use Rattle.std.proofs.lemmas.List.{get_or-drop, get_or-take, length-drop, length-map, length-take-le, take_all}
 use Rattle.std.proofs.lemmas.Simd.{chunk-fits, length-chunk, map-map, zip2_splat, zip2_splat_left}
 use lib.Lanes.{chunk, mask_l, top, zip2}
@@ -10,7 +10,7 @@ use Rattle.sip_reader.proofs.Digits.{digit_at}
 use Rattle.sip_reader.proofs.Bits.{masked, no_bit}
 use Rattle.std.specs.Char.{is_ascii_digit}
 use Rattle.std.specs.List.{list_all}
-use Rattle.sip_reader.specs.Dates.{given_day, is_stamp, has_digits, has_day, has_time, year_at, two_at}
+use Rattle.sip_reader.specs.Dates.{is_stamp, has_digits, has_day, has_time, year_at, two_at}
 use Rattle.sip_reader.specs.Days.{is_real}
 
 pub stamp_len : (s : List ℕ) → is_stamp s ≡ true → length s ≡ 18

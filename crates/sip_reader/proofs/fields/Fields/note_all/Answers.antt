@@ -1,4 +1,4 @@
-use Rattle.std.proofs.Common.{◌∙◌, ◌+◌, ◌-◌, ap, arith, drop, length, length-drop, length-take, sym}
+use Rattle.std.proofs.Common.{◌∙◌, ◌+◌, ap, arith, drop, length-drop, sym}
 use Rattle.std.proofs.lemmas.List.{take_rest}
 use Rattle.sip_reader.specs.Fields.{pieces}
 use Rattle.sip_reader.specs.Views.{texts_behind, with_pieces}

@@ -189,20 +189,6 @@ fn end_unknown(line: &LineContext<'_>, request: &Checkin) -> Result<Effect, Stop
     Ok(Effect::unwritten(line.alloc, Some(answer)))
 }
 
-fn end_any(
-    line: &LineContext<'_>,
-    request: &Checkin,
-    article: &Article,
-    member: Option<Member>,
-) -> Result<Effect, Stop>
-    ensures { Follows result (Done (returned line.now.policy.now line.now.number request.now line.now.date article.now member article.now.item.loan)) }
-{
-    let Some(loan) = loan_in(article) else {
-        return end_unlent(line, request, article);
-    };
-    end_loan(line, request, article, loan, member)
-}
-
 #[tactic(auto, unfolding(read_set::specs::Checkins::checked_in))]
 fn end(
     line: &LineContext<'_>,
@@ -215,7 +201,10 @@ fn end(
     let Some(article) = article else {
         return end_unknown(line, request);
     };
-    end_any(line, request, &article, member)
+    let Some(loan) = loan_in(&article) else {
+        return end_unlent(line, request, &article);
+    };
+    end_loan(line, request, &article, loan, member)
 }
 
 /// The patron who has the item, where both are known.

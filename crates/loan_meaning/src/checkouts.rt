@@ -1,27 +1,27 @@
 //! Checkout.
 
-ghost use Rattle.std.specs.Prelude.{◌≡◌, ◌&&◌, ◌∷◌, [], IfOk, OnOk, OnErr, Some};
+ghost use Rattle.std.specs.Prelude.{◌≡◌, ◌∷◌, [], IfOk, OnOk, OnErr, Some};
 ghost use Rattle.circ_records.specs.declared.key.Key.TheVariants as keys;
 ghost use Rattle.circ_records.specs.declared.record.FeeType.TheVariants as fee_types;
 ghost use Rattle.circ_records.specs.declared.record.Record.TheVariants as records;
-ghost use Rattle.read_set.specs.Checkouts.{lending_tests, other_at, lending_rule_by, lending_rule, checkout_rule_known, checkout_rule, loan_ended, loan_ended_by, lent, lent_list, lending_made, checkout};
+ghost use Rattle.read_set.specs.Checkouts.{lending_tests, other_at, lending_rule, checkout_rule_known, checkout_rule, loan_ended_by, lent, lent_list, lending_made, checkout};
 ghost use Rattle.read_set.specs.Asks.{follow, Done, Gains};
 ghost use Rattle.read_set.specs.Effects.{written, ◌⊕◌};
 ghost use Rattle.read_set.specs.Fees.{fee_made};
 ghost use Rattle.read_set.specs.Ids.{without};
-ghost use Rattle.read_set.specs.Loans.{lent_to};
+ghost use Rattle.read_set.specs.Loans.{by_checkout};
 ghost use Rattle.read_set.specs.Maps.{Map, Agrees};
 ghost use Rattle.read_set.specs.Stops.{Follows};
 
-use crate::asked::{LineContext, LoanContext};
-use crate::asking::{ask_checkout, charge_of, due_of, has_lent_to, has_loan, loan_in, rental_in};
+use crate::asked::LoanContext;
+use crate::asking::{ask_checkout, charge_of, due_of, has_lent_to, loan_in, rental_in};
 use crate::fees::{Charge, draft_for, list_fee, make_fee, test_owing};
 use crate::lists::{is_first_another, without, without_hold};
 use crate::lookup::{item_of, patron_of};
 use crate::renewals::renew_one;
-use crate::telling::{refuse, refuse_for, tell_made};
+use crate::telling::{refuse, refuse_for, tell};
 use circ_policy::Policy;
-use circ_records::{FeeType, Ids, Item, Key, Loan, Patron, Record};
+use circ_records::{FeeType, Ids, Key, Loan, Patron, Record};
 use read_set::{Article, Draft, Effect, LoanRequest, Member, Source, Stop, Verdict};
 use sip_reader::{Amount, Checkout, Day, Id, Stamp};
 use std::alloc::{AllocError, Global};
@@ -43,7 +43,7 @@ fn test_lending<S: Source>(
     if has_lent_to(&a.patron, loan_in(article)) {
         return Ok(Verdict::Refused);
     }
-    if has_loan(loan_in(article)) {
+    if loan_in(article).is_some() {
         return Ok(Verdict::Refused);
     }
     if is_first_another(article.item.get().holds.as_slice(), &a.patron) {
@@ -77,38 +77,8 @@ fn other_of<S: Source>(
     patron_of(asked.alloc, asked.policy, source, &loan.patron)
 }
 
-/// The other borrower's record, without the item among the loans. Out of memory, nothing is written. It is a function of its own, since
-/// few loans end another.
-#[inline(never)]
+/// The other borrower's record, without the item among the loans. Out of memory, nothing is written.
 fn end_other_loan(
-    alloc: Global,
-    item: &Id,
-    borrower: &Id,
-    other: Option<Member>,
-    writes: &mut Draft,
-) -> Result<(), AllocError>
-    ensures ok { OnOk result (writes.new ≡ written writes.old (loan_ended item.now borrower.now other)) }
-    ensures err { OnErr result (writes.new ≡ writes.old) }
-{
-    let Some(other) = other else {
-        return Ok(());
-    };
-    let patron = without_loan(alloc, item, other)?;
-    writes.put(
-        Key::Patron(borrower.clone()?),
-        Record::patron(alloc, patron)?,
-    )
-}
-
-fn without_loan(alloc: Global, item: &Id, other: Member) -> Result<Patron, AllocError>
-    ensures { IfOk result (λ p. p ≡ record other.patron { loans = without item.now other.patron.loans }) }
-{
-    let mut patron = Patron::of(other.into_patron())?;
-    patron.loans = without(alloc, &patron.loans, item)?;
-    Ok(patron)
-}
-
-fn end_other_loan_by(
     alloc: Global,
     item: &Id,
     loan: &Option<Loan>,
@@ -118,28 +88,24 @@ fn end_other_loan_by(
     ensures ok { OnOk result (writes.new ≡ written writes.old (loan_ended_by item.now loan.now other)) }
     ensures err { OnErr result (writes.new ≡ writes.old) }
 {
-    match loan {
-        Some(loan) => end_other_loan(alloc, item, &loan.patron, other, writes),
-        None => Ok(()),
-    }
+    let (Some(loan), Some(other)) = (loan, other) else {
+        return Ok(());
+    };
+    let patron = without_loan(alloc, item, other)?;
+    writes.put(
+        Key::Patron(loan.patron.clone()?),
+        Record::patron(alloc, patron)?,
+    )
 }
 
-fn lent_item(
-    alloc: Global,
-    a: &LoanRequest,
-    due: Day,
-    article: &Article,
-) -> Result<Item, AllocError>
-    ensures { IfOk result (λ i. i ≡ lent a.now due article.now.item) }
+/// A function of its own also in the program, since few loans end another.
+#[inline(never)]
+fn without_loan(alloc: Global, item: &Id, other: Member) -> Result<Patron, AllocError>
+    ensures { IfOk result (λ p. p ≡ record other.patron { loans = without item.now other.patron.loans }) }
 {
-    let item = article.item.get();
-    let holds = without_hold(alloc, &item.holds, &a.patron)?;
-    let loan = Loan {
-        patron: a.patron.clone()?,
-        due,
-        renewals: 0,
-    };
-    item.with(Some(loan), holds)
+    let mut patron = Patron::of(other.into_patron())?;
+    patron.loans = without(alloc, &patron.loans, item)?;
+    Ok(patron)
 }
 
 /// The item goes last in the patron's list, once. Out of memory, the list stays as it was.
@@ -174,22 +140,28 @@ fn write_lending(
     ensures { IfOk result (λ w. w ≡ [] ⊕ loan_ended_by asked.now.request.item article.now.item.loan other ⊕ ((keys.Patron asked.now.request.patron, records.Patron patron) ∷ (keys.Item asked.now.request.item, records.Item (lent asked.now.request due article.now.item)) ∷ []) ⊕ fee_made asked.now.number 0 asked.now.request.patron fee_types.Rental charge) }
 {
     let alloc = asked.alloc;
-    let n = asked.number;
     let a = &asked.request;
     let mut writes = draft_for(alloc, charge)?;
-    end_other_loan_by(alloc, &a.item, loan_in(article), other, &mut writes)?;
-    let item = lent_item(alloc, a, due, article)?;
+    end_other_loan(alloc, &a.item, loan_in(article), other, &mut writes)?;
     writes.put(
         Key::Patron(a.patron.clone()?),
         Record::patron(alloc, patron)?,
     )?;
+    let item = article.item.get();
+    let holds = without_hold(alloc, &item.holds, &a.patron)?;
+    let loan = Loan {
+        patron: a.patron.clone()?,
+        due,
+        renewals: 0,
+    };
+    let item = item.with(Some(loan), holds)?;
     writes.put(Key::Item(a.item.clone()?), Record::item(alloc, item)?)?;
     let rental = Charge {
         patron: &a.patron,
         kind: FeeType::Rental,
         amount: charge,
     };
-    make_fee(alloc, n, 0, &rental, &mut writes)?;
+    make_fee(alloc, asked.number, 0, &rental, &mut writes)?;
     Ok(writes)
 }
 
@@ -213,7 +185,7 @@ fn make_loan(
     list_fee(alloc, asked.number, 0, charge, &mut patron.fees)?;
     let writes = write_lending(asked, due, charge, patron, &article, other)?;
     let writes = writes.finish(alloc)?;
-    let answer = tell_made(asked, &article, due, false, charge)?;
+    let answer = tell(asked, Some(&article), Some(due), false, charge)?;
     Ok(Effect {
         writes,
         answer: Some(answer),
@@ -221,17 +193,17 @@ fn make_loan(
 }
 
 /// Where the loan is made, the record of the other patron whose loan ends is read first.
-#[tactic(auto, unfolding(read_set::specs::Checkouts::lending_of), using(read_set::proofs::Gaining::gains_none, read_set::proofs::Gaining::gains_first, read_set::proofs::Following::follow_wants))]
-fn lend_by<S: Source>(
+#[tactic(auto, unfolding(read_set::specs::Checkouts::lending_rule, read_set::specs::Checkouts::lending_of), using(read_set::proofs::Gaining::gains_none, read_set::proofs::Gaining::gains_first, read_set::proofs::Following::follow_wants))]
+fn lend<S: Source>(
     asked: &LoanContext<'_>,
     member: Member,
     article: Article,
-    verdict: Verdict,
     source: &mut S,
 ) -> Result<Effect, Stop>
-    ensures gives { Follows result (follow (S.has source.new) (lending_rule_by asked.now.policy.now asked.now.number asked.now.request asked.now.date member article verdict)) }
-    ensures keeps { Gains S.one_by_one (S.has source.old) (S.has source.new) (lending_rule_by asked.now.policy.now asked.now.number asked.now.request asked.now.date member article verdict) }
+    ensures gives { Follows result (follow (S.has source.new) (lending_rule asked.now.policy.now asked.now.number asked.now.request asked.now.date member article)) }
+    ensures keeps { Gains S.one_by_one (S.has source.old) (S.has source.new) (lending_rule asked.now.policy.now asked.now.number asked.now.request asked.now.date member article) }
 {
+    let verdict = test_lending(asked, &member, &article, source)?;
     let rental = rental_in(&article);
     // each is returned at once: what is done by one of several branches would move once more after them, and is large
     match verdict {
@@ -244,55 +216,28 @@ fn lend_by<S: Source>(
     make_loan(asked, member, article, other)
 }
 
-#[tactic(auto, unfolding(read_set::specs::Checkouts::lending_rule), using(read_set::proofs::Gaining::gains_none, read_set::proofs::Gaining::gains_first, read_set::proofs::Following::follow_wants))]
-fn lend<S: Source>(
-    asked: &LoanContext<'_>,
-    member: Member,
-    article: Article,
-    source: &mut S,
-) -> Result<Effect, Stop>
-    ensures gives { Follows result (follow (S.has source.new) (lending_rule asked.now.policy.now asked.now.number asked.now.request asked.now.date member article)) }
-    ensures keeps { Gains S.one_by_one (S.has source.old) (S.has source.new) (lending_rule asked.now.policy.now asked.now.number asked.now.request asked.now.date member article) }
-{
-    let verdict = test_lending(asked, &member, &article, source)?;
-    lend_by(asked, member, article, verdict, source)
-}
-
-/// Whether the item is renewed: it is on loan to the same patron, and the terminal allows it.
-fn is_renewal(request: &Checkout, article: &Article) -> bool
-    ensures { result ≡ (request.now.renewal && lent_to request.now.patron article.now.item.loan) }
-{
-    request.renewal && has_lent_to(&request.patron, loan_in(article))
-}
-
 #[tactic(auto, using(read_set::proofs::Gaining::gains_none, read_set::proofs::Gaining::gains_first))]
 fn lend_both<S: Source>(
-    line: &LineContext<'_>,
+    asked: &LoanContext<'_>,
     request: &Checkout,
     member: Option<Member>,
     article: Option<Article>,
     source: &mut S,
 ) -> Result<Effect, Stop>
-    ensures gives { Follows result (follow (S.has source.new) (checkout_rule_known line.now.policy.now line.now.number request.now line.now.date member article)) }
-    ensures keeps { Gains S.one_by_one (S.has source.old) (S.has source.new) (checkout_rule_known line.now.policy.now line.now.number request.now line.now.date member article) }
+    requires { asked.now.request ≡ by_checkout request.now }
+    ensures gives { Follows result (follow (S.has source.new) (checkout_rule_known asked.now.policy.now asked.now.number request.now asked.now.date member article)) }
+    ensures keeps { Gains S.one_by_one (S.has source.old) (S.has source.new) (checkout_rule_known asked.now.policy.now asked.now.number request.now asked.now.date member article) }
 {
-    let asked = LoanContext {
-        alloc: line.alloc,
-        policy: line.policy,
-        number: line.number,
-        date: line.date,
-        request: ask_checkout(request)?,
-    };
     let Some(member) = member else {
-        return refuse(&asked, article);
+        return refuse(asked, article);
     };
     let Some(article) = article else {
-        return refuse(&asked, None);
+        return refuse(asked, None);
     };
-    if is_renewal(request, &article) {
-        return renew_one(&asked, member, article, source);
+    if request.renewal && has_lent_to(&request.patron, loan_in(&article)) {
+        return renew_one(asked, member, article, source);
     }
-    lend(&asked, member, article, source)
+    lend(asked, member, article, source)
 }
 
 /// A checkout (message 11) on line n.
@@ -309,13 +254,14 @@ pub fn check_out<S: Source>(
     ensures means { IfOk result (λ e. (M : Map) → Agrees (S.has source.new) M → e ≡ checkout policy.now n request.now date M) }
     ensures keeps { Gains S.one_by_one (S.has source.old) (S.has source.new) (checkout_rule policy.now n request.now date) }
 {
-    let member = patron_of(alloc, policy, source, &request.patron)?;
-    let article = item_of(alloc, policy, source, &request.item)?;
-    let line = LineContext {
+    let asked = LoanContext {
         alloc,
         policy,
         number: n,
         date,
+        request: ask_checkout(request)?,
     };
-    lend_both(&line, request, member, article, source)
+    let member = patron_of(alloc, policy, source, &request.patron)?;
+    let article = item_of(alloc, policy, source, &request.item)?;
+    lend_both(&asked, request, member, article, source)
 }

@@ -53,7 +53,7 @@ pub fn owed_of<S: Source>(
 /// What is owed over a list of fees after the writes so far, where it is known already; else it is summed, and known.
 /// After an error the sum isn't needed again: the rule has ended.
 #[tactic(auto, using(read_set::proofs::Gaining::gains_none, read_set::proofs::Gaining::gains_first))]
-pub fn owed_once<S: Source>(
+fn owed_once<S: Source>(
     alloc: Global,
     source: &mut S,
     writes: &Draft,

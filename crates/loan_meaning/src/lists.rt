@@ -81,7 +81,12 @@ pub fn without_all(alloc: Global, ids: &Ids, gone: &[Id]) -> Result<Ids, AllocEr
     ensures { IfOk result (λ left. left ≡ without_all gone.now ids.now) }
 {
     let all = set_of(alloc, gone)?;
-    let kept = kept_all(alloc, ids.as_slice(), gone, &all)?;
+    let mut kept = Vec::new(alloc);
+    for other in ids.as_slice() {
+        if !all.contains(other) {
+            kept.push(other.clone()?)?;
+        }
+    }
     Ids::from_vec(alloc, kept)
 }
 
@@ -93,25 +98,6 @@ fn set_of(alloc: Global, ids: &[Id]) -> Result<BTreeSet<Id>, AllocError>
         set.insert(id.clone()?)?;
     }
     Ok(set)
-}
-
-/// The ids that aren't gone; the gone ones are as a list and as a set.
-fn kept_all(
-    alloc: Global,
-    ids: &[Id],
-    _gone: &[Id],
-    all: &BTreeSet<Id>,
-) -> Result<Vec<Id>, AllocError>
-    requires { (q : List ℕ) → contains (slice_cmp nat_cmp) all.now q ≡ has_id q _gone.now }
-    ensures { IfOk result (λ v. v.items ≡ without_all _gone.now ids.now) }
-{
-    let mut kept = Vec::new(alloc);
-    for other in ids {
-        if !all.contains(other) {
-            kept.push(other.clone()?)?;
-        }
-    }
-    Ok(kept)
 }
 
 /// Whether somebody waits.
@@ -155,23 +141,16 @@ pub fn position(holds: &[Hold], patron: &Id) -> Option<usize>
 pub fn without_hold(alloc: Global, holds: &Holds, patron: &Id) -> Result<Holds, AllocError>
     ensures { IfOk result (λ h. h ≡ without_hold patron.now holds.now) }
 {
-    let kept = holds_without(alloc, holds.as_slice(), patron)?;
-    Ok(Holds::from_vec(kept))
-}
-
-fn holds_without(alloc: Global, holds: &[Hold], patron: &Id) -> Result<Vec<Hold>, AllocError>
-    ensures { IfOk result (λ v. v.items ≡ without_hold patron.now holds.now) }
-{
     let mut kept = Vec::new(alloc);
     let mut found = false;
-    for hold in holds {
+    for hold in holds.as_slice() {
         if !found && hold.patron == *patron {
             found = true;
         } else {
             kept.push(hold.clone()?)?;
         }
     }
-    Ok(kept)
+    Ok(Holds::from_vec(kept))
 }
 
 /// The queue with another pickup in a patron's entry.
@@ -183,21 +162,9 @@ pub fn with_pickup(
 ) -> Result<Holds, AllocError>
     ensures { IfOk result (λ h. h ≡ with_pickup patron.now pickup.now holds.now) }
 {
-    let kept = holds_with(alloc, holds.as_slice(), patron, pickup)?;
-    Ok(Holds::from_vec(kept))
-}
-
-fn holds_with(
-    alloc: Global,
-    holds: &[Hold],
-    patron: &Id,
-    pickup: &Text,
-) -> Result<Vec<Hold>, AllocError>
-    ensures { IfOk result (λ v. v.items ≡ with_pickup patron.now pickup.now holds.now) }
-{
     let mut kept = Vec::new(alloc);
     let mut found = false;
-    for hold in holds {
+    for hold in holds.as_slice() {
         let mut hold = hold.clone()?;
         if !found && hold.patron == *patron {
             found = true;
@@ -205,5 +172,5 @@ fn holds_with(
         }
         kept.push(hold)?;
     }
-    Ok(kept)
+    Ok(Holds::from_vec(kept))
 }

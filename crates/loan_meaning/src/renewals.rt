@@ -17,7 +17,7 @@ use crate::asking::{ask_renew, charge_of, due_of, loan_in, rental_in};
 use crate::fees::{Charge, draft_for, has_amount, list_fee, make_fee, test_owing};
 use crate::lists::has_queue;
 use crate::lookup::{item_of, patron_of};
-use crate::telling::{refuse, refuse_for, tell_made};
+use crate::telling::{refuse, refuse_for, tell};
 use circ_policy::Policy;
 use circ_records::{FeeType, Item, Key, Loan, Patron, Record};
 use read_set::{Article, Draft, Effect, LoanRequest, Member, Source, Stop, Verdict};
@@ -79,11 +79,7 @@ pub fn test_renewal<S: Source>(
 fn one_more(renewals: u32) -> u32
     ensures { result ≡ one_more renewals }
 {
-    if renewals < u32::MAX {
-        renewals + 1
-    } else {
-        renewals
-    }
+    renewals.saturating_add(1)
 }
 
 fn renew_loan(due: Day, loan: Option<Loan>) -> Option<Loan>
@@ -113,7 +109,7 @@ fn make_renewal(asked: &LoanContext<'_>, member: Member, article: Article) -> Re
 {
     let due = due_of(asked, &article.media);
     let charge = charge_of(&asked.request, &article.media);
-    let answer = tell_made(asked, &article, due, true, charge)?;
+    let answer = tell(asked, Some(&article), Some(due), true, charge)?;
     let mut patron = Patron::of(member.into_patron())?;
     list_fee(asked.alloc, asked.number, 0, charge, &mut patron.fees)?;
     let writes = write_renewal(asked, due, charge, patron, article)?;

@@ -1,6 +1,6 @@
 //! What a patron owes while all of its items are renewed.
 
-ghost use Rattle.std.specs.Prelude.{◌≡◌, IfOk, Some, nat_eq, not};
+ghost use Rattle.std.specs.Prelude.{◌≡◌, IfOk, nat_eq, not};
 ghost use Rattle.std.specs.List.{list_all, starts_with};
 ghost use Rattle.loan_meaning.specs.Devices.Sums.{charged_by, none_begins_as_made, sum_with};
 
@@ -39,16 +39,7 @@ pub fn charge_by(verdict: Verdict, rental: Amount) -> Amount
 pub fn owed_with(fresh: bool, amount: Amount, sum: Option<u128>) -> Option<u128>
     ensures { result ≡ sum_with fresh amount sum }
 {
-    match sum {
-        Some(sum) => added(fresh, amount, sum),
-        None => None,
-    }
-}
-
-/// The same, where the sum is known.
-fn added(fresh: bool, amount: Amount, sum: u128) -> Option<u128>
-    ensures { result ≡ sum_with fresh amount (Some sum) }
-{
+    let sum = sum?;
     let amount = amount.hundredths();
     if amount == 0 {
         Some(sum)

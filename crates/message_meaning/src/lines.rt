@@ -3,7 +3,6 @@ ghost use Rattle.circ_records.specs.declared.key.Key.{Key};
 ghost use Rattle.message_meaning.specs.Rules.{rule_at};
 ghost use Rattle.read_set.specs.Asks.{follow, Gains, IsAsked};
 ghost use Rattle.read_set.specs.Maps.{Map, Agrees, Grows};
-ghost use Rattle.read_set.specs.Meaning.{rule_of};
 ghost use Rattle.read_set.specs.Replay.{GivesAt};
 ghost use Rattle.read_set.specs.Stops.{Follows, LacksAt};
 ghost use Rattle.read_set.specs.Wanted.{WantsAt};
@@ -12,11 +11,10 @@ use crate::blocks::block;
 use crate::holds::hold;
 use crate::item_statuses::update;
 use crate::payments::take_payment;
-use circ_policy::Policy;
 use loan_meaning::{check_in, check_out, renew_all, renew_item};
 use read_set::{Effect, OneByOne, Plan, Source, Stop};
 use sip_answer::Answer;
-use sip_reader::{Act, Reading, Request};
+use sip_reader::{Act, Reading};
 use std::alloc::Global;
 
 /// What a line of a plan does, by the records that the source has. It asks for them in the order of the line's rule
@@ -55,7 +53,7 @@ pub fn perform_one_by_one<S: OneByOne>(
     perform(alloc, plan, line, source)
 }
 
-#[tactic(auto, unfolding(crate::specs::Rules::rule_at, read_set::specs::Meaning::rule), using(read_set::proofs::Gaining::gains_none))]
+#[tactic(auto, unfolding(crate::specs::Rules::rule_at, read_set::specs::Meaning::rule, read_set::specs::Meaning::rule_of), using(read_set::proofs::Gaining::gains_none))]
 fn follow_line<S: Source>(
     alloc: Global,
     plan: &Plan,
@@ -68,43 +66,23 @@ fn follow_line<S: Source>(
     let Some(reading) = plan.reading(line) else {
         return Ok(Effect::unwritten(alloc, None));
     };
-    let answer = match reading {
-        Reading::Asked(request) => {
-            return follow_request(alloc, plan.policy(), line, request, source);
-        }
-        Reading::BadSum => Some(Answer::Resend),
-        Reading::Passed(_) | Reading::Unread(_) => None,
+    let request = match reading {
+        Reading::Asked(request) => request,
+        Reading::BadSum => return Ok(Effect::unwritten(alloc, Some(Answer::Resend))),
+        Reading::Passed(_) | Reading::Unread(_) => return Ok(Effect::unwritten(alloc, None)),
     };
-    Ok(Effect::unwritten(alloc, answer))
-}
-
-/// Inlined, so that the effect isn't moved once more.
-#[inline(always)]
-#[tactic(auto, unfolding(read_set::specs::Meaning::rule_of), using(read_set::proofs::Gaining::gains_none))]
-fn follow_request<S: Source>(
-    alloc: Global,
-    policy: &Policy,
-    line: u64,
-    request: &Request,
-    source: &mut S,
-) -> Result<Effect, Stop>
-    ensures gives { Follows result (follow (S.has source.new) (rule_of policy.now line request.now.date request.now.act)) }
-    ensures keeps { Gains S.one_by_one (S.has source.old) (S.has source.new) (rule_of policy.now line request.now.date request.now.act) }
-{
+    let policy = plan.policy();
+    let date = request.date;
     // each arm returns: an effect is large, and as the value of the `match` it would be moved once more
     match &request.act {
-        Act::BlockPatron(asked) => {
-            return block(alloc, policy, true, &asked.patron, request.date, source);
-        }
-        Act::Checkin(asked) => return check_in(alloc, policy, line, asked, request.date, source),
-        Act::Checkout(asked) => return check_out(alloc, policy, line, asked, request.date, source),
-        Act::Hold(asked) => return hold(alloc, policy, asked, request.date, source),
-        Act::ItemStatus(asked) => return update(alloc, policy, asked, request.date, source),
-        Act::PatronEnable(asked) => {
-            return block(alloc, policy, false, &asked.patron, request.date, source);
-        }
-        Act::Renew(asked) => return renew_item(alloc, policy, line, asked, request.date, source),
-        Act::FeePaid(asked) => return take_payment(alloc, policy, asked, request.date, source),
-        Act::RenewAll(asked) => return renew_all(alloc, policy, line, asked, request.date, source),
+        Act::BlockPatron(asked) => return block(alloc, policy, true, &asked.patron, date, source),
+        Act::Checkin(asked) => return check_in(alloc, policy, line, asked, date, source),
+        Act::Checkout(asked) => return check_out(alloc, policy, line, asked, date, source),
+        Act::Hold(asked) => return hold(alloc, policy, asked, date, source),
+        Act::ItemStatus(asked) => return update(alloc, policy, asked, date, source),
+        Act::PatronEnable(asked) => return block(alloc, policy, false, &asked.patron, date, source),
+        Act::Renew(asked) => return renew_item(alloc, policy, line, asked, date, source),
+        Act::FeePaid(asked) => return take_payment(alloc, policy, asked, date, source),
+        Act::RenewAll(asked) => return renew_all(alloc, policy, line, asked, date, source),
     }
 }

@@ -1,5 +1,5 @@
 -- The day of a due date is read back from what is written of it, in each form.
-use Rattle.std.proofs.Common.{◌≡◌, ℕ, ◌+◌, ◌*◌, ◌-◌, ◌/◌, ◌%◌, ◌<◌, true, false, [], Option, Some, None, refl, ◌∙◌, arith}
+use Rattle.std.proofs.Common.{◌≡◌, eqb, ℕ, ◌+◌, ◌*◌, ◌-◌, ◌/◌, ◌%◌, ◌<◌, true, false, [], Option, Some, None, refl, ◌∙◌, arith}
 use Rattle.std.specs.Prelude.{IfSome}
 use Rattle.std.specs.Char.{is_ascii_digit}
 use Rattle.std.specs.Int.{IsInRange}
@@ -10,23 +10,26 @@ use Rattle.circ_policy.specs.declared.due_form.DueForm.TheVariants as form
 use Rattle.sip_reader.specs.Days.{day_at, day_of_month, month_of, year_of}
 use Rattle.sip_answer.specs.Devices.ReadBack.{is_bar, is_whole}
 use Rattle.sip_answer.specs.DueDates.{date_text, due_text, four_digits, two_digits}
-use Rattle.sip_answer.specs.Recorded.{day_in, is_iso, is_plain, is_us}
+use Rattle.sip_answer.specs.Recorded.{day_in}
 use Rattle.sip_answer.proofs.Calendar.{parts_fit, real_day}
 
 -- a digit as it is written
 record IsWritten (k : ℕ) : Type 0 where
   digit : is_ascii_digit (48 + k) ≡ true
   clean : is_bar (48 + k) ≡ false
+  no_hyphen : eqb (48 + k) 45 ≡ false
+  no_slash : eqb (48 + k) 47 ≡ false
 
 written : (k : ℕ) → k < 10 → IsWritten k
-written k small = record { digit = grind (arith, common_steps); clean = grind (arith, common_steps) }
+written k small =
+    record { digit = grind (arith, common_steps); clean = grind (arith, common_steps); no_hyphen = grind (arith, common_steps); no_slash = grind (arith, common_steps) }
 
 -- the digits of a date
 record Digits (y m d : ℕ) : Type 0 where
-  y1 : IsWritten (y / 1000)
+  y1 : IsWritten (y / 100 / 10)
   y2 : IsWritten (y / 100 % 10)
-  y3 : IsWritten (y / 10 % 10)
-  y4 : IsWritten (y % 10)
+  y3 : IsWritten (y % 100 / 10)
+  y4 : IsWritten (y % 100 % 10)
   m1 : IsWritten (m / 10)
   m2 : IsWritten (m % 10)
   d1 : IsWritten (d / 10)
@@ -34,10 +37,10 @@ record Digits (y m d : ℕ) : Type 0 where
 
 digits : (y m d : ℕ) → y < 10000 → m < 100 → d < 100 → Digits y m d
 digits y m d ys ms ds = record {
-  y1 = written (y / 1000) (omega arith);
+  y1 = written (y / 100 / 10) (omega arith);
   y2 = written (y / 100 % 10) (omega arith);
-  y3 = written (y / 10 % 10) (omega arith);
-  y4 = written (y % 10) (omega arith);
+  y3 = written (y % 100 / 10) (omega arith);
+  y4 = written (y % 100 % 10) (omega arith);
   m1 = written (m / 10) (omega arith);
   m2 = written (m % 10) (omega arith);
   d1 = written (d / 10) (omega arith);
@@ -45,17 +48,17 @@ digits y m d ys ms ds = record {
 }
 
 -- what four digits and two spell
-four : (y : ℕ) → ((48 + y / 1000 - 48) * 10 + (48 + y / 100 % 10 - 48)) * 100 + ((48 + y / 10 % 10 - 48) * 10 + (48 + y % 10 - 48)) ≡ y
+four : (y : ℕ) → ((48 + y / 100 / 10 - 48) * 10 + (48 + y / 100 % 10 - 48)) * 100 + ((48 + y % 100 / 10 - 48) * 10 + (48 + y % 100 % 10 - 48)) ≡ y
 four y = omega arith
 
 two : (n : ℕ) → (48 + n / 10 - 48) * 10 + (48 + n % 10 - 48) ≡ n
 two n = omega arith
 
 date_read : (f : DueForm) (y m d : ℕ) → Digits y m d → day_in (date_text f y m d) ≡ day_at y m d
-unfolding day_in is_plain is_iso is_us four_digits two_digits
-date_read form.Sip y m d h = rw (h.y1.digit, h.y2.digit, h.y3.digit, h.y4.digit, h.m1.digit, h.m2.digit, h.d1.digit, h.d2.digit, four y, two m, two d) refl
+unfolding day_in four_digits two_digits
+date_read form.Sip y m d h = rw (h.m1.no_hyphen, h.y3.no_slash, h.y1.digit, h.y2.digit, h.y3.digit, h.y4.digit, h.m1.digit, h.m2.digit, h.d1.digit, h.d2.digit, four y, two m, two d) refl
 date_read form.Iso y m d h = rw (h.y1.digit, h.y2.digit, h.y3.digit, h.y4.digit, h.m1.digit, h.m2.digit, h.d1.digit, h.d2.digit, four y, two m, two d) refl
-date_read form.Us y m d h = rw (h.m1.digit, h.m2.digit, h.d1.digit, h.d2.digit, h.y1.digit, h.y2.digit, h.y3.digit, h.y4.digit, four y, two m, two d) refl
+date_read form.Us y m d h = rw (h.d2.no_hyphen, h.m1.digit, h.m2.digit, h.d1.digit, h.d2.digit, h.y1.digit, h.y2.digit, h.y3.digit, h.y4.digit, four y, two m, two d) refl
 
 date_clean : (f : DueForm) (y m d : ℕ) → Digits y m d → is_whole (date_text f y m d) ≡ true
 unfolding four_digits two_digits

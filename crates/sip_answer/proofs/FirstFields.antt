@@ -1,9 +1,13 @@
 -- The fields that are written are the pieces that are read.
-use Rattle.std.proofs.Common.{◌≡◌, ℕ, suc, Bool, true, false, ◌&&◌, ◌||◌, not, eqb, List, [], ◌∷◌, ◌++◌, length, Option, Some, None, refl, sym, ◌∙◌, append_assoc, append-nil, arith}
+use Rattle.std.proofs.Common.{◌≡◌, ℕ, suc, Bool, true, false, ◌&&◌, ◌||◌, not, eqb, List, [], ◌∷◌, ◌++◌, length, map, Option, Some, None, refl, sym, ◌∙◌, append_assoc, append-nil, arith}
 use Rattle.std.specs.Prelude.{unwrap_or}
+use Rattle.std.specs.Borrow.{Bor}
 use Rattle.std.specs.List.{list_any}
+use Rattle.std.specs.Option.{option_copied, option_or}
 use Rattle.std.proofs.lemmas.Bool.{le-leb, or_parts}
-use Rattle.sip_reader.specs.Fields.{field as first_of, pieces, text_after}
+use Rattle.std.proofs.lemmas.List.{map_push}
+use Rattle.sip_reader.specs.Fields.{field as first_of, or_else, pieces, text_after}
+use Rattle.sip_reader.proofs.Pieces.{field_push}
 use Rattle.sip_answer.specs.Devices.ReadBack.{is_bar, is_whole}
 use Rattle.sip_answer.specs.Parts.{field, filled, given}
 
@@ -65,3 +69,13 @@ unfolding filled
 past_filled a b c d [] id apart clean = nowhere c d
 past_filled a b c d (x ∷ text) id apart clean =
     rw (← append-nil (field (a ∷ b ∷ []) (x ∷ text))) (past a b c d (x ∷ text) [] id apart clean ∙ nowhere c d)
+
+-- what was found is the first of the pieces so far; with one more piece it is that, or else the text of this piece
+either : (found next : Option (Bor (List ℕ))) → option_copied (option_or found next) ≡ or_else (option_copied found) (option_copied next)
+either None next = refl
+either (Some x) next = refl
+
+pub next_piece : (a b : ℕ) (found next : Option (Bor (List ℕ))) (ps : List (Bor (List ℕ))) (p : Bor (List ℕ)) → option_copied found ≡ first_of a b (map (λ x. x.now) ps)
+    → option_copied next ≡ text_after a b p.now → option_copied (option_or found next) ≡ first_of a b (map (λ x. x.now) (ps ++ p ∷ []))
+next_piece a b found next ps p was is =
+    rw (map_push (λ (x : Bor (List ℕ)). x.now) ps p, field_push a b (map (λ x. x.now) ps) p.now, ← was, ← is) (either found next)

@@ -3,7 +3,6 @@ pub mod Calendar
 pub mod Codes
 pub mod DueTexts
 pub mod FirstFields
-pub mod Forms
 pub mod Framing
 pub mod ItemLists
 pub mod OwnLoans

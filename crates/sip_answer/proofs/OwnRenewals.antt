@@ -9,7 +9,7 @@ use Rattle.std.proofs.lemmas.List.{length-append}
 use Rattle.std.proofs.lemmas.List.Folds.{list_all-append}
 use Rattle.sip_answer.specs.Devices.ReadBack.{is_bar, is_whole}
 use Rattle.sip_answer.specs.Differ.{are_same_items, capped, renew_all_words, times_in, word_unless}
-use Rattle.sip_answer.specs.DueDates.{four_digits}
+use Rattle.sip_answer.specs.DueDates.{four_digits, two_digits}
 use Rattle.sip_answer.specs.Parts.{count, digit, each, field}
 use Rattle.sip_answer.specs.Recorded.{count_at, items_in}
 use Rattle.sip_answer.specs.Texts.{renew_all_text}
@@ -23,7 +23,7 @@ use Rattle.sip_answer.proofs.Written.{digit_is, ends_field, is_same-itself, ok_b
 
 -- four digits are a count, or 9999
 count_is : (n : ℕ) → count n ≡ four_digits (capped n)
-unfolding count four_digits
+unfolding count four_digits two_digits
 count_is n = by (ltb 9999 n) refl
   where
     by : (b : Bool) → ltb 9999 n ≡ b → cond (ltb 9999 n) (codes "9999") (four_digits n) ≡ four_digits (cond (ltb 9999 n) 9999 n)
@@ -41,14 +41,14 @@ digit_fits : (k : ℕ) → k < 10 → is_ascii_digit (48 + k) ≡ true
 digit_fits k small = grind (arith, common_steps)
 
 first_count : (x y z k : ℕ) (more : List ℕ) → k ≤ 9999 → count_at 3 (x ∷ y ∷ z ∷ (four_digits k ++ more)) ≡ Some k
-unfolding four_digits
+unfolding four_digits two_digits
 first_count x y z k more small =
-    rw (digit_fits (k / 1000) (omega arith), digit_fits (k / 100 % 10) (omega arith), digit_fits (k / 10 % 10) (omega arith), digit_fits (k % 10) (omega arith)) (ap Some (omega arith))
+    rw (digit_fits (k / 100 / 10) (omega arith), digit_fits (k / 100 % 10) (omega arith), digit_fits (k % 100 / 10) (omega arith), digit_fits (k % 100 % 10) (omega arith)) (ap Some (omega arith))
 
 second_count : (x y z j k : ℕ) (more : List ℕ) → k ≤ 9999 → count_at 7 (x ∷ y ∷ z ∷ (four_digits j ++ (four_digits k ++ more))) ≡ Some k
-unfolding four_digits
+unfolding four_digits two_digits
 second_count x y z j k more small =
-    rw (digit_fits (k / 1000) (omega arith), digit_fits (k / 100 % 10) (omega arith), digit_fits (k / 10 % 10) (omega arith), digit_fits (k % 10) (omega arith)) (ap Some (omega arith))
+    rw (digit_fits (k / 100 / 10) (omega arith), digit_fits (k / 100 % 10) (omega arith), digit_fits (k % 100 / 10) (omega arith), digit_fits (k % 100 % 10) (omega arith)) (ap Some (omega arith))
 
 -- the items that are written are read
 items_here : (a b : ℕ) (items : List (List ℕ)) (more : List ℕ) → list_any is_bar (a ∷ b ∷ []) ≡ false → (eqb a a && eqb b b) ≡ true → list_all is_whole items ≡ true
@@ -116,7 +116,7 @@ unrenewed_read a c1 c2 c3 =
 -- Renew all response (66).
 words_none : (a : RenewAllAnswer) (more : List ℕ) → 18 ≤ length more → items_in 66 77 (drop 18 more) ≡ a.renewed → items_in 66 78 (drop 18 more) ≡ a.unrenewed
     → renew_all_words a (54 ∷ 54 ∷ ok_byte a.ok ∷ (four_digits (capped (length a.renewed)) ++ (four_digits (capped (length a.unrenewed)) ++ more))) ≡ Some []
-unfolding renew_all_words four_digits word_unless
+unfolding renew_all_words four_digits two_digits word_unless
 words_none a more long renewed unrenewed =
     let r = capped (length a.renewed) in
     let u = capped (length a.unrenewed) in

@@ -10,7 +10,7 @@ unfoldable pub two_digits : ℕ → List ℕ
 two_digits n = (byte.zero + n / 10) ∷ (byte.zero + n % 10) ∷ []
 
 unfoldable pub four_digits : ℕ → List ℕ
-four_digits n = (byte.zero + n / 1000) ∷ (byte.zero + n / 100 % 10) ∷ (byte.zero + n / 10 % 10) ∷ (byte.zero + n % 10) ∷ []
+four_digits n = two_digits (n / 100) ++ two_digits (n % 100)
 
 -- The forms of a due date (the profile of this project): sip is the date and time of SIP 2.00 at one minute before midnight.
 abbrev pub date_text : DueForm → ℕ → ℕ → ℕ → List ℕ

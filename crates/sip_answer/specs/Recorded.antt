@@ -5,7 +5,7 @@ use Rattle.std.specs.List.{filter_map}
 use Rattle.std.specs.Option.{option_and_then}
 use Rattle.sip_reader.specs.Amounts.{amount_of}
 use Rattle.sip_reader.specs.Bytes as byte
-use Rattle.sip_reader.specs.Dates.{two_at, year_at}
+use Rattle.sip_reader.specs.Dates.{two_at}
 use Rattle.sip_reader.specs.Days.{day_at}
 use Rattle.sip_reader.specs.Fields.{field, pieces, text_after}
 use Rattle.sip_reader.specs.Reading.{says_yes}
@@ -24,31 +24,34 @@ ok_of b = if b == byte.one then Some true else if b == byte.zero then Some false
 abbrev pub flag_of : ℕ → Option Bool
 flag_of b = if b == byte.Y then Some true else if b == byte.N then Some false else None
 
--- the bytes at i and after it are digits
-abbrev pub are_digits : ℕ → List ℕ → Bool
-are_digits i m = is_ascii_digit (slice_index m i) && is_ascii_digit (slice_index m (i + 1))
+-- the number that the bytes at i and after it spell, where they are digits
+abbrev pub number_at : ℕ → List ℕ → Option ℕ
+number_at i m = if is_ascii_digit (slice_index m i) && is_ascii_digit (slice_index m (i + 1)) then Some (two_at i m) else None
 
 -- a count (SIP 2.00): four digits
 abbrev pub count_at : ℕ → List ℕ → Option ℕ
-count_at i m = if are_digits i m && are_digits (i + 2) m then Some (two_at i m * 100 + two_at (i + 2) m) else None
+count_at i m = do
+  hundreds ← number_at i m
+  ones ← number_at (i + 2) m
+  Some (hundreds * 100 + ones)
 
--- The forms of a due date at the front of a text, whatever follows (the profile of this project): eight digits,
--- YYYY-MM-DD or MM/DD/YYYY.
-unfoldable pub is_plain : List ℕ → Bool
-is_plain t = nat_le 8 (length t) && (are_digits 0 t && (are_digits 2 t && (are_digits 4 t && are_digits 6 t)))
+-- the day whose century, year, month and day of the month are two digits each, from these positions on, where it is a real one
+-- of the years 1900 to 9999
+abbrev pub day_of_digits : List ℕ → ℕ → ℕ → ℕ → ℕ → Option ℕ
+day_of_digits t century year month day = do
+  c ← number_at century t
+  y ← number_at year t
+  m ← number_at month t
+  d ← number_at day t
+  day_at (c * 100 + y) m d
 
-unfoldable pub is_iso : List ℕ → Bool
-is_iso t = nat_le 10 (length t) && (are_digits 0 t && (are_digits 2 t && ((slice_index t 4 == byte.hyphen) && (are_digits 5 t && ((slice_index t 7 == byte.hyphen) && are_digits 8 t)))))
-
-unfoldable pub is_us : List ℕ → Bool
-is_us t = nat_le 10 (length t) && (are_digits 0 t && ((slice_index t 2 == byte.slash) && (are_digits 3 t && ((slice_index t 5 == byte.slash) && (are_digits 6 t && are_digits 8 t)))))
-
--- its day, where it is a real one of the years 1900 to 9999
+-- The day of a due date at the front of a text, whatever follows, in one of its forms (the profile of this project):
+-- YYYY-MM-DD, MM/DD/YYYY or eight digits.
 unfoldable pub day_in : List ℕ → Option ℕ
 day_in t =
-    if is_plain t then day_at (year_at t) (two_at 4 t) (two_at 6 t)
-    else if is_iso t then day_at (year_at t) (two_at 5 t) (two_at 8 t)
-    else if is_us t then day_at (two_at 6 t * 100 + two_at 8 t) (two_at 0 t) (two_at 3 t)
+    if nat_le 10 (length t) && ((slice_index t 4 == byte.hyphen) && (slice_index t 7 == byte.hyphen)) then day_of_digits t 0 2 5 8
+    else if nat_le 10 (length t) && ((slice_index t 2 == byte.slash) && (slice_index t 5 == byte.slash)) then day_of_digits t 6 8 0 3
+    else if nat_le 8 (length t) then day_of_digits t 0 2 4 6
     else None
 
 -- Due date (AH) of the variable fields.

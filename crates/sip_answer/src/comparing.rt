@@ -1,8 +1,8 @@
 //! In what recorded responses differ from answers.
 
-ghost use Rattle.std.specs.Prelude.{◌≡◌, ◌≤◌, ◌∷◌, [], IfOk, length};
+ghost use Rattle.std.specs.Prelude.{◌≡◌, ◌∷◌, [], IfOk};
 ghost use Rattle.std.specs.Option.{option_map};
-ghost use Rattle.sip_answer.specs.Differ.{differ, differ_body, identifier_of, is_response, words_of};
+ghost use Rattle.sip_answer.specs.Differ.{differ, identifier_of, words_of};
 
 mod due_dates;
 mod items;
@@ -24,7 +24,7 @@ use std::alloc::{AllocError, Global};
 /// In what a recorded response differs from an answer, in the order of the report's words; nothing where it agrees.
 /// `Missing`, `Unreadable` and `Kind` come alone. The response may have error detection, whose sum isn't looked at, and
 /// any number of CR and LF after it. The error is that memory ran out.
-#[tactic(auto, unfolding(crate::specs::Differ::differ))]
+#[tactic(auto, unfolding(crate::specs::Differ::differ, crate::specs::Differ::differ_body))]
 pub fn differences(
     alloc: Global,
     answer: &Answer,
@@ -37,7 +37,17 @@ pub fn differences(
         return alone(alloc, Field::Missing);
     }
     let (response, _) = unsummed(recorded);
-    differences_of(alloc, answer, response)
+    if response.len() < 2 {
+        return alone(alloc, Field::Unreadable);
+    }
+    let code = identifier(answer);
+    if response[0] != code[0] || response[1] != code[1] {
+        return alone(alloc, Field::Kind);
+    }
+    match compare(alloc, answer, response)? {
+        Some(words) => Ok(words),
+        None => alone(alloc, Field::Unreadable),
+    }
 }
 
 fn alone(alloc: Global, field: Field) -> Result<Vec<Field>, AllocError>
@@ -46,22 +56,6 @@ fn alone(alloc: Global, field: Field) -> Result<Vec<Field>, AllocError>
     let mut fields = Vec::new(alloc);
     fields.push(field)?;
     Ok(fields)
-}
-
-#[tactic(auto, unfolding(crate::specs::Differ::differ_body))]
-fn differences_of(alloc: Global, answer: &Answer, response: &[u8]) -> Result<Vec<Field>, AllocError>
-    ensures { IfOk result (λ v. v.items ≡ differ_body answer.now response.now) }
-{
-    if response.len() < 2 {
-        return alone(alloc, Field::Unreadable);
-    }
-    if !is_of_kind(answer, response) {
-        return alone(alloc, Field::Kind);
-    }
-    match compare(alloc, answer, response)? {
-        Some(words) => Ok(words),
-        None => alone(alloc, Field::Unreadable),
-    }
 }
 
 /// The identifier of the response.
@@ -80,14 +74,6 @@ fn identifier(answer: &Answer) -> &'static [u8]
         Answer::RenewAll(_) => b"66",
         Answer::Resend => b"96",
     }
-}
-
-fn is_of_kind(answer: &Answer, response: &[u8]) -> bool
-    requires { 2 ≤ length response.now }
-    ensures { result ≡ is_response answer.now response.now }
-{
-    let code = identifier(answer);
-    response[0] == code[0] && response[1] == code[1]
 }
 
 /// The words for a response of the right kind; none where what is compared can't be read.

@@ -1,89 +1,38 @@
 //! The day of a recorded due date.
 
-ghost use Rattle.std.specs.Prelude.{◌≡◌, ◌≤◌, ◌+◌, ◌*◌, true, length, IsTrue};
-ghost use Rattle.sip_reader.specs.Dates.{two_at, year_at};
-ghost use Rattle.sip_reader.specs.Days.{day_at};
-ghost use Rattle.sip_answer.specs.Recorded.{day_in, is_iso, is_plain, is_us};
+ghost use Rattle.std.specs.Prelude.{◌≡◌, ◌≤◌, ◌+◌, length};
+ghost use Rattle.std.specs.Option.{option_and_then, option_copied};
+ghost use Rattle.sip_answer.specs.Recorded.{day_in, day_of_digits};
 
-use super::recorded::{are_digits, two_at};
+use super::recorded::number_at;
 use sip_reader::Day;
 
 /// The day at the front of a text, in any of the three forms.
 #[tactic(auto, unfolding(crate::specs::Recorded::day_in))]
-pub fn day_in(text: &[u8]) -> Option<Day>
-    ensures { result ≡ day_in text.now }
+pub fn day_of(text: Option<&[u8]>) -> Option<Day>
+    ensures { result ≡ option_and_then day_in (option_copied text.entry) }
 {
-    if is_plain(text) {
-        plain_day(text)
-    } else if is_iso(text) {
-        iso_day(text)
-    } else if is_us(text) {
-        us_day(text)
+    let text = text?;
+    let is_long = text.len() >= 10;
+    if is_long && text[4] == b'-' && text[7] == b'-' {
+        day_of_digits(text, 0, 2, 5, 8)
+    } else if is_long && text[2] == b'/' && text[5] == b'/' {
+        day_of_digits(text, 6, 8, 0, 3)
+    } else if text.len() >= 8 {
+        day_of_digits(text, 0, 2, 4, 6)
     } else {
         None
     }
 }
 
-#[tactic(auto, unfolding(crate::specs::Recorded::is_plain))]
-fn is_plain(text: &[u8]) -> bool
-    ensures { result ≡ is_plain text.now }
+/// The day whose century, year, month and day of the month are two digits each, from these positions on.
+fn day_of_digits(text: &[u8], century: usize, year: usize, month: usize, day: usize) -> Option<Day>
+    requires century { century + 2 ≤ length text.now }
+    requires year { year + 2 ≤ length text.now }
+    requires month { month + 2 ≤ length text.now }
+    requires day { day + 2 ≤ length text.now }
+    ensures { result ≡ day_of_digits text.now century year month day }
 {
-    text.len() >= 8
-        && are_digits(0, text)
-        && are_digits(2, text)
-        && are_digits(4, text)
-        && are_digits(6, text)
-}
-
-#[tactic(auto, using(crate::proofs::Forms::IsPlain_from))]
-fn plain_day(text: &[u8]) -> Option<Day>
-    requires { is_plain text.now ≡ true }
-    ensures { result ≡ day_at (year_at text.now) (two_at 4 text.now) (two_at 6 text.now) }
-{
-    let year = u16::from(two_at(0, text)) * 100 + u16::from(two_at(2, text));
-    Day::of(year, two_at(4, text), two_at(6, text))
-}
-
-#[tactic(auto, unfolding(crate::specs::Recorded::is_iso))]
-fn is_iso(text: &[u8]) -> bool
-    ensures { result ≡ is_iso text.now }
-{
-    text.len() >= 10
-        && are_digits(0, text)
-        && are_digits(2, text)
-        && text[4] == b'-'
-        && are_digits(5, text)
-        && text[7] == b'-'
-        && are_digits(8, text)
-}
-
-#[tactic(auto, using(crate::proofs::Forms::IsIso_from))]
-fn iso_day(text: &[u8]) -> Option<Day>
-    requires { is_iso text.now ≡ true }
-    ensures { result ≡ day_at (year_at text.now) (two_at 5 text.now) (two_at 8 text.now) }
-{
-    let year = u16::from(two_at(0, text)) * 100 + u16::from(two_at(2, text));
-    Day::of(year, two_at(5, text), two_at(8, text))
-}
-
-#[tactic(auto, unfolding(crate::specs::Recorded::is_us))]
-fn is_us(text: &[u8]) -> bool
-    ensures { result ≡ is_us text.now }
-{
-    text.len() >= 10
-        && are_digits(0, text)
-        && text[2] == b'/'
-        && are_digits(3, text)
-        && text[5] == b'/'
-        && are_digits(6, text)
-        && are_digits(8, text)
-}
-
-#[tactic(auto, using(crate::proofs::Forms::IsUs_from))]
-fn us_day(text: &[u8]) -> Option<Day>
-    requires { is_us text.now ≡ true }
-    ensures { result ≡ day_at (two_at 6 text.now * 100 + two_at 8 text.now) (two_at 0 text.now) (two_at 3 text.now) }
-{
-    let year = u16::from(two_at(6, text)) * 100 + u16::from(two_at(8, text));
-    Day::of(year, two_at(0, text), two_at(3, text))
+    let year = u16::from(number_at(century, text)?) * 100 + u16::from(number_at(year, text)?);
+    Day::of(year, number_at(month, text)?, number_at(day, text)?)
 }

@@ -6,12 +6,11 @@ ghost use Rattle.circ_policy.specs.Medias.{media_code};
 ghost use Rattle.sip_answer.specs.Parts.{digit, field, filled, flag, given};
 ghost use Rattle.sip_answer.specs.Texts.{checkin_text, hold_text, item_status_text, position_text};
 
-use super::parts::{
-    digit, flag, put_field, put_filled, put_id, put_media, put_number, put_patron_ids, put_text,
-};
+use super::parts::{digit, flag, put_field, put_filled, put_id, put_media, put_text};
 use crate::answer::{
     CheckinAnswer, HoldAnswer, ItemStatusAnswer, QueuePosition, ReturnedItem, TitledItem,
 };
+use itoa::Buffer;
 use sip_reader::{Id, Text};
 use std::alloc::AllocError;
 
@@ -34,7 +33,7 @@ fn put_titled(out: &mut Vec<u8>, known: &Option<TitledItem>) -> Result<(), Alloc
     match known {
         Some(item) => {
             put_field(out, b"AJ", item.title.as_bytes())?;
-            put_filled(out, b"CH", item.properties.as_bytes())
+            put_filled(out, b"CH", &item.properties)
         }
         None => Ok(()),
     }
@@ -44,28 +43,13 @@ fn put_titled(out: &mut Vec<u8>, known: &Option<TitledItem>) -> Result<(), Alloc
 pub fn put_checkin(out: &mut Vec<u8>, answer: &CheckinAnswer) -> Result<(), AllocError>
     ensures { OnOk result (out.new.items ≡ out.old.items ++ checkin_text answer.now) }
 {
-    put_checkin_head(out, answer)?;
+    let is_known = answer.known.is_some();
+    let alert = flag(answer.alert);
+    out.extend_from_slice(&[b'1', b'0', digit(is_known), flag(is_known), b'U', alert])?;
+    out.extend_from_slice(answer.date.as_bytes())?;
     put_id(out, b"AO", &answer.institution)?;
     put_id(out, b"AB", &answer.item)?;
-    put_returned(out, &answer.known, &answer.borrower)?;
-    Ok(())
-}
-
-fn put_checkin_head(out: &mut Vec<u8>, answer: &CheckinAnswer) -> Result<(), AllocError>
-    ensures { OnOk result (out.new.items ≡ out.old.items
-        ++ codes "10" ++ digit (is_some answer.now.known) ++ flag (is_some answer.now.known)
-        ++ codes "U" ++ flag answer.now.alert ++ answer.now.date) }
-{
-    let is_known = answer.known.is_some();
-    out.extend_from_slice(&[
-        b'1',
-        b'0',
-        digit(is_known),
-        flag(is_known),
-        b'U',
-        flag(answer.alert),
-    ])?;
-    out.extend_from_slice(answer.date.as_bytes())
+    put_returned(out, &answer.known, &answer.borrower)
 }
 
 /// What is shown of the item, with the borrower whose loan ended.
@@ -87,8 +71,7 @@ fn put_returned(
             put_text(out, b"AQ", &item.location)?;
             put_field(out, b"AJ", item.title.as_bytes())?;
             put_borrower(out, borrower)?;
-            put_media(out, item.media)?;
-            put_filled(out, b"CH", item.properties.as_bytes())
+            put_media(out, item.media, &item.properties)
         }
         None => {
             put_field(out, b"AQ", b"")?;
@@ -114,7 +97,8 @@ pub fn put_hold(out: &mut Vec<u8>, answer: &HoldAnswer) -> Result<(), AllocError
     out.extend_from_slice(&[b'1', b'6', digit(answer.ok), flag(answer.available)])?;
     out.extend_from_slice(answer.date.as_bytes())?;
     put_position(out, &answer.position)?;
-    put_patron_ids(out, &answer.institution, &answer.patron)?;
+    put_id(out, b"AO", &answer.institution)?;
+    put_id(out, b"AA", &answer.patron)?;
     put_id(out, b"AB", &answer.item)?;
     put_title(out, &answer.title)
 }
@@ -124,8 +108,8 @@ fn put_position(out: &mut Vec<u8>, position: &Option<QueuePosition>) -> Result<(
 {
     match position {
         Some(position) => {
-            put_number(out, b"BR", position.number)?;
-            put_filled(out, b"BS", position.pickup.as_bytes())
+            put_field(out, b"BR", Buffer::new().format(position.number).as_bytes())?;
+            put_filled(out, b"BS", &position.pickup)
         }
         None => Ok(()),
     }

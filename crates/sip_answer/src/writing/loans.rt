@@ -7,10 +7,8 @@ ghost use Rattle.sip_answer.specs.DueDates.{due_text};
 ghost use Rattle.sip_answer.specs.Parts.{count, digit, each, field, filled, flag, given};
 ghost use Rattle.sip_answer.specs.Texts.{loan_text, money, renew_all_text};
 
-use super::dates::{four_digits, put_due};
-use super::parts::{
-    COUNT_MAX, digit, flag, put_field, put_filled, put_id, put_media, put_money, put_patron_ids,
-};
+use super::dates::{put_due, two_digits};
+use super::parts::{COUNT_MAX, digit, flag, put_field, put_id, put_media, put_money};
 use crate::answer::{KnownItem, LoanAnswer, RenewAllAnswer};
 use sip_reader::{Amount, Id};
 use std::alloc::AllocError;
@@ -19,34 +17,18 @@ use std::alloc::AllocError;
 pub fn put_loan(out: &mut Vec<u8>, id: &[u8], answer: &LoanAnswer) -> Result<(), AllocError>
     ensures { OnOk result (out.new.items ≡ out.old.items ++ loan_text id.now answer.now) }
 {
-    put_loan_head(out, id, answer)?;
-    put_loan_names(out, answer)?;
-    put_due(out, answer.due_form, answer.due)?;
-    put_rental(out, &answer.currency, answer.rental)?;
-    put_media_and_properties(out, &answer.known)?;
-    Ok(())
-}
-
-fn put_loan_head(out: &mut Vec<u8>, id: &[u8], answer: &LoanAnswer) -> Result<(), AllocError>
-    ensures { OnOk result (out.new.items ≡ out.old.items
-        ++ id.now ++ digit (is_some answer.now.due) ++ flag answer.now.renewed
-        ++ codes "U" ++ flag (is_some answer.now.due) ++ answer.now.date) }
-{
     let is_made = answer.due.is_some();
     out.extend_from_slice(id)?;
     out.extend_from_slice(&[digit(is_made), flag(answer.renewed), b'U', flag(is_made)])?;
-    out.extend_from_slice(answer.date.as_bytes())
-}
-
-fn put_loan_names(out: &mut Vec<u8>, answer: &LoanAnswer) -> Result<(), AllocError>
-    ensures { OnOk result (out.new.items ≡ out.old.items
-        ++ field (codes "AO") answer.now.institution ++ field (codes "AA") answer.now.patron
-        ++ field (codes "AB") answer.now.item
-        ++ field (codes "AJ") (option_map_or (λ i. i.title) answer.now.known [])) }
-{
-    put_patron_ids(out, &answer.institution, &answer.patron)?;
+    out.extend_from_slice(answer.date.as_bytes())?;
+    put_id(out, b"AO", &answer.institution)?;
+    put_id(out, b"AA", &answer.patron)?;
     put_id(out, b"AB", &answer.item)?;
-    put_title(out, &answer.known)
+    put_title(out, &answer.known)?;
+    put_due(out, answer.due_form, answer.due)?;
+    put_rental(out, &answer.currency, answer.rental)?;
+    put_shown(out, &answer.known)?;
+    Ok(())
 }
 
 fn put_title(out: &mut Vec<u8>, known: &Option<KnownItem>) -> Result<(), AllocError>
@@ -73,16 +55,13 @@ fn put_rental(out: &mut Vec<u8>, currency: &[u8], rental: Option<Amount>) -> Res
 }
 
 #[tactic(auto, unfolding(crate::specs::Parts::given, crate::specs::Parts::filled))]
-fn put_media_and_properties(out: &mut Vec<u8>, known: &Option<KnownItem>) -> Result<(), AllocError>
+fn put_shown(out: &mut Vec<u8>, known: &Option<KnownItem>) -> Result<(), AllocError>
     ensures { OnOk result (out.new.items ≡ out.old.items
         ++ given (codes "CK") (option_map (λ i. media_code i.media) known.now)
         ++ filled (codes "CH") (option_map_or (λ i. i.properties) known.now [])) }
 {
     match known {
-        Some(item) => {
-            put_media(out, item.media)?;
-            put_filled(out, b"CH", item.properties.as_bytes())
-        }
+        Some(item) => put_media(out, item.media, &item.properties),
         None => Ok(()),
     }
 }
@@ -109,14 +88,16 @@ fn put_counts(out: &mut Vec<u8>, renewed: usize, unrenewed: usize) -> Result<(),
 }
 
 /// A count of four digits.
-#[tactic(auto, unfolding(crate::specs::Parts::count))]
+#[tactic(auto, unfolding(crate::specs::Parts::count, crate::specs::DueDates::four_digits))]
 fn count(n: usize) -> [u8; 4]
     ensures { result ≡ count n }
 {
     if n > COUNT_MAX {
         *b"9999"
     } else {
-        four_digits(n as u16)
+        let [a, b] = two_digits((n / 100) as u16);
+        let [c, d] = two_digits((n % 100) as u16);
+        [a, b, c, d]
     }
 }
 

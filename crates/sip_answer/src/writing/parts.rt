@@ -4,7 +4,7 @@ ghost use Rattle.std.specs.Prelude.{◌≡◌, ◌++◌, ◌∷◌, [], ◌<◌,
 ghost use Rattle.circ_policy.specs.Medias.{media_code};
 ghost use Rattle.sip_reader.specs.Amounts.{amount_text};
 ghost use Rattle.sip_answer.specs.Texts.{money};
-ghost use Rattle.sip_answer.specs.Parts.{field, filled, digit, flag, hex_digit, hex_digits, with_sequence};
+ghost use Rattle.sip_answer.specs.Parts.{field, filled, digit, flag, hex_digit, with_sequence};
 
 use circ_policy::MediaType;
 use itoa::Buffer;
@@ -39,15 +39,6 @@ pub fn put_id(out: &mut Vec<u8>, id: &[u8; 2], named: &Id) -> Result<(), AllocEr
     out.extend_from_slice(b"|")
 }
 
-/// The institution and the patron.
-pub fn put_patron_ids(out: &mut Vec<u8>, institution: &Id, patron: &Id) -> Result<(), AllocError>
-    ensures { OnOk result (out.new.items ≡ out.old.items
-        ++ field (codes "AO") institution.now ++ field (codes "AA") patron.now) }
-{
-    put_id(out, b"AO", institution)?;
-    put_id(out, b"AA", patron)
-}
-
 /// A field of a text that is mostly short: then it is copied without a call. Inlined, for the same reason.
 #[inline(always)]
 #[tactic(auto, unfolding(crate::specs::Parts::field))]
@@ -59,20 +50,23 @@ pub fn put_text(out: &mut Vec<u8>, id: &[u8; 2], text: &Text) -> Result<(), Allo
     out.extend_from_slice(b"|")
 }
 
-/// The field of a media type, whose six bytes are copied at once.
+/// The fields of a media type, whose six bytes are copied at once, and of an item's properties.
 #[tactic(auto, using(crate::proofs::Codes::three_digits), unfolding(crate::specs::Parts::field))]
-pub fn put_media(out: &mut Vec<u8>, media: MediaType) -> Result<(), AllocError>
-    ensures { OnOk result (out.new.items ≡ out.old.items ++ field (codes "CK") (media_code media)) }
+pub fn put_media(out: &mut Vec<u8>, media: MediaType, properties: &Text) -> Result<(), AllocError>
+    ensures { OnOk result (out.new.items ≡ out.old.items
+        ++ field (codes "CK") (media_code media) ++ filled (codes "CH") properties.now) }
 {
     let code = media.code();
-    out.extend_from_slice(&[b'C', b'K', code[0], code[1], code[2], b'|'])
+    out.extend_from_slice(&[b'C', b'K', code[0], code[1], code[2], b'|'])?;
+    put_filled(out, b"CH", properties)
 }
 
 /// A field that is left out where its text is empty.
 #[tactic(auto, unfolding(crate::specs::Parts::filled))]
-pub fn put_filled(out: &mut Vec<u8>, id: &[u8; 2], text: &[u8]) -> Result<(), AllocError>
+pub fn put_filled(out: &mut Vec<u8>, id: &[u8; 2], text: &Text) -> Result<(), AllocError>
     ensures { OnOk result (out.new.items ≡ out.old.items ++ filled id.now text.now) }
 {
+    let text = text.as_bytes();
     if text.is_empty() {
         Ok(())
     } else {
@@ -94,13 +88,6 @@ pub fn flag(yes: bool) -> u8
     ensures { flag yes ≡ result ∷ [] }
 {
     if yes { b'Y' } else { b'N' }
-}
-
-/// A field that holds a number.
-pub fn put_number(out: &mut Vec<u8>, id: &[u8; 2], n: usize) -> Result<(), AllocError>
-    ensures { OnOk result (out.new.items ≡ out.old.items ++ field id.now (decimal n)) }
-{
-    put_field(out, id, Buffer::new().format(n).as_bytes())
 }
 
 /// A currency and an amount in hundredths.
@@ -142,31 +129,25 @@ fn point_and_cents(hundredths: u64) -> [u8; 3]
     [b'.', b'0' + tens, b'0' + ones]
 }
 
+/// Error detection: AY, the sequence digit, AZ, and the sum of all bytes up to there.
+#[tactic(auto, unfolding(crate::specs::Parts::hex_digits))]
+pub fn put_detection(out: &mut Vec<u8>, sequence: u8) -> Result<(), AllocError>
+    ensures { OnOk result (out.new.items ≡ with_sequence out.old.items (Some sequence)) }
+{
+    out.extend_from_slice(&[b'A', b'Y', sequence, b'A', b'Z'])?;
+    let sum = sum_of(out.as_slice());
+    out.extend_from_slice(&[
+        hex(sum / 4096),
+        hex(sum / 256 % 16),
+        hex(sum / 16 % 16),
+        hex(sum % 16),
+    ])
+}
+
 #[tactic(auto, using(crate::proofs::Codes::sixteen))]
 fn hex(n: u16) -> u8
     requires { n < 16 }
     ensures { result ≡ hex_digit n }
 {
     HEX[n as usize]
-}
-
-#[tactic(auto, unfolding(crate::specs::Parts::hex_digits))]
-fn put_hex(out: &mut Vec<u8>, n: u16) -> Result<(), AllocError>
-    ensures { OnOk result (out.new.items ≡ out.old.items ++ hex_digits n) }
-{
-    out.extend_from_slice(&[
-        hex(n / 4096),
-        hex(n / 256 % 16),
-        hex(n / 16 % 16),
-        hex(n % 16),
-    ])
-}
-
-/// Error detection: AY, the sequence digit, AZ, and the sum of all bytes up to there.
-pub fn put_detection(out: &mut Vec<u8>, sequence: u8) -> Result<(), AllocError>
-    ensures { OnOk result (out.new.items ≡ with_sequence out.old.items (Some sequence)) }
-{
-    out.extend_from_slice(&[b'A', b'Y', sequence, b'A', b'Z'])?;
-    let sum = sum_of(out.as_slice());
-    put_hex(out, sum)
 }

@@ -5,7 +5,7 @@ ghost use Rattle.std.specs.Option.{option_map_or};
 ghost use Rattle.sip_answer.specs.Parts.{field, flag, mark};
 ghost use Rattle.sip_answer.specs.Texts.{fee_paid_text, owed_text, patron_text, status_text};
 
-use super::parts::{flag, put_field, put_money, put_patron_ids};
+use super::parts::{flag, put_field, put_id, put_money};
 use crate::answer::{FeePaidAnswer, KnownPatron, PatronAnswer, PatronStatus};
 use std::alloc::AllocError;
 
@@ -27,7 +27,8 @@ pub fn put_patron(out: &mut Vec<u8>, id: &[u8], answer: &PatronAnswer) -> Result
     out.extend_from_slice(id)?;
     put_status_and_language(out, answer.status)?;
     out.extend_from_slice(answer.date.as_bytes())?;
-    put_patron_ids(out, &answer.institution, &answer.patron)?;
+    put_id(out, b"AO", &answer.institution)?;
+    put_id(out, b"AA", &answer.patron)?;
     put_name(out, &answer.known)?;
     put_field(out, b"BL", &[flag(answer.known.is_some())])
 }
@@ -68,5 +69,6 @@ pub fn put_fee_paid(out: &mut Vec<u8>, answer: &FeePaidAnswer) -> Result<(), All
 {
     out.extend_from_slice(&[b'3', b'8', flag(answer.accepted)])?;
     out.extend_from_slice(answer.date.as_bytes())?;
-    put_patron_ids(out, &answer.institution, &answer.patron)
+    put_id(out, b"AO", &answer.institution)?;
+    put_id(out, b"AA", &answer.patron)
 }

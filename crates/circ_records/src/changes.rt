@@ -47,74 +47,24 @@ pub(crate) fn apply(
     ensures ok { IfOk result (λ broken. broken ≡ None → target.new ≡ changed what target.old) }
     ensures err { OnErr result (target.new ≡ target.old) }
 {
-    match what {
-        ListChange::Borrows(item) => borrow(alloc, target, item),
-        ListChange::Owes(fee) => owe(alloc, target, fee),
-        ListChange::Lent(loan) => lend(target, loan),
-        ListChange::Awaited(hold) => wait(target, hold),
-    }
-}
-
-fn borrow(alloc: Global, target: &mut Record, item: Id) -> Result<Option<BaseRule>, AllocError>
-    ensures rule { IfOk result (λ broken. broken ≡ broken_by (change.Borrows item) (Some target.old)) }
-    ensures ok { IfOk result (λ broken. broken ≡ None → target.new ≡ changed (change.Borrows item) target.old) }
-    ensures err { OnErr result (target.new ≡ target.old) }
-{
-    match target {
-        Record::Patron(patron) => {
-            put_loan(alloc, patron, item)?;
-            Ok(None)
-        }
-        _ => Ok(Some(BaseRule::Patron)),
-    }
-}
-
-fn owe(alloc: Global, target: &mut Record, fee: Id) -> Result<Option<BaseRule>, AllocError>
-    ensures rule { IfOk result (λ broken. broken ≡ broken_by (change.Owes fee) (Some target.old)) }
-    ensures ok { IfOk result (λ broken. broken ≡ None → target.new ≡ changed (change.Owes fee) target.old) }
-    ensures err { OnErr result (target.new ≡ target.old) }
-{
-    match target {
-        Record::Patron(patron) => {
-            put_fee(alloc, patron, fee)?;
-            Ok(None)
-        }
-        _ => Ok(Some(BaseRule::Patron)),
-    }
-}
-
-fn lend(target: &mut Record, loan: Loan) -> Result<Option<BaseRule>, AllocError>
-    ensures rule { IfOk result (λ broken. broken ≡ broken_by (change.Lent loan) (Some target.old)) }
-    ensures ok { IfOk result (λ broken. broken ≡ None → target.new ≡ changed (change.Lent loan) target.old) }
-    ensures err { OnErr result (target.new ≡ target.old) }
-{
-    match target {
-        Record::Item(item) => {
+    match (target, what) {
+        (Record::Patron(patron), ListChange::Borrows(item)) => put_loan(alloc, patron, item)?,
+        (Record::Patron(patron), ListChange::Owes(fee)) => put_fee(alloc, patron, fee)?,
+        (Record::Item(item), ListChange::Lent(loan)) => {
             if is_lent(item) {
                 return Ok(Some(BaseRule::Lent));
             }
             set_loan(item, loan)?;
-            Ok(None)
         }
-        _ => Ok(Some(BaseRule::Item)),
-    }
-}
-
-fn wait(target: &mut Record, hold: Hold) -> Result<Option<BaseRule>, AllocError>
-    ensures rule { IfOk result (λ broken. broken ≡ broken_by (change.Awaited hold) (Some target.old)) }
-    ensures ok { IfOk result (λ broken. broken ≡ None → target.new ≡ changed (change.Awaited hold) target.old) }
-    ensures err { OnErr result (target.new ≡ target.old) }
-{
-    match target {
-        Record::Item(item) => {
+        (Record::Item(item), ListChange::Awaited(hold)) => {
             if let Some(rule) = rule_of_hold(item, &hold.patron) {
                 return Ok(Some(rule));
             }
             put_hold(item, hold)?;
-            Ok(None)
         }
-        _ => Ok(Some(BaseRule::Item)),
+        (_, what) => return Ok(Some(what.lacks())),
     }
+    Ok(None)
 }
 
 /// Whether an item is on loan.

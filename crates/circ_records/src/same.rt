@@ -4,8 +4,7 @@ ghost use Rattle.std.specs.Prelude.{◌≡◌};
 ghost use Rattle.std.specs.Bool.{Decides};
 
 use crate::holds::Hold;
-use crate::record::{Fee, FeeType, Item, Loan, Patron};
-use circ_policy::MediaType;
+use crate::record::{Fee, Item, Loan, Patron};
 use sip_reader::{Id, Text};
 
 impl Patron {
@@ -27,7 +26,7 @@ impl Item {
         ensures { Decides result (self.now ≡ other.now) }
     {
         same_text(&self.title, &other.title)
-            && same_media(self.media, other.media)
+            && self.media == other.media
             && same_text(&self.location, &other.location)
             && same_text(&self.properties, &other.properties)
             && same_lending(&self.loan, &other.loan)
@@ -41,7 +40,7 @@ impl Fee {
         ensures { Decides result (self.now ≡ other.now) }
     {
         same_id(&self.patron, &other.patron)
-            && same_kind(self.kind, other.kind)
+            && self.kind == other.kind
             && self.amount.hundredths() == other.amount.hundredths()
             && self.paid.hundredths() == other.paid.hundredths()
     }
@@ -105,16 +104,4 @@ fn same_text(a: &Text, b: &Text) -> bool
     ensures { Decides result (a.now ≡ b.now) }
 {
     a.as_bytes() == b.as_bytes()
-}
-
-fn same_media(a: MediaType, b: MediaType) -> bool
-    ensures { Decides result (a ≡ b) }
-{
-    a == b
-}
-
-fn same_kind(a: FeeType, b: FeeType) -> bool
-    ensures { Decides result (a ≡ b) }
-{
-    a == b
 }

@@ -48,30 +48,25 @@ pub(crate) fn apply(
     ensures err { OnErr result (target.new ≡ target.old) }
 {
     match (target, what) {
-        (Record::Patron(patron), ListChange::Borrows(item)) => put_loan(alloc, patron, item)?,
+        (Record::Patron(patron), ListChange::Borrows(item)) => {
+            patron.make_mut()?.loans.push(alloc, item)?;
+        }
         (Record::Patron(patron), ListChange::Owes(fee)) => put_fee(alloc, patron, fee)?,
         (Record::Item(item), ListChange::Lent(loan)) => {
-            if is_lent(item) {
+            if item.get().loan.is_some() {
                 return Ok(Some(BaseRule::Lent));
             }
-            set_loan(item, loan)?;
+            item.make_mut()?.loan = Some(loan);
         }
         (Record::Item(item), ListChange::Awaited(hold)) => {
             if let Some(rule) = rule_of_hold(item, &hold.patron) {
                 return Ok(Some(rule));
             }
-            put_hold(item, hold)?;
+            item.make_mut()?.holds.push(hold)?;
         }
         (_, what) => return Ok(Some(what.lacks())),
     }
     Ok(None)
-}
-
-/// Whether an item is on loan.
-fn is_lent(item: &Shared<Item>) -> bool
-    ensures { result ≡ is_some item.now.loan }
-{
-    item.get().loan.is_some()
 }
 
 /// The rule that a hold of a patron on an item breaks.
@@ -98,35 +93,10 @@ fn is_loan_of(patron: &Id, loan: &Option<Loan>) -> bool
     }
 }
 
-/// Appends an item to a patron's loans.
-fn put_loan(alloc: Global, patron: &mut Shared<Patron>, item: Id) -> Result<(), AllocError>
-    ensures ok { OnOk result (patron.new ≡ record patron.old { loans = patron.old.loans ++ item ∷ [] }) }
-    ensures err { OnErr result (patron.new ≡ patron.old) }
-{
-    patron.make_mut()?.loans.push(alloc, item)
-}
-
 /// Appends a fee to a patron's open fees. The patron is changed in place where no copy shares it. Out of memory, nothing changes.
 pub fn put_fee(alloc: Global, patron: &mut Shared<Patron>, fee: Id) -> Result<(), AllocError>
     ensures ok { OnOk result (patron.new ≡ record patron.old { fees = patron.old.fees ++ fee ∷ [] }) }
     ensures err { OnErr result (patron.new ≡ patron.old) }
 {
     patron.make_mut()?.fees.push(alloc, fee)
-}
-
-/// Puts an item on loan.
-fn set_loan(item: &mut Shared<Item>, loan: Loan) -> Result<(), AllocError>
-    ensures ok { OnOk result (item.new ≡ record item.old { loan = Some loan }) }
-    ensures err { OnErr result (item.new ≡ item.old) }
-{
-    item.make_mut()?.loan = Some(loan);
-    Ok(())
-}
-
-/// Appends a hold to an item's queue.
-fn put_hold(item: &mut Shared<Item>, hold: Hold) -> Result<(), AllocError>
-    ensures ok { OnOk result (item.new ≡ record item.old { holds = item.old.holds ++ hold ∷ [] }) }
-    ensures err { OnErr result (item.new ≡ item.old) }
-{
-    item.make_mut()?.holds.push(hold)
 }

@@ -67,17 +67,11 @@ fn same_holds(a: &[Hold], b: &[Hold]) -> bool
         return false;
     }
     for i in 0..a.len() {
-        if !same_hold(&a[i], &b[i]) {
+        if !same_id(&a[i].patron, &b[i].patron) || !same_text(&a[i].pickup, &b[i].pickup) {
             return false;
         }
     }
     true
-}
-
-fn same_hold(a: &Hold, b: &Hold) -> bool
-    ensures { Decides result (a.now ≡ b.now) }
-{
-    same_id(&a.patron, &b.patron) && same_text(&a.pickup, &b.pickup)
 }
 
 fn same_ids(a: &[Id], b: &[Id]) -> bool

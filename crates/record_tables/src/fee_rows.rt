@@ -40,14 +40,8 @@ fn open_fee_of<'r>(records: &'r Records, id: &Id) -> Option<&'r Fee>
     ensures { option_copied result ≡ Written.open_fee_at records.now id.now }
 {
     match records.fee(id) {
-        Some(record) => match record {
-            Record::Fee(fee) => {
-                let fee = fee.get();
-                if is_open(fee) { Some(fee) } else { None }
-            }
-            Record::Patron(_) | Record::Item(_) => None,
-        },
-        None => None,
+        Some(Record::Fee(fee)) if is_open(fee.get()) => Some(fee.get()),
+        _ => None,
     }
 }
 

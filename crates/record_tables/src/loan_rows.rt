@@ -39,10 +39,7 @@ fn loan_of<'r>(records: &'r Records, item: &Id) -> Option<&'r Loan>
     ensures { option_copied result ≡ loan_at records.now item.now }
 {
     match records.item(item) {
-        Some(record) => match record {
-            Record::Item(item) => item.get().loan.as_ref(),
-            Record::Patron(_) | Record::Fee(_) => None,
-        },
-        None => None,
+        Some(Record::Item(item)) => item.get().loan.as_ref(),
+        _ => None,
     }
 }

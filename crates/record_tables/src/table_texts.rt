@@ -68,19 +68,16 @@ impl TableTexts {
         requires { HasWidths self.old }
         ensures { OnOk result (Gains records.now (key.now, «record».now) self.old self.new) }
     {
-        match key {
-            Key::Patron(id) => match record {
-                Record::Patron(patron) => self.patron(alloc, records, id.as_bytes(), patron.get()),
-                Record::Item(_) | Record::Fee(_) => Ok(()),
-            },
-            Key::Item(id) => match record {
-                Record::Item(item) => self.item(id.as_bytes(), item.get()),
-                Record::Patron(_) | Record::Fee(_) => Ok(()),
-            },
-            Key::Fee(id) => match record {
-                Record::Fee(fee) => write_closed(alloc, &mut self.closed, id.as_bytes(), fee.get()),
-                Record::Patron(_) | Record::Item(_) => Ok(()),
-            },
+        match (key, record) {
+            (Key::Patron(id), Record::Patron(patron)) => {
+                self.patron(alloc, records, id.as_bytes(), patron.get())
+            }
+            (Key::Item(id), Record::Item(item)) => self.item(id.as_bytes(), item.get()),
+            (Key::Fee(id), Record::Fee(fee)) => {
+                write_closed(alloc, &mut self.closed, id.as_bytes(), fee.get())
+            }
+            // a record of another kind than its key's has no row
+            _ => Ok(()),
         }
     }
 

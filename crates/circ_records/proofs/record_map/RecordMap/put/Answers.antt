@@ -1,4 +1,4 @@
-use Rattle.std.proofs.Common.{◌≡◌, ◌++◌, ◌∷◌, [], ◌∙◌, Ok, Err, None, take, drop, length, ap, arith, sym}
+use Rattle.std.proofs.Common.{◌≡◌, ◌++◌, [], ◌∙◌, Ok, Err, None, take, drop, length, ap, arith, sym}
 use Rattle.std.specs.Prelude.{is_some}
 use Rattle.std.specs.BTreeMap.{BTreeMap, insert_entry}
 use Rattle.circ_records.specs.Devices.Positions.{position_from}

@@ -1,9 +1,9 @@
 -- A key after rising entries.
-use Rattle.std.proofs.Common.{◌≡◌, ℕ, zero, suc, arith, [], ◌∷◌, ◌++◌, Bool, Option, Some, length, ◌-◌, refl, sym, ap, ◌∙◌}
-use Rattle.std.specs.Prelude.{IsTrue, slice_get}
+use Rattle.std.proofs.Common.{◌≡◌, ℕ, zero, suc, arith, [], ◌∷◌, true, Option, Some, length, ◌-◌, refl, sym, ap, ◌∙◌}
+use Rattle.std.specs.Prelude.{slice_get}
 use Rattle.std.specs.Map.{keys_of}
 use Rattle.std.specs.Option.{unwrap_or}
-use Rattle.std.specs.Ordering.{is_lt}
+use Rattle.std.specs.Ordering.{is_gt}
 use Rattle.std.specs.declared.cmp.Ordering.{Ordering}
 use Rattle.std.specs.declared.cmp.Ordering.TheVariants.{Less, Equal, Greater}
 use Rattle.std.proofs.lemmas.Map.Keys.{sorted_head, sorted_tail}
@@ -15,11 +15,11 @@ use Rattle.circ_records.specs.declared.record.Record.{Record}
 
 -- ---- the greatest key
 
--- what `<` answers
-pub lesser : (o : Ordering) (b : Bool) → b ≡ is_lt o → IsTrue b → o ≡ Less
-lesser Less b e h = refl
-lesser Equal b e h = cc (sym h ∙ e)
-lesser Greater b e h = cc (sym h ∙ e)
+-- what `>` answers
+pub greater : (o : Ordering) → is_gt o ≡ true → o ≡ Greater
+greater Less h = cc
+greater Equal h = cc
+greater Greater h = refl
 
 same-entry : (e last : Key × Record) → Some e ≡ Some last → e ≡ last
 same-entry e last is = ap (λ (o : Option (Key × Record)). unwrap_or o e) is
@@ -34,18 +34,7 @@ behind-last (e ∷ f ∷ es) (suc i) k last r n is less =
     let rest = behind-last (f ∷ es) i k last (sorted_tail key_cmp e.0 (keys_of (f ∷ es)) r) (omega (arith, n)) is less in
     (key_cmp_total.trans e.0 f.0 k (sorted_head key_cmp e.0 (keys_of (f ∷ es)) r).0 rest.0, rest)
 
--- the same where others come before some
-behind-both : (es : Entries) (f : Key × Record) (fs : Entries) (i : ℕ) (k : Key) (last : Key × Record) → AreRising (es ++ f ∷ fs)
-    → length (f ∷ fs) ≡ suc i → slice_get (f ∷ fs) i ≡ Some last → key_cmp last.0 k ≡ Less → IsBehind k (es ++ f ∷ fs)
-behind-both [] f fs i k last r n is less = behind-last (f ∷ fs) i k last r n is less
-behind-both (e ∷ []) f fs i k last r n is less =
-    let rest = behind-both [] f fs i k last (sorted_tail key_cmp e.0 (keys_of (f ∷ fs)) r) n is less in
-    (key_cmp_total.trans e.0 f.0 k (sorted_head key_cmp e.0 (keys_of (f ∷ fs)) r).0 rest.0, rest)
-behind-both (e ∷ d ∷ es) f fs i k last r n is less =
-    let rest = behind-both (d ∷ es) f fs i k last (sorted_tail key_cmp e.0 (keys_of (d ∷ es ++ f ∷ fs)) r) n is less in
-    (key_cmp_total.trans e.0 d.0 k (sorted_head key_cmp e.0 (keys_of (d ∷ es ++ f ∷ fs)) r).0 rest.0, rest)
-
--- the last of a list that comes after a map
-pub behind-list : (es fs : Entries) (k : Key) (last : Key × Record) → AreRising (es ++ fs) → Some last ≡ slice_get fs (length fs - 1) → key_cmp last.0 k ≡ Less → IsBehind k (es ++ fs)
-behind-list es [] k last r is less = cc
-behind-list es (f ∷ fs) k last r is less = behind-both es f fs (length (f ∷ fs) - 1) k last r (omega arith) (sym is) less
+-- the last of a list
+pub behind-list : (es : Entries) (k : Key) (last : Key × Record) → AreRising es → Some last ≡ slice_get es (length es - 1) → key_cmp last.0 k ≡ Less → IsBehind k es
+behind-list [] k last r is less = tt
+behind-list (e ∷ es) k last r is less = behind-last (e ∷ es) (length (e ∷ es) - 1) k last r (omega arith) (sym is) less

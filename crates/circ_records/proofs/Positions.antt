@@ -24,7 +24,7 @@ keys_in es = map (λ e. e.0) es
 abbrev IsBelow : Key → Entries → Type 0
 IsBelow k es = AllByRecursion (λ y. key_cmp k y ≡ Less) (keys_in es)
 
-turned : (j k : Key) → key_cmp k j ≡ Greater → key_cmp j k ≡ Less
+pub turned : (j k : Key) → key_cmp k j ≡ Greater → key_cmp j k ≡ Less
 turned j k h = key_cmp_total.antisymm j k ∙ ap ordering_reverse h
 
 below-all : (k j : Key) (es : Entries) → key_cmp k j ≡ Less → IsBelow j es → IsBelow k es

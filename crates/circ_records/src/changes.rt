@@ -47,81 +47,26 @@ pub(crate) fn apply(
     ensures ok { IfOk result (λ broken. broken ≡ None → target.new ≡ changed what target.old) }
     ensures err { OnErr result (target.new ≡ target.old) }
 {
-    match what {
-        ListChange::Borrows(item) => borrow(alloc, target, item),
-        ListChange::Owes(fee) => owe(alloc, target, fee),
-        ListChange::Lent(loan) => lend(target, loan),
-        ListChange::Awaited(hold) => wait(target, hold),
-    }
-}
-
-fn borrow(alloc: Global, target: &mut Record, item: Id) -> Result<Option<BaseRule>, AllocError>
-    ensures rule { IfOk result (λ broken. broken ≡ broken_by (change.Borrows item) (Some target.old)) }
-    ensures ok { IfOk result (λ broken. broken ≡ None → target.new ≡ changed (change.Borrows item) target.old) }
-    ensures err { OnErr result (target.new ≡ target.old) }
-{
-    match target {
-        Record::Patron(patron) => {
-            put_loan(alloc, patron, item)?;
-            Ok(None)
+    match (target, what) {
+        (Record::Patron(patron), ListChange::Borrows(item)) => {
+            patron.make_mut()?.loans.push(alloc, item)?;
         }
-        _ => Ok(Some(BaseRule::Patron)),
-    }
-}
-
-fn owe(alloc: Global, target: &mut Record, fee: Id) -> Result<Option<BaseRule>, AllocError>
-    ensures rule { IfOk result (λ broken. broken ≡ broken_by (change.Owes fee) (Some target.old)) }
-    ensures ok { IfOk result (λ broken. broken ≡ None → target.new ≡ changed (change.Owes fee) target.old) }
-    ensures err { OnErr result (target.new ≡ target.old) }
-{
-    match target {
-        Record::Patron(patron) => {
-            put_fee(alloc, patron, fee)?;
-            Ok(None)
-        }
-        _ => Ok(Some(BaseRule::Patron)),
-    }
-}
-
-fn lend(target: &mut Record, loan: Loan) -> Result<Option<BaseRule>, AllocError>
-    ensures rule { IfOk result (λ broken. broken ≡ broken_by (change.Lent loan) (Some target.old)) }
-    ensures ok { IfOk result (λ broken. broken ≡ None → target.new ≡ changed (change.Lent loan) target.old) }
-    ensures err { OnErr result (target.new ≡ target.old) }
-{
-    match target {
-        Record::Item(item) => {
-            if is_lent(item) {
+        (Record::Patron(patron), ListChange::Owes(fee)) => put_fee(alloc, patron, fee)?,
+        (Record::Item(item), ListChange::Lent(loan)) => {
+            if item.get().loan.is_some() {
                 return Ok(Some(BaseRule::Lent));
             }
-            set_loan(item, loan)?;
-            Ok(None)
+            item.make_mut()?.loan = Some(loan);
         }
-        _ => Ok(Some(BaseRule::Item)),
-    }
-}
-
-fn wait(target: &mut Record, hold: Hold) -> Result<Option<BaseRule>, AllocError>
-    ensures rule { IfOk result (λ broken. broken ≡ broken_by (change.Awaited hold) (Some target.old)) }
-    ensures ok { IfOk result (λ broken. broken ≡ None → target.new ≡ changed (change.Awaited hold) target.old) }
-    ensures err { OnErr result (target.new ≡ target.old) }
-{
-    match target {
-        Record::Item(item) => {
+        (Record::Item(item), ListChange::Awaited(hold)) => {
             if let Some(rule) = rule_of_hold(item, &hold.patron) {
                 return Ok(Some(rule));
             }
-            put_hold(item, hold)?;
-            Ok(None)
+            item.make_mut()?.holds.push(hold)?;
         }
-        _ => Ok(Some(BaseRule::Item)),
+        (_, what) => return Ok(Some(what.lacks())),
     }
-}
-
-/// Whether an item is on loan.
-fn is_lent(item: &Shared<Item>) -> bool
-    ensures { result ≡ is_some item.now.loan }
-{
-    item.get().loan.is_some()
+    Ok(None)
 }
 
 /// The rule that a hold of a patron on an item breaks.
@@ -148,35 +93,10 @@ fn is_loan_of(patron: &Id, loan: &Option<Loan>) -> bool
     }
 }
 
-/// Appends an item to a patron's loans.
-fn put_loan(alloc: Global, patron: &mut Shared<Patron>, item: Id) -> Result<(), AllocError>
-    ensures ok { OnOk result (patron.new ≡ record patron.old { loans = patron.old.loans ++ item ∷ [] }) }
-    ensures err { OnErr result (patron.new ≡ patron.old) }
-{
-    patron.make_mut()?.loans.push(alloc, item)
-}
-
 /// Appends a fee to a patron's open fees. The patron is changed in place where no copy shares it. Out of memory, nothing changes.
 pub fn put_fee(alloc: Global, patron: &mut Shared<Patron>, fee: Id) -> Result<(), AllocError>
     ensures ok { OnOk result (patron.new ≡ record patron.old { fees = patron.old.fees ++ fee ∷ [] }) }
     ensures err { OnErr result (patron.new ≡ patron.old) }
 {
     patron.make_mut()?.fees.push(alloc, fee)
-}
-
-/// Puts an item on loan.
-fn set_loan(item: &mut Shared<Item>, loan: Loan) -> Result<(), AllocError>
-    ensures ok { OnOk result (item.new ≡ record item.old { loan = Some loan }) }
-    ensures err { OnErr result (item.new ≡ item.old) }
-{
-    item.make_mut()?.loan = Some(loan);
-    Ok(())
-}
-
-/// Appends a hold to an item's queue.
-fn put_hold(item: &mut Shared<Item>, hold: Hold) -> Result<(), AllocError>
-    ensures ok { OnOk result (item.new ≡ record item.old { holds = item.old.holds ++ hold ∷ [] }) }
-    ensures err { OnErr result (item.new ≡ item.old) }
-{
-    item.make_mut()?.holds.push(hold)
 }

@@ -64,12 +64,12 @@ impl Ids {
         ensures err { OnErr result (self.new ≡ self.old) }
     {
         match &mut self.held {
-            Some(ids) if ids.get().len() > FEW => push_to_many(ids, id),
+            Some(ids) if ids.get().len() > FEW => ids.make_mut()?.push(id)?,
             _ => {
                 *self = Ids::from_vec(alloc, with_last(alloc, self.as_slice(), id)?)?;
-                Ok(())
             }
         }
+        Ok(())
     }
 
     /// The same list, in the same memory.
@@ -103,15 +103,6 @@ impl Ids {
             None => &[],
         }
     }
-}
-
-/// One more id at the end. Out of memory, nothing changes.
-fn push_to_many(ids: &mut Shared<Vec<Id>>, id: Id) -> Result<(), AllocError>
-    ensures ok { OnOk result (ids.new.items ≡ ids.old.items ++ id ∷ []) }
-    ensures err { OnErr result (ids.new.items ≡ ids.old.items) }
-{
-    ids.make_mut()?.push(id)?;
-    Ok(())
 }
 
 /// These ids and one more at the end.

@@ -5,7 +5,7 @@ ghost use Rattle.std.specs.Cmp.Rules.{comparing};
 ghost use Rattle.std.specs.Ordering.{as_partial_cmp, eq_by_cmp};
 ghost use Rattle.sip_reader.specs.Devices.Hashes.{id_hash};
 ghost use Rattle.circ_records.specs.Devices.KeyRefs.{key_of};
-ghost use Rattle.circ_records.specs.Keys.{key_cmp, key_cmp_total, kind, id_of};
+ghost use Rattle.circ_records.specs.Keys.{key_cmp, key_cmp_total, id_of};
 
 use sip_reader::Id;
 use std::alloc::AllocError;
@@ -38,12 +38,6 @@ pub(crate) enum KeyRef<'k> {
 }
 
 impl Key {
-    pub(crate) fn kind(&self) -> u8
-        ensures { result ≡ kind self.now }
-    {
-        self.as_ref().kind()
-    }
-
     /// The hash of its id.
     pub fn hash(&self) -> u64
         ensures { result ≡ id_hash (id_of self.now) }
@@ -73,26 +67,6 @@ impl Key {
 }
 
 impl KeyRef<'_> {
-    /// The position of the key's kind in the order of keys.
-    pub(crate) fn kind(&self) -> u8
-        ensures { result ≡ kind (key_of self.now) }
-    {
-        match self {
-            KeyRef::Patron(_) => 0,
-            KeyRef::Item(_) => 1,
-            KeyRef::Fee(_) => 2,
-        }
-    }
-
-    /// The id of the record.
-    pub(crate) fn id(&self) -> &Id
-        ensures { result.now ≡ id_of (key_of self.now) }
-    {
-        match self {
-            KeyRef::Patron(id) | KeyRef::Item(id) | KeyRef::Fee(id) => id,
-        }
-    }
-
     /// The same key, its id owned. Allocates nothing.
     pub(crate) fn to_key(&self) -> Result<Key, AllocError>
         ensures { IfOk result (λ key. key ≡ key_of self.now) }
@@ -104,23 +78,24 @@ impl KeyRef<'_> {
         }
     }
 
-    /// `Less` where `key` comes before self.
-    pub(crate) fn order(&self, key: &Key) -> Ordering
-        ensures { result ≡ key_cmp key.now (key_of self.now) }
+    /// How it compares with another key: patrons come first, then items, then fees, each by their ids.
+    pub(crate) fn compare(&self, key: &Key) -> Ordering
+        ensures { result ≡ key_cmp (key_of self.now) key.now }
     {
-        let (kind, own) = (key.kind(), self.kind());
-        if kind == own {
-            key.id().cmp(self.id())
-        } else {
-            kind.cmp(&own)
+        match (*self, key) {
+            (KeyRef::Patron(own), Key::Patron(id))
+            | (KeyRef::Item(own), Key::Item(id))
+            | (KeyRef::Fee(own), Key::Fee(id)) => own.cmp(id),
+            (KeyRef::Patron(_), _) | (_, Key::Fee(_)) => Ordering::Less,
+            (KeyRef::Fee(_), _) | (_, Key::Patron(_)) => Ordering::Greater,
         }
     }
 
-    /// Whether another key is the same.
-    pub(crate) fn is(&self, key: &Key) -> bool
-        ensures { result ≡ eq_by_cmp key_cmp (key_of self.now) key.now }
+    /// `Less` where `key` comes before self, as a binary search asks.
+    pub(crate) fn order(&self, key: &Key) -> Ordering
+        ensures { result ≡ key_cmp key.now (key_of self.now) }
     {
-        self.kind() == key.kind() && self.id() == key.id()
+        self.compare(key).reverse()
     }
 }
 
@@ -159,12 +134,7 @@ impl Ord for Key {
     ghost matches_eq = { Prim.search (comparing, rules) };
 
     fn cmp(&self, other: &Key) -> Ordering {
-        let (kind, other_kind) = (self.kind(), other.kind());
-        if kind == other_kind {
-            self.id().cmp(other.id())
-        } else {
-            kind.cmp(&other_kind)
-        }
+        self.as_ref().compare(other)
     }
 }
 

@@ -25,16 +25,6 @@ pub struct LikelyPositions {
     pub(crate) item: Option<usize>,
 }
 
-impl LikelyPositions {
-    fn of(&self, key: &KeyRef<'_>) -> Option<usize> {
-        match key {
-            KeyRef::Patron(_) => self.patron,
-            KeyRef::Item(_) => self.item,
-            KeyRef::Fee(_) => None,
-        }
-    }
-}
-
 /// A hash table with the positions of most records of a list, by the hashes of their ids. A position is a hint: if the list has
 /// another key there, binary search follows. So only the time of a look-up depends on the hints.
 pub(crate) struct PositionHints {
@@ -131,7 +121,12 @@ impl PositionHints {
         requires { AreRising listed.now }
         ensures { IfSome result (λ position. position_from 0 (key_of key.now) listed.now ≡ Ok position) }
     {
-        if let Some(position) = self.likely.of(key) {
+        let (likely, id) = match *key {
+            KeyRef::Patron(id) => (self.likely.patron, id),
+            KeyRef::Item(id) => (self.likely.item, id),
+            KeyRef::Fee(id) => (None, id),
+        };
+        if let Some(position) = likely {
             if is_at(listed, position, key) {
                 return Some(position);
             }
@@ -139,7 +134,7 @@ impl PositionHints {
         if self.slots.is_empty() {
             return None;
         }
-        let first = first_slot(key.id().hash(), self.slots.len());
+        let first = first_slot(id.hash(), self.slots.len());
         for slot in first..first.saturating_add(TRIES) {
             let position = *self.slots.get(slot)?;
             if is_at(listed, position as usize, key) {
@@ -179,7 +174,7 @@ fn is_at(listed: &[(Key, Record)], position: usize, key: &KeyRef<'_>) -> bool
     ensures { IsTrue result → position_from 0 (key_of key.now) listed.now ≡ Ok position }
 {
     match listed.get(position) {
-        Some(entry) => key.is(&entry.0),
+        Some(entry) => key.compare(&entry.0).is_eq(),
         None => false,
     }
 }

@@ -257,11 +257,22 @@ impl Clone for Record {
 }
 
 impl Patron {
-    /// The same patron. Allocates nothing.
-    #[inline(always)]
-    pub fn copy(&self) -> Result<Patron, AllocError>
-        ensures { IfOk result (λ p. p ≡ self.now) }
+    /// A copy of a shared patron, to be changed.
+    pub fn of(shared: Shared<Patron>) -> Result<Patron, AllocError>
+        ensures { IfOk result (λ p. p ≡ shared) }
     {
+        shared.get().clone()
+    }
+}
+
+/// A clone is the same patron. Allocates nothing.
+impl Clone for Patron {
+    ghost use Rattle.std.specs.Prelude.{◌≡◌};
+
+    ghost is_clone = { λ x y. y ≡ x };
+
+    #[inline(always)]
+    fn clone(&self) -> Result<Patron, AllocError> {
         Ok(Patron {
             name: self.name.clone()?,
             class: self.class.clone()?,
@@ -269,24 +280,6 @@ impl Patron {
             loans: self.loans.copy()?,
             fees: self.fees.copy()?,
         })
-    }
-
-    /// A copy of a shared patron, to be changed.
-    pub fn of(shared: Shared<Patron>) -> Result<Patron, AllocError>
-        ensures { IfOk result (λ p. p ≡ shared) }
-    {
-        shared.get().copy()
-    }
-}
-
-/// A clone is the same patron.
-impl Clone for Patron {
-    ghost use Rattle.std.specs.Prelude.{◌≡◌};
-
-    ghost is_clone = { λ x y. y ≡ x };
-
-    fn clone(&self) -> Result<Patron, AllocError> {
-        self.copy()
     }
 }
 
@@ -297,18 +290,11 @@ impl Clone for Item {
     ghost is_clone = { λ x y. y ≡ x };
 
     fn clone(&self) -> Result<Item, AllocError> {
-        self.copy(self.holds.allocator())
+        self.with(self.loan.clone()?, self.holds.copy(self.holds.allocator())?)
     }
 }
 
 impl Item {
-    /// The same item.
-    pub fn copy(&self, alloc: Global) -> Result<Item, AllocError>
-        ensures { IfOk result (λ i. i ≡ self.now) }
-    {
-        self.with(self.loan.clone()?, self.holds.copy(alloc)?)
-    }
-
     /// The same item with another loan, or none, and another queue.
     #[inline(always)]
     pub fn with(&self, loan: Option<Loan>, holds: Holds) -> Result<Item, AllocError>
@@ -328,6 +314,7 @@ impl Item {
     pub fn of(alloc: Global, shared: Shared<Item>) -> Result<Item, AllocError>
         ensures { IfOk result (λ i. i ≡ shared) }
     {
-        shared.get().copy(alloc)
+        let item = shared.get();
+        item.with(item.loan.clone()?, item.holds.copy(alloc)?)
     }
 }

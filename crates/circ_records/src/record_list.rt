@@ -77,44 +77,20 @@ impl RecordList {
         }
     }
 
-    /// The position of a key, where a hint has it.
-    pub(crate) fn hint(&self, key: &KeyRef<'_>) -> Option<usize>
-        requires { AreRising self.now.entries.items }
-        ensures { IfSome result (λ position. position_from 0 (key_of key.now) self.now.entries.items ≡ Ok position) }
-    {
-        self.hints.position(self.entries.as_slice(), key)
-    }
-
     /// The position of a key, or else the position at which it would have to be inserted. First a hint is tried, then whether
     /// the key comes after all others, then binary search.
     pub(crate) fn position(&self, key: &KeyRef<'_>) -> Result<usize, usize>
         requires { AreRising self.now.entries.items }
         ensures { result ≡ position_from 0 (key_of key.now) self.now.entries.items }
     {
-        match self.hint(key) {
-            Some(position) => Ok(position),
-            None => self.position_without_hint(key),
+        let listed = self.entries.as_slice();
+        if let Some(position) = self.hints.position(listed, key) {
+            return Ok(position);
         }
-    }
-
-    fn position_without_hint(&self, key: &KeyRef<'_>) -> Result<usize, usize>
-        requires { AreRising self.now.entries.items }
-        ensures { result ≡ position_from 0 (key_of key.now) self.now.entries.items }
-    {
         if self.goes_last(key) {
-            Err(self.entries.len())
-        } else {
-            self.by_binary_search(key)
+            return Err(listed.len());
         }
-    }
-
-    fn by_binary_search(&self, key: &KeyRef<'_>) -> Result<usize, usize>
-        requires { AreRising self.now.entries.items }
-        ensures { result ≡ position_from 0 (key_of key.now) self.now.entries.items }
-    {
-        self.entries
-            .as_slice()
-            .binary_search_by(|entry| key.order(&entry.0))
+        listed.binary_search_by(|entry| key.order(&entry.0))
     }
 
     /// Whether a key comes after all others, by a comparison with the last.
@@ -123,7 +99,7 @@ impl RecordList {
         ensures { IsTrue result → position_from 0 (key_of key.now) self.now.entries.items ≡ Err (length self.now.entries.items) }
     {
         match self.entries.last() {
-            Some(last) => key.order(&last.0).is_lt(),
+            Some(last) => key.compare(&last.0).is_gt(),
             None => true,
         }
     }

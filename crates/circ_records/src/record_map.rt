@@ -106,12 +106,13 @@ impl RecordMap {
     /// Where the records of a patron and an item likely are. Asked for several lines one after the other, the look-ups wait for
     /// memory side by side.
     pub fn likely(&self, patron: Option<&Id>, item: Option<&Id>) -> LikelyPositions {
+        let (listed, hints) = (self.listed.entries.as_slice(), &self.listed.hints);
         let patron = match patron {
-            Some(id) => self.listed.hint(&KeyRef::Patron(id)),
+            Some(id) => hints.position(listed, &KeyRef::Patron(id)),
             None => None,
         };
         let item = match item {
-            Some(id) => self.listed.hint(&KeyRef::Item(id)),
+            Some(id) => hints.position(listed, &KeyRef::Item(id)),
             None => None,
         };
         LikelyPositions { patron, item }
@@ -133,36 +134,9 @@ impl RecordMap {
         }
     }
 
-    /// Puts a record at a key, and returns whether there was one. Out of memory, all records stay or all are lost: the map isn't to
-    /// be used again.
+    /// Puts a record at a key, and returns whether there was one. Most new keys come after all others, so that is tried before the
+    /// hints are. Out of memory, all records stay or all are lost: the map isn't to be used again.
     pub fn put(&mut self, alloc: Global, key: Key, value: Record) -> Result<bool, AllocError>
-        ensures double { IfOk result (λ double. double ≡ is_some (record_at self.old key)) }
-        ensures put { OnOk result ((q : Key) → record_at self.new q ≡ cond (eq_by_cmp key_cmp key q) (Some value) (record_at self.old q)) }
-        ensures err { OnErr result ((self.new ≡ self.old) ⊎ (self.new ≡ [])) }
-    {
-        let position = match self.listed.position(&key.as_ref()) {
-            Ok(position) => {
-                self.listed.entries[position].1 = value;
-                return Ok(true);
-            }
-            Err(position) => position,
-        };
-        if position == self.listed.entries.len() && self.mapped.is_empty() {
-            self.listed.push(alloc, key, value)?;
-            return Ok(false);
-        }
-        let mut listed = replace(&mut self.listed, RecordList::new(alloc));
-        let mapped = replace(&mut self.mapped, BTreeMap::new(alloc));
-        let mut mapped = put_before(listed.entries.split_off(position)?, mapped)?;
-        let double = put_after_list(alloc, &mut listed, &mut mapped, key, value)?;
-        self.listed = listed;
-        self.mapped = mapped;
-        Ok(double)
-    }
-
-    /// The same for a key that mostly comes after all others: this is tried before the hints are.
-    #[inline(always)]
-    pub fn put_rising(&mut self, alloc: Global, key: Key, value: Record) -> Result<bool, AllocError>
         ensures double { IfOk result (λ double. double ≡ is_some (record_at self.old key)) }
         ensures put { OnOk result ((q : Key) → record_at self.new q ≡ cond (eq_by_cmp key_cmp key q) (Some value) (record_at self.old q)) }
         ensures err { OnErr result ((self.new ≡ self.old) ⊎ (self.new ≡ [])) }
@@ -171,7 +145,20 @@ impl RecordMap {
             self.listed.push(alloc, key, value)?;
             return Ok(false);
         }
-        self.put(alloc, key, value)
+        let position = match self.listed.position(&key.as_ref()) {
+            Ok(position) => {
+                self.listed.entries[position].1 = value;
+                return Ok(true);
+            }
+            Err(position) => position,
+        };
+        let mut listed = replace(&mut self.listed, RecordList::new(alloc));
+        let mapped = replace(&mut self.mapped, BTreeMap::new(alloc));
+        let mut mapped = put_before(listed.entries.split_off(position)?, mapped)?;
+        let double = put_after_list(alloc, &mut listed, &mut mapped, key, value)?;
+        self.listed = listed;
+        self.mapped = mapped;
+        Ok(double)
     }
 
     /// Changes the record at a key, or returns the rule that the change breaks there. One look-up serves for both. Out of memory,
@@ -226,18 +213,12 @@ fn found_in_map<'m>(mapped: &'m BTreeMap<Key, Record>, key: &KeyRef<'_>) -> Opti
     if mapped.is_empty() {
         return None;
     }
-    match key.to_key() {
-        Ok(key) => mapped.get(&key),
-        // the id has as many clones as can be counted
-        Err(_) => found_one_by_one(mapped, key),
+    if let Ok(owned) = key.to_key() {
+        return mapped.get(&owned);
     }
-}
-
-fn found_one_by_one<'m>(mapped: &'m BTreeMap<Key, Record>, key: &KeyRef<'_>) -> Option<&'m Record>
-    ensures { option_copied result ≡ record_at mapped.now.entries (key_of key.now) }
-{
+    // the id has as many clones as can be counted
     for (own, record) in mapped {
-        if key.is(own) {
+        if key.compare(own).is_eq() {
             return Some(record);
         }
     }

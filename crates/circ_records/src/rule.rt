@@ -1,4 +1,4 @@
-ghost use Rattle.std.specs.Prelude.{◌≡◌, Some};
+ghost use Rattle.std.specs.Prelude.{Some};
 ghost use Rattle.circ_records.specs.Words.{rule_word};
 
 use std::fmt;
@@ -32,12 +32,11 @@ pub enum BaseRule {
     Queue,
 }
 
-impl BaseRule {
-    /// The word for it.
-    fn word(self) -> &'static str
-        ensures { result.now ≡ rule_word self }
-    {
-        match self {
+impl fmt::Display for BaseRule {
+    ghost output = { λ r. Some (rule_word r) };
+
+    fn fmt<W: fmt::Write>(&self, f: &mut fmt::Formatter<W>) -> fmt::Result {
+        f.write_str(match self {
             BaseRule::Text => "text",
             BaseRule::Value => "value",
             BaseRule::Double => "double",
@@ -50,14 +49,6 @@ impl BaseRule {
             BaseRule::Number => "number",
             BaseRule::Borrower => "borrower",
             BaseRule::Queue => "queue",
-        }
-    }
-}
-
-impl fmt::Display for BaseRule {
-    ghost output = { λ r. Some (rule_word r) };
-
-    fn fmt<W: fmt::Write>(&self, f: &mut fmt::Formatter<W>) -> fmt::Result {
-        f.write_str(self.word())
+        })
     }
 }

@@ -43,7 +43,7 @@ impl Live {
         for entry in keys {
             let key = entry.0.clone()?;
             let record = entry.1.copy()?;
-            records.put_rising(alloc, key, record)?;
+            records.put(alloc, key, record)?;
         }
         Ok(Live { records })
     }

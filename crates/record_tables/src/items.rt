@@ -102,7 +102,7 @@ fn add_item(
 {
     let item = item_of(alloc, media, row)?;
     let told = Record::item(alloc, item)?;
-    records.put_rising(alloc, Key::Item(id), told)
+    records.put(alloc, Key::Item(id), told)
 }
 
 /// The item of a row, without a loan and without holds.

@@ -10,19 +10,9 @@ use crate::values::{decimal_of, is_decimal};
 pub fn is_taken(first: Option<u64>, id: &[u8]) -> bool
     ensures { result ≡ MadeFees.is_taken first id.now }
 {
-    match first {
-        Some(first) => may_be_made(first, id),
-        None => false,
-    }
-}
-
-/// Whether a line from this number on may make a fee of this id.
-fn may_be_made(first: u64, id: &[u8]) -> bool
-    ensures { result ≡ MadeFees.may_be_made first id.now }
-{
-    match line_of(id) {
-        Some(line) => first <= line,
-        None => false,
+    match (first, line_of(id)) {
+        (Some(first), Some(line)) => first <= line,
+        _ => false,
     }
 }
 

@@ -105,7 +105,7 @@ fn add_patron(
 {
     let patron = patron_of(alloc, class, blocked, row)?;
     let told = Record::patron(alloc, patron)?;
-    records.put_rising(alloc, Key::Patron(id), told)
+    records.put(alloc, Key::Patron(id), told)
 }
 
 /// The patron of a row, who has nothing and owes nothing.

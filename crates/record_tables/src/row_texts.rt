@@ -1,6 +1,6 @@
 //! How the values of a record are written in a row.
 
-ghost use Rattle.std.specs.Prelude.{◌≡◌, ◌<◌, IfOk};
+ghost use Rattle.std.specs.Prelude.{◌≡◌, IfOk};
 ghost use Rattle.sip_reader.specs.Amounts as Amounts;
 ghost use Rattle.record_tables.specs.RowTexts as RowTexts;
 
@@ -15,21 +15,11 @@ pub(crate) fn flag_text(flag: bool) -> [u8; 1]
 }
 
 /// The eight digits of a day.
-#[tactic(auto, unfolding(crate::specs::RowTexts::day_text))]
+#[tactic(auto, using(crate::proofs::Calendar::parts_fit), unfolding(crate::specs::RowTexts::day_text))]
 pub(crate) fn day_text(day: Day) -> [u8; 8]
     ensures { result ≡ RowTexts.day_text day }
 {
     let (year, month, day) = day.parts();
-    date_text(year, month, day)
-}
-
-/// The eight digits of a date.
-fn date_text(year: u16, month: u8, day: u8) -> [u8; 8]
-    requires year { year < 10000 }
-    requires month { month < 100 }
-    requires day { day < 100 }
-    ensures { result ≡ RowTexts.date_text year month day }
-{
     [
         b'0' + (year / 1000) as u8,
         b'0' + (year / 100 % 10) as u8,

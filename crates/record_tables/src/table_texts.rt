@@ -8,10 +8,11 @@ ghost use Rattle.circ_records.specs.declared.key.Key.TheVariants as key_of;
 ghost use Rattle.circ_records.specs.declared.record.Record.TheVariants as record_of;
 
 use crate::fee_rows::{write_closed, write_fees};
-use crate::item_rows::{write_holds, write_item};
-use crate::patron_rows::{write_loans, write_patron};
+use crate::hold_rows::write_holds;
+use crate::loan_rows::write_loans;
+use crate::row_texts::flag_text;
 use crate::tables::{TableName, Tables};
-use circ_records::{Fee, Item, Key, Patron, Record, Records};
+use circ_records::{Item, Key, Patron, Record, Records};
 use csv_table::TableText;
 use std::alloc::{AllocError, Global};
 
@@ -67,19 +68,16 @@ impl TableTexts {
         requires { HasWidths self.old }
         ensures { OnOk result (Gains records.now (key.now, «record».now) self.old self.new) }
     {
-        match key {
-            Key::Patron(id) => match record {
-                Record::Patron(patron) => self.patron(alloc, records, id.as_bytes(), patron.get()),
-                Record::Item(_) | Record::Fee(_) => Ok(()),
-            },
-            Key::Item(id) => match record {
-                Record::Item(item) => self.item(id.as_bytes(), item.get()),
-                Record::Patron(_) | Record::Fee(_) => Ok(()),
-            },
-            Key::Fee(id) => match record {
-                Record::Fee(fee) => self.fee(alloc, id.as_bytes(), fee.get()),
-                Record::Patron(_) | Record::Item(_) => Ok(()),
-            },
+        match (key, record) {
+            (Key::Patron(id), Record::Patron(patron)) => {
+                self.patron(alloc, records, id.as_bytes(), patron.get())
+            }
+            (Key::Item(id), Record::Item(item)) => self.item(id.as_bytes(), item.get()),
+            (Key::Fee(id), Record::Fee(fee)) => {
+                write_closed(alloc, &mut self.closed, id.as_bytes(), fee.get())
+            }
+            // a record of another kind than its key's has no row
+            _ => Ok(()),
         }
     }
 
@@ -94,7 +92,12 @@ impl TableTexts {
         requires { HasWidths self.old }
         ensures { OnOk result (Gains records.now (key_of.Patron id.now, record_of.Patron patron.now) self.old self.new) }
     {
-        write_patron(&mut self.patrons, id, patron)?;
+        self.patrons.row(&[
+            id,
+            patron.name.as_bytes(),
+            patron.class.as_bytes(),
+            flag_text(patron.blocked).as_slice(),
+        ])?;
         write_loans(&mut self.loans, records, id, patron.loans.as_slice())?;
         write_fees(alloc, &mut self.fees, records, id, patron.fees.as_slice())
     }
@@ -104,16 +107,14 @@ impl TableTexts {
         requires { HasWidths self.old }
         ensures { OnOk result ((all : Entries) → Gains all (key_of.Item id.now, record_of.Item item.now) self.old self.new) }
     {
-        write_item(&mut self.items, id, item)?;
+        self.items.row(&[
+            id,
+            item.title.as_bytes(),
+            item.media.code().as_slice(),
+            item.location.as_bytes(),
+            item.properties.as_bytes(),
+        ])?;
         write_holds(&mut self.holds, id, item.holds.as_slice())
-    }
-
-    /// A fee, where it is paid in full.
-    fn fee(&mut self, alloc: Global, id: &[u8], fee: &Fee) -> Result<(), AllocError>
-        requires { HasWidths self.old }
-        ensures { OnOk result ((all : Entries) → Gains all (key_of.Fee id.now, record_of.Fee fee.now) self.old self.new) }
-    {
-        write_closed(alloc, &mut self.closed, id, fee)
     }
 
     /// The texts.

@@ -57,15 +57,7 @@ fn has_leading_zero(text: &[u8]) -> bool
 pub fn renewals_of(text: &[u8]) -> Option<u32>
     ensures { result ≡ Values.renewals_of text.now }
 {
-    match decimal_of(text) {
-        Some(number) => short(number),
-        None => None,
-    }
-}
-
-fn short(number: u64) -> Option<u32>
-    ensures { result ≡ Values.within 4294967295 (Some number) }
-{
+    let number = decimal_of(text)?;
     if number <= 4_294_967_295 {
         Some(number as u32)
     } else {

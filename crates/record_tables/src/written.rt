@@ -2,12 +2,11 @@
 
 ghost use Rattle.std.specs.Prelude.{◌≡◌, IfOk};
 ghost use Rattle.record_tables.specs.Tables.{texts_of};
-ghost use Rattle.record_tables.specs.Writing.{Holds};
 ghost use Rattle.record_tables.specs.Written.{tables_of};
 
 use crate::table_texts::TableTexts;
 use crate::tables::Tables;
-use circ_records::{Key, Record, Records};
+use circ_records::Records;
 use std::alloc::{AllocError, Global};
 
 /// The tables of the records.
@@ -15,17 +14,10 @@ use std::alloc::{AllocError, Global};
 pub fn write_records(alloc: Global, records: &Records) -> Result<Tables, AllocError>
     ensures { IfOk result (λ tables. texts_of tables ≡ tables_of records.now) }
 {
-    told(alloc, records)?.finish()
-}
-
-/// The tables with the rows of each entry.
-fn told(alloc: Global, records: &Records) -> Result<TableTexts, AllocError>
-    ensures { IfOk result (Holds records.now records.now) }
-{
     let mut texts = TableTexts::new(alloc)?;
     let entries = records.as_slice();
     for entry in entries {
         texts.entry(alloc, records, &entry.0, &entry.1)?;
     }
-    Ok(texts)
+    texts.finish()
 }

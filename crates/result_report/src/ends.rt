@@ -151,7 +151,7 @@ fn put_rising<'e, E: End<'e>>(
         → HasAt (keys ++ key.now ∷ []) (E.left end.now) records.new) }
 {
     if let Some(found) = end.final_of(key) {
-        records.put_rising(alloc, key.clone()?, found.copy()?)?;
+        records.put(alloc, key.clone()?, found.copy()?)?;
     }
     Ok(())
 }

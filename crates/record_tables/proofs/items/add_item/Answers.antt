@@ -12,10 +12,10 @@ use Rattle.record_tables.proofs.Telling.{tells-item}
 use Rattle.record_tables.proofs.items.add_item.Goals as goal
 
 pub returns-clause-told : goal.returns-clause-told
-returns-clause-told c = IfOk-weaker c.put_rising.result _ _ (λ done put r before tells fresh.
-    tells-item r before (fields_of c.args.row.now) c.args.records.now c.put_rising.new.self c.in_ok-told.told tells fresh (c.in_ok-told.ensures ∙ c.in_ok-item.ensures)
-    (λ q. put q ∙ ap (λ k. cond (eq_by_cmp key_cmp (key.Item k) q) (Some c.in_ok-told.told) (record_at c.args.records.now q)) c.requires.id)) c.put_rising.ensures.put
+returns-clause-told c = IfOk-weaker c.put.result _ _ (λ done put r before tells fresh.
+    tells-item r before (fields_of c.args.row.now) c.args.records.now c.put.new.self c.in_ok-told.told tells fresh (c.in_ok-told.ensures ∙ c.in_ok-item.ensures)
+    (λ q. put q ∙ ap (λ k. cond (eq_by_cmp key_cmp (key.Item k) q) (Some c.in_ok-told.told) (record_at c.args.records.now q)) c.requires.id)) c.put.ensures.put
 
 pub returns-clause-double : goal.returns-clause-double
-returns-clause-double c = IfOk-weaker c.put_rising.result _ _ (λ double is r t.
-    is ∙ ap is_some (ap (λ k. record_at c.args.records.now (key.Item k)) c.requires.id ∙ t (key.Item (field 0 (fields_of c.args.row.now)))) ∙ is_some-map _ _) c.put_rising.ensures.double
+returns-clause-double c = IfOk-weaker c.put.result _ _ (λ double is r t.
+    is ∙ ap is_some (ap (λ k. record_at c.args.records.now (key.Item k)) c.requires.id ∙ t (key.Item (field 0 (fields_of c.args.row.now)))) ∙ is_some-map _ _) c.put.ensures.double

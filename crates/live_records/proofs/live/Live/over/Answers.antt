@@ -7,8 +7,8 @@ use Rattle.live_records.proofs.live.Live.over.Goals as goal
 
 pub loop-entry-preserved : goal.loop-entry-preserved
 loop-entry-preserved c =
-    let put = rw (c.in_ok-key.ensures.cases, c.in_ok-record.ensures) at c.in_ok-put_rising.ensures.put in
-    copied_more c.keys-keys.result.now c.loop-entry.records c.put_rising.new.self c.loop-entry.entry-index c.entry-item.result
+    let put = rw (c.in_ok-key.ensures.cases, c.in_ok-record.ensures) at c.in_ok-put.ensures.put in
+    copied_more c.keys-keys.result.now c.loop-entry.records c.put.new.self c.loop-entry.entry-index c.entry-item.result
     (subst (λ (es : Entries). IsStrictlySortedBy key_cmp (map (λ x. x.0) es)) (sym c.keys-keys.ensures.keys) c.keys-keys.ensures.rising)
     c.loop-entry-test.true c.entry-item.is put c.loop-entry.invariant
 

@@ -1,8 +1,5 @@
 use Rattle.std.proofs.lemmas.Result.{on_ok_weaker}
 use Rattle.record_tables.proofs.table_texts.TableTexts.entry.Goals as goal
 
-pub returns-in-Item-record-2 : goal.returns-in-Item-record-2
-returns-in-Item-record-2 c = on_ok_weaker c.item.result (λ gains. rw (c.in-Item.is, c.in-Item-record-2.is, ← c.as_bytes-in-Item-record-2.ensures, ← c.get-in-Item-record-2.ensures) (gains c.args.records.now)) c.item.ensures
-
-pub returns-in-Fee-record : goal.returns-in-Fee-record
-returns-in-Fee-record c = on_ok_weaker c.fee.result (λ gains. rw (c.in-Fee.is, c.in-Fee-record.is, ← c.as_bytes-in-Fee-record.ensures, ← c.get-in-Fee-record.ensures) (gains c.args.records.now)) c.fee.ensures
+pub returns-in-Item-Item : goal.returns-in-Item-Item
+returns-in-Item-Item c = on_ok_weaker c.item.result (λ gains. rw (c.in-Item-Item.is-0, c.in-Item-Item.is-1, ← c.as_bytes-in-Item-Item.ensures, ← c.get-in-Item-Item.ensures) (gains c.args.records.now)) c.item.ensures

@@ -1,5 +1,5 @@
 use Rattle.std.proofs.Common.{◌≡◌, ◌<◌, ℕ, slice_get}
-use Rattle.circ_records.proofs.same.same_id_slices.Given as goal
+use Rattle.circ_records.proofs.same.same_holds.Given as goal
 
 -- the items so far are the same
 abbrev pub invariant-loop-i : goal.invariant-loop-i

@@ -1,6 +1,6 @@
 use Rattle.std.proofs.Common.{take}
 use Rattle.record_tables.specs.Writing.{Holds}
-use Rattle.record_tables.proofs.written.told.Given as goal
+use Rattle.record_tables.proofs.written.write_records.Given as goal
 
 -- what the entries so far have is written
 abbrev pub invariant-loop-entry : goal.invariant-loop-entry

@@ -1,7 +1,7 @@
 use Rattle.std.proofs.Common.{◌≡◌, drop}
 use Rattle.record_tables.specs.Writing.{HasWidth, with_rows}
 use Rattle.record_tables.specs.Written.{queued}
-use Rattle.record_tables.proofs.item_rows.write_holds.Given as goal
+use Rattle.record_tables.proofs.hold_rows.write_holds.Given as goal
 
 -- what is written so far, with the rest of the queue after it, is all of it
 abbrev pub invariant-loop-hold : goal.invariant-loop-hold

@@ -1,7 +1,7 @@
 use Rattle.std.proofs.Common.{◌≡◌, drop}
 use Rattle.record_tables.specs.Writing.{HasWidth, with_rows}
 use Rattle.record_tables.specs.Written.{listed_loans}
-use Rattle.record_tables.proofs.patron_rows.write_loans.Given as goal
+use Rattle.record_tables.proofs.loan_rows.write_loans.Given as goal
 
 -- what is written so far, with the rest of the list after it, is all of it
 abbrev pub invariant-loop-item : goal.invariant-loop-item

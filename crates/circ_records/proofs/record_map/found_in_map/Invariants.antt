@@ -1,7 +1,7 @@
 use Rattle.std.proofs.Common.{◌≡◌}
 use Rattle.circ_records.specs.Devices.KeyRefs.{key_of}
 use Rattle.circ_records.specs.Records.{record_at}
-use Rattle.circ_records.proofs.record_map.found_one_by_one.Given as goal
+use Rattle.circ_records.proofs.record_map.found_in_map.Given as goal
 
 -- those so far have another key
 abbrev pub invariant-loop-own : goal.invariant-loop-own

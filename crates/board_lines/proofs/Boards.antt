@@ -42,6 +42,24 @@ row_read rows n x first spot f l is =
 pub row_set : {J : Type 0} (rows : List (code.LineRow J)) (n x first : ℕ) (row : code.LineRow J) → x ≡ first → map row_shown (set rows (n - x) row) ≡ set (map row_shown rows) (n - first) (row_shown row)
 row_set rows n x first row f = map-set row_shown rows (n - x) row ∙ ap (λ y. set (map row_shown rows) (n - y) (row_shown row)) f
 
+-- the board that a value shows is that of its fields
+pub board_shown : {J : Type 0} (a : Inside J) (plan : Planned) (b : Board) → a.plan.now ≡ plan → board_of a.plan.now.base (parts_of a) ≡ b → board_of plan.base (parts_of a) ≡ b
+board_shown a plan b same view = ap (λ (x : Planned). board_of x.base (parts_of a)) (sym same) ∙ view
+
+-- a line that is there, and its row in code, where x is the plan's first line
+module _ {J : Type 0} (a : Inside J) (plan : Planned) (same : a.plan.now ≡ plan) (kept : IsKept plan (parts_of a)) (n x : ℕ) (x_is : x ≡ a.plan.now.first) (there : IsLine (board_of plan.base (parts_of a)) n) where
+  pub first_is : x ≡ a.attempts.first
+  first_is = x_is ∙ ap (λ (p : Planned). p.first) same ∙ sym kept.reached.first
+
+  pub from_first : x ≤ n
+  from_first = omega (arith, there.0, first_is)
+
+  pub within_rows : n - x < length a.rows.items
+  within_rows = omega (arith, place_of plan.base (parts_of a) n there, length-map a.rows.items row_shown, first_is)
+
+  pub spot_is : (spot : code.LineRow J) → spot ≡ get_or a.rows.items (n - x) spot → kept_at (parts_of a) n ≡ row_shown spot
+  spot_is spot is = row_read a.rows.items n x a.attempts.first spot first_is (place_of plan.base (parts_of a) n there) is
+
 -- only line n is another
 pub record Puts (base : Entries) (a q : Parts) (n : ℕ) (r : Row) : Type 0 where
   pub first : q.states.first ≡ a.states.first

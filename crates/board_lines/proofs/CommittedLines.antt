@@ -1,9 +1,7 @@
 -- What a board gives of a committed line, and the record that is seen past the last.
-use Rattle.std.proofs.Common.{◌≡◌, ℕ, ◌-◌, List, Option, Some, None, length, get_or, refl, sym, ap, subst, ◌∙◌, inl, inr, arith, false}
+use Rattle.std.proofs.Common.{◌≡◌, ℕ, ◌-◌, List, Option, Some, None, get_or, refl, sym, ap, subst, ◌∙◌, arith, false}
 use Rattle.std.specs.Option.{option_and_then}
 use Rattle.std.specs.Prelude.{option_map}
-use Rattle.std.proofs.lemmas.Bool.{cases_lt}
-use Rattle.std.proofs.lemmas.List.{get_or_past}
 use Rattle.std.proofs.lemmas.Option.{slice_get-get_or}
 use Rattle.circ_records.specs.Records.{Entries, record_at}
 use Rattle.circ_records.specs.declared.key.Key.{Key}
@@ -11,30 +9,18 @@ use Rattle.read_set.specs.Plans.{Planned}
 use Rattle.read_set.specs.Settling.{Contents}
 use Rattle.read_set.specs.declared.notes.Note.{Note}
 use Rattle.attempts.specs.Moves.{no_row}
-use Rattle.attempts.specs.States.{is_waiting, newest_at, newest_of, state_at}
+use Rattle.attempts.specs.States.{is_waiting, newest_at, newest_of}
 use Rattle.attempts.specs.declared.state.LineState.{LineState}
 use Rattle.attempts.specs.declared.state.LineState.TheVariants as states
 use Rattle.version_store.specs.Entries as store
-use Rattle.version_store.specs.Entries.{Shown, contents_seen}
-use Rattle.board_steps.specs.Board.{Board, IsCommitted, IsLine, Row, blank, record_of, row_at, value_at}
-use Rattle.board_steps.proofs.Lines.{row_before, row_from, within_board}
-use Rattle.board_lines.specs.Committed.{committed_answer}
+use Rattle.version_store.specs.Entries.{Shown}
+use Rattle.board_steps.specs.Board.{Board, IsCommitted, IsLine, record_of, row_at, value_at}
+use Rattle.board_steps.proofs.Lines.{within_board}
 use Rattle.board_lines.specs.Notes.{found_by}
-use Rattle.board_lines.specs.Parts.{IsKept, Parts, answer_by, board_of, no_notes, row_by, state_of}
+use Rattle.board_lines.specs.Parts.{IsKept, Parts, board_of, state_of}
 use Rattle.board_lines.proofs.Boards.{place_of}
-use Rattle.board_lines.proofs.Commits.{state_there}
-use Rattle.board_lines.proofs.Firsts.{length_first}
-use Rattle.board_lines.proofs.Moves.{state_none}
 use Rattle.board_lines.proofs.Rows.{newest_from, newest_if, state_shown}
 use Rattle.board_lines.proofs.Sights.{entry_seen}
-
-uncommitted : (s : LineState) (notes : List Note) (contents : Option Contents) → (s ≡ states.Committed → ⊥) → committed_answer (state_of s notes contents) ≡ None
-uncommitted states.Waiting notes contents h = refl
-uncommitted (states.Running w) notes contents h = refl
-uncommitted (states.Placing w) notes contents h = refl
-uncommitted (states.Done t) notes contents h = refl
-uncommitted (states.Checking w t i) notes contents h = refl
-uncommitted states.Committed notes contents h = absurd (h refl)
 
 committed_waits : (s : LineState) (notes : List Note) (contents : Option Contents) → IsCommitted (state_of s notes contents) → is_waiting s ≡ false
 committed_waits states.Waiting notes contents h = absurd h
@@ -54,24 +40,6 @@ contents_record base k None = refl
 contents_record base k (Some p) = refl
 
 module _ (plan : Planned) (a : Parts) (kept : IsKept plan a) where
-  -- the answer of a line, by its state in the table: one that isn't there has none
-  pub answer_none : (n : ℕ) → state_at a.states n ≡ None → committed_answer (row_at (board_of plan.base a) n).state ≡ None
-  answer_none n none = elim (cases_lt n a.states.first) [
-    | inl before ↦ ap (λ (r : Row). committed_answer r.state) (row_before (board_of plan.base a) n before)
-    | inr from ↦ elim (cases_lt (n - a.states.first) (length a.rows)) [
-      | inl within ↦ absurd (state_none a.states n none from (omega (arith, within, kept.all_states)))
-      | inr past ↦ ap (λ (r : Row). committed_answer r.state)
-          (row_from (board_of plan.base a) n from
-          ∙ get_or_past (board_of plan.base a).rows (n - a.states.first) blank (omega (arith, past, length_first (row_by plan.base a) (length a.rows))))
-    ]
-  ]
-
-  pub answer_other : (n : ℕ) (s : LineState) → state_at a.states n ≡ Some s → (s ≡ states.Committed → ⊥) → committed_answer (row_at (board_of plan.base a) n).state ≡ None
-  answer_other n s is h = ap committed_answer (state_there plan a kept n s is) ∙ uncommitted s _ _ h
-
-  pub answer_there : (n : ℕ) → state_at a.states n ≡ Some states.Committed → committed_answer (row_at (board_of plan.base a) n).state ≡ answer_by (get_or a.rows (n - a.states.first) no_notes).contents
-  answer_there n is = ap committed_answer (state_there plan a kept n states.Committed is)
-
   -- a committed line has an attempt
   pub newest_committed : (n : ℕ) → IsCommitted (row_at (board_of plan.base a) n).state → newest_at a.states n ≡ None → ⊥
   newest_committed n committed h =
@@ -83,7 +51,7 @@ module _ (plan : Planned) (a : Parts) (kept : IsKept plan a) where
       ∙ sym (newest_from a.states n there.0) ∙ h)
 
   -- the record that line n sees, by the version that the store shows it
-  pub value_shown : (n : ℕ) (k : Key) (o : Option Contents) → o ≡ contents_seen (store.line_at a.store) n k → found_by plan.base k o ≡ value_at plan (row_at (board_of plan.base a)) n k
+  pub value_shown : (n : ℕ) (k : Key) (o : Option Contents) → o ≡ option_map (λ (p : ℕ × Shown). p.1.contents) (store.visible (store.line_at a.store) n k) → found_by plan.base k o ≡ value_at plan (row_at (board_of plan.base a)) n k
   value_shown n k o is =
       ap (found_by plan.base k) is
       ∙ contents_record plan.base k (store.visible (store.line_at a.store) n k)

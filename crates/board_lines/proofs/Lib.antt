@@ -13,5 +13,6 @@ pub mod Publications
 pub mod Rows
 pub mod Searches
 pub mod Sights
+pub mod Standing
 pub mod Takes
 pub mod Writes

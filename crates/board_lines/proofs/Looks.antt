@@ -2,10 +2,9 @@
 use Rattle.std.proofs.Common.{◌≡◌, ℕ, ◌-◌, ◌<◌, Bool, true, false, List, [], ◌∷◌, ◌++◌, Option, Some, None, length, set, get_or, slice_get, refl, sym, ap, ap₂, subst, ◌∙◌, inl, inr, length-set}
 use Rattle.std.specs.Prelude.{option_map}
 use Rattle.std.proofs.lemmas.List.{set-get_or}
-use Rattle.std.proofs.lemmas.Option.{same_Some, slice_get_within}
+use Rattle.std.proofs.lemmas.Option.{slice_get_within}
 use Rattle.circ_records.specs.declared.key.Key.{Key}
 use Rattle.read_set.specs.Plans.{Planned}
-use Rattle.read_set.specs.Settling.{Contents}
 use Rattle.read_set.specs.declared.notes.Note.{Note}
 use Rattle.attempts.specs.Moves.{no_row}
 use Rattle.attempts.specs.Moves as moves
@@ -19,60 +18,18 @@ use Rattle.board_steps.specs.Board.{Row, Board, IsLine, IsCommitted, row_at, hol
 use Rattle.board_steps.specs.Board.State.{Waiting, Running, Placing}
 use Rattle.board_steps.specs.Steps.{MayLook, LookStep, put_row, with_state}
 use Rattle.board_steps.specs.Steps as steps
-use Rattle.board_steps.specs.Steps.Reply.{Seen, Stopped}
+use Rattle.board_steps.specs.Steps.Reply.{Seen}
 use Rattle.board_steps.proofs.Calls.{stopped_reached}
 use Rattle.board_steps.proofs.Steps.{look_step}
 use Rattle.board_steps.specs.Reached.{Reached}
-use Rattle.board_lines.specs.Hands.{HasNoLine}
 use Rattle.board_lines.specs.Notes.{found_by, is_noted, notes_by, note_with, contents_at}
 use Rattle.board_lines.specs.Parts.{Kept, Parts, no_notes, row_with, row_by, state_of, board_of, HandsHold, IsKept}
-use Rattle.board_lines.specs.Sights.{IsLooking}
 use Rattle.board_lines.specs.declared.notes.PlacedName.{PlacedName}
 use Rattle.board_lines.proofs.Boards.{Puts, place_of, row_there, board_is, row_new, row_old, kept_put}
-use Rattle.board_lines.proofs.Commits.{state_there}
 use Rattle.board_lines.proofs.Hands.{hand_put, hand_same}
-use Rattle.board_lines.proofs.Moves.{puts_of, board_eq}
+use Rattle.board_lines.proofs.Moves.{running_state, puts_of, board_eq}
 use Rattle.board_lines.proofs.Rows.{held_there, state_shown, state_stands}
-use Rattle.board_lines.proofs.Sights.{noted_some, unnoted_each, notes_push, note_is}
-
-running_state : (s : LineState) (notes notes' : List Note) (contents : Option Contents) (w : ℕ) → state_of s notes contents ≡ Running w notes' → (s ≡ states.Running w) × (notes ≡ notes')
-running_state states.Waiting notes notes' contents w h = absurd (cc)
-running_state (states.Running v) notes notes' contents w h = (let e : v ≡ w = cc in ap states.Running e, cc)
-running_state (states.Placing v) notes notes' contents w h = absurd (cc)
-running_state (states.Done t) notes notes' contents w h = absurd (cc)
-running_state (states.Checking v t i) notes notes' contents w h = absurd (cc)
-running_state states.Committed notes notes' contents w h = absurd (cc)
-
-pub no_look : (b : Board) (w : ℕ) (k : Key) → HasNoLine b w → IsLooking b w k None
-no_look b w k none n notes may = none n (ap holder may.running)
-
-module _ (plan : Planned) (a : Parts) (kept : IsKept plan a) (w n : ℕ) (held : holder (row_at (board_of plan.base a) n).state ≡ Some w) where
-  pub held_line : IsLine (board_of plan.base a) n
-  held_line = held_there (board_of plan.base a) n w held
-
-  -- another line isn't in the worker's hand
-  only : (m : ℕ) (notes : List Note) → (row_at (board_of plan.base a) m).state ≡ Running w notes → (row_at (board_of plan.base a) n).state ≡ Running w notes
-  only m notes run = subst (λ x. (row_at (board_of plan.base a) x).state ≡ Running w notes) (kept.reached.hands m n w (ap holder run) held) run
-
-  pub not_running : (s : LineState) → state_at a.states n ≡ Some s → ((v : ℕ) → s ≡ states.Running v → ⊥) → (k : Key) → IsLooking (board_of plan.base a) w k None
-  not_running s is not k m notes may =
-      not w (running_state s _ notes _ w (sym (state_there plan a kept n s is) ∙ only m notes may.running)).0
-
-  pub is_noted_there : (k : Key) → is_noted (get_or a.rows (n - a.states.first) no_notes).notes k ≡ true → IsLooking (board_of plan.base a) w k None
-  is_noted_there k h m notes may =
-      let here = kept.reached.hands m n w (ap holder may.running) held in
-      let same = (running_state _ _ notes _ w (sym (state_shown plan a kept n held_line) ∙ only m notes may.running)).1 in
-      noted_some plan.base (get_or a.rows (n - a.states.first) no_notes).notes k h (λ j x e. may.unnoted j x (ap (λ (y : List Note). slice_get y j) (sym same) ∙ e))
-
-  pub may_look : (k : Key) (v : ℕ) → state_at a.states n ≡ Some (states.Running v) → is_noted (get_or a.rows (n - a.states.first) no_notes).notes k ≡ false
-      → MayLook (board_of plan.base a) w k n (notes_by plan.base (get_or a.rows (n - a.states.first) no_notes).notes)
-  may_look k v is h =
-      let run : (row_at (board_of plan.base a) n).state ≡ Running v (notes_by plan.base (get_or a.rows (n - a.states.first) no_notes).notes) = state_there plan a kept n (states.Running v) is in
-      let e : v ≡ w = same_Some v w (sym (ap holder run) ∙ held) in
-      record {
-        running = run ∙ ap (λ x. Running x (notes_by plan.base (get_or a.rows (n - a.states.first) no_notes).notes)) e;
-        unnoted = unnoted_each plan.base (get_or a.rows (n - a.states.first) no_notes).notes k h;
-      }
+use Rattle.board_lines.proofs.Sights.{noted_some, notes_push, note_is}
 
 module _ (plan : Planned) (a : Parts) (kept : IsKept plan a) (w n : ℕ) (k : Key) (notes : List Note) (may : MayLook (board_of plan.base a) w k n notes) where
   pub look_line : IsLine (board_of plan.base a) n

@@ -13,7 +13,7 @@ use Rattle.attempts.specs.declared.state.LineState.TheVariants as states
 use Rattle.attempts.specs.declared.table.AttemptRow as attempt
 use Rattle.version_store.specs.Entries as store
 use Rattle.board_steps.specs.Board.{Board, row_at}
-use Rattle.board_steps.specs.Board.State.{Waiting}
+use Rattle.board_steps.specs.Board.State.{Waiting, Running, Placing}
 use Rattle.board_steps.specs.Steps.{IsFree}
 use Rattle.board_lines.specs.Parts.{Kept, Parts, no_notes, row_with, state_of, HandsHold}
 use Rattle.board_lines.proofs.Boards.{Puts}
@@ -69,6 +69,23 @@ state_waits (states.Placing w) notes contents h = absurd (cc)
 state_waits (states.Done t) notes contents h = absurd (cc)
 state_waits (states.Checking w t i) notes contents h = absurd (cc)
 state_waits states.Committed notes contents h = absurd (cc)
+
+pub running_state : (s : LineState) (notes notes' : List Note) (contents : Option Contents) (w : ℕ) → state_of s notes contents ≡ Running w notes' → (s ≡ states.Running w) × (notes ≡ notes')
+running_state states.Waiting notes notes' contents w h = absurd (cc)
+running_state (states.Running v) notes notes' contents w h = (let e : v ≡ w = cc in ap states.Running e, cc)
+running_state (states.Placing v) notes notes' contents w h = absurd (cc)
+running_state (states.Done t) notes notes' contents w h = absurd (cc)
+running_state (states.Checking v t i) notes notes' contents w h = absurd (cc)
+running_state states.Committed notes notes' contents w h = absurd (cc)
+
+pub placing_state : (s : LineState) (notes notes' : List Note) (contents last : Option Contents) (w : ℕ) → state_of s notes contents ≡ Placing w notes' last
+    → (s ≡ states.Placing w) × (notes ≡ notes') × (contents ≡ last)
+placing_state states.Waiting notes notes' contents last w h = absurd (cc)
+placing_state (states.Running v) notes notes' contents last w h = absurd (cc)
+placing_state (states.Placing v) notes notes' contents last w h = (let e : v ≡ w = cc in ap states.Placing e, cc, cc)
+placing_state (states.Done t) notes notes' contents last w h = absurd (cc)
+placing_state (states.Checking v t i) notes notes' contents last w h = absurd (cc)
+placing_state states.Committed notes notes' contents last w h = absurd (cc)
 
 -- ---- one line's parts are set
 pub puts_of : (base : Entries) (a q : Parts) (n : ℕ) (s : attempt.AttemptRow) (k : Kept) (l : store.Line)

@@ -1,12 +1,11 @@
 -- A version of a line in hand is published, act by act.
-use denote.Ref.{Bor}
-use Rattle.std.proofs.Common.{◌≡◌, ◌≢◌, ℕ, suc, ◌+◌, ◌-◌, ◌<◌, Bool, true, false, List, Option, Some, None, length, set, get_or, refl, sym, ap, subst, ◌∙◌, ◌⊎◌, inl, inr, arith, length-set, get_or-set_same}
+use Rattle.std.proofs.Common.{◌≡◌, ℕ, suc, ◌+◌, ◌-◌, ◌<◌, Bool, true, false, List, Option, Some, None, length, set, get_or, refl, sym, ap, subst, ◌∙◌, ◌⊎◌, inl, inr, arith, length-set, get_or-set_same}
 use Rattle.std.specs.Prelude.{option_map, IsSomeAnd}
 use Rattle.std.specs.Bool.{Decides}
 use Rattle.std.specs.FinMap.{insert, remove}
 use Rattle.std.proofs.lemmas.Bool.{le-ltb}
 use Rattle.std.proofs.lemmas.List.{set-get_or}
-use Rattle.std.proofs.lemmas.Option.{none-some, same_Some, slice_get-get_or, slice_get_within}
+use Rattle.std.proofs.lemmas.Option.{slice_get-get_or, slice_get_within}
 use Rattle.circ_records.specs.declared.key.Key.{Key}
 use Rattle.circ_records.specs.declared.record.Record.{Record}
 use Rattle.read_set.specs.Plans.{Planned}
@@ -25,11 +24,10 @@ use Rattle.board_steps.specs.Board.{State, Row, Board, IsLine, IsCommitted, row_
 use Rattle.board_steps.specs.Board.State.{Waiting, Running, Placing, Done, Checking, Committed}
 use Rattle.board_steps.specs.Steps.{Reply, MayPublish, Fits, IsVersion, IsNextWrite, AllPlaced, IsNextLeft, NoneLeft, HasRoom, PublishStep, changing, placed, lifted, put_row, with_state}
 use Rattle.board_steps.specs.Steps.Reply.{Placed, Lifted, Whole}
-use Rattle.board_steps.proofs.Lines.{within_board}
 use Rattle.board_steps.proofs.Steps.{publish_step}
-use Rattle.board_lines.specs.Acts.{IsPlacing, IsAct, publishes, places, notes_at}
+use Rattle.board_lines.specs.Acts.{IsAct, notes_at}
 use Rattle.board_lines.specs.Notes.{notes_by}
-use Rattle.board_lines.specs.Courses.{FirstPlaced, FirstPlacedBut, IsUnderWay, UnderWay}
+use Rattle.board_lines.specs.Courses.{ComesTo, FirstPlaced, FirstPlacedBut, IsUnderWay, UnderWay}
 use Rattle.board_lines.specs.Parts.{Kept, Parts, no_notes, row_with, row_by, state_of, board_of, kept_at, HandsHold, IsKept}
 use Rattle.board_lines.specs.declared.row.LineProgress.{LineProgress}
 use Rattle.board_lines.specs.Hands.{notes_of}
@@ -37,7 +35,8 @@ use Rattle.board_lines.specs.declared.acts.PublishAct.{PublishAct}
 use Rattle.board_lines.specs.declared.acts.PublishAct.TheVariants as acts
 use Rattle.board_lines.proofs.Boards.{Puts, place_of, row_there, board_is, row_new, row_old, kept_put}
 use Rattle.board_lines.proofs.Hands.{hand_same, hand_put}
-use Rattle.board_lines.proofs.Moves.{puts_of, board_eq}
+use Rattle.board_lines.proofs.Moves.{running_state, placing_state, puts_of, board_eq}
+use Rattle.board_lines.proofs.Rows.{held_there}
 use Rattle.board_lines.proofs.Writes.{first_inserted, first_removed}
 
 -- ---- states that are to be published
@@ -54,82 +53,15 @@ publish_bar : (x : State) (w : ℕ) (notes : List Note) → (x ≡ Running w not
 publish_bar x w notes (inl e) h = subst IsCommitted e h
 publish_bar x w notes (inr e) h = subst IsCommitted e.1 h
 
-is_running : (x : State) (v w : ℕ) (notes : List Note) → x ≡ Running v notes → holder x ≡ Some w → x ≡ Running w (notes_of x)
-is_running x v w notes e held =
-    e ∙ ap (λ (y : ℕ). Running y notes) (same_Some v w (sym (ap holder e) ∙ held)) ∙ ap (λ (ns : List Note). Running w ns) (sym (ap notes_of e))
+-- a line that is to be published has one of two states, and its row has its notes
+pub published_state : (s : LineState) (notes : List Note) (contents : Option Contents) (x : State) → x ≡ state_of s notes contents
+    → (w : ℕ) (ns : List Note) → (x ≡ Running w ns) ⊎ ((last : Option Contents) × (x ≡ Placing w ns last)) → ((s ≡ states.Running w) ⊎ (s ≡ states.Placing w)) × (ns ≡ notes)
+published_state s notes contents x e w ns (inl r) = (let p = running_state s notes ns contents w (sym e ∙ r) in (inl p.0, sym p.1))
+published_state s notes contents x e w ns (inr r) = (let p = placing_state s notes ns contents r.0 w (sym e ∙ r.1) in (inr p.0, sym p.1))
 
-is_placing : (x : State) (v w : ℕ) (notes : List Note) (last : Option Contents) → x ≡ Placing v notes last → holder x ≡ Some w → x ≡ Placing w (notes_of x) last
-is_placing x v w notes last e held =
-    e ∙ ap (λ (y : ℕ). Placing y notes last) (same_Some v w (sym (ap holder e) ∙ held)) ∙ ap (λ (ns : List Note). Placing w ns last) (sym (ap notes_of e))
-
--- a line in hand whose state is to be published is
-pub published_by : (s : LineState) (notes : List Note) (contents : Option Contents) (x : State) (w : ℕ) → x ≡ state_of s notes contents → holder x ≡ Some w → publishes s ≡ true
-    → (x ≡ Running w (notes_of x)) ⊎ ((last : Option Contents) × (x ≡ Placing w (notes_of x) last))
-published_by states.Waiting notes contents x w e held h = absurd (cc)
-published_by (states.Running v) notes contents x w e held h = inl (is_running x v w notes e held)
-published_by (states.Placing v) notes contents x w e held h = inr (contents, is_placing x v w notes contents e held)
-published_by (states.Done t) notes contents x w e held h = absurd (cc)
-published_by (states.Checking v t i) notes contents x w e held h = absurd (cc)
-published_by states.Committed notes contents x w e held h = absurd (cc)
-
-pub placing_by : (s : LineState) (notes : List Note) (contents : Option Contents) (x : State) (w : ℕ) → x ≡ state_of s notes contents → holder x ≡ Some w → places s ≡ true
-    → (last : Option Contents) × (x ≡ Placing w (notes_of x) last)
-placing_by states.Waiting notes contents x w e held h = absurd (cc)
-placing_by (states.Running v) notes contents x w e held h = absurd (cc)
-placing_by (states.Placing v) notes contents x w e held h = (contents, is_placing x v w notes contents e held)
-placing_by (states.Done t) notes contents x w e held h = absurd (cc)
-placing_by (states.Checking v t i) notes contents x w e held h = absurd (cc)
-placing_by states.Committed notes contents x w e held h = absurd (cc)
-
-only_placing : (s : LineState) (ns : List Note) (contents : Option Contents) → places s ≡ false → (w : ℕ) (notes : List Note) (last : Option Contents) → state_of s ns contents ≡ Placing w notes last → ⊥
-only_placing states.Waiting ns contents h w notes last e = cc
-only_placing (states.Running v) ns contents h w notes last e = cc
-only_placing (states.Placing v) ns contents h w notes last e = cc
-only_placing (states.Done t) ns contents h w notes last e = cc
-only_placing (states.Checking v t i) ns contents h w notes last e = cc
-only_placing states.Committed ns contents h w notes last e = cc
-
--- ---- what is no publication
-never : (s : LineState) (notes : List Note) (contents : Option Contents) (x : State) → x ≡ state_of s notes contents → publishes s ≡ false
-    → (w : ℕ) (ns : List Note) → (x ≡ Running w ns) ⊎ ((last : Option Contents) × (x ≡ Placing w ns last)) → ⊥
-never (states.Running v) notes contents x e h w ns may = absurd (cc)
-never (states.Placing v) notes contents x e h w ns may = absurd (cc)
-never states.Waiting notes contents x e h w ns (inl r) = (let z : Waiting ≡ Running w ns = sym e ∙ r in cc)
-never (states.Done t) notes contents x e h w ns (inl r) = (let z : state_of (states.Done t) notes contents ≡ Running w ns = sym e ∙ r in cc)
-never (states.Checking v t i) notes contents x e h w ns (inl r) = (let z : state_of (states.Checking v t i) notes contents ≡ Running w ns = sym e ∙ r in cc)
-never states.Committed notes contents x e h w ns (inl r) = (let z : state_of states.Committed notes contents ≡ Running w ns = sym e ∙ r in cc)
-never states.Waiting notes contents x e h w ns (inr r) = (let z : Waiting ≡ Placing w ns r.0 = sym e ∙ r.1 in cc)
-never (states.Done t) notes contents x e h w ns (inr r) = (let z : state_of (states.Done t) notes contents ≡ Placing w ns r.0 = sym e ∙ r.1 in cc)
-never (states.Checking v t i) notes contents x e h w ns (inr r) = (let z : state_of (states.Checking v t i) notes contents ≡ Placing w ns r.0 = sym e ∙ r.1 in cc)
-never states.Committed notes contents x e h w ns (inr r) = (let z : state_of states.Committed notes contents ≡ Placing w ns r.0 = sym e ∙ r.1 in cc)
-
--- a state that is to be published is live
-live_of_published : (s : LineState) (notes : List Note) (contents : Option Contents) (x : State) → x ≡ state_of s notes contents
-    → (w : ℕ) (ns : List Note) → (x ≡ Running w ns) ⊎ ((last : Option Contents) × (x ≡ Placing w ns last)) → is_live s ≡ true
-live_of_published (states.Running v) notes contents x e w ns may = refl
-live_of_published (states.Placing v) notes contents x e w ns may = refl
-live_of_published states.Waiting notes contents x e w ns may = absurd (never states.Waiting notes contents x e refl w ns may)
-live_of_published (states.Done t) notes contents x e w ns may = absurd (never (states.Done t) notes contents x e refl w ns may)
-live_of_published (states.Checking v t i) notes contents x e w ns may = absurd (never (states.Checking v t i) notes contents x e refl w ns may)
-live_of_published states.Committed notes contents x e w ns may = absurd (never states.Committed notes contents x e refl w ns may)
-
-noted_of_published : (s : LineState) (notes : List Note) (contents : Option Contents) (x : State) → x ≡ state_of s notes contents
-    → (w : ℕ) (ns : List Note) → (x ≡ Running w ns) ⊎ ((last : Option Contents) × (x ≡ Placing w ns last)) → ns ≡ notes
-noted_of_published (states.Running v) notes contents x e w ns may = sym (publish_notes x w ns may) ∙ ap notes_of e
-noted_of_published (states.Placing v) notes contents x e w ns may = sym (publish_notes x w ns may) ∙ ap notes_of e
-noted_of_published states.Waiting notes contents x e w ns may = absurd (never states.Waiting notes contents x e refl w ns may)
-noted_of_published (states.Done t) notes contents x e w ns may = absurd (never (states.Done t) notes contents x e refl w ns may)
-noted_of_published (states.Checking v t i) notes contents x e w ns may = absurd (never (states.Checking v t i) notes contents x e refl w ns may)
-noted_of_published states.Committed notes contents x e w ns may = absurd (never states.Committed notes contents x e refl w ns may)
-
-last_of_placing : (s : LineState) (notes : List Note) (contents : Option Contents) (x : State) → x ≡ state_of s notes contents
-    → (w : ℕ) (ns : List Note) (last : Option Contents) → x ≡ Placing w ns last → contents ≡ last
-last_of_placing states.Waiting notes contents x e w ns last h = (let z : Waiting ≡ Placing w ns last = sym e ∙ h in absurd (cc))
-last_of_placing (states.Running v) notes contents x e w ns last h = (let z : Running v notes ≡ Placing w ns last = sym e ∙ h in absurd (cc))
-last_of_placing (states.Placing v) notes contents x e w ns last h = (let z : Placing v notes contents ≡ Placing w ns last = sym e ∙ h in cc)
-last_of_placing (states.Done t) notes contents x e w ns last h = (let z : state_of (states.Done t) notes contents ≡ Placing w ns last = sym e ∙ h in absurd (cc))
-last_of_placing (states.Checking v t i) notes contents x e w ns last h = (let z : state_of (states.Checking v t i) notes contents ≡ Placing w ns last = sym e ∙ h in absurd (cc))
-last_of_placing states.Committed notes contents x e w ns last h = (let z : state_of states.Committed notes contents ≡ Placing w ns last = sym e ∙ h in absurd (cc))
+live_if : (s : LineState) (w : ℕ) → (s ≡ states.Running w) ⊎ (s ≡ states.Placing w) → is_live s ≡ true
+live_if s w (inl e) = ap is_live e
+live_if s w (inr e) = ap is_live e
 
 -- ---- a line that is there
 module _ (plan : Planned) (a : Parts) (kept : IsKept plan a) (n : ℕ) (there : IsLine (board_of plan.base a) n) where
@@ -162,49 +94,10 @@ module _ (plan : Planned) (a : Parts) (kept : IsKept plan a) (n : ℕ) (there : 
   state_is = ap (λ (x : Row). x.state) row_is
 
   pub noted_is : (w : ℕ) (notes : List Note) → MayPublish (board_of plan.base a) w n notes → notes ≡ notes_by plan.base (get_or a.rows (n - a.states.first) no_notes).notes
-  noted_is w notes may = noted_of_published _ _ _ _ state_is w notes may
-
-  pub last_is : (w : ℕ) (notes : List Note) (last : Option Contents) → (row_at (board_of plan.base a) n).state ≡ Placing w notes last → (get_or a.rows (n - a.states.first) no_notes).contents ≡ last
-  last_is w notes last h = last_of_placing _ _ _ _ state_is w notes last h
+  noted_is w notes may = (published_state _ _ _ _ state_is w notes may).1
 
   pub live_there : (w : ℕ) (notes : List Note) → MayPublish (board_of plan.base a) w n notes → IsSomeAnd (state_at a.states n) (λ s. is_live s ≡ true)
-  live_there w notes may = subst (λ (o : Option LineState). IsSomeAnd o (λ s. is_live s ≡ true)) (sym state_there) (live_of_published _ _ _ _ state_is w notes may)
-
--- ---- a line in hand, by its state
-module _ (plan : Planned) (a : Parts) (kept : IsKept plan a) (w n : ℕ) (held : holder (row_at (board_of plan.base a) n).state ≡ Some w) where
-  pub held_line : IsLine (board_of plan.base a) n
-  held_line = within_board (board_of plan.base a) n (λ e. none-some w (sym (ap holder e) ∙ held))
-
-  pub held_state : (s : LineState) → state_at a.states n ≡ Some s → (get_or a.states.rows (n - a.states.first) no_row).state ≡ s
-  held_state s h = same_Some _ s (sym (state_there plan a kept n held_line) ∙ h)
-
-  pub has_state : state_at a.states n ≡ None → ⊥
-  has_state h = none-some _ (sym h ∙ state_there plan a kept n held_line)
-
-  shown_state : (s : LineState) → state_at a.states n ≡ Some s
-      → (row_at (board_of plan.base a) n).state ≡ state_of s (notes_by plan.base (get_or a.rows (n - a.states.first) no_notes).notes) (get_or a.rows (n - a.states.first) no_notes).contents
-  shown_state s h =
-      ap (λ (x : Row). x.state) (row_is plan a kept n held_line)
-      ∙ ap (λ (x : LineState). state_of x (notes_by plan.base (get_or a.rows (n - a.states.first) no_notes).notes) (get_or a.rows (n - a.states.first) no_notes).contents) (held_state s h)
-
-  pub to_publish : (s : LineState) → state_at a.states n ≡ Some s → publishes s ≡ true → MayPublish (board_of plan.base a) w n (notes_at (board_of plan.base a) n)
-  to_publish s h p = published_by s _ _ _ w (shown_state s h) held p
-
-  -- the worker's other lines are this one
-  one_line : (m : ℕ) → holder (row_at (board_of plan.base a) m).state ≡ Some w → m ≡ n
-  one_line m h = kept.reached.hands m n w h held
-
-  pub nothing_to_publish : (s : LineState) → state_at a.states n ≡ Some s → publishes s ≡ false → (m : ℕ) (notes : List Note) → MayPublish (board_of plan.base a) w m notes → ⊥
-  nothing_to_publish s h p m notes may =
-      never s _ _ _ (shown_state s h) p w notes
-      (subst (λ x. MayPublish (board_of plan.base a) w x notes) (one_line m (publish_held _ w notes may)) may)
-
-  pub is_placed : (s : LineState) → state_at a.states n ≡ Some s → places s ≡ true → (last : Option Contents) × ((row_at (board_of plan.base a) n).state ≡ Placing w (notes_at (board_of plan.base a) n) last)
-  is_placed s h p = placing_by s _ _ _ w (shown_state s h) held p
-
-  pub not_placing : (s : LineState) → state_at a.states n ≡ Some s → places s ≡ false → (m : ℕ) (notes : List Note) (last : Option Contents) → (row_at (board_of plan.base a) m).state ≢ Placing w notes last
-  not_placing s h p m notes last e =
-      only_placing s _ _ p w notes last (sym (shown_state s h) ∙ subst (λ x. (row_at (board_of plan.base a) x).state ≡ Placing w notes last) (one_line m (ap holder e)) e)
+  live_there w notes may = subst (λ (o : Option LineState). IsSomeAnd o (λ s. is_live s ≡ true)) (sym state_there) (live_if _ w (published_state _ _ _ _ state_is w notes may).0)
 
 -- the version of the last act
 last_of : State → Option Contents
@@ -221,7 +114,7 @@ module _ (plan : Planned) (a : Parts) (kept : IsKept plan a) (w n : ℕ) (notes 
   act_held = publish_held _ w notes may
 
   pub act_line : IsLine (board_of plan.base a) n
-  act_line = held_line plan a kept w n act_held
+  act_line = held_there (board_of plan.base a) n w act_held
 
   act_place : n - a.states.first < length a.rows
   act_place = place_there plan a kept n act_line
@@ -371,10 +264,10 @@ act_left r v (acts.Write k count) h not all none = h.1.apart (all k.now h.0 h.1.
 act_left r v (acts.Lift k) h not all none = h.1.left.2 (none k.now h.1.left.0 h.1.left.1)
 act_left r v acts.Finish h not all none = not refl
 
-pub no_other : (act : PublishAct) → (act ≡ acts.Finish → ⊥) → ((k : Bor Key) → act ≡ acts.Lift k → ⊥) → ((k : Bor Key) (count : ℕ) → act ≡ acts.Write k count → ⊥) → ⊥
-no_other (acts.Write k count) f l w = w k count refl
-no_other (acts.Lift k) f l w = l k refl
-no_other acts.Finish f l w = f refl
+-- the act of a line's entries is that of the line on the board
+pub act_shown : (r : Row) (l : store.Line) (t v : Contents) (act : PublishAct) → r.entries ≡ l → t ≡ v → ((x : Row) → x.entries ≡ l → IsAct x t act) → ComesTo l t act → IsAct r v act × ComesTo r.entries v act
+act_shown r l t v act e is acts comes =
+    (subst (λ (x : Contents). IsAct r x act) is (acts r e), subst (λ (x : store.Line). ComesTo x v act) (sym e) (subst (λ (x : Contents). ComesTo l x act) is comes))
 
 -- ---- whether a version fits
 pub not_fits : (b : Board) (n : ℕ) (notes : List Note) (v : Contents) (a : ℕ) → suc a ≡ (row_at b n).next → ((v.line ≡ n) × (v.attempt ≡ a) → ⊥) → Decides false (Fits b n notes v)
@@ -385,11 +278,6 @@ fits_by b n notes v a next r line attempt d = (
   λ h. record { same_line = line; same_attempt = omega (arith, attempt, next); same_notes = d.0 h },
   λ (f : Fits b n notes v). d.1 f.same_notes,
 )
-
--- a line that is placing has a version
-pub placing_version : (b : Board) (w n : ℕ) (notes : List Note) (last : Option Contents) → (row_at b n).state ≡ Placing w notes last → (last ≡ None → ⊥) → IsPlacing b w last
-placing_version b w n notes None h some = absurd (some refl)
-placing_version b w n notes (Some v) h some = (n, notes, h)
 
 -- ---- a publication goes on
 more_notes : (b : Board) (w n : ℕ) (notes : List Note) (v : Contents) → (row_at b n).state ≡ Placing w notes (Some v) → notes ≡ notes_at b n

@@ -19,7 +19,8 @@ use Rattle.board_steps.proofs.Lines.{row_before, row_from, within_board}
 use Rattle.board_lines.specs.Hands.{notes_of}
 use Rattle.board_lines.specs.Notes.{notes_by}
 use Rattle.board_lines.specs.Parts.{Parts, no_notes, row_by, state_of, board_of, IsKept}
-use Rattle.board_lines.proofs.Boards.{is_there, place_of, row_there}
+use Rattle.board_lines.specs.declared.lines.Lines.TheInside.{Inside}
+use Rattle.board_lines.proofs.Boards.{board_shown, is_there, parts_of, place_of, row_there}
 use Rattle.board_lines.proofs.Firsts.{length_first}
 use Rattle.board_lines.proofs.Moves.{state_from, next_is}
 
@@ -46,7 +47,7 @@ held_live (states.Done t) notes contents h = refl
 held_live (states.Checking v t i) notes contents h = refl
 held_live states.Committed notes contents h = absurd (omega (arith, h))
 
-live_notes : (s : LineState) (notes : List Note) (contents : Option Contents) → live_of (state_of s notes contents) ≡ 1 → notes_of (state_of s notes contents) ≡ notes
+pub live_notes : (s : LineState) (notes : List Note) (contents : Option Contents) → live_of (state_of s notes contents) ≡ 1 → notes_of (state_of s notes contents) ≡ notes
 live_notes states.Waiting notes contents h = absurd (omega (arith, h))
 live_notes (states.Running v) notes contents h = refl
 live_notes (states.Placing v) notes contents h = refl
@@ -54,7 +55,7 @@ live_notes (states.Done t) notes contents h = refl
 live_notes (states.Checking v t i) notes contents h = refl
 live_notes states.Committed notes contents h = absurd (omega (arith, h))
 
-held_notes : (s : LineState) (notes : List Note) (contents : Option Contents) (w : ℕ) → holder (state_of s notes contents) ≡ Some w → notes_of (state_of s notes contents) ≡ notes
+pub held_notes : (s : LineState) (notes : List Note) (contents : Option Contents) (w : ℕ) → holder (state_of s notes contents) ≡ Some w → notes_of (state_of s notes contents) ≡ notes
 held_notes states.Waiting notes contents w h = absurd (none-some w h)
 held_notes (states.Running v) notes contents w h = refl
 held_notes (states.Placing v) notes contents w h = refl
@@ -140,3 +141,7 @@ module _ (plan : Planned) (a : Parts) (kept : IsKept plan a) where
     pub notes_held : (w : ℕ) → holder (row_at (board_of plan.base a) n).state ≡ Some w → notes_of (row_at (board_of plan.base a) n).state ≡ notes_by plan.base (get_or a.rows (n - a.states.first) no_notes).notes
     notes_held w h = ap notes_of state_shown
         ∙ held_notes (get_or a.states.rows (n - a.states.first) no_row).state (notes_by plan.base (get_or a.rows (n - a.states.first) no_notes).notes) (get_or a.rows (n - a.states.first) no_notes).contents w (sym (ap holder state_shown) ∙ h)
+
+-- the entries of a line on the board that a value shows are those of its store
+pub entries_shown : {J : Type 0} (a : Inside J) (plan : Planned) (b : Board) → a.plan.now ≡ plan → IsKept plan (parts_of a) → board_of a.plan.now.base (parts_of a) ≡ b → (n : ℕ) → (row_at b n).entries ≡ store.line_at a.entries n
+entries_shown a plan b same kept view n = ap (λ (x : Board). (row_at x n).entries) (sym (board_shown a plan b same view)) ∙ entries_at plan (parts_of a) kept n

@@ -12,50 +12,31 @@ use Rattle.read_set.specs.Plans.{Planned}
 use Rattle.read_set.specs.declared.notes.Name.TheVariants.{Base, Made}
 use Rattle.read_set.specs.declared.notes.Note.{Note}
 use Rattle.version_store.specs.Entries as store
-use Rattle.version_store.specs.Entries.{Shown, SeesBase, Sees, SeesSuspect, Sight, sight_of, sight_at, found_of, found_at, visible}
+use Rattle.version_store.specs.Entries.{Shown, found_of, found_at, visible}
 use Rattle.version_store.specs.declared.entry.Found.TheVariants.{Named, Suspect}
-use Rattle.board_steps.specs.Board.{Row, EachNote, row_at, found, record_of, seen_entry, value_at, written_at}
+use Rattle.board_steps.specs.Board.{Row, EachNote, row_at, found, record_of, seen_entry, value_at}
 use Rattle.board_steps.specs.Steps.{HasNone}
 use Rattle.board_steps.proofs.Entries.{same_keys}
-use Rattle.board_lines.specs.Notes.{Noted, found_by, is_noted, IsPlaced, key_and_name, key_and_name_of, note_by, notes_by, note_with, contents_at}
+use Rattle.board_lines.specs.Notes.{Noted, found_by, is_noted, IsPlaced, key_and_name, note_by, notes_by, note_with, contents_at}
 use Rattle.board_lines.specs.Parts.{Parts, board_of, IsKept}
 use Rattle.board_lines.specs.Sights.{IsNameOf}
 use Rattle.board_lines.specs.declared.notes.PlacedName.{PlacedName}
 use Rattle.board_lines.proofs.Rows.{entries_at}
 
 -- ---- names and records of what is seen
-sight_some : {J : Type 0} (b : Bool) (base : Entries) (k : Key) (p : ℕ × Shown) (x : PlacedName J)
-    → IsNameOf (if b then SeesSuspect p.0 else Sees (Made p.1.attempt p.0) p.1.contents) x
-    → (if b then Suspect p.0 else Named (Made p.1.attempt p.0) ≡ Named x.name) × (found_by base k (option_map contents_at x.place) ≡ written_at p.1 k)
-sight_some true base k p x h = absurd h
-sight_some false base k p x h = (ap Named (sym h.0), ap (found_by base k) h.1)
-
 pub sight_named : {J : Type 0} (base : Entries) (k : Key) (o : Option (ℕ × Shown)) (x : PlacedName J)
-    → IsNameOf (sight_of o) x → (found_of o ≡ Named x.name) × (found_by base k (option_map contents_at x.place) ≡ record_of k o (record_at base k))
+    → IsNameOf o x → (found_of o ≡ Named x.name) × (found_by base k (option_map contents_at x.place) ≡ record_of k o (record_at base k))
 sight_named base k None x h = (ap Named (sym h.0), ap (λ p. found_by base k (option_map contents_at p)) h.1)
-sight_named base k (Some p) x h = sight_some p.1.suspect base k p x h
-
-placed_some : {J : Type 0} (b : Bool) (k : Key) (p : ℕ × Shown) (x : PlacedName J)
-    → IsNameOf (if b then SeesSuspect p.0 else Sees (Made p.1.attempt p.0) p.1.contents) x → IsPlaced (note_with k x)
-placed_some true k p x h = absurd h
-placed_some false k p x h = (
-  λ e. absurd (let z : Made p.1.attempt p.0 ≡ Base = sym h.0 ∙ e in cc),
-  λ e. absurd (none-some p.1.contents (sym e ∙ h.1)),
-)
+sight_named base k (Some p) x h =
+    (ap (λ (b : Bool). if b then Suspect p.0 else Named (Made p.1.attempt p.0)) h.0 ∙ ap Named (sym h.1), ap (found_by base k) h.2)
 
 -- what is seen has no place just where it is the base's
-pub sight_placed : {J : Type 0} (k : Key) (o : Option (ℕ × Shown)) (x : PlacedName J) → IsNameOf (sight_of o) x → IsPlaced (note_with k x)
+pub sight_placed : {J : Type 0} (k : Key) (o : Option (ℕ × Shown)) (x : PlacedName J) → IsNameOf o x → IsPlaced (note_with k x)
 sight_placed k None x h = (λ e. ap (option_map contents_at) h.1, λ e. h.0)
-sight_placed k (Some p) x h = placed_some p.1.suspect k p x h
-
-suspect_some : (b : Bool) (p : ℕ × Shown) (m : ℕ) → if b then SeesSuspect p.0 else Sees (Made p.1.attempt p.0) p.1.contents ≡ SeesSuspect m
-    → if b then Suspect p.0 else Named (Made p.1.attempt p.0) ≡ Suspect m
-suspect_some true p m h = (let e : p.0 ≡ m = cc in ap Suspect e)
-suspect_some false p m h = absurd (cc)
-
-pub sight_suspect : (o : Option (ℕ × Shown)) (m : ℕ) → sight_of o ≡ SeesSuspect m → found_of o ≡ Suspect m
-sight_suspect None m h = absurd (cc)
-sight_suspect (Some p) m h = suspect_some p.1.suspect p m h
+sight_placed k (Some p) x h = (
+  λ e. absurd (let z : Made p.1.attempt p.0 ≡ Base = sym h.1 ∙ e in cc),
+  λ e. absurd (none-some p.1.contents (sym e ∙ h.2)),
+)
 
 module _ (plan : Planned) (a : Parts) (kept : IsKept plan a) where
   same_lines : (λ (m : ℕ). (row_at (board_of plan.base a) m).entries) ≡ store.line_at a.store
@@ -69,7 +50,7 @@ module _ (plan : Planned) (a : Parts) (kept : IsKept plan a) where
   found_seen n k = ap found_of (entry_seen n k)
 
   -- what was seen has its name and its record on the board
-  pub named_seen : {J : Type 0} (n : ℕ) (k : Key) (x : PlacedName J) → IsNameOf (sight_at (store.line_at a.store) n k) x
+  pub named_seen : {J : Type 0} (n : ℕ) (k : Key) (x : PlacedName J) → IsNameOf (visible (store.line_at a.store) n k) x
       → (found (row_at (board_of plan.base a)) n k ≡ Named x.name) × (found_by plan.base k (option_map contents_at x.place) ≡ value_at plan (row_at (board_of plan.base a)) n k)
   named_seen n k x h =
       let r = sight_named plan.base k (visible (store.line_at a.store) n k) x h in (
@@ -77,8 +58,8 @@ module _ (plan : Planned) (a : Parts) (kept : IsKept plan a) where
         r.1 ∙ sym (ap (λ (o : Option (ℕ × Shown)). record_of k o (record_at plan.base k)) (entry_seen n k)),
       )
 
-  pub suspect_seen : (n : ℕ) (k : Key) (m : ℕ) → sight_at (store.line_at a.store) n k ≡ SeesSuspect m → found (row_at (board_of plan.base a)) n k ≡ Suspect m
-  suspect_seen n k m h = found_seen n k ∙ sight_suspect (visible (store.line_at a.store) n k) m h
+  pub suspect_seen : (n : ℕ) (k : Key) (m : ℕ) → found_of (visible (store.line_at a.store) n k) ≡ Suspect m → found (row_at (board_of plan.base a)) n k ≡ Suspect m
+  suspect_seen n k m h = found_seen n k ∙ h
 
 -- ---- noted keys
 or_false : (a b : Bool) → (a || b) ≡ false → (a ≡ false) × (b ≡ false)
@@ -116,11 +97,6 @@ noted_some base (n ∷ ns) k h each =
 pub notes_push : (base : Entries) (ns : List Noted) (x : Noted) → notes_by base (ns ++ x ∷ []) ≡ notes_by base ns ++ note_by base x ∷ []
 notes_push base [] x = refl
 notes_push base (n ∷ ns) x = ap (λ y. note_by base n ∷ y) (notes_push base ns x)
-
-pub notes_nth : (base : Entries) (ns : List Noted) (i : ℕ) → option_map key_and_name (slice_get (notes_by base ns) i) ≡ option_map key_and_name_of (slice_get ns i)
-notes_nth base [] i = refl
-notes_nth base (n ∷ ns) zero = refl
-notes_nth base (n ∷ ns) (suc i) = notes_nth base ns i
 
 pub notes_past : (base : Entries) (ns : List Noted) (i : ℕ) → length ns ≤ i → option_map key_and_name (slice_get (notes_by base ns) i) ≡ None
 notes_past base [] i h = refl

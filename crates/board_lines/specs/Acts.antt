@@ -1,13 +1,11 @@
 -- One act of a publication: which line it is for, and what it does.
-use Rattle.std.specs.Prelude.{◌≡◌, ◌≢◌, ℕ, suc, ◌<◌, Bool, true, false, List, Option, Some, None, slice_get}
+use Rattle.std.specs.Prelude.{◌≡◌, ◌≢◌, ℕ, suc, ◌<◌, List, Option, Some, None, slice_get}
 use Rattle.std.specs.FinMap.{get}
 use Rattle.circ_records.specs.Records.{Entries}
 use Rattle.circ_records.specs.declared.key.Key.{Key}
 use Rattle.circ_records.specs.declared.record.Record.{Record}
 use Rattle.read_set.specs.Settling.{Contents}
 use Rattle.read_set.specs.declared.notes.Note.{Note}
-use Rattle.attempts.specs.declared.state.LineState.{LineState}
-use Rattle.attempts.specs.declared.state.LineState.TheVariants as states
 use Rattle.version_store.specs.Entries.{Shown, Line}
 use Rattle.board_steps.specs.Board.{Row, Board, IsLine, row_at}
 use Rattle.board_steps.specs.Board.State.{Placing}
@@ -16,24 +14,6 @@ use Rattle.board_lines.specs.Hands.{notes_of}
 use Rattle.board_lines.specs.declared.hand.Hand.{Hand}
 use Rattle.board_lines.specs.declared.acts.PublishAct.{PublishAct}
 use Rattle.board_lines.specs.declared.acts.PublishAct.TheVariants as acts
-
--- a line in this state is to be published
-abbrev pub publishes : LineState → Bool
-publishes states.Waiting = false
-publishes (states.Running w) = true
-publishes (states.Placing w) = true
-publishes (states.Done stamp) = false
-publishes (states.Checking w t i) = false
-publishes states.Committed = false
-
--- a line in this state may have entries of its current publication
-abbrev pub places : LineState → Bool
-places states.Waiting = false
-places (states.Running w) = false
-places (states.Placing w) = true
-places (states.Done stamp) = false
-places (states.Checking w t i) = false
-places states.Committed = false
 
 -- what a line has noted
 abbrev pub notes_at : Board → ℕ → List Note

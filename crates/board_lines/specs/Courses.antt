@@ -7,10 +7,13 @@ use Rattle.read_set.specs.Plans.{Planned}
 use Rattle.read_set.specs.Settling.{Contents}
 use Rattle.read_set.specs.declared.notes.Note.{Note}
 use Rattle.version_store.specs.Entries.{Line}
-use Rattle.board_steps.specs.Board.{Row, Board}
+use Rattle.version_store.specs.declared.table.Place.{Place}
+use Rattle.board_steps.specs.Board.{Row, Board, row_at}
+use Rattle.board_steps.specs.Board.State.{Placing}
 use Rattle.board_steps.specs.Steps.{IsVersion}
 use Rattle.board_steps.specs.Steps.Call.{Publish}
 use Rattle.board_lines.specs.Acts.{IsPlacedAt, IsPlacing}
+use Rattle.board_lines.specs.Notes.{contents_at}
 use Rattle.board_lines.specs.Replies.{Answers}
 use Rattle.board_lines.specs.declared.acts.PublishAct.{PublishAct}
 use Rattle.board_lines.specs.declared.acts.PublishAct.TheVariants as acts
@@ -41,6 +44,12 @@ pub record UnderWay (n : ℕ) (r : Row) (notes : List Note) (v : Contents) (c : 
 abbrev pub IsUnderWay : ℕ → Row → List Note → Option Contents → LineProgress → Type 0
 IsUnderWay n r notes None c = ⊥
 IsUnderWay n r notes (Some v) c = UnderWay n r notes v c
+
+-- the worker's line in hand, where that line is being published, the place of its version, and how many writes are placed
+abbrev pub IsUnderWayOf : {J : Type 0} → Board → ℕ → Option (ℕ × Place J × ℕ) → Type 0
+IsUnderWayOf b w None = IsPlacing b w None
+IsUnderWayOf b w (Some p) = (notes : List Note) × ((row_at b p.0).state ≡ Placing w notes (Some (contents_at p.1)))
+    × UnderWay p.0 (row_at b p.0) notes (contents_at p.1) (record { placed = p.2 })
 
 -- The next act for the line that the worker has in hand, where that line is being published: an act of the same version as the
 -- last act. Else None, and no change.

@@ -30,16 +30,13 @@ contents_at place = place.version.now
 abbrev pub note_with : {J : Type 0} → Key → PlacedName J → Noted
 note_with key n = record { key = key; name = n.name; contents = option_map contents_at n.place }
 
+-- a note, from a borrowed key and what was seen there
+abbrev pub noted_as : {J : Type 0} → Bor Key × PlacedName J → Noted
+noted_as p = note_with p.0.now p.1
+
 -- a note as the code stores it
 abbrev pub noted : {J : Type 0} → PlaceNote J → Noted
 noted n = note_with n.key n.seen
-
--- the name of a note, and the contents of the version at its place
-abbrev pub by_place : {J : Type 0} → PlacedName J → Name × Option Contents
-by_place n = (n.name, option_map contents_at n.place)
-
-abbrev pub named_in : Noted → Name × Option Contents
-named_in n = (n.name, n.contents)
 
 -- the record of a note: the base's, or what the version writes at the key
 abbrev pub found_by : Entries → Key → Option Contents → Option Record
@@ -52,13 +49,6 @@ note_by base n = record { key = n.key; name = n.name; found = found_by base n.ke
 -- the key and the name of a note
 abbrev pub key_and_name : Note → Key × Name
 key_and_name n = (n.key, n.name)
-
-abbrev pub key_and_name_of : Noted → Key × Name
-key_and_name_of n = (n.key, n.name)
-
--- a borrowed key, and a name
-abbrev pub lent : Bor Key × Name → Key × Name
-lent p = (p.0.now, p.1)
 
 abbrev pub notes_by : Entries → List Noted → List Note
 notes_by base notes = map (note_by base) notes

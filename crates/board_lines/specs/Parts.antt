@@ -1,4 +1,5 @@
 -- The fields of a board, as data, and the board that they represent.
+use denote.Ref.{Bor}
 use Rattle.std.specs.Prelude.{◌≡◌, ℕ, zero, suc, ◌+◌, ◌-◌, ◌<◌, ◌≤◌, ◌⊎◌, ◌↔◌, List, [], ◌∷◌, length, slice_get, slice_index_or, Option, Some, None, option_map}
 use Rattle.circ_records.specs.Records.{Entries}
 use Rattle.sip_answer.specs.declared.answer.Answer.{Answer}
@@ -101,3 +102,15 @@ pub record IsKept (plan : Planned) (a : Parts) : Type 0 where
   -- the greatest clock at which a committed line changed
   pub below : (m : ℕ) → m < plan.first + a.states.counts.commits → (row_at (board_of plan.base a) m).changed ≤ a.latest
   pub attained : (a.latest ≡ 0) ⊎ ((m : ℕ) × (m < plan.first + a.states.counts.commits) × (a.latest ≡ (row_at (board_of plan.base a) m).changed))
+
+-- a line, from its state and its row, on a board that steps lead to
+pub record Stands (plan : Planned) (b : Board) (n : ℕ) (s : LineState) (k : Kept) : Type 0 where
+  pub reached : Reached plan b
+  pub there : IsLine b n
+  pub state : (row_at b n).state ≡ state_of s (notes_by plan.base k.notes) k.contents
+  pub under_way : (w : ℕ) (notes : List Note) (last : Option Contents) → (row_at b n).state ≡ Placing w notes last → IsUnderWay n (row_at b n) notes last k.course
+
+-- the state and the row of a line; None where there is no such line
+abbrev pub IsRow : {J : Type 0} → Planned → Board → ℕ → Option (LineState × Bor (LineRow J)) → Type 0
+IsRow plan b n None = IsLine b n → ⊥
+IsRow plan b n (Some p) = Stands plan b n p.0 (row_shown p.1.now)

@@ -1,11 +1,12 @@
 -- What the parts of `look` and `check` return: the line that looks, what it is to note, and what a check compares.
-use Rattle.std.specs.Prelude.{◌≡◌, ℕ, ◌≤◌, List, Option, Some, None, option_map, slice_get, length}
+use Rattle.std.specs.Prelude.{◌≡◌, ℕ, ◌≤◌, false, List, Option, Some, None, option_map, slice_get, length}
 use Rattle.circ_records.specs.declared.key.Key.{Key}
 use Rattle.sip_answer.specs.declared.answer.Answer.{Answer}
 use Rattle.read_set.specs.declared.notes.Name.{Name}
 use Rattle.read_set.specs.declared.notes.Name.TheVariants as names
 use Rattle.read_set.specs.declared.notes.Note.{Note}
-use Rattle.version_store.specs.Entries.{Sight, SeesBase, Sees, SeesSuspect}
+use Rattle.version_store.specs.Entries.{Shown, shown}
+use Rattle.version_store.specs.declared.entry.StoredEntry.{StoredEntry}
 use Rattle.version_store.specs.declared.entry.Found.{Found}
 use Rattle.board_steps.specs.Board.{Board, found, row_at}
 use Rattle.board_steps.specs.Reached.{IsNow}
@@ -13,16 +14,14 @@ use Rattle.board_steps.specs.Steps.{MayLook, Compares, Differs, stopped}
 use Rattle.board_lines.specs.Notes.{contents_at}
 use Rattle.board_lines.specs.declared.notes.PlacedName.{PlacedName}
 
--- the line for which the worker may look at the key
-abbrev pub IsLooking : Board → ℕ → Key → Option ℕ → Type 0
-IsLooking b w k None = (n : ℕ) (notes : List Note) → MayLook b w k n notes → ⊥
-IsLooking b w k (Some n) = (notes : List Note) × MayLook b w k n notes
+-- an entry with its line, from what is stored
+abbrev pub entry_shown : {J : Type 0} → ℕ × StoredEntry J → ℕ × Shown
+entry_shown p = (p.0, shown p.1)
 
--- the name and the place of what was seen
-abbrev pub IsNameOf : {J : Type 0} → Sight → PlacedName J → Type 0
-IsNameOf SeesBase n = (n.name ≡ names.Base) × (n.place ≡ None)
-IsNameOf (Sees name contents) n = (n.name ≡ name) × (option_map contents_at n.place ≡ Some contents)
-IsNameOf (SeesSuspect line) n = ⊥
+-- the name and the place of the visible entry
+abbrev pub IsNameOf : {J : Type 0} → Option (ℕ × Shown) → PlacedName J → Type 0
+IsNameOf None n = (n.name ≡ names.Base) × (n.place ≡ None)
+IsNameOf (Some p) n = (p.1.suspect ≡ false) × (n.name ≡ names.Made p.1.attempt p.0) × (option_map contents_at n.place ≡ Some p.1.contents)
 
 -- the stamp of the check, and how many notes it has compared
 abbrev pub IsCheck : Board → ℕ → ℕ → Option (ℕ × ℕ) → Type 0

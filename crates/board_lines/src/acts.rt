@@ -5,18 +5,13 @@ ghost use Rattle.std.specs.Bool.{Decides};
 ghost use Rattle.std.specs.List.Sorted.{IsStrictlySortedBy};
 ghost use Rattle.circ_records.specs.Keys.{key_cmp};
 ghost use Rattle.board_steps.specs.Board.{Row};
-ghost use Rattle.read_set.specs.Settling.{Contents};
 ghost use Rattle.version_store.specs.Entries.{line_at};
-ghost use Rattle.board_steps.specs.Steps.{IsVersion};
-ghost use Rattle.board_lines.specs.Acts.{IsAct, IsFirstApart, IsPlacedAt, places, publishes};
+ghost use Rattle.board_lines.specs.Acts.{IsAct, IsFirstApart, IsPlacedAt};
 ghost use Rattle.board_lines.specs.Courses.{ComesTo, FirstPlaced};
-ghost use Rattle.board_lines.specs.Notes.{contents_at};
 
-use crate::hand::Hand;
-use attempts::LineState;
 use circ_records::{Key, Record};
 use read_set::{PlanName, Version};
-use version_store::{EntryStore, Place};
+use version_store::EntryStore;
 
 /// What a publication does next.
 #[derive(Clone, Copy)]
@@ -27,43 +22,6 @@ pub(crate) enum PublishAct<'t> {
     Lift(&'t Key),
     /// Nothing: all is published.
     Finish,
-}
-
-/// Whether a line in this state is to be published.
-pub(crate) fn is_publishing(state: LineState) -> bool
-    ensures { result ≡ publishes state }
-{
-    match state {
-        LineState::Running { .. } | LineState::Placing { .. } => true,
-        LineState::Waiting
-        | LineState::Done { .. }
-        | LineState::Checking { .. }
-        | LineState::Committed => false,
-    }
-}
-
-/// Whether a line in this state may have entries of its current publication on the board.
-pub(crate) fn is_placing(state: LineState) -> bool
-    ensures { result ≡ places state }
-{
-    matches!(state, LineState::Placing { .. })
-}
-
-/// Whether a version is of the line and the attempt in hand.
-pub(crate) fn is_of<J: PlanName>(version: &Version<J>, hand: Hand) -> bool
-    ensures { Decides result ((version.now.line ≡ hand.line) × (version.now.attempt ≡ hand.attempt)) }
-{
-    if version.line() != hand.line {
-        return false;
-    }
-    version.attempt() == hand.attempt
-}
-
-/// Gives callers `IsVersion`, which every version has; does nothing.
-pub(crate) fn settled<J: PlanName>(place: Place<'_, J>)
-    ensures { IsVersion J.plan (contents_at place.entry) }
-{
-    let _reads = place.show().reads();
 }
 
 /// The next act of the publication of a line's version. The first `placed` writes are placed already, and aren't looked at again.

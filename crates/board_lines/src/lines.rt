@@ -1,13 +1,13 @@
 //! The lines of a board: what is stored of each, which worker has it in hand, and how work on a line begins and ends.
 
-ghost use Rattle.std.specs.Prelude.{◌≡◌, IfOk, None, max, option_copied, slice_get, unwrap_or, ◌≤◌, map, replicate};
+ghost use Rattle.std.specs.Prelude.{◌≡◌, IfOk, None, option_copied, slice_get, unwrap_or, ◌≤◌, map, replicate};
 ghost use Rattle.board_steps.specs.Reached.{Reached};
 ghost use Rattle.board_steps.specs.Steps.{opening};
 ghost use Rattle.board_steps.specs.Steps.Call.{Commit, Take};
 ghost use Rattle.board_steps.specs.declared.TheConstants.{WORKERS_MAX};
 ghost use Rattle.board_lines.specs.Hands.{AreCounts, AreNotesOf, AreWorkers, IsHand, IsInHand};
 ghost use Rattle.board_lines.specs.Replies.{Answers};
-ghost use Rattle.board_lines.specs.Parts.{no_notes, row_shown};
+ghost use Rattle.board_lines.specs.Parts.{IsRow, no_notes, row_shown};
 
 mod checking;
 mod committed;
@@ -157,7 +157,7 @@ impl<'p, 't, J: PlanName> Lines<'p, 't, J> {
         row.notes.clear(&mut self.spare);
         let changed = row.changed;
         self.attempts.commit(line);
-        self.latest = later(self.latest, changed);
+        self.latest = self.latest.max(changed);
         Reply::Committed
     }
 
@@ -188,8 +188,21 @@ impl<'p, 't, J: PlanName> Lines<'p, 't, J> {
         let Some(line) = self.in_hand(worker) else {
             return None;
         };
-        let row = &self.rows[(line - self.plan.first()) as usize];
+        let Some((_, row)) = self.row(line) else {
+            return None;
+        };
         Some(&row.notes)
+    }
+
+    /// The state of a line, and its row; None where there is no such line.
+    fn row(&self, line: u64) -> Option<(LineState, &LineRow<'t, J>)>
+        ensures { IsRow J.plan self.now line result }
+    {
+        let Some(state) = self.attempts.state(line) else {
+            return None;
+        };
+        let row = &self.rows[(line - self.plan.first()) as usize];
+        Some((state, row))
     }
 
     /// How many attempts were begun, how many of them failed, stopped or were committed, and how many are unfinished.
@@ -230,13 +243,6 @@ fn hand_at(hands: &[Option<u64>], worker: u32) -> Option<u64>
         Some(hand) => *hand,
         None => None,
     }
-}
-
-/// The later of two moments of the clock.
-fn later(a: u64, b: u64) -> u64
-    ensures { result ≡ max a b }
-{
-    if a < b { b } else { a }
 }
 
 /// Rows of lines that never ran.

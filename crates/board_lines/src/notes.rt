@@ -1,11 +1,10 @@
 //! What a line has noted while it runs.
 
-ghost use Rattle.std.specs.Prelude.{◌≡◌, ◌++◌, ◌∷◌, [], None, cond, IfOk, OnOk, OnErr, length, slice_get, map, true, false, option_copied, option_map};
+ghost use Rattle.std.specs.Prelude.{◌≡◌, ◌++◌, ◌∷◌, [], None, cond, IfOk, OnOk, OnErr, length, slice_get, map, true, false, option_map};
 ghost use Rattle.std.specs.Ordering.{eq_by_cmp};
 ghost use Rattle.circ_records.specs.Keys.{key_cmp};
 ghost use Rattle.circ_records.specs.declared.key.Key.{Key};
-ghost use Rattle.board_lines.specs.Devices.Held.{notes_in};
-ghost use Rattle.board_lines.specs.Notes.{by_place, few, is_indexed, is_key_in, is_noted, key_and_name_of, lent, named_in, note_with, noted, AreNoted, AreOnce, ArePlaced, IsPlaced};
+ghost use Rattle.board_lines.specs.Notes.{few, is_indexed, is_key_in, is_noted, note_with, noted, noted_as, AreNoted, AreOnce, ArePlaced, IsPlaced};
 
 use circ_records::Key;
 use read_set::{Name, PlanName};
@@ -178,7 +177,9 @@ impl<'t, J: PlanName> PlaceNotes<'t, J> {
         if let Some(held) = &mut self.held {
             return held.add(alloc, key, seen);
         }
-        self.held = Some(first_held(alloc, spare, key, seen)?);
+        let mut held = spare.take(alloc)?;
+        held.add(alloc, key, seen)?;
+        self.held = Some(held);
         Ok(())
     }
 
@@ -216,32 +217,15 @@ impl<'t, J: PlanName> PlaceNotes<'t, J> {
         }
     }
 
-    /// The key of the i-th note, from 0.
-    pub fn key(&self, i: usize) -> Option<&Key>
-        ensures { option_copied result ≡ option_map (λ n. n.key) (slice_get self.now i) }
+    /// The key of the i-th note, from 0, and what was seen there.
+    pub fn get(&self, i: usize) -> Option<(&Key, PlacedName<'t, J>)>
+        ensures { option_map noted_as result ≡ slice_get self.now i }
     {
-        match nth(&self.held, i) {
-            Some(note) => Some(&note.key),
-            None => None,
-        }
-    }
-
-    /// The key and the name of the i-th note, from 0.
-    pub fn named(&self, i: usize) -> Option<(&Key, Name)>
-        ensures { option_map lent result ≡ option_map key_and_name_of (slice_get self.now i) }
-    {
-        match nth(&self.held, i) {
-            Some(note) => Some((&note.key, note.seen.name)),
-            None => None,
-        }
-    }
-
-    /// The name and the place of the i-th note, from 0.
-    pub fn seen(&self, i: usize) -> Option<PlacedName<'t, J>>
-        ensures { option_map by_place result ≡ option_map named_in (slice_get self.now i) }
-    {
-        match nth(&self.held, i) {
-            Some(note) => Some(note.seen),
+        let Some(held) = &self.held else {
+            return None;
+        };
+        match held.notes.get(i) {
+            Some(note) => Some((&note.key, note.seen)),
             None => None,
         }
     }
@@ -298,24 +282,6 @@ impl<'t, J: PlanName> NoteList<'t, J> {
     }
 }
 
-/// A line's first note.
-fn first_held<'t, J: PlanName>(
-    alloc: Global,
-    spare: &mut Spare<'t, J>,
-    key: &Key,
-    seen: PlacedName<'t, J>,
-) -> Result<Box<NoteList<'t, J>>, AllocError>
-    requires { IsPlaced (note_with key.now seen) }
-    ensures noted { IfOk result (λ held. AreNoted held.value.notes.items held.value.index) }
-    ensures note { IfOk result (λ held. map noted held.value.notes.items ≡ note_with key.now seen.entry ∷ []) }
-{
-    let mut held = spare.take(alloc)?;
-    match held.add(alloc, key, seen) {
-        Ok(()) => Ok(held),
-        Err(refused) => Err(refused),
-    }
-}
-
 /// The notes that are searched one by one.
 fn first_few<'n, 't, J: PlanName>(notes: &'n [PlaceNote<'t, J>]) -> &'n [PlaceNote<'t, J>]
     ensures { result.now ≡ few notes.now }
@@ -360,17 +326,4 @@ fn enter(alloc: Global, index: &mut Option<Box<BTreeSet<Key>>>, key: &Key) -> Re
     keys.insert(own)?;
     *index = Some(Box::new(alloc, keys)?);
     Ok(())
-}
-
-/// The i-th note, from 0.
-fn nth<'n, 't, J: PlanName>(
-    held: &'n Option<Box<NoteList<'t, J>>>,
-    i: usize,
-) -> Option<&'n PlaceNote<'t, J>>
-    ensures { option_copied result ≡ slice_get (notes_in held.now) i }
-{
-    match held {
-        Some(held) => held.notes.get(i),
-        None => None,
-    }
 }

@@ -69,10 +69,7 @@ fn read_note<J: PlanName>(
     requires { i < length noted.now }
     ensures { IfOk result (λ note. Some note ≡ slice_get (notes_by plan.now.base noted.now) i) }
 {
-    let Some(key) = noted.key(i) else {
-        unreachable!()
-    };
-    let Some(seen) = noted.seen(i) else {
+    let Some((key, seen)) = noted.get(i) else {
         unreachable!()
     };
     let found = NotedRecord::new(copied(record_seen(plan, key, seen.place))?);

@@ -1,14 +1,13 @@
 //! Whether the notes of a version are those of its line.
 
-ghost use Rattle.std.specs.Prelude.{◌≡◌, Some, option_map, slice_get};
+ghost use Rattle.std.specs.Prelude.{◌≡◌, Some, slice_get};
 ghost use Rattle.std.specs.Bool.{Decides};
-ghost use Rattle.board_lines.specs.Notes.{found_by, notes_by, contents_at};
+ghost use Rattle.board_lines.specs.Notes.{notes_by};
 
 use crate::notes::PlaceNotes;
 use crate::reading::record_seen;
 use circ_records::Key;
-use read_set::{Name, Note, NotedRecord, Plan, PlanName};
-use version_store::Place;
+use read_set::{Name, Note, Plan, PlanName};
 
 /// Whether the notes of a version are those of its line: keys, names and records.
 pub(crate) fn same_notes<J: PlanName>(
@@ -33,10 +32,7 @@ pub(crate) fn same_notes<J: PlanName>(
 fn same_note<J: PlanName>(plan: &Plan, ours: &PlaceNotes<'_, J>, i: usize, theirs: &Note) -> bool
     ensures { Decides result (Some theirs.now ≡ slice_get (notes_by plan.now.base ours.now) i) }
 {
-    let Some(key) = ours.key(i) else {
-        return false;
-    };
-    let Some(seen) = ours.seen(i) else {
+    let Some((key, seen)) = ours.get(i) else {
         return false;
     };
     if !same_key(key, &theirs.key) {
@@ -45,19 +41,7 @@ fn same_note<J: PlanName>(plan: &Plan, ours: &PlaceNotes<'_, J>, i: usize, their
     if !same_name(theirs.name, seen.name) {
         return false;
     }
-    same_found(plan, key, seen.place, &theirs.found)
-}
-
-/// Whether a record is the one that was seen: the base's, or what the version at the place writes at the key.
-fn same_found<J: PlanName>(
-    plan: &Plan,
-    key: &Key,
-    place: Option<Place<'_, J>>,
-    theirs: &NotedRecord,
-) -> bool
-    ensures { Decides result (theirs.now ≡ found_by plan.now.base key.now (option_map contents_at place.entry)) }
-{
-    theirs.is_same(record_seen(plan, key, place))
+    theirs.found.is_same(record_seen(plan, key, seen.place))
 }
 
 fn same_name(a: Name, b: Name) -> bool

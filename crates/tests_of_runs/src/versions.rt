@@ -16,7 +16,7 @@ use std::marker::Brand;
 use std::process::Abort;
 use std::sync::Wait;
 use std::test::Fail;
-use version_store::{EntryStore, Found, Place, SeenEntry, VersionTable};
+use version_store::{EntryStore, Found, Place, VersionTable};
 
 /// The keys that the calls name by their numbers: a patron's, an item's and a fee's, in their order.
 fn keys_of(alloc: Global) -> Result<Vec<Key>, AllocError> {
@@ -77,12 +77,15 @@ fn agree_of<J: PlanName>(
     store.keys_of(line, count).is_none()
 }
 
-/// The name that a line sees, beside its place.
+/// The name of the entry that a line sees.
 fn seen<J: PlanName>(store: &EntryStore<'_, J>, key: &Key, line: u64) -> Found {
     match store.see(key, line) {
-        SeenEntry::Base => Found::Named(Name::Base),
-        SeenEntry::Suspect { line } => Found::Suspect { line },
-        SeenEntry::Made { name, .. } => Found::Named(name),
+        None => Found::Named(Name::Base),
+        Some((line, made)) if made.suspect => Found::Suspect { line },
+        Some((line, made)) => Found::Named(Name::Made {
+            line,
+            attempt: made.attempt,
+        }),
     }
 }
 

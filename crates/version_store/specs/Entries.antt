@@ -11,9 +11,6 @@ use Rattle.read_set.specs.declared.notes.Name.TheVariants as names
 use Rattle.version_store.specs.declared.entry.StoredEntry.{StoredEntry}
 use Rattle.version_store.specs.declared.entry.Found.{Found}
 use Rattle.version_store.specs.declared.entry.Found.TheVariants as found
-use Rattle.version_store.specs.declared.entry.SeenEntry.{SeenEntry}
-use Rattle.version_store.specs.declared.entry.SeenEntry.TheVariants as sees
-use Rattle.version_store.specs.declared.table.Place.{Place}
 
 -- an entry of a line at a key: the attempt that placed it, whether it is suspect, and what the version at its place says
 pub record Shown : Type 0 where
@@ -92,10 +89,6 @@ abbrev pub visible : (ℕ → Line) → ℕ → Key → Option (ℕ × Shown)
 visible lines zero k = None
 visible lines (suc n) k = above n (get (lines n) k) (visible lines n k)
 
--- what the version of the visible entry says, whether that entry is suspect or not; None where the base is seen
-abbrev pub contents_seen : (ℕ → Line) → ℕ → Key → Option Contents
-contents_seen lines n k = option_map (λ p. p.1.contents) (visible lines n k)
-
 -- the name of the visible entry, Base where there is none; a suspect entry equals no name
 abbrev pub found_of : Option (ℕ × Shown) → Found
 found_of None = found.Named names.Base
@@ -104,26 +97,9 @@ found_of (Some p) = if p.1.suspect then found.Suspect p.0 else found.Named (name
 abbrev pub found_at : (ℕ → Line) → ℕ → Key → Found
 found_at lines n k = found_of (visible lines n k)
 
--- what is seen: the base, what a version says under its name, or a line whose entry is suspect
-pub data Sight : Type 0 where
-  SeesBase : Sight
-  Sees : (name : Name) → (contents : Contents) → Sight
-  SeesSuspect : (line : ℕ) → Sight
-
-abbrev pub sight_of : Option (ℕ × Shown) → Sight
-sight_of None = SeesBase
-sight_of (Some p) = if p.1.suspect then SeesSuspect p.0 else Sees (names.Made p.1.attempt p.0) p.1.contents
-
-abbrev pub sight_at : (ℕ → Line) → ℕ → Key → Sight
-sight_at lines n k = sight_of (visible lines n k)
-
 -- ---- values of the code
 abbrev pub shown : {J : Type 0} → StoredEntry J → Shown
 shown e = record { attempt = e.attempt; suspect = e.suspect; contents = e.place.version.now }
-
--- what the version at a place says
-abbrev pub contents_in : {J : Type 0} → Place J → Contents
-contents_in place = place.version.now
 
 -- entries, which borrow their keys, with what they borrow
 abbrev pub keyed : {X : Type 0} → List (Bor Key × X) → List (Key × X)
@@ -139,8 +115,3 @@ line_of es = from_entries (map shown_pair es)
 abbrev pub IsNamedAt : Option (Key × Shown) → Option (Bor Key × ℕ) → Type 0
 IsNamedAt None r = r ≡ None
 IsNamedAt (Some e) r = option_map {U = Key × ℕ} (λ p. (p.0.now, p.1)) r ≡ Some (e.0, e.1.attempt)
-
-abbrev pub seen : {J : Type 0} → SeenEntry J → Sight
-seen sees.Base = SeesBase
-seen (sees.Made name place) = Sees name place.version.now
-seen (sees.Suspect line) = SeesSuspect line

@@ -24,17 +24,6 @@ impl<'t, J: PlanName> Clone for StoredEntry<'t, J> {
 
 impl<'t, J: PlanName> Copy for StoredEntry<'t, J> {}
 
-/// What a line sees at a key.
-#[derive(Drop)]
-pub enum SeenEntry<'t, J: PlanName> {
-    /// No line below has an entry: the base's record, or that there is none.
-    Base,
-    /// The record that the version at the place writes.
-    Made { name: Name, place: Place<'t, J> },
-    /// The entry of this line, which is suspect.
-    Suspect { line: u64 },
-}
-
 /// The name under which a line sees a key.
 #[derive(Clone, Copy, PartialEq, Eq)]
 pub enum Found {

@@ -13,6 +13,6 @@ mod parts;
 mod store;
 mod table;
 
-pub use entry::{Found, SeenEntry};
+pub use entry::{Found, StoredEntry};
 pub use store::EntryStore;
 pub use table::{Place, VersionTable};

@@ -120,7 +120,13 @@ impl<'t, J: PlanName> LineEntries<'t, J> {
     pub fn left(&self, attempt: u32) -> Option<&'t Key>
         ensures { MatchOption result (AllOf self.now attempt) (λ k. IsLeastLeft self.now attempt k.now) }
     {
-        left_key(&self.entries, attempt)
+        for i in 0..self.entries.len() {
+            let (key, made) = &self.entries[i];
+            if made.attempt != attempt {
+                return Some(*key);
+            }
+        }
+        None
     }
 }
 
@@ -156,18 +162,4 @@ fn mark_all<J: PlanName>(entries: &mut [Placed<'_, J>])
     for i in 0..entries.len() {
         entries[i].1.suspect = true;
     }
-}
-
-/// The least key whose entry isn't of this attempt.
-fn left_key<'t, J: PlanName>(entries: &[Placed<'t, J>], attempt: u32) -> Option<&'t Key>
-    requires { Rise (keyed entries.now) }
-    ensures { MatchOption result (AllOf (line_of (keyed entries.now)) attempt) (λ k. IsLeastLeft (line_of (keyed entries.now)) attempt k.now) }
-{
-    for i in 0..entries.len() {
-        let (key, made) = &entries[i];
-        if made.attempt != attempt {
-            return Some(*key);
-        }
-    }
-    None
 }

@@ -2,9 +2,9 @@
 
 ghost use Rattle.std.specs.Prelude.{◌≡◌, ◌^◌, ◌<◌, ℕ, OnOk, OnErr, IfOk, MatchOption, length, option_map, slice_get};
 ghost use Rattle.std.specs.FinMap as fin;
-ghost use Rattle.version_store.specs.Entries.{AllOf, IsLeastLeft, IsLine, IsNamedAt, attempt_at, found_at, line_at, no_rows, none_placed, position_of, seen, shown, shown_by, sight_at, suspected, contents_in, contents_seen, visible, with_line};
+ghost use Rattle.version_store.specs.Entries.{AllOf, IsLeastLeft, IsLine, IsNamedAt, attempt_at, found_at, line_at, no_rows, none_placed, position_of, shown, shown_by, suspected, visible, with_line};
 
-use crate::entry::{Found, SeenEntry, StoredEntry};
+use crate::entry::{Found, StoredEntry};
 use crate::index::KeyIndex;
 use crate::line::LineEntries;
 use crate::table::Place;
@@ -58,30 +58,21 @@ impl<'t, J: PlanName> EntryStore<'t, J> {
         })
     }
 
-    /// What a line sees at a key: the entry of the greatest line below it that has one, else the base.
-    pub fn see(&self, key: &Key, below: u64) -> SeenEntry<'t, J>
-        ensures { seen result ≡ sight_at (line_at self.now) below key.now }
+    /// The entry that a line sees at a key, and the line that has it: the greatest line below that has one. None where the line
+    /// sees the base.
+    pub fn see(&self, key: &Key, below: u64) -> Option<(u64, StoredEntry<'t, J>)>
+        ensures { option_map (λ p. (p.0, shown p.1)) result ≡ visible (line_at self.now) below key.now }
     {
-        let Some((line, made)) = self.latest(key, below) else {
-            return SeenEntry::Base;
-        };
-        if made.suspect {
-            return SeenEntry::Suspect { line };
-        }
-        SeenEntry::Made {
-            name: Name::Made {
-                line,
-                attempt: made.attempt,
-            },
-            place: made.place,
-        }
+        let line = self.index.latest_below(key, below)?;
+        let made = self.lines[(line - self.first) as usize].get(key)?;
+        Some((line, made))
     }
 
     /// The name of what a line sees at a key.
     pub fn name(&self, key: &Key, below: u64) -> Found
         ensures { result ≡ found_at (line_at self.now) below key.now }
     {
-        let Some((line, made)) = self.latest(key, below) else {
+        let Some((line, made)) = self.see(key, below) else {
             return Found::Named(Name::Base);
         };
         if made.suspect {
@@ -91,16 +82,6 @@ impl<'t, J: PlanName> EntryStore<'t, J> {
             line,
             attempt: made.attempt,
         })
-    }
-
-    /// The place of the entry that a line sees at a key, whether that entry is suspect or not; None where it sees the base.
-    pub fn shown_at(&self, key: &Key, below: u64) -> Option<Place<'t, J>>
-        ensures { option_map contents_in result ≡ contents_seen (line_at self.now) below key.now }
-    {
-        let Some((_line, made)) = self.latest(key, below) else {
-            return None;
-        };
-        Some(made.place)
     }
 
     /// The i-th key, from 0 and rising, at which a line has an entry, and the attempt of that entry; None past the last.
@@ -208,15 +189,6 @@ impl<'t, J: PlanName> EntryStore<'t, J> {
             return None;
         }
         Some(position)
-    }
-
-    /// The visible entry: that of the greatest line below this one that has one at the key.
-    fn latest(&self, key: &Key, below: u64) -> Option<(u64, StoredEntry<'t, J>)>
-        ensures { option_map (λ p. (p.0, shown p.1)) result ≡ visible (line_at self.now) below key.now }
-    {
-        let line = self.index.latest_below(key, below)?;
-        let made = self.lines[(line - self.first) as usize].get(key)?;
-        Some((line, made))
     }
 }
 

@@ -73,7 +73,12 @@ impl<J: PlanName> VersionTable<J> {
         ensures put { IfOk result (λ p. p.version.now ≡ version) }
         ensures back { IfErr result (λ v. v ≡ version) }
     {
-        let Some(shelf) = shelf_of(&self.shelves, version.line()) else {
+        // one line after the other gets the next shelf
+        let count = self.shelves.len() as u64;
+        if count == 0 {
+            return Err(version);
+        }
+        let Some(shelf) = self.shelves.get((version.line() % count) as usize) else {
             return Err(version);
         };
         let boxed = match Box::new(self.alloc, version) {
@@ -87,14 +92,6 @@ impl<J: PlanName> VersionTable<J> {
             Err(boxed) => Err(Box::into_inner(boxed)),
         }
     }
-}
-
-/// The shelf of a line's versions: one line after the other gets the next shelf.
-fn shelf_of<J: PlanName>(shelves: &[LineVersions<J>], line: u64) -> Option<&LineVersions<J>> {
-    if shelves.is_empty() {
-        return None;
-    }
-    shelves.get((line % shelves.len() as u64) as usize)
 }
 
 impl<'t, J: PlanName> Place<'t, J> {

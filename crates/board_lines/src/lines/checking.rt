@@ -75,14 +75,16 @@ impl<'p, 't, J: PlanName> Lines<'p, 't, J> {
         ensures names { result ≡ option_map (names_now self.now line) (option_map key_and_name (slice_get (notes_of (row_at self.now line).state) i)) }
         ensures few { IfSome result (λ names. i + 1 < 2 ^ 64) }
     {
-        let row = &self.rows[(line - self.plan.first()) as usize];
+        let Some((_, row)) = self.row(line) else {
+            return None;
+        };
         if i >= row.notes.len() as u64 {
             return None;
         }
-        let Some((key, noted)) = row.notes.named(i as usize) else {
+        let Some((key, seen)) = row.notes.get(i as usize) else {
             return None;
         };
-        Some((noted, self.entries.name(key, line)))
+        Some((seen.name, self.entries.name(key, line)))
     }
 
     /// All names matched: the line's state is `Done` again, with the stamp of this check.

@@ -22,13 +22,13 @@ impl<'p, 't, J: PlanName> Lines<'p, 't, J> {
     pub fn answer(&self, line: u64) -> Option<&'t Answer>
         ensures { option_copied result ≡ committed_answer (row_at self.now line).state }
     {
-        let Some(state) = self.attempts.state(line) else {
+        let Some((state, row)) = self.row(line) else {
             return None;
         };
         let LineState::Committed = state else {
             return None;
         };
-        answer_at(self.rows[(line - self.plan.first()) as usize].version)
+        answer_at(row.version)
     }
 
     /// Which attempt at a line was committed, counted from 0.
@@ -55,10 +55,10 @@ impl<'p, 't, J: PlanName> Lines<'p, 't, J> {
         ensures { option_copied result ≡ value_at J.plan (row_at self.now) (self.now.first + length self.now.rows) key.now }
     {
         let past = self.plan.numbers().end;
-        let Some(place) = self.entries.shown_at(key, past) else {
+        let Some((_, made)) = self.entries.see(key, past) else {
             return self.plan.base(key);
         };
-        written(place.show().writes(), key)
+        written(made.place.show().writes(), key)
     }
 }
 

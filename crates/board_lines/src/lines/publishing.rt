@@ -1,23 +1,21 @@
 //! What a line writes is published, act by act.
 
-ghost use Rattle.std.specs.Prelude.{◌≡◌, Some, None, option_map, ℕ, suc, OnOk, OnErr, List, Option};
+ghost use Rattle.std.specs.Prelude.{◌≡◌, None, option_map, ℕ, suc, OnOk, OnErr, List};
 ghost use Rattle.std.specs.Bool.{Decides};
-ghost use Rattle.board_steps.specs.Board.{holder, row_at, IsLine};
+ghost use Rattle.board_steps.specs.Board.{row_at, IsLine};
 ghost use Rattle.board_steps.specs.Steps.{AllPlaced, Fits, HasRoom, IsNextLeft, IsNextWrite, IsVersion, MayPublish, NoneLeft, lifted, placed, put_row, with_state};
 ghost use Rattle.board_steps.specs.Steps.Call.{Publish};
-ghost use Rattle.board_lines.specs.Notes.{notes_by, contents_at};
+ghost use Rattle.board_lines.specs.Notes.{contents_at};
 ghost use Rattle.board_lines.specs.Replies.{Answers};
 ghost use Rattle.circ_records.specs.declared.record.Record.{Record};
-ghost use Rattle.read_set.specs.Settling.{Contents};
 ghost use Rattle.read_set.specs.declared.notes.Note.{Note};
-ghost use Rattle.board_steps.specs.Board.State.{Done, Placing};
-ghost use Rattle.board_lines.specs.Acts.{IsAct, IsPlacing, IsToPublish, notes_at};
-ghost use Rattle.board_lines.specs.Courses.{ComesTo, FirstPlaced, FirstPlacedBut, PublishesMore, UnderWay};
+ghost use Rattle.board_steps.specs.Board.State.{Done};
+ghost use Rattle.board_lines.specs.Acts.{IsPlacing, IsToPublish, notes_at};
+ghost use Rattle.board_lines.specs.Courses.{FirstPlaced, FirstPlacedBut, IsUnderWayOf, PublishesMore};
 
 use super::Lines;
-use crate::acts::{PublishAct, act_of, is_of, is_placing, is_publishing, settled};
+use crate::acts::{PublishAct, act_of};
 use crate::hand::Hand;
-use crate::notes::PlaceNotes;
 use crate::reply::Reply;
 use crate::row::LineProgress;
 use crate::same::same_notes;
@@ -47,23 +45,32 @@ impl<'p, 't, J: PlanName> Lines<'p, 't, J> {
     pub fn publish_more(&mut self, worker: u32) -> Option<Reply<'t, J>>
         ensures { PublishesMore J.plan self.old worker result self.new }
     {
-        let Some(place) = self.placing(worker) else {
+        let Some((line, place, count)) = self.under_way(worker) else {
             return None;
         };
+        // a version says that its notes determine what it writes
+        let _reads = place.show().reads();
+        Some(self.next_act(worker, line, place, count))
+    }
+
+    /// The worker's line in hand, where it is being published, with the version of that publication. The first `count` writes
+    /// of it are placed.
+    fn under_way(&self, worker: u32) -> Option<(u64, Place<'t, J>, usize)>
+        ensures { IsUnderWayOf self.now worker result }
+    {
         let Some(line) = self.in_hand(worker) else {
             return None;
         };
-        let course = self.course(worker, line);
-        settled(place);
-        Some(self.next_act(worker, line, place, course.placed))
-    }
-
-    /// How far the publication of the worker's line in hand has come, if it is being published.
-    fn course(&self, worker: u32, line: u64) -> LineProgress
-        requires { holder (row_at self.now line).state ≡ Some worker }
-        ensures { (n : ℕ) (notes : List Note) (v : Contents) → (row_at self.now n).state ≡ Placing worker notes (Some v) → (n ≡ line) × UnderWay line (row_at self.now line) notes v result }
-    {
-        self.rows[(line - self.plan.first()) as usize].course
+        let Some((state, row)) = self.row(line) else {
+            return None;
+        };
+        let LineState::Placing { .. } = state else {
+            return None;
+        };
+        let Some(place) = row.version else {
+            return None;
+        };
+        Some((line, place, row.course.placed))
     }
 
     /// Does the next act of the publication of the version at a place, which fits. Its first `count` writes are placed.
@@ -80,12 +87,12 @@ impl<'p, 't, J: PlanName> Lines<'p, 't, J> {
         requires placed { FirstPlaced (row_at self.old line).entries (contents_at place).attempt (contents_at place).writes count }
         ensures { Answers J.plan self.old (Publish worker (contents_at place.entry)) result self.new }
     {
-        let act = self.act(line, place, count);
+        let act = act_of(&self.entries, line, place.show(), count);
         if let PublishAct::Finish = act {
             self.finish(worker, line, place);
             return Reply::Whole;
         }
-        if !self.has_room() {
+        if self.clock == u64::MAX {
             return Reply::ClockSpent;
         }
         if let PublishAct::Lift(key) = act {
@@ -105,24 +112,10 @@ impl<'p, 't, J: PlanName> Lines<'p, 't, J> {
     pub fn placing(&self, worker: u32) -> Option<Place<'t, J>>
         ensures { IsPlacing self.now worker (option_map contents_at result) }
     {
-        let Some(hand) = self.hand(worker) else {
+        let Some((_, place, _)) = self.under_way(worker) else {
             return None;
         };
-        let Some(state) = self.attempts.state(hand.line) else {
-            return None;
-        };
-        if !is_placing(state) {
-            return None;
-        }
-        self.version(hand.line)
-    }
-
-    /// The version of the last publication of a line.
-    fn version(&self, line: u64) -> Option<Place<'t, J>>
-        requires { IsLine self.now line }
-        ensures { (w : ℕ) (notes : List Note) (last : Option Contents) → (row_at self.now line).state ≡ Placing w notes last → option_map contents_at result ≡ last }
-    {
-        self.rows[(line - self.plan.first()) as usize].version
+        Some(place)
     }
 
     /// The worker's line in hand with its attempt, where it is to be published: it runs, or is being published.
@@ -132,12 +125,15 @@ impl<'p, 't, J: PlanName> Lines<'p, 't, J> {
         let Some(hand) = self.hand(worker) else {
             return None;
         };
-        let Some(state) = self.attempts.state(hand.line) else {
+        let Some((state, _)) = self.row(hand.line) else {
             return None;
         };
-        if !is_publishing(state) {
-            return None;
+        if let LineState::Running { .. } = state {
+            return Some(hand);
         }
+        let LineState::Placing { .. } = state else {
+            return None;
+        };
         Some(hand)
     }
 
@@ -150,35 +146,16 @@ impl<'p, 't, J: PlanName> Lines<'p, 't, J> {
     {
         let version = place.show();
         let reads = version.reads();
-        if !is_of(version, hand) {
+        if version.line() != hand.line {
             return false;
         }
-        same_notes(self.plan, self.noted(hand.line), reads.as_slice())
-    }
-
-    /// What a line that is to be published has noted.
-    fn noted(&self, line: u64) -> &PlaceNotes<'t, J>
-        requires { IsLine self.now line }
-        ensures { (w : ℕ) (notes : List Note) → MayPublish self.now w line notes → notes ≡ notes_by J.plan.base result.now }
-    {
-        &self.rows[(line - self.plan.first()) as usize].notes
-    }
-
-    /// The next act of the publication of the version at a place. Its first `count` writes are placed.
-    fn act(&self, line: u64, place: Place<'t, J>, count: usize) -> PublishAct<'t>
-        requires there { IsLine self.now line }
-        requires placed { FirstPlaced (row_at self.now line).entries (contents_at place).attempt (contents_at place).writes count }
-        ensures act { IsAct (row_at self.now line) (contents_at place.entry) result }
-        ensures comes { ComesTo (row_at self.now line).entries (contents_at place.entry) result }
-    {
-        act_of(&self.entries, line, place.show(), count)
-    }
-
-    /// Whether the clock can be raised.
-    fn has_room(&self) -> bool
-        ensures { Decides result (HasRoom self.now) }
-    {
-        self.clock < u64::MAX
+        if version.attempt() != hand.attempt {
+            return false;
+        }
+        let Some((_, row)) = self.row(hand.line) else {
+            return false;
+        };
+        same_notes(self.plan, &row.notes, reads.as_slice())
     }
 
     /// Places the next write, after which the first `count` are placed. Out of memory, nothing changes.

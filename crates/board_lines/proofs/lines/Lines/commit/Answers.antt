@@ -1,5 +1,5 @@
 use Rattle.std.proofs.Common.{◌≡◌, ◌-◌, ◌<◌, ◌≢◌, Some, List, [], map, length, set, get_or, max, refl, sym, ap, subst, ◌∙◌, inl, arith, rules}
-use Rattle.std.proofs.lemmas.List.{get_or-map, length-map, map-set}
+use Rattle.std.proofs.lemmas.List.{length-map}
 use Rattle.read_set.specs.Plans.{Planned}
 use Rattle.board_steps.specs.Board.{Board, IsLine}
 use Rattle.board_lines.specs.Notes.{Noted}
@@ -8,7 +8,7 @@ use Rattle.board_lines.specs.Parts.{Kept, Parts, IsKept, board_of, row_shown, no
 use Rattle.attempts.specs.declared.state.LineState.TheVariants as states
 use Rattle.board_steps.specs.Steps.{CommitStep}
 use Rattle.board_steps.specs.Steps.Reply.{Idle, Later, Commits}
-use Rattle.board_lines.proofs.Boards.{parts_of, place_of}
+use Rattle.board_lines.proofs.Boards.{parts_of, place_of, row_read, row_set}
 use Rattle.board_lines.proofs.Moves.{state_none}
 use Rattle.board_lines.proofs.Commits.{line_there, idle_committed, later_line, later_state, later_change, commit_returns, commit_kept}
 use Rattle.board_lines.proofs.lines.Lines.commit.Goals as goal
@@ -85,12 +85,9 @@ index_mut-row-requires g c =
     let plan = g.J.PlanName.plan in
     let parts : Parts = parts_of a in
     let kept : IsKept plan parts = c.self.invariant.1 in
-    let is : board_of plan.base parts ≡ c.args.self.now = ap (λ (x : Planned). board_of x.base parts) (sym c.self.invariant.0) ∙ c.self.view_is in
     let f : c.first.result ≡ parts.states.first = c.first.ensures ∙ ap (λ (x : Planned). x.first) c.self.invariant.0 ∙ sym kept.reached.first in
     let there : IsLine (board_of plan.base parts) c.args.line = line_there plan parts kept c.args.line c.in-Some.state (sym c.in-Some.ensures) in
-    let l : c.args.line - parts.states.first < length (map row_shown a.rows.items) = place_of plan.base parts c.args.line there in
-    let m : length (map row_shown a.rows.items) ≡ length a.rows.items = length-map a.rows.items row_shown in
-    let h : c.args.line - c.first.result < length a.rows.items = omega (arith, l, m, f) in
+    let h : c.args.line - c.first.result < length a.rows.items = omega (arith, place_of plan.base parts c.args.line there, length-map a.rows.items row_shown, f) in
     search (rules, h)
 
 pub invariant_of-self : goal.invariant_of-self
@@ -99,27 +96,21 @@ invariant_of-self g c =
     let plan = g.J.PlanName.plan in
     let parts : Parts = parts_of a in
     let kept : IsKept plan parts = c.self.invariant.1 in
-    let is : board_of plan.base parts ≡ c.args.self.now = ap (λ (x : Planned). board_of x.base parts) (sym c.self.invariant.0) ∙ c.self.view_is in
     let spot = c.index_mut-row.result.now in
     let row : LineRow g.row.J.Denot = record { notes = c.clear.new.self; version = spot.version; course = spot.course; changed = spot.changed } in
     let k : Kept = row_shown row in
-    let q : Parts = record { states = c.commit.new.self; store = a.entries; rows = map row_shown (set a.rows.items (c.args.line - c.first.result) row); hands = a.hands.items; clock = a.clock; latest = c.later-self-inside.result } in
+    let q : Parts = record { states = c.commit.new.self; store = a.entries; rows = map row_shown (set a.rows.items (c.args.line - c.first.result) row); hands = a.hands.items; clock = a.clock; latest = c.max-self-inside.result } in
     let f : c.first.result ≡ parts.states.first = c.first.ensures ∙ ap (λ (x : Planned). x.first) c.self.invariant.0 ∙ sym kept.reached.first in
     let there : IsLine (board_of plan.base parts) c.args.line = line_there plan parts kept c.args.line c.in-Some.state (sym c.in-Some.ensures) in
-    let l : c.args.line - parts.states.first < length (map row_shown a.rows.items) = place_of plan.base parts c.args.line there in
-    let m : length (map row_shown a.rows.items) ≡ length a.rows.items = length-map a.rows.items row_shown in
     let done : c.in-Some.state ≡ states.Done (Some c.in-Some-stamp.stamp) = c.in-Done.is ∙ ap states.Done c.in-Some-stamp.is in
     let least : c.args.line - parts.states.first ≡ parts.states.counts.commits = ap (λ x. c.args.line - x) (sym f) ∙ c.if-position-counts.false ∙ ap (λ x. x.commits) c.counts.ensures.value in
-    let was : get_or (map row_shown a.rows.items) (c.args.line - parts.states.first) no_notes ≡ row_shown spot =
-    get_or-map row_shown a.rows.items (c.args.line - parts.states.first) spot no_notes (omega (arith, l, m))
-    ∙ ap row_shown (sym (c.index_mut-row.ensures.value ∙ ap (λ x. get_or a.rows.items (c.args.line - x) spot) f)) in
-    let rows_is : q.rows ≡ set parts.rows (c.args.line - parts.states.first) k =
-    map-set row_shown a.rows.items (c.args.line - c.first.result) row ∙ ap (λ x. set parts.rows (c.args.line - x) k) f in
+    let was = row_read a.rows.items c.args.line c.first.result parts.states.first spot f (place_of plan.base parts c.args.line there) c.index_mut-row.ensures.value in
+    let rows_is = row_set a.rows.items c.args.line c.first.result parts.states.first row f in
     let k_is : k ≡ record { notes = []; contents = (get_or parts.rows (c.args.line - parts.states.first) no_notes).contents; course = (get_or parts.rows (c.args.line - parts.states.first) no_notes).course; changed = (get_or parts.rows (c.args.line - parts.states.first) no_notes).changed } =
     ap (λ (x : List Noted). record { notes = x; contents = (row_shown spot).contents; course = spot.course; changed = spot.changed }) c.clear.ensures
     ∙ ap (λ (y : Kept). record { notes = []; contents = y.contents; course = y.course; changed = y.changed }) (sym was) in
     let latest : q.latest ≡ max parts.latest (get_or parts.rows (c.args.line - parts.states.first) no_notes).changed =
-    c.later-self-inside.ensures ∙ ap (λ (x : Kept). max a.latest x.changed) (sym was) in (
+    c.max-self-inside.ensures ∙ ap (λ (x : Kept). max a.latest x.changed) (sym was) in (
       c.self.invariant.0,
       commit_kept plan parts kept c.args.line c.in-Some.state (sym c.in-Some.ensures) c.in-Some-stamp.stamp done least c.if-stamp-self.false q k c.commit.ensures refl rows_is k_is refl refl latest,
     )
@@ -134,23 +125,18 @@ returns g c =
     let spot = c.index_mut-row.result.now in
     let row : LineRow g.row.J.Denot = record { notes = c.clear.new.self; version = spot.version; course = spot.course; changed = spot.changed } in
     let k : Kept = row_shown row in
-    let q : Parts = record { states = c.commit.new.self; store = a.entries; rows = map row_shown (set a.rows.items (c.args.line - c.first.result) row); hands = a.hands.items; clock = a.clock; latest = c.later-self-inside.result } in
+    let q : Parts = record { states = c.commit.new.self; store = a.entries; rows = map row_shown (set a.rows.items (c.args.line - c.first.result) row); hands = a.hands.items; clock = a.clock; latest = c.max-self-inside.result } in
     let f : c.first.result ≡ parts.states.first = c.first.ensures ∙ ap (λ (x : Planned). x.first) c.self.invariant.0 ∙ sym kept.reached.first in
     let there : IsLine (board_of plan.base parts) c.args.line = line_there plan parts kept c.args.line c.in-Some.state (sym c.in-Some.ensures) in
-    let l : c.args.line - parts.states.first < length (map row_shown a.rows.items) = place_of plan.base parts c.args.line there in
-    let m : length (map row_shown a.rows.items) ≡ length a.rows.items = length-map a.rows.items row_shown in
     let done : c.in-Some.state ≡ states.Done (Some c.in-Some-stamp.stamp) = c.in-Done.is ∙ ap states.Done c.in-Some-stamp.is in
     let least : c.args.line - parts.states.first ≡ parts.states.counts.commits = ap (λ x. c.args.line - x) (sym f) ∙ c.if-position-counts.false ∙ ap (λ x. x.commits) c.counts.ensures.value in
-    let was : get_or (map row_shown a.rows.items) (c.args.line - parts.states.first) no_notes ≡ row_shown spot =
-    get_or-map row_shown a.rows.items (c.args.line - parts.states.first) spot no_notes (omega (arith, l, m))
-    ∙ ap row_shown (sym (c.index_mut-row.ensures.value ∙ ap (λ x. get_or a.rows.items (c.args.line - x) spot) f)) in
-    let rows_is : q.rows ≡ set parts.rows (c.args.line - parts.states.first) k =
-    map-set row_shown a.rows.items (c.args.line - c.first.result) row ∙ ap (λ x. set parts.rows (c.args.line - x) k) f in
+    let was = row_read a.rows.items c.args.line c.first.result parts.states.first spot f (place_of plan.base parts c.args.line there) c.index_mut-row.ensures.value in
+    let rows_is = row_set a.rows.items c.args.line c.first.result parts.states.first row f in
     let k_is : k ≡ record { notes = []; contents = (get_or parts.rows (c.args.line - parts.states.first) no_notes).contents; course = (get_or parts.rows (c.args.line - parts.states.first) no_notes).course; changed = (get_or parts.rows (c.args.line - parts.states.first) no_notes).changed } =
     ap (λ (x : List Noted). record { notes = x; contents = (row_shown spot).contents; course = spot.course; changed = spot.changed }) c.clear.ensures
     ∙ ap (λ (y : Kept). record { notes = []; contents = y.contents; course = y.course; changed = y.changed }) (sym was) in
     let latest : q.latest ≡ max parts.latest (get_or parts.rows (c.args.line - parts.states.first) no_notes).changed =
-    c.later-self-inside.ensures ∙ ap (λ (x : Kept). max a.latest x.changed) (sym was) in
+    c.max-self-inside.ensures ∙ ap (λ (x : Kept). max a.latest x.changed) (sym was) in
     let new : board_of plan.base q ≡ board_of a.plan.now.base q = ap (λ (x : Planned). board_of x.base q) (sym c.self.invariant.0) in
     subst (λ (b : Board). CommitStep b c.args.line Commits (board_of a.plan.now.base q)) is
     (subst (λ (b : Board). CommitStep (board_of plan.base parts) c.args.line Commits b) new

@@ -1,5 +1,5 @@
 use Rattle.std.proofs.Common.{◌≡◌, ◌-◌, ◌<◌, Some, None, map, set, length, get_or, refl, sym, ap, subst, ◌∙◌, arith, rules}
-use Rattle.std.proofs.lemmas.List.{get_or-map, length-map, map-set}
+use Rattle.std.proofs.lemmas.List.{length-map}
 use Rattle.std.proofs.lemmas.Option.{slice_get_within}
 use Rattle.read_set.specs.Settling.{Contents}
 use Rattle.board_steps.specs.Steps.{MayPublish, Fits, AllPlaced, NoneLeft, put_row, with_state}
@@ -7,7 +7,7 @@ use Rattle.board_steps.specs.Board.State.{Done}
 use Rattle.board_lines.specs.declared.row.LineRow.{LineRow}
 use Rattle.board_lines.specs.Acts.{notes_at}
 use Rattle.board_lines.specs.Parts.{Kept, no_notes}
-use Rattle.board_lines.proofs.Boards.{parts_of, place_of}
+use Rattle.board_lines.proofs.Boards.{parts_of, place_of, row_read, row_set}
 use Rattle.board_lines.proofs.Publications.{act_line, act_held, live_there, done_board, done_kept}
 use Rattle.read_set.specs.Plans.{Planned}
 use Rattle.board_steps.specs.Board.{Board, IsLine, row_at}
@@ -25,7 +25,6 @@ go_on-requires-clause-old g c =
     let w = c.args.worker in
     let v : Contents = c.args.place.version.now in
     let may : MayPublish (board_of plan.base parts) w n (notes_at (board_of plan.base parts) n) = subst (λ (b : Board). MayPublish b w n (notes_at b n)) (sym is) c.requires.may in
-    let fits : Fits (board_of plan.base parts) n (notes_at (board_of plan.base parts) n) v = subst (λ (b : Board). Fits b n (notes_at b n) v) (sym is) c.requires.fits in
     let there : IsLine (board_of plan.base parts) n = act_line plan parts kept w n (notes_at (board_of plan.base parts) n) may v in
     live_there plan parts kept n there w (notes_at (board_of plan.base parts) n) may
 
@@ -40,7 +39,6 @@ overflow_sub-line g c =
     let w = c.args.worker in
     let v : Contents = c.args.place.version.now in
     let may : MayPublish (board_of plan.base parts) w n (notes_at (board_of plan.base parts) n) = subst (λ (b : Board). MayPublish b w n (notes_at b n)) (sym is) c.requires.may in
-    let fits : Fits (board_of plan.base parts) n (notes_at (board_of plan.base parts) n) v = subst (λ (b : Board). Fits b n (notes_at b n) v) (sym is) c.requires.fits in
     let there : IsLine (board_of plan.base parts) n = act_line plan parts kept w n (notes_at (board_of plan.base parts) n) may v in
     let f : c.first.result ≡ parts.states.first = c.first.ensures ∙ ap (λ (x : Planned). x.first) c.self.invariant.0 ∙ sym kept.reached.first in
     omega (arith, there.0, f)
@@ -56,12 +54,9 @@ index_mut-row-requires g c =
     let w = c.args.worker in
     let v : Contents = c.args.place.version.now in
     let may : MayPublish (board_of plan.base parts) w n (notes_at (board_of plan.base parts) n) = subst (λ (b : Board). MayPublish b w n (notes_at b n)) (sym is) c.requires.may in
-    let fits : Fits (board_of plan.base parts) n (notes_at (board_of plan.base parts) n) v = subst (λ (b : Board). Fits b n (notes_at b n) v) (sym is) c.requires.fits in
     let there : IsLine (board_of plan.base parts) n = act_line plan parts kept w n (notes_at (board_of plan.base parts) n) may v in
     let f : c.first.result ≡ parts.states.first = c.first.ensures ∙ ap (λ (x : Planned). x.first) c.self.invariant.0 ∙ sym kept.reached.first in
-    let l : n - parts.states.first < length (map row_shown a.rows.items) = place_of plan.base parts n there in
-    let m : length (map row_shown a.rows.items) ≡ length a.rows.items = length-map a.rows.items row_shown in
-    let h : n - c.first.result < length a.rows.items = omega (arith, l, m, f) in
+    let h : n - c.first.result < length a.rows.items = omega (arith, place_of plan.base parts n there, length-map a.rows.items row_shown, f) in
     search (rules, h)
 
 pub index_mut-requires : goal.index_mut-requires
@@ -75,8 +70,6 @@ index_mut-requires g c =
     let w = c.args.worker in
     let v : Contents = c.args.place.version.now in
     let may : MayPublish (board_of plan.base parts) w n (notes_at (board_of plan.base parts) n) = subst (λ (b : Board). MayPublish b w n (notes_at b n)) (sym is) c.requires.may in
-    let fits : Fits (board_of plan.base parts) n (notes_at (board_of plan.base parts) n) v = subst (λ (b : Board). Fits b n (notes_at b n) v) (sym is) c.requires.fits in
-    let there : IsLine (board_of plan.base parts) n = act_line plan parts kept w n (notes_at (board_of plan.base parts) n) may v in
     let h = slice_get_within a.hands.items w (Some n) ((kept.hand w n).1 (act_held plan parts kept w n (notes_at (board_of plan.base parts) n) may v)) in
     search (rules, h)
 
@@ -105,13 +98,8 @@ invariant_of-self g c =
       clock = a.clock;
       latest = a.latest;
     } in
-    let l : n - parts.states.first < length (map row_shown a.rows.items) = place_of plan.base parts n there in
-    let m : length (map row_shown a.rows.items) ≡ length a.rows.items = length-map a.rows.items row_shown in
-    let was : get_or (map row_shown a.rows.items) (n - parts.states.first) no_notes ≡ row_shown c.index_mut-row.result.now =
-    get_or-map row_shown a.rows.items (n - parts.states.first) c.index_mut-row.result.now no_notes (omega (arith, l, m))
-    ∙ ap row_shown (sym (c.index_mut-row.ensures.value ∙ ap (λ x. get_or a.rows.items (n - x) c.index_mut-row.result.now) f)) in
-    let rows_is : q.rows ≡ set parts.rows (n - parts.states.first) k =
-    map-set row_shown a.rows.items (n - c.first.result) row ∙ ap (λ x. set parts.rows (n - x) k) f in
+    let was = row_read a.rows.items n c.first.result parts.states.first c.index_mut-row.result.now f (place_of plan.base parts n there) c.index_mut-row.ensures.value in
+    let rows_is = row_set a.rows.items n c.first.result parts.states.first row f in
     let k_is : k ≡ record { notes = (get_or parts.rows (n - parts.states.first) no_notes).notes; contents = Some v; course = (get_or parts.rows (n - parts.states.first) no_notes).course; changed = (get_or parts.rows (n - parts.states.first) no_notes).changed } =
     ap (λ (y : Kept). record { notes = y.notes; contents = Some v; course = y.course; changed = y.changed }) (sym was) in
     let all : AllPlaced (row_at (board_of plan.base parts) n) v = subst (λ (b : Board). AllPlaced (row_at b n) v) (sym is) c.requires.all in
@@ -129,7 +117,6 @@ returns g c =
     let w = c.args.worker in
     let v : Contents = c.args.place.version.now in
     let may : MayPublish (board_of plan.base parts) w n (notes_at (board_of plan.base parts) n) = subst (λ (b : Board). MayPublish b w n (notes_at b n)) (sym is) c.requires.may in
-    let fits : Fits (board_of plan.base parts) n (notes_at (board_of plan.base parts) n) v = subst (λ (b : Board). Fits b n (notes_at b n) v) (sym is) c.requires.fits in
     let there : IsLine (board_of plan.base parts) n = act_line plan parts kept w n (notes_at (board_of plan.base parts) n) may v in
     let f : c.first.result ≡ parts.states.first = c.first.ensures ∙ ap (λ (x : Planned). x.first) c.self.invariant.0 ∙ sym kept.reached.first in
     let spot = c.index_mut-row.result.now in
@@ -143,16 +130,9 @@ returns g c =
       clock = a.clock;
       latest = a.latest;
     } in
-    let l : n - parts.states.first < length (map row_shown a.rows.items) = place_of plan.base parts n there in
-    let m : length (map row_shown a.rows.items) ≡ length a.rows.items = length-map a.rows.items row_shown in
-    let was : get_or (map row_shown a.rows.items) (n - parts.states.first) no_notes ≡ row_shown c.index_mut-row.result.now =
-    get_or-map row_shown a.rows.items (n - parts.states.first) c.index_mut-row.result.now no_notes (omega (arith, l, m))
-    ∙ ap row_shown (sym (c.index_mut-row.ensures.value ∙ ap (λ x. get_or a.rows.items (n - x) c.index_mut-row.result.now) f)) in
-    let rows_is : q.rows ≡ set parts.rows (n - parts.states.first) k =
-    map-set row_shown a.rows.items (n - c.first.result) row ∙ ap (λ x. set parts.rows (n - x) k) f in
+    let was = row_read a.rows.items n c.first.result parts.states.first c.index_mut-row.result.now f (place_of plan.base parts n there) c.index_mut-row.ensures.value in
+    let rows_is = row_set a.rows.items n c.first.result parts.states.first row f in
     let k_is : k ≡ record { notes = (get_or parts.rows (n - parts.states.first) no_notes).notes; contents = Some v; course = (get_or parts.rows (n - parts.states.first) no_notes).course; changed = (get_or parts.rows (n - parts.states.first) no_notes).changed } =
     ap (λ (y : Kept). record { notes = y.notes; contents = Some v; course = y.course; changed = y.changed }) (sym was) in
-    let all : AllPlaced (row_at (board_of plan.base parts) n) v = subst (λ (b : Board). AllPlaced (row_at b n) v) (sym is) c.requires.all in
-    let none : NoneLeft (row_at (board_of plan.base parts) n) v = subst (λ (b : Board). NoneLeft (row_at b n) v) (sym is) c.requires.none in
     subst (λ (b : Board). board_of a.plan.now.base q ≡ put_row b n (with_state (row_at b n) (Done (notes_at b n) v.answer None))) is
     (ap (λ (x : Planned). board_of x.base q) c.self.invariant.0 ∙ done_board plan parts kept w n (notes_at (board_of plan.base parts) n) may v q k c.go_on.ensures refl rows_is k_is refl refl refl)

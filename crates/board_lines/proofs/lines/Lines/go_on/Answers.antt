@@ -1,12 +1,12 @@
 use Rattle.std.proofs.Common.{◌≡◌, ◌<◌, Some, map, set, length, refl, sym, ap, subst, ◌∙◌, rules}
 use Rattle.read_set.specs.Plans.{Planned}
 use Rattle.board_steps.specs.Board.{Board}
+use Rattle.board_steps.specs.Steps.Reply.{Same as TheSame}
 use Rattle.board_lines.specs.Parts.{Parts, IsKept, board_of, row_shown}
 use Rattle.board_lines.proofs.Boards.{parts_of}
 use Rattle.board_lines.proofs.Rows.{live_stands}
 use Rattle.board_lines.specs.Sights.{IsSame}
 use Rattle.board_steps.specs.Steps.{CheckStep}
-use Rattle.board_steps.specs.Steps.Reply.{Same as TheSame}
 use Rattle.board_lines.proofs.Checks.{check_live, check_line, check_within, same_returns, same_kept}
 use Rattle.board_lines.proofs.lines.Lines.go_on.Goals as goal
 

@@ -1,15 +1,14 @@
 use Rattle.std.proofs.Common.{◌≡◌, ◌-◌, ◌+◌, ◌<◌, Some, map, set, length, get_or, refl, sym, ap, subst, ◌∙◌, arith, rules}
 use Rattle.std.specs.FinMap.{remove}
-use Rattle.std.proofs.lemmas.List.{get_or-map, length-map, map-set}
+use Rattle.std.proofs.lemmas.List.{length-map}
 use Rattle.read_set.specs.Settling.{Contents}
 use Rattle.version_store.specs.Entries as store
-use Rattle.version_store.specs.Entries.{shown_by}
 use Rattle.board_steps.specs.Steps.{MayPublish, Fits, AllPlaced, IsNextLeft, HasRoom, lifted}
 use Rattle.board_lines.specs.declared.row.LineProgress.{LineProgress}
 use Rattle.board_lines.specs.declared.row.LineRow.{LineRow}
 use Rattle.board_lines.specs.Acts.{notes_at}
 use Rattle.board_lines.specs.Parts.{Kept, no_notes, Parts, IsKept, board_of, row_shown}
-use Rattle.board_lines.proofs.Boards.{parts_of, place_of}
+use Rattle.board_lines.proofs.Boards.{parts_of, place_of, row_read, row_set}
 use Rattle.std.specs.List.Sorted.{IsStrictlySortedBy}
 use Rattle.circ_records.specs.Keys.{key_cmp}
 use Rattle.version_store.proofs.Walks.{Rising}
@@ -30,7 +29,6 @@ go_on-requires-clause-old g c =
     let w = c.args.worker in
     let v : Contents = c.args.place.version.now in
     let may : MayPublish (board_of plan.base parts) w n (notes_at (board_of plan.base parts) n) = subst (λ (b : Board). MayPublish b w n (notes_at b n)) (sym is) c.requires.may in
-    let fits : Fits (board_of plan.base parts) n (notes_at (board_of plan.base parts) n) v = subst (λ (b : Board). Fits b n (notes_at b n) v) (sym is) c.requires.fits in
     let there : IsLine (board_of plan.base parts) n = act_line plan parts kept w n (notes_at (board_of plan.base parts) n) may v in
     live_there plan parts kept n there w (notes_at (board_of plan.base parts) n) may
 
@@ -39,7 +37,6 @@ overflow_add-clock g c =
     let a = c.self.inside in
     let plan = g.J.PlanName.plan in
     let parts : Parts = parts_of a in
-    let kept : IsKept plan parts = c.self.invariant.1 in
     let is : board_of plan.base parts ≡ c.args.self.now = ap (λ (x : Planned). board_of x.base parts) (sym c.self.invariant.0) ∙ c.self.view_is in
     let room : HasRoom (board_of plan.base parts) = subst HasRoom (sym is) c.requires.room in
     omega (arith, room)
@@ -55,7 +52,6 @@ overflow_sub-line g c =
     let w = c.args.worker in
     let v : Contents = c.args.place.version.now in
     let may : MayPublish (board_of plan.base parts) w n (notes_at (board_of plan.base parts) n) = subst (λ (b : Board). MayPublish b w n (notes_at b n)) (sym is) c.requires.may in
-    let fits : Fits (board_of plan.base parts) n (notes_at (board_of plan.base parts) n) v = subst (λ (b : Board). Fits b n (notes_at b n) v) (sym is) c.requires.fits in
     let there : IsLine (board_of plan.base parts) n = act_line plan parts kept w n (notes_at (board_of plan.base parts) n) may v in
     let f : c.first.result ≡ parts.states.first = c.first.ensures ∙ ap (λ (x : Planned). x.first) c.self.invariant.0 ∙ sym kept.reached.first in
     omega (arith, there.0, f)
@@ -71,12 +67,9 @@ index_mut-row-requires g c =
     let w = c.args.worker in
     let v : Contents = c.args.place.version.now in
     let may : MayPublish (board_of plan.base parts) w n (notes_at (board_of plan.base parts) n) = subst (λ (b : Board). MayPublish b w n (notes_at b n)) (sym is) c.requires.may in
-    let fits : Fits (board_of plan.base parts) n (notes_at (board_of plan.base parts) n) v = subst (λ (b : Board). Fits b n (notes_at b n) v) (sym is) c.requires.fits in
     let there : IsLine (board_of plan.base parts) n = act_line plan parts kept w n (notes_at (board_of plan.base parts) n) may v in
     let f : c.first.result ≡ parts.states.first = c.first.ensures ∙ ap (λ (x : Planned). x.first) c.self.invariant.0 ∙ sym kept.reached.first in
-    let l : n - parts.states.first < length (map row_shown a.rows.items) = place_of plan.base parts n there in
-    let m : length (map row_shown a.rows.items) ≡ length a.rows.items = length-map a.rows.items row_shown in
-    let h : n - c.first.result < length a.rows.items = omega (arith, l, m, f) in
+    let h : n - c.first.result < length a.rows.items = omega (arith, place_of plan.base parts n there, length-map a.rows.items row_shown, f) in
     search (rules, h)
 
 pub invariant_of-self : goal.invariant_of-self
@@ -106,12 +99,8 @@ invariant_of-self g c =
       latest = a.latest;
     } in
     let l : n - parts.states.first < length (map row_shown a.rows.items) = place_of plan.base parts n there in
-    let m : length (map row_shown a.rows.items) ≡ length a.rows.items = length-map a.rows.items row_shown in
-    let was : get_or (map row_shown a.rows.items) (n - parts.states.first) no_notes ≡ row_shown c.index_mut-row.result.now =
-    get_or-map row_shown a.rows.items (n - parts.states.first) c.index_mut-row.result.now no_notes (omega (arith, l, m))
-    ∙ ap row_shown (sym (c.index_mut-row.ensures.value ∙ ap (λ x. get_or a.rows.items (n - x) c.index_mut-row.result.now) f)) in
-    let rows_is : q.rows ≡ set parts.rows (n - parts.states.first) k =
-    map-set row_shown a.rows.items (n - c.first.result) row ∙ ap (λ x. set parts.rows (n - x) k) f in
+    let was = row_read a.rows.items n c.first.result parts.states.first c.index_mut-row.result.now f (place_of plan.base parts n there) c.index_mut-row.ensures.value in
+    let rows_is = row_set a.rows.items n c.first.result parts.states.first row f in
     let k_is : k ≡ record { notes = (get_or parts.rows (n - parts.states.first) no_notes).notes; contents = Some v; course = come; changed = a.clock + 1 } =
     ap (λ (y : Kept). record { notes = y.notes; contents = Some v; course = come; changed = a.clock + 1 }) (sym was) in
     let all : AllPlaced (row_at (board_of plan.base parts) n) v = subst (λ (b : Board). AllPlaced (row_at b n) v) (sym is) c.requires.all in
@@ -150,12 +139,8 @@ returns g c =
       latest = a.latest;
     } in
     let l : n - parts.states.first < length (map row_shown a.rows.items) = place_of plan.base parts n there in
-    let m : length (map row_shown a.rows.items) ≡ length a.rows.items = length-map a.rows.items row_shown in
-    let was : get_or (map row_shown a.rows.items) (n - parts.states.first) no_notes ≡ row_shown c.index_mut-row.result.now =
-    get_or-map row_shown a.rows.items (n - parts.states.first) c.index_mut-row.result.now no_notes (omega (arith, l, m))
-    ∙ ap row_shown (sym (c.index_mut-row.ensures.value ∙ ap (λ x. get_or a.rows.items (n - x) c.index_mut-row.result.now) f)) in
-    let rows_is : q.rows ≡ set parts.rows (n - parts.states.first) k =
-    map-set row_shown a.rows.items (n - c.first.result) row ∙ ap (λ x. set parts.rows (n - x) k) f in
+    let was = row_read a.rows.items n c.first.result parts.states.first c.index_mut-row.result.now f (place_of plan.base parts n there) c.index_mut-row.ensures.value in
+    let rows_is = row_set a.rows.items n c.first.result parts.states.first row f in
     let k_is : k ≡ record { notes = (get_or parts.rows (n - parts.states.first) no_notes).notes; contents = Some v; course = come; changed = a.clock + 1 } =
     ap (λ (y : Kept). record { notes = y.notes; contents = Some v; course = come; changed = a.clock + 1 }) (sym was) in
     let all : AllPlaced (row_at (board_of plan.base parts) n) v = subst (λ (b : Board). AllPlaced (row_at b n) v) (sym is) c.requires.all in

@@ -1,9 +1,9 @@
 use Rattle.std.proofs.Common.{◌≡◌, List, map, length, replicate, refl, sym, ap, ◌∙◌}
 use Rattle.std.proofs.lemmas.List.{length-map}
-use Rattle.journal_table.specs.Readings.{reading_at as reading_in}
 use Rattle.sip_reader.specs.declared.request.Reading.{Reading}
 use Rattle.attempts.specs.States.{all_waiting}
 use Rattle.version_store.specs.Entries.{none_placed}
+use Rattle.journal_table.specs.Readings.{reading_at as reading_in}
 use Rattle.board_lines.specs.Parts.{no_notes}
 use Rattle.board_lines.proofs.Openings.{opening_board, opening_kept}
 use Rattle.read_set.specs.Plans.{Planned}

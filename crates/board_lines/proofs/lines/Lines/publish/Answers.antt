@@ -14,7 +14,6 @@ fits-requires g c =
     let b = c.args.self.now in
     let w = c.args.worker in
     let n = c.in-Some.hand.line in
-    let v : Contents = c.args.place.version.now in
     let ready : IsLine b n × MayPublish b w n (notes_at b n) × (suc c.in-Some.hand.attempt ≡ (row_at b n).next) = c.in-Some.ensures in
     record { there = ready.0; attempt = ready.2 }
 
@@ -23,7 +22,6 @@ returns-then-not-fits g c =
     let b = c.args.self.now in
     let w = c.args.worker in
     let n = c.in-Some.hand.line in
-    let v : Contents = c.args.place.version.now in
     let ready : IsLine b n × MayPublish b w n (notes_at b n) × (suc c.in-Some.hand.attempt ≡ (row_at b n).next) = c.in-Some.ensures in
     (n, notes_at b n, ready.1, λ f. (let z : true ≡ false = sym ((c.fits.ensures.fits w (notes_at b n) ready.1).1 f) ∙ c.if-not-fits.true in cc), refl)
 

@@ -208,11 +208,8 @@ invariant_of-self-2 g c =
     let kept : IsKept plan parts = c.self.invariant.1 in
     let is : board_of plan.base parts ≡ c.args.self.now = ap (λ (x : Planned). board_of x.base parts) (sym c.self.invariant.0) ∙ c.self.view_is in
     let o : IsOther (board_of plan.base parts) c.args.worker c.args.line c.args.i c.args.noted c.args.found = subst (λ (b : Board). IsOther b c.args.worker c.args.line c.args.i c.args.noted c.args.found) (sym is) c.requires in
-    let there : IsLine (board_of plan.base parts) c.args.line = check_line plan parts kept c.args.worker c.args.line o.0 o.1 o.2 c.args.i o.3 in
     let f : c.first-2.result ≡ parts.states.first = c.first-2.ensures ∙ ap (λ (x : Planned). x.first) c.self.invariant.0 ∙ sym kept.reached.first in
-    let l : c.args.line - parts.states.first < length parts.rows = place_of plan.base parts c.args.line there in
     let spot = c.index_mut-row-2.result.now in
-    let was : get_or parts.rows (c.args.line - parts.states.first) no_notes ≡ row_shown spot = row_read a.rows.items c.args.line c.first-2.result parts.states.first spot f l c.index_mut-row-2.ensures.value in
     let some : HasNone (row_at (board_of plan.base parts) c.args.line) → ⊥ = some_there plan parts kept c.args.line c.keys_of.result c.keys_of.ensures.value (c.is_none.ensures ∙ ap not c.if-is_none.false) in
     let room : HasRoom (board_of plan.base parts) = search (arith, c.if-self.false) in
     let row : LineRow g.row.J.Denot = record { notes = c.take_key-2.new.self; version = spot.version; course = spot.course; changed = a.clock + 1 } in

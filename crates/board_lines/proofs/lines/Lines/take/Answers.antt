@@ -1,5 +1,5 @@
 use Rattle.std.proofs.Common.{◌≡◌, ◌-◌, ◌<◌, Some, None, List, [], map, set, get_or, ◌^◌, length, slice_get, refl, sym, ap, subst, ◌∙◌, arith, rules}
-use Rattle.std.proofs.lemmas.List.{length-map, get_or-map, map-set}
+use Rattle.std.proofs.lemmas.List.{length-map}
 use Rattle.read_set.specs.Plans.{Planned}
 use Rattle.board_steps.specs.Board.{Board}
 use Rattle.board_lines.specs.Notes.{Noted}
@@ -9,7 +9,7 @@ use Rattle.attempts.specs.States.{States, state_at}
 use Rattle.attempts.specs.declared.state.LineState.TheVariants as states
 use Rattle.board_steps.specs.Steps.{TakeStep}
 use Rattle.board_steps.specs.Steps.Reply.{Idle, Taken, Attempts}
-use Rattle.board_lines.proofs.Boards.{parts_of, place_of}
+use Rattle.board_lines.proofs.Boards.{parts_of, place_of, row_read, row_set}
 use Rattle.board_lines.proofs.Hands.{hand_read, none_if, some_if}
 use Rattle.board_lines.proofs.Moves.{state_none, state_waits, no_worker, busy}
 use Rattle.board_lines.proofs.Takes.{there, next_there, attempts_returns, take_returns, take_kept}
@@ -85,14 +85,11 @@ index_mut-row-requires g c =
     let plan = g.J.PlanName.plan in
     let parts : Parts = parts_of a in
     let kept : IsKept plan parts = c.self.invariant.1 in
-    let is : board_of plan.base parts ≡ c.args.self.now = ap (λ (x : Planned). board_of x.base parts) (sym c.self.invariant.0) ∙ c.self.view_is in
     let waits : state_at parts.states c.args.line ≡ Some states.Waiting = sym c.in-Some.ensures ∙ ap (λ x. Some x) c.in-Waiting.is in
     let hand : slice_get a.hands.items c.args.worker ≡ Some None =
     hand_read a.hands.items c.args.worker c.index.result.now (omega (arith, a.hands.ok.0)) c.index.ensures ∙ ap (λ x. Some x) (none_if c.index.result.now (sym c.is_some.ensures ∙ c.if-is_some.false)) in
     let f : c.first.result ≡ parts.states.first = c.first.ensures ∙ ap (λ (x : Planned). x.first) c.self.invariant.0 ∙ sym kept.reached.first in
-    let l : c.args.line - parts.states.first < length (map row_shown a.rows.items) = place_of plan.base parts c.args.line (there plan parts kept c.args.line c.args.worker waits hand) in
-    let m : length (map row_shown a.rows.items) ≡ length a.rows.items = length-map a.rows.items row_shown in
-    let h : c.args.line - c.first.result < length a.rows.items = omega (arith, l, m, f) in
+    let h : c.args.line - c.first.result < length a.rows.items = omega (arith, place_of plan.base parts c.args.line (there plan parts kept c.args.line c.args.worker waits hand), length-map a.rows.items row_shown, f) in
     search (rules, h)
 
 pub invariant_of-self-2 : goal.invariant_of-self-2
@@ -101,7 +98,6 @@ invariant_of-self-2 g c =
     let plan = g.J.PlanName.plan in
     let parts : Parts = parts_of a in
     let kept : IsKept plan parts = c.self.invariant.1 in
-    let is : board_of plan.base parts ≡ c.args.self.now = ap (λ (x : Planned). board_of x.base parts) (sym c.self.invariant.0) ∙ c.self.view_is in
     let waits : state_at parts.states c.args.line ≡ Some states.Waiting = sym c.in-Some.ensures ∙ ap (λ x. Some x) c.in-Waiting.is in
     let hand : slice_get a.hands.items c.args.worker ≡ Some None =
     hand_read a.hands.items c.args.worker c.index.result.now (omega (arith, a.hands.ok.0)) c.index.ensures ∙ ap (λ x. Some x) (none_if c.index.result.now (sym c.is_some.ensures ∙ c.if-is_some.false)) in
@@ -117,13 +113,8 @@ invariant_of-self-2 g c =
       latest = a.latest;
     } in
     let f : c.first.result ≡ parts.states.first = c.first.ensures ∙ ap (λ (x : Planned). x.first) c.self.invariant.0 ∙ sym kept.reached.first in
-    let l : c.args.line - parts.states.first < length (map row_shown a.rows.items) = place_of plan.base parts c.args.line (there plan parts kept c.args.line c.args.worker waits hand) in
-    let m : length (map row_shown a.rows.items) ≡ length a.rows.items = length-map a.rows.items row_shown in
-    let was : get_or (map row_shown a.rows.items) (c.args.line - parts.states.first) no_notes ≡ row_shown spot =
-    get_or-map row_shown a.rows.items (c.args.line - parts.states.first) spot no_notes (omega (arith, l, m))
-    ∙ ap row_shown (sym (c.index_mut-row.ensures.value ∙ ap (λ x. get_or a.rows.items (c.args.line - x) spot) f)) in
-    let rows_is : q.rows ≡ set parts.rows (c.args.line - parts.states.first) k =
-    map-set row_shown a.rows.items (c.args.line - c.first.result) row ∙ ap (λ x. set parts.rows (c.args.line - x) k) f in
+    let was = row_read a.rows.items c.args.line c.first.result parts.states.first spot f (place_of plan.base parts c.args.line (there plan parts kept c.args.line c.args.worker waits hand)) c.index_mut-row.ensures.value in
+    let rows_is = row_set a.rows.items c.args.line c.first.result parts.states.first row f in
     let k_is : k ≡ record { notes = []; contents = (get_or parts.rows (c.args.line - parts.states.first) no_notes).contents; course = (get_or parts.rows (c.args.line - parts.states.first) no_notes).course; changed = (get_or parts.rows (c.args.line - parts.states.first) no_notes).changed } =
     ap (λ (x : List Noted). record { notes = x; contents = (row_shown spot).contents; course = spot.course; changed = spot.changed }) c.clear.ensures
     ∙ ap (λ (y : Kept). record { notes = []; contents = y.contents; course = y.course; changed = y.changed }) (sym was) in
@@ -154,13 +145,8 @@ returns g c =
       latest = a.latest;
     } in
     let f : c.first.result ≡ parts.states.first = c.first.ensures ∙ ap (λ (x : Planned). x.first) c.self.invariant.0 ∙ sym kept.reached.first in
-    let l : c.args.line - parts.states.first < length (map row_shown a.rows.items) = place_of plan.base parts c.args.line (there plan parts kept c.args.line c.args.worker waits hand) in
-    let m : length (map row_shown a.rows.items) ≡ length a.rows.items = length-map a.rows.items row_shown in
-    let was : get_or (map row_shown a.rows.items) (c.args.line - parts.states.first) no_notes ≡ row_shown spot =
-    get_or-map row_shown a.rows.items (c.args.line - parts.states.first) spot no_notes (omega (arith, l, m))
-    ∙ ap row_shown (sym (c.index_mut-row.ensures.value ∙ ap (λ x. get_or a.rows.items (c.args.line - x) spot) f)) in
-    let rows_is : q.rows ≡ set parts.rows (c.args.line - parts.states.first) k =
-    map-set row_shown a.rows.items (c.args.line - c.first.result) row ∙ ap (λ x. set parts.rows (c.args.line - x) k) f in
+    let was = row_read a.rows.items c.args.line c.first.result parts.states.first spot f (place_of plan.base parts c.args.line (there plan parts kept c.args.line c.args.worker waits hand)) c.index_mut-row.ensures.value in
+    let rows_is = row_set a.rows.items c.args.line c.first.result parts.states.first row f in
     let k_is : k ≡ record { notes = []; contents = (get_or parts.rows (c.args.line - parts.states.first) no_notes).contents; course = (get_or parts.rows (c.args.line - parts.states.first) no_notes).course; changed = (get_or parts.rows (c.args.line - parts.states.first) no_notes).changed } =
     ap (λ (x : List Noted). record { notes = x; contents = (row_shown spot).contents; course = spot.course; changed = spot.changed }) c.clear.ensures
     ∙ ap (λ (y : Kept). record { notes = []; contents = y.contents; course = y.course; changed = y.changed }) (sym was) in

@@ -1,54 +1,27 @@
-use Rattle.std.proofs.Common.{◌≡◌, suc, Some, sym, ap, subst, ◌∙◌}
-use Rattle.board_steps.specs.Steps.{MayPublish}
-use Rattle.board_lines.specs.Acts.{notes_at}
-use Rattle.board_lines.proofs.Boards.{parts_of}
-use Rattle.board_lines.proofs.Publications.{publish_held, held_line, has_state, to_publish, nothing_to_publish}
-use Rattle.read_set.specs.Plans.{Planned}
-use Rattle.board_steps.specs.Board.{Board, IsLine, row_at, holder}
-use Rattle.board_lines.specs.Parts.{Parts, IsKept, board_of}
+use Rattle.std.proofs.Common.{inr, refl}
+use Rattle.board_lines.specs.Parts.{row_shown}
+use Rattle.board_lines.proofs.Publications.{publish_held}
+use Rattle.board_lines.proofs.Rows.{held_there}
+use Rattle.board_lines.proofs.Standing.{is_under_way, not_published, runs}
 use Rattle.board_lines.proofs.lines.Lines.to_publish.Goals as goal
 
 pub returns-in_default : goal.returns-in_default
-returns-in_default g c =
-    λ n notes may. c.in_default.ensures n (publish_held _ c.args.worker notes may)
+returns-in_default g c = λ n notes may. c.in_default.ensures n (publish_held _ c.args.worker notes may)
 
-pub returns-in_default-state : goal.returns-in_default-state
-returns-in_default-state g c =
-    let a = c.self.inside in
-    let plan = g.J.PlanName.plan in
-    let parts : Parts = parts_of a in
-    let kept : IsKept plan parts = c.self.invariant.1 in
-    let is : board_of plan.base parts ≡ c.args.self.now = ap (λ (x : Planned). board_of x.base parts) (sym c.self.invariant.0) ∙ c.self.view_is in
-    let w = c.args.worker in
-    let n = c.in-Some.hand.line in
-    let held : holder (row_at (board_of plan.base parts) n).state ≡ Some w = subst (λ (b : Board). holder (row_at b n).state ≡ Some w) (sym is) c.in-Some.ensures.0 in
-    absurd (has_state plan parts kept w n held (sym c.in_default-state.ensures))
+pub returns-in_default-row : goal.returns-in_default-row
+returns-in_default-row g c = absurd (c.in_default-row.ensures (held_there c.args.self.now c.in-Some.hand.line c.args.worker c.in-Some.ensures.0))
 
-pub returns-then-not-is_publishing : goal.returns-then-not-is_publishing
-returns-then-not-is_publishing g c =
-    let a = c.self.inside in
-    let plan = g.J.PlanName.plan in
-    let parts : Parts = parts_of a in
-    let kept : IsKept plan parts = c.self.invariant.1 in
-    let is : board_of plan.base parts ≡ c.args.self.now = ap (λ (x : Planned). board_of x.base parts) (sym c.self.invariant.0) ∙ c.self.view_is in
-    let w = c.args.worker in
-    let n = c.in-Some.hand.line in
-    let held : holder (row_at (board_of plan.base parts) n).state ≡ Some w = subst (λ (b : Board). holder (row_at b n).state ≡ Some w) (sym is) c.in-Some.ensures.0 in
-    λ m notes may. nothing_to_publish plan parts kept w n held c.in-Some-state.state (sym c.in-Some-state.ensures) (sym c.is_publishing.ensures ∙ c.if-not-is_publishing.true) m notes
-    (subst (λ (b : Board). MayPublish b w m notes) (sym is) may)
+pub returns-in-Running : goal.returns-in-Running
+returns-in-Running g c =
+    let at = c.in-Some-row.ensures in
+    (at.there, runs g.J.PlanName.plan c.args.self.now c.in-Some.hand.line c.in-Some-row.state (row_shown c.in-Some-row.field-0-1.now) at c.args.worker c.in-Some.ensures.0 c.in-Running.worker c.in-Running.is, c.in-Some.ensures.1)
+
+pub returns-in_default-state-2 : goal.returns-in_default-state-2
+returns-in_default-state-2 g c =
+    not_published g.J.PlanName.plan c.args.self.now c.in-Some.hand.line c.in-Some-row.state (row_shown c.in-Some-row.field-0-1.now) c.in-Some-row.ensures c.args.worker c.in-Some.ensures.0 c.in_default-state.not-Running c.in_default-state-2.not-Placing
 
 pub returns : goal.returns
 returns g c =
-    let a = c.self.inside in
-    let plan = g.J.PlanName.plan in
-    let parts : Parts = parts_of a in
-    let kept : IsKept plan parts = c.self.invariant.1 in
-    let is : board_of plan.base parts ≡ c.args.self.now = ap (λ (x : Planned). board_of x.base parts) (sym c.self.invariant.0) ∙ c.self.view_is in
-    let w = c.args.worker in
-    let n = c.in-Some.hand.line in
-    let held : holder (row_at (board_of plan.base parts) n).state ≡ Some w = subst (λ (b : Board). holder (row_at b n).state ≡ Some w) (sym is) c.in-Some.ensures.0 in
-    subst (λ (b : Board). IsLine b n × MayPublish b w n (notes_at b n) × (suc c.in-Some.hand.attempt ≡ (row_at b n).next)) is (
-      held_line plan parts kept w n held,
-      to_publish plan parts kept w n held c.in-Some-state.state (sym c.in-Some-state.ensures) (sym c.is_publishing.ensures ∙ c.if-not-is_publishing.false),
-      subst (λ (b : Board). suc c.in-Some.hand.attempt ≡ (row_at b n).next) (sym is) c.in-Some.ensures.1,
-    )
+    let at = c.in-Some-row.ensures in
+    let row = row_shown c.in-Some-row.field-0-1.now in
+    (at.there, inr (row.contents, is_under_way g.J.PlanName.plan c.args.self.now c.in-Some.hand.line c.in-Some-row.state row at c.args.worker c.in-Some.ensures.0 c.in-Placing.worker c.in-Placing.is row.contents refl), c.in-Some.ensures.1)

@@ -1,5 +1,7 @@
-use Rattle.std.proofs.Common.{◌≡◌, ◌+◌, None, Some, length, option_copied, sym, ap, subst, ◌∙◌, arith}
+use Rattle.std.proofs.Common.{ℕ, ◌≡◌, ◌+◌, None, Some, length, option_copied, sym, ap, subst, ◌∙◌, arith}
 use Rattle.circ_records.specs.Records.{Entries, record_at}
+use Rattle.std.specs.Prelude.{option_map}
+use Rattle.version_store.specs.Entries.{Shown}
 use Rattle.read_set.specs.Plans.{Planned}
 use Rattle.read_set.specs.Settling.{Contents}
 use Rattle.board_steps.specs.Board.{Board, row_at, value_at}
@@ -21,7 +23,7 @@ returns-in_default g c =
     subst (λ (b : Board). option_copied c.base.result ≡ value_at plan (row_at b) (b.first + length b.rows) k) is
     (c.base.ensures
     ∙ ap (λ (x : Planned). record_at x.base k) c.self.invariant.0
-    ∙ value_shown plan parts kept c.numbers-past.result.end k None c.in_default.ensures
+    ∙ value_shown plan parts kept c.numbers-past.result.end k None (ap (option_map (λ (p : ℕ × Shown). p.1.contents)) c.in_default.ensures)
     ∙ ap (λ x. value_at plan (row_at (board_of plan.base parts)) x k) past)
 
 pub returns : goal.returns
@@ -38,5 +40,5 @@ returns g c =
     (c.written.ensures
     ∙ ap (λ (x : Entries). record_at x k) c.writes.ensures.writes
     ∙ ap (λ (x : Contents). record_at x.writes k) c.show.ensures
-    ∙ value_shown plan parts kept c.numbers-past.result.end k (Some c.in-Some.place.version.now) c.in-Some.ensures
+    ∙ value_shown plan parts kept c.numbers-past.result.end k (Some c.in-Some.made.place.version.now) (ap (option_map (λ (p : ℕ × Shown). p.1.contents)) c.in-Some.ensures)
     ∙ ap (λ x. value_at plan (row_at (board_of plan.base parts)) x k) past)

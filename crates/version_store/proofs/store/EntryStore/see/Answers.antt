@@ -5,7 +5,7 @@ use Rattle.version_store.specs.Index.{IsLatest}
 use Rattle.version_store.specs.Indexed.{at}
 use Rattle.version_store.specs.Entries.{Store, IsLine, Line, line_at, shown}
 use Rattle.version_store.proofs.Sights.{is_line, has_none, has_one, line_read, visible_none, visible_last}
-use Rattle.version_store.proofs.store.EntryStore.latest.Goals as goal
+use Rattle.version_store.proofs.store.EntryStore.see.Goals as goal
 
 pub returns-in_err-line : goal.returns-in_err-line
 returns-in_err-line g c =

@@ -95,7 +95,8 @@ impl Day {
         ensures value { day_at result.0 result.1 result.2 ≡ Some self }
         ensures only { (y m d : ℕ) → day_at y m d ≡ Some self → (result.0 ≡ y) × (result.1 ≡ m) × (result.2 ≡ d) }
     {
-        parts_of(self.number())
+        let date = jiff_core::civil::Date::from_days_since_min(self.number());
+        (date.year as u16, date.month, date.day)
     }
 }
 
@@ -111,17 +112,6 @@ fn number_of(year: u32, month: u32, day: u32) -> Option<u32>
     }
     let date = Date::new(year as i16, month as i8, day as i8).ok()?;
     Some(date.to_plain().days_since_min())
-}
-
-/// The year, the month and the day of the month of a number.
-fn parts_of(number: u32) -> (u16, u8, u8)
-    requires { IsInRange FIRST_DAY LAST_DAY number }
-    ensures real { IsReal result.0 result.1 result.2 }
-    ensures number { IsNumberOf number result.0 result.1 result.2 }
-    ensures only { (y m d : ℕ) → IsReal y m d → IsNumberOf number y m d → (result.0 ≡ y) × (result.1 ≡ m) × (result.2 ≡ d) }
-{
-    let date = jiff_core::civil::Date::from_days_since_min(number);
-    (date.year as u16, date.month, date.day)
 }
 
 impl PartialEq for Day {

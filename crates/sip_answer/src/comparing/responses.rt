@@ -1,6 +1,6 @@
 //! The words for each kind of response. None where what is compared can't be read.
 
-ghost use Rattle.std.specs.Prelude.{◌≡◌, ◌≤◌, ◌<◌, ◌+◌, ◌++◌, ◌==◌, Some, IfOk, length, drop, unwrap_or};
+ghost use Rattle.std.specs.Prelude.{◌≡◌, ◌≤◌, ◌<◌, ◌+◌, ◌++◌, ◌==◌, Some, IfOk, length, drop};
 ghost use Rattle.std.specs.Option.{option_map};
 ghost use Rattle.sip_answer.specs.declared.field.Field.TheVariants as words;
 ghost use Rattle.sip_reader.specs.Bytes as byte;
@@ -16,7 +16,7 @@ use crate::answer::{
 };
 use crate::field::Field;
 use crate::writing::COUNT_MAX;
-use sip_reader::{Amount, Day};
+use sip_reader::Day;
 use std::alloc::{AllocError, Global};
 
 // The fixed parts of responses (SIP 2.00), each with its identifier.
@@ -139,21 +139,16 @@ pub fn compare_loan(
     let Some(fee) = fee else {
         return Ok(None);
     };
+    let rental = match answer.rental {
+        Some(amount) => amount.hundredths(),
+        None => 0,
+    };
     let compared = [
         (Field::Ok, answer.due.is_some() == ok),
         (Field::Due, is_same_due(answer.due, ok, recorded)),
-        (Field::Fee, rental_of(answer.rental) == fee),
+        (Field::Fee, rental == fee),
     ];
     words_unless(alloc, &compared)
-}
-
-fn rental_of(rental: Option<Amount>) -> u64
-    ensures { result ≡ unwrap_or rental 0 }
-{
-    match rental {
-        Some(amount) => amount.hundredths(),
-        None => 0,
-    }
 }
 
 /// Whether the due days are the same, which are compared where both oks are 1.

@@ -1,8 +1,7 @@
 //! In what recorded responses differ from answers.
 
 ghost use Rattle.std.specs.Prelude.{◌≡◌, ◌∷◌, [], IfOk};
-ghost use Rattle.std.specs.Option.{option_map};
-ghost use Rattle.sip_answer.specs.Differ.{differ, identifier_of, words_of};
+ghost use Rattle.sip_answer.specs.Differ.{differ, identifier_of};
 
 mod due_dates;
 mod items;
@@ -44,7 +43,20 @@ pub fn differences(
     if response[0] != code[0] || response[1] != code[1] {
         return alone(alloc, Field::Kind);
     }
-    match compare(alloc, answer, response)? {
+    // none where what is compared can't be read
+    let words = match answer {
+        Answer::BlockPatron(a) => compare_patron(alloc, a, response)?,
+        Answer::Checkin(a) => compare_checkin(alloc, a, response)?,
+        Answer::Checkout(a) => compare_loan(alloc, a, response)?,
+        Answer::Hold(a) => compare_hold(alloc, a, response)?,
+        Answer::ItemStatus(a) => compare_item_status(alloc, a, response)?,
+        Answer::PatronEnable(a) => compare_patron(alloc, a, response)?,
+        Answer::Renew(a) => compare_loan(alloc, a, response)?,
+        Answer::FeePaid(a) => compare_fee_paid(alloc, a, response)?,
+        Answer::RenewAll(a) => compare_renew_all(alloc, a, response)?,
+        Answer::Resend => Some(Vec::new(alloc)),
+    };
+    match words {
         Some(words) => Ok(words),
         None => alone(alloc, Field::Unreadable),
     }
@@ -73,27 +85,5 @@ fn identifier(answer: &Answer) -> &'static [u8]
         Answer::FeePaid(_) => b"38",
         Answer::RenewAll(_) => b"66",
         Answer::Resend => b"96",
-    }
-}
-
-/// The words for a response of the right kind; none where what is compared can't be read.
-fn compare(
-    alloc: Global,
-    answer: &Answer,
-    response: &[u8],
-) -> Result<Option<Vec<Field>>, AllocError>
-    ensures { IfOk result (λ w. option_map (λ v. v.items) w ≡ words_of answer.now response.now) }
-{
-    match answer {
-        Answer::BlockPatron(a) => compare_patron(alloc, a, response),
-        Answer::Checkin(a) => compare_checkin(alloc, a, response),
-        Answer::Checkout(a) => compare_loan(alloc, a, response),
-        Answer::Hold(a) => compare_hold(alloc, a, response),
-        Answer::ItemStatus(a) => compare_item_status(alloc, a, response),
-        Answer::PatronEnable(a) => compare_patron(alloc, a, response),
-        Answer::Renew(a) => compare_loan(alloc, a, response),
-        Answer::FeePaid(a) => compare_fee_paid(alloc, a, response),
-        Answer::RenewAll(a) => compare_renew_all(alloc, a, response),
-        Answer::Resend => Ok(Some(Vec::new(alloc))),
     }
 }

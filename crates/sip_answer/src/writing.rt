@@ -3,7 +3,7 @@
 //! Where memory runs out, the text may have a part of an answer. `write_answer` drops it, and `put_answer` clears it, so the contracts
 //! of the functions that append the parts say nothing of that case.
 
-ghost use Rattle.std.specs.Prelude.{◌≡◌, ◌++◌, [], None, IfOk, OnErr, OnOk};
+ghost use Rattle.std.specs.Prelude.{◌≡◌, ◌++◌, [], IfOk, OnErr, OnOk};
 ghost use Rattle.sip_answer.specs.Texts.{answer_text};
 
 mod dates;
@@ -50,36 +50,27 @@ pub fn put_answer(
     Ok(())
 }
 
-/// An answer's bytes in place of what `out` had.
+/// An answer's bytes in place of what `out` had. The request to send again always has the same.
 #[inline(always)]
 #[tactic(auto, unfolding(crate::specs::Texts::answer_text))]
 fn put_whole(out: &mut Vec<u8>, answer: &Answer, sequence: Option<u8>) -> Result<(), AllocError>
     ensures { OnOk result (out.new.items ≡ answer_text answer.now sequence) }
 {
-    put_message(out, answer)?;
-    match (answer, sequence) {
-        (Answer::Resend, _) | (_, None) => Ok(()),
-        (_, Some(digit)) => put_detection(out, digit),
-    }
-}
-
-/// The same without error detection. The request to send again always has the same.
-#[inline(always)]
-#[tactic(auto, unfolding(crate::specs::Texts::answer_text))]
-fn put_message(out: &mut Vec<u8>, answer: &Answer) -> Result<(), AllocError>
-    ensures { OnOk result (out.new.items ≡ answer_text answer.now None) }
-{
     out.clear();
     match answer {
-        Answer::BlockPatron(a) => patrons::put_block_patron(out, a),
-        Answer::Checkin(a) => items::put_checkin(out, a),
-        Answer::Checkout(a) => loans::put_loan(out, b"12", a),
-        Answer::Hold(a) => items::put_hold(out, a),
-        Answer::ItemStatus(a) => items::put_item_status(out, a),
-        Answer::PatronEnable(a) => patrons::put_patron(out, b"26", a),
-        Answer::Renew(a) => loans::put_loan(out, b"30", a),
-        Answer::FeePaid(a) => patrons::put_fee_paid(out, a),
-        Answer::RenewAll(a) => loans::put_renew_all(out, a),
-        Answer::Resend => out.extend_from_slice(b"96AZFEF6"),
+        Answer::BlockPatron(a) => patrons::put_block_patron(out, a)?,
+        Answer::Checkin(a) => items::put_checkin(out, a)?,
+        Answer::Checkout(a) => loans::put_loan(out, b"12", a)?,
+        Answer::Hold(a) => items::put_hold(out, a)?,
+        Answer::ItemStatus(a) => items::put_item_status(out, a)?,
+        Answer::PatronEnable(a) => patrons::put_patron(out, b"26", a)?,
+        Answer::Renew(a) => loans::put_loan(out, b"30", a)?,
+        Answer::FeePaid(a) => patrons::put_fee_paid(out, a)?,
+        Answer::RenewAll(a) => loans::put_renew_all(out, a)?,
+        Answer::Resend => return out.extend_from_slice(b"96AZFEF6"),
+    }
+    match sequence {
+        Some(digit) => put_detection(out, digit),
+        None => Ok(()),
     }
 }

@@ -1,6 +1,6 @@
 //! The words for each kind of response. None where what is compared can't be read.
 
-ghost use Rattle.std.specs.Prelude.{◌≡◌, ◌≤◌, ◌<◌, ◌+◌, ◌++◌, ◌==◌, Some, IfOk, length, drop, unwrap_or};
+ghost use Rattle.std.specs.Prelude.{◌≡◌, ◌≤◌, ◌<◌, ◌+◌, ◌++◌, ◌==◌, Some, IfOk, length, drop};
 ghost use Rattle.std.specs.Option.{option_map};
 ghost use Rattle.sip_answer.specs.declared.field.Field.TheVariants as words;
 ghost use Rattle.sip_reader.specs.Bytes as byte;
@@ -16,7 +16,7 @@ use crate::answer::{
 };
 use crate::field::Field;
 use crate::writing::COUNT_MAX;
-use sip_reader::{Amount, Day};
+use sip_reader::Day;
 use std::alloc::{AllocError, Global};
 
 // The fixed parts of responses (SIP 2.00), each with its identifier.
@@ -69,7 +69,7 @@ pub fn compare_patron(
     let is_valid = valid_in(rest);
     let compared = [
         (Field::Status, is_same_status(answer.status, response)),
-        (Field::Valid, is_same(answer.known.is_some(), is_valid)),
+        (Field::Valid, answer.known.is_some() == is_valid),
     ];
     words_unless(alloc, &compared)
 }
@@ -80,16 +80,10 @@ fn is_same_status(status: PatronStatus, response: &[u8]) -> bool
     requires { PATRON_FIXED ≤ length response.now }
     ensures { result ≡ is_same_status status response.now }
 {
-    is_same(status.charge_denied, is_set(0, response))
-        && is_same(status.renewal_denied, is_set(1, response))
-        && is_same(status.too_many_items, is_set(5, response))
-        && is_same(status.excessive_fees, is_set(11, response))
-}
-
-fn is_same(a: bool, b: bool) -> bool
-    ensures { result ≡ is_same a b }
-{
-    a == b
+    status.charge_denied == is_set(0, response)
+        && status.renewal_denied == is_set(1, response)
+        && status.too_many_items == is_set(5, response)
+        && status.excessive_fees == is_set(11, response)
 }
 
 /// Whether a position of a patron status is set.
@@ -119,8 +113,8 @@ pub fn compare_checkin(
         return Ok(None);
     };
     let compared = [
-        (Field::Ok, is_same(answer.known.is_some(), ok)),
-        (Field::Alert, is_same(answer.alert, alert)),
+        (Field::Ok, answer.known.is_some() == ok),
+        (Field::Alert, answer.alert == alert),
     ];
     words_unless(alloc, &compared)
 }
@@ -145,21 +139,16 @@ pub fn compare_loan(
     let Some(fee) = fee else {
         return Ok(None);
     };
-    let compared = [
-        (Field::Ok, is_same(answer.due.is_some(), ok)),
-        (Field::Due, is_same_due(answer.due, ok, recorded)),
-        (Field::Fee, rental_of(answer.rental) == fee),
-    ];
-    words_unless(alloc, &compared)
-}
-
-fn rental_of(rental: Option<Amount>) -> u64
-    ensures { result ≡ unwrap_or rental 0 }
-{
-    match rental {
+    let rental = match answer.rental {
         Some(amount) => amount.hundredths(),
         None => 0,
-    }
+    };
+    let compared = [
+        (Field::Ok, answer.due.is_some() == ok),
+        (Field::Due, is_same_due(answer.due, ok, recorded)),
+        (Field::Fee, rental == fee),
+    ];
+    words_unless(alloc, &compared)
 }
 
 /// Whether the due days are the same, which are compared where both oks are 1.
@@ -187,7 +176,7 @@ pub fn compare_item_status(
         return Ok(None);
     }
     let is_stored = response[OK_AT] == b'1';
-    let compared = [(Field::Ok, is_same(answer.known.is_some(), is_stored))];
+    let compared = [(Field::Ok, answer.known.is_some() == is_stored)];
     words_unless(alloc, &compared)
 }
 
@@ -206,7 +195,7 @@ pub fn compare_fee_paid(
     let Some(accepted) = flag_of(response[OK_AT]) else {
         return Ok(None);
     };
-    let compared = [(Field::Accepted, is_same(answer.accepted, accepted))];
+    let compared = [(Field::Accepted, answer.accepted == accepted)];
     words_unless(alloc, &compared)
 }
 
@@ -255,7 +244,7 @@ fn compare_lists(
     let as_made = is_same_as_recorded(alloc, made, rest, b'B', b'M')?;
     let as_not_made = is_same_as_recorded(alloc, not_made, rest, b'B', b'N')?;
     let compared = [
-        (Field::Ok, is_same(answer.ok, ok)),
+        (Field::Ok, answer.ok == ok),
         (Field::Renewed, capped(made.len()) == renewed),
         (Field::Unrenewed, capped(not_made.len()) == unrenewed),
         (Field::RenewedItems, as_made),
@@ -290,8 +279,8 @@ pub fn compare_hold(
         return Ok(None);
     };
     let compared = [
-        (Field::Ok, is_same(answer.ok, ok)),
-        (Field::Available, is_same(answer.available, available)),
+        (Field::Ok, answer.ok == ok),
+        (Field::Available, answer.available == available),
     ];
     words_unless(alloc, &compared)
 }

@@ -1,10 +1,10 @@
 //! The parts of which a response is made, each appended to what is written before.
 
-ghost use Rattle.std.specs.Prelude.{◌≡◌, ◌++◌, ◌∷◌, [], ◌<◌, ◌/◌, ◌%◌, OnOk, Some, codes, decimal};
+ghost use Rattle.std.specs.Prelude.{◌≡◌, ◌++◌, ◌∷◌, [], ◌/◌, ◌%◌, OnOk, Some, codes, decimal};
 ghost use Rattle.circ_policy.specs.Medias.{media_code};
 ghost use Rattle.sip_reader.specs.Amounts.{amount_text};
 ghost use Rattle.sip_answer.specs.Texts.{money};
-ghost use Rattle.sip_answer.specs.Parts.{field, filled, digit, flag, hex_digit, with_sequence};
+ghost use Rattle.sip_answer.specs.Parts.{field, filled, digit, flag, with_sequence};
 
 use circ_policy::MediaType;
 use itoa::Buffer;
@@ -130,24 +130,16 @@ fn point_and_cents(hundredths: u64) -> [u8; 3]
 }
 
 /// Error detection: AY, the sequence digit, AZ, and the sum of all bytes up to there.
-#[tactic(auto, unfolding(crate::specs::Parts::hex_digits))]
+#[tactic(auto, using(crate::proofs::Codes::sixteen), unfolding(crate::specs::Parts::hex_digits))]
 pub fn put_detection(out: &mut Vec<u8>, sequence: u8) -> Result<(), AllocError>
     ensures { OnOk result (out.new.items ≡ with_sequence out.old.items (Some sequence)) }
 {
     out.extend_from_slice(&[b'A', b'Y', sequence, b'A', b'Z'])?;
-    let sum = sum_of(out.as_slice());
+    let sum = usize::from(sum_of(out.as_slice()));
     out.extend_from_slice(&[
-        hex(sum / 4096),
-        hex(sum / 256 % 16),
-        hex(sum / 16 % 16),
-        hex(sum % 16),
+        HEX[sum / 4096],
+        HEX[sum / 256 % 16],
+        HEX[sum / 16 % 16],
+        HEX[sum % 16],
     ])
-}
-
-#[tactic(auto, using(crate::proofs::Codes::sixteen))]
-fn hex(n: u16) -> u8
-    requires { n < 16 }
-    ensures { result ≡ hex_digit n }
-{
-    HEX[n as usize]
 }

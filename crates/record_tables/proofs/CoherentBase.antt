@@ -31,6 +31,7 @@ use Rattle.circ_records.specs.declared.record.Patron.{Patron}
 use Rattle.circ_records.specs.declared.record.Record.{Record}
 use Rattle.record_tables.specs.declared.tables.TableName.{TableName}
 use Rattle.record_tables.specs.declared.tables.TableName.TheVariants as table
+use Rattle.record_tables.proofs.ReadBack.{and-false}
 use Rattle.record_tables.proofs.Bounds.{due-real, hundredths-bound, none-made, renewals-bound}
 use Rattle.record_tables.proofs.Kept.{KeptClosed, KeptFee, KeptHold, KeptItem, KeptLoan, KeptPatron, kept-closed, kept-fee, kept-hold, kept-item, kept-loan, kept-patron}
 use Rattle.circ_records.proofs.SameTexts.{same-text}
@@ -96,10 +97,6 @@ lent policy first rows kept id item =
         at (Some loan) = refl
 
 -- the fees of a patron are its own that aren't paid in full
-same-again : (a : Bool) → (a && false) ≡ false
-same-again true = refl
-same-again false = refl
-
 not-below : (n : ℕ) → nat_lt n n ≡ false
 not-below n = le-ltb n n (omega arith)
 
@@ -111,7 +108,7 @@ owed policy first rows kept id fee =
   where
     by : (o : Option Row) → row_with 0 fee rows.fees ≡ o → (p : Option Row) → is_at 1 id o ≡ is_owed_by id (as_fee (option_or (option_map fee_told o) (option_map closed_told p)))
     by None e None = refl
-    by None e (Some row) = sym (ap (λ t. is_same id (field 1 row) && t) (not-below (hundredths (field 3 row))) ∙ same-again (is_same id (field 1 row)))
+    by None e (Some row) = sym (ap (λ t. is_same id (field 1 row) && t) (not-below (hundredths (field 3 row))) ∙ and-false (is_same id (field 1 row)))
     by (Some row) e p =
         let h = found (λ r. is_same fee (field 0 r)) (λ r. is_owing r ≡ true) rows.fees row e (each _ _ (λ b r k. k.owing) [] rows.fees kept.fees) in
         sym (ap (λ t. is_same id (field 1 row) && t) h.0 ∙ and-true (is_same id (field 1 row)))

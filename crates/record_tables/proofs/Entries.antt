@@ -1,13 +1,13 @@
 -- The entries of a map whose keys rise: each is what the map has at its key.
 use Rattle.std.proofs.Common.{◌≡◌, ◌∙◌, ℕ, List, [], ◌∷◌, ◌++◌, Bool, true, false, cond, Option, Some, None, map, refl, sym, ap, subst}
-use Rattle.circ_records.proofs.SameTexts.{tie}
+use Rattle.circ_records.proofs.Changing.{same-key}
 use Rattle.std.proofs.lemmas.List.{append-nil}
 use Rattle.std.proofs.lemmas.Map.Keys.{sorted_head, sorted_tail}
 use Rattle.std.specs.Cmp.{tied_itself}
 use Rattle.std.specs.List.{AllByRecursion, flat_map}
 use Rattle.std.specs.Ordering.{is_eq, ordering_reverse}
 use Rattle.std.specs.declared.cmp.Ordering.TheVariants.{Less}
-use Rattle.circ_records.specs.Keys.{key_cmp, key_cmp_total, key_cmp-IsAntisymmetric}
+use Rattle.circ_records.specs.Keys.{key_cmp, key_cmp_total}
 use Rattle.circ_records.specs.Records.{AreRising, Entries, record_at}
 use Rattle.circ_records.specs.declared.key.Key.{Key}
 use Rattle.circ_records.specs.declared.key.Key.TheVariants as key
@@ -32,9 +32,6 @@ all-append P (x ∷ xs) ys all more = (all.0, all-append P xs ys all.1 more)
 abbrev pub given : {A : Type 0} → (Key × Record → List A) → Key → Option Record → List A
 given f k None = []
 given f k (Some r) = f (k, r)
-
-pub same-key : (a b : Key) → is_eq (key_cmp a b) ≡ true → a ≡ b
-same-key a b e = key_cmp-IsAntisymmetric a b (tie (key_cmp a b) e)
 
 pub itself : (k : Key) → is_eq (key_cmp k k) ≡ true
 itself k = ap is_eq (tied_itself key_cmp_total k)

@@ -32,10 +32,6 @@ pub some-first : (o p : Option BaseRule) → is_some o ≡ true → option_or o 
 some-first None p e = cc e
 some-first (Some r) p e = refl
 
-pub nothing-there : (o : Option BaseRule) → is_some o ≡ false → o ≡ None
-nothing-there None e = refl
-nothing-there (Some x) e = cc e
-
 -- LOANS
 
 -- whether there is such a patron

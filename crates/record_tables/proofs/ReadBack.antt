@@ -55,7 +55,7 @@ kind-back kind.HoldFee = refl
 pub hundredths-back : (n : ℕ) → n ≤ 99_999_999_999 → hundredths (amount_text n) ≡ n
 hundredths-back n most = ap (λ o. unwrap_or o 0) (amount_of-amount_text n most)
 
-and-false : (b : Bool) → (b && false) ≡ false
+pub and-false : (b : Bool) → (b && false) ≡ false
 and-false true = refl
 and-false false = refl
 

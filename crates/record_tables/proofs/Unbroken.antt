@@ -2,17 +2,18 @@
 use Rattle.std.proofs.Common.{◌≡◌, ◌∙◌, ◌≤◌, ℕ, suc, List, [], ◌∷◌, ◌++◌, Bool, true, false, cond, Option, Some, None, length, map, refl, sym, ap, subst, arith, append_assoc, length-append}
 use Rattle.circ_records.proofs.SameTexts.{same-itself}
 use Rattle.std.proofs.lemmas.List.{map-append}
-use Rattle.std.proofs.lemmas.Bool.{and_from, and_parts, le-leb, leb-true, lt-leb, or_parts, or_right}
+use Rattle.std.proofs.lemmas.Bool.{and_parts, lt-leb, or_parts, or_right}
 use Rattle.std.proofs.lemmas.List.Elements.{filter-append}
-use Rattle.std.specs.List.{AllByRecursion, cons_option, filter_map, flat_map, list_all, list_any}
-use Rattle.std.specs.Prelude.{is_some, not, option_map, option_and_then, unwrap_or, ◌||◌, ◌&&◌, nat_le}
+use Rattle.std.specs.List.{AllByRecursion, cons_option, filter_map, flat_map, list_all}
+use Rattle.std.specs.Prelude.{is_some, option_map, option_and_then, unwrap_or, ◌||◌, ◌&&◌}
 use Rattle.circ_policy.specs.Medias.{media_code}
 use Rattle.circ_policy.specs.Policy.{class_of, media_of}
 use Rattle.circ_policy.specs.Terms.{Terms}
 use Rattle.circ_policy.specs.declared.media_type.MediaType.{MediaType}
 use Rattle.circ_policy.specs.declared.media_type.MediaType.TheVariants as media
 use Rattle.sip_reader.proofs.AmountTexts.{amount_of-amount_text}
-use Rattle.sip_reader.specs.Texts.{is_barred, is_id, is_text}
+use Rattle.sip_reader.proofs.Clean.{id_is_text}
+use Rattle.sip_reader.specs.Texts.{is_id, is_text}
 use Rattle.circ_records.specs.declared.holds.TheConstants.{QUEUE_MAX}
 use Rattle.record_tables.specs.Base.{first_broken}
 use Rattle.circ_records.specs.Coherent.{AreOfKind, Coherent, are_distinct, as_fee, as_item, as_patron, has_id, is_hold, is_known, is_lent_to, is_owed_by}
@@ -78,13 +79,6 @@ not-there : (column : ℕ) (text : List ℕ) (rows : List Row) → rows_with col
 not-there column text rows none = ap is_some (first-row column text rows ∙ ap head none)
 
 -- TEXTS
-
-pub id-text : (t : List ℕ) → is_id t ≡ true → is_text t ≡ true
-unfolding is_id is_text
-id-text t is =
-    let some = and_parts (nat_le 1 (length t)) (nat_le (length t) 64 && not (list_any is_barred t)) is in
-    let short = and_parts (nat_le (length t) 64) (not (list_any is_barred t)) some.1 in
-    and_from (nat_le (length t) 1024) (not (list_any is_barred t)) (le-leb (length t) 1024 (omega (arith, leb-true (length t) 64 short.0))) short.1
 
 media-text : (m : MediaType) → is_text (media_code m) ≡ true
 unfolding is_text
@@ -180,7 +174,7 @@ module _ (policy : Terms) (n : ℕ) (es : Entries) (rising : AreRising es) (co :
 
   class-text : (name : List ℕ) → has_class policy name ≡ true → is_text name ≡ true
   unfolding has_class
-  class-text name has = id-text name (and_parts (is_id name) (is_some (class_of policy name)) has).0
+  class-text name has = id_is_text name (and_parts (is_id name) (is_some (class_of policy name)) has).0
 
   patron-texts : (id : List ℕ) (p : Patron) → record_at es (key.Patron id) ≡ Some (record_of.Patron p) → has_patron_texts (patron_row id p) ≡ true
   unfolding has_patron_texts

@@ -8,6 +8,7 @@
 mod act;
 mod amount;
 mod barred;
+mod bars;
 mod checks;
 mod day;
 mod fields;

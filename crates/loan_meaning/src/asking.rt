@@ -86,10 +86,3 @@ pub fn loan_in(article: &Article) -> &Option<Loan>
 {
     &article.item.get().loan
 }
-
-/// The rental of an item's media type, in hundredths.
-pub fn rental_in(article: &Article) -> Amount
-    ensures { result ≡ article.now.media.rental }
-{
-    article.media.rental
-}

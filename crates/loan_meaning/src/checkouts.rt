@@ -14,7 +14,7 @@ ghost use Rattle.read_set.specs.Maps.{Map, Agrees};
 ghost use Rattle.read_set.specs.Stops.{Follows};
 
 use crate::asked::LoanContext;
-use crate::asking::{ask_checkout, charge_of, due_of, has_lent_to, loan_in, rental_in};
+use crate::asking::{ask_checkout, charge_of, due_of, has_lent_to, loan_in};
 use crate::fees::{Charge, draft_for, list_fee, make_fee, test_owing};
 use crate::lists::{is_first_another, without, without_hold};
 use crate::lookup::{item_of, patron_of};
@@ -204,7 +204,8 @@ fn lend<S: Source>(
     ensures keeps { Gains S.one_by_one (S.has source.old) (S.has source.new) (lending_rule asked.now.policy.now asked.now.number asked.now.request asked.now.date member article) }
 {
     let verdict = test_lending(asked, &member, &article, source)?;
-    let rental = rental_in(&article);
+    let media = &article.media;
+    let rental = media.rental;
     // each is returned at once: what is done by one of several branches would move once more after them, and is large
     match verdict {
         Verdict::Refused => return refuse(asked, Some(article)),

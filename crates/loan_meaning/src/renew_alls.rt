@@ -14,7 +14,7 @@ ghost use Rattle.read_set.specs.Maps.{Map, Agrees};
 ghost use Rattle.read_set.specs.Stops.{Follows};
 
 use crate::asked::{LineContext, LoanContext};
-use crate::asking::{due_of, rental_in};
+use crate::asking::due_of;
 use crate::fees::{Charge, has_amount, list_fee_of, make_fee};
 use crate::lookup::{patron_of, read_after};
 use crate::renewals::{renew_loan_of, test_renewal};
@@ -86,8 +86,9 @@ fn renew_next(
     ensures few { IfOk result (λ next. next.made ≤ done.made + 1) }
 {
     let n = asked.number;
-    let due = due_of(asked, &article.media);
-    let rental = rental_in(&article);
+    let media = &article.media;
+    let due = due_of(asked, media);
+    let rental = media.rental;
     let made = done.made;
     let mut done = done;
     write_turn(asked, made, due, rental, article, &mut done.writes)?;
@@ -140,7 +141,8 @@ fn turn_known<S: Source>(
     ensures runs { IfOk result (λ next. Runs (S.has source.new) asked.now.number fresh next sum.new) }
 {
     let verdict = test_renewal(asked, &done.writes, &done.member, &article, sum, source)?;
-    let charge = charge_by(verdict, rental_in(&article));
+    let media = &article.media;
+    let charge = charge_by(verdict, media.rental);
     *sum = owed_with(fresh, charge, *sum);
     Ok(end_turn(asked, article, done, verdict)?)
 }

@@ -13,7 +13,7 @@ ghost use Rattle.read_set.specs.Maps.{Map, Agrees};
 ghost use Rattle.read_set.specs.Stops.{Follows};
 
 use crate::asked::LoanContext;
-use crate::asking::{ask_renew, charge_of, due_of, loan_in, rental_in};
+use crate::asking::{ask_renew, charge_of, due_of, loan_in};
 use crate::fees::{Charge, draft_for, has_amount, list_fee, make_fee, test_owing};
 use crate::lists::has_queue;
 use crate::lookup::{item_of, patron_of};
@@ -157,7 +157,8 @@ fn renew_by(
 ) -> Result<Effect, Stop>
     ensures { Follows result (Done (renewal_by asked.now.policy.now asked.now.number asked.now.request asked.now.date member article verdict)) }
 {
-    let rental = rental_in(&article);
+    let media = &article.media;
+    let rental = media.rental;
     match verdict {
         Verdict::Refused => refuse(asked, Some(article)),
         Verdict::Unpaid => refuse_for(asked, Some(article), rental),

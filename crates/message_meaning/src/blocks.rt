@@ -1,7 +1,7 @@
 //! Block patron and patron enable.
 
 ghost use Rattle.std.specs.Prelude.{◌≡◌, IfOk, Some};
-ghost use Rattle.read_set.specs.Blocks.{block_rule_known, block_rule, status_of, member_status, no_status, patron_answer, block_answer, blocked_by, block};
+ghost use Rattle.read_set.specs.Blocks.{block_rule_known, block_rule, member_status, no_status, patron_answer, block_answer, blocked_by, block};
 ghost use Rattle.read_set.specs.Asks.{follow, Gains};
 ghost use Rattle.read_set.specs.Maps.{Map, Agrees};
 ghost use Rattle.read_set.specs.Stops.{Follows};
@@ -26,9 +26,11 @@ struct BlockAsked<'p> {
     date: Stamp,
 }
 
-fn status(blocked: bool, many_loans: bool, many_fees: bool) -> PatronStatus
-    ensures { result ≡ status_of blocked many_loans many_fees }
+fn status_of_member(blocked: bool, member: &Member, owes: u128) -> PatronStatus
+    ensures { result ≡ member_status blocked member.now owes }
 {
+    let many_loans = member.class.max_loans as usize <= member.patron.get().loans.len();
+    let many_fees = u128::from(member.class.max_fees.hundredths()) < owes;
     PatronStatus {
         charge_denied: many_loans || many_fees || blocked,
         renewal_denied: many_fees || blocked,
@@ -36,14 +38,6 @@ fn status(blocked: bool, many_loans: bool, many_fees: bool) -> PatronStatus
         too_many_items: many_loans,
         excessive_fees: many_fees,
     }
-}
-
-fn status_of_member(blocked: bool, member: &Member, owes: u128) -> PatronStatus
-    ensures { result ≡ member_status blocked member.now owes }
-{
-    let many_loans = member.class.max_loans as usize <= member.patron.get().loans.len();
-    let many_fees = u128::from(member.class.max_fees.hundredths()) < owes;
-    status(blocked, many_loans, many_fees)
 }
 
 fn unknown_status() -> PatronStatus

@@ -76,31 +76,19 @@ fn change_queue(alloc: Global, request: &HoldRequest, holds: &Holds) -> Result<H
     }
 }
 
-fn numbered(
-    request: &HoldRequest,
-    number: Option<usize>,
-) -> Result<Option<QueuePosition>, AllocError>
-    ensures { IfOk result (λ position. position ≡ option_map (λ i. record { number = i; pickup = request.now.pickup }) number) }
-{
-    match number {
-        Some(number) => Ok(Some(QueuePosition {
-            number,
-            pickup: request.pickup.clone()?,
-        })),
-        None => Ok(None),
-    }
-}
-
 #[tactic(auto, unfolding(read_set::specs::Holds::hold_position))]
 fn position_in(request: &HoldRequest, holds: &Holds) -> Result<Option<QueuePosition>, AllocError>
     ensures { IfOk result (λ position. position ≡ hold_position request.now holds.now request.now.mode) }
 {
     match request.mode {
         HoldMode::Delete => Ok(None),
-        HoldMode::Add | HoldMode::Change => numbered(
-            request,
-            position(holds.as_slice(), &request.patron),
-        ),
+        HoldMode::Add | HoldMode::Change => match position(holds.as_slice(), &request.patron) {
+            Some(number) => Ok(Some(QueuePosition {
+                number,
+                pickup: request.pickup.clone()?,
+            })),
+            None => Ok(None),
+        },
     }
 }
 

@@ -26,9 +26,8 @@ returns-in-Refused-clause-keeps g c =
 pub returns-in-Unpaid-clause-gives : goal.returns-in-Unpaid-clause-gives
 unfolding lending_rule
 returns-in-Unpaid-clause-gives g c =
-    let told = rw c.rental_in-rental.ensures at c.refuse_for.ensures in
     goes_on _ _ (lending_tests c.args.asked.now.request c.args.member c.args.article) (λ verdict. lending_rule_by c.args.asked.now.policy.now c.args.asked.now.number c.args.asked.now.request c.args.asked.now.date c.args.member c.args.article verdict) c.in_ok-verdict.verdict _
-    (λ k r e. e) c.in_ok-verdict.ensures.gives (rw c.in-Unpaid.is told)
+    (λ k r e. e) c.in_ok-verdict.ensures.gives (rw c.in-Unpaid.is c.refuse_for.ensures)
 
 pub returns-in-Unpaid-clause-keeps : goal.returns-in-Unpaid-clause-keeps
 unfolding lending_rule

@@ -1,6 +1,6 @@
 //! The rows of fees.
 
-ghost use Rattle.std.specs.Prelude.{◌≡◌, OnOk, option_copied};
+ghost use Rattle.std.specs.Prelude.{◌≡◌, OnOk};
 ghost use Rattle.record_tables.specs.Writing.{HasWidth, with_rows};
 ghost use Rattle.record_tables.specs.Written as Written;
 
@@ -22,27 +22,20 @@ pub(crate) fn write_fees(
     ensures { OnOk result (text.new ≡ with_rows (Written.listed_fees records.now patron.now fees.now) text.old) }
 {
     for fee in fees {
-        if let Some(open) = open_fee_of(records, fee) {
-            text.row(&[
-                fee.as_bytes(),
-                patron,
-                open.kind.code().as_slice(),
-                amount_text(alloc, open.amount)?.as_slice(),
-                amount_text(alloc, open.paid)?.as_slice(),
-            ])?;
+        if let Some(Record::Fee(owed)) = records.fee(fee) {
+            let owed = owed.get();
+            if is_open(owed) {
+                text.row(&[
+                    fee.as_bytes(),
+                    patron,
+                    owed.kind.code().as_slice(),
+                    amount_text(alloc, owed.amount)?.as_slice(),
+                    amount_text(alloc, owed.paid)?.as_slice(),
+                ])?;
+            }
         }
     }
     Ok(())
-}
-
-/// The fee with an id, where it is open.
-fn open_fee_of<'r>(records: &'r Records, id: &Id) -> Option<&'r Fee>
-    ensures { option_copied result ≡ Written.open_fee_at records.now id.now }
-{
-    match records.fee(id) {
-        Some(Record::Fee(fee)) if is_open(fee.get()) => Some(fee.get()),
-        _ => None,
-    }
 }
 
 /// Whether something is still to be paid.

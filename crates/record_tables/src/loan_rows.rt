@@ -1,11 +1,11 @@
 //! The rows of loans.
 
-ghost use Rattle.std.specs.Prelude.{◌≡◌, OnOk, option_copied};
+ghost use Rattle.std.specs.Prelude.{◌≡◌, OnOk};
 ghost use Rattle.record_tables.specs.Writing.{HasWidth, with_rows};
-ghost use Rattle.record_tables.specs.Written.{listed_loans, loan_at};
+ghost use Rattle.record_tables.specs.Written.{listed_loans};
 
 use crate::row_texts::day_text;
-use circ_records::{Loan, Record, Records};
+use circ_records::{Record, Records};
 use csv_table::TableText;
 use itoa::Buffer;
 use sip_reader::Id;
@@ -22,24 +22,16 @@ pub(crate) fn write_loans(
     ensures { OnOk result (text.new ≡ with_rows (listed_loans records.now patron.now items.now) text.old) }
 {
     for item in items {
-        if let Some(loan) = loan_of(records, item) {
-            text.row(&[
-                patron,
-                item.as_bytes(),
-                day_text(loan.due).as_slice(),
-                Buffer::new().format(loan.renewals).as_bytes(),
-            ])?;
+        if let Some(Record::Item(lent)) = records.item(item) {
+            if let Some(loan) = &lent.get().loan {
+                text.row(&[
+                    patron,
+                    item.as_bytes(),
+                    day_text(loan.due).as_slice(),
+                    Buffer::new().format(loan.renewals).as_bytes(),
+                ])?;
+            }
         }
     }
     Ok(())
-}
-
-/// The loan of an item.
-fn loan_of<'r>(records: &'r Records, item: &Id) -> Option<&'r Loan>
-    ensures { option_copied result ≡ loan_at records.now item.now }
-{
-    match records.item(item) {
-        Some(Record::Item(item)) => item.get().loan.as_ref(),
-        _ => None,
-    }
 }

@@ -76,11 +76,6 @@ pub stop_then : {A B : Type 0} (has : Key → Option (Option Record)) (m : Asks 
 stop_then has m f (Unnoted k) h = follow_wants has m f k h
 stop_then has m f Memory h = tt
 
--- what a call returned of a rule settles
-pub settles_all : {A : Type 0} (has : Key → Option (Option Record)) (m : Asks A) (r : Result A Stop) → Follows r (follow has m) → IfOk r (λ x. (M : Key → Option Record) → Agrees has M → over M m ≡ x)
-settles_all has m (Ok x) h = λ M a. settles has M m x a h
-settles_all has m (Err stop) h = tt
-
 lacks_on : {A : Type 0} (has : Key → Option (Option Record)) (o : Option (Option Record)) (k : Key) (rule : Option Record → Asks A) (j : Key) → o ≡ has k
     → ((r : Option Record) → follow has (rule r) ≡ Wants j → has j ≡ None)
     → option_map_or (λ r. follow has (rule r)) o (Wants k) ≡ Wants j → has j ≡ None

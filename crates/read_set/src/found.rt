@@ -1,9 +1,8 @@
 //! What was found at the key of a note.
 
-ghost use Rattle.std.specs.Prelude.{◌≡◌, IfOk, None, Some};
+ghost use Rattle.std.specs.Prelude.{◌≡◌, IfOk};
 ghost use Rattle.std.specs.Bool.{Decides};
 ghost use Rattle.std.specs.Option.{option_copied};
-ghost use Rattle.read_set.specs.Devices.Found.{record_in};
 
 use circ_records::{Fee, Item, Patron, Record, Shared};
 use std::alloc::AllocError;
@@ -54,14 +53,13 @@ impl NotedRecord {
     pub fn new(found: Option<Record>) -> NotedRecord
         ensures { result ≡ found }
     {
-        match found {
-            Some(record) => NotedRecord {
-                held: holding(record),
-            },
-            None => NotedRecord {
-                held: SharedRecord::Nothing,
-            },
-        }
+        let held = match found {
+            None => SharedRecord::Nothing,
+            Some(Record::Patron(patron)) => SharedRecord::Patron(patron),
+            Some(Record::Item(item)) => SharedRecord::Item(item),
+            Some(Record::Fee(fee)) => SharedRecord::Fee(fee),
+        };
+        NotedRecord { held }
     }
 
     /// The record, or none. Allocates nothing.
@@ -87,48 +85,18 @@ impl NotedRecord {
     pub fn is_same(&self, other: Option<&Record>) -> bool
         ensures { Decides result (self.now ≡ option_copied other.entry) }
     {
-        match other {
-            Some(record) => self.is_record(record),
-            None => self.is_nothing(),
-        }
-    }
-
-    fn is_record(&self, other: &Record) -> bool
-        ensures { Decides result (self.now ≡ Some other.now) }
-    {
-        match &self.held {
-            SharedRecord::Nothing => false,
-            SharedRecord::Patron(ours) => match other {
-                Record::Patron(theirs) => ours.get().is_same(theirs.get()),
-                _ => false,
-            },
-            SharedRecord::Item(ours) => match other {
-                Record::Item(theirs) => ours.get().is_same(theirs.get()),
-                _ => false,
-            },
-            SharedRecord::Fee(ours) => match other {
-                Record::Fee(theirs) => ours.get().is_same(theirs.get()),
-                _ => false,
-            },
-        }
-    }
-
-    fn is_nothing(&self) -> bool
-        ensures { Decides result (self.now ≡ None) }
-    {
-        match &self.held {
-            SharedRecord::Nothing => true,
+        match (&self.held, other) {
+            (SharedRecord::Nothing, None) => true,
+            (SharedRecord::Patron(ours), Some(Record::Patron(theirs))) => {
+                ours.get().is_same(theirs.get())
+            }
+            (SharedRecord::Item(ours), Some(Record::Item(theirs))) => {
+                ours.get().is_same(theirs.get())
+            }
+            (SharedRecord::Fee(ours), Some(Record::Fee(theirs))) => {
+                ours.get().is_same(theirs.get())
+            }
             _ => false,
         }
-    }
-}
-
-fn holding(found: Record) -> SharedRecord
-    ensures { record_in result ≡ Some found }
-{
-    match found {
-        Record::Patron(patron) => SharedRecord::Patron(patron),
-        Record::Item(item) => SharedRecord::Item(item),
-        Record::Fee(fee) => SharedRecord::Fee(fee),
     }
 }

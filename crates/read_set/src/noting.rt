@@ -1,9 +1,6 @@
 //! Notes as sources of records: notes that never change, and notes to which each look adds one.
 
-ghost use Rattle.std.specs.Prelude.{◌≡◌, None, ⊤};
-ghost use Rattle.read_set.specs.Asks.{follow, Ask, Give, Gains};
-ghost use Rattle.read_set.specs.Notes.{note_of, noted};
-ghost use Rattle.read_set.specs.Stops.{Follows};
+ghost use Rattle.std.specs.Prelude.{◌≡◌, ⊤};
 
 use crate::found::NotedRecord;
 use crate::notes::{Name, Note, Notes};
@@ -89,56 +86,24 @@ impl<L: Looks> Source for Noting<L> {
 
     #[tactic(auto, using(crate::proofs::Gaining::gains_none))]
     fn read(&mut self, alloc: Global, key: &Key) -> Result<Option<Record>, Stop> {
-        match self.notes.get(key) {
-            Some(note) => Ok(note.found.record()?),
-            None => look_for(alloc, &mut self.notes, &mut self.looks, key),
+        if let Some(note) = self.notes.get(key) {
+            return Ok(note.found.record()?);
         }
+        let Some((name, found)) = self.looks.look(alloc, key)? else {
+            return Err(Stop::Unnoted(key.clone()?));
+        };
+        let note = Note {
+            key: key.clone()?,
+            name,
+            found: NotedRecord::new(found),
+        };
+        let copy = note.found.record()?;
+        self.notes.add(note)?;
+        Ok(copy)
     }
 }
 
 /// Only the records that it is asked for are noted.
 impl<L: Looks> OneByOne for Noting<L> {
     ghost fetches = { tt };
-}
-
-/// Looks for a record, notes it and returns it.
-#[tactic(auto, using(crate::proofs::Gaining::gains_none))]
-fn look_for<L: Looks>(
-    alloc: Global,
-    notes: &mut Notes,
-    looks: &mut L,
-    key: &Key,
-) -> Result<Option<Record>, Stop>
-    requires { note_of notes.old key.now ≡ None }
-    ensures gives { Follows result (follow (noted notes.new) (Ask key.now Give)) }
-    ensures keeps { Gains ⊤ (noted notes.old) (noted notes.new) (Ask key.now Give) }
-{
-    let Some(seen) = looks.look(alloc, key)? else {
-        return Err(Stop::Unnoted(key.clone()?));
-    };
-    let (name, found) = seen;
-    note_found(alloc, notes, key, name, found)
-}
-
-/// Notes what was found, and returns it.
-#[tactic(auto, using(crate::proofs::Gaining::gains_none))]
-fn note_found(
-    alloc: Global,
-    notes: &mut Notes,
-    key: &Key,
-    name: Name,
-    found: Option<Record>,
-) -> Result<Option<Record>, Stop>
-    requires { note_of notes.old key.now ≡ None }
-    ensures gives { Follows result (follow (noted notes.new) (Ask key.now Give)) }
-    ensures keeps { Gains ⊤ (noted notes.old) (noted notes.new) (Ask key.now Give) }
-{
-    let found = NotedRecord::new(found);
-    let copy = found.record()?;
-    notes.add(Note {
-        key: key.clone()?,
-        name,
-        found,
-    })?;
-    Ok(copy)
 }

@@ -90,42 +90,20 @@ index_mut-row-requires g c =
     let h : c.args.line - c.first.result < length a.rows.items = omega (arith, place_of plan.base parts c.args.line there, length-map a.rows.items row_shown, f) in
     search (rules, h)
 
-pub invariant_of-self : goal.invariant_of-self
-invariant_of-self g c =
-    let a = c.self.inside in
-    let plan = g.J.PlanName.plan in
-    let parts : Parts = parts_of a in
-    let kept : IsKept plan parts = c.self.invariant.1 in
-    let spot = c.index_mut-row.result.now in
-    let row : LineRow g.row.J.Denot = record { notes = c.clear.new.self; version = spot.version; course = spot.course; changed = spot.changed } in
-    let k : Kept = row_shown row in
-    let q : Parts = record { states = c.commit.new.self; store = a.entries; rows = map row_shown (set a.rows.items (c.args.line - c.first.result) row); hands = a.hands.items; clock = a.clock; latest = c.max-self-inside.result } in
-    let f : c.first.result ≡ parts.states.first = c.first.ensures ∙ ap (λ (x : Planned). x.first) c.self.invariant.0 ∙ sym kept.reached.first in
-    let there : IsLine (board_of plan.base parts) c.args.line = line_there plan parts kept c.args.line c.in-Some.state (sym c.in-Some.ensures) in
-    let done : c.in-Some.state ≡ states.Done (Some c.in-Some-stamp.stamp) = c.in-Done.is ∙ ap states.Done c.in-Some-stamp.is in
-    let least : c.args.line - parts.states.first ≡ parts.states.counts.commits = ap (λ x. c.args.line - x) (sym f) ∙ c.if-position-counts.false ∙ ap (λ x. x.commits) c.counts.ensures.value in
-    let was = row_read a.rows.items c.args.line c.first.result parts.states.first spot f (place_of plan.base parts c.args.line there) c.index_mut-row.ensures.value in
-    let rows_is = row_set a.rows.items c.args.line c.first.result parts.states.first row f in
-    let k_is : k ≡ record { notes = []; contents = (get_or parts.rows (c.args.line - parts.states.first) no_notes).contents; course = (get_or parts.rows (c.args.line - parts.states.first) no_notes).course; changed = (get_or parts.rows (c.args.line - parts.states.first) no_notes).changed } =
-    ap (λ (x : List Noted). record { notes = x; contents = (row_shown spot).contents; course = spot.course; changed = spot.changed }) c.clear.ensures
-    ∙ ap (λ (y : Kept). record { notes = []; contents = y.contents; course = y.course; changed = y.changed }) (sym was) in
-    let latest : q.latest ≡ max parts.latest (get_or parts.rows (c.args.line - parts.states.first) no_notes).changed =
-    c.max-self-inside.ensures ∙ ap (λ (x : Kept). max a.latest x.changed) (sym was) in (
-      c.self.invariant.0,
-      commit_kept plan parts kept c.args.line c.in-Some.state (sym c.in-Some.ensures) c.in-Some-stamp.stamp done least c.if-stamp-self.false q k c.commit.ensures refl rows_is k_is refl refl latest,
-    )
+abbrev after : (g : _) (c : goal.After-self-2-1 g) → Parts
+after g c = record { states = c.commit.new.self; store = c.self.inside.entries; rows = map row_shown (set c.self.inside.rows.items (c.args.line - c.first.result) (record { notes = c.clear.new.self; version = c.index_mut-row.result.now.version; course = c.index_mut-row.result.now.course; changed = c.index_mut-row.result.now.changed })); hands = c.self.inside.hands.items; clock = c.self.inside.clock; latest = c.max-self-inside.result }
 
-pub returns : goal.returns
-returns g c =
+-- what the fields keep, and the step
+committed_here : (g : _) (c : goal.After-self-2-1 g) → IsKept g.J.PlanName.plan (after g c) × (CommitStep c.args.self.now c.args.line Commits (board_of c.self.inside.plan.now.base (after g c)))
+committed_here g c =
     let a = c.self.inside in
     let plan = g.J.PlanName.plan in
     let parts : Parts = parts_of a in
     let kept : IsKept plan parts = c.self.invariant.1 in
-    let is : board_of plan.base parts ≡ c.args.self.now = ap (λ (x : Planned). board_of x.base parts) (sym c.self.invariant.0) ∙ c.self.view_is in
     let spot = c.index_mut-row.result.now in
     let row : LineRow g.row.J.Denot = record { notes = c.clear.new.self; version = spot.version; course = spot.course; changed = spot.changed } in
     let k : Kept = row_shown row in
-    let q : Parts = record { states = c.commit.new.self; store = a.entries; rows = map row_shown (set a.rows.items (c.args.line - c.first.result) row); hands = a.hands.items; clock = a.clock; latest = c.max-self-inside.result } in
+    let q : Parts = after g c in
     let f : c.first.result ≡ parts.states.first = c.first.ensures ∙ ap (λ (x : Planned). x.first) c.self.invariant.0 ∙ sym kept.reached.first in
     let there : IsLine (board_of plan.base parts) c.args.line = line_there plan parts kept c.args.line c.in-Some.state (sym c.in-Some.ensures) in
     let done : c.in-Some.state ≡ states.Done (Some c.in-Some-stamp.stamp) = c.in-Done.is ∙ ap states.Done c.in-Some-stamp.is in
@@ -137,7 +115,16 @@ returns g c =
     ∙ ap (λ (y : Kept). record { notes = []; contents = y.contents; course = y.course; changed = y.changed }) (sym was) in
     let latest : q.latest ≡ max parts.latest (get_or parts.rows (c.args.line - parts.states.first) no_notes).changed =
     c.max-self-inside.ensures ∙ ap (λ (x : Kept). max a.latest x.changed) (sym was) in
-    let new : board_of plan.base q ≡ board_of a.plan.now.base q = ap (λ (x : Planned). board_of x.base q) (sym c.self.invariant.0) in
-    subst (λ (b : Board). CommitStep b c.args.line Commits (board_of a.plan.now.base q)) is
-    (subst (λ (b : Board). CommitStep (board_of plan.base parts) c.args.line Commits b) new
-    (commit_returns plan parts kept c.args.line c.in-Some.state (sym c.in-Some.ensures) c.in-Some-stamp.stamp done least c.if-stamp-self.false q k c.commit.ensures refl rows_is k_is refl refl latest))
+    let is : board_of plan.base parts ≡ c.args.self.now = ap (λ (x : Planned). board_of x.base parts) (sym c.self.invariant.0) ∙ c.self.view_is in
+    let new : board_of plan.base q ≡ board_of a.plan.now.base q = ap (λ (x : Planned). board_of x.base q) (sym c.self.invariant.0) in (
+      commit_kept plan parts kept c.args.line c.in-Some.state (sym c.in-Some.ensures) c.in-Some-stamp.stamp done least c.if-stamp-self.false q k c.commit.ensures refl rows_is k_is refl refl latest,
+      subst (λ (b : Board). CommitStep b c.args.line Commits (board_of a.plan.now.base q)) is
+          (subst (λ (b : Board). CommitStep (board_of plan.base parts) c.args.line Commits b) new
+          (commit_returns plan parts kept c.args.line c.in-Some.state (sym c.in-Some.ensures) c.in-Some-stamp.stamp done least c.if-stamp-self.false q k c.commit.ensures refl rows_is k_is refl refl latest)),
+    )
+
+pub invariant_of-self : goal.invariant_of-self
+invariant_of-self g c = (c.self.invariant.0, (committed_here g c).0)
+
+pub returns : goal.returns
+returns g c = (committed_here g c).1

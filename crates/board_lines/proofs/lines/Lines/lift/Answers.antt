@@ -72,8 +72,12 @@ index_mut-row-requires g c =
     let h : n - c.first.result < length a.rows.items = omega (arith, place_of plan.base parts n there, length-map a.rows.items row_shown, f) in
     search (rules, h)
 
-pub invariant_of-self : goal.invariant_of-self
-invariant_of-self g c =
+abbrev after : (g : _) (c : goal.After-self-2-1 g) → Parts
+after g c = record { states = c.go_on.new.self; store = c.lift.new.self; rows = map row_shown (set c.self.inside.rows.items (c.args.line - c.first.result) (record { notes = c.index_mut-row.result.now.notes; version = Some c.args.place; course = (record { placed = length c.writes-placed.result.now }); changed = c.self.inside.clock + 1 })); hands = c.self.inside.hands.items; clock = c.self.inside.clock + 1; latest = c.self.inside.latest }
+
+-- what the fields keep, and the step
+lifted_here : (g : _) (c : goal.After-self-2-1 g) → IsKept g.J.PlanName.plan (after g c) × (board_of c.self.inside.plan.now.base (after g c) ≡ lifted c.args.self.now c.args.worker c.args.line (notes_at c.args.self.now c.args.line) c.args.place.version.now c.args.key.now)
+lifted_here g c =
     let a = c.self.inside in
     let plan = g.J.PlanName.plan in
     let parts : Parts = parts_of a in
@@ -90,14 +94,7 @@ invariant_of-self g c =
     let come : LineProgress = record { placed = length c.writes-placed.result.now } in
     let row : LineRow g.row.J.Denot = record { notes = spot.notes; version = Some c.args.place; course = come; changed = a.clock + 1 } in
     let k : Kept = row_shown row in
-    let q : Parts = record {
-      states = c.go_on.new.self;
-      store = c.lift.new.self;
-      rows = map row_shown (set a.rows.items (n - c.first.result) row);
-      hands = a.hands.items;
-      clock = a.clock + 1;
-      latest = a.latest;
-    } in
+    let q : Parts = after g c in
     let l : n - parts.states.first < length (map row_shown a.rows.items) = place_of plan.base parts n there in
     let was = row_read a.rows.items n c.first.result parts.states.first c.index_mut-row.result.now f (place_of plan.base parts n there) c.index_mut-row.ensures.value in
     let rows_is = row_set a.rows.items n c.first.result parts.states.first row f in
@@ -109,45 +106,14 @@ invariant_of-self g c =
     let l = remove (store.line_at a.entries n) c.args.key.now in
     let l_is : l ≡ remove (row_at (board_of plan.base parts) n).entries c.args.key.now =
     ap (λ (x : store.Line). remove x c.args.key.now) (sym (entries_there plan parts kept n there)) in
-    let up : Rising v.writes = writes_rise v.writes (subst (λ (t : Contents). IsStrictlySortedBy key_cmp (map (λ e. e.0) t.writes)) c.show.ensures c.writes-placed.ensures.rising) in
-    (c.self.invariant.0, lifted_kept_here plan parts kept w n (notes_at (board_of plan.base parts) n) may v q l k come c.go_on.ensures c.lift.ensures rows_is k_is refl refl refl c.args.key.now fits c.requires.version room all next l_is up)
+    let up : Rising v.writes = writes_rise v.writes (subst (λ (t : Contents). IsStrictlySortedBy key_cmp (map (λ e. e.0) t.writes)) c.show.ensures c.writes-placed.ensures.rising) in (
+      lifted_kept_here plan parts kept w n (notes_at (board_of plan.base parts) n) may v q l k come c.go_on.ensures c.lift.ensures rows_is k_is refl refl refl c.args.key.now fits c.requires.version room all next l_is up,
+      subst (λ (b : Board). board_of a.plan.now.base q ≡ lifted b w n (notes_at b n) v c.args.key.now) is
+          (ap (λ (x : Planned). board_of x.base q) c.self.invariant.0 ∙ lifted_board plan parts kept w n (notes_at (board_of plan.base parts) n) may v q l k come c.go_on.ensures c.lift.ensures rows_is k_is refl refl refl c.args.key.now fits c.requires.version room all next l_is),
+    )
+
+pub invariant_of-self : goal.invariant_of-self
+invariant_of-self g c = (c.self.invariant.0, (lifted_here g c).0)
 
 pub returns : goal.returns
-returns g c =
-    let a = c.self.inside in
-    let plan = g.J.PlanName.plan in
-    let parts : Parts = parts_of a in
-    let kept : IsKept plan parts = c.self.invariant.1 in
-    let is : board_of plan.base parts ≡ c.args.self.now = ap (λ (x : Planned). board_of x.base parts) (sym c.self.invariant.0) ∙ c.self.view_is in
-    let n = c.args.line in
-    let w = c.args.worker in
-    let v : Contents = c.args.place.version.now in
-    let may : MayPublish (board_of plan.base parts) w n (notes_at (board_of plan.base parts) n) = subst (λ (b : Board). MayPublish b w n (notes_at b n)) (sym is) c.requires.may in
-    let fits : Fits (board_of plan.base parts) n (notes_at (board_of plan.base parts) n) v = subst (λ (b : Board). Fits b n (notes_at b n) v) (sym is) c.requires.fits in
-    let there : IsLine (board_of plan.base parts) n = act_line plan parts kept w n (notes_at (board_of plan.base parts) n) may v in
-    let f : c.first.result ≡ parts.states.first = c.first.ensures ∙ ap (λ (x : Planned). x.first) c.self.invariant.0 ∙ sym kept.reached.first in
-    let spot = c.index_mut-row.result.now in
-    let come : LineProgress = record { placed = length c.writes-placed.result.now } in
-    let row : LineRow g.row.J.Denot = record { notes = spot.notes; version = Some c.args.place; course = come; changed = a.clock + 1 } in
-    let k : Kept = row_shown row in
-    let q : Parts = record {
-      states = c.go_on.new.self;
-      store = c.lift.new.self;
-      rows = map row_shown (set a.rows.items (n - c.first.result) row);
-      hands = a.hands.items;
-      clock = a.clock + 1;
-      latest = a.latest;
-    } in
-    let l : n - parts.states.first < length (map row_shown a.rows.items) = place_of plan.base parts n there in
-    let was = row_read a.rows.items n c.first.result parts.states.first c.index_mut-row.result.now f (place_of plan.base parts n there) c.index_mut-row.ensures.value in
-    let rows_is = row_set a.rows.items n c.first.result parts.states.first row f in
-    let k_is : k ≡ record { notes = (get_or parts.rows (n - parts.states.first) no_notes).notes; contents = Some v; course = come; changed = a.clock + 1 } =
-    ap (λ (y : Kept). record { notes = y.notes; contents = Some v; course = come; changed = a.clock + 1 }) (sym was) in
-    let all : AllPlaced (row_at (board_of plan.base parts) n) v = subst (λ (b : Board). AllPlaced (row_at b n) v) (sym is) c.requires.all in
-    let next : IsNextLeft (row_at (board_of plan.base parts) n) v c.args.key.now = subst (λ (b : Board). IsNextLeft (row_at b n) v c.args.key.now) (sym is) c.requires.next in
-    let room : HasRoom (board_of plan.base parts) = subst HasRoom (sym is) c.requires.room in
-    let l = remove (store.line_at a.entries n) c.args.key.now in
-    let l_is : l ≡ remove (row_at (board_of plan.base parts) n).entries c.args.key.now =
-    ap (λ (x : store.Line). remove x c.args.key.now) (sym (entries_there plan parts kept n there)) in
-    subst (λ (b : Board). board_of a.plan.now.base q ≡ lifted b w n (notes_at b n) v c.args.key.now) is
-    (ap (λ (x : Planned). board_of x.base q) c.self.invariant.0 ∙ lifted_board plan parts kept w n (notes_at (board_of plan.base parts) n) may v q l k come c.go_on.ensures c.lift.ensures rows_is k_is refl refl refl c.args.key.now fits c.requires.version room all next l_is)
+returns g c = (lifted_here g c).1

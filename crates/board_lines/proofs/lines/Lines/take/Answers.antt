@@ -92,8 +92,12 @@ index_mut-row-requires g c =
     let h : c.args.line - c.first.result < length a.rows.items = omega (arith, place_of plan.base parts c.args.line (there plan parts kept c.args.line c.args.worker waits hand), length-map a.rows.items row_shown, f) in
     search (rules, h)
 
-pub invariant_of-self-2 : goal.invariant_of-self-2
-invariant_of-self-2 g c =
+abbrev after : (g : _) (c : goal.After-self-2-1 g) → Parts
+after g c = record { states = c.take.new.self; store = c.self.inside.entries; rows = map row_shown (set c.self.inside.rows.items (c.args.line - c.first.result) (record { notes = c.clear.new.self; version = c.index_mut-row.result.now.version; course = c.index_mut-row.result.now.course; changed = c.index_mut-row.result.now.changed })); hands = set c.self.inside.hands.items c.args.worker (Some c.args.line); clock = c.self.inside.clock; latest = c.self.inside.latest }
+
+-- what the fields keep, and the step
+taken_here : (g : _) (c : goal.After-self-2-1 g) → IsKept g.J.PlanName.plan (after g c) × (TakeStep c.args.self.now c.args.worker c.args.line (Taken c.in-Some-take.attempt) (board_of c.self.inside.plan.now.base (after g c)))
+taken_here g c =
     let a = c.self.inside in
     let plan = g.J.PlanName.plan in
     let parts : Parts = parts_of a in
@@ -104,14 +108,7 @@ invariant_of-self-2 g c =
     let spot = c.index_mut-row.result.now in
     let row : LineRow g.row.J.Denot = record { notes = c.clear.new.self; version = spot.version; course = spot.course; changed = spot.changed } in
     let k : Kept = row_shown row in
-    let q : Parts = record {
-      states = c.take.new.self;
-      store = a.entries;
-      rows = map row_shown (set a.rows.items (c.args.line - c.first.result) row);
-      hands = set a.hands.items c.args.worker (Some c.args.line);
-      clock = a.clock;
-      latest = a.latest;
-    } in
+    let q : Parts = after g c in
     let f : c.first.result ≡ parts.states.first = c.first.ensures ∙ ap (λ (x : Planned). x.first) c.self.invariant.0 ∙ sym kept.reached.first in
     let was = row_read a.rows.items c.args.line c.first.result parts.states.first spot f (place_of plan.base parts c.args.line (there plan parts kept c.args.line c.args.worker waits hand)) c.index_mut-row.ensures.value in
     let rows_is = row_set a.rows.items c.args.line c.first.result parts.states.first row f in
@@ -121,42 +118,19 @@ invariant_of-self-2 g c =
     let ok = c.in-Some-take.ensures.some in
     let next = next_there plan parts kept c.args.line c.args.worker waits hand c.in-Some-take.attempt ok.0 in
     let fits : c.in-Some-take.attempt < 2 ^ 32 = search rules in
-    (c.self.invariant.0, take_kept plan parts kept c.args.line c.args.worker waits hand q k ok.1 refl rows_is k_is refl (omega (arith, a.hands.ok.0)) refl refl (omega (arith, next, fits)))
+    let is : board_of plan.base parts ≡ c.args.self.now = ap (λ (x : Planned). board_of x.base parts) (sym c.self.invariant.0) ∙ c.self.view_is in
+    let new : board_of plan.base q ≡ board_of a.plan.now.base q = ap (λ (x : Planned). board_of x.base q) (sym c.self.invariant.0) in (
+      take_kept plan parts kept c.args.line c.args.worker waits hand q k ok.1 refl rows_is k_is refl (omega (arith, a.hands.ok.0)) refl refl (omega (arith, next, fits)),
+      subst (λ (b : Board). TakeStep b c.args.worker c.args.line (Taken c.in-Some-take.attempt) (board_of a.plan.now.base q)) is
+          (subst (λ (b : Board). TakeStep (board_of plan.base parts) c.args.worker c.args.line (Taken c.in-Some-take.attempt) b) new
+          (take_returns plan parts kept c.args.line c.args.worker waits hand q k ok.1 refl rows_is k_is refl (omega (arith, a.hands.ok.0)) refl refl c.in-Some-take.attempt (sym next) fits)),
+    )
+
+pub invariant_of-self-2 : goal.invariant_of-self-2
+invariant_of-self-2 g c = (c.self.invariant.0, (taken_here g c).0)
 
 pub returns : goal.returns
-returns g c =
-    let a = c.self.inside in
-    let plan = g.J.PlanName.plan in
-    let parts : Parts = parts_of a in
-    let kept : IsKept plan parts = c.self.invariant.1 in
-    let is : board_of plan.base parts ≡ c.args.self.now = ap (λ (x : Planned). board_of x.base parts) (sym c.self.invariant.0) ∙ c.self.view_is in
-    let waits : state_at parts.states c.args.line ≡ Some states.Waiting = sym c.in-Some.ensures ∙ ap (λ x. Some x) c.in-Waiting.is in
-    let hand : slice_get a.hands.items c.args.worker ≡ Some None =
-    hand_read a.hands.items c.args.worker c.index.result.now (omega (arith, a.hands.ok.0)) c.index.ensures ∙ ap (λ x. Some x) (none_if c.index.result.now (sym c.is_some.ensures ∙ c.if-is_some.false)) in
-    let spot = c.index_mut-row.result.now in
-    let row : LineRow g.row.J.Denot = record { notes = c.clear.new.self; version = spot.version; course = spot.course; changed = spot.changed } in
-    let k : Kept = row_shown row in
-    let q : Parts = record {
-      states = c.take.new.self;
-      store = a.entries;
-      rows = map row_shown (set a.rows.items (c.args.line - c.first.result) row);
-      hands = set a.hands.items c.args.worker (Some c.args.line);
-      clock = a.clock;
-      latest = a.latest;
-    } in
-    let f : c.first.result ≡ parts.states.first = c.first.ensures ∙ ap (λ (x : Planned). x.first) c.self.invariant.0 ∙ sym kept.reached.first in
-    let was = row_read a.rows.items c.args.line c.first.result parts.states.first spot f (place_of plan.base parts c.args.line (there plan parts kept c.args.line c.args.worker waits hand)) c.index_mut-row.ensures.value in
-    let rows_is = row_set a.rows.items c.args.line c.first.result parts.states.first row f in
-    let k_is : k ≡ record { notes = []; contents = (get_or parts.rows (c.args.line - parts.states.first) no_notes).contents; course = (get_or parts.rows (c.args.line - parts.states.first) no_notes).course; changed = (get_or parts.rows (c.args.line - parts.states.first) no_notes).changed } =
-    ap (λ (x : List Noted). record { notes = x; contents = (row_shown spot).contents; course = spot.course; changed = spot.changed }) c.clear.ensures
-    ∙ ap (λ (y : Kept). record { notes = []; contents = y.contents; course = y.course; changed = y.changed }) (sym was) in
-    let ok = c.in-Some-take.ensures.some in
-    let next = next_there plan parts kept c.args.line c.args.worker waits hand c.in-Some-take.attempt ok.0 in
-    let fits : c.in-Some-take.attempt < 2 ^ 32 = search rules in
-    let new : board_of plan.base q ≡ board_of a.plan.now.base q = ap (λ (x : Planned). board_of x.base q) (sym c.self.invariant.0) in
-    subst (λ (b : Board). TakeStep b c.args.worker c.args.line (Taken c.in-Some-take.attempt) (board_of a.plan.now.base q)) is
-    (subst (λ (b : Board). TakeStep (board_of plan.base parts) c.args.worker c.args.line (Taken c.in-Some-take.attempt) b) new
-    (take_returns plan parts kept c.args.line c.args.worker waits hand q k ok.1 refl rows_is k_is refl (omega (arith, a.hands.ok.0)) refl refl c.in-Some-take.attempt (sym next) fits))
+returns g c = (taken_here g c).1
 
 pub invariant_of-self : goal.invariant_of-self
 invariant_of-self g c =

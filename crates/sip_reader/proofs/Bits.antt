@@ -1,15 +1,11 @@
--- The next bar, seen a block at a time.
-use Rattle.std.proofs.Common.{◌≡◌, ℕ, zero, suc, ◌+◌, ◌-◌, ◌*◌, ◌/◌, ◌%◌, ◌^◌, ◌<◌, ◌≤◌, Bool, true, false, not, ◌&&◌, cond, eqb, List, [], ◌∷◌, map, length, take, drop, Fits, w8, refl, sym, ap, ap₂, ◌∙◌, arith, inl, inr}
-use Rattle.std.proofs.lemmas.Simd.{chunk-drop, length-chunk, leading_from_mask_l, mask_l-mod, trailing_mask_l}
-use Rattle.std.proofs.lemmas.List.{drop-drop, length-drop, length-map, take_all}
-use Rattle.std.proofs.lemmas.List.Folds.{prefix_len-append}
-use Rattle.std.proofs.lemmas.List.Sums.{prefix_len-drop_all, prefix_len-le-length}
+-- Bytes of a kind, seen a block at a time.
+use Rattle.std.proofs.Common.{◌≡◌, ℕ, zero, suc, ◌+◌, ◌-◌, ◌*◌, ◌/◌, ◌%◌, ◌^◌, ◌≤◌, Bool, true, false, not, ◌&&◌, cond, eqb, List, [], ◌∷◌, map, length, take, drop, Fits, w8, refl, sym, ap, ap₂, ◌∙◌, arith, inl, inr}
+use Rattle.std.proofs.lemmas.Simd.{mask_l-mod}
+use Rattle.std.proofs.lemmas.List.{drop-drop, length-map, take_all}
 use Rattle.std.proofs.lemmas.Bool.{agree_below, agree_below_at, cases_eq, eq-eqb, ne_eqb}
 use Rattle.std.proofs.lemmas.Nat.{div-mul-add, shr_le, shr-shr}
-use Rattle.std.specs.List.{list_all, position_or_len}
-use Rattle.sip_reader.specs.Devices.Bars.{bar_bits, is_bar}
+use Rattle.std.specs.List.{list_all}
 use lib.Lanes.{Each1, chunk, mask_l, top}
-use lib.Count.{count_trailing_zeros}
 
 -- ---- the bits after the first few
 twice : (m : ℕ) → eqb (0 + 2 * m) 0 ≡ eqb m 0
@@ -73,53 +69,3 @@ pub masked : (f : ℕ → ℕ) (p : ℕ → Bool) (xs z : List ℕ) → length x
     → mask_l (map (top 7) z) % 2 ^ 64 ≡ mask_l (map p xs)
 masked f p xs z few fits lanes all =
     ap (λ l. mask_l l % 2 ^ 64) (ap (map (top 7)) lanes ∙ each_byte f p all xs fits) ∙ mask_l-mod (map p xs) 64 (omega (arith, length-map xs p))
-
--- ---- from a block to the first bar
-pub within : (p : ℕ → Bool) (s : List ℕ) (at : ℕ) → at ≤ length s → at + position_or_len p (drop at s) ≤ length s
-within p s at h = omega (arith, prefix_len-le-length (λ x. not (p x)) (drop at s), length-drop at s)
-
-none_stands : (b : Bool) (n l m : ℕ) → n ≤ l → cond (not b) (1 + n) 0 ≡ 1 + l → (n ≡ l → m ≡ 0) → cond b 1 0 + 2 * m ≡ 0
-none_stands true n l m le e ih = absurd (omega arith)
-none_stands false n l m le e ih = let z = ih (omega arith) in omega arith
-
-no_bits : (p : ℕ → Bool) (xs : List ℕ) → position_or_len p xs ≡ length xs → mask_l (map p xs) ≡ 0
-no_bits p [] e = refl
-no_bits p (x ∷ xs) e = none_stands (p x) _ (length xs) _ (prefix_len-le-length (λ y. not (p y)) xs) (omega arith) (no_bits p xs)
-
-cut : (p : ℕ → Bool) (s : List ℕ) (at n : ℕ) → position_or_len p (drop at s) ≡ cond (eqb (position_or_len p (chunk at n s)) (length (chunk at n s))) (length (chunk at n s) + position_or_len p (drop (at + n) s)) (position_or_len p (chunk at n s))
-cut p s at n = ap (position_or_len p) (chunk-drop at n s) ∙ prefix_len-append (λ x. not (p x)) (chunk at n s) (drop (at + n) s)
-
--- no bit is set: the first bar is after the block
-pub passed : (p : ℕ → Bool) (s : List ℕ) (at n : ℕ) → at + n ≤ length s → mask_l (map p (chunk at n s)) ≡ 0 → position_or_len p (drop at s) ≡ n + position_or_len p (drop (at + n) s)
-passed p s at n room none =
-    let here = chunk at n s in
-    cut p s at n ∙ ap (λ b. cond b (length here + position_or_len p (drop (at + n) s)) (position_or_len p here)) (eq-eqb _ _ (leading_from_mask_l p here none))
-    ∙ ap (λ k. k + position_or_len p (drop (at + n) s)) (length-chunk at n s room)
-
--- the lowest bit that is set is the first bar
-pub found : (p : ℕ → Bool) (s : List ℕ) (at n : ℕ) → at + n ≤ length s → n ≤ 64 → 0 < mask_l (map p (chunk at n s)) → position_or_len p (drop at s) ≡ count_trailing_zeros 64 (mask_l (map p (chunk at n s)))
-found p s at n room short some =
-    let here = chunk at n s in
-    cut p s at n ∙ ap (λ b. cond b (length here + position_or_len p (drop (at + n) s)) (position_or_len p here)) (ne_eqb _ _ (λ (e : position_or_len p here ≡ length here). omega (arith, no_bits p here e)))
-    ∙ sym (trailing_mask_l p 64 here (omega (arith, length-chunk at n s room)) some)
-
--- ---- the same of the bits of a block, by their number
-bits_are : (s : List ℕ) (at from n bits : ℕ) → at ≡ from → bits ≡ bar_bits s at n → mask_l (map is_bar (chunk from n s)) ≡ bits
-bits_are s at from n bits e is = ap (λ k. bar_bits s k n) (sym e) ∙ sym is
-
-pub passed_at : (s : List ℕ) (at from n bits : ℕ) → at ≡ from → from + n ≤ length s → bits ≡ bar_bits s at n → bits ≡ 0
-    → position_or_len is_bar (drop from s) ≡ n + position_or_len is_bar (drop (from + n) s)
-passed_at s at from n bits e room is none = passed is_bar s from n room (bits_are s at from n bits e is ∙ none)
-
-pub found_at : (s : List ℕ) (at from n bits : ℕ) → at ≡ from → from + n ≤ length s → n ≤ 64 → bits ≡ bar_bits s at n → 0 < bits
-    → position_or_len is_bar (drop from s) ≡ count_trailing_zeros 64 bits
-found_at s at from n bits e room few is some =
-    let same = bits_are s at from n bits e is in
-    found is_bar s from n room few (omega (arith, same)) ∙ ap (count_trailing_zeros 64) same
-
-pub last_passed : (s : List ℕ) (at from n bits : ℕ) → at ≡ from → from + n ≡ length s → bits ≡ bar_bits s at n → bits ≡ 0
-    → length s ≡ from + position_or_len is_bar (drop from s)
-last_passed s at from n bits e all is none =
-    let rest = passed_at s at from n bits e (omega arith) is none in
-    let nothing = prefix_len-drop_all (λ x. not (is_bar x)) s (from + n) (omega arith) in
-    omega (arith, rest, nothing)

@@ -1,15 +1,14 @@
 -- Pieces, and what each of them adds to the fields.
-use Rattle.std.proofs.Common.{ℕ, ◌≡◌, ◌+◌, ◌-◌, ◌<◌, ◌≤◌, ◌||◌, not, Bool, true, false, List, [], ◌∷◌, ◌++◌, length, eqb, get_or, take, drop, Option, Some, None, refl, sym, ap, ◌∙◌, append_assoc, arith, slice_range}
-use Rattle.std.proofs.lemmas.Bool.{false_from_ne_true, not-true}
-use Rattle.std.proofs.lemmas.List.{append-nil, drop-drop, length-drop}
+use Rattle.std.proofs.Common.{ℕ, ◌≡◌, ◌+◌, ◌<◌, ◌||◌, Bool, true, false, List, [], ◌∷◌, ◌++◌, length, eqb, get_or, take, drop, Option, Some, None, refl, sym, ap, ◌∙◌, append_assoc, arith}
+use Rattle.std.proofs.lemmas.Bool.{false_from_ne_true}
+use Rattle.std.proofs.lemmas.List.{append-nil}
 use Rattle.std.proofs.lemmas.List.Elements.{All-from_get_or}
 use Rattle.std.proofs.lemmas.List.Folds.{list_any_at, list_any_none}
 use Rattle.std.proofs.lemmas.List.Splits.{slice_split_first, slice_split_none}
-use Rattle.std.proofs.lemmas.List.Sums.{prefix_len_passes}
-use Rattle.std.specs.List.{list_any, position_or_len}
+use Rattle.std.proofs.lemmas.List.Sums.{position_or_len_is}
+use Rattle.std.specs.List.{list_any}
 use Rattle.std.specs.Option.{is_some}
-use Rattle.memchr.specs.Find.{IsFirstByte}
-use Rattle.sip_reader.specs.Devices.Bars.{is_bar}
+use Rattle.memchr.specs.Find.{IsFirstByte, is_byte}
 use Rattle.sip_reader.specs.Fields.{Texts, field, or_else, pieces, text_after, texts}
 use Rattle.sip_reader.specs.Views.{or_now, with_piece, with_pieces}
 
@@ -52,27 +51,26 @@ with_more qs (p ∷ ps) = ap (λ t. with_pieces t ps) (sym (texts_push qs p)) �
 pub none_before : (t : Texts) (ps : List (List ℕ)) → t ≡ texts [] → with_pieces t ps ≡ texts ps
 none_before t ps e = ap (λ u. with_pieces u ps) e ∙ with_more [] ps
 
--- a piece that a bar closes, and the last one
-pub next_piece : (s : List ℕ) (at end : ℕ) → at ≤ length s → end ≡ at + position_or_len is_bar (drop at s) → end < length s
-    → pieces (drop at s) ≡ slice_range s at end ∷ pieces (drop (end + 1) s)
-next_piece s at end within is inside =
-    let n = position_or_len is_bar (drop at s) in
-    let small : n < length (drop at s) = omega (arith, length-drop at s) in
-    let long : n ≡ end - at = omega arith in
-    let behind : at + (n + 1) ≡ end + 1 = omega arith in
-    slice_split_first is_bar (drop at s) 0 small ∙ ap (λ k. take k (drop at s) ∷ pieces (drop (n + 1) (drop at s))) long
-    ∙ ap (λ r. slice_range s at end ∷ pieces r) (drop-drop (n + 1) at s ∙ ap (λ k. drop k s) behind)
+-- ---- where a search finds a byte
+pub found_bar : (s : List ℕ) (r : Option ℕ) (k : ℕ) → r ≡ Some k → IsFirstByte (is_byte 124) s r → IsFirstByte (is_byte 124) s (Some k)
+found_bar s r k e h = rw e at h
 
-pub last_piece : (s : List ℕ) (at end : ℕ) → at ≤ length s → end ≡ at + position_or_len is_bar (drop at s) → length s ≤ end → pieces (drop at s) ≡ drop at s ∷ []
-last_piece s at end within is over =
-    let rest = drop at s in
-    slice_split_none is_bar rest (All-from_get_or (λ x. is_bar x ≡ false) rest 0 (λ k inside.
-    not-true (is_bar (get_or rest k 0)) (prefix_len_passes (λ x. not (is_bar x)) rest k 0 (omega (arith, length-drop at s)))))
+pub no_bar : (s : List ℕ) (r : Option ℕ) → r ≡ None → IsFirstByte (is_byte 124) s r → IsFirstByte (is_byte 124) s None
+no_bar s r e h = rw e at h
 
--- ---- whether a search finds a byte
+-- the piece before the first bar
+pub next_piece : (s : List ℕ) (bar : ℕ) → IsFirstByte (is_byte 124) s (Some bar) → pieces s ≡ take bar s ∷ pieces (drop (bar + 1) s)
+next_piece s bar h =
+    let at = position_or_len_is (is_byte 124) s bar 0 (omega (arith, h.0.high)) (λ k less. false_from_ne_true (is_byte 124 (get_or s k 0)) (h.0.before k (omega arith) less)) (λ less. h.1) in
+    slice_split_first (is_byte 124) s 0 (omega (arith, at, h.0.high)) ∙ ap (λ k. take k s ∷ pieces (drop (k + 1) s)) at
+
 -- no byte that passes
 none_of : (p : ℕ → Bool) (s : List ℕ) → IsFirstByte p s None → (k : ℕ) → k < length s → p (get_or s k 0) ≡ false
 none_of p s h k less = false_from_ne_true (p (get_or s k 0)) (h k (omega arith) less)
+
+-- no bar is left
+pub last_piece : (s : List ℕ) → IsFirstByte (is_byte 124) s None → pieces s ≡ s ∷ []
+last_piece s h = slice_split_none (is_byte 124) s (All-from_get_or (λ x. is_byte 124 x ≡ false) s 0 (none_of (is_byte 124) s h))
 
 pub any_found : (p : ℕ → Bool) (s : List ℕ) (r : Option ℕ) → IsFirstByte p s r → is_some r ≡ list_any p s
 any_found p s None h = sym (list_any_none p s (All-from_get_or (λ x. p x ≡ false) s 0 (none_of p s h)))

@@ -9,7 +9,7 @@ ghost use Rattle.sip_reader.specs.Texts.{is_barred};
 use std::simd::prelude::*;
 
 /// How many bytes a processor looks at at once.
-pub(crate) const BLOCK: usize = 16;
+const BLOCK: usize = 16;
 
 /// Whether a bar, CR or LF is among the bytes.
 pub(crate) fn has_barred(bytes: &[u8]) -> bool

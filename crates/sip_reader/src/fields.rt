@@ -1,11 +1,10 @@
 //! The variable fields of a request.
 
-ghost use Rattle.std.specs.Prelude.{◌≡◌, ◌≤◌, [], drop, length};
+ghost use Rattle.std.specs.Prelude.{◌≡◌, []};
 ghost use Rattle.sip_reader.specs.Fields.{pieces, texts};
 ghost use Rattle.sip_reader.specs.Views.{texts_behind, with_piece};
 
-use crate::barred::BLOCK;
-use crate::bars::bar_from;
+use memchr::memchr;
 
 /// The texts of the variable fields that the rules use, each of the first piece with its identifier.
 #[derive(Clone, Copy)]
@@ -51,22 +50,17 @@ impl<'a> Fields<'a> {
         }
     }
 
-    /// Notes the pieces of the variable part, which begins at byte `fixed` of the message. They are noted in place, since the fields are
-    /// large to move.
-    pub fn note_behind(&mut self, message: &'a [u8], fixed: usize)
-        requires long { BLOCK ≤ length message.now }
-        requires within { fixed ≤ length message.now }
-        requires none { texts_behind self.old ≡ texts [] }
-        ensures { texts_behind self.new ≡ texts (pieces (drop fixed message.now)) }
+    /// Notes the pieces of a variable part. They are noted in place, since the fields are large to move.
+    pub fn note_all(&mut self, part: &'a [u8])
+        requires { texts_behind self.old ≡ texts [] }
+        ensures { texts_behind self.new ≡ texts (pieces part.now) }
     {
-        let mut at = fixed;
-        let mut end = bar_from(message, at);
-        while end < message.len() {
-            self.note(&message[at..end]);
-            at = end + 1;
-            end = bar_from(message, at);
+        let mut rest = part;
+        while let Some(bar) = memchr(b'|', rest) {
+            self.note(&rest[..bar]);
+            rest = &rest[bar + 1..];
         }
-        self.note(&message[at..]);
+        self.note(rest);
     }
 
     /// Notes one more piece. The first with an identifier counts.

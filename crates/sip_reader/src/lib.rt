@@ -8,7 +8,6 @@
 mod act;
 mod amount;
 mod barred;
-mod bars;
 mod checks;
 mod day;
 mod fields;

@@ -73,7 +73,7 @@ fn read_kind(
     }
     let rest = &message[fixed..];
     let mut fields = Fields::none();
-    fields.note_behind(message, fixed);
+    fields.note_all(rest);
     if is_bad_field(&layout, rest, &fields) {
         return Ok(Reading::Unread(Why::BadField));
     }

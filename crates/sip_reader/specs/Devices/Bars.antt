@@ -8,14 +8,10 @@ use Rattle.sip_reader.specs.Texts.{is_barred}
 abbrev pub is_bar : ℕ → Bool
 is_bar b = b == byte.bar
 
--- of the n bytes from a place on, a bit for each, set where it is a bar
-abbrev pub bar_bits : List ℕ → ℕ → ℕ → ℕ
-bar_bits bytes at n = mask_l (map is_bar (chunk at n bytes))
-
 abbrev pub is_other : ℕ → Bool
 is_other b = not (is_ascii_digit b)
 
--- the same, set where it is no digit
+-- of the n bytes from a place on, a bit for each, set where it is no digit
 abbrev pub other_bits : List ℕ → ℕ → ℕ → ℕ
 other_bits bytes at n = mask_l (map is_other (chunk at n bytes))
 

@@ -10,8 +10,8 @@ ghost use Rattle.sip_reader.specs.Devices.Hashes.{id_hash};
 ghost use Rattle.sip_reader.specs.Texts.{fee_id, is_id};
 
 use crate::barred::has_barred;
-use crate::held::Held;
 use crate::inline::hash_of;
+use crate::text_bytes::TextBytes;
 use arrayvec::ArrayVec;
 use itoa::Buffer;
 use std::alloc::{AllocError, Global};
@@ -30,7 +30,7 @@ pub const LINE_NUMBER_END: u64 = 10_000_000_000;
 /// The id of a patron, an item or a fee: 1 to 64 bytes without a bar, CR or LF. Ids are ordered by their bytes. Up to 14 bytes are
 /// inline; a longer id is on the heap once for all its copies, so a clone takes no memory.
 pub struct Id {
-    held: Held,
+    held: TextBytes,
 }
 
 impl Drop for Id {
@@ -67,7 +67,7 @@ impl Id {
         requires { is_id bytes.now ≡ true }
         ensures { IfOk result (λ id. id ≡ bytes.now) }
     {
-        let held = Held::of(alloc, bytes)?;
+        let held = TextBytes::of(alloc, bytes)?;
         Ok(Id { held })
     }
 
@@ -90,7 +90,7 @@ impl Id {
         ensures { result ≡ id_hash self.now }
     {
         match &self.held {
-            Held::Inline(inline) => inline.hash(),
+            TextBytes::Inline(inline) => inline.hash(),
             held => hash_of(held.as_slice()),
         }
     }
@@ -108,7 +108,7 @@ impl Id {
         ensures err { OnErr result (out.new.items ≡ out.old.items) }
     {
         match &self.held {
-            Held::Inline(inline) => inline.append_to(out),
+            TextBytes::Inline(inline) => inline.append_to(out),
             held => held.append_to(out),
         }
     }
@@ -175,7 +175,7 @@ impl Ord for Id {
 
     fn cmp(&self, other: &Id) -> Ordering {
         match (&self.held, &other.held) {
-            (Held::Inline(inline), Held::Inline(others)) => inline.order(others),
+            (TextBytes::Inline(inline), TextBytes::Inline(others)) => inline.order(others),
             _ => self.as_bytes().cmp(other.as_bytes()),
         }
     }

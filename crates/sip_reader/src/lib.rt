@@ -11,7 +11,6 @@ mod barred;
 mod checks;
 mod day;
 mod fields;
-mod held;
 mod id;
 mod inline;
 mod kind;
@@ -22,6 +21,7 @@ mod request;
 mod stamp;
 mod sum;
 mod text;
+mod text_bytes;
 
 pub use amount::{AMOUNT_MAX, Amount, push_amount};
 pub use day::Day;

@@ -4,7 +4,7 @@ ghost use Rattle.std.specs.Prelude.{◌≡◌, ◌++◌, true, IfOk, OnErr, OnOk
 ghost use Rattle.sip_reader.specs.Texts.{is_text};
 
 use crate::barred::has_barred;
-use crate::held::Held;
+use crate::text_bytes::TextBytes;
 use std::alloc::{AllocError, Global};
 use std::marker::Model;
 
@@ -13,7 +13,7 @@ pub const TEXT_MAX: usize = 1024;
 
 /// A text of a record or a message: at most 1,024 bytes without a bar, CR or LF.
 pub struct Text {
-    held: Held,
+    held: TextBytes,
 }
 
 impl Drop for Text {
@@ -40,7 +40,7 @@ impl Text {
         requires { is_text bytes.now ≡ true }
         ensures { IfOk result (λ t. t ≡ bytes.now) }
     {
-        let held = Held::of(alloc, bytes)?;
+        let held = TextBytes::of(alloc, bytes)?;
         Ok(Text { held })
     }
 
@@ -70,7 +70,7 @@ impl Text {
         ensures err { OnErr result (out.new.items ≡ out.old.items) }
     {
         match &self.held {
-            Held::Inline(inline) => inline.append_to(out),
+            TextBytes::Inline(inline) => inline.append_to(out),
             held => held.append_to(out),
         }
     }

@@ -13,7 +13,7 @@ use std::sync::{Arc, ArcSlice};
 const BLOCK_MAX: usize = 32;
 
 /// Where the bytes are.
-pub enum Held {
+pub enum TextBytes {
     /// Inline, as those of most ids.
     Inline(Inline),
     /// In a block of memory that it shares with its clones, as those of most titles.
@@ -22,45 +22,45 @@ pub enum Held {
     Many(ArcSlice<u8>),
 }
 
-impl Drop for Held {
+impl Drop for TextBytes {
     fn drop(self) {
         match self {
-            Held::Inline(_) => {}
-            Held::Block(_) => {}
-            Held::Many(_) => {}
+            TextBytes::Inline(_) => {}
+            TextBytes::Block(_) => {}
+            TextBytes::Many(_) => {}
         }
     }
 }
 
-impl Held {
+impl TextBytes {
     /// These bytes. More than 14 take memory.
-    pub fn of(alloc: Global, bytes: &[u8]) -> Result<Held, AllocError>
+    pub fn of(alloc: Global, bytes: &[u8]) -> Result<TextBytes, AllocError>
         ensures { IfOk result (λ held. bytes_held held ≡ bytes.now) }
     {
         if bytes.len() <= INLINE_MAX {
-            return Ok(Held::Inline(Inline::of(bytes)));
+            return Ok(TextBytes::Inline(Inline::of(bytes)));
         }
-        Held::of_more(alloc, bytes)
+        TextBytes::of_more(alloc, bytes)
     }
 
     /// Bytes that take memory.
     #[inline(never)]
-    fn of_more(alloc: Global, bytes: &[u8]) -> Result<Held, AllocError>
+    fn of_more(alloc: Global, bytes: &[u8]) -> Result<TextBytes, AllocError>
         ensures { IfOk result (λ held. bytes_held held ≡ bytes.now) }
     {
         if let Ok(block) = ArrayVec::try_from(bytes) {
-            return Held::block(alloc, block);
+            return TextBytes::block(alloc, block);
         }
         let bytes = ArcSlice::from_slice(alloc, bytes)?;
-        Ok(Held::Many(bytes))
+        Ok(TextBytes::Many(bytes))
     }
 
     /// Bytes that one block of memory holds.
-    fn block(alloc: Global, bytes: ArrayVec<u8, BLOCK_MAX>) -> Result<Held, AllocError>
+    fn block(alloc: Global, bytes: ArrayVec<u8, BLOCK_MAX>) -> Result<TextBytes, AllocError>
         ensures { IfOk result (λ held. bytes_held held ≡ bytes.items) }
     {
         match Arc::new(alloc, bytes) {
-            Ok(block) => Ok(Held::Block(block)),
+            Ok(block) => Ok(TextBytes::Block(block)),
             Err(_) => Err(AllocError),
         }
     }
@@ -70,9 +70,9 @@ impl Held {
         ensures { result.now ≡ bytes_held self.now }
     {
         match self {
-            Held::Inline(inline) => inline.as_bytes(),
-            Held::Block(block) => Deref::deref(block).as_slice(),
-            Held::Many(bytes) => bytes.as_slice(),
+            TextBytes::Inline(inline) => inline.as_bytes(),
+            TextBytes::Block(block) => Deref::deref(block).as_slice(),
+            TextBytes::Many(bytes) => bytes.as_slice(),
         }
     }
 
@@ -86,24 +86,24 @@ impl Held {
     }
 
     /// The same bytes. Most are inline, and this path copies those alone, so that the compiler copies two words.
-    pub fn copy(&self) -> Result<Held, AllocError>
+    pub fn copy(&self) -> Result<TextBytes, AllocError>
         ensures { IfOk result (λ held. bytes_held held ≡ bytes_held self.now) }
     {
-        if let Held::Inline(inline) = self {
-            return Ok(Held::Inline(*inline));
+        if let TextBytes::Inline(inline) = self {
+            return Ok(TextBytes::Inline(*inline));
         }
         self.copy_any()
     }
 
     /// The same, wherever they are.
     #[inline(never)]
-    fn copy_any(&self) -> Result<Held, AllocError>
+    fn copy_any(&self) -> Result<TextBytes, AllocError>
         ensures { IfOk result (λ held. bytes_held held ≡ bytes_held self.now) }
     {
         match self {
-            Held::Inline(inline) => Ok(Held::Inline(*inline)),
-            Held::Block(block) => Ok(Held::Block(Arc::try_clone(block)?)),
-            Held::Many(bytes) => Ok(Held::Many(bytes.clone()?)),
+            TextBytes::Inline(inline) => Ok(TextBytes::Inline(*inline)),
+            TextBytes::Block(block) => Ok(TextBytes::Block(Arc::try_clone(block)?)),
+            TextBytes::Many(bytes) => Ok(TextBytes::Many(bytes.clone()?)),
         }
     }
 }

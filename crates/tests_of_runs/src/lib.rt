@@ -45,6 +45,8 @@ mod script;
 #[cfg(test)]
 mod shared;
 #[cfg(test)]
+mod steps;
+#[cfg(test)]
 mod tests;
 #[cfg(test)]
 mod texts;

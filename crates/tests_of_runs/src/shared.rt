@@ -2,6 +2,7 @@
 
 use crate::calls::{number, parts_of, put, small};
 use crate::odd::key_of;
+use crate::steps;
 use crate::told::{tell, tell_begun, tell_fault, tell_number};
 use message_meaning::need;
 use read_set::{Notes, PlanName};
@@ -63,11 +64,11 @@ fn make_call<J: PlanName + Send + Sync + 'static, R: Threads + Wait + Sync + All
     let (word, first, second) = parts_of(call);
     let worker = small(first);
     match word {
-        "begin" => tell_beginning(out, &shared.begin(rt, worker)),
+        "begin" => tell_beginning(out, &steps::begin(rt, shared, worker)),
         "look" => look(rt, shared, worker, second, out),
         "publish" => publish(rt, shared, worker, out),
-        "publish_more" => tell_more(out, &shared.publish_more(rt, worker)),
-        "check" => tell_reply(out, &shared.check(rt, worker, number(second))),
+        "publish_more" => tell_more(out, &steps::publish_more(rt, shared, worker)),
+        "check" => tell_reply(out, &steps::check(rt, shared, worker, number(second))),
         "leave" => {
             shared.leave(rt, fault_of(first));
             out.push_str("left")
@@ -96,7 +97,7 @@ fn look<J: PlanName + 'static, R: Wait + AllocGlobal>(
     out: &mut String,
 ) -> Result<(), AllocError> {
     match key_of(rt.alloc(), id)? {
-        Some(key) => tell_reply(out, &shared.look(rt, worker, &key)),
+        Some(key) => tell_reply(out, &steps::look(rt, shared, worker, &key)),
         None => out.push_str("no key"),
     }
 }
@@ -111,7 +112,7 @@ fn publish<J: PlanName + 'static, R: Wait + AllocGlobal>(
     let notes = Notes::new(rt.alloc());
     let needed = need(rt.alloc(), shared.plan(), u64::MAX, 0, &notes)?;
     match put(rt, shared.table(), Some(needed)) {
-        Some(place) => tell_reply(out, &shared.publish(rt, worker, place)),
+        Some(place) => tell_reply(out, &steps::publish(rt, shared, worker, place)),
         None => out.push_str("no version"),
     }
 }

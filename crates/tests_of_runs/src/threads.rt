@@ -4,6 +4,7 @@ ghost use Rattle.std.specs.Prelude.{◌≡◌};
 ghost use Rattle.worker_pool.specs.Rows.{IsStatic};
 
 use crate::script::is_of_one_thread;
+use crate::steps;
 use crate::texts::{inputs_of, plan_of};
 use read_set::{Plan, PlanName};
 use replay_run::{Gate, Moment, rebuild};
@@ -261,10 +262,10 @@ fn begin_often<J: PlanName + 'static, R: Wait>(
         if shared.vain_tries() > VAIN_TRIES {
             return;
         }
-        if !tells_memory(&shared.begin(rt, worker)) {
+        if !tells_memory(&steps::begin(rt, shared, worker)) {
             others.fetch_add(1, Ordering::SeqCst);
         }
-        if let Some(told) = shared.try_begin(worker)
+        if let Some(told) = steps::try_begin(shared, worker)
             && !tells_memory(&told)
         {
             others.fetch_add(1, Ordering::SeqCst);

@@ -1,7 +1,7 @@
 //! What is returned after one hold of the lock.
 
-ghost use Rattle.std.specs.Prelude.{◌≡◌};
-ghost use Rattle.worker_pool.specs.Holds.{fault_in, fault_of};
+ghost use Rattle.std.specs.Prelude.{◌≡◌, option_copied};
+ghost use Rattle.worker_pool.specs.Holds.{fault_in};
 
 use board_lines::Reply;
 use read_set::PlanName;
@@ -21,24 +21,14 @@ impl From<AllocError> for Left {
 /// What a free worker has begun: its choice, with the board's reply to the call that the choice names, if it names one.
 pub type Begun<'t, J> = (Choice, Option<Reply<'t, J>>);
 
-/// The fault for which a reply refuses its call.
-pub fn refusal<J: PlanName>(reply: &Reply<'_, J>) -> Option<BoardFault>
-    ensures { result ≡ fault_of reply.now }
-{
-    match reply {
-        Reply::Attempts { line } => Some(BoardFault::Attempts { line: *line }),
-        Reply::ClockSpent => Some(BoardFault::ClockSpent),
-        Reply::Memory => Some(BoardFault::Memory),
-        _ => None,
-    }
-}
-
 /// The fault for which a reply, if there is one, refuses its call.
-pub fn refusal_in<J: PlanName>(reply: &Option<Reply<'_, J>>) -> Option<BoardFault>
-    ensures { result ≡ fault_in reply.now }
+pub fn refusal<J: PlanName>(reply: Option<&Reply<'_, J>>) -> Option<BoardFault>
+    ensures { result ≡ fault_in (option_copied reply.entry) }
 {
     match reply {
-        Some(reply) => refusal(reply),
-        None => None,
+        Some(Reply::Attempts { line }) => Some(BoardFault::Attempts { line: *line }),
+        Some(Reply::ClockSpent) => Some(BoardFault::ClockSpent),
+        Some(Reply::Memory) => Some(BoardFault::Memory),
+        _ => None,
     }
 }

@@ -8,7 +8,7 @@ ghost use Rattle.board_lines.specs.Notes.{contents_at};
 ghost use Rattle.board_lines.specs.Replies.{Answers};
 ghost use Rattle.worker_pool.specs.Holds.{BeginsChosen, Holds, fault_in, fault_of};
 
-use crate::calls::{Begun, Left, refusal, refusal_in};
+use crate::calls::{Begun, Left, refusal};
 use board_lines::Reply;
 use circ_records::Key;
 use read_set::PlanName;
@@ -32,7 +32,7 @@ impl<'p, 't, J: PlanName> FusedBoard<'p, 't, J> {
             return Err(Left(first));
         }
         let begun = self.board.begin(worker);
-        self.left = refusal_in(&begun.1);
+        self.left = refusal(begun.1.as_ref());
         match self.left {
             Some(fault) => Err(Left(fault)),
             None => Ok(begun),
@@ -47,7 +47,7 @@ impl<'p, 't, J: PlanName> FusedBoard<'p, 't, J> {
             return Err(Left(fault));
         }
         let reply = self.board.look(worker, key);
-        self.left = refusal(&reply);
+        self.left = refusal(Some(&reply));
         match self.left {
             Some(fault) => Err(Left(fault)),
             None => Ok(reply),
@@ -62,7 +62,7 @@ impl<'p, 't, J: PlanName> FusedBoard<'p, 't, J> {
             return Err(Left(fault));
         }
         let reply = self.board.publish(worker, place);
-        self.left = refusal(&reply);
+        self.left = refusal(Some(&reply));
         match self.left {
             Some(fault) => Err(Left(fault)),
             None => Ok(reply),
@@ -77,7 +77,7 @@ impl<'p, 't, J: PlanName> FusedBoard<'p, 't, J> {
             return Err(Left(fault));
         }
         let reply = self.board.publish_more(worker);
-        self.left = refusal_in(&reply);
+        self.left = refusal(reply.as_ref());
         match self.left {
             Some(fault) => Err(Left(fault)),
             None => Ok(reply),
@@ -92,7 +92,7 @@ impl<'p, 't, J: PlanName> FusedBoard<'p, 't, J> {
             return Err(Left(fault));
         }
         let reply = self.board.check(worker, line);
-        self.left = refusal(&reply);
+        self.left = refusal(Some(&reply));
         match self.left {
             Some(fault) => Err(Left(fault)),
             None => Ok(reply),

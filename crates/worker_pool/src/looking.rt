@@ -24,7 +24,8 @@ impl<J: PlanName + 'static, R: Wait> Looks for OnBoard<'_, '_, '_, J, R> {
         _alloc: Global,
         key: &Key,
     ) -> Result<Option<(Name, Option<Record>)>, AllocError> {
-        match self.shared.look(self.rt, self.worker, key) {
+        let seen = self.shared.hold(self.rt).look(self.worker, key);
+        match seen {
             Ok(Reply::Seen { name, place }) => {
                 let found = copied(record_seen(self.shared.plan(), key, place))?;
                 Ok(Some((name, found)))

@@ -2,29 +2,25 @@
 
 ghost use Rattle.std.specs.Prelude.{◌≡◌, ◌<◌, IfErr, length};
 
-use crate::calls::{Begun, Left};
 use crate::held::FusedBoard;
-use board_lines::Reply;
-use circ_records::Key;
 use read_set::{Plan, PlanName};
 use speculate::{Board, BoardFault, Finished, Open};
 use std::hint::spin_loop;
 use std::sync::atomic::{AtomicU64, Ordering};
 use std::sync::{Mutex, MutexGuard, Wait};
 use std::time::Duration;
-use version_store::{Place, VersionTable};
+use version_store::VersionTable;
 
 /// How often a worker tries the lock before it sleeps. A hold of the lock is short; to sleep and be woken costs far more, and
 /// delays the publication of the line that the worker has in hand.
 const TRIES: u32 = 1000;
 
-/// How often a free worker tries the lock before it rests. While others keep the lock busy, one more line in hand speeds
+/// How often a free worker tries the lock before it rests (`try_hold`). While others keep the lock busy, one more line in hand speeds
 /// nothing up, and the worker that held the lock last has the board in its core's cache (`bench/threads`).
-const TRIES_AT_EASE: u32 = 20;
+pub const TRIES_AT_EASE: u32 = 20;
 
-/// A board under a lock, and, outside the lock, the plan and the table of the versions. Each of the five steps `begin`, `look`,
-/// `publish`, `publish_more` and `check` is one hold of the lock: it makes one call of the board and returns its reply; once a fault
-/// was stored, it makes no call and returns that fault. The two counters don't need the board.
+/// A board under a lock, and, outside the lock, the plan and the table of the versions. A step of a worker is one hold of the lock
+/// (`hold`, `try_hold`), in which it calls one method of the `FusedBoard`. The two counters don't need the board.
 #[derive(Drop)]
 pub struct SharedBoard<'p, 't, J: PlanName> {
     plan: &'p Plan,
@@ -75,8 +71,9 @@ impl<'p, 't, J: PlanName + 'static> SharedBoard<'p, 't, J> {
         self.vain_tries.load(Ordering::Relaxed)
     }
 
-    /// Takes the lock, if it is free at one of this number of tries.
-    fn try_hold(&self, tries: u32) -> Option<MutexGuard<'_, FusedBoard<'p, 't, J>>> {
+    /// Takes the lock, if it is free at one of this number of tries; else None: the board wasn't asked, and a stored fault wasn't
+    /// looked for.
+    pub fn try_hold(&self, tries: u32) -> Option<MutexGuard<'_, FusedBoard<'p, 't, J>>> {
         for tried in 0..tries {
             if let Some(held) = self.held.try_lock() {
                 self.count(tried);
@@ -98,47 +95,11 @@ impl<'p, 't, J: PlanName + 'static> SharedBoard<'p, 't, J> {
     }
 
     /// Takes the lock, without sleeping if it can. (`lock` alone sleeps at once where another worker sleeps.)
-    fn hold<R: Wait>(&self, rt: &R) -> MutexGuard<'_, FusedBoard<'p, 't, J>> {
+    pub fn hold<R: Wait>(&self, rt: &R) -> MutexGuard<'_, FusedBoard<'p, 't, J>> {
         match self.try_hold(TRIES) {
             Some(held) => held,
             None => self.held.lock(rt),
         }
-    }
-
-    /// Chooses what a free worker does next, and does it.
-    pub fn begin<R: Wait>(&self, rt: &R, worker: u32) -> Result<Begun<'t, J>, Left> {
-        self.hold(rt).begin(worker)
-    }
-
-    /// The same where the lock is free at one of a few tries; else None: the board wasn't called, and a stored fault wasn't looked for.
-    pub fn try_begin(&self, worker: u32) -> Option<Result<Begun<'t, J>, Left>> {
-        let mut held = self.try_hold(TRIES_AT_EASE)?;
-        Some(held.begin(worker))
-    }
-
-    /// A worker looks at a key for its line.
-    pub fn look<R: Wait>(&self, rt: &R, worker: u32, key: &Key) -> Result<Reply<'t, J>, Left> {
-        self.hold(rt).look(worker, key)
-    }
-
-    /// The first act of the publication of the version at a place.
-    pub fn publish<R: Wait>(
-        &self,
-        rt: &R,
-        worker: u32,
-        place: Place<'t, J>,
-    ) -> Result<Reply<'t, J>, Left> {
-        self.hold(rt).publish(worker, place)
-    }
-
-    /// One more act of the publication that the worker's line is in; None where the line isn't in one.
-    pub fn publish_more<R: Wait>(&self, rt: &R, worker: u32) -> Result<Option<Reply<'t, J>>, Left> {
-        self.hold(rt).publish_more(worker)
-    }
-
-    /// Begins or continues the check of a line that is done, and compares one noted name.
-    pub fn check<R: Wait>(&self, rt: &R, worker: u32, line: u64) -> Result<Reply<'t, J>, Left> {
-        self.hold(rt).check(worker, line)
     }
 
     /// Stores a fault, unless one was stored before. Then all workers have to end.

@@ -1,14 +1,13 @@
 //! What each worker does.
 
-ghost use Rattle.std.specs.Prelude.{◌≡◌, IfOk, IfSome};
+ghost use Rattle.std.specs.Prelude.{IfOk, IfSome};
 ghost use Rattle.message_meaning.specs.Needs.{AreAsked};
-ghost use Rattle.read_set.specs.Settling.{Settles};
 ghost use Rattle.worker_pool.specs.Rows.{IsStatic};
 
-use crate::calls::{Begun, Left};
+use crate::calls::Left;
 use crate::gate::{Gate, Moment};
 use crate::looking::OnBoard;
-use crate::shared::SharedBoard;
+use crate::shared::{SharedBoard, TRIES_AT_EASE};
 use board_lines::Reply;
 use message_meaning::perform_one_by_one;
 use read_set::{Effect, Notes, Noting, PlanName, Stop, Version};
@@ -46,16 +45,6 @@ struct WorkerTask {
     attempt: u32,
 }
 
-/// What a worker has begun.
-#[derive(Clone, Copy)]
-enum Duty {
-    Commit { line: u64 },
-    Check { line: u64, course: StepsLeft },
-    Attempt(WorkerTask),
-    Nothing,
-    End,
-}
-
 /// How far a publication or a check has come.
 #[derive(Clone, Copy)]
 enum StepsLeft {
@@ -86,20 +75,6 @@ pub fn run_workers<J: PlanName + Send + Sync + 'static, G: Gate + Sync, R: Threa
     shared: &SharedBoard<'_, '_, J>,
     gate: &G,
 ) -> Result<(), BoardFault> {
-    start_workers(rt, alloc, shared, gate);
-    match shared.left(rt) {
-        Some(fault) => Err(fault),
-        None => Ok(()),
-    }
-}
-
-/// Runs the workers until each has ended.
-fn start_workers<J: PlanName + Send + Sync + 'static, G: Gate + Sync, R: Threads + Wait + Sync>(
-    rt: &R,
-    alloc: Global,
-    shared: &SharedBoard<'_, '_, J>,
-    gate: &G,
-) {
     let workers = shared.workers();
     thread::scope(
         thread::scope_env(),
@@ -120,6 +95,10 @@ fn start_workers<J: PlanName + Send + Sync + 'static, G: Gate + Sync, R: Threads
             work(rt, alloc, shared, gate, 0);
         },
     );
+    match shared.left(rt) {
+        Some(fault) => Err(fault),
+        None => Ok(()),
+    }
 }
 
 /// Works until all lines are committed or a fault was stored. Then all workers that rest are woken.
@@ -190,51 +169,32 @@ fn take_turn<J: PlanName + 'static, G: Gate, R: Wait>(
     gate: &G,
     worker: u32,
 ) -> Result<WorkerTurn, Left> {
-    match begin(rt, shared, worker)? {
-        Duty::End => Ok(WorkerTurn::Last),
-        Duty::Nothing => Ok(WorkerTurn::Yield),
-        Duty::Commit { line } => {
-            gate.at(worker, line, Moment::Committed);
+    let begun = if worker == 0 {
+        shared.hold(rt).begin(worker)
+    } else {
+        let Some(mut held) = shared.try_hold(TRIES_AT_EASE) else {
+            return Ok(WorkerTurn::Yield);
+        };
+        held.begin(worker)
+    };
+    match &begun {
+        Ok((Choice::End, _)) => Ok(WorkerTurn::Last),
+        Ok((Choice::Commit(line), Some(Reply::Committed))) => {
+            gate.at(worker, *line, Moment::Committed);
             Ok(WorkerTurn::Next)
         }
-        Duty::Check { line, course } => check_line(rt, shared, gate, worker, line, course),
-        Duty::Attempt(task) => {
-            gate.at(worker, task.line, Moment::Taken);
+        Ok((Choice::Check(line), Some(reply))) => {
+            check_line(rt, shared, gate, worker, *line, course_of(reply))
+        }
+        Ok((Choice::Take(line), Some(Reply::Taken { attempt }))) => {
+            let task = WorkerTask {
+                worker,
+                line: *line,
+                attempt: *attempt,
+            };
             run_line(rt, alloc, shared, gate, task)
         }
-    }
-}
-
-/// Begins what a free worker does next. Workers other than the first begin nothing while the lock is taken.
-fn begin<J: PlanName + 'static, R: Wait>(
-    rt: &R,
-    shared: &SharedBoard<'_, '_, J>,
-    worker: u32,
-) -> Result<Duty, Left> {
-    if worker == 0 {
-        return duty_of(worker, &shared.begin(rt, worker));
-    }
-    match &shared.try_begin(worker) {
-        Some(begun) => duty_of(worker, begun),
-        None => Ok(Duty::Nothing),
-    }
-}
-
-/// What the worker goes on with.
-fn duty_of<J: PlanName>(worker: u32, begun: &Result<Begun<'_, J>, Left>) -> Result<Duty, Left> {
-    match begun {
-        Ok((Choice::End, _)) => Ok(Duty::End),
-        Ok((Choice::Commit(line), Some(Reply::Committed))) => Ok(Duty::Commit { line: *line }),
-        Ok((Choice::Check(line), Some(reply))) => Ok(Duty::Check {
-            line: *line,
-            course: course_of(reply),
-        }),
-        Ok((Choice::Take(line), Some(Reply::Taken { attempt }))) => Ok(Duty::Attempt(WorkerTask {
-            worker,
-            line: *line,
-            attempt: *attempt,
-        })),
-        Ok(_) => Ok(Duty::Nothing),
+        Ok(_) => Ok(WorkerTurn::Yield),
         Err(left) => Err(*left),
     }
 }
@@ -247,14 +207,6 @@ fn course_of<J: PlanName>(reply: &Reply<'_, J>) -> StepsLeft {
         Reply::Same => StepsLeft::More,
         Reply::Whole => StepsLeft::Whole,
         _ => StepsLeft::Over,
-    }
-}
-
-/// The same by what a step returned.
-fn course_after<J: PlanName>(given: &Result<Reply<'_, J>, Left>) -> Result<StepsLeft, Left> {
-    match given {
-        Ok(reply) => Ok(course_of(reply)),
-        Err(left) => Err(*left),
     }
 }
 
@@ -277,12 +229,16 @@ fn check_line<J: PlanName + 'static, G: Gate, R: Wait>(
             }
             StepsLeft::Over => return Ok(WorkerTurn::Yield),
         }
-        course = course_after(&shared.check(rt, worker, line))?;
+        let checked = shared.hold(rt).check(worker, line);
+        course = match &checked {
+            Ok(reply) => course_of(reply),
+            Err(left) => return Err(*left),
+        };
     }
     unreachable!()
 }
 
-/// Runs a line that the worker has taken, until its version is published or the attempt ends.
+/// Runs a line that the worker has taken, and publishes its version act by act, until all is published or the attempt ends.
 fn run_line<J: PlanName + 'static, G: Gate, R: Wait>(
     rt: &R,
     alloc: Global,
@@ -290,10 +246,32 @@ fn run_line<J: PlanName + 'static, G: Gate, R: Wait>(
     gate: &G,
     task: WorkerTask,
 ) -> Result<WorkerTurn, Left> {
+    gate.at(task.worker, task.line, Moment::Taken);
     let Some(place) = read_line(rt, alloc, shared, task)? else {
         return Ok(WorkerTurn::Yield);
     };
-    publish_line(rt, shared, gate, task, place)
+    let published = shared.hold(rt).publish(task.worker, place);
+    let mut course = match &published {
+        Ok(reply) => course_of(reply),
+        Err(left) => return Err(*left),
+    };
+    for _ in rt.forever() {
+        match course {
+            StepsLeft::More => {}
+            StepsLeft::Whole => {
+                gate.at(task.worker, task.line, Moment::Whole);
+                return Ok(WorkerTurn::Next);
+            }
+            StepsLeft::Over => return Ok(WorkerTurn::Yield),
+        }
+        let more = shared.hold(rt).publish_more(task.worker);
+        course = match &more {
+            Ok(Some(reply)) => course_of(reply),
+            Ok(None) => StepsLeft::Over,
+            Err(left) => return Err(*left),
+        };
+    }
+    unreachable!()
 }
 
 /// Runs the rule of a line on what the worker looks at on the board, and notes. Returns the place of the line's version, which
@@ -316,8 +294,8 @@ fn read_line<'t, J: PlanName + 'static, R: Wait>(
         },
     };
     match perform_one_by_one(alloc, shared.plan(), task.line, &mut source) {
-        Ok(effect) => {
-            let version = version_of(task, source.notes, effect);
+        Ok(Effect { writes, answer }) => {
+            let version = Version::new(task.line, task.attempt, source.notes, writes, answer);
             match shared.table().put(rt, version) {
                 Ok(place) => Ok(Some(place)),
                 Err(_) => Err(Left(BoardFault::Memory)),
@@ -329,40 +307,4 @@ fn read_line<'t, J: PlanName + 'static, R: Wait>(
         },
         Err(Stop::Memory) => Err(Left(BoardFault::Memory)),
     }
-}
-
-/// The version that a line's rule results in on these notes.
-fn version_of<J: PlanName>(task: WorkerTask, notes: Notes, effect: Effect) -> Version<J>
-    requires { Settles J.plan task.line notes effect.writes effect.answer }
-    ensures { result ≡ record { line = task.line; attempt = task.attempt; reads = notes; writes = effect.writes; answer = effect.answer } }
-{
-    let Effect { writes, answer } = effect;
-    Version::new(task.line, task.attempt, notes, writes, answer)
-}
-
-/// Publishes the version at a place, act by act.
-fn publish_line<'t, J: PlanName + 'static, G: Gate, R: Wait>(
-    rt: &R,
-    shared: &SharedBoard<'_, 't, J>,
-    gate: &G,
-    task: WorkerTask,
-    place: Place<'t, J>,
-) -> Result<WorkerTurn, Left> {
-    let mut course = course_after(&shared.publish(rt, task.worker, place))?;
-    for _ in rt.forever() {
-        match course {
-            StepsLeft::More => {}
-            StepsLeft::Whole => {
-                gate.at(task.worker, task.line, Moment::Whole);
-                return Ok(WorkerTurn::Next);
-            }
-            StepsLeft::Over => return Ok(WorkerTurn::Yield),
-        }
-        course = match &shared.publish_more(rt, task.worker) {
-            Ok(Some(reply)) => course_of(reply),
-            Ok(None) => StepsLeft::Over,
-            Err(left) => return Err(*left),
-        };
-    }
-    unreachable!()
 }

@@ -1,5 +1,5 @@
 use mathlib.Core.List.{not-mem-nil}
-use Rattle.worker_pool.proofs.shared.SharedBoard.try_begin.Goals as goal
+use Rattle.tests_of_runs.proofs.steps.try_begin.Goals as goal
 
 -- a plan's name lives as long as any place
 pub drop-held-requires-lives-T-Destruct : goal.drop-held-requires-lives-T-Destruct

@@ -1,0 +1,6 @@
+use mathlib.Core.List.{not-mem-nil}
+use Rattle.worker_pool.proofs.workers.check_line.Goals as goal
+
+-- a plan's name lives as long as any place
+pub drop-hold-requires-lives-T-Destruct : goal.drop-hold-requires-lives-T-Destruct
+drop-hold-requires-lives-T-Destruct g c κs within = λ a m. absurd (not-mem-nil (c.type_bounds.static-J a m))

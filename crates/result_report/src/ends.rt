@@ -1,12 +1,11 @@
 //! The end of a run, and what is collected from it.
 
-ghost use Rattle.std.specs.Prelude.{◌≡◌, ◌≤◌, ◌<◌, ◌+◌, ◌++◌, ◌∷◌, ◌^◌, [], ℕ, List, Option, IfOk, IfSome, OnOk, length, map, option_copied, option_map, slice_get};
-ghost use Rattle.std.specs.List.{range_with_len};
+ghost use Rattle.std.specs.Prelude.{◌≡◌, ◌<◌, ◌++◌, ◌∷◌, ◌^◌, [], ℕ, List, Option, IfOk, IfSome, OnOk, length, map, option_copied, option_map, slice_get};
 ghost use Rattle.circ_records.specs.declared.key.Key.{Key};
 ghost use Rattle.circ_records.specs.declared.record.Record.{Record};
 ghost use Rattle.read_set.specs.Plans.{Planned};
 ghost use Rattle.sip_answer.specs.declared.answer.Answer.{Answer};
-ghost use Rattle.result_report.specs.Ends.{AreRecordsAt, HasAt, keys_named, lines_keys, named_keys, numbers_of};
+ghost use Rattle.result_report.specs.Ends.{AreRecordsAt, HasAt, keys_named, named_keys, numbers_of};
 ghost use Rattle.result_report.specs.Report.{answers_behind};
 
 use crate::outcome::{LastRecords, Outcome};
@@ -66,23 +65,23 @@ pub fn collect<'e, E: End<'e>>(alloc: Global, end: &E) -> Result<Outcome<'e>, Al
     ensures attempts { IfOk result (λ o. o.attempts.items ≡ map (E.attempted end.now) (numbers_of (E.planned end.now))) }
     ensures records { IfOk result (λ o. AreRecordsAt (named_keys (E.planned end.now) (E.entered end.now)) (E.left end.now) o.records) }
 {
+    let records = match end.records() {
+        Some(records) => LastRecords::lent(records),
+        None => LastRecords::collected(collect_records(alloc, end)?),
+    };
     let first = end.plan().first();
     let count = end.plan().readings().len();
-    Ok(Outcome {
-        records: last_records(alloc, end)?,
-        answers: collect_answers(alloc, end, first, count)?,
-        attempts: collect_attempts(alloc, end, first, count)?,
-    })
-}
-
-/// The records after the last line, as the end lends them, or else looked up key by key.
-fn last_records<'e, E: End<'e>>(alloc: Global, end: &E) -> Result<LastRecords<'e>, AllocError>
-    ensures { IfOk result (AreRecordsAt (named_keys (E.planned end.now) (E.entered end.now)) (E.left end.now)) }
-{
-    match end.records() {
-        Some(records) => Ok(LastRecords::lent(records)),
-        None => Ok(LastRecords::collected(collect_records(alloc, end)?)),
+    let mut answers = Vec::with_capacity(alloc, count)?;
+    let mut attempts = Vec::with_capacity(alloc, count)?;
+    for i in 0..count {
+        answers.push(end.answer(first + i as u64))?;
+        attempts.push(end.attempt(first + i as u64))?;
     }
+    Ok(Outcome {
+        records,
+        answers,
+        attempts,
+    })
 }
 
 /// The records at the keys of the plan and of what the lines wrote.
@@ -92,40 +91,10 @@ fn collect_records<'e, E: End<'e>>(alloc: Global, end: &E) -> Result<Records, Al
     let first = end.plan().first();
     let count = end.plan().readings().len();
     let mut records = base_records(alloc, end)?;
-    take_lines(alloc, end, first, count, &mut records)?;
+    for i in 0..count {
+        take_entries(alloc, end, first + i as u64, &mut records)?;
+    }
     Ok(Records::from_map(alloc, records)?)
-}
-
-fn collect_answers<'e, E: End<'e>>(
-    alloc: Global,
-    end: &E,
-    first: u64,
-    count: usize,
-) -> Result<Vec<Option<&'e Answer>>, AllocError>
-    requires { first + count ≤ 2 ^ 64 }
-    ensures { IfOk result (λ v. answers_behind v.items ≡ map (E.answered end.now) (range_with_len first count)) }
-{
-    let mut answers = Vec::with_capacity(alloc, count)?;
-    for i in 0..count {
-        answers.push(end.answer(first + i as u64))?;
-    }
-    Ok(answers)
-}
-
-fn collect_attempts<'e, E: End<'e>>(
-    alloc: Global,
-    end: &E,
-    first: u64,
-    count: usize,
-) -> Result<Vec<u32>, AllocError>
-    requires { first + count ≤ 2 ^ 64 }
-    ensures { IfOk result (λ v. v.items ≡ map (E.attempted end.now) (range_with_len first count)) }
-{
-    let mut attempts = Vec::with_capacity(alloc, count)?;
-    for i in 0..count {
-        attempts.push(end.attempt(first + i as u64))?;
-    }
-    Ok(attempts)
 }
 
 /// The records at the keys of the plan. These rise, so each goes after the others.
@@ -156,25 +125,7 @@ fn put_rising<'e, E: End<'e>>(
     Ok(())
 }
 
-/// Takes the records at the keys of what the lines wrote. Where memory runs out `collect` drops the records, here and below.
-fn take_lines<'e, E: End<'e>>(
-    alloc: Global,
-    end: &E,
-    first: u64,
-    count: usize,
-    records: &mut RecordMap,
-) -> Result<(), AllocError>
-    requires { first + count ≤ 2 ^ 64 }
-    ensures { OnOk result ((keys : List Key) → HasAt keys (E.left end.now) records.old
-        → HasAt (keys ++ lines_keys (E.entered end.now) (range_with_len first count)) (E.left end.now) records.new) }
-{
-    for i in 0..count {
-        take_entries(alloc, end, first + i as u64, records)?;
-    }
-    Ok(())
-}
-
-/// Takes the records at the keys of what one line wrote.
+/// Takes the records at the keys of what one line wrote. Where memory runs out `collect` drops the records, here and below.
 fn take_entries<'e, E: End<'e>>(
     alloc: Global,
     end: &E,

@@ -1,6 +1,6 @@
 //! The texts of the result tables.
 
-ghost use Rattle.std.specs.Prelude.{◌≡◌, ◌<◌, ◌≤◌, ◌+◌, ◌++◌, ◌^◌, ◌*◌, [], ℕ, List, IfOk, OnOk, drop, take, length, option_copied, option_map, slice_get};
+ghost use Rattle.std.specs.Prelude.{◌≡◌, ◌<◌, ◌+◌, ◌++◌, ◌^◌, ◌*◌, [], ℕ, List, IfOk, OnOk, drop, take, length, option_copied, option_map, slice_get};
 ghost use Rattle.read_set.specs.Plans.{readings_of};
 ghost use Rattle.result_report.specs.Report.{AreAnswers, LineResult, answers_behind, line_results};
 ghost use Rattle.journal_table.specs.declared.readings.TheConstants.{STRETCH};
@@ -147,16 +147,9 @@ fn result_at<'l, 't, 'p, 'e>(
     ensures { option_map (λ t. (t.0.now, t.1.now, option_copied t.2)) result ≡ slice_get (line_results lines.now plan.now.readings (answers_behind answers.now)) position }
 {
     let line = lines.get(position)?;
-    let reading = reading_at(plan, position)?;
+    let reading = plan.readings().get(position)?;
     let answer = answers.get(position)?;
     Some((line, reading, *answer))
-}
-
-/// What the line at a position is read as.
-fn reading_at(plan: &Plan, position: usize) -> Option<&Reading>
-    ensures { option_copied result ≡ slice_get plan.now.readings position }
-{
-    plan.readings().get(position)
 }
 
 /// The result tables with those of the next stretches after them. A part is freed once it is joined.
@@ -192,22 +185,11 @@ impl ResultTexts {
         put_behind(&mut self.answers, heads.answers, more.answers.as_slice())?;
         put_behind(&mut self.report, heads.report, more.report.as_slice())?;
         put_behind(&mut self.passed, heads.passed, more.passed.as_slice())?;
-        self.sizes = self.sizes.and(more.sizes);
+        let (sizes, more) = (&mut self.sizes, more.sizes);
+        sizes.answered = sizes.answered.saturating_add(more.answered);
+        sizes.passed = sizes.passed.saturating_add(more.passed);
+        sizes.differences = sizes.differences.saturating_add(more.differences);
         Ok(())
-    }
-}
-
-impl Sizes {
-    fn and(self, more: Sizes) -> Sizes
-        ensures answered { self.answered + more.answered < 2 ^ 64 → result.answered ≡ self.answered + more.answered }
-        ensures passed { self.passed + more.passed < 2 ^ 64 → result.passed ≡ self.passed + more.passed }
-        ensures differences { self.differences + more.differences < 2 ^ 64 → result.differences ≡ self.differences + more.differences }
-    {
-        Sizes {
-            answered: self.answered.saturating_add(more.answered),
-            passed: self.passed.saturating_add(more.passed),
-            differences: self.differences.saturating_add(more.differences),
-        }
     }
 }
 

@@ -1,7 +1,6 @@
 //! What the tables say of a line, in their words.
 
-ghost use Rattle.std.specs.Prelude.{◌≡◌, IfOk, map, option_map, string_bytes};
-ghost use Rattle.sip_answer.specs.Words.{word_of};
+ghost use Rattle.std.specs.Prelude.{◌≡◌, IfOk, option_map, string_bytes};
 ghost use Rattle.result_report.specs.Report.{reason_of, sequence_of, joined_words};
 
 use sip_answer::Field;
@@ -33,12 +32,6 @@ pub fn reason_of(reading: &Reading) -> Option<&'static str>
 pub fn joined_words(alloc: Global, fields: &[Field]) -> Result<String, AllocError>
     ensures { IfOk result (λ s. string_bytes s ≡ joined_words fields.now) }
 {
-    let words = each_word(alloc, fields)?;
+    let words: Vec<&'static str> = fields.iter().map(|field| field.word()).collect(alloc)?;
     words.join(alloc, " ")
-}
-
-fn each_word(alloc: Global, fields: &[Field]) -> Result<Vec<&'static str>, AllocError>
-    ensures { IfOk result (λ words. map (λ word. word.now) words.items ≡ map word_of fields.now) }
-{
-    fields.iter().map(|field| field.word()).collect(alloc)
 }

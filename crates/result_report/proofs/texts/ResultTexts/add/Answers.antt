@@ -1,3 +1,4 @@
+use Rattle.std.proofs.Common.{arith}
 use Rattle.result_report.proofs.Parts.{texts-behind}
 use Rattle.result_report.proofs.texts.ResultTexts.add.Goals as goal
 
@@ -8,4 +9,4 @@ returns c front back few heads was more =
     (rw c.as_slice.ensures.value at c.in_ok-put_behind.ensures)
     (rw c.as_slice-2.ensures.value at c.in_ok-put_behind-2.ensures)
     (rw c.as_slice-3.ensures.value at c.in_ok-put_behind-3.ensures)
-    c.and-self.ensures.answered c.and-self.ensures.passed c.and-self.ensures.differences
+    (λ small. omega (arith, small, c.saturating_add-sizes.ensures)) (λ small. omega (arith, small, c.saturating_add-sizes-2.ensures)) (λ small. omega (arith, small, c.saturating_add-sizes-3.ensures))

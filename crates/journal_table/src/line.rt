@@ -134,30 +134,19 @@ impl<'t> LineTexts<'t> {
         }
     }
 
-    fn as_bytes(&self) -> &[u8]
-        ensures { result.now ≡ text_of self.now }
+    /// The length of the connection, that of the request, and the three texts with commas between.
+    fn parts(&self) -> (usize, usize, &[u8])
+        ensures connection { result.0 ≡ connection_len self.now }
+        ensures request { result.1 ≡ request_len self.now }
+        ensures texts { result.2.now ≡ text_of self.now }
     {
         match self {
-            LineTexts::Lent { bytes, .. } => bytes,
-            LineTexts::Own(own) => own.bytes.as_slice(),
-        }
-    }
-
-    fn connection_len(&self) -> usize
-        ensures { result ≡ connection_len self.now }
-    {
-        match self {
-            LineTexts::Lent { connection_len, .. } => usize::from(*connection_len),
-            LineTexts::Own(own) => own.connection_len,
-        }
-    }
-
-    fn request_len(&self) -> usize
-        ensures { result ≡ request_len self.now }
-    {
-        match self {
-            LineTexts::Lent { request_len, .. } => *request_len as usize,
-            LineTexts::Own(own) => own.request_len,
+            LineTexts::Lent {
+                connection_len,
+                request_len,
+                bytes,
+            } => (usize::from(*connection_len), *request_len as usize, bytes),
+            LineTexts::Own(own) => (own.connection_len, own.request_len, own.bytes.as_slice()),
         }
     }
 }
@@ -186,22 +175,6 @@ fn with_commas(
 }
 
 impl<'t> Line<'t> {
-    /// A line of these texts.
-    fn new(
-        number: u64,
-        texts: LineTexts<'t>,
-        connection: &[u8],
-        request: &[u8],
-        response: &[u8],
-    ) -> Line<'t>
-        requires number { IsInRange 1 line_number_max number }
-        requires short { length connection.now ≤ CONNECTION_LIMIT }
-        requires texts { AreTexts texts connection.now request.now response.now }
-        ensures { result ≡ record { number = number; connection = connection.now; request = request.now; response = response.now } }
-    {
-        Line { number, texts }
-    }
-
     /// The number, from 1 to 9,999,999,999.
     pub fn number(&self) -> u64
         ensures value { result ≡ self.now.number }
@@ -215,24 +188,24 @@ impl<'t> Line<'t> {
         ensures value { result.now ≡ self.now.connection }
         ensures short { length self.now.connection ≤ CONNECTION_LIMIT }
     {
-        &self.texts.as_bytes()[..self.texts.connection_len()]
+        let (connection, _, bytes) = self.texts.parts();
+        &bytes[..connection]
     }
 
     /// The request, as it was received.
     pub fn request(&self) -> &[u8]
         ensures { result.now ≡ self.now.request }
     {
-        let bytes = self.texts.as_bytes();
-        let begin = self.texts.connection_len() + 1;
-        &bytes[begin..begin + self.texts.request_len()]
+        let (connection, request, bytes) = self.texts.parts();
+        &bytes[connection + 1..connection + 1 + request]
     }
 
     /// The response that was recorded, of any length.
     pub fn response(&self) -> &[u8]
         ensures { result.now ≡ self.now.response }
     {
-        let bytes = self.texts.as_bytes();
-        &bytes[self.texts.connection_len() + 1 + self.texts.request_len() + 1..]
+        let (connection, request, bytes) = self.texts.parts();
+        &bytes[connection + 1 + request + 1..]
     }
 }
 
@@ -263,7 +236,7 @@ pub(crate) fn read_line<'t>(
     }
     let (request, response) = (column(fields, 2), column(fields, 3));
     let texts = LineTexts::of(alloc, rows, digits, connection, request, response)?;
-    Ok(Line::new(number, texts, connection, request, response))
+    Ok(Line { number, texts })
 }
 
 /// Whether a line may have this number after the line before.

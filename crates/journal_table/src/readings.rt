@@ -1,8 +1,7 @@
 //! The requests of a journal, read one after the other or by all cores.
 
-ghost use Rattle.std.specs.Prelude.{◌≡◌, ◌+◌, ◌≤◌, ◌^◌, IfOk, length, map, option_copied, slice_get, unwrap_or};
+ghost use Rattle.std.specs.Prelude.{◌≡◌, ◌≤◌, IfOk, length, map, option_copied, slice_get};
 ghost use Rattle.std.specs.List.{AllByRecursion};
-ghost use Rattle.journal_table.specs.Entry.{AreLines, Numbered, first_number};
 ghost use Rattle.journal_table.specs.declared.TheConstants.{LINE_LIMIT};
 ghost use Rattle.journal_table.specs.Readings.{EndInTime, IsRead, Rises, first_read, reading_at, readings_of, requests_read};
 ghost use Rattle.journal_table.specs.Stretches.{AreStretchesOf, stretches_of};
@@ -51,15 +50,14 @@ impl Model for Readings {
 }
 
 impl Readings {
-    /// The readings of lines, from the stretches in which they were read.
-    fn of(lines: &[Line], stretches: Vec<Vec<Reading>>) -> Readings
-        requires lines { AreLines lines.now }
-        requires read { AreStretchesOf (requests_read lines.now) (stretches_of stretches.items) }
-        ensures { result ≡ readings_of lines.now }
+    /// The readings of a journal's lines, from the stretches in which they were read.
+    fn of(journal: &Journal, stretches: Vec<Vec<Reading>>) -> Readings
+        requires { AreStretchesOf (requests_read journal.now) (stretches_of stretches.items) }
+        ensures { result ≡ readings_of journal.now }
     {
         Readings {
-            first: first_of(lines),
-            count: lines.len(),
+            first: journal.first().unwrap_or(0),
+            count: journal.lines().len(),
             stretches,
         }
     }
@@ -100,7 +98,14 @@ pub fn read_in_turn(alloc: Global, journal: &Journal) -> Result<Readings, AllocE
     ensures { IfOk result (λ readings. readings ≡ readings_of journal.now) }
 {
     let lines = journal.lines();
-    Ok(Readings::of(lines, read_stretches(alloc, lines)?))
+    let mut stretches = Vec::with_capacity(alloc, lines.len() / STRETCH + 1)?;
+    let mut from = 0;
+    while from < lines.len() {
+        let len = (lines.len() - from).min(STRETCH);
+        stretches.push(read_stretch(alloc, &lines[from..from + len])?)?;
+        from += len;
+    }
+    Ok(Readings::of(journal, stretches))
 }
 
 /// Reads every request of a journal, on all processors. The readings are in the order of the lines, whatever the threads
@@ -121,21 +126,7 @@ pub fn read_all(
             { read_stretch(alloc, stretch) },
         )
         .collect(rt, alloc)?;
-    Ok(Readings::of(lines, stretches?))
-}
-
-/// Reads the requests of lines, one stretch after another.
-fn read_stretches(alloc: Global, lines: &[Line]) -> Result<Vec<Vec<Reading>>, AllocError>
-    ensures { IfOk result (λ v. AreStretchesOf (requests_read lines.now) (stretches_of v.items)) }
-{
-    let mut stretches = Vec::with_capacity(alloc, lines.len() / STRETCH + 1)?;
-    let mut from = 0;
-    while from < lines.len() {
-        let len = (lines.len() - from).min(STRETCH);
-        stretches.push(read_stretch(alloc, &lines[from..from + len])?)?;
-        from += len;
-    }
-    Ok(stretches)
+    Ok(Readings::of(journal, stretches?))
 }
 
 /// Reads the requests of one stretch of lines.
@@ -148,16 +139,4 @@ fn read_stretch(alloc: Global, lines: &[Line]) -> Result<Vec<Reading>, AllocErro
         readings.push_reserved(read_request(alloc, line.request())?);
     }
     Ok(readings)
-}
-
-/// The number of the first line, 0 where there is none.
-fn first_of(lines: &[Line]) -> u64
-    requires { Numbered lines.now }
-    ensures value { result ≡ unwrap_or (first_number lines.now) 0 }
-    ensures within { result + length lines.now ≤ 2 ^ 64 }
-{
-    match lines.last() {
-        Some(last) => last.number() - (lines.len() as u64 - 1),
-        None => 0,
-    }
 }

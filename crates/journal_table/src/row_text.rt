@@ -1,7 +1,7 @@
 //! Where the rows of a journal are in its bytes.
 
-ghost use Rattle.std.specs.Prelude.{◌≡◌, ◌++◌, ◌∷◌, IfSome, IsTrue};
-ghost use Rattle.journal_table.specs.Layout.{comma, joined};
+ghost use Rattle.std.specs.Prelude.{◌≡◌, IfSome};
+ghost use Rattle.journal_table.specs.Layout.{joined};
 
 /// The bytes of a journal, and the position from which on the next row is looked for. Most rows are in these bytes just as
 /// their fields are, with commas between; a row with a field in quotes isn't.
@@ -44,20 +44,11 @@ impl<'t> RowTexts<'t> {
             .saturating_add(2);
         self.from = after_line(self.bytes, end);
         let text = self.bytes.get(begin..end)?;
-        let rest = after(text, connection)?;
-        let rest = after(rest, request)?;
+        let rest = text.strip_prefix(connection)?;
+        let rest = rest.strip_prefix(b",")?;
+        let rest = rest.strip_prefix(request)?;
+        let rest = rest.strip_prefix(b",")?;
         if rest == response { Some(text) } else { None }
-    }
-}
-
-/// The rest of a text that begins with these bytes and a comma.
-fn after<'a>(text: &'a [u8], front: &[u8]) -> Option<&'a [u8]>
-    ensures { IfSome result (λ rest. text.now ≡ front.now ++ comma ∷ rest.now) }
-{
-    let rest = text.strip_prefix(front)?;
-    match rest.split_first() {
-        Some((b',', rest)) => Some(rest),
-        _ => None,
     }
 }
 

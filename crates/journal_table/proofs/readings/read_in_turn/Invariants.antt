@@ -2,7 +2,7 @@ use Rattle.std.proofs.Common.{◌≡◌, ◌≤◌, ◌-◌, ◌++◌, length, m
 use Rattle.rayon.specs.Lists.{chunks_of}
 use Rattle.journal_table.specs.Readings.{requests_read}
 use Rattle.journal_table.specs.Stretches.{stretches_of}
-use Rattle.journal_table.proofs.readings.read_stretches.Given as goal
+use Rattle.journal_table.proofs.readings.read_in_turn.Given as goal
 
 -- the stretches so far and those of what is left are those of all lines
 abbrev pub invariant-loop-from : goal.invariant-loop-from

@@ -1,11 +1,11 @@
 use Rattle.std.proofs.Common.{◌≡◌, ◌<◌, ◌+◌, ◌-◌, length, drop, min, sym, arith}
 use Rattle.std.proofs.lemmas.List.{drop-drop, length-drop}
 use Rattle.journal_table.proofs.Stretches.{goes_on, is_done}
-use Rattle.journal_table.proofs.readings.read_stretches.Goals as goal
+use Rattle.journal_table.proofs.readings.read_in_turn.Goals as goal
 
 pub loop-from-preserved : goal.loop-from-preserved
 loop-from-preserved c =
-    let lines = c.args.lines.now in
+    let lines = c.lines-lines.result.now in
     let from = c.loop-from.from in
     let len = c.min-len.result in
     let rest = drop from lines in
@@ -19,10 +19,10 @@ loop-from-preserved c =
           (goes_on 4096 len lines rest c.loop-from.stretches.items c.in_ok-read_stretch.field-0 (omega arith) some few (rw same at c.in_ok-read_stretch.ensures) c.loop-from.invariant.so_far);
     }
 
-pub returns : goal.returns
-returns c =
-    let lines = c.args.lines.now in
+pub of-requires : goal.of-requires
+of-requires c =
+    let lines = c.lines-lines.result.now in
     let rest = drop c.loop-from.from lines in
     let none : length rest ≡ 0 = omega (arith, length-drop c.loop-from.from lines, c.loop-from-test.false) in
     let (whole, full) = is_done 4096 lines rest c.loop-from.stretches.items (omega arith) none c.loop-from.invariant.so_far in
-    record { whole = whole; full = full }
+    rw (← c.lines-lines.ensures.lines) (record { whole = whole; full = full })

@@ -1,7 +1,6 @@
 //! A set of lines by their positions.
 
-ghost use Rattle.std.specs.Prelude.{◌≡◌, ℕ, ◌<◌, ◌≤◌, length, replicate, slice_set, slice_index_or, true, false, IfOk, IsTrue, ◌↔◌, Some};
-ghost use Rattle.line_set.specs.Devices.Apart.{lesser_from};
+ghost use Rattle.std.specs.Prelude.{◌≡◌, ◌<◌, ◌≤◌, length, replicate, slice_set, slice_index_or, true, false, IfOk};
 ghost use Rattle.line_set.specs.Trees.{IsLeastFrom};
 
 use crate::flag_tree::{FlagTree, POSITIONS_MAX};
@@ -47,7 +46,7 @@ impl LineSet {
     pub fn has(&self, position: usize) -> bool
         ensures { result ≡ slice_index_or self.now position false }
     {
-        is_one(self.apart, position) || self.tree.has(position)
+        self.apart == Some(position) || self.tree.has(position)
     }
 
     /// Adds a position.
@@ -69,7 +68,7 @@ impl LineSet {
         requires { position < length self.old }
         ensures { self.new ≡ slice_set self.old position false }
     {
-        if is_one(self.apart, position) {
+        if self.apart == Some(position) {
             self.apart = None;
         } else {
             self.tree.remove(position);
@@ -81,32 +80,10 @@ impl LineSet {
         ensures { IsLeastFrom self.now from result }
     {
         let least = self.tree.least_from(from);
-        match self.apart {
-            Some(apart) => lesser(apart, from, least),
-            None => least,
+        match (self.apart, least) {
+            (Some(apart), Some(other)) if from <= apart && apart < other => Some(apart),
+            (Some(apart), None) if from <= apart => Some(apart),
+            _ => least,
         }
-    }
-}
-
-/// Whether a position is the one held apart.
-fn is_one(apart: Option<usize>, position: usize) -> bool
-    ensures { IsTrue result ↔ (apart ≡ Some position) }
-{
-    match apart {
-        Some(apart) => apart == position,
-        None => false,
-    }
-}
-
-/// The lesser of a position, where it isn't below `from`, and the least of the others.
-fn lesser(apart: usize, from: usize, least: Option<usize>) -> Option<usize>
-    ensures { result ≡ lesser_from apart from least }
-{
-    if apart < from {
-        return least;
-    }
-    match least {
-        Some(least) if least < apart => Some(least),
-        _ => Some(apart),
     }
 }

@@ -28,7 +28,7 @@ use Rattle.board_lines.specs.declared.reply.Reply.TheVariants as replies
 use Rattle.speculate.specs.declared.ready.Mark.{Mark}
 use Rattle.speculate.specs.declared.ready.Mark.TheVariants as marks
 use Rattle.speculate.specs.declared.ready.Ready.{Ready}
-use Rattle.speculate.specs.Marks.{Fits, IsStill, HasTurned, IsMarked, IsReady, Puts, Loses, SendsBack, ended, has_position, is_in_check}
+use Rattle.speculate.specs.Marks.{Fits, Follows, IsStill, HasTurned, IsMarked, IsReady, Puts, Loses, SendsBack, ended, has_position, is_in_check}
 use Rattle.speculate.proofs.Marking.{puts_none}
 use Rattle.speculate.proofs.Readying.{stamp_by, Turns, turns_put, ready_put, ready_change}
 
@@ -161,7 +161,7 @@ nowhere_published b r w n notes ready may = elim may [
   | inr p ↦ nowhere_at b r n (Placing w notes p.0) ready (line_placing b n w notes p.0 p.1) p.1 (λ mark h. h)
 ]
 
-pub placed_ready : (plan : Planned) (old new : Board) (w : ℕ) (v : Contents) (hand : Hand) (r r' : Ready) → Reached plan old → IsHand old w (Some hand) → PublishStep old w v Placed new
+placed_ready : (plan : Planned) (old new : Board) (w : ℕ) (v : Contents) (hand : Hand) (r r' : Ready) → Reached plan old → IsHand old w (Some hand) → PublishStep old w v Placed new
     → IsReady old r → Loses r r' (hand.line - old.first) → IsReady new r'
 placed_ready plan old new w v hand r r' ok in_hand h ready loses =
     let n = h.0 in
@@ -172,7 +172,7 @@ placed_ready plan old new w v hand r r' ok in_hand h ready loses =
     ready_change old new n row turns r r r' marks.Nowhere (stamp_by plan old ok) (omega arith) refl (nowhere_published old r w n h.1 ready h.2)
     (subst (λ x. Loses r r' (x - old.first)) same loses) ready
 
-pub lifted_ready : (plan : Planned) (old new : Board) (w : ℕ) (v : Contents) (hand : Hand) (r r' : Ready) → Reached plan old → IsHand old w (Some hand) → PublishStep old w v Lifted new
+lifted_ready : (plan : Planned) (old new : Board) (w : ℕ) (v : Contents) (hand : Hand) (r r' : Ready) → Reached plan old → IsHand old w (Some hand) → PublishStep old w v Lifted new
     → IsReady old r → Loses r r' (hand.line - old.first) → IsReady new r'
 lifted_ready plan old new w v hand r r' ok in_hand h ready loses =
     let n = h.0 in
@@ -183,7 +183,7 @@ lifted_ready plan old new w v hand r r' ok in_hand h ready loses =
     ready_change old new n row turns r r r' marks.Nowhere (stamp_by plan old ok) (omega arith) refl (nowhere_published old r w n h.1 ready h.2)
     (subst (λ x. Loses r r' (x - old.first)) same loses) ready
 
-pub published_ready : (plan : Planned) (old new : Board) (w : ℕ) (v : Contents) (hand : Hand) (r r' : Ready) → Reached plan old → IsHand old w (Some hand) → PublishStep old w v Whole new
+published_ready : (plan : Planned) (old new : Board) (w : ℕ) (v : Contents) (hand : Hand) (r r' : Ready) → Reached plan old → IsHand old w (Some hand) → PublishStep old w v Whole new
     → IsReady old r → Puts r r' (hand.line - old.first) marks.Unchecked → IsReady new r'
 published_ready plan old new w v hand r r' ok in_hand h ready puts =
     let n = h.0 in
@@ -192,16 +192,17 @@ published_ready plan old new w v hand r r' ok in_hand h ready puts =
     let turns : Turns old new n row = turns_put old new n row (line_published old w n h.1 h.2) (ap (λ (b : Board). b.first) h.6) (ap (λ (b : Board). b.rows) h.6) (ap (λ (b : Board). b.workers) h.6) in
     ready_put old new n row turns r r' marks.Unchecked refl refl (subst (λ x. Puts r r' (x - old.first) marks.Unchecked) same puts) ready
 
-pub publish_other : {J : Type 0} (plan : Planned) (old new : Board) (w : ℕ) (v : Contents) (r : Ready) (reply : Reply J)
-    → (reply ≡ replies.Placed → ⊥) → (reply ≡ replies.Lifted → ⊥) → (reply ≡ replies.Whole → ⊥) → Answers plan old (Publish w v) reply new → IsReady old r → IsReady new r
-publish_other plan old new w v r replies.Placed n1 n2 n3 h ready = absurd (n1 refl)
-publish_other plan old new w v r replies.Lifted n1 n2 n3 h ready = absurd (n2 refl)
-publish_other plan old new w v r replies.Whole n1 n2 n3 h ready = absurd (n3 refl)
-publish_other plan old new w v r replies.Idle n1 n2 n3 h ready = subst (λ b. IsReady b r) (sym h.1) ready
-publish_other plan old new w v r replies.Stranger n1 n2 n3 h ready = subst (λ b. IsReady b r) (sym h.4) ready
-publish_other plan old new w v r replies.ClockSpent n1 n2 n3 h ready = subst (λ b. IsReady b r) (sym h.6) ready
-publish_other plan old new w v r replies.Memory n1 n2 n3 h ready = subst (λ b. IsReady b r) (sym h.1) ready
-publish_other plan old new w v r _ n1 n2 n3 h ready = absurd h
+-- an act of publication, whatever its reply
+pub follow_ready : {J : Type 0} (plan : Planned) (old new : Board) (w : ℕ) (v : Contents) (hand : Hand) (r r' : Ready) (reply : Reply J) → Reached plan old → IsHand old w (Some hand)
+    → Answers plan old (Publish w v) reply new → IsReady old r → Follows reply r r' (hand.line - old.first) → IsReady new r'
+follow_ready plan old new w v hand r r' replies.Placed ok in_hand h ready follows = placed_ready plan old new w v hand r r' ok in_hand h ready follows
+follow_ready plan old new w v hand r r' replies.Lifted ok in_hand h ready follows = lifted_ready plan old new w v hand r r' ok in_hand h ready follows
+follow_ready plan old new w v hand r r' replies.Whole ok in_hand h ready follows = published_ready plan old new w v hand r r' ok in_hand h ready follows
+follow_ready plan old new w v hand r r' replies.Idle ok in_hand h ready same = rw (h.1, same) ready
+follow_ready plan old new w v hand r r' replies.Stranger ok in_hand h ready same = rw (h.4, same) ready
+follow_ready plan old new w v hand r r' replies.ClockSpent ok in_hand h ready same = rw (h.6, same) ready
+follow_ready plan old new w v hand r r' replies.Memory ok in_hand h ready same = rw (h.1, same) ready
+follow_ready plan old new w v hand r r' _ ok in_hand h ready same = absurd h
 
 pub publish_idle : (b : Board) (w : ℕ) (v : Contents) → IsHand b w None → PublishStep b w v Idle b
 publish_idle b w v none = (λ n notes may. none n (held_by_publisher b w n notes may), refl)

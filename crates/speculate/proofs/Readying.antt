@@ -12,7 +12,8 @@ use Rattle.speculate.specs.declared.ready.Mark.{Mark}
 use Rattle.speculate.specs.declared.ready.Mark.TheVariants as marks
 use Rattle.speculate.specs.declared.ready.Ready.{Ready}
 use Rattle.speculate.proofs.Marking.{long_positions}
-use Rattle.speculate.specs.Marks.{Fits, IsStill, HasTurned, IsMarked, HasPositions, IsPosition, IsReady, Puts, lost, Loses, all_waiting}
+use Rattle.board_lines.specs.declared.reply.Reply.{Reply}
+use Rattle.speculate.specs.Marks.{Fits, Follows, IsStill, HasTurned, IsMarked, HasPositions, IsPosition, IsReady, Puts, lost, Loses, all_waiting}
 
 -- the stamp of a state isn't past the clock
 abbrev pub StampBy : ℕ → State → Type 0
@@ -197,8 +198,8 @@ module _ (plan P : Planned) (b : Board) (p n : ℕ) (e : p ≡ n - P.first) (nam
   pub puts_at : (r r' : Ready) (mark : Mark) → Puts r r' p mark → Puts r r' (n - b.first) mark
   puts_at r r' mark h = subst (λ x. Puts r r' x mark) position_is h
 
-  pub loses_at : (r r' : Ready) → Loses r r' p → Loses r r' (n - b.first)
-  loses_at r r' h = subst (λ x. Loses r r' x) position_is h
+  pub follows_at : {J : Type 0} (r r' : Ready) (reply : Reply J) → Follows reply r r' p → Follows reply r r' (n - b.first)
+  follows_at r r' reply h = subst (λ x. Follows reply r r' x) position_is h
 
   -- the line is not before the first
   pub from_first : IsLine b n → P.first ≤ n

@@ -3,6 +3,8 @@
 use Rattle.std.specs.Prelude.{◌≡◌, ◌≢◌, ℕ, ◌-◌, ◌<◌, ◌≤◌, ◌⊎◌, Bool, true, false, ◌||◌, List, length, replicate, slice_index_or, Some, None}
 use Rattle.board_steps.specs.Board.{State, Row, Board, IsLine, row_at}
 use Rattle.board_steps.specs.Board.State.{Waiting, Running, Placing, Done, Checking, Committed}
+use Rattle.board_lines.specs.declared.reply.Reply.{Reply}
+use Rattle.board_lines.specs.declared.reply.Reply.TheVariants as replies
 use Rattle.board_steps.specs.declared.TheConstants.{WORKERS_MAX}
 use Rattle.journal_table.specs.declared.TheConstants.{LINE_LIMIT}
 use Rattle.speculate.specs.declared.ready.Mark.{Mark}
@@ -125,6 +127,13 @@ pub record Loses (old new : Ready) (position : ℕ) : Type 0 where
   pub above : (q : ℕ) (mark : Mark) → position < q → IsMarked old q mark → IsMarked new q (lost mark)
   pub rest : (q : ℕ) (mark : Mark) → q ≤ position → IsMarked old q mark → IsMarked new q mark
   pub same : AreAsLong old new
+
+-- an act of the publication of the line at a position had this reply
+abbrev pub Follows : {J : Type 0} → Reply J → Ready → Ready → ℕ → Type 0
+Follows replies.Placed old new position = Loses old new position
+Follows replies.Lifted old new position = Loses old new position
+Follows replies.Whole old new position = Puts old new position marks.Unchecked
+Follows _ old new position = new ≡ old
 
 -- the mark of a line whose check is over, by whether the stamp of the check is valid
 abbrev pub ended : Bool → Mark

@@ -128,22 +128,9 @@ impl<'p, 't, J: PlanName> Board<'p, 't, J> {
         let Some(hand) = self.lines.hand(worker) else {
             return Reply::Idle;
         };
-        match self.lines.publish(worker, place) {
-            Reply::Placed => {
-                self.ready.lose_above(position_of(plan, hand.line));
-                Reply::Placed
-            }
-            Reply::Lifted => {
-                self.ready.lose_above(position_of(plan, hand.line));
-                Reply::Lifted
-            }
-            Reply::Whole => {
-                self.ready
-                    .put(position_of(plan, hand.line), Mark::Unchecked);
-                Reply::Whole
-            }
-            reply => reply,
-        }
+        let reply = self.lines.publish(worker, place);
+        self.ready.follow(position_of(plan, hand.line), &reply);
+        reply
     }
 
     /// One more act of the publication that the worker's line is in, of the same version as the last act. Compares no
@@ -158,22 +145,8 @@ impl<'p, 't, J: PlanName> Board<'p, 't, J> {
         let Some(reply) = self.lines.publish_more(worker) else {
             return None;
         };
-        let position = position_of(plan, hand.line);
-        match reply {
-            Reply::Placed => {
-                self.ready.lose_above(position);
-                Some(Reply::Placed)
-            }
-            Reply::Lifted => {
-                self.ready.lose_above(position);
-                Some(Reply::Lifted)
-            }
-            Reply::Whole => {
-                self.ready.put(position, Mark::Unchecked);
-                Some(Reply::Whole)
-            }
-            reply => Some(reply),
-        }
+        self.ready.follow(position_of(plan, hand.line), &reply);
+        Some(reply)
     }
 
     /// Begins or continues the check of a line that is done, and compares one noted name.

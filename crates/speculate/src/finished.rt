@@ -4,7 +4,7 @@ ghost use Rattle.std.specs.Prelude.{◌≡◌, ◌<◌, IfErr, IfOk, OnErr, leng
 ghost use Rattle.board_steps.specs.Reached.{Reached};
 ghost use Rattle.speculate.specs.Finishing.{IsWhole};
 
-use crate::board::Board;
+use crate::board::{Board, lines_of};
 use read_set::{Plan, PlanName};
 use std::marker::Model;
 
@@ -73,7 +73,7 @@ impl<'p, 't, J: PlanName> Board<'p, 't, J> {
     {
         let committed = self.committed();
         let plan = self.plan();
-        if committed < plan.readings().len() as u64 {
+        if committed < lines_of(plan) as u64 {
             return Err(Open {
                 board: self,
                 committed,

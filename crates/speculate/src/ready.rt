@@ -2,9 +2,11 @@
 
 ghost use Rattle.std.specs.Prelude.{◌≡◌, ◌+◌, ◌<◌, ◌≤◌, ◌||◌, IfOk, length, slice_set};
 ghost use Rattle.journal_table.specs.declared.TheConstants.{LINE_LIMIT};
-ghost use Rattle.speculate.specs.Marks.{GoesOut, GoesOver, IsPosition, Loses, Puts, SendsBack, all_waiting, ended, has_position, is_checked, is_in_check, is_unchecked, waits};
+ghost use Rattle.speculate.specs.Marks.{Follows, GoesOut, GoesOver, IsPosition, Loses, Puts, SendsBack, all_waiting, ended, has_position};
 
+use board_lines::Reply;
 use line_set::LineSet;
+use read_set::PlanName;
 use std::alloc::{AllocError, Global};
 
 /// In which of the sets a line is.
@@ -19,44 +21,6 @@ pub enum Mark {
     Checked,
     /// It is being checked, and the stamp of that check is valid so far.
     Checking,
-}
-
-impl Mark {
-    fn is_waiting(self) -> bool
-        ensures { result ≡ waits self }
-    {
-        match self {
-            Mark::Waiting => true,
-            _ => false,
-        }
-    }
-
-    fn is_unchecked(self) -> bool
-        ensures { result ≡ is_unchecked self }
-    {
-        match self {
-            Mark::Unchecked => true,
-            _ => false,
-        }
-    }
-
-    fn is_checked(self) -> bool
-        ensures { result ≡ is_checked self }
-    {
-        match self {
-            Mark::Checked => true,
-            _ => false,
-        }
-    }
-
-    fn is_in_check(self) -> bool
-        ensures { result ≡ is_in_check self }
-    {
-        match self {
-            Mark::Checking => true,
-            _ => false,
-        }
-    }
 }
 
 /// The lines by their marks, as sets of positions from 0 on. Only `new` allocates memory.
@@ -97,10 +61,22 @@ impl Ready {
         requires { IsPosition self.old position }
         ensures { Puts self.old self.new position mark }
     {
-        put_flag(&mut self.waiting, position, mark.is_waiting());
-        put_flag(&mut self.unchecked, position, mark.is_unchecked());
-        put_flag(&mut self.checked, position, mark.is_checked());
-        put_flag(&mut self.checking, position, mark.is_in_check());
+        put_flag(&mut self.waiting, position, mark == Mark::Waiting);
+        put_flag(&mut self.unchecked, position, mark == Mark::Unchecked);
+        put_flag(&mut self.checked, position, mark == Mark::Checked);
+        put_flag(&mut self.checking, position, mark == Mark::Checking);
+    }
+
+    /// An act of the publication of the line at a position had this reply: the line's entries have changed, or all is published.
+    pub fn follow<J: PlanName>(&mut self, position: usize, reply: &Reply<'_, J>)
+        requires { IsPosition self.old position }
+        ensures { Follows reply.now self.old self.new position }
+    {
+        match reply {
+            Reply::Placed | Reply::Lifted => self.lose_above(position),
+            Reply::Whole => self.put(position, Mark::Unchecked),
+            _ => {}
+        }
     }
 
     /// The line at a position has changed: the stamps of later lines are no longer valid. Each of these stamps comes from

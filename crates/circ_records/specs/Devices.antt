@@ -1,5 +1,4 @@
 -- For proofs alone: how things are stored or counted. No promise needs it.
 pub mod Behind
-pub mod KeyRefs
 pub mod Positions
 pub mod Sharing

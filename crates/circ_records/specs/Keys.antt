@@ -10,6 +10,8 @@ use Rattle.std.specs.declared.cmp.Ordering.{Ordering}
 use Rattle.std.specs.declared.cmp.Ordering.TheVariants.{Less, Equal, Greater}
 use Rattle.circ_records.specs.declared.key.Key.{Key}
 use Rattle.circ_records.specs.declared.key.Key.TheVariants.{Patron, Item, Fee}
+use Rattle.circ_records.specs.declared.key.KeyRef.{KeyRef}
+use Rattle.circ_records.specs.declared.key.KeyRef.TheVariants as refs
 
 abbrev pub kind : Key → ℕ
 kind (Patron id) = 0
@@ -20,6 +22,12 @@ abbrev pub id_of : Key → List ℕ
 id_of (Patron id) = id
 id_of (Item id) = id
 id_of (Fee id) = id
+
+-- the key that a key with a borrowed id is
+abbrev pub key_of : KeyRef → Key
+key_of (refs.Patron id) = Patron id.now
+key_of (refs.Item id) = Item id.now
+key_of (refs.Fee id) = Fee id.now
 
 abbrev pub key_cmp : Key → Key → Ordering
 key_cmp = then_cmp (on kind nat_cmp) (on id_of (slice_cmp nat_cmp))

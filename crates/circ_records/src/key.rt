@@ -3,9 +3,7 @@ ghost use Rattle.std.proofs.Common.{rules};
 ghost use Rattle.std.specs.Cmp.{partial_order_from_own_ties};
 ghost use Rattle.std.specs.Cmp.Rules.{comparing};
 ghost use Rattle.std.specs.Ordering.{as_partial_cmp, eq_by_cmp};
-ghost use Rattle.sip_reader.specs.Devices.Hashes.{id_hash};
-ghost use Rattle.circ_records.specs.Devices.KeyRefs.{key_of};
-ghost use Rattle.circ_records.specs.Keys.{key_cmp, key_cmp_total, id_of};
+ghost use Rattle.circ_records.specs.Keys.{id_of, key_cmp, key_cmp_total, key_of};
 
 use sip_reader::Id;
 use std::alloc::AllocError;
@@ -31,20 +29,13 @@ impl Drop for Key {
 
 /// A key that borrows its id, to look for a record.
 #[derive(Clone, Copy)]
-pub(crate) enum KeyRef<'k> {
+pub enum KeyRef<'k> {
     Patron(&'k Id),
     Item(&'k Id),
     Fee(&'k Id),
 }
 
 impl Key {
-    /// The hash of its id.
-    pub fn hash(&self) -> u64
-        ensures { result ≡ id_hash (id_of self.now) }
-    {
-        self.id().hash()
-    }
-
     /// The id of the record.
     pub fn id(&self) -> &Id
         ensures { result.now ≡ id_of self.now }
@@ -55,7 +46,7 @@ impl Key {
     }
 
     /// The same key, its id borrowed.
-    pub(crate) fn as_ref(&self) -> KeyRef<'_>
+    pub fn as_ref(&self) -> KeyRef<'_>
         ensures { key_of result ≡ self.now }
     {
         match self {
@@ -68,10 +59,10 @@ impl Key {
 
 impl KeyRef<'_> {
     /// The same key, its id owned. Allocates nothing.
-    pub(crate) fn to_key(&self) -> Result<Key, AllocError>
-        ensures { IfOk result (λ key. key ≡ key_of self.now) }
+    pub(crate) fn to_key(self) -> Result<Key, AllocError>
+        ensures { IfOk result (λ key. key ≡ key_of self.entry) }
     {
-        match *self {
+        match self {
             KeyRef::Patron(id) => Ok(Key::Patron(id.clone()?)),
             KeyRef::Item(id) => Ok(Key::Item(id.clone()?)),
             KeyRef::Fee(id) => Ok(Key::Fee(id.clone()?)),
@@ -79,10 +70,10 @@ impl KeyRef<'_> {
     }
 
     /// How it compares with another key: patrons come first, then items, then fees, each by their ids.
-    pub(crate) fn compare(&self, key: &Key) -> Ordering
-        ensures { result ≡ key_cmp (key_of self.now) key.now }
+    pub(crate) fn compare(self, key: &Key) -> Ordering
+        ensures { result ≡ key_cmp (key_of self.entry) key.now }
     {
-        match (*self, key) {
+        match (self, key) {
             (KeyRef::Patron(own), Key::Patron(id))
             | (KeyRef::Item(own), Key::Item(id))
             | (KeyRef::Fee(own), Key::Fee(id)) => own.cmp(id),
@@ -92,8 +83,8 @@ impl KeyRef<'_> {
     }
 
     /// `Less` where `key` comes before self, as a binary search asks.
-    pub(crate) fn order(&self, key: &Key) -> Ordering
-        ensures { result ≡ key_cmp key.now (key_of self.now) }
+    pub(crate) fn order(self, key: &Key) -> Ordering
+        ensures { result ≡ key_cmp key.now (key_of self.entry) }
     {
         self.compare(key).reverse()
     }

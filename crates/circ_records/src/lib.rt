@@ -19,7 +19,7 @@ mod shared;
 pub use changes::{ListChange, put_fee};
 pub use holds::{Hold, Holds, QUEUE_MAX};
 pub use ids::Ids;
-pub use key::Key;
+pub use key::{Key, KeyRef};
 pub use position_hints::LikelyPositions;
 pub use record::{Fee, FeeType, Item, Loan, Patron, Record};
 pub use record_map::RecordMap;

@@ -1,11 +1,6 @@
 //! Where the records of a list likely are.
 
-ghost use Rattle.std.specs.Prelude.{◌≡◌, Ok, IfSome, IsTrue};
-ghost use Rattle.circ_records.specs.Devices.KeyRefs.{key_of};
-ghost use Rattle.circ_records.specs.Devices.Positions.{position_from};
-ghost use Rattle.circ_records.specs.Records.{AreRising};
-
-use crate::key::{Key, KeyRef};
+use crate::key::Key;
 use crate::record::Record;
 use std::alloc::{AllocError, Global};
 
@@ -13,10 +8,10 @@ use std::alloc::{AllocError, Global};
 const SLOTS_A_RECORD: usize = 4;
 
 /// At most this many slots are tried for a key, also where ids collide on purpose: a record that finds them taken has no slot.
-const TRIES: usize = 8;
+pub(crate) const TRIES: usize = 8;
 
 /// The content of a slot that no record took.
-const FREE: u32 = u32::MAX;
+pub(crate) const FREE: u32 = u32::MAX;
 
 /// Where the records of one patron and one item likely are in a list: those that a line names, looked for in advance.
 #[derive(Clone, Copy)]
@@ -28,7 +23,7 @@ pub struct LikelyPositions {
 /// A hash table with the positions of most records of a list, by the hashes of their ids. A position is a hint: if the list has
 /// another key there, binary search follows. So only the time of a look-up depends on the hints.
 pub(crate) struct PositionHints {
-    slots: Vec<u32>,
+    pub(crate) slots: Vec<u32>,
     /// At most this many slots are taken.
     taken: usize,
     /// The positions that are looked at before any slot.
@@ -70,7 +65,7 @@ impl PositionHints {
             let Ok(position) = u32::try_from(position) else {
                 break;
             };
-            take_slot(&mut slots, entry.0.hash(), position);
+            take_slot(&mut slots, entry.0.id().hash(), position);
         }
         Ok(PositionHints {
             slots,
@@ -101,7 +96,7 @@ impl PositionHints {
         self.taken = self.taken.saturating_add(1);
         // a position of more than 32 bits has no slot
         if let Ok(position) = u32::try_from(listed.len()) {
-            take_slot(&mut self.slots, key.hash(), position);
+            take_slot(&mut self.slots, key.id().hash(), position);
         }
         Ok(())
     }
@@ -114,42 +109,10 @@ impl PositionHints {
             likely: self.likely,
         })
     }
-
-    /// The position of a key in a list, where it is likely or a slot has it.
-    #[inline(always)]
-    pub(crate) fn position(&self, listed: &[(Key, Record)], key: &KeyRef<'_>) -> Option<usize>
-        requires { AreRising listed.now }
-        ensures { IfSome result (λ position. position_from 0 (key_of key.now) listed.now ≡ Ok position) }
-    {
-        let (likely, id) = match *key {
-            KeyRef::Patron(id) => (self.likely.patron, id),
-            KeyRef::Item(id) => (self.likely.item, id),
-            KeyRef::Fee(id) => (None, id),
-        };
-        if let Some(position) = likely {
-            if is_at(listed, position, key) {
-                return Some(position);
-            }
-        }
-        if self.slots.is_empty() {
-            return None;
-        }
-        let first = first_slot(id.hash(), self.slots.len());
-        for slot in first..first.saturating_add(TRIES) {
-            let position = *self.slots.get(slot)?;
-            if is_at(listed, position as usize, key) {
-                return Some(position as usize);
-            }
-            if position == FREE {
-                return None;
-            }
-        }
-        None
-    }
 }
 
 /// The first slot that is looked at for a hash of 32 bits. The last slots are left for those that follow the first.
-fn first_slot(hash: u64, slots: usize) -> usize {
+pub(crate) fn first_slot(hash: u64, slots: usize) -> usize {
     (hash.wrapping_mul(slots.saturating_sub(TRIES) as u64) >> 32) as usize
 }
 
@@ -165,16 +128,5 @@ fn take_slot(slots: &mut Vec<u32>, hash: u64, position: u32) {
             slots[slot] = position;
             return;
         }
-    }
-}
-
-/// Whether a key is at a position.
-fn is_at(listed: &[(Key, Record)], position: usize, key: &KeyRef<'_>) -> bool
-    requires { AreRising listed.now }
-    ensures { IsTrue result → position_from 0 (key_of key.now) listed.now ≡ Ok position }
-{
-    match listed.get(position) {
-        Some(entry) => key.compare(&entry.0).is_eq(),
-        None => false,
     }
 }

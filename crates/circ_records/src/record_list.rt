@@ -1,12 +1,12 @@
 //! Records as a list, rising by key, in which one is found by a hint of its position or by binary search.
 
-ghost use Rattle.std.specs.Prelude.{◌≡◌, ◌++◌, ◌∷◌, [], Err, IfOk, IfSome, IsTrue, Ok, OnErr, OnOk, length, option_copied};
-ghost use Rattle.circ_records.specs.Devices.KeyRefs.{key_of};
+ghost use Rattle.std.specs.Prelude.{◌≡◌, ◌++◌, ◌∷◌, [], Err, IfOk, IsTrue, OnErr, OnOk, length};
+ghost use Rattle.circ_records.specs.Keys.{key_of};
 ghost use Rattle.circ_records.specs.Devices.Positions.{position_from};
-ghost use Rattle.circ_records.specs.Records.{AreRising, record_at};
+ghost use Rattle.circ_records.specs.Records.{AreRising};
 
 use crate::key::{Key, KeyRef};
-use crate::position_hints::PositionHints;
+use crate::position_hints::{FREE, PositionHints, TRIES, first_slot};
 use crate::record::Record;
 use std::alloc::{AllocError, Global};
 
@@ -66,26 +66,35 @@ impl RecordList {
         Ok(RecordList { entries, hints })
     }
 
-    /// The record under a key.
-    pub(crate) fn get(&self, key: &KeyRef<'_>) -> Option<&Record>
+    /// The position of a key, or else the position at which it would have to be inserted. First the position is tried that is
+    /// likely, then those of the key's slots, then whether the key comes after all others, then binary search.
+    pub(crate) fn position(&self, key: KeyRef<'_>) -> Result<usize, usize>
         requires { AreRising self.now.entries.items }
-        ensures { option_copied result ≡ record_at self.now.entries.items (key_of key.now) }
+        ensures { result ≡ position_from 0 (key_of key.entry) self.now.entries.items }
     {
-        match self.position(key) {
-            Ok(position) => Some(&self.entries[position].1),
-            Err(_) => None,
-        }
-    }
-
-    /// The position of a key, or else the position at which it would have to be inserted. First a hint is tried, then whether
-    /// the key comes after all others, then binary search.
-    pub(crate) fn position(&self, key: &KeyRef<'_>) -> Result<usize, usize>
-        requires { AreRising self.now.entries.items }
-        ensures { result ≡ position_from 0 (key_of key.now) self.now.entries.items }
-    {
-        let listed = self.entries.as_slice();
-        if let Some(position) = self.hints.position(listed, key) {
+        let (listed, hints) = (self.entries.as_slice(), &self.hints);
+        let (likely, id) = match key {
+            KeyRef::Patron(id) => (hints.likely.patron, id),
+            KeyRef::Item(id) => (hints.likely.item, id),
+            KeyRef::Fee(id) => (None, id),
+        };
+        if let Some(position) = likely
+            && let Some(entry) = listed.get(position)
+            && key.compare(&entry.0).is_eq()
+        {
             return Ok(position);
+        }
+        let first = first_slot(id.hash(), hints.slots.len());
+        for slot in first..first.saturating_add(TRIES) {
+            let position = hints.slots.get(slot).copied().unwrap_or(FREE);
+            if let Some(entry) = listed.get(position as usize)
+                && key.compare(&entry.0).is_eq()
+            {
+                return Ok(position as usize);
+            }
+            if position == FREE {
+                break;
+            }
         }
         if self.goes_last(key) {
             return Err(listed.len());
@@ -94,9 +103,9 @@ impl RecordList {
     }
 
     /// Whether a key comes after all others, by a comparison with the last.
-    pub(crate) fn goes_last(&self, key: &KeyRef<'_>) -> bool
+    pub(crate) fn goes_last(&self, key: KeyRef<'_>) -> bool
         requires { AreRising self.now.entries.items }
-        ensures { IsTrue result → position_from 0 (key_of key.now) self.now.entries.items ≡ Err (length self.now.entries.items) }
+        ensures { IsTrue result → position_from 0 (key_of key.entry) self.now.entries.items ≡ Err (length self.now.entries.items) }
     {
         match self.entries.last() {
             Some(last) => key.compare(&last.0).is_gt(),

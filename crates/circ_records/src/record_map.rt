@@ -5,11 +5,9 @@ ghost use Rattle.std.specs.Prelude.{◌≡◌, ◌⊎◌, ◌++◌, ◌∷◌, [
 ghost use Rattle.std.specs.Ordering.{eq_by_cmp};
 ghost use Rattle.std.specs.declared.cmp.Ordering.TheVariants.{Greater};
 ghost use Rattle.circ_records.specs.Changes.{IsChanged, broken_by};
-ghost use Rattle.circ_records.specs.Devices.KeyRefs.{key_of};
-ghost use Rattle.circ_records.specs.Keys.{key_cmp};
+ghost use Rattle.circ_records.specs.Keys.{key_cmp, key_of};
 ghost use Rattle.circ_records.specs.Records.{AreRising, Entries, record_at};
 ghost use Rattle.circ_records.specs.declared.key.Key.{Key};
-ghost use Rattle.circ_records.specs.declared.key.Key.TheVariants as keys;
 ghost use Rattle.circ_records.specs.declared.record.Record.{Record};
 
 use crate::changes::{ListChange, apply};
@@ -83,36 +81,24 @@ impl RecordMap {
     }
 
     /// The record at a key.
-    pub fn get(&self, key: &Key) -> Option<&Record>
-        ensures { option_copied result ≡ record_at self.now key.now }
+    pub fn get(&self, key: KeyRef<'_>) -> Option<&Record>
+        ensures { option_copied result ≡ record_at self.now (key_of key.entry) }
     {
-        self.found(&key.as_ref())
-    }
-
-    /// The record of a patron.
-    pub fn patron(&self, id: &Id) -> Option<&Record>
-        ensures { option_copied result ≡ record_at self.now (keys.Patron id.now) }
-    {
-        self.found(&KeyRef::Patron(id))
-    }
-
-    /// The record of an item.
-    pub fn item(&self, id: &Id) -> Option<&Record>
-        ensures { option_copied result ≡ record_at self.now (keys.Item id.now) }
-    {
-        self.found(&KeyRef::Item(id))
+        match self.listed.position(key) {
+            Ok(position) => Some(&self.listed.entries[position].1),
+            Err(_) => found_in_map(&self.mapped, key),
+        }
     }
 
     /// Where the records of a patron and an item likely are. Asked for several lines one after the other, the look-ups wait for
     /// memory side by side.
     pub fn likely(&self, patron: Option<&Id>, item: Option<&Id>) -> LikelyPositions {
-        let (listed, hints) = (self.listed.entries.as_slice(), &self.listed.hints);
         let patron = match patron {
-            Some(id) => hints.position(listed, &KeyRef::Patron(id)),
+            Some(id) => self.listed.position(KeyRef::Patron(id)).ok(),
             None => None,
         };
         let item = match item {
-            Some(id) => hints.position(listed, &KeyRef::Item(id)),
+            Some(id) => self.listed.position(KeyRef::Item(id)).ok(),
             None => None,
         };
         LikelyPositions { patron, item }
@@ -125,15 +111,6 @@ impl RecordMap {
         self.listed.hints.likely = likely;
     }
 
-    fn found(&self, key: &KeyRef<'_>) -> Option<&Record>
-        ensures { option_copied result ≡ record_at self.now (key_of key.now) }
-    {
-        match self.listed.get(key) {
-            Some(found) => Some(found),
-            None => found_in_map(&self.mapped, key),
-        }
-    }
-
     /// Puts a record at a key, and returns whether there was one. Most new keys come after all others, so that is tried before the
     /// hints are. Out of memory, all records stay or all are lost: the map isn't to be used again.
     pub fn put(&mut self, alloc: Global, key: Key, value: Record) -> Result<bool, AllocError>
@@ -141,11 +118,11 @@ impl RecordMap {
         ensures put { OnOk result ((q : Key) → record_at self.new q ≡ cond (eq_by_cmp key_cmp key q) (Some value) (record_at self.old q)) }
         ensures err { OnErr result ((self.new ≡ self.old) ⊎ (self.new ≡ [])) }
     {
-        if self.mapped.is_empty() && self.listed.goes_last(&key.as_ref()) {
+        if self.mapped.is_empty() && self.listed.goes_last(key.as_ref()) {
             self.listed.push(alloc, key, value)?;
             return Ok(false);
         }
-        let position = match self.listed.position(&key.as_ref()) {
+        let position = match self.listed.position(key.as_ref()) {
             Ok(position) => {
                 self.listed.entries[position].1 = value;
                 return Ok(true);
@@ -173,7 +150,7 @@ impl RecordMap {
         ensures ok { IfOk result (λ broken. broken ≡ None → IsChanged key what self.old self.new) }
         ensures err { OnErr result ((q : Key) → record_at self.new q ≡ record_at self.old q) }
     {
-        if let Ok(position) = self.listed.position(&key.as_ref()) {
+        if let Ok(position) = self.listed.position(key.as_ref()) {
             let broken = apply(alloc, &mut self.listed.entries[position].1, what)?;
             return Ok(broken);
         }
@@ -207,8 +184,8 @@ impl RecordMap {
 }
 
 /// The record of a map under a key.
-fn found_in_map<'m>(mapped: &'m BTreeMap<Key, Record>, key: &KeyRef<'_>) -> Option<&'m Record>
-    ensures { option_copied result ≡ record_at mapped.now.entries (key_of key.now) }
+fn found_in_map<'m>(mapped: &'m BTreeMap<Key, Record>, key: KeyRef<'_>) -> Option<&'m Record>
+    ensures { option_copied result ≡ record_at mapped.now.entries (key_of key.entry) }
 {
     if mapped.is_empty() {
         return None;

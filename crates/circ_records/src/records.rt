@@ -2,13 +2,12 @@
 
 ghost use Rattle.std.specs.Prelude.{◌≡◌, ◌<◌, ◌^◌, [], IfOk, length, option_copied};
 ghost use Rattle.circ_records.specs.Records.{AreRising, record_at};
-ghost use Rattle.circ_records.specs.declared.key.Key.TheVariants as keys;
+ghost use Rattle.circ_records.specs.Keys.{key_of};
 
 use crate::key::{Key, KeyRef};
 use crate::record::Record;
 use crate::record_list::RecordList;
 use crate::record_map::RecordMap;
-use sip_reader::Id;
 use std::alloc::{AllocError, Global};
 use std::marker::Model;
 use std::mem::replace;
@@ -46,24 +45,13 @@ impl Records {
     }
 
     /// The record at a key.
-    pub fn get(&self, key: &Key) -> Option<&Record>
-        ensures { option_copied result ≡ record_at self.now key.now }
+    pub fn get(&self, key: KeyRef<'_>) -> Option<&Record>
+        ensures { option_copied result ≡ record_at self.now (key_of key.entry) }
     {
-        self.records.get(&key.as_ref())
-    }
-
-    /// The record of an item.
-    pub fn item(&self, id: &Id) -> Option<&Record>
-        ensures { option_copied result ≡ record_at self.now (keys.Item id.now) }
-    {
-        self.records.get(&KeyRef::Item(id))
-    }
-
-    /// The record of a fee.
-    pub fn fee(&self, id: &Id) -> Option<&Record>
-        ensures { option_copied result ≡ record_at self.now (keys.Fee id.now) }
-    {
-        self.records.get(&KeyRef::Fee(id))
+        match self.records.position(key) {
+            Ok(position) => Some(&self.records.entries[position].1),
+            Err(_) => None,
+        }
     }
 
     /// The records with their keys, rising.

@@ -109,7 +109,7 @@ fn put_item(
     ensures { OnOk result (Adds (λ k. k ≡ keys.Item id.now) (before tracer.now.plan.now tracer.now.next) (record_at records.old) (record_at records.new)) }
 {
     let key = Key::Item(id.clone()?);
-    if records.get(&key).is_some() {
+    if records.get(key.as_ref()).is_some() {
         return Ok(());
     }
     if let Some(Record::Item(item)) = tracer.record(&key)? {
@@ -147,7 +147,7 @@ fn put_fee(
     ensures { OnOk result (Adds (λ k. k ≡ keys.Fee id.now) (before tracer.now.plan.now tracer.now.next) (record_at records.old) (record_at records.new)) }
 {
     let key = Key::Fee(id.clone()?);
-    if records.get(&key).is_some() {
+    if records.get(key.as_ref()).is_some() {
         return Ok(());
     }
     if let Some(fee) = tracer.record(&key)? {

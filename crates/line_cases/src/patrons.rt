@@ -6,7 +6,7 @@ ghost use Rattle.circ_records.specs.declared.key.Key.TheVariants as keys;
 ghost use Rattle.read_set.specs.Replay.{before};
 ghost use Rattle.line_cases.specs.Devices.Adding.{Adds};
 
-use circ_records::{Ids, Key, Patron, Record, RecordMap};
+use circ_records::{Ids, Key, KeyRef, Patron, Record, RecordMap};
 use line_origins::Tracer;
 use sip_reader::Id;
 use std::alloc::{AllocError, Global};
@@ -21,7 +21,7 @@ pub(crate) fn put_patron(
     ensures { OnOk result (Adds (λ k. k ≡ keys.Patron id.now) (before tracer.now.plan.now tracer.now.next) (record_at records.old) (record_at records.new)) }
 {
     let key = Key::Patron(id.clone()?);
-    if records.get(&key).is_some() {
+    if records.get(key.as_ref()).is_some() {
         return Ok(());
     }
     if let Some(Record::Patron(patron)) = tracer.record(&key)? {
@@ -50,7 +50,7 @@ fn with_what_is_there(
 fn items_there(alloc: Global, ids: &Ids, records: &RecordMap) -> Result<Ids, AllocError> {
     let mut there = Vec::new(alloc);
     for id in ids.as_slice() {
-        if records.item(id).is_some() {
+        if records.get(KeyRef::Item(id)).is_some() {
             there.push(id.clone()?)?;
         }
     }
@@ -61,7 +61,7 @@ fn items_there(alloc: Global, ids: &Ids, records: &RecordMap) -> Result<Ids, All
 fn fees_there(alloc: Global, ids: &Ids, records: &RecordMap) -> Result<Ids, AllocError> {
     let mut there = Vec::new(alloc);
     for id in ids.as_slice() {
-        if records.get(&Key::Fee(id.clone()?)).is_some() {
+        if records.get(KeyRef::Fee(id)).is_some() {
             there.push(id.clone()?)?;
         }
     }

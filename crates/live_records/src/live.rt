@@ -2,7 +2,7 @@
 
 ghost use Rattle.std.specs.Prelude.{◌≡◌};
 
-use circ_records::{Key, LikelyPositions, Record, RecordMap, Records};
+use circ_records::{Key, KeyRef, LikelyPositions, Record, RecordMap, Records};
 use read_set::{Plan, Source, Stop, Writes, named_by};
 use sip_reader::{Id, Reading};
 use std::alloc::{AllocError, Global};
@@ -52,7 +52,7 @@ impl Live {
     pub fn get(&self, key: &Key) -> Option<&Record>
         ensures { option_copied result ≡ record_at self.now key.now }
     {
-        self.records.get(key)
+        self.records.get(key.as_ref())
     }
 
     /// Where the records that a reading names likely are.
@@ -112,7 +112,7 @@ impl Source for Live {
     #[inline(always)]
     #[tactic(auto, using(read_set::proofs::Gaining::gains_none))]
     fn read_patron(&mut self, _alloc: Global, id: &Id) -> Result<Option<Record>, Stop> {
-        match self.records.patron(id) {
+        match self.records.get(KeyRef::Patron(id)) {
             Some(found) => Ok(Some(found.copy()?)),
             None => Ok(None),
         }
@@ -121,7 +121,7 @@ impl Source for Live {
     #[inline(always)]
     #[tactic(auto, using(read_set::proofs::Gaining::gains_none))]
     fn read_item(&mut self, _alloc: Global, id: &Id) -> Result<Option<Record>, Stop> {
-        match self.records.item(id) {
+        match self.records.get(KeyRef::Item(id)) {
             Some(found) => Ok(Some(found.copy()?)),
             None => Ok(None),
         }

@@ -147,7 +147,7 @@ impl Plan {
     pub fn base(&self, key: &Key) -> Option<&Record>
         ensures { option_copied result ≡ record_at self.now.base key.now }
     {
-        self.base.get(key)
+        self.base.get(key.as_ref())
     }
 
     /// An empty map with position hints for the keys of the base: records that are put at all of these in order are found fast.

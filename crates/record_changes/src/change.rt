@@ -74,7 +74,7 @@ fn note_if_gone(
     ensures there { OnOk result (record_at after.now key.now ≡ None → IsNoted before.now after.now changes.new.items key.now) }
     ensures keeps { OnOk result ((k : Key) → IsNoted before.now after.now changes.old.items k → IsNoted before.now after.now changes.new.items k) }
 {
-    match after.get(key) {
+    match after.get(key.as_ref()) {
         Some(_) => Ok(()),
         None => note(changes, before, after, key),
     }
@@ -92,8 +92,8 @@ fn note(
     ensures there { OnOk result (IsNoted before.now after.now changes.new.items key.now) }
     ensures keeps { OnOk result ((k : Key) → IsNoted before.now after.now changes.old.items k → IsNoted before.now after.now changes.new.items k) }
 {
-    let was = before.get(key);
-    let is = after.get(key);
+    let was = before.get(key.as_ref());
+    let is = after.get(key.as_ref());
     if is_same(was, is) {
         return Ok(());
     }

@@ -5,7 +5,7 @@ ghost use Rattle.record_tables.specs.Writing.{HasWidth, with_rows};
 ghost use Rattle.record_tables.specs.Written as Written;
 
 use crate::row_texts::amount_text;
-use circ_records::{Fee, Record, Records};
+use circ_records::{Fee, KeyRef, Record, Records};
 use csv_table::TableText;
 use sip_reader::Id;
 use std::alloc::{AllocError, Global};
@@ -22,7 +22,7 @@ pub(crate) fn write_fees(
     ensures { OnOk result (text.new ≡ with_rows (Written.listed_fees records.now patron.now fees.now) text.old) }
 {
     for fee in fees {
-        if let Some(Record::Fee(owed)) = records.fee(fee) {
+        if let Some(Record::Fee(owed)) = records.get(KeyRef::Fee(fee)) {
             let owed = owed.get();
             if is_open(owed) {
                 text.row(&[

@@ -11,7 +11,7 @@ ghost use Rattle.circ_records.specs.declared.record.Record.TheVariants as record
 ghost use Rattle.record_tables.specs.declared.tables.TableName.TheVariants as table;
 
 use circ_policy::{MediaType, Policy};
-use circ_records::{BaseRule, Holds, Item, Key, Record, RecordMap};
+use circ_records::{BaseRule, Holds, Item, Key, KeyRef, Record, RecordMap};
 use csv::ByteRecord;
 use csv_table::column;
 use sip_reader::{Id, Text, is_text};
@@ -83,7 +83,7 @@ pub fn media_of(policy: &Policy, row: &ByteRecord) -> Option<MediaType>
 fn is_double(records: &RecordMap, id: &Id) -> bool
     ensures { (r : Rows) → AreTold r records.now → result ≡ Rules.has_row 0 id.now r.items }
 {
-    records.item(id).is_some()
+    records.get(KeyRef::Item(id)).is_some()
 }
 
 /// Adds the item of a row to the records under its id, and returns whether there was one.

@@ -5,7 +5,7 @@ ghost use Rattle.record_tables.specs.Writing.{HasWidth, with_rows};
 ghost use Rattle.record_tables.specs.Written.{listed_loans};
 
 use crate::row_texts::day_text;
-use circ_records::{Record, Records};
+use circ_records::{KeyRef, Record, Records};
 use csv_table::TableText;
 use itoa::Buffer;
 use sip_reader::Id;
@@ -22,7 +22,7 @@ pub(crate) fn write_loans(
     ensures { OnOk result (text.new ≡ with_rows (listed_loans records.now patron.now items.now) text.old) }
 {
     for item in items {
-        if let Some(Record::Item(lent)) = records.item(item) {
+        if let Some(Record::Item(lent)) = records.get(KeyRef::Item(item)) {
             if let Some(loan) = &lent.get().loan {
                 text.row(&[
                     patron,

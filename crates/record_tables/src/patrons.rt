@@ -13,7 +13,7 @@ ghost use Rattle.record_tables.specs.declared.tables.TableName.TheVariants as ta
 
 use crate::values::flag_of;
 use circ_policy::Policy;
-use circ_records::{BaseRule, Ids, Key, Patron, Record, RecordMap};
+use circ_records::{BaseRule, Ids, Key, KeyRef, Patron, Record, RecordMap};
 use csv::ByteRecord;
 use csv_table::column;
 use sip_reader::{Id, Text, is_text};
@@ -84,7 +84,7 @@ pub fn class_of(alloc: Global, policy: &Policy, name: &[u8]) -> Result<Option<Id
 fn is_double(records: &RecordMap, id: &Id) -> bool
     ensures { (r : Rows) → AreTold r records.now → result ≡ Rules.has_row 0 id.now r.patrons }
 {
-    records.patron(id).is_some()
+    records.get(KeyRef::Patron(id)).is_some()
 }
 
 /// Adds the patron of a row to the records under its id, and returns whether there was one.

@@ -64,7 +64,7 @@ impl<'e> End<'e> for ReplayEnd<'e> {
     }
 
     fn final_of(&self, key: &Key) -> Option<&Record> {
-        self.replayed.records.get(key)
+        self.replayed.records.get(key.as_ref())
     }
 
     fn records(&self) -> Option<&'e Records> {

@@ -153,7 +153,7 @@ fn take_record<'e, E: End<'e>>(
     ensures { OnOk result ((keys : List Key) → HasAt keys (E.left end.now) records.old
         → HasAt (keys ++ key.now ∷ []) (E.left end.now) records.new) }
 {
-    if records.get(key).is_some() {
+    if records.get(key.as_ref()).is_some() {
         return Ok(());
     }
     let Some(found) = end.final_of(key) else {

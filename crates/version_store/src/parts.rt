@@ -81,7 +81,7 @@ impl KeyParts {
 pub fn position_in(count: usize, key: &Key) -> usize
     ensures { result ≡ position_in count key.now }
 {
-    (key.hash().wrapping_mul(count as u64) / 4_294_967_296) as usize
+    (key.id().hash().wrapping_mul(count as u64) / 4_294_967_296) as usize
 }
 
 /// Adds a line at a key of a part.

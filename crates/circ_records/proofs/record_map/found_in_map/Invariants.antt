@@ -1,5 +1,5 @@
 use Rattle.std.proofs.Common.{◌≡◌}
-use Rattle.circ_records.specs.Devices.KeyRefs.{key_of}
+use Rattle.circ_records.specs.Keys.{key_of}
 use Rattle.circ_records.specs.Records.{record_at}
 use Rattle.circ_records.proofs.record_map.found_in_map.Given as goal
 

@@ -1,7 +1,6 @@
 use Rattle.std.proofs.Common.{rules, subst, sym}
 use Rattle.std.proofs.lemmas.Fn.{always_returns_same}
-use Rattle.circ_records.specs.Devices.KeyRefs.{key_of}
-use Rattle.circ_records.specs.Keys.{key_cmp}
+use Rattle.circ_records.specs.Keys.{key_cmp, key_of}
 use Rattle.circ_records.specs.Records.{AreRising}
 use Rattle.circ_records.specs.declared.key.Key.{Key}
 use Rattle.circ_records.specs.declared.record.Record.{Record}
@@ -12,5 +11,5 @@ use Rattle.circ_records.proofs.record_list.RecordList.position.Goals as goal
 pub returns : goal.returns
 returns c =
     let facts = c.binary_search_by.ensures in
-    let by = facts.position (λ (e : Key × Record). key_cmp e.0 (key_of c.args.key.now)) (always_returns_same _ _ _ (λ a r f' called. (search rules, search rules))) in
-    rw (← c.as_slice-listed.ensures.value) (halved c.as_slice-listed.result.now (key_of c.args.key.now) c.binary_search_by.result (subst AreRising (sym c.as_slice-listed.ensures.value) c.requires) facts.bound by)
+    let by = facts.position (λ (e : Key × Record). key_cmp e.0 (key_of c.args.key)) (always_returns_same _ _ _ (λ a r f' called. (search rules, search rules))) in
+    rw (← c.as_slice-listed.ensures.value) (halved c.as_slice-listed.result.now (key_of c.args.key) c.binary_search_by.result (subst AreRising (sym c.as_slice-listed.ensures.value) c.requires) facts.bound by)

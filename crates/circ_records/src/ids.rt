@@ -42,7 +42,9 @@ impl Ids {
     pub fn one(alloc: Global, id: Id) -> Result<Ids, AllocError>
         ensures { IfOk result (λ l. l ≡ id ∷ []) }
     {
-        Ids::from_vec(alloc, with_last(alloc, &[], id)?)
+        let mut ids = Ids::new();
+        ids.push(alloc, id)?;
+        Ok(ids)
     }
 
     /// The list of these ids.
@@ -66,7 +68,13 @@ impl Ids {
         match &mut self.held {
             Some(ids) if ids.get().len() > FEW => ids.make_mut()?.push(id)?,
             _ => {
-                *self = Ids::from_vec(alloc, with_last(alloc, self.as_slice(), id)?)?;
+                let ids = self.as_slice();
+                let mut longer = Vec::with_capacity(alloc, ids.len().saturating_add(1))?;
+                for own in ids {
+                    longer.push(own.clone()?)?;
+                }
+                longer.push(id)?;
+                *self = Ids::from_vec(alloc, longer)?;
             }
         }
         Ok(())
@@ -103,16 +111,4 @@ impl Ids {
             None => &[],
         }
     }
-}
-
-/// These ids and one more at the end.
-fn with_last(alloc: Global, ids: &[Id], last: Id) -> Result<Vec<Id>, AllocError>
-    ensures { IfOk result (λ v. v.items ≡ ids.now ++ last ∷ []) }
-{
-    let mut longer = Vec::with_capacity(alloc, ids.len().saturating_add(1))?;
-    for id in ids {
-        longer.push(id.clone()?)?;
-    }
-    longer.push(last)?;
-    Ok(longer)
 }

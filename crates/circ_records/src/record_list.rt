@@ -57,15 +57,6 @@ impl RecordList {
         Ok(RecordList { entries, hints })
     }
 
-    /// The same records with hints, which are added for those that are appended from now on, too.
-    pub(crate) fn with_hints(self, alloc: Global) -> Result<RecordList, AllocError>
-        ensures { IfOk result (λ l. l.entries ≡ self.entries) }
-    {
-        let RecordList { entries, hints: _ } = self;
-        let hints = PositionHints::of(alloc, entries.as_slice())?;
-        Ok(RecordList { entries, hints })
-    }
-
     /// The position of a key, or else the position at which it would have to be inserted. First the position is tried that is
     /// likely, then those of the key's slots, then whether the key comes after all others, then binary search.
     pub(crate) fn position(&self, key: KeyRef<'_>) -> Result<usize, usize>

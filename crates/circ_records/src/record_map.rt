@@ -12,7 +12,7 @@ ghost use Rattle.circ_records.specs.declared.record.Record.{Record};
 
 use crate::changes::{ListChange, apply};
 use crate::key::{Key, KeyRef};
-use crate::position_hints::LikelyPositions;
+use crate::position_hints::{LikelyPositions, PositionHints};
 use crate::record::Record;
 use crate::record_list::RecordList;
 use crate::rule::BaseRule;
@@ -161,11 +161,13 @@ impl RecordMap {
         Ok(broken)
     }
 
-    /// The same records in a list with hints, whatever the order in which they came.
+    /// The same records in a list, whatever the order in which they came, with hints. Records that are put in from now on get
+    /// hints, too.
     pub fn with_hints(self, alloc: Global) -> Result<RecordMap, AllocError>
         ensures { IfOk result (λ m. m ≡ self) }
     {
-        let listed = self.into_list(alloc)?.with_hints(alloc)?;
+        let mut listed = self.into_list(alloc)?;
+        listed.hints = PositionHints::of(alloc, listed.entries.as_slice())?;
         Ok(RecordMap::from_list(alloc, listed))
     }
 

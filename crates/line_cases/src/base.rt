@@ -15,7 +15,7 @@ ghost use Rattle.line_cases.specs.Devices.Adding.{Adds, IsNamed, IsNamedBy, know
 ghost use Rattle.line_cases.specs.Refers.{RefersTo};
 
 use crate::patrons::put_patron;
-use circ_records::{Holds, Item, Key, Patron, Record, RecordMap, Records};
+use circ_records::{Holds, Item, Key, KeyRef, Patron, Record, RecordMap, Records};
 use line_origins::Tracer;
 use read_set::{Note, Notes};
 use sip_reader::Id;
@@ -109,7 +109,7 @@ fn put_item(
     ensures { OnOk result (Adds (λ k. k ≡ keys.Item id.now) (before tracer.now.plan.now tracer.now.next) (record_at records.old) (record_at records.new)) }
 {
     let key = Key::Item(id.clone()?);
-    if records.get(key.as_ref()).is_some() {
+    if records.get(KeyRef::Item(id)).is_some() {
         return Ok(());
     }
     if let Some(Record::Item(item)) = tracer.record(&key)? {
@@ -147,7 +147,7 @@ fn put_fee(
     ensures { OnOk result (Adds (λ k. k ≡ keys.Fee id.now) (before tracer.now.plan.now tracer.now.next) (record_at records.old) (record_at records.new)) }
 {
     let key = Key::Fee(id.clone()?);
-    if records.get(key.as_ref()).is_some() {
+    if records.get(KeyRef::Fee(id)).is_some() {
         return Ok(());
     }
     if let Some(fee) = tracer.record(&key)? {

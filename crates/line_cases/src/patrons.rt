@@ -21,7 +21,7 @@ pub(crate) fn put_patron(
     ensures { OnOk result (Adds (λ k. k ≡ keys.Patron id.now) (before tracer.now.plan.now tracer.now.next) (record_at records.old) (record_at records.new)) }
 {
     let key = Key::Patron(id.clone()?);
-    if records.get(key.as_ref()).is_some() {
+    if records.get(KeyRef::Patron(id)).is_some() {
         return Ok(());
     }
     if let Some(Record::Patron(patron)) = tracer.record(&key)? {

@@ -111,15 +111,11 @@ impl PositionHints {
     }
 }
 
-/// The first slot that is looked at for a hash of 32 bits. The last slots are left for those that follow the first.
-pub(crate) fn first_slot(hash: u64, slots: usize) -> usize {
-    (hash.wrapping_mul(slots.saturating_sub(TRIES) as u64) >> 32) as usize
-}
-
 /// Puts a position into the first free slot for a hash, where there is one, unless a slot has it already: in a copy of the hints of
 /// another list it does.
 fn take_slot(slots: &mut Vec<u32>, hash: u64, position: u32) {
-    let first = first_slot(hash, slots.len());
+    // chosen by a hash of 32 bits; the last slots are left for those that follow the first
+    let first = (hash.wrapping_mul(slots.len().saturating_sub(TRIES) as u64) >> 32) as usize;
     for slot in first..first.saturating_add(TRIES) {
         if slot >= slots.len() {
             return;

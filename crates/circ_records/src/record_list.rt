@@ -1,12 +1,12 @@
 //! Records as a list, rising by key, in which one is found by a hint of its position or by binary search.
 
-ghost use Rattle.std.specs.Prelude.{◌≡◌, ◌++◌, ◌∷◌, [], Err, IfOk, IsTrue, OnErr, OnOk, length};
+ghost use Rattle.std.specs.Prelude.{◌≡◌, ◌++◌, ◌∷◌, [], Err, IfOk, IsTrue, Ok, OnErr, OnOk, length};
 ghost use Rattle.circ_records.specs.Keys.{key_of};
 ghost use Rattle.circ_records.specs.Devices.Positions.{position_from};
 ghost use Rattle.circ_records.specs.Records.{AreRising};
 
 use crate::key::{Key, KeyRef};
-use crate::position_hints::{FREE, PositionHints, TRIES, first_slot};
+use crate::position_hints::{FREE, PositionHints, TRIES};
 use crate::record::Record;
 use std::alloc::{AllocError, Global};
 
@@ -69,18 +69,17 @@ impl RecordList {
             KeyRef::Item(id) => (hints.likely.item, id),
             KeyRef::Fee(id) => (None, id),
         };
-        if let Some(position) = likely
-            && let Some(entry) = listed.get(position)
-            && key.compare(&entry.0).is_eq()
-        {
-            return Ok(position);
+        if let Some(position) = likely {
+            if is_at(listed, position, key) {
+                return Ok(position);
+            }
         }
-        let first = first_slot(id.hash(), hints.slots.len());
+        // the first slot, as for `take_slot`
+        let firsts = hints.slots.len().saturating_sub(TRIES) as u64;
+        let first = (id.hash().wrapping_mul(firsts) >> 32) as usize;
         for slot in first..first.saturating_add(TRIES) {
             let position = hints.slots.get(slot).copied().unwrap_or(FREE);
-            if let Some(entry) = listed.get(position as usize)
-                && key.compare(&entry.0).is_eq()
-            {
+            if is_at(listed, position as usize, key) {
                 return Ok(position as usize);
             }
             if position == FREE {
@@ -112,5 +111,16 @@ impl RecordList {
         self.hints.add(alloc, self.entries.as_slice(), &key)?;
         self.entries.push((key, record))?;
         Ok(())
+    }
+}
+
+/// Whether a key is at a position.
+fn is_at(listed: &[(Key, Record)], position: usize, key: KeyRef<'_>) -> bool
+    requires { AreRising listed.now }
+    ensures { IsTrue result → position_from 0 (key_of key.entry) listed.now ≡ Ok position }
+{
+    match listed.get(position) {
+        Some(entry) => key.compare(&entry.0).is_eq(),
+        None => false,
     }
 }

@@ -5,4 +5,4 @@ use Rattle.record_tables.proofs.Lookups.{is_some-map}
 use Rattle.record_tables.proofs.items.is_double.Goals as goal
 
 pub returns : goal.returns
-returns c = λ r t. c.is_some.ensures ∙ sym (is_some-map _ _) ∙ ap is_some (c.item.ensures ∙ t (key.Item c.args.id.now)) ∙ is_some-map _ _
+returns c = λ r t. c.is_some.ensures ∙ sym (is_some-map _ _) ∙ ap is_some (c.get.ensures ∙ t (key.Item c.args.id.now)) ∙ is_some-map _ _

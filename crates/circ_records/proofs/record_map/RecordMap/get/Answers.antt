@@ -9,9 +9,7 @@ pub position-requires : goal.position-requires
 position-requires c = rises-first c.self.inside.listed.entries.items c.self.inside.mapped.entries c.self.invariant
 
 pub index-requires : goal.index-requires
-index-requires c =
-    let within = (held c.self.inside.listed.entries.items (key_of c.args.key) c.in-Ok.position (sym c.position.ensures ∙ c.in-Ok.is)).0 in
-    search (arith, within)
+index-requires c = let within = (held c.self.inside.listed.entries.items (key_of c.args.key) c.in-Ok.position (sym c.position.ensures ∙ c.in-Ok.is)).0 in search (arith, within)
 
 pub returns-in-Ok : goal.returns-in-Ok
 returns-in-Ok c =
@@ -21,6 +19,5 @@ returns-in-Ok c =
 pub returns-in-Err : goal.returns-in-Err
 returns-in-Err c =
     let es = c.self.inside.listed.entries.items in
-    let fs = c.self.inside.mapped.entries in
-    let none = missing 0 es (key_of c.args.key) c.in-Err.field-0 (rises-first es fs c.self.invariant) (sym c.position.ensures ∙ c.in-Err.is) in
-    rw (← c.self.view_is) (c.found_in_map.ensures ∙ sym (in-second es fs (key_of c.args.key) none))
+    let none = missing 0 es (key_of c.args.key) c.in-Err.field-0 (rises-first es c.self.inside.mapped.entries c.self.invariant) (sym c.position.ensures ∙ c.in-Err.is) in
+    rw (← c.self.view_is) (c.found_in_map.ensures ∙ sym (in-second es c.self.inside.mapped.entries (key_of c.args.key) none))

@@ -1,6 +1,6 @@
 //! What a request asks, by its fixed part and its fields.
 
-ghost use Rattle.std.specs.Prelude.{◌≡◌, ◌≤◌, [], IfOk, true, false, length, unwrap_or};
+ghost use Rattle.std.specs.Prelude.{◌≡◌, ◌≤◌, [], IfOk, true, false, length, unwrap_or, slice_range};
 ghost use Rattle.std.specs.Option.{is_none, option_and_then, option_copied};
 ghost use Rattle.sip_reader.specs.Amounts.{amount_of};
 ghost use Rattle.sip_reader.specs.Fits.{Fits};
@@ -49,7 +49,7 @@ fn block_patron(alloc: Global, fields: &Fields<'_>) -> Result<Act, AllocError>
     ensures { IfOk result (λ act. act ≡ act_of kinds.BlockPatron [] (texts_behind fields.now)) }
 {
     Ok(Act::BlockPatron(BlockPatron {
-        patron: Id::of_valid(alloc, fields.patron.unwrap_or(&[]))?,
+        patron: id_of(alloc, fields.patron)?,
     }))
 }
 
@@ -60,7 +60,7 @@ fn checkin(alloc: Global, message: &[u8], fields: &Fields<'_>) -> Result<Act, Al
 {
     Ok(Act::Checkin(Checkin {
         back: day_in(&message[21..39]),
-        item: Id::of_valid(alloc, fields.item.unwrap_or(&[]))?,
+        item: id_of(alloc, fields.item)?,
         cancel: is_yes(fields.cancel),
     }))
 }
@@ -75,8 +75,8 @@ fn checkout(alloc: Global, message: &[u8], fields: &Fields<'_>) -> Result<Act, A
         renewal: message[2] == b'Y',
         no_block: message[3] == b'Y',
         due: day_in(&message[22..40]),
-        patron: Id::of_valid(alloc, fields.patron.unwrap_or(&[]))?,
-        item: Id::of_valid(alloc, fields.item.unwrap_or(&[]))?,
+        patron: id_of(alloc, fields.patron)?,
+        item: id_of(alloc, fields.item)?,
         cancel: is_yes(fields.cancel),
         agreed: is_yes(fields.agreed),
     }))
@@ -92,8 +92,8 @@ fn hold(alloc: Global, message: &[u8], fields: &Fields<'_>) -> Result<Act, Alloc
     let pickup = Text::new(alloc, fields.pickup.unwrap_or(&[]))?;
     Ok(Act::Hold(HoldRequest {
         mode: hold_mode(message[2]),
-        patron: Id::of_valid(alloc, fields.patron.unwrap_or(&[]))?,
-        item: Id::of_valid(alloc, fields.item.unwrap_or(&[]))?,
+        patron: id_of(alloc, fields.patron)?,
+        item: id_of(alloc, fields.item)?,
         pickup,
     }))
 }
@@ -108,7 +108,7 @@ fn item_status(alloc: Global, fields: &Fields<'_>) -> Result<Act, AllocError>
         None => None,
     };
     Ok(Act::ItemStatus(ItemStatus {
-        item: Id::of_valid(alloc, fields.item.unwrap_or(&[]))?,
+        item: id_of(alloc, fields.item)?,
         properties,
     }))
 }
@@ -118,7 +118,7 @@ fn patron_enable(alloc: Global, fields: &Fields<'_>) -> Result<Act, AllocError>
     ensures { IfOk result (λ act. act ≡ act_of kinds.PatronEnable [] (texts_behind fields.now)) }
 {
     Ok(Act::PatronEnable(PatronEnable {
-        patron: Id::of_valid(alloc, fields.patron.unwrap_or(&[]))?,
+        patron: id_of(alloc, fields.patron)?,
     }))
 }
 
@@ -132,8 +132,8 @@ fn renew(alloc: Global, message: &[u8], fields: &Fields<'_>) -> Result<Act, Allo
         third_party: message[2] == b'Y',
         no_block: message[3] == b'Y',
         due: day_in(&message[22..40]),
-        patron: Id::of_valid(alloc, fields.patron.unwrap_or(&[]))?,
-        item: Id::of_valid(alloc, fields.item.unwrap_or(&[]))?,
+        patron: id_of(alloc, fields.patron)?,
+        item: id_of(alloc, fields.item)?,
         agreed: is_yes(fields.agreed),
     }))
 }
@@ -145,7 +145,7 @@ fn fee_paid(alloc: Global, message: &[u8], fields: &Fields<'_>) -> Result<Act, A
     ensures { IfOk result (λ act. act ≡ act_of kinds.FeePaid message.now (texts_behind fields.now)) }
 {
     Ok(Act::FeePaid(FeePaid {
-        patron: Id::of_valid(alloc, fields.patron.unwrap_or(&[]))?,
+        patron: id_of(alloc, fields.patron)?,
         currency: [message[24], message[25], message[26]],
         amount: tested_amount(fields.amount),
         fee: given_fee(alloc, fields.fee)?,
@@ -157,9 +157,17 @@ fn renew_all(alloc: Global, fields: &Fields<'_>) -> Result<Act, AllocError>
     ensures { IfOk result (λ act. act ≡ act_of kinds.RenewAll [] (texts_behind fields.now)) }
 {
     Ok(Act::RenewAll(RenewAll {
-        patron: Id::of_valid(alloc, fields.patron.unwrap_or(&[]))?,
+        patron: id_of(alloc, fields.patron)?,
         agreed: is_yes(fields.agreed),
     }))
+}
+
+/// The id that a tested field holds.
+fn id_of(alloc: Global, text: Option<&[u8]>) -> Result<Id, AllocError>
+    requires { is_id (unwrap_or (option_copied text) []) ≡ true }
+    ensures { IfOk result (λ id. id ≡ unwrap_or (option_copied text.entry) []) }
+{
+    Id::of_valid(alloc, text.unwrap_or(&[]))
 }
 
 /// The amount that a tested field holds.

@@ -1,6 +1,6 @@
 //! The tests that a request of a layout has to pass.
 
-ghost use Rattle.std.specs.Prelude.{◌≡◌};
+ghost use Rattle.std.specs.Prelude.{◌≡◌, [], length, unwrap_or};
 ghost use Rattle.std.specs.List.{list_all};
 ghost use Rattle.std.specs.Option.{option_and_then, option_copied};
 ghost use Rattle.sip_reader.specs.Amounts.{amount_of};
@@ -43,10 +43,20 @@ pub fn is_bad_field(layout: &FieldLayout, rest: &[u8], fields: &Fields<'_>) -> b
 {
     memchr2(b'\r', b'\n', rest).is_some()
         || fields.short
-        || layout.patron && fields.patron.unwrap_or(&[]).len() > ID_MAX
-        || layout.item && fields.item.unwrap_or(&[]).len() > ID_MAX
-        || layout.properties && fields.properties.unwrap_or(&[]).len() > TEXT_MAX
-        || layout.pickup && fields.pickup.unwrap_or(&[]).len() > TEXT_MAX
+        || layout.patron && len_of(fields.patron) > ID_MAX
+        || layout.item && len_of(fields.item) > ID_MAX
+        || layout.properties && len_of(fields.properties) > TEXT_MAX
+        || layout.pickup && len_of(fields.pickup) > TEXT_MAX
+}
+
+/// The length of a text, 0 where it is missing.
+fn len_of(text: Option<&[u8]>) -> usize
+    ensures { result ≡ length (unwrap_or (option_copied text.entry) []) }
+{
+    match text {
+        Some(text) => text.len(),
+        None => 0,
+    }
 }
 
 /// Whether a title names the item, in place of its id.
@@ -54,7 +64,7 @@ pub fn is_bad_field(layout: &FieldLayout, rest: &[u8], fields: &Fields<'_>) -> b
 pub fn is_by_title(layout: &FieldLayout, fields: &Fields<'_>) -> bool
     ensures { result ≡ names_title layout.now (texts_behind fields.now) }
 {
-    layout.title && fields.item.unwrap_or(&[]).is_empty() && !fields.title.unwrap_or(&[]).is_empty()
+    layout.title && len_of(fields.item) == 0 && len_of(fields.title) > 0
 }
 
 /// Whether a required id is missing or empty, or a required amount is missing.
@@ -62,8 +72,8 @@ pub fn is_by_title(layout: &FieldLayout, fields: &Fields<'_>) -> bool
 pub fn is_lacking(layout: &FieldLayout, fields: &Fields<'_>) -> bool
     ensures { result ≡ lacks_field layout.now (texts_behind fields.now) }
 {
-    layout.patron && fields.patron.unwrap_or(&[]).is_empty()
-        || layout.item && fields.item.unwrap_or(&[]).is_empty()
+    layout.patron && len_of(fields.patron) == 0
+        || layout.item && len_of(fields.item) == 0
         || layout.amount && fields.amount.is_none()
 }
 

@@ -2,7 +2,7 @@
 
 ghost use Rattle.std.specs.Prelude.{◌≡◌, ◌<◌, ◌≤◌, ◌+◌, if◌then◌else◌, Some, None, length};
 ghost use Rattle.sip_reader.specs.Days.{LAST_STAMP_DAY};
-ghost use Rattle.sip_reader.specs.Dates.{day_of, given_day, is_stamp, two_at};
+ghost use Rattle.sip_reader.specs.Dates.{day_of, given_day, has_day, has_time, is_stamp, two_at};
 
 use crate::{Day, all_digits};
 use std::marker::Model;
@@ -38,22 +38,12 @@ impl Stamp {
         if bytes.len() != STAMP_LEN || !all_digits(&bytes[..8]) || !all_digits(&bytes[12..]) {
             return None;
         }
-        let (year, month, day) = (
-            two(bytes, 0) * 100 + two(bytes, 2),
-            two(bytes, 4),
-            two(bytes, 6),
-        );
-        if year <= 9900
-            && Day::is_real(year, month, day)
-            && two(bytes, 12) < 24
-            && two(bytes, 14) < 60
-            && two(bytes, 16) < 60
-        {
-            let mut copied = [0; STAMP_LEN];
-            copied.copy_from_slice(bytes);
-            return Some(Stamp { bytes: copied });
+        if !is_written_day(bytes) || !is_time(bytes) {
+            return None;
         }
-        None
+        let mut copied = [0; STAMP_LEN];
+        copied.copy_from_slice(bytes);
+        Some(Stamp { bytes: copied })
     }
 
     /// The day that is written in it; its zone isn't interpreted.
@@ -75,6 +65,21 @@ impl Stamp {
     {
         self.bytes.as_slice()
     }
+}
+
+fn is_written_day(s: &[u8]) -> bool
+    requires { length s.now ≡ STAMP_LEN }
+    ensures { result ≡ has_day s.now }
+{
+    let year = two(s, 0) * 100 + two(s, 2);
+    year <= 9900 && Day::is_real(year, two(s, 4), two(s, 6))
+}
+
+fn is_time(s: &[u8]) -> bool
+    requires { length s.now ≡ STAMP_LEN }
+    ensures { result ≡ has_time s.now }
+{
+    two(s, 12) < 24 && two(s, 14) < 60 && two(s, 16) < 60
 }
 
 /// The day of bytes, where they are a date.

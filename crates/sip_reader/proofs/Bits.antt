@@ -1,37 +1,17 @@
 -- Bytes of a kind, seen a block at a time.
-use Rattle.std.proofs.Common.{◌≡◌, ℕ, zero, suc, ◌+◌, ◌-◌, ◌*◌, ◌/◌, ◌%◌, ◌^◌, ◌≤◌, Bool, true, false, not, ◌&&◌, cond, eqb, List, [], ◌∷◌, map, length, take, drop, Fits, w8, refl, sym, ap, ap₂, ◌∙◌, arith, inl, inr}
+use Rattle.std.proofs.Common.{◌≡◌, ℕ, zero, suc, ◌+◌, ◌-◌, ◌*◌, ◌%◌, ◌^◌, ◌≤◌, Bool, true, false, not, ◌&&◌, cond, eqb, List, [], ◌∷◌, map, length, take, drop, Fits, w8, refl, sym, ap, ap₂, ◌∙◌, arith, inl, inr}
 use Rattle.std.proofs.lemmas.Simd.{mask_l-mod}
-use Rattle.std.proofs.lemmas.List.{drop-drop, length-map, take_all}
+use Rattle.std.proofs.lemmas.List.{length-map, take_all}
 use Rattle.std.proofs.lemmas.Bool.{agree_below, agree_below_at, cases_eq, eq-eqb, ne_eqb}
-use Rattle.std.proofs.lemmas.Nat.{div-mul-add, shr_le, shr-shr}
 use Rattle.std.specs.List.{list_all}
-use lib.Lanes.{Each1, chunk, mask_l, top}
+use lib.Lanes.{Each1, mask_l, top}
 
--- ---- the bits after the first few
+-- twice a number is 0 where the number is
 twice : (m : ℕ) → eqb (0 + 2 * m) 0 ≡ eqb m 0
 twice m = elim (cases_eq m 0) [
   | inl none ↦ eq-eqb (0 + 2 * m) 0 (omega arith) ∙ sym (eq-eqb m 0 none)
   | inr some ↦ ne_eqb (0 + 2 * m) 0 (λ e. omega arith) ∙ sym (ne_eqb m 0 some)
 ]
-
-one_less : (b : Bool) (m : ℕ) → (cond b 1 0 + 2 * m) / 2 ^ 1 ≡ m
-one_less true m = let e : 1 + 2 * m ≡ m * 2 + 1 = omega arith in ap (λ n. n / 2) e ∙ div-mul-add m 2 1 (omega arith)
-one_less false m = let e : 0 + 2 * m ≡ m * 2 + 0 = omega arith in ap (λ n. n / 2) e ∙ div-mul-add m 2 0 (omega arith)
-
-zero_div : (few : ℕ) → 0 / 2 ^ suc few ≡ 0
-zero_div few = let h = shr_le 0 (suc few) in omega arith
-
-bits_behind : (bs : List Bool) (few : ℕ) → mask_l bs / 2 ^ few ≡ mask_l (drop few bs)
-bits_behind bs zero = let e : mask_l bs ≡ mask_l bs * 1 + 0 = omega arith in ap (λ n. n / 1) e ∙ div-mul-add (mask_l bs) 1 0 (omega arith)
-bits_behind [] (suc few) = zero_div few
-bits_behind (b ∷ bs) (suc few) =
-    let more : suc few ≡ 1 + few = omega arith in
-    ap (λ k. (cond b 1 0 + 2 * mask_l bs) / 2 ^ k) more ∙ sym (shr-shr (cond b 1 0 + 2 * mask_l bs) 1 few) ∙ ap (λ n. n / 2 ^ few) (one_less b (mask_l bs)) ∙ bits_behind bs few
-
-map_behind : (p : ℕ → Bool) (xs : List ℕ) (few : ℕ) → drop few (map p xs) ≡ map p (drop few xs)
-map_behind p xs zero = refl
-map_behind p [] (suc few) = refl
-map_behind p (x ∷ xs) (suc few) = map_behind p xs few
 
 pub chunk_behind : (xs : List ℕ) (few n : ℕ) → drop few (take n xs) ≡ take (n - few) (drop few xs)
 chunk_behind xs zero n = let e : n ≡ n - 0 = omega arith in ap (λ k. take k xs) e
@@ -44,12 +24,6 @@ chunk_behind (x ∷ xs) (suc few) zero = ap (λ k. take k (drop few xs)) none
 chunk_behind (x ∷ xs) (suc few) (suc n) =
     let less : suc n - suc few ≡ n - few = omega arith in
     chunk_behind xs few n ∙ ap (λ k. take k (drop few xs)) (sym less)
-
-pub behind : (p : ℕ → Bool) (s : List ℕ) (at few n : ℕ) → mask_l (map p (chunk at n s)) / 2 ^ few ≡ mask_l (map p (chunk (at + few) (n - few) s))
-behind p s at few n =
-    let here = chunk at n s in
-    let rest = map_behind p here few ∙ ap (map p) (chunk_behind (drop at s) few n ∙ ap (take (n - few)) (drop-drop few at s)) in
-    bits_behind (map p here) few ∙ ap mask_l rest
 
 -- no bit is set where no byte is of the kind
 pub no_bit : (p : ℕ → Bool) (xs : List ℕ) → eqb (mask_l (map p xs)) 0 ≡ list_all (λ x. not (p x)) xs

@@ -1,6 +1,5 @@
 -- For proofs alone: how things are stored or counted. No promise needs it.
 pub mod Bars
-pub mod Digits
 pub mod Hashes
 pub mod Held
 pub mod Padding

@@ -7,7 +7,7 @@ ghost use Rattle.sip_reader.specs.Views.{texts_behind, with_piece};
 use memchr::memchr;
 
 /// The texts of the variable fields that the rules use, each of the first piece with its identifier.
-#[derive(Clone, Copy)]
+#[derive(Clone, Copy, Default)]
 pub struct Fields<'a> {
     /// Of AA.
     pub patron: Option<&'a [u8]>,
@@ -32,24 +32,6 @@ pub struct Fields<'a> {
 }
 
 impl<'a> Fields<'a> {
-    /// Those of no pieces.
-    pub fn none() -> Fields<'a>
-        ensures { texts_behind result ≡ texts [] }
-    {
-        Fields {
-            patron: None,
-            item: None,
-            title: None,
-            cancel: None,
-            agreed: None,
-            pickup: None,
-            amount: None,
-            fee: None,
-            properties: None,
-            short: false,
-        }
-    }
-
     /// Notes the pieces of a variable part. They are noted in place, since the fields are large to move.
     pub fn note_all(&mut self, part: &'a [u8])
         requires { texts_behind self.old ≡ texts [] }

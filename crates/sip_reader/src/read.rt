@@ -72,7 +72,7 @@ fn read_kind(
         return Ok(Reading::Unread(Why::BadFlag));
     }
     let rest = &message[fixed..];
-    let mut fields = Fields::none();
+    let mut fields = Fields::default();
     fields.note_all(rest);
     if is_bad_field(&layout, rest, &fields) {
         return Ok(Reading::Unread(Why::BadField));

@@ -95,7 +95,7 @@ impl Policy {
     {
         self.media
             .iter()
-            .find(|entry| entry.0.index() == media.index())
+            .find(|entry| entry.0 as usize == media as usize)
             .map(|entry| entry.1)
     }
 

@@ -1,5 +1,6 @@
 -- The weekday of a day's number, and whether the library is open on the day.
-use Rattle.std.proofs.Common.{◌≡◌, ◌∙◌, ◌%◌, ◌+ℤ◌, ◌-ℤ◌, ℕ, ℤ, pos, Bool, true, false, length, get_or, refl, arith}
+use Rattle.std.proofs.Common.{◌≡◌, ◌∙◌, ◌%◌, ◌+ℤ◌, ◌-ℤ◌, ℕ, ℤ, pos, ◌&&◌, Bool, true, length, get_or, refl, arith}
+use Rattle.std.specs.Prelude.{not}
 use Rattle.std.specs.BTreeMap.{is_at}
 use Rattle.std.specs.List.{list_any}
 use Rattle.std.specs.Ordering.{nat_cmp}
@@ -17,13 +18,6 @@ pub weekday-lem : (n : ℕ) → weekday n ≡ n % 7
 unfolding weekday
 weekday-lem n = of_epoch_day (pos n -ℤ pos 4_371_587) n (omega (arith, signed_arith))
 
-pub open_on : (closed : Closed) (n : ℕ) (d : Bool) → length closed.weekdays ≡ 7 → get_or closed.weekdays (n % 7) d ≡ false
-    → list_any (is_at (nat_cmp n)) closed.dates ≡ false → is_open closed n ≡ true
-open_on closed n d seven week date = rw (weekday-lem n, get_or_default closed.weekdays (n % 7) true d (omega arith), week, date) refl
-
-pub shut_date : (closed : Closed) (n : ℕ) (d : Bool) → length closed.weekdays ≡ 7 → get_or closed.weekdays (n % 7) d ≡ false
-    → list_any (is_at (nat_cmp n)) closed.dates ≡ true → is_open closed n ≡ false
-shut_date closed n d seven week date = rw (weekday-lem n, get_or_default closed.weekdays (n % 7) true d (omega arith), week, date) refl
-
-pub shut_weekday : (closed : Closed) (n : ℕ) (d : Bool) → length closed.weekdays ≡ 7 → get_or closed.weekdays (n % 7) d ≡ true → is_open closed n ≡ false
-shut_weekday closed n d seven week = rw (weekday-lem n, get_or_default closed.weekdays (n % 7) true d (omega arith), week) refl
+pub open_on : (closed : Closed) (n : ℕ) (d : Bool) → length closed.weekdays ≡ 7
+    → is_open closed n ≡ (not (get_or closed.weekdays (n % 7) d) && not (list_any (is_at (nat_cmp n)) closed.dates))
+open_on closed n d seven = rw (weekday-lem n, get_or_default closed.weekdays (n % 7) true d (omega arith)) refl

@@ -1,7 +1,7 @@
 //! The types of media.
 
 ghost use Rattle.std.specs.Prelude.{◌≡◌};
-ghost use Rattle.circ_policy.specs.Medias.{media_code, media_index, media_of_code};
+ghost use Rattle.circ_policy.specs.Medias.{media_code, media_of_code};
 
 /// A type of media, of those that SIP 2.00 has.
 #[derive(Clone, Copy, PartialEq, Eq)]
@@ -47,13 +47,6 @@ impl MediaType {
         ALL.iter()
             .copied()
             .find(|media| media.code().as_slice() == code)
-    }
-
-    /// The position among all types, from 0.
-    pub(crate) fn index(self) -> usize
-        ensures { result ≡ media_index self }
-    {
-        self as usize
     }
 }
 

@@ -95,7 +95,7 @@ impl Policy {
     {
         self.media
             .iter()
-            .find(|entry| entry.0.index() == media.index())
+            .find(|entry| entry.0 as usize == media as usize)
             .map(|entry| entry.1)
     }
 
@@ -107,6 +107,14 @@ impl Policy {
         ensures value { result ≡ due_day self.now day media.now }
         ensures early { result < FIRST_DAY_OF_9999 }
     {
-        self.calendar.due(day, media.days)
+        let calendar = &self.calendar;
+        let first = day.number() + u32::from(media.days.count());
+        for number in first..first + 2807 {
+            let is_closed_weekday = calendar.closed_weekdays[(number % 7) as usize];
+            if !is_closed_weekday && !calendar.closed_dates.contains(&number) {
+                return Day::numbered(number).unwrap();
+            }
+        }
+        unreachable!()
     }
 }

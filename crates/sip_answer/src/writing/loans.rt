@@ -8,7 +8,7 @@ ghost use Rattle.sip_answer.specs.Parts.{count, digit, each, field, filled, flag
 ghost use Rattle.sip_answer.specs.Texts.{loan_text, money, renew_all_text};
 
 use super::dates::{put_due, two_digits};
-use super::parts::{COUNT_MAX, digit, flag, put_field, put_id, put_media, put_money};
+use super::parts::{COUNT_MAX, digit, flag, put_field, put_filled, put_id, put_money};
 use crate::answer::{KnownItem, LoanAnswer, RenewAllAnswer};
 use sip_reader::{Amount, Id};
 use std::alloc::AllocError;
@@ -61,7 +61,10 @@ fn put_shown(out: &mut Vec<u8>, known: &Option<KnownItem>) -> Result<(), AllocEr
         ++ filled (codes "CH") (option_map_or (λ i. i.properties) known.now [])) }
 {
     match known {
-        Some(item) => put_media(out, item.media, &item.properties),
+        Some(item) => {
+            put_field(out, b"CK", &item.media.code())?;
+            put_filled(out, b"CH", &item.properties)
+        }
         None => Ok(()),
     }
 }

@@ -1,25 +1,8 @@
--- The digits of a media type, and those of a sum.
-use Rattle.std.proofs.Common.{◌≡◌, ◌<◌, ◌&&◌, inl, inr, ℕ, zero, suc, Bool, true, [], ◌∷◌, eqb, get_or, refl, arith}
+-- The digits of a sum.
+use Rattle.std.proofs.Common.{◌≡◌, ◌<◌, ◌&&◌, inl, inr, ℕ, zero, suc, Bool, true, eqb, get_or, refl, arith}
 use Rattle.std.specs.Prelude.{codes}
 use Rattle.std.proofs.lemmas.Bool.{and_parts, cases_lt, eqb-true}
-use Rattle.circ_policy.specs.Medias.{media_code}
-use Rattle.circ_policy.specs.declared.media_type.MediaType.{MediaType}
-use Rattle.circ_policy.specs.declared.media_type.MediaType.TheVariants.{Other, Book, Magazine, BoundJournal, AudioTape, VideoTape, Cd, Diskette, BookWithDiskette, BookWithCd, BookWithTape}
 use Rattle.sip_answer.specs.Parts.{hex_digit}
-
--- a media type's code is three digits
-pub three_digits : (m : MediaType) → media_code m ≡ get_or (media_code m) 0 0 ∷ get_or (media_code m) 1 0 ∷ get_or (media_code m) 2 0 ∷ []
-three_digits Other = refl
-three_digits Book = refl
-three_digits Magazine = refl
-three_digits BoundJournal = refl
-three_digits AudioTape = refl
-three_digits VideoTape = refl
-three_digits Cd = refl
-three_digits Diskette = refl
-three_digits BookWithDiskette = refl
-three_digits BookWithCd = refl
-three_digits BookWithTape = refl
 
 -- the first n of the sixteen are in their places
 abbrev are_in_place : ℕ → Bool

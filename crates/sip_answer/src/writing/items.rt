@@ -6,7 +6,7 @@ ghost use Rattle.circ_policy.specs.Medias.{media_code};
 ghost use Rattle.sip_answer.specs.Parts.{digit, field, filled, flag, given};
 ghost use Rattle.sip_answer.specs.Texts.{checkin_text, hold_text, item_status_text, position_text};
 
-use super::parts::{digit, flag, put_field, put_filled, put_id, put_media, put_text};
+use super::parts::{digit, flag, put_field, put_filled, put_id, put_text};
 use crate::answer::{
     CheckinAnswer, HoldAnswer, ItemStatusAnswer, QueuePosition, ReturnedItem, TitledItem,
 };
@@ -71,7 +71,8 @@ fn put_returned(
             put_text(out, b"AQ", &item.location)?;
             put_field(out, b"AJ", item.title.as_bytes())?;
             put_borrower(out, borrower)?;
-            put_media(out, item.media, &item.properties)
+            put_field(out, b"CK", &item.media.code())?;
+            put_filled(out, b"CH", &item.properties)
         }
         None => {
             put_field(out, b"AQ", b"")?;

@@ -8,9 +8,9 @@ ghost use Rattle.sip_answer.specs.Parts.{count, digit, each, field, filled, flag
 ghost use Rattle.sip_answer.specs.Texts.{loan_text, money, renew_all_text};
 
 use super::dates::{put_due, two_digits};
-use super::parts::{COUNT_MAX, digit, flag, put_field, put_id, put_media, put_money};
+use super::parts::{COUNT_MAX, digit, flag, put_field, put_filled, put_id, put_money};
 use crate::answer::{KnownItem, LoanAnswer, RenewAllAnswer};
-use sip_reader::{Amount, Id};
+use sip_reader::Id;
 use std::alloc::AllocError;
 
 /// A checkout response or a renew response, by its identifier.
@@ -24,34 +24,17 @@ pub fn put_loan(out: &mut Vec<u8>, id: &[u8], answer: &LoanAnswer) -> Result<(),
     put_id(out, b"AO", &answer.institution)?;
     put_id(out, b"AA", &answer.patron)?;
     put_id(out, b"AB", &answer.item)?;
-    put_title(out, &answer.known)?;
+    match &answer.known {
+        Some(item) => put_field(out, b"AJ", item.title.as_bytes())?,
+        None => put_field(out, b"AJ", b"")?,
+    }
     put_due(out, answer.due_form, answer.due)?;
-    put_rental(out, &answer.currency, answer.rental)?;
+    if let Some(rental) = answer.rental {
+        put_field(out, b"BT", b"06")?;
+        put_money(out, &answer.currency, u128::from(rental.hundredths()))?;
+    }
     put_shown(out, &answer.known)?;
     Ok(())
-}
-
-fn put_title(out: &mut Vec<u8>, known: &Option<KnownItem>) -> Result<(), AllocError>
-    ensures { OnOk result (out.new.items ≡ out.old.items ++ field (codes "AJ") (option_map_or (λ i. i.title) known.now [])) }
-{
-    match known {
-        Some(item) => put_field(out, b"AJ", item.title.as_bytes()),
-        None => put_field(out, b"AJ", b""),
-    }
-}
-
-/// The fee type of a rental, and the rental.
-fn put_rental(out: &mut Vec<u8>, currency: &[u8], rental: Option<Amount>) -> Result<(), AllocError>
-    ensures { OnOk result (out.new.items ≡ out.old.items
-        ++ option_map_or (λ rental. field (codes "BT") (codes "06") ++ money currency.now rental) rental []) }
-{
-    match rental {
-        Some(rental) => {
-            put_field(out, b"BT", b"06")?;
-            put_money(out, currency, u128::from(rental.hundredths()))
-        }
-        None => Ok(()),
-    }
 }
 
 #[tactic(auto, unfolding(crate::specs::Parts::given, crate::specs::Parts::filled))]
@@ -61,7 +44,10 @@ fn put_shown(out: &mut Vec<u8>, known: &Option<KnownItem>) -> Result<(), AllocEr
         ++ filled (codes "CH") (option_map_or (λ i. i.properties) known.now [])) }
 {
     match known {
-        Some(item) => put_media(out, item.media, &item.properties),
+        Some(item) => {
+            put_field(out, b"CK", &item.media.code())?;
+            put_filled(out, b"CH", &item.properties)
+        }
         None => Ok(()),
     }
 }

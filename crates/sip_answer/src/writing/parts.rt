@@ -1,12 +1,10 @@
 //! The parts of which a response is made, each appended to what is written before.
 
 ghost use Rattle.std.specs.Prelude.{◌≡◌, ◌++◌, ◌∷◌, [], ◌/◌, ◌%◌, OnOk, Some, codes, decimal};
-ghost use Rattle.circ_policy.specs.Medias.{media_code};
 ghost use Rattle.sip_reader.specs.Amounts.{amount_text};
 ghost use Rattle.sip_answer.specs.Texts.{money};
 ghost use Rattle.sip_answer.specs.Parts.{field, filled, digit, flag, with_sequence};
 
-use circ_policy::MediaType;
 use itoa::Buffer;
 use sip_reader::{Id, Text, push_amount, sum_of};
 use std::alloc::AllocError;
@@ -48,17 +46,6 @@ pub fn put_text(out: &mut Vec<u8>, id: &[u8; 2], text: &Text) -> Result<(), Allo
     out.extend_from_slice(id)?;
     text.append_to(out)?;
     out.extend_from_slice(b"|")
-}
-
-/// The fields of a media type, whose six bytes are copied at once, and of an item's properties.
-#[tactic(auto, using(crate::proofs::Codes::three_digits), unfolding(crate::specs::Parts::field))]
-pub fn put_media(out: &mut Vec<u8>, media: MediaType, properties: &Text) -> Result<(), AllocError>
-    ensures { OnOk result (out.new.items ≡ out.old.items
-        ++ field (codes "CK") (media_code media) ++ filled (codes "CH") properties.now) }
-{
-    let code = media.code();
-    out.extend_from_slice(&[b'C', b'K', code[0], code[1], code[2], b'|'])?;
-    put_filled(out, b"CH", properties)
 }
 
 /// A field that is left out where its text is empty.

@@ -1,4 +1,4 @@
-use Rattle.std.proofs.Common.{◌≡◌, ℕ, List, [], ◌∷◌, ◌++◌, append_assoc, refl}
+use Rattle.std.proofs.Common.{◌≡◌, ℕ, List, [], ◌∷◌, ◌++◌, append_assoc, append-nil, refl, sym}
 use Rattle.std.specs.Prelude.{codes, is_some}
 use Rattle.std.specs.Option.{option_map, option_map_or}
 use Rattle.circ_policy.specs.Medias.{media_code}
@@ -6,6 +6,7 @@ use Rattle.sip_answer.specs.DueDates.{due_text}
 use Rattle.sip_answer.specs.Parts.{digit, field, filled, flag, given}
 use Rattle.sip_answer.specs.Texts.{money}
 use Rattle.sip_answer.specs.declared.answer.KnownItem.{KnownItem}
+use Rattle.sip_answer.proofs.writing.loans.put_loan.Goals.{in-Some+in_ok-put_field-in-Some, in-None+in_ok-put_field-in-None, in-Some-rental+in_ok-put_field+in_ok-put_money, in_default}
 use Rattle.sip_answer.proofs.writing.loans.put_loan.Goals as goal
 
 regroup : (o i a b u d e f g h j k r m p : List ℕ)
@@ -17,11 +18,19 @@ returns c =
     let a = c.args.answer.now in
     let flags : digit (is_some a.due) ++ flag a.renewed ++ codes "U" ++ flag (is_some a.due) ≡ c.digit.result ∷ c.flag.result ∷ 85 ∷ c.flag-2.result ∷ [] =
     rw (← c.is_some-is_made.ensures, c.digit.ensures, c.flag.ensures, c.flag-2.ensures) refl in
+    let title : c.match-answer.out.items ≡ c.put_id-3.new.out.items ++ field (codes "AJ") (option_map_or (λ (i : KnownItem). i.title) a.known []) = elim c.match-answer.branch [
+      | in-Some+in_ok-put_field-in-Some w ↦ rw (w.out-is, w.in_ok-put_field-in-Some.ensures, w.as_bytes-in-Some.ensures, w.in-Some.is) refl
+      | in-None+in_ok-put_field-in-None w ↦ rw (w.out-is, w.in_ok-put_field-in-None.ensures, w.in-None.is) refl
+    ] in
+    let rental : c.match-answer-2.out.items ≡ c.put_due.new.out.items ++ option_map_or (λ (rental : ℕ). field (codes "BT") (codes "06") ++ money a.currency rental) a.rental [] = elim c.match-answer-2.branch [
+      | in-Some-rental+in_ok-put_field+in_ok-put_money w ↦ rw (w.out-is, w.in_ok-put_money.ensures, w.in_ok-put_field.ensures, w.from.ensures, w.hundredths.ensures.value, w.in-Some-rental.is) (append_assoc c.put_due.new.out.items _ _)
+      | in_default w ↦ rw (w.out-is, w.in_default.is) (sym (append-nil c.put_due.new.out.items))
+    ] in
     rw (
       c.in_ok-put_shown.ensures,
-      c.in_ok-put_rental.ensures,
+      rental,
       c.in_ok-put_due.ensures,
-      c.in_ok-put_title.ensures,
+      title,
       c.in_ok-put_id-3.ensures,
       c.in_ok-put_id-2.ensures,
       c.in_ok-put_id.ensures,

@@ -3,7 +3,7 @@
 ghost use Rattle.std.specs.Prelude.{◌≡◌, IfOk, IfSome, ⊤};
 
 use crate::notes::{Note, Notes};
-use crate::source::{OneByOne, Source, Stop};
+use crate::source::{Source, Stop};
 use circ_records::{Key, Record};
 use std::alloc::{AllocError, Global};
 use std::marker::{Brand, PhantomData};
@@ -92,9 +92,4 @@ impl<L: Looks> Source for Noting<L> {
         self.notes.add(note)?;
         Ok(copy)
     }
-}
-
-/// Only the records that it is asked for are noted.
-impl<L: Looks> OneByOne for Noting<L> {
-    ghost fetches = { tt };
 }

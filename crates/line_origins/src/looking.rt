@@ -7,7 +7,7 @@ ghost use Rattle.read_set.specs.Stops.{Follows};
 
 use crate::shelf::TracedRecords;
 use circ_records::{Key, Record};
-use read_set::{Note, NotedRecord, Notes, OneByOne, Source, Stop};
+use read_set::{Note, NotedRecord, Notes, Source, Stop};
 use std::alloc::Global;
 use std::marker::{Brand, PhantomData};
 
@@ -104,9 +104,4 @@ impl<N: ShelfName> Source for Looking<'_, N> {
             None => self.take(alloc, key),
         }
     }
-}
-
-/// Only the records that it is asked for are noted.
-impl<N: ShelfName> OneByOne for Looking<'_, N> {
-    ghost fetches = { tt };
 }

@@ -19,7 +19,7 @@ use crate::looking::{Looking, ShelfName};
 use crate::shelf::TracedRecords;
 use circ_records::{Key, Record, Records};
 use line_reasons::{Reason, reason};
-use message_meaning::perform_one_by_one;
+use message_meaning::perform;
 use read_set::{Effect, Notes, Plan};
 use sip_answer::Answer;
 use std::alloc::{AllocError, Global};
@@ -171,7 +171,7 @@ fn look<N: ShelfName>(
     ensures answer { IfOk result (λ r. (M : Map) → Agrees (noted r.0) M → r.1 ≡ (one_at plan.now line M).1) }
 {
     let mut source: Looking<N> = Looking::new(alloc, shelf);
-    match perform_one_by_one(alloc, plan, line, &mut source) {
+    match perform(alloc, plan, line, &mut source) {
         Ok(Effect { writes: _, answer }) => Ok((source.into_notes(), answer)),
         Err(_) => Err(AllocError),
     }

@@ -11,5 +11,5 @@ mod needs;
 mod payments;
 
 pub use laws::payments_pay_what_is_meant;
-pub use lines::{perform, perform_one_by_one};
+pub use lines::perform;
 pub use needs::need;

@@ -1,8 +1,7 @@
-ghost use Rattle.std.specs.Prelude.{◌≡◌, ◌⊎◌, IfOk, IfErr};
-ghost use Rattle.circ_records.specs.declared.key.Key.{Key};
+ghost use Rattle.std.specs.Prelude.{IfOk, IfErr};
 ghost use Rattle.message_meaning.specs.Rules.{rule_at};
-ghost use Rattle.read_set.specs.Asks.{follow, Gains, IsAsked};
-ghost use Rattle.read_set.specs.Maps.{Map, Agrees, Grows};
+ghost use Rattle.read_set.specs.Asks.{follow, Gains};
+ghost use Rattle.read_set.specs.Maps.{Map, Agrees};
 ghost use Rattle.read_set.specs.Replay.{GivesAt};
 ghost use Rattle.read_set.specs.Stops.{Follows, LacksAt};
 ghost use Rattle.read_set.specs.Wanted.{WantsAt};
@@ -12,7 +11,7 @@ use crate::holds::hold;
 use crate::item_statuses::update;
 use crate::payments::take_payment;
 use loan_meaning::{check_in, check_out, renew_all, renew_item};
-use read_set::{Effect, OneByOne, Plan, Source, Stop};
+use read_set::{Effect, Plan, Source, Stop};
 use sip_answer::Answer;
 use sip_reader::{Act, Reading};
 use std::alloc::Global;
@@ -33,24 +32,6 @@ pub fn perform<S: Source>(
     ensures keeps { Gains S.one_by_one (S.has source.old) (S.has source.new) (rule_at plan.now line) }
 {
     follow_line(alloc, plan, line, source)
-}
-
-/// The same over a source that fetches nothing but what it is asked for: all that it has fetched after the call is what the line's rule asks for.
-#[inline(always)]
-pub fn perform_one_by_one<S: OneByOne>(
-    alloc: Global,
-    plan: &Plan,
-    line: u64,
-    source: &mut S,
-) -> Result<Effect, Stop>
-    ensures gives { IfOk result (λ e. (M : Map) → Agrees (S.has source.new) M → GivesAt plan.now line M e) }
-    ensures order { Follows result (follow (S.has source.new) (rule_at plan.now line)) }
-    ensures lacks { IfErr result (LacksAt (S.has source.new)) }
-    ensures wanted { IfErr result (WantsAt plan.now line (S.has source.new)) }
-    ensures keeps { Grows (S.has source.old) (S.has source.new) }
-    ensures asked { (k : Key) → (S.has source.new k ≡ S.has source.old k) ⊎ IsAsked (S.has source.new) (rule_at plan.now line) k }
-{
-    perform(alloc, plan, line, source)
 }
 
 #[tactic(auto, unfolding(crate::specs::Rules::rule_at, read_set::specs::Meaning::rule, read_set::specs::Meaning::rule_of), using(read_set::proofs::Gaining::gains_none))]

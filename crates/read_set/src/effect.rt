@@ -34,18 +34,10 @@ impl Drop for Draft {
 }
 
 /// Records by rising keys: few in a list, more in a map, where adding one is cheap, however many there are.
+#[derive(Drop)]
 enum ListOrMap {
     List(Vec<(Key, Record)>),
     Map(BTreeMap<Key, Record>),
-}
-
-impl Drop for ListOrMap {
-    fn drop(self) {
-        match self {
-            ListOrMap::List(_) => {}
-            ListOrMap::Map(_) => {}
-        }
-    }
 }
 
 impl Model for Draft {
@@ -126,17 +118,7 @@ impl Draft {
         ensures { IfOk result (λ w. w ≡ self) }
     {
         let Draft { records } = self;
-        records.into_writes(alloc)
-    }
-}
-
-impl ListOrMap {
-    /// The records in the order of keys.
-    fn into_writes(self, alloc: Global) -> Result<Writes, AllocError>
-        requires { Rise (entries_in self) }
-        ensures { IfOk result (λ w. w ≡ entries_in self) }
-    {
-        match self {
+        match records {
             ListOrMap::List(entries) => Ok(Writes { entries }),
             ListOrMap::Map(map) => listed(alloc, map),
         }

@@ -28,6 +28,6 @@ pub use noting::{Looks, NotesName, NotesSource, Noting};
 pub use plan::{Plan, PlanName};
 pub use progress::{Payments, Renewals};
 pub use sorted::found_in;
-pub use source::{OneByOne, Source, Stop};
+pub use source::{Source, Stop};
 pub use verdict::{LoanRequest, Verdict};
 pub use version::{Need, Version};

@@ -1,10 +1,9 @@
 //! Notes as sources of records: notes that never change, and notes to which each look adds one.
 
-ghost use Rattle.std.specs.Prelude.{◌≡◌, ⊤};
+ghost use Rattle.std.specs.Prelude.{◌≡◌, IfOk, IfSome, ⊤};
 
-use crate::found::NotedRecord;
-use crate::notes::{Name, Note, Notes};
-use crate::source::{OneByOne, Source, Stop};
+use crate::notes::{Note, Notes};
+use crate::source::{Source, Stop};
 use circ_records::{Key, Record};
 use std::alloc::{AllocError, Global};
 use std::marker::{Brand, PhantomData};
@@ -62,12 +61,9 @@ impl<N: NotesName> Source for NotesSource<'_, N> {
 
 /// Where to look for a record that isn't noted yet.
 pub trait Looks {
-    /// The record that is now at a key, or none, and its name; the outer None where the attempt has to end.
-    fn look(
-        &mut self,
-        alloc: Global,
-        key: &Key,
-    ) -> Result<Option<(Name, Option<Record>)>, AllocError>;
+    /// The note of what is now at a key, a record or none; None where the attempt has to end.
+    fn look(&mut self, alloc: Global, key: &Key) -> Result<Option<Note>, AllocError>
+        ensures { IfOk result (λ found. IfSome found (λ note. note.key ≡ key.now)) };
 }
 
 /// A source that looks for what isn't noted yet, and notes what it sees. It stops where a look returns None.
@@ -89,21 +85,11 @@ impl<L: Looks> Source for Noting<L> {
         if let Some(note) = self.notes.get(key) {
             return Ok(note.found.record()?);
         }
-        let Some((name, found)) = self.looks.look(alloc, key)? else {
+        let Some(note) = self.looks.look(alloc, key)? else {
             return Err(Stop::Unnoted(key.clone()?));
-        };
-        let note = Note {
-            key: key.clone()?,
-            name,
-            found: NotedRecord::new(found),
         };
         let copy = note.found.record()?;
         self.notes.add(note)?;
         Ok(copy)
     }
-}
-
-/// Only the records that it is asked for are noted.
-impl<L: Looks> OneByOne for Noting<L> {
-    ghost fetches = { tt };
 }

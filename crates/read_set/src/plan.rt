@@ -6,7 +6,7 @@ ghost use Rattle.sip_reader.specs.Texts.{line_number_end};
 ghost use Rattle.circ_records.specs.Coherent.{Coherent, number_before};
 ghost use Rattle.circ_records.specs.Keys.{key_cmp};
 ghost use Rattle.circ_records.specs.Records.{record_at};
-ghost use Rattle.journal_table.specs.Entry.{Entry, first_number};
+ghost use Rattle.journal_table.specs.Entry.{Entry};
 ghost use Rattle.journal_table.specs.Readings.{first_read, reading_at as reading_in, readings_of as all_read};
 ghost use Rattle.journal_table.specs.declared.TheConstants.{LINE_LIMIT};
 ghost use Rattle.read_set.specs.Coherence.{StaysCoherent};
@@ -14,7 +14,7 @@ ghost use Rattle.read_set.specs.Plans.{plan_over, plan_of, plan_read, reading_at
 
 use circ_policy::Policy;
 use circ_records::{Key, Record, RecordMap, Records};
-use journal_table::{Journal, Readings, read_in_turn};
+use journal_table::Readings;
 use sip_reader::{LINE_NUMBER_END, Reading};
 use std::alloc::{AllocError, Global};
 use std::marker::{Brand, Model};
@@ -55,20 +55,6 @@ impl Model for Plan {
 }
 
 impl Plan {
-    /// The plan of a journal, over a base that is coherent before the journal's first line, as `read_base` ensures.
-    pub fn new(
-        alloc: Global,
-        policy: Policy,
-        base: Records,
-        journal: &Journal,
-    ) -> Result<Plan, AllocError>
-        requires { Coherent policy (number_before (first_number journal.now)) base }
-        ensures { IfOk result (λ p. p ≡ plan_of policy base journal.now) }
-    {
-        let readings = read_in_turn(alloc, journal)?;
-        Ok(Plan::from_readings(policy, base, readings))
-    }
-
     /// The plan of what the requests of a journal were read as, over a base that is coherent before the first of them.
     pub fn from_readings(policy: Policy, base: Records, readings: Readings) -> Plan
         requires { Coherent policy (number_before (first_read readings)) base }

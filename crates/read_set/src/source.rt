@@ -35,7 +35,7 @@ pub trait Source {
     /// What the source knows at each key: nothing, the record there, or that there is none.
     ghost has: { Self → Key → Option (Option Record) };
 
-    /// A claim that is true if the source fetches nothing but what it is asked for. A type with `OneByOne` proves the claim.
+    /// A claim that is true if the source fetches nothing but what it is asked for.
     ghost one_by_one: { Type 0 };
 
     /// The record at a key, or None where there is none; a stop where the source doesn't know.
@@ -58,9 +58,4 @@ pub trait Source {
     {
         self.read(alloc, &Key::Item(id.clone()?))
     }
-}
-
-/// A source that fetches nothing but what it is asked for.
-pub trait OneByOne: Source {
-    ghost fetches: { Self.one_by_one };
 }

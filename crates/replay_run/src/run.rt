@@ -15,7 +15,7 @@ use crate::judge::judge;
 use crate::prepared::{Prepared, Sound};
 use crate::replay::replay;
 use crate::replay_end::ReplayEnd;
-use journal_table::{Journal, read_all};
+use journal_table::{Journal, read_all, read_in_turn};
 use read_set::Plan;
 use record_tables::{Tables, write_records};
 use result_report::{Outcome, ResultTexts, collect, report};
@@ -55,7 +55,7 @@ pub fn judge_inputs(alloc: Global, inputs: &Inputs) -> Result<Prepared<'_>, Faul
                 journal,
             },
         ) => {
-            let plan = Plan::new(alloc, policy, base, &journal)?;
+            let plan = Plan::from_readings(policy, base, read_in_turn(alloc, &journal)?);
             Ok(Prepared { plan, journal })
         }
         Err(fault) => Err(fault),

@@ -17,7 +17,7 @@ use crate::draining::drain;
 use crate::playing::{put, settled_if_done};
 use crate::steps::BoardFault;
 use board_lines::{Reply, copied, record_seen};
-use circ_records::{Key, Record};
+use circ_records::Key;
 use message_meaning::{need, perform};
 use read_set::{Looks, Name, Need, Note, NotedRecord, Notes, Noting, PlanName, Stop, Version};
 use std::alloc::{AllocError, Global};
@@ -265,15 +265,15 @@ struct PastAll<'b, 'p, 't, J: PlanName> {
 }
 
 impl<J: PlanName> Looks for PastAll<'_, '_, '_, J> {
-    fn look(
-        &mut self,
-        _alloc: Global,
-        key: &Key,
-    ) -> Result<Option<(Name, Option<Record>)>, AllocError> {
+    fn look(&mut self, _alloc: Global, key: &Key) -> Result<Option<Note>, AllocError> {
         let board = self.board;
         let found = copied(board.lines.value_of(key))?;
         // (a rule doesn't ask for the name)
-        Ok(Some((Name::Base, found)))
+        Ok(Some(Note {
+            key: key.clone()?,
+            name: Name::Base,
+            found: NotedRecord::new(found),
+        }))
     }
 }
 

@@ -3,8 +3,8 @@
 use crate::calls::Left;
 use crate::shared::SharedBoard;
 use board_lines::{Reply, copied, record_seen};
-use circ_records::{Key, Record};
-use read_set::{Looks, Name, PlanName};
+use circ_records::Key;
+use read_set::{Looks, Note, NotedRecord, PlanName};
 use std::alloc::{AllocError, Global};
 use std::sync::Wait;
 
@@ -19,16 +19,16 @@ pub struct OnBoard<'a, 'p, 't, J: PlanName + 'static, R: Wait> {
 }
 
 impl<J: PlanName + 'static, R: Wait> Looks for OnBoard<'_, '_, '_, J, R> {
-    fn look(
-        &mut self,
-        _alloc: Global,
-        key: &Key,
-    ) -> Result<Option<(Name, Option<Record>)>, AllocError> {
+    fn look(&mut self, _alloc: Global, key: &Key) -> Result<Option<Note>, AllocError> {
         let seen = self.shared.hold(self.rt).look(self.worker, key);
         match seen {
             Ok(Reply::Seen { name, place }) => {
                 let found = copied(record_seen(self.shared.plan(), key, place))?;
-                Ok(Some((name, found)))
+                Ok(Some(Note {
+                    key: key.clone()?,
+                    name,
+                    found: NotedRecord::new(found),
+                }))
             }
             Ok(_) => Ok(None),
             Err(left) => {

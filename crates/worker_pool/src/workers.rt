@@ -9,7 +9,7 @@ use crate::gate::{Gate, Moment};
 use crate::looking::OnBoard;
 use crate::shared::{SharedBoard, TRIES_AT_EASE};
 use board_lines::Reply;
-use message_meaning::perform_one_by_one;
+use message_meaning::perform;
 use read_set::{Effect, Notes, Noting, PlanName, Stop, Version};
 use speculate::{BoardFault, Choice};
 use std::alloc::Global;
@@ -293,7 +293,7 @@ fn read_line<'t, J: PlanName + 'static, R: Wait>(
             left: None,
         },
     };
-    match perform_one_by_one(alloc, shared.plan(), task.line, &mut source) {
+    match perform(alloc, shared.plan(), task.line, &mut source) {
         Ok(Effect { writes, answer }) => {
             let version = Version::new(task.line, task.attempt, source.notes, writes, answer);
             match shared.table().put(rt, version) {

@@ -8,8 +8,7 @@ use crate::finding::Parties;
 use crate::names::Reason;
 use circ_records::Loan;
 use loan_meaning::{
-    ask_checkout, ask_renew, has_amount, has_lent_to, has_loan, has_queue, is_first_another,
-    loan_in, renewals_of,
+    ask_checkout, ask_renew, has_lent_to, has_loan, has_queue, is_first_another, renewals_of,
 };
 use read_set::{Article, LoanRequest, Member};
 use sip_reader::{Checkout, Renew};
@@ -28,7 +27,7 @@ fn reason_of_owing(
 {
     if owes > u128::from(member.class.max_fees.hundredths()) {
         Reason::MaxFees
-    } else if has_amount(article.media.rental) && !agreed {
+    } else if article.media.rental.hundredths() > 0 && !agreed {
         Reason::Rental
     } else {
         done
@@ -43,10 +42,10 @@ fn reason_of_lending(owes: u128, a: &LoanRequest, member: &Member, article: &Art
     if a.forced {
         return Reason::Made;
     }
-    if has_lent_to(&a.patron, loan_in(article)) {
+    if has_lent_to(&a.patron, &article.item.get().loan) {
         return Reason::OwnLoan;
     }
-    if has_loan(loan_in(article)) {
+    if has_loan(&article.item.get().loan) {
         return Reason::Lent;
     }
     if is_first_another(article.item.get().holds.as_slice(), &a.patron) {
@@ -73,10 +72,10 @@ fn is_renewable(a: &LoanRequest, loan: &Option<Loan>) -> bool
 pub fn reason_of_renewal(owes: u128, a: &LoanRequest, member: &Member, article: &Article) -> Reason
     ensures { result ≡ renewal_reason owes a.now member.now article.now }
 {
-    if !has_loan(loan_in(article)) {
+    if !has_loan(&article.item.get().loan) {
         return Reason::NotLent;
     }
-    if !is_renewable(a, loan_in(article)) {
+    if !is_renewable(a, &article.item.get().loan) {
         return Reason::ThirdParty;
     }
     if a.forced {
@@ -88,7 +87,7 @@ pub fn reason_of_renewal(owes: u128, a: &LoanRequest, member: &Member, article: 
     if has_queue(article.item.get().holds.as_slice()) {
         return Reason::WaitedFor;
     }
-    if member.class.max_renewals <= renewals_of(loan_in(article)) {
+    if member.class.max_renewals <= renewals_of(&article.item.get().loan) {
         return Reason::MaxRenewals;
     }
     reason_of_owing(owes, a.agreed, member, article, Reason::Renewed)
@@ -98,7 +97,7 @@ pub fn reason_of_renewal(owes: u128, a: &LoanRequest, member: &Member, article: 
 fn is_renewal(request: &Checkout, article: &Article) -> bool
     ensures { result ≡ (request.now.renewal && lent_to request.now.patron article.now.item.loan) }
 {
-    request.renewal && has_lent_to(&request.patron, loan_in(article))
+    request.renewal && has_lent_to(&request.patron, &article.item.get().loan)
 }
 
 /// Why a checkout (message 11) is made or refused.

@@ -8,7 +8,6 @@ use crate::finding::Returned;
 use crate::names::Reason;
 use circ_policy::{Media, late_fee};
 use circ_records::Loan;
-use loan_meaning::has_amount;
 use sip_reader::{Checkin, Day, Stamp};
 
 /// Whether the loan is charged a late fee: it is above 0, and not with BI Y.
@@ -18,7 +17,7 @@ fn is_late(request: &Checkin, date: Stamp, loan: &Loan, media: &Media) -> bool
     if request.cancel {
         return false;
     }
-    has_amount(late_fee(loan.due, day_back(request, date), media))
+    late_fee(loan.due, day_back(request, date), media).hundredths() > 0
 }
 
 fn day_back(request: &Checkin, date: Stamp) -> Day

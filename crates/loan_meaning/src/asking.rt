@@ -1,14 +1,13 @@
 //! The loan or the renewal for which a request asks, and what the item's record says.
 
 ghost use Rattle.std.specs.Prelude.{◌≡◌, IfOk};
-ghost use Rattle.read_set.specs.Loans.{by_checkout, by_renew, due_for, charge_for, is_lent, lent_to};
+ghost use Rattle.read_set.specs.Loans.{by_checkout, by_renew, due_for, is_lent, lent_to};
 
 use crate::asked::LoanContext;
-use crate::fees::nothing;
 use circ_policy::Media;
 use circ_records::Loan;
-use read_set::{Article, LoanRequest};
-use sip_reader::{Amount, Checkout, Day, Id, Renew};
+use read_set::LoanRequest;
+use sip_reader::{Checkout, Day, Id, Renew};
 use std::alloc::AllocError;
 
 /// The loan or the renewal for which a checkout asks: forced where no block or BI is Y; with BI Y no rental is charged.
@@ -56,13 +55,6 @@ pub fn due_of(asked: &LoanContext<'_>, media: &Media) -> Day
     }
 }
 
-/// What is charged for the loan or renewal.
-pub fn charge_of(a: &LoanRequest, media: &Media) -> Amount
-    ensures { result ≡ charge_for a.now media.now }
-{
-    if a.free { nothing() } else { media.rental }
-}
-
 /// Whether there is a loan.
 pub fn has_loan(loan: &Option<Loan>) -> bool
     ensures { result ≡ is_lent loan.now }
@@ -78,11 +70,4 @@ pub fn has_lent_to(patron: &Id, loan: &Option<Loan>) -> bool
         Some(loan) => loan.patron == *patron,
         None => false,
     }
-}
-
-/// The loan of an item.
-pub fn loan_in(article: &Article) -> &Option<Loan>
-    ensures { result.now ≡ article.now.item.loan }
-{
-    &article.item.get().loan
 }

@@ -9,8 +9,7 @@ ghost use Rattle.read_set.specs.Maps.{Map, Agrees};
 ghost use Rattle.read_set.specs.Stops.{Follows};
 
 use crate::asked::LineContext;
-use crate::asking::loan_in;
-use crate::fees::{Charge, draft_for, list_fee, make_fee, nothing};
+use crate::fees::{Charge, list_fee, make_fee, nothing};
 use crate::lists::{has_queue, without};
 use crate::lookup::{borrower_of, item_of};
 use circ_policy::{Media, Policy, late_fee};
@@ -92,7 +91,7 @@ fn return_from(
 ) -> Result<Patron, AllocError>
     ensures { IfOk result (λ p. p ≡ returner n item.now fee member.patron) }
 {
-    let mut patron = Patron::of(member.into_patron())?;
+    let mut patron = member.patron.get().clone()?;
     patron.loans = without(alloc, &patron.loans, item)?;
     list_fee(alloc, n, 0, fee, &mut patron.fees)?;
     Ok(patron)
@@ -143,7 +142,7 @@ fn write_return(
 ) -> Result<Draft, AllocError>
     ensures { IfOk result (λ w. w ≡ returned_writes line.now.number item.now fee article.now member loan.now) }
 {
-    let mut writes = draft_for(line.alloc, fee)?;
+    let mut writes = Draft::with_room(line.alloc, if fee.hundredths() > 0 { 3 } else { 2 })?;
     return_by(line, item, &loan.patron, fee, member, &mut writes)?;
     let back = unlent(line.alloc, article)?;
     writes.put(Key::Item(item.clone()?), Record::item(line.alloc, back)?)?;
@@ -201,7 +200,7 @@ fn end(
     let Some(article) = article else {
         return end_unknown(line, request);
     };
-    let Some(loan) = loan_in(&article) else {
+    let Some(loan) = &article.item.get().loan else {
         return end_unlent(line, request, &article);
     };
     end_loan(line, request, &article, loan, member)
@@ -219,7 +218,7 @@ fn any_borrower_of<S: Source>(
     ensures keeps { Gains S.one_by_one (S.has source.old) (S.has source.new) (borrower_at policy.now (loan_of article.now)) }
 {
     match article {
-        Some(article) => borrower_of(alloc, policy, source, loan_in(article)),
+        Some(article) => borrower_of(alloc, policy, source, &article.item.get().loan),
         None => Ok(None),
     }
 }

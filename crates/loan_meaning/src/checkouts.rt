@@ -1,12 +1,12 @@
 //! Checkout.
 
-ghost use Rattle.std.specs.Prelude.{◌≡◌, ◌∷◌, [], IfOk, OnOk, OnErr, Some};
+ghost use Rattle.std.specs.Prelude.{◌≡◌, ◌∷◌, [], IfOk, Some};
 ghost use Rattle.circ_records.specs.declared.key.Key.TheVariants as keys;
 ghost use Rattle.circ_records.specs.declared.record.FeeType.TheVariants as fee_types;
 ghost use Rattle.circ_records.specs.declared.record.Record.TheVariants as records;
-ghost use Rattle.read_set.specs.Checkouts.{lending_tests, other_at, lending_rule, checkout_rule_known, checkout_rule, loan_ended_by, lent, lent_list, lending_made, checkout};
+ghost use Rattle.read_set.specs.Checkouts.{lending_tests, other_at, lending_rule, checkout_rule_known, checkout_rule, loan_ended_by, lent, lending_made, checkout};
 ghost use Rattle.read_set.specs.Asks.{follow, Done, Gains};
-ghost use Rattle.read_set.specs.Effects.{written, ◌⊕◌};
+ghost use Rattle.read_set.specs.Effects.{◌⊕◌};
 ghost use Rattle.read_set.specs.Fees.{fee_made};
 ghost use Rattle.read_set.specs.Ids.{without};
 ghost use Rattle.read_set.specs.Loans.{by_checkout};
@@ -14,14 +14,14 @@ ghost use Rattle.read_set.specs.Maps.{Map, Agrees};
 ghost use Rattle.read_set.specs.Stops.{Follows};
 
 use crate::asked::LoanContext;
-use crate::asking::{ask_checkout, charge_of, due_of, has_lent_to, loan_in};
-use crate::fees::{Charge, draft_for, list_fee, make_fee, test_owing};
+use crate::asking::{ask_checkout, due_of, has_lent_to};
+use crate::fees::{Charge, list_fee, make_fee, nothing, test_owing};
 use crate::lists::{is_first_another, without, without_hold};
 use crate::lookup::{item_of, patron_of};
 use crate::renewals::renew_one;
 use crate::telling::{refuse, refuse_for, tell};
 use circ_policy::Policy;
-use circ_records::{FeeType, Ids, Key, Loan, Patron, Record};
+use circ_records::{FeeType, Key, Loan, Patron, Record};
 use read_set::{Article, Draft, Effect, LoanRequest, Member, Source, Stop, Verdict};
 use sip_reader::{Amount, Checkout, Day, Id, Stamp};
 use std::alloc::{AllocError, Global};
@@ -40,19 +40,21 @@ fn test_lending<S: Source>(
     if a.forced {
         return Ok(Verdict::Made);
     }
-    if has_lent_to(&a.patron, loan_in(article)) {
+    let item = article.item.get();
+    if has_lent_to(&a.patron, &item.loan) {
         return Ok(Verdict::Refused);
     }
-    if loan_in(article).is_some() {
+    if item.loan.is_some() {
         return Ok(Verdict::Refused);
     }
-    if is_first_another(article.item.get().holds.as_slice(), &a.patron) {
+    if is_first_another(item.holds.as_slice(), &a.patron) {
         return Ok(Verdict::Refused);
     }
-    if member.patron.get().blocked {
+    let patron = member.patron.get();
+    if patron.blocked {
         return Ok(Verdict::Refused);
     }
-    if member.class.max_loans as usize <= member.patron.get().loans.len() {
+    if member.class.max_loans as usize <= patron.loans.len() {
         return Ok(Verdict::Refused);
     }
     let writes = Draft::new(asked.alloc);
@@ -77,55 +79,14 @@ fn other_of<S: Source>(
     patron_of(asked.alloc, asked.policy, source, &loan.patron)
 }
 
-/// The other borrower's record, without the item among the loans. Out of memory, nothing is written.
-fn end_other_loan(
-    alloc: Global,
-    item: &Id,
-    loan: &Option<Loan>,
-    other: Option<Member>,
-    writes: &mut Draft,
-) -> Result<(), AllocError>
-    ensures ok { OnOk result (writes.new ≡ written writes.old (loan_ended_by item.now loan.now other)) }
-    ensures err { OnErr result (writes.new ≡ writes.old) }
-{
-    let (Some(loan), Some(other)) = (loan, other) else {
-        return Ok(());
-    };
-    let patron = without_loan(alloc, item, other)?;
-    writes.put(
-        Key::Patron(loan.patron.clone()?),
-        Record::patron(alloc, patron)?,
-    )
-}
-
-/// A function of its own also in the program, since few loans end another.
+/// The other borrower, without the item among the loans. A function of its own also in the program, since few loans end another.
 #[inline(never)]
 fn without_loan(alloc: Global, item: &Id, other: Member) -> Result<Patron, AllocError>
     ensures { IfOk result (λ p. p ≡ record other.patron { loans = without item.now other.patron.loans }) }
 {
-    let mut patron = Patron::of(other.into_patron())?;
+    let mut patron = other.patron.get().clone()?;
     patron.loans = without(alloc, &patron.loans, item)?;
     Ok(patron)
-}
-
-/// The item goes last in the patron's list, once. Out of memory, the list stays as it was.
-fn list_loan(
-    alloc: Global,
-    a: &LoanRequest,
-    loan: &Option<Loan>,
-    loans: &mut Ids,
-) -> Result<(), AllocError>
-    ensures ok { OnOk result (loans.new ≡ lent_list a.now loan.now loans.old) }
-    ensures err { OnErr result (loans.new ≡ loans.old) }
-{
-    let item = a.item.clone()?;
-    if !has_lent_to(&a.patron, loan) {
-        return loans.push(alloc, item);
-    }
-    let mut others = without(alloc, loans, &a.item)?;
-    others.push(alloc, item)?;
-    *loans = others;
-    Ok(())
 }
 
 /// The patron and the item are written after the other borrower, and the rental's fee last.
@@ -141,13 +102,19 @@ fn write_lending(
 {
     let alloc = asked.alloc;
     let a = &asked.request;
-    let mut writes = draft_for(alloc, charge)?;
-    end_other_loan(alloc, &a.item, loan_in(article), other, &mut writes)?;
+    let item = article.item.get();
+    let mut writes = Draft::with_room(alloc, if charge.hundredths() > 0 { 3 } else { 2 })?;
+    if let (Some(loan), Some(other)) = (&item.loan, other) {
+        let borrower = without_loan(alloc, &a.item, other)?;
+        writes.put(
+            Key::Patron(loan.patron.clone()?),
+            Record::patron(alloc, borrower)?,
+        )?;
+    }
     writes.put(
         Key::Patron(a.patron.clone()?),
         Record::patron(alloc, patron)?,
     )?;
-    let item = article.item.get();
     let holds = without_hold(alloc, &item.holds, &a.patron)?;
     let loan = Loan {
         patron: a.patron.clone()?,
@@ -177,11 +144,15 @@ fn make_loan(
     ensures { Follows result (Done (lending_made asked.now.policy.now asked.now.number asked.now.request asked.now.date member article other)) }
 {
     let alloc = asked.alloc;
-    let a = &asked.request;
-    let due = due_of(asked, &article.media);
-    let charge = charge_of(a, &article.media);
-    let mut patron = Patron::of(member.into_patron())?;
-    list_loan(alloc, a, loan_in(&article), &mut patron.loans)?;
+    let (a, media) = (&asked.request, &article.media);
+    let due = due_of(asked, media);
+    let charge = if a.free { nothing() } else { media.rental };
+    let mut patron = member.patron.get().clone()?;
+    // the item goes last in the patron's list, once
+    if has_lent_to(&a.patron, &article.item.get().loan) {
+        patron.loans = without(alloc, &patron.loans, &a.item)?;
+    }
+    patron.loans.push(alloc, a.item.clone()?)?;
     list_fee(alloc, asked.number, 0, charge, &mut patron.fees)?;
     let writes = write_lending(asked, due, charge, patron, &article, other)?;
     let writes = writes.finish(alloc)?;
@@ -212,8 +183,7 @@ fn lend<S: Source>(
         Verdict::Unpaid => return refuse_for(asked, Some(article), rental),
         Verdict::Made => {}
     }
-    let loan = loan_in(&article);
-    let other = other_of(asked, loan, source)?;
+    let other = other_of(asked, &article.item.get().loan, source)?;
     make_loan(asked, member, article, other)
 }
 
@@ -235,7 +205,7 @@ fn lend_both<S: Source>(
     let Some(article) = article else {
         return refuse(asked, None);
     };
-    if request.renewal && has_lent_to(&request.patron, loan_in(&article)) {
+    if request.renewal && has_lent_to(&request.patron, &article.item.get().loan) {
         return renew_one(asked, member, article, source);
     }
     lend(asked, member, article, source)

@@ -50,36 +50,6 @@ pub fn owed_of<S: Source>(
     Ok(sum)
 }
 
-/// What is owed over a list of fees after the writes so far, where it is known already; else it is summed, and known.
-/// After an error the sum isn't needed again: the rule has ended.
-#[tactic(auto, using(read_set::proofs::Gaining::gains_none, read_set::proofs::Gaining::gains_first))]
-fn owed_once<S: Source>(
-    alloc: Global,
-    source: &mut S,
-    writes: &Draft,
-    fees: &[Id],
-    sum: &mut Option<u128>,
-) -> Result<u128, Stop>
-    requires { IsKnown (S.has source.old) writes.now fees.now sum.old }
-    ensures gives { Follows result (follow (S.has source.new) (owed_at writes.now fees.now)) }
-    ensures keeps { Gains S.one_by_one (S.has source.old) (S.has source.new) (owed_at writes.now fees.now) }
-    ensures known { OnOk result (IsKnown (S.has source.new) writes.now fees.now sum.new) }
-{
-    if let Some(known) = *sum {
-        return Ok(known);
-    }
-    let owed = owed_of(alloc, source, writes, fees)?;
-    *sum = Some(owed);
-    Ok(owed)
-}
-
-/// Whether an amount is above 0.
-pub fn has_amount(amount: Amount) -> bool
-    ensures { result ≡ nat_lt 0 amount }
-{
-    amount.hundredths() > 0
-}
-
 /// What a patron is charged, in hundredths, and for what.
 #[derive(Clone, Copy)]
 pub struct Charge<'c> {
@@ -99,7 +69,7 @@ pub fn make_fee(
     ensures ok { OnOk result (writes.new ≡ written writes.old (fee_made line k charge.now.patron.now charge.now.kind charge.now.amount)) }
     ensures err { OnErr result (writes.new ≡ writes.old) }
 {
-    if has_amount(charge.amount) {
+    if charge.amount.hundredths() > 0 {
         write_fee(alloc, line, k, charge, writes)
     } else {
         Ok(())
@@ -130,13 +100,6 @@ fn write_fee(
     )
 }
 
-/// No records yet, with capacity for a patron, an item and, where something is charged, its fee.
-pub fn draft_for(alloc: Global, charge: Amount) -> Result<Draft, AllocError>
-    ensures { IfOk result (λ w. w ≡ []) }
-{
-    Draft::with_room(alloc, if has_amount(charge) { 3 } else { 2 })
-}
-
 /// An amount of 0.
 pub fn nothing() -> Amount
     ensures { result ≡ 0 }
@@ -155,7 +118,7 @@ pub fn list_fee(
     ensures ok { OnOk result (fees.new ≡ with_fee line k amount fees.old) }
     ensures err { OnErr result (fees.new ≡ fees.old) }
 {
-    if has_amount(amount) {
+    if amount.hundredths() > 0 {
         fees.push(alloc, Id::of_fee(alloc, line, k)?)?;
     }
     Ok(())
@@ -172,7 +135,7 @@ pub fn list_fee_of(
     ensures ok { OnOk result (patron.new ≡ record patron.old { fees = with_fee line k amount patron.old.fees }) }
     ensures err { OnErr result (patron.new ≡ patron.old) }
 {
-    if has_amount(amount) {
+    if amount.hundredths() > 0 {
         put_fee(alloc, patron, Id::of_fee(alloc, line, k)?)?;
     }
     Ok(())
@@ -184,14 +147,15 @@ fn owing(owes: u128, agreed: bool, member: &Member, article: &Article) -> Verdic
 {
     if owes > u128::from(member.class.max_fees.hundredths()) {
         Verdict::Refused
-    } else if has_amount(article.media.rental) && !agreed {
+    } else if article.media.rental.hundredths() > 0 && !agreed {
         Verdict::Unpaid
     } else {
         Verdict::Made
     }
 }
 
-/// The last tests of a loan and of a renewal. `sum` is what is known of the sum that is owed.
+/// The last tests of a loan and of a renewal. What is owed is summed only where `sum` isn't known already, and then it is.
+/// After an error the sum isn't needed again: the rule has ended.
 #[tactic(auto, unfolding(read_set::specs::Owing::owing_tests), using(read_set::proofs::Gaining::gains_none, read_set::proofs::Gaining::gains_first, read_set::proofs::Following::follow_wants))]
 pub fn test_owing<S: Source>(
     asked: &LoanContext<'_>,
@@ -206,7 +170,12 @@ pub fn test_owing<S: Source>(
     ensures keeps { Gains S.one_by_one (S.has source.old) (S.has source.new) (owing_tests writes.now asked.now.request.agreed member.now article.now) }
     ensures known { OnOk result (IsKnown (S.has source.new) writes.now member.now.patron.fees sum.new) }
 {
+    let agreed = asked.request.agreed;
+    if let Some(owes) = *sum {
+        return Ok(owing(owes, agreed, member, article));
+    }
     let fees = member.patron.get().fees.as_slice();
-    let owes = owed_once(asked.alloc, source, writes, fees, sum)?;
-    Ok(owing(owes, asked.request.agreed, member, article))
+    let owes = owed_of(asked.alloc, source, writes, fees)?;
+    *sum = Some(owes);
+    Ok(owing(owes, agreed, member, article))
 }

@@ -14,10 +14,10 @@ mod renewals;
 mod running;
 mod telling;
 
-pub use asking::{ask_checkout, ask_renew, has_lent_to, has_loan, loan_in};
+pub use asking::{ask_checkout, ask_renew, has_lent_to, has_loan};
 pub use checkins::check_in;
 pub use checkouts::check_out;
-pub use fees::{has_amount, owed_of, rest_of};
+pub use fees::{owed_of, rest_of};
 pub use lists::{
     has_id, has_queue, is_first_another, position, waits, with_pickup, without, without_all,
     without_hold,

@@ -15,7 +15,7 @@ ghost use Rattle.read_set.specs.Stops.{Follows};
 
 use crate::asked::{LineContext, LoanContext};
 use crate::asking::due_of;
-use crate::fees::{Charge, has_amount, list_fee_of, make_fee};
+use crate::fees::{Charge, list_fee_of, make_fee};
 use crate::lookup::{patron_of, read_after};
 use crate::renewals::{renew_loan_of, test_renewal};
 use crate::running::{are_new, charge_by, owed_with};
@@ -73,7 +73,11 @@ fn count(made: u64, rental: Amount) -> u64
     ensures value { result ≡ (if nat_lt 0 rental then made + 1 else made) }
     ensures few { result ≤ made + 1 }
 {
-    if has_amount(rental) { made + 1 } else { made }
+    if rental.hundredths() > 0 {
+        made + 1
+    } else {
+        made
+    }
 }
 
 fn renew_next(

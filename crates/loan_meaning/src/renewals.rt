@@ -13,8 +13,8 @@ ghost use Rattle.read_set.specs.Maps.{Map, Agrees};
 ghost use Rattle.read_set.specs.Stops.{Follows};
 
 use crate::asked::LoanContext;
-use crate::asking::{ask_renew, charge_of, due_of, loan_in};
-use crate::fees::{Charge, draft_for, has_amount, list_fee, make_fee, test_owing};
+use crate::asking::{ask_renew, due_of};
+use crate::fees::{Charge, list_fee, make_fee, nothing, test_owing};
 use crate::lists::has_queue;
 use crate::lookup::{item_of, patron_of};
 use crate::telling::{refuse, refuse_for, tell};
@@ -58,7 +58,8 @@ pub fn test_renewal<S: Source>(
     ensures keeps { Gains S.one_by_one (S.has source.old) (S.has source.new) (renewal_tests writes.now asked.now.request member.now article.now) }
     ensures known { OnOk result (IsKnown (S.has source.new) writes.now member.now.patron.fees sum.new) }
 {
-    if !is_renewable(&asked.request, loan_in(article)) {
+    let item = article.item.get();
+    if !is_renewable(&asked.request, &item.loan) {
         return Ok(Verdict::Refused);
     }
     if asked.request.forced {
@@ -67,10 +68,10 @@ pub fn test_renewal<S: Source>(
     if member.patron.get().blocked {
         return Ok(Verdict::Refused);
     }
-    if has_queue(article.item.get().holds.as_slice()) {
+    if has_queue(item.holds.as_slice()) {
         return Ok(Verdict::Refused);
     }
-    if member.class.max_renewals <= renewals_of(loan_in(article)) {
+    if member.class.max_renewals <= renewals_of(&item.loan) {
         return Ok(Verdict::Refused);
     }
     test_owing(asked, writes, member, article, sum, source)
@@ -107,10 +108,11 @@ pub fn renew_loan_of(alloc: Global, due: Day, article: Article) -> Result<Item, 
 fn make_renewal(asked: &LoanContext<'_>, member: Member, article: Article) -> Result<Effect, Stop>
     ensures { Follows result (Done (renewal_made asked.now.policy.now asked.now.number asked.now.request asked.now.date member article)) }
 {
-    let due = due_of(asked, &article.media);
-    let charge = charge_of(&asked.request, &article.media);
+    let (a, media) = (&asked.request, &article.media);
+    let due = due_of(asked, media);
+    let charge = if a.free { nothing() } else { media.rental };
     let answer = tell(asked, Some(&article), Some(due), true, charge)?;
-    let mut patron = Patron::of(member.into_patron())?;
+    let mut patron = member.patron.get().clone()?;
     list_fee(asked.alloc, asked.number, 0, charge, &mut patron.fees)?;
     let writes = write_renewal(asked, due, charge, patron, article)?;
     Ok(Effect {
@@ -132,8 +134,9 @@ fn write_renewal(
     let alloc = asked.alloc;
     let a = &asked.request;
     let item = renew_loan_of(alloc, due, article)?;
-    let mut writes = draft_for(alloc, charge)?;
-    if has_amount(charge) {
+    let is_charged = charge.hundredths() > 0;
+    let mut writes = Draft::with_room(alloc, if is_charged { 3 } else { 2 })?;
+    if is_charged {
         writes.put(
             Key::Patron(a.patron.clone()?),
             Record::patron(alloc, patron)?,

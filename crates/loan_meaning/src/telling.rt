@@ -6,7 +6,7 @@ ghost use Rattle.read_set.specs.Loans.{known_item, loan_answer, refused};
 ghost use Rattle.read_set.specs.Stops.{Follows};
 
 use crate::asked::LoanContext;
-use crate::fees::{has_amount, nothing};
+use crate::fees::nothing;
 use read_set::{Article, Effect, Stop};
 use sip_answer::{Answer, KnownItem, LoanAnswer};
 use sip_reader::{Amount, Day};
@@ -47,7 +47,7 @@ pub fn tell(
         due,
         due_form: asked.policy.due_form(),
         renewed,
-        rental: has_amount(rental).then_some(rental),
+        rental: (rental.hundredths() > 0).then_some(rental),
         currency: asked.policy.currency(),
     };
     if asked.request.checkout {

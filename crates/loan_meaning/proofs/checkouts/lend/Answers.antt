@@ -38,7 +38,7 @@ pub returns-in_err-other-clause-gives : goal.returns-in_err-other-clause-gives
 unfolding lending_rule lending_of
 returns-in_err-other-clause-gives g c =
     let p = err_from_is_err_and c.from_residual-in_err-other.result c.from_residual-in_err-other.ensures.1 in
-    let first = rw c.loan_in-loan.ensures at c.in_err-other.ensures.gives in
+    let first = rw c.get.ensures at c.in_err-other.ensures.gives in
     rw (p.1, p.2) (stop_next _ _ (lending_tests c.args.asked.now.request c.args.member c.args.article) (λ verdict. lending_rule_by c.args.asked.now.policy.now c.args.asked.now.number c.args.asked.now.request c.args.asked.now.date c.args.member c.args.article verdict) c.in_ok-verdict.verdict _
     c.in_err-other.ensures.keeps.grows c.in_ok-verdict.ensures.gives
     (rw c.in-Made.is (stop_then _ (other_at c.args.asked.now.policy.now c.args.asked.now.request.patron c.args.article.item.loan) (λ other. Give (lending_made c.args.asked.now.policy.now c.args.asked.now.number c.args.asked.now.request c.args.asked.now.date c.args.member c.args.article other)) _ first)))
@@ -46,7 +46,7 @@ returns-in_err-other-clause-gives g c =
 pub returns-in_err-other-clause-keeps : goal.returns-in_err-other-clause-keeps
 unfolding lending_rule lending_of
 returns-in_err-other-clause-keeps g c =
-    let first = rw c.loan_in-loan.ensures at c.in_err-other.ensures.keeps in
+    let first = rw c.get.ensures at c.in_err-other.ensures.keeps in
     gains_then _ _ _ (lending_tests c.args.asked.now.request c.args.member c.args.article) (λ verdict. lending_rule_by c.args.asked.now.policy.now c.args.asked.now.number c.args.asked.now.request c.args.asked.now.date c.args.member c.args.article verdict) c.in_ok-verdict.verdict
     c.in_ok-verdict.ensures.gives c.in_ok-verdict.ensures.keeps
     (rw c.in-Made.is (gains_first _ _ (other_at c.args.asked.now.policy.now c.args.asked.now.request.patron c.args.article.item.loan) (λ other. Give (lending_made c.args.asked.now.policy.now c.args.asked.now.number c.args.asked.now.request c.args.asked.now.date c.args.member c.args.article other)) first))
@@ -54,7 +54,7 @@ returns-in_err-other-clause-keeps g c =
 pub returns-clause-gives : goal.returns-clause-gives
 unfolding lending_rule lending_of
 returns-clause-gives g c =
-    let first = rw c.loan_in-loan.ensures at c.in_ok-other.ensures.gives in
+    let first = rw c.get.ensures at c.in_ok-other.ensures.gives in
     let made = lending_made c.args.asked.now.policy.now c.args.asked.now.number c.args.asked.now.request c.args.asked.now.date c.args.member c.args.article c.in_ok-other.other in
     let reached = follow_then _ (other_at c.args.asked.now.policy.now c.args.asked.now.request.patron c.args.article.item.loan) (λ other. Give (lending_made c.args.asked.now.policy.now c.args.asked.now.number c.args.asked.now.request c.args.asked.now.date c.args.member c.args.article other)) c.in_ok-other.other made first refl in
     goes_on _ _ (lending_tests c.args.asked.now.request c.args.member c.args.article) (λ verdict. lending_rule_by c.args.asked.now.policy.now c.args.asked.now.number c.args.asked.now.request c.args.asked.now.date c.args.member c.args.article verdict) c.in_ok-verdict.verdict _
@@ -63,7 +63,7 @@ returns-clause-gives g c =
 pub returns-clause-keeps : goal.returns-clause-keeps
 unfolding lending_rule lending_of
 returns-clause-keeps g c =
-    let first = rw c.loan_in-loan.ensures at c.in_ok-other.ensures.keeps in
+    let first = rw c.get.ensures at c.in_ok-other.ensures.keeps in
     gains_then _ _ _ (lending_tests c.args.asked.now.request c.args.member c.args.article) (λ verdict. lending_rule_by c.args.asked.now.policy.now c.args.asked.now.number c.args.asked.now.request c.args.asked.now.date c.args.member c.args.article verdict) c.in_ok-verdict.verdict
     c.in_ok-verdict.ensures.gives c.in_ok-verdict.ensures.keeps
     (rw c.in-Made.is (gains_first _ _ (other_at c.args.asked.now.policy.now c.args.asked.now.request.patron c.args.article.item.loan) (λ other. Give (lending_made c.args.asked.now.policy.now c.args.asked.now.number c.args.asked.now.request c.args.asked.now.date c.args.member c.args.article other)) first))

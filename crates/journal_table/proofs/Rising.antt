@@ -1,6 +1,6 @@
 -- Readings with their numbers, and what the threads read.
-use Rattle.std.proofs.Common.{◌≡◌, ◌≢◌, ◌+◌, ◌-◌, ◌≤◌, ℕ, zero, suc, List, [], ◌∷◌, length, map, Some, None, Result, Ok, refl, subst, sym, ap, arith}
-use Rattle.std.specs.Prelude.{IfOk, Vec, slice_get, unwrap_or}
+use Rattle.std.proofs.Common.{◌≡◌, ◌≢◌, ◌+◌, ◌≤◌, ℕ, suc, List, [], ◌∷◌, length, map, Some, None, Result, Ok, refl, subst, sym, ap, arith}
+use Rattle.std.specs.Prelude.{IfOk, Vec, unwrap_or}
 use Rattle.std.specs.List.{AllByRecursion, AllZip}
 use Rattle.sip_reader.specs.Reading.{reading}
 use Rattle.sip_reader.specs.declared.request.Reading.{Reading}
@@ -58,17 +58,6 @@ each-stretch [] [] E h = refl
 each-stretch [] (y ∷ ys) E h = absurd h
 each-stretch (lines ∷ chunks) [] E h = absurd h
 each-stretch (lines ∷ chunks) (y ∷ ys) E h = rw (h.0, each-stretch chunks ys E h.1) refl
-
-number_at : (n : ℕ) (lines : List Entry) (i : ℕ) (e : Entry) → NumberedFrom n lines → slice_get lines i ≡ Some e → e.number ≡ n + i
-number_at n [] zero e h s = cc
-number_at n [] (suc i) e h s = cc
-number_at n (l ∷ more) zero e h s = let same : l ≡ e = cc in let at : l.number ≡ e.number = ap (λ (x : Entry). x.number) same in let first : l.number ≡ n = h.0 in omega arith
-number_at n (l ∷ more) (suc i) e h s = let at : e.number ≡ (n + 1) + i = number_at (n + 1) more i e h.1 s in omega arith
-
--- the last line's number is the first one plus the number of other lines
-pub last_number : (lines : List Entry) (e : Entry) → Numbered lines → slice_get lines (length lines - 1) ≡ Some e → e.number ≡ unwrap_or (first_number lines) 0 + (length lines - 1)
-last_number [] e h s = cc
-last_number (l ∷ more) e h s = number_at l.number (l ∷ more) (length (l ∷ more) - 1) e (refl, h) s
 
 readings-from : (n : ℕ) (lines : List Entry) → NumberedFrom n lines → numbered_from n (map (λ line. reading line.request) lines) ≡ readings_of lines
 readings-from n [] h = refl

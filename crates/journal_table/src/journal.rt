@@ -66,7 +66,7 @@ impl<'t> Journal<'t> {
     pub fn first(&self) -> Option<u64>
         ensures { result ≡ first_number self.now }
     {
-        self.lines.first().map(|line| line.number())
+        self.lines.first().map(|line| line.parts().number)
     }
 
     /// The lines in order.
@@ -91,11 +91,11 @@ fn read_lines<'t>(
 {
     let mut lines = Vec::with_capacity(alloc, bytes.len() / USUAL_ROW)?;
     let mut before = None;
-    let mut texts = RowTexts::after_header(bytes);
+    let mut texts = RowTexts { bytes, before: 0 };
     let mut row = ByteRecord::new(alloc);
     while rows.next(&mut row)? {
         let line = read_line(alloc, lines.len() + 1, before, &row, &mut texts)?;
-        before = Some(line.number());
+        before = Some(line.parts().number);
         lines.push(line)?;
     }
     Ok(lines)

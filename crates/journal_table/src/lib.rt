@@ -11,7 +11,7 @@ mod row_text;
 
 pub use error::{JournalError, JournalRule};
 pub use journal::Journal;
-pub use line::Line;
+pub use line::{Line, LineParts};
 pub use number::{number_of, spells_decimal};
 pub use readings::{Readings, STRETCH, read_all, read_in_turn};
 

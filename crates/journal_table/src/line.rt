@@ -5,8 +5,7 @@ ghost use Rattle.std.specs.Int.{IsInRange};
 ghost use Rattle.csv.specs.Records.{fields_of};
 ghost use Rattle.sip_reader.specs.Texts.{line_number_max};
 ghost use Rattle.journal_table.specs.Journal.{Gives, line_at};
-ghost use Rattle.journal_table.specs.Journal as Journal;
-ghost use Rattle.journal_table.specs.Layout.{AreTexts, connection_len, joined, request_len, text_of};
+ghost use Rattle.journal_table.specs.Layout.{AreTexts, joined};
 ghost use Rattle.journal_table.specs.declared.TheConstants.{CONNECTION_LIMIT};
 
 use crate::error::{JournalError, JournalRule};
@@ -36,7 +35,7 @@ impl Drop for Line<'_> {
 
 /// The three texts of a line, with commas between, and how long the first two are. Lines are stored until the run ends, and nearly
 /// all are borrowed: so there the two lengths take only five bytes.
-enum LineTexts<'t> {
+pub(crate) enum LineTexts<'t> {
     /// In the bytes of the journal.
     Lent {
         connection_len: u8,
@@ -61,7 +60,7 @@ impl Drop for LineTexts<'_> {
 }
 
 /// The three texts of a line in memory of their own, and how long the first two are.
-struct OwnTexts {
+pub(crate) struct OwnTexts {
     connection_len: usize,
     request_len: usize,
     bytes: Vec<u8>,
@@ -77,6 +76,19 @@ impl Drop for OwnTexts {
     }
 }
 
+/// What a line says.
+#[derive(Clone, Copy)]
+pub struct LineParts<'l> {
+    /// From 1 to 9,999,999,999.
+    pub number: u64,
+    /// The name of the connection: 0 to 64 bytes, each of any value.
+    pub connection: &'l [u8],
+    /// The request, as it was received.
+    pub request: &'l [u8],
+    /// The response that was recorded, of any length.
+    pub response: &'l [u8],
+}
+
 impl<'t> Model for Line<'t> {
     ghost use Rattle.journal_table.specs.Entry.{Entry};
 
@@ -90,30 +102,6 @@ impl<'t> Model for Line<'t> {
 }
 
 impl<'t> LineTexts<'t> {
-    /// The texts of the next row: borrowed where the journal has them without quotes and their lengths fit, else copied.
-    fn of(
-        alloc: Global,
-        rows: &mut RowTexts<'t>,
-        number: &[u8],
-        connection: &[u8],
-        request: &[u8],
-        response: &[u8],
-    ) -> Result<LineTexts<'t>, AllocError>
-        ensures { IfOk result (λ texts. AreTexts texts connection.now request.now response.now) }
-    {
-        let Some(bytes) = rows.next(number, connection, request, response) else {
-            return LineTexts::own(alloc, connection, request, response);
-        };
-        match (u8::try_from(connection.len()), u32::try_from(request.len())) {
-            (Ok(connection_len), Ok(request_len)) => Ok(LineTexts::Lent {
-                connection_len,
-                request_len,
-                bytes,
-            }),
-            _ => LineTexts::own(alloc, connection, request, response),
-        }
-    }
-
     /// A copy of these texts.
     fn own(
         alloc: Global,
@@ -131,22 +119,6 @@ impl<'t> LineTexts<'t> {
         match Box::new(alloc, own) {
             Ok(own) => Ok(LineTexts::Own(own)),
             Err(_) => Err(AllocError),
-        }
-    }
-
-    /// The length of the connection, that of the request, and the three texts with commas between.
-    fn parts(&self) -> (usize, usize, &[u8])
-        ensures connection { result.0 ≡ connection_len self.now }
-        ensures request { result.1 ≡ request_len self.now }
-        ensures texts { result.2.now ≡ text_of self.now }
-    {
-        match self {
-            LineTexts::Lent {
-                connection_len,
-                request_len,
-                bytes,
-            } => (usize::from(*connection_len), *request_len as usize, bytes),
-            LineTexts::Own(own) => (own.connection_len, own.request_len, own.bytes.as_slice()),
         }
     }
 }
@@ -175,37 +147,29 @@ fn with_commas(
 }
 
 impl<'t> Line<'t> {
-    /// The number, from 1 to 9,999,999,999.
-    pub fn number(&self) -> u64
-        ensures value { result ≡ self.now.number }
-        ensures range { IsInRange 1 line_number_max result }
-    {
-        self.number
-    }
-
-    /// The name of the connection: 0 to 64 bytes, each of any value.
-    pub fn connection(&self) -> &[u8]
-        ensures value { result.now ≡ self.now.connection }
+    /// The number and the three texts.
+    pub fn parts(&self) -> LineParts<'_>
+        ensures number { result.number ≡ self.now.number }
+        ensures range { IsInRange 1 line_number_max result.number }
+        ensures connection { result.connection.now ≡ self.now.connection }
         ensures short { length self.now.connection ≤ CONNECTION_LIMIT }
+        ensures request { result.request.now ≡ self.now.request }
+        ensures response { result.response.now ≡ self.now.response }
     {
-        let (connection, _, bytes) = self.texts.parts();
-        &bytes[..connection]
-    }
-
-    /// The request, as it was received.
-    pub fn request(&self) -> &[u8]
-        ensures { result.now ≡ self.now.request }
-    {
-        let (connection, request, bytes) = self.texts.parts();
-        &bytes[connection + 1..connection + 1 + request]
-    }
-
-    /// The response that was recorded, of any length.
-    pub fn response(&self) -> &[u8]
-        ensures { result.now ≡ self.now.response }
-    {
-        let (connection, request, bytes) = self.texts.parts();
-        &bytes[connection + 1 + request + 1..]
+        let (connection, request, bytes) = match &self.texts {
+            LineTexts::Lent {
+                connection_len,
+                request_len,
+                bytes,
+            } => (usize::from(*connection_len), *request_len as usize, *bytes),
+            LineTexts::Own(own) => (own.connection_len, own.request_len, own.bytes.as_slice()),
+        };
+        LineParts {
+            number: self.number,
+            connection: &bytes[..connection],
+            request: &bytes[connection + 1..connection + 1 + request],
+            response: &bytes[connection + 1 + request + 1..],
+        }
     }
 }
 
@@ -227,7 +191,7 @@ pub(crate) fn read_line<'t>(
     let Some(number) = number_of(digits) else {
         return breaks(JournalRule::Number);
     };
-    if !follows(before, number) {
+    if before.is_some_and(|before| number.checked_sub(before) != Some(1)) {
         return breaks(JournalRule::Sequence);
     }
     let connection = column(fields, 1);
@@ -235,16 +199,9 @@ pub(crate) fn read_line<'t>(
         return breaks(JournalRule::Connection);
     }
     let (request, response) = (column(fields, 2), column(fields, 3));
-    let texts = LineTexts::of(alloc, rows, digits, connection, request, response)?;
+    let texts = match rows.next(digits, connection, request, response) {
+        Some(texts) => texts,
+        None => LineTexts::own(alloc, connection, request, response)?,
+    };
     Ok(Line { number, texts })
-}
-
-/// Whether a line may have this number after the line before.
-fn follows(before: Option<u64>, number: u64) -> bool
-    ensures { result ≡ Journal.follows before number }
-{
-    match before {
-        None => true,
-        Some(before) => before < number && number - before == 1,
-    }
 }

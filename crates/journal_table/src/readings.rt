@@ -136,7 +136,7 @@ fn read_stretch(alloc: Global, lines: &[Line]) -> Result<Vec<Reading>, AllocErro
     let mut readings = Vec::with_capacity(alloc, lines.len())?;
     for line in lines {
         // the capacity suffices, so no growth has to be tested for
-        readings.push_reserved(read_request(alloc, line.request())?);
+        readings.push_reserved(read_request(alloc, line.parts().request)?);
     }
     Ok(readings)
 }

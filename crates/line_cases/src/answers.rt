@@ -26,12 +26,13 @@ pub(crate) fn answers_of_one(
     ensures { IfOk result (λ text. text.items ≡ answers_text (in_run plan.now line.now)) }
 {
     let mut table = TableText::under(alloc, &HEADER)?;
-    if let Some(reading) = plan.reading(line.number()) {
+    let line = line.parts();
+    if let Some(reading) = plan.reading(line.number) {
         if let Some(answer) = answer {
             let text = write_answer(alloc, answer, sequence_of(reading))?;
             let mut digits = Buffer::new();
-            let number = digits.format(line.number());
-            table.row(&[number.as_bytes(), line.connection(), text.as_slice()])?;
+            let number = digits.format(line.number);
+            table.row(&[number.as_bytes(), line.connection, text.as_slice()])?;
         }
     }
     table.finish()

@@ -14,14 +14,15 @@ const HEADER: [&str; 4] = ["line", "connection", "request", "response"];
 pub(crate) fn journal_of_one(alloc: Global, line: &Line) -> Result<Vec<u8>, AllocError>
     ensures { IfOk result (λ text. text.items ≡ journal_of_one line.now) }
 {
+    let line = line.parts();
     let mut digits = Buffer::new();
-    let number = digits.format(line.number());
+    let number = digits.format(line.number);
     let mut table = TableText::under(alloc, &HEADER)?;
     table.row(&[
         number.as_bytes(),
-        line.connection(),
-        line.request(),
-        line.response(),
+        line.connection,
+        line.request,
+        line.response,
     ])?;
     table.finish()
 }

@@ -37,10 +37,11 @@ impl Listing {
         ensures ok { OnOk result (Gains (Some (row_of line.now words.now)) self.old self.new) }
         ensures err { OnErr result (self.new.table ≡ None) }
     {
+        let line = line.parts();
         let mut digits = Buffer::new();
-        let number = digits.format(line.number());
+        let number = digits.format(line.number);
         self.table
-            .row(&[number.as_bytes(), line.connection(), words])?;
+            .row(&[number.as_bytes(), line.connection, words])?;
         self.rows += 1;
         Ok(())
     }

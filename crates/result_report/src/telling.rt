@@ -119,10 +119,11 @@ fn tell_differences(
     requires written { text.now ≡ answer_text answer.now sequence }
     ensures { OnOk result (Gains (difference_row line.now (differ answer.now line.now.response)) report.old report.new) }
 {
-    if is_own_text(answer, sequence, text, line.response()) {
+    let response = line.parts().response;
+    if is_own_text(answer, sequence, text, response) {
         return Ok(());
     }
-    let fields = differences(alloc, answer, line.response())?;
+    let fields = differences(alloc, answer, response)?;
     if fields.is_empty() {
         return Ok(());
     }

@@ -44,11 +44,12 @@ fn case_at(
     tracer: &Tracer<'_>,
     line: &Line<'_>,
 ) -> Result<Option<CaseTexts>, AllocError> {
-    if line.number() != tracer.next() {
+    let number = line.parts().number;
+    if number != tracer.next() {
         return Ok(None);
     }
     match line_case(alloc, inputs.policy.as_slice(), tracer, line)? {
-        Some(case) => Ok(Some(case_texts(alloc, line.number(), &case)?)),
+        Some(case) => Ok(Some(case_texts(alloc, number, &case)?)),
         None => Ok(None),
     }
 }

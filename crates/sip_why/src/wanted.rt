@@ -88,7 +88,7 @@ fn add_row(
 
 fn has_line(journal: &Journal<'_>, number: u64, connection: &[u8]) -> bool {
     match line_of(journal, number) {
-        Some(line) => line.connection() == connection,
+        Some(line) => line.parts().connection == connection,
         None => false,
     }
 }

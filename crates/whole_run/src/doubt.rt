@@ -110,7 +110,7 @@ fn names_institution(alloc: Global, journal: &Journal<'_>, institution: &str) ->
         journal
             .lines()
             .iter()
-            .any(|line| memmem::find(line.request(), field).is_some()),
+            .any(|line| memmem::find(line.parts().request, field).is_some()),
     )
 }
 
@@ -156,7 +156,7 @@ impl Named {
             unknown_items: 0,
         };
         for line in journal.lines() {
-            if let Reading::Asked(request) = &read_request(alloc, line.request())? {
+            if let Reading::Asked(request) = &read_request(alloc, line.parts().request)? {
                 let (patron, item) = named_by(&request.act);
                 named.count(
                     patron.map(|id| patrons.contains(id)),

@@ -8,6 +8,6 @@ pub loop-row-preserved : goal.loop-row-preserved
 loop-row-preserved c =
     let size : c.len.result ≡ length c.loop-row.lines.items = omega arith in
     let at = rw size at c.in_ok-line.ensures in
-    rw (c.in_ok-push.ensures.items, c.number.ensures.value)
+    rw (c.in_ok-push.ensures.items, c.parts.ensures.number)
     (goes_on c.loop-row.rows.rows c.next.new.self.rows c.loop-row.lines.items c.loop-row.before (fields_of c.next.new.row) c.in_ok-line.line (lines_of c.args.rows.now.rows)
     (c.in_ok-next.ensures.row c.if-branch.true) at c.loop-row.invariant)

@@ -157,17 +157,6 @@ nothing_noted ns no_notes = subst (λ ms. AreNoted ms None) (sym no_notes) none_
 pub none_held : {J : Type 0} (o : Option (Box (NoteList J))) → o ≡ None → AreNoted (notes_in o) (index_in o)
 none_held o none = subst (λ (x : Option (Box (NoteList _))). AreNoted (notes_in x) (index_in x)) (sym none) none_kept
 
--- nothing is noted yet in what is spare
-pub nothing_held : {J : Type 0} (ns : List (PlaceNote J)) (index : Index) → ns ≡ [] → index ≡ None → AreNoted ns index
-nothing_held ns index no_notes none = subst (λ i. AreNoted ns i) (sym none) (nothing_noted ns no_notes)
-
-pub first_fresh : {J : Type 0} (ns : List (PlaceNote J)) (k : Key) → ns ≡ [] → is_noted (map noted ns) k ≡ false
-first_fresh ns k no_notes = ap (λ ms. is_noted (map noted ms) k) no_notes
-
--- the first note
-pub noted_first : {J : Type 0} (ns : List (PlaceNote J)) (n : PlaceNote J) → ns ≡ n ∷ [] → IsPlaced (noted n) → AreNoted ns None
-noted_first ns n first here = subst (λ ms. AreNoted ms None) (sym first) (noted_few [] None n none_kept refl here (omega arith))
-
 -- the key of a note in a box
 key_of : {J : Type 0} (o : Option (PlaceNote J)) → option_map (λ (n : Noted). n.key) (option_map noted o) ≡ option_map (λ (n : PlaceNote J). n.key) o
 key_of None = refl

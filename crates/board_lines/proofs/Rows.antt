@@ -16,7 +16,7 @@ use Rattle.attempts.specs.declared.table.AttemptRow as attempt
 use Rattle.version_store.specs.Entries as store
 use Rattle.board_steps.specs.Board.{Row, Board, IsLine, blank, row_at, holder, live_of}
 use Rattle.board_steps.proofs.Lines.{row_before, row_from, within_board}
-use Rattle.board_lines.specs.Hands.{notes_of}
+use Rattle.board_lines.specs.Hands.{IsInHand, notes_of}
 use Rattle.board_lines.specs.Notes.{notes_by}
 use Rattle.board_lines.specs.Parts.{Parts, no_notes, row_by, state_of, board_of, IsKept}
 use Rattle.board_lines.specs.declared.lines.Lines.TheInside.{Inside}
@@ -134,14 +134,21 @@ module _ (plan : Planned) (a : Parts) (kept : IsKept plan a) where
     live_stands h = is_some_and (state_at a.states n) (get_or a.states.rows (n - a.states.first) no_row).state (λ s. is_live s ≡ true) state_stands
         (held_live (get_or a.states.rows (n - a.states.first) no_row).state (notes_by plan.base (get_or a.rows (n - a.states.first) no_notes).notes) (get_or a.rows (n - a.states.first) no_notes).contents (sym (ap live_of state_shown) ∙ h))
 
-    pub notes_live : live_of (row_at (board_of plan.base a) n).state ≡ 1 → notes_of (row_at (board_of plan.base a) n).state ≡ notes_by plan.base (get_or a.rows (n - a.states.first) no_notes).notes
-    notes_live h = ap notes_of state_shown
-        ∙ live_notes (get_or a.states.rows (n - a.states.first) no_row).state (notes_by plan.base (get_or a.rows (n - a.states.first) no_notes).notes) (get_or a.rows (n - a.states.first) no_notes).contents (sym (ap live_of state_shown) ∙ h)
-
-    pub notes_held : (w : ℕ) → holder (row_at (board_of plan.base a) n).state ≡ Some w → notes_of (row_at (board_of plan.base a) n).state ≡ notes_by plan.base (get_or a.rows (n - a.states.first) no_notes).notes
-    notes_held w h = ap notes_of state_shown
-        ∙ held_notes (get_or a.states.rows (n - a.states.first) no_row).state (notes_by plan.base (get_or a.rows (n - a.states.first) no_notes).notes) (get_or a.rows (n - a.states.first) no_notes).contents w (sym (ap holder state_shown) ∙ h)
-
 -- the entries of a line on the board that a value shows are those of its store
 pub entries_shown : {J : Type 0} (a : Inside J) (plan : Planned) (b : Board) → a.plan.now ≡ plan → IsKept plan (parts_of a) → board_of a.plan.now.base (parts_of a) ≡ b → (n : ℕ) → (row_at b n).entries ≡ store.line_at a.entries n
 entries_shown a plan b same kept view n = ap (λ (x : Board). (row_at x n).entries) (sym (board_shown a plan b same view)) ∙ entries_at plan (parts_of a) kept n
+
+-- ---- what a worker has in hand, by its hand
+hand_none : (plan : Planned) (a : Parts) (kept : IsKept plan a) (w : ℕ) → slice_get a.hands w ≡ None → IsInHand (board_of plan.base a) w None
+hand_none plan a kept w e n held = none-some (Some n) (sym e ∙ (kept.hand w n).1 held)
+
+hand_some : (plan : Planned) (a : Parts) (kept : IsKept plan a) (w : ℕ) (o : Option ℕ) → slice_get a.hands w ≡ Some o → IsInHand (board_of plan.base a) w o
+hand_some plan a kept w None e = λ n held. (let z : ◌≡◌ {A = Option (Option ℕ)} (Some None) (Some (Some n)) = sym e ∙ (kept.hand w n).1 held in cc)
+hand_some plan a kept w (Some n) e = (kept.hand w n).0 e
+
+module _ {J : Type 0} (a : Inside J) (plan : Planned) (same : a.plan.now ≡ plan) (kept : IsKept plan (parts_of a)) (b : Board) (view : board_of a.plan.now.base (parts_of a) ≡ b) (w : ℕ) where
+  pub no_hand_here : slice_get a.hands.items w ≡ None → IsInHand b w None
+  no_hand_here e = subst (λ (x : Board). IsInHand x w None) (board_shown a plan b same view) (hand_none plan (parts_of a) kept w e)
+
+  pub hand_here : (o : Option ℕ) → slice_get a.hands.items w ≡ Some o → IsInHand b w o
+  hand_here o e = subst (λ (x : Board). IsInHand x w o) (board_shown a plan b same view) (hand_some plan (parts_of a) kept w o e)

@@ -1,6 +1,6 @@
 //! The lines of a board: what is stored of each, which worker has it in hand, and how work on a line begins and ends.
 
-ghost use Rattle.std.specs.Prelude.{◌≡◌, IfOk, None, option_copied, slice_get, unwrap_or, ◌≤◌, map, replicate};
+ghost use Rattle.std.specs.Prelude.{◌≡◌, IfOk, None, option_copied, ◌≤◌, map, replicate};
 ghost use Rattle.board_steps.specs.Reached.{Reached};
 ghost use Rattle.board_steps.specs.Steps.{opening};
 ghost use Rattle.board_steps.specs.Steps.Call.{Commit, Take};
@@ -165,7 +165,11 @@ impl<'p, 't, J: PlanName> Lines<'p, 't, J> {
     fn in_hand(&self, worker: u32) -> Option<u64>
         ensures { IsInHand self.now worker result }
     {
-        hand_at(&self.hands, worker)
+        let hand = worker as usize;
+        if hand >= self.hands.len() {
+            return None;
+        }
+        self.hands[hand]
     }
 
     /// The line that a worker has in hand, with its attempt.
@@ -220,28 +224,11 @@ impl<'p, 't, J: PlanName> Lines<'p, 't, J> {
         self.hands.len()
     }
 
-    /// How many lines are committed.
-    pub fn committed(&self) -> u64
-        ensures { result ≡ self.now.committed }
-    {
-        self.attempts.counts().commits
-    }
-
     /// The clock: its first value, and 1 more for each change of an entry.
     pub fn clock(&self) -> u64
         ensures { result ≡ self.now.clock }
     {
         self.clock
-    }
-}
-
-/// The line that a worker has in hand, where it has one.
-fn hand_at(hands: &[Option<u64>], worker: u32) -> Option<u64>
-    ensures { result ≡ unwrap_or (slice_get hands.now worker) None }
-{
-    match hands.get(worker as usize) {
-        Some(hand) => *hand,
-        None => None,
     }
 }
 

@@ -32,16 +32,17 @@ pub(crate) fn same_notes<J: PlanName>(
 fn same_note<J: PlanName>(plan: &Plan, ours: &PlaceNotes<'_, J>, i: usize, theirs: &Note) -> bool
     ensures { Decides result (Some theirs.now ≡ slice_get (notes_by plan.now.base ours.now) i) }
 {
-    let Some((key, seen)) = ours.get(i) else {
+    let Some(seen) = ours.get(i) else {
         return false;
     };
-    if !same_key(key, &theirs.key) {
+    if !same_key(&seen.key, &theirs.key) {
         return false;
     }
     if !same_name(theirs.name, seen.name) {
         return false;
     }
-    theirs.found.is_same(record_seen(plan, key, seen.place))
+    let record = record_seen(plan, &seen.key, seen.place);
+    theirs.found.is_same(record)
 }
 
 fn same_name(a: Name, b: Name) -> bool

@@ -1,21 +1,18 @@
 //! The results of the lines: the answers, attempts and entries of those that are committed, and the record that is visible
 //! after the last line.
 
-ghost use Rattle.std.specs.Prelude.{◌≡◌, ◌+◌, ◌^◌, ◌<◌, suc, length, option_copied, option_map, slice_get};
+ghost use Rattle.std.specs.Prelude.{◌≡◌, ◌+◌, ◌^◌, ◌<◌, suc, length, option_copied, slice_get};
 ghost use Rattle.std.specs.FinMap as fin;
 ghost use Rattle.board_lines.specs.Committed.{committed_answer};
-ghost use Rattle.board_lines.specs.Notes.{contents_at};
-ghost use Rattle.board_lines.specs.Parts.{answer_by};
 ghost use Rattle.board_steps.specs.Board.{IsCommitted, row_at, value_at};
 ghost use Rattle.version_store.specs.Entries.{IsNamedAt};
 
 use super::Lines;
-use crate::reading::written;
+use crate::reading::record_seen;
 use attempts::LineState;
 use circ_records::{Key, Record};
 use read_set::PlanName;
 use sip_answer::Answer;
-use version_store::Place;
 
 impl<'p, 't, J: PlanName> Lines<'p, 't, J> {
     /// The answer of a committed line, where it has one; None for any other line.
@@ -28,7 +25,10 @@ impl<'p, 't, J: PlanName> Lines<'p, 't, J> {
         let LineState::Committed = state else {
             return None;
         };
-        answer_at(row.version)
+        let Some(place) = row.version else {
+            return None;
+        };
+        place.show().answer().as_ref()
     }
 
     /// Which attempt at a line was committed, counted from 0.
@@ -58,16 +58,6 @@ impl<'p, 't, J: PlanName> Lines<'p, 't, J> {
         let Some((_, made)) = self.entries.see(key, past) else {
             return self.plan.base(key);
         };
-        written(made.place.show().writes(), key)
-    }
-}
-
-/// The answer of the version at a place.
-fn answer_at<'t, J: PlanName>(place: Option<Place<'t, J>>) -> Option<&'t Answer>
-    ensures { option_copied result ≡ answer_by (option_map contents_at place.entry) }
-{
-    match place {
-        Some(place) => place.show().answer().as_ref(),
-        None => None,
+        record_seen(self.plan, key, Some(made.place))
     }
 }

@@ -3,7 +3,7 @@
 ghost use Rattle.std.specs.Prelude.{◌≡◌, None, option_map, ℕ, suc, OnOk, OnErr, List};
 ghost use Rattle.std.specs.Bool.{Decides};
 ghost use Rattle.board_steps.specs.Board.{row_at, IsLine};
-ghost use Rattle.board_steps.specs.Steps.{AllPlaced, Fits, HasRoom, IsNextLeft, IsNextWrite, IsVersion, MayPublish, NoneLeft, lifted, placed, put_row, with_state};
+ghost use Rattle.board_steps.specs.Steps.{AllPlaced, Fits, HasRoom, IsNextLeft, IsNextWrite, IsVersion, MayPublish, lifted, placed};
 ghost use Rattle.board_steps.specs.Steps.Call.{Publish};
 ghost use Rattle.board_lines.specs.Notes.{contents_at};
 ghost use Rattle.board_lines.specs.Replies.{Answers};
@@ -89,7 +89,11 @@ impl<'p, 't, J: PlanName> Lines<'p, 't, J> {
     {
         let act = act_of(&self.entries, line, place.show(), count);
         if let PublishAct::Finish = act {
-            self.finish(worker, line, place);
+            // all is published: the line is done, and not checked
+            self.attempts.go_on(line, LineState::Done { stamp: None });
+            let row = &mut self.rows[(line - self.plan.first()) as usize];
+            row.version = Some(place);
+            self.hands[worker as usize] = None;
             return Reply::Whole;
         }
         if self.clock == u64::MAX {
@@ -210,20 +214,5 @@ impl<'p, 't, J: PlanName> Lines<'p, 't, J> {
         row.course = LineProgress { placed };
         row.changed = clock;
         self.clock = clock;
-    }
-
-    /// All is published: the line is done, and not checked.
-    fn finish(&mut self, worker: u32, line: u64, place: Place<'t, J>)
-        requires may { MayPublish self.old worker line (notes_at self.old line) }
-        requires fits { Fits self.old line (notes_at self.old line) (contents_at place) }
-        requires version { IsVersion J.plan (contents_at place) }
-        requires all { AllPlaced (row_at self.old line) (contents_at place) }
-        requires none { NoneLeft (row_at self.old line) (contents_at place) }
-        ensures { self.new ≡ put_row self.old line (with_state (row_at self.old line) (Done (notes_at self.old line) (contents_at place.entry).answer None)) }
-    {
-        self.attempts.go_on(line, LineState::Done { stamp: None });
-        let row = &mut self.rows[(line - self.plan.first()) as usize];
-        row.version = Some(place);
-        self.hands[worker as usize] = None;
     }
 }

@@ -7,8 +7,9 @@ use Rattle.std.proofs.lemmas.List.{set_comm, set-get_or, set-set}
 use Rattle.line_set.specs.Devices.Apart.{with_apart, IsApart}
 
 -- another position is put into the tree
-pub put_beside : (flags : List Bool) (p n : ℕ) → with_apart (set flags n true) (Some p) ≡ set (with_apart flags (Some p)) n true
-put_beside flags p n = elim (cases_eq n p) [
+pub put_beside : (flags : List Bool) (apart : Option ℕ) (n : ℕ) → with_apart (set flags n true) apart ≡ set (with_apart flags apart) n true
+put_beside flags None n = refl
+put_beside flags (Some p) n = elim (cases_eq n p) [
   | inl e ↦ rw e refl
   | inr other ↦ set_comm flags n p true true other
 ]

@@ -1,9 +1,9 @@
 -- A tree over no flag that is set.
-use Rattle.std.proofs.Common.{◌≡◌, ℕ, ◌+◌, ◌-◌, ◌*◌, ◌≤◌, Bool, true, false, ◌||◌, length, get_or, replicate, sym, ap₂, subst, ◌∙◌, inl, inr, arith}
+use Rattle.std.proofs.Common.{◌≡◌, ℕ, ◌+◌, ◌-◌, ◌*◌, Bool, true, false, ◌||◌, length, get_or, replicate, sym, ap₂, ◌∙◌, inl, inr, arith}
 use Rattle.std.specs.Prelude.{if◌then◌else◌, nat_lt}
 use Rattle.std.proofs.lemmas.Bool.{cases_lt}
 use Rattle.std.proofs.lemmas.List.{get_or-replicate, get_or_past, length-replicate}
-use Rattle.line_set.specs.Trees.{node_at, IsPower, IsTree}
+use Rattle.line_set.specs.Trees.{node_at, joined}
 
 clear : (n i : ℕ) → get_or (replicate n false) i false ≡ false
 clear n i = elim (cases_lt i n) [
@@ -19,12 +19,5 @@ clear-at : (len width i : ℕ) → node_at (replicate len false) (replicate widt
 clear-at len width i = either (nat_lt i (length (replicate width false))) _ _ (clear width i) (clear len (i - length (replicate width false)))
 
 -- where no flag is set, no node is
-pub clear-tree : (len width : ℕ) → IsPower width → len ≤ width → width ≤ 2000000 → IsTree (replicate len false) (replicate width false)
-clear-tree len width power covers few =
-    let wide : length (replicate width false) ≡ width = length-replicate width false in
-    record {
-      power = subst IsPower (sym wide) power;
-      covers = omega (arith, covers, wide, length-replicate len false);
-      few = omega (arith, few, wide);
-      each = λ i some within other. clear width i ∙ sym (ap₂ (λ a b. a || b) (clear-at len width (2 * i)) (clear-at len width (2 * i + 1)));
-    }
+pub clear_joined : (len width i : ℕ) → get_or (replicate width false) i false ≡ joined (replicate len false) (replicate width false) i
+clear_joined len width i = clear width i ∙ sym (ap₂ (λ a b. a || b) (clear-at len width (2 * i)) (clear-at len width (2 * i + 1)))

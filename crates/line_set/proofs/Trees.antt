@@ -133,17 +133,6 @@ set_above flags nodes p each within e one =
     ∙ set_below flags nodes (length nodes + p)
     (node_flag flags nodes (length nodes + p) (omega arith) ∙ ap (λ x. get_or flags x false) (omega arith) ∙ e)
 
--- both nodes below a node are among the nodes, where the one from which one comes is
-pub both_inner : (nodes : List Bool) (n : ℕ) → IsPower (length nodes) → 1 ≤ n → n < length nodes → 2 * (n / 2) + 1 < length nodes
-both_inner nodes n (zero, e) some within = absurd (omega (arith, e, some, within))
-both_inner nodes n (suc h, e) some within =
-    let even : length nodes ≡ 2 * 2 ^ h = e ∙ pow_suc h in
-    omega (arith, even, some, within)
-
-pub joined_inner : (flags nodes : List Bool) (n : ℕ) → 2 * n + 1 < length nodes → joined flags nodes n ≡ (get_or nodes (2 * n) false || get_or nodes (2 * n + 1) false)
-joined_inner flags nodes n within =
-    ap₂ (λ a b. a || b) (node_inner flags nodes (2 * n) (omega (arith, within))) (node_inner flags nodes (2 * n + 1) within)
-
 -- the nodes from one on are right, and the one before it is made
 pub made_from : (flags nodes : List Bool) (n : ℕ) → 1 ≤ n → n < length nodes
     → ((i : ℕ) → n < i → i < length nodes → get_or nodes i false ≡ joined flags nodes i)

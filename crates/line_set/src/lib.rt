@@ -2,8 +2,6 @@
 //! over all of them. All of its memory is allocated at the start: no change allocates.
 #![tactic(auto)]
 
-mod flag_tree;
 mod line_set;
 
-pub use flag_tree::POSITIONS_MAX;
-pub use line_set::LineSet;
+pub use line_set::{LineSet, POSITIONS_MAX};

@@ -1,5 +1,5 @@
 -- For proofs alone: a node and the flags below it, counted through all rows of the tree, the flags' row being the last.
-use Rattle.std.specs.Prelude.{◌≡◌, ℕ, zero, suc, ◌+◌, ◌*◌, ◌<◌, ◌≤◌, Bool, true, false, List, length, slice_index_or, Option, Some, None}
+use Rattle.std.specs.Prelude.{◌≡◌, ℕ, zero, suc, ◌+◌, ◌*◌, ◌<◌, ◌≤◌, Bool, true, false, List, length, slice_index_or}
 use Rattle.line_set.specs.Trees.{node_at, IsPower}
 
 -- the first number below a node, a number of rows down
@@ -33,10 +33,6 @@ pub record IsNext (flags nodes : List Bool) (from i : ℕ) : Type 0 where
   pub set : node_at flags nodes i ≡ true
   pub past : length nodes + from ≤ below i rows
   pub before : NoneSet flags nodes (length nodes + from) (below i rows)
-
-abbrev pub IsNextNode : List Bool → List Bool → ℕ → Option ℕ → Type 0
-IsNextNode flags nodes from None = (p : ℕ) → from ≤ p → slice_index_or flags p false ≡ false
-IsNextNode flags nodes from (Some i) = IsNext flags nodes from i
 
 -- a node is set; 0 is none
 abbrev pub IsSet : List Bool → ℕ → Type 0

@@ -1,15 +1,17 @@
-use Rattle.std.proofs.Common.{◌≡◌, ◌<◌, ◌≤◌, length, true}
-use Rattle.line_set.specs.Trees.{AllBut, joined}
-use Rattle.line_set.proofs.flag_tree.FlagTree.insert.Given as goal
+use Rattle.std.proofs.Common.{◌≡◌, ◌<◌, length}
+use Rattle.line_set.specs.Devices.Rows.{IsSet}
+use Rattle.line_set.specs.Trees.{AllBut}
+use Rattle.line_set.proofs.line_set.LineSet.remove.Given as goal
 
--- each node but the next is what those below it make of it, and below the next there is a set flag
+-- each node but the next is what those below it make of it, and the next is set
 abbrev pub invariant-loop-node : goal.invariant-loop-node
 invariant-loop-node l = record {
   flags : l.self-inside.flags ≡ l.initial.self-inside.flags;
+  apart : l.self-inside.apart ≡ l.initial.self-inside.apart;
   as_many : length l.self-inside.nodes.items ≡ length l.initial.self-inside.nodes.items;
   within : l.node < length l.self-inside.nodes.items;
   each : AllBut l.self-inside.flags.items l.self-inside.nodes.items l.node;
-  set : 1 ≤ l.node → joined l.self-inside.flags.items l.self-inside.nodes.items l.node ≡ true;
+  set : IsSet l.self-inside.nodes.items l.node;
 }
 
 abbrev pub decreases-loop-node : goal.decreases-loop-node

@@ -1,10 +1,9 @@
 //! The inputs of a run, judged: the first fault of policy, tables and journal, in this order.
 
-ghost use Rattle.std.specs.Prelude.{◌≡◌, Ok, Err, None};
+ghost use Rattle.std.specs.Prelude.{◌≡◌, Err, None};
 ghost use Rattle.circ_policy.specs.Reading.{policy_of};
 ghost use Rattle.record_tables.specs.Base.{base_of};
 ghost use Rattle.record_tables.specs.Tables.{texts_of};
-ghost use Rattle.journal_table.specs.Entry.{first_number};
 ghost use Rattle.journal_table.specs.Journal.{journal_of};
 ghost use Rattle.replay_run.specs.Judgements.{Fails, first_read, with_base, with_policy};
 ghost use Rattle.replay_run.specs.OneThread.{judgement};
@@ -40,28 +39,16 @@ fn judge_journal<'i>(
     ensures { IsSound result (with_base policy (journal_of journal.now) (base_of policy (texts_of tables.now) (first_read (journal_of journal.now)))) }
 {
     match Journal::read(alloc, journal) {
-        Ok(journal) => judge_base(alloc, policy, tables, journal),
+        Ok(journal) => match read_base(alloc, &policy, tables, journal.first()) {
+            Ok(base) => Ok(Sound {
+                policy,
+                base,
+                journal,
+            }),
+            Err(error) => Err(Fault::from(error)),
+        },
         Err(JournalError::Memory) => Err(Fault::Memory),
         Err(error) => Err(refuse_journal(alloc, &policy, tables, error)),
-    }
-}
-
-/// The base before the lines of a journal.
-fn judge_base<'i>(
-    alloc: Global,
-    policy: Policy,
-    tables: &Tables,
-    journal: Journal<'i>,
-) -> Result<Sound<'i>, Fault>
-    ensures { IsSound result (with_base policy (Ok journal.entry) (base_of policy (texts_of tables.now) (first_number journal.entry))) }
-{
-    match read_base(alloc, &policy, tables, journal.first()) {
-        Ok(base) => Ok(Sound {
-            policy,
-            base,
-            journal,
-        }),
-        Err(error) => Err(Fault::from(error)),
     }
 }
 

@@ -1,46 +1,14 @@
 -- Lines that are written one after the other.
-use Rattle.std.proofs.Common.{◌≡◌, ◌∙◌, ◌<◌, ◌≤◌, ◌^◌, ◌-◌, ◌+◌, ℕ, zero, suc, List, [], ◌∷◌, ◌++◌, length, take, slice_index_or, Option, Some, None, arith, refl, sym, ap, subst}
+use Rattle.std.proofs.Common.{◌≡◌, ◌∙◌, ◌<◌, ◌≤◌, ◌^◌, ◌-◌, ℕ, zero, suc, List, [], ◌∷◌, ◌++◌, length, take, Option, Some, None, arith, refl, sym, ap, subst}
 use Rattle.std.specs.List.{cons_option, filter_map}
 use Rattle.std.proofs.lemmas.List.{append-nil, length-append}
 use Rattle.std.proofs.lemmas.List.Elements.{filter_map-append}
 use Rattle.csv_table.proofs.Written.{with_row-written}
-use Rattle.journal_table.specs.Entry.{Entry}
-use Rattle.sip_answer.specs.declared.answer.Answer.{Answer}
-use Rattle.sip_reader.specs.declared.request.Reading.{Reading}
-use Rattle.result_report.specs.Report.{Row, LineResult, line_results, answer_row, answers_header, passed_header, passed_row, report_header, report_row}
+use Rattle.result_report.specs.Report.{Row, LineResult, answer_row, answers_header, passed_header, passed_row, report_header, report_row}
 use Rattle.result_report.specs.Listings.{Gains, HasRoomFor, Lists}
 use Rattle.result_report.specs.Tellings.{Gained, HasRoom, Tells}
 use Rattle.result_report.specs.declared.listing.Listing.{Listing}
 use Rattle.result_report.specs.declared.telling.Telling.{Telling}
-
-line_results-step : (i : ℕ) (ls : List Entry) (rs : List Reading) (ans : List (Option Answer)) (l : Entry) (r : Reading) (a : Option Answer)
-    → i < length ls → length rs ≡ length ls → length ans ≡ length ls
-    → l ≡ slice_index_or ls i l → r ≡ slice_index_or rs i r → a ≡ slice_index_or ans i a
-    → take (suc i) (line_results ls rs ans) ≡ take i (line_results ls rs ans) ++ (l, r, a) ∷ []
-line_results-step zero (x ∷ ls) (y ∷ rs) (z ∷ ans) l r a lt e f p q s = rw (p, q, s) refl
-line_results-step (suc i) (x ∷ ls) (y ∷ rs) (z ∷ ans) l r a lt e f p q s =
-    ap (λ (ts : List LineResult). (x, y, z) ∷ ts) (line_results-step i ls rs ans l r a (omega arith) (omega (arith, e)) (omega (arith, f)) p q s)
-line_results-step i [] rs ans l r a lt e f p q s = absurd (omega arith)
-line_results-step i (x ∷ ls) [] ans l r a lt e f p q s = absurd (omega (arith, e))
-line_results-step i (x ∷ ls) (y ∷ rs) [] l r a lt e f p q s = absurd (omega (arith, f))
-
--- the lines up to the next one
-pub line_results-next : (i : ℕ) (ls : List Entry) (rs : List Reading) (ans : List (Option Answer)) (l : Entry) (r : Reading) (a : Option Answer)
-    → i < length ls → length rs ≡ length ls → length ans ≡ length ls
-    → l ≡ slice_index_or ls i l → r ≡ slice_index_or rs i r → a ≡ slice_index_or ans i a
-    → take i (line_results ls rs ans) ++ (l, r, a) ∷ [] ≡ take (i + 1) (line_results ls rs ans)
-line_results-next i ls rs ans l r a lt e f p q s =
-    let next : suc i ≡ i + 1 = omega arith in
-    sym (subst (λ n. take n (line_results ls rs ans) ≡ take i (line_results ls rs ans) ++ (l, r, a) ∷ []) next (line_results-step i ls rs ans l r a lt e f p q s))
-
--- all lines
-pub line_results-whole : (i : ℕ) (ls : List Entry) (rs : List Reading) (ans : List (Option Answer)) → length ls ≤ i → take i (line_results ls rs ans) ≡ line_results ls rs ans
-line_results-whole zero [] rs ans le = refl
-line_results-whole (suc i) [] rs ans le = refl
-line_results-whole zero (x ∷ ls) rs ans le = absurd (omega arith)
-line_results-whole (suc i) (x ∷ ls) [] ans le = refl
-line_results-whole (suc i) (x ∷ ls) (y ∷ rs) [] le = refl
-line_results-whole (suc i) (x ∷ ls) (y ∷ rs) (z ∷ ans) le = ap (λ (ts : List LineResult). (x, y, z) ∷ ts) (line_results-whole i ls rs ans (omega arith))
 
 -- one row more, where there is one
 row-more : (h : Row) (rows : List Row) (o : Option Row) (old new : Listing) → Lists h rows old → Gains o old new → Lists h (rows ++ cons_option o []) new

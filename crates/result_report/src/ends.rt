@@ -1,6 +1,6 @@
 //! The end of a run, and what is collected from it.
 
-ghost use Rattle.std.specs.Prelude.{◌≡◌, ◌<◌, ◌++◌, ◌∷◌, ◌^◌, [], ℕ, List, Option, IfOk, IfSome, OnOk, length, map, option_copied, option_map, slice_get};
+ghost use Rattle.std.specs.Prelude.{◌≡◌, ◌<◌, ◌++◌, ◌^◌, ℕ, List, Option, IfOk, IfSome, OnOk, length, map, option_copied, option_map, slice_get};
 ghost use Rattle.circ_records.specs.declared.key.Key.{Key};
 ghost use Rattle.circ_records.specs.declared.record.Record.{Record};
 ghost use Rattle.read_set.specs.Plans.{Planned};
@@ -8,7 +8,7 @@ ghost use Rattle.sip_answer.specs.declared.answer.Answer.{Answer};
 ghost use Rattle.result_report.specs.Ends.{AreRecordsAt, HasAt, keys_named, named_keys, numbers_of};
 ghost use Rattle.result_report.specs.Report.{answers_behind};
 
-use crate::outcome::{LastRecords, Outcome};
+use crate::outcome::{LastRecords, Outcome, RecordsFrom};
 use circ_records::{Key, Record, RecordMap, Records};
 use read_set::Plan;
 use sip_answer::Answer;
@@ -66,7 +66,9 @@ pub fn collect<'e, E: End<'e>>(alloc: Global, end: &E) -> Result<Outcome<'e>, Al
     ensures records { IfOk result (λ o. AreRecordsAt (named_keys (E.planned end.now) (E.entered end.now)) (E.left end.now) o.records) }
 {
     let records = match end.records() {
-        Some(records) => LastRecords::lent(records),
+        Some(records) => LastRecords {
+            held: RecordsFrom::Lent(records),
+        },
         None => LastRecords::collected(collect_records(alloc, end)?),
     };
     let first = end.plan().first();
@@ -104,28 +106,15 @@ fn base_records<'e, E: End<'e>>(alloc: Global, end: &E) -> Result<RecordMap, All
     let mut records = end.plan().empty_map(alloc)?;
     let keys = end.plan().keys();
     for entry in keys {
-        put_rising(alloc, end, &entry.0, &mut records)?;
+        if let Some(found) = end.final_of(&entry.0) {
+            records.put(alloc, entry.0.clone()?, found.copy()?)?;
+        }
     }
     Ok(records)
 }
 
-/// Puts the record at a key of the plan after the others.
-fn put_rising<'e, E: End<'e>>(
-    alloc: Global,
-    end: &E,
-    key: &Key,
-    records: &mut RecordMap,
-) -> Result<(), AllocError>
-    ensures { OnOk result ((keys : List Key) → HasAt keys (E.left end.now) records.old
-        → HasAt (keys ++ key.now ∷ []) (E.left end.now) records.new) }
-{
-    if let Some(found) = end.final_of(key) {
-        records.put(alloc, key.clone()?, found.copy()?)?;
-    }
-    Ok(())
-}
-
-/// Takes the records at the keys of what one line wrote. Where memory runs out `collect` drops the records, here and below.
+/// Takes the records at the keys of what one line wrote. Each is copied once, however often its key is named. Where memory
+/// runs out `collect` drops them all.
 fn take_entries<'e, E: End<'e>>(
     alloc: Global,
     end: &E,
@@ -137,28 +126,12 @@ fn take_entries<'e, E: End<'e>>(
 {
     let mut i = 0;
     while let Some(entry) = end.keys_of(line, i) {
-        take_record(alloc, end, entry.0, records)?;
+        if records.get(entry.0.as_ref()).is_none() {
+            if let Some(found) = end.final_of(entry.0) {
+                records.put(alloc, entry.0.clone()?, found.copy()?)?;
+            }
+        }
         i += 1;
     }
-    Ok(())
-}
-
-/// Takes the record at a key, which is copied once, however often the key is named.
-fn take_record<'e, E: End<'e>>(
-    alloc: Global,
-    end: &E,
-    key: &Key,
-    records: &mut RecordMap,
-) -> Result<(), AllocError>
-    ensures { OnOk result ((keys : List Key) → HasAt keys (E.left end.now) records.old
-        → HasAt (keys ++ key.now ∷ []) (E.left end.now) records.new) }
-{
-    if records.get(key.as_ref()).is_some() {
-        return Ok(());
-    }
-    let Some(found) = end.final_of(key) else {
-        return Ok(());
-    };
-    records.put(alloc, key.clone()?, found.copy()?)?;
     Ok(())
 }

@@ -19,11 +19,12 @@ pub struct Outcome<'e> {
 /// The records after the last line, by their keys: borrowed from the end of the run, or collected from it.
 #[derive(Drop)]
 pub struct LastRecords<'e> {
-    held: RecordsFrom<'e>,
+    pub(crate) held: RecordsFrom<'e>,
 }
 
+/// Where these records are.
 #[derive(Drop)]
-enum RecordsFrom<'e> {
+pub(crate) enum RecordsFrom<'e> {
     Lent(&'e Records),
     Collected(Records),
 }
@@ -38,15 +39,6 @@ impl<'e> Model for LastRecords<'e> {
 }
 
 impl<'e> LastRecords<'e> {
-    /// Records that the end of the run lends.
-    pub fn lent(records: &'e Records) -> LastRecords<'e>
-        ensures { result ≡ records.now }
-    {
-        LastRecords {
-            held: RecordsFrom::Lent(records),
-        }
-    }
-
     /// Records that were collected.
     pub fn collected(records: Records) -> LastRecords<'e>
         ensures { result ≡ records }

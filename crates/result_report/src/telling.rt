@@ -8,7 +8,7 @@ ghost use Rattle.sip_answer.specs.Texts.{answer_text};
 
 use crate::listing::Listing;
 use crate::texts::{ResultTexts, Sizes};
-use crate::words::{joined_words, reason_of, sequence_of};
+use crate::words::reason_of;
 use journal_table::Line;
 use sip_answer::{Answer, differences, is_own_text, put_answer};
 use sip_reader::Reading;
@@ -94,7 +94,10 @@ impl Telling {
     {
         match answer {
             Some(answer) => {
-                let sequence = sequence_of(reading);
+                let sequence = match reading {
+                    Reading::Asked(request) => request.sequence,
+                    Reading::Passed(_) | Reading::BadSum | Reading::Unread(_) => None,
+                };
                 put_answer(&mut self.text, answer, sequence)?;
                 let text = self.text.as_slice();
                 self.answers.row(line, text)?;
@@ -127,7 +130,8 @@ fn tell_differences(
     if fields.is_empty() {
         return Ok(());
     }
-    let words = joined_words(alloc, fields.as_slice())?;
+    let words: Vec<&'static str> = fields.iter().map(|field| field.word()).collect(alloc)?;
+    let words = words.join(alloc, " ")?;
     report.row(line, words.as_bytes())
 }
 

@@ -1,6 +1,6 @@
 //! The texts of the result tables.
 
-ghost use Rattle.std.specs.Prelude.{◌≡◌, ◌<◌, ◌+◌, ◌++◌, ◌^◌, ◌*◌, [], ℕ, List, IfOk, OnOk, drop, take, length, option_copied, option_map, slice_get};
+ghost use Rattle.std.specs.Prelude.{◌≡◌, ◌<◌, ◌+◌, ◌++◌, ◌^◌, ◌*◌, ℕ, List, IfOk, OnOk, take, length, option_copied, option_map, slice_get};
 ghost use Rattle.read_set.specs.Plans.{readings_of};
 ghost use Rattle.result_report.specs.Report.{AreAnswers, LineResult, answers_behind, line_results};
 ghost use Rattle.journal_table.specs.declared.readings.TheConstants.{STRETCH};
@@ -177,26 +177,21 @@ pub(crate) struct Heads {
 }
 
 impl ResultTexts {
-    /// Appends the rows of more lines. Out of memory, the caller drops them all.
+    /// Appends the rows of more lines, without the headers. Out of memory, the caller drops them all.
     fn add(&mut self, heads: Heads, more: &ResultTexts) -> Result<(), AllocError>
         ensures { OnOk result ((front back : List LineResult) → length front + length back < 2 ^ 64 → AreHeads heads
             → AreTexts front self.old → AreTexts back more.now → AreTexts (front ++ back) self.new) }
     {
-        put_behind(&mut self.answers, heads.answers, more.answers.as_slice())?;
-        put_behind(&mut self.report, heads.report, more.report.as_slice())?;
-        put_behind(&mut self.passed, heads.passed, more.passed.as_slice())?;
+        let answers = more.answers.get(heads.answers..).unwrap_or(&[]);
+        let report = more.report.get(heads.report..).unwrap_or(&[]);
+        let passed = more.passed.get(heads.passed..).unwrap_or(&[]);
+        self.answers.extend_from_slice(answers)?;
+        self.report.extend_from_slice(report)?;
+        self.passed.extend_from_slice(passed)?;
         let (sizes, more) = (&mut self.sizes, more.sizes);
         sizes.answered = sizes.answered.saturating_add(more.answered);
         sizes.passed = sizes.passed.saturating_add(more.passed);
         sizes.differences = sizes.differences.saturating_add(more.differences);
         Ok(())
     }
-}
-
-/// Appends a text without its header to another.
-fn put_behind(text: &mut Vec<u8>, head: usize, more: &[u8]) -> Result<(), AllocError>
-    ensures { OnOk result (text.new.items ≡ text.old.items ++ drop head more.now) }
-{
-    let rows = more.get(head..).unwrap_or(&[]);
-    text.extend_from_slice(rows)
 }

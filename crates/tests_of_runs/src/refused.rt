@@ -260,9 +260,9 @@ fn tell_notes<J: PlanName>(
 ) -> Result<(), AllocError> {
     if let Some(noted) = board.notes(worker) {
         for i in 0..noted.len() {
-            if let Some((key, seen)) = noted.get(i) {
-                tell_id(out, " ", key.id())?;
-                tell_name(out, seen.name)?;
+            if let Some(note) = noted.get(i) {
+                tell_id(out, " ", note.key.id())?;
+                tell_name(out, note.name)?;
             }
         }
     }

@@ -80,14 +80,6 @@ live_waits (Done t) h = (refl, refl)
 live_waits (Checking w t i) h = (refl, refl)
 live_waits Committed h = cc
 
-pub waits_not : (s : LineState) → (s ≡ Waiting → ⊥) → is_waiting s ≡ false
-waits_not Waiting h = absurd (h refl)
-waits_not (Running w) h = refl
-waits_not (Placing w) h = refl
-waits_not (Done t) h = refl
-waits_not (Checking w t i) h = refl
-waits_not Committed h = refl
-
 -- ---- the counts
 few_takes : (m k : ℕ) → k ≤ 2 ^ 32 - 1 → m ≤ k * 2 ^ 32 → m + 1 < 2 ^ 64
 few_takes m k le h = omega (arith, h, mul-le-mul_right (2 ^ 32) le)

@@ -1,7 +1,6 @@
 -- The lines of a journal while they are run: the state of each, and the counts (the board; the counts balance).
 use Rattle.std.specs.Prelude.{◌≡◌, ℕ, ◌+◌, ◌-◌, ◌≤◌, ◌^◌, Bool, true, false, List, Option, Some, None, length, replicate, slice_get, option_map, nat_lt, if◌then◌else◌}
 use Rattle.std.specs.List.{sum_by, All}
-use Rattle.std.specs.Option.{option_and_then}
 use Rattle.attempts.specs.declared.counts.Counts.{Counts}
 use Rattle.attempts.specs.declared.state.LineState.{LineState}
 use Rattle.attempts.specs.declared.state.LineState.TheVariants.{Waiting, Running, Placing, Done, Checking, Committed}
@@ -79,13 +78,6 @@ state_at t line = option_map (λ r. r.state) (row_at t line)
 -- the number of a line's next attempt
 abbrev pub next_at : States → ℕ → Option ℕ
 next_at t line = option_map (λ r. r.next) (row_at t line)
-
--- the newest attempt of a line that doesn't wait
-abbrev pub newest_of : AttemptRow → Option ℕ
-newest_of r = if is_waiting r.state then None else Some (r.next - 1)
-
-abbrev pub newest_at : States → ℕ → Option ℕ
-newest_at t line = option_and_then newest_of (row_at t line)
 
 abbrev pub no_counts : Counts
 no_counts = record { takes = 0; failed = 0; stops = 0; commits = 0; live = 0 }

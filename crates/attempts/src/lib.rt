@@ -11,4 +11,4 @@ mod table;
 
 pub use counts::Counts;
 pub use state::LineState;
-pub use table::AttemptTable;
+pub use table::{AttemptRow, AttemptTable};

@@ -1,7 +1,7 @@
 //! The states of all lines.
 
 ghost use Rattle.std.specs.Prelude.{◌≡◌, ◌+◌, ◌^◌, IfOk, IfSome, IfNone, IsSomeAnd, Some, true, length};
-ghost use Rattle.attempts.specs.States.{Balanced, IsNumbered, all_waiting, is_live, newest_at, next_at, row_at, state_at};
+ghost use Rattle.attempts.specs.States.{Balanced, IsNumbered, all_waiting, is_live, next_at, row_at, state_at};
 ghost use Rattle.attempts.specs.Moves.{committed, failed, moved, stopped, taken};
 ghost use Rattle.attempts.specs.declared.state.LineState.TheVariants as states;
 
@@ -74,26 +74,15 @@ impl AttemptTable {
         })
     }
 
-    /// The state of the line of a number; None where there is no such line.
-    pub fn state(&self, line: u64) -> Option<LineState>
-        ensures { result ≡ state_at self.now line }
+    /// The row of a line; None where there is no such line.
+    pub fn row(&self, line: u64) -> Option<AttemptRow>
+        ensures row { result ≡ row_at self.now line }
+        ensures numbered { IfSome result IsNumbered }
     {
-        match self.row(line) {
-            Some(row) => Some(row.state),
-            None => None,
+        if line < self.first {
+            return None;
         }
-    }
-
-    /// The number of the newest attempt of a line that doesn't wait; None where it waits, or there is no such line.
-    pub fn newest(&self, line: u64) -> Option<u32>
-        ensures newest { result ≡ newest_at self.now line }
-        ensures begun { IfSome result (λ attempt. next_at self.now line ≡ Some (attempt + 1)) }
-    {
-        let row = self.row(line)?;
-        match row.state {
-            LineState::Waiting => None,
-            _ => Some((row.next - 1) as u32),
-        }
+        self.rows.get((line - self.first) as usize).copied()
     }
 
     /// The counts. They balance.
@@ -174,16 +163,5 @@ impl AttemptTable {
         self.rows[place].state = LineState::Committed;
         self.counts.commits += 1;
         self.counts.live -= 1;
-    }
-
-    /// The row of a line.
-    fn row(&self, line: u64) -> Option<AttemptRow>
-        ensures row { result ≡ row_at self.now line }
-        ensures numbered { IfSome result IsNumbered }
-    {
-        if line < self.first {
-            return None;
-        }
-        self.rows.get((line - self.first) as usize).copied()
     }
 }

@@ -1,7 +1,7 @@
 -- A check of a line: it begins or goes on, ends whole, or sends the line back.
 use denote.Ref.{Bor}
 use Rattle.std.proofs.Common.{◌≡◌, ◌≢◌, ℕ, zero, suc, ◌+◌, ◌-◌, ◌<◌, ◌≤◌, true, false, List, [], ◌∷◌, Option, Some, None, length, set, get_or, slice_get, refl, sym, ap, ap₂, subst, ◌∙◌, ◌⊎◌, inl, inr, arith, length-set}
-use Rattle.std.specs.Prelude.{option_map, is_some}
+use Rattle.std.specs.Prelude.{option_map, is_some, IsSomeAnd}
 use Rattle.std.proofs.lemmas.Bool.{le-ltb}
 use Rattle.std.proofs.lemmas.List.{set-get_or}
 use Rattle.std.proofs.lemmas.Option.{none-some, same_Some, slice_get_within, slice_get-get_or, slice_get-map}
@@ -15,7 +15,7 @@ use Rattle.read_set.specs.declared.notes.Name.{Name}
 use Rattle.read_set.specs.declared.notes.Note.{Note}
 use Rattle.attempts.specs.Moves.{no_row}
 use Rattle.attempts.specs.Moves as moves
-use Rattle.attempts.specs.States.{States, state_at}
+use Rattle.attempts.specs.States.{States, state_at, is_live}
 use Rattle.attempts.specs.declared.state.LineState.{LineState}
 use Rattle.attempts.specs.declared.state.LineState.TheVariants as states
 use Rattle.attempts.specs.declared.table.AttemptRow as attempt
@@ -26,18 +26,20 @@ use Rattle.version_store.specs.declared.entry.Found.TheVariants.{Named}
 use Rattle.board_steps.specs.Board.{State, Row, Board, IsLine, IsCommitted, row_at, holder, live_of, found}
 use Rattle.board_steps.specs.Board.State.{Waiting, Placing, Done, Checking}
 use Rattle.board_steps.specs.Reached.{Reached, IsNow}
-use Rattle.board_steps.specs.Steps.{IsFree, Compares, Differs, CheckStep, HasNone, HasRoom, put_row, with_state, failing, marked}
+use Rattle.board_steps.specs.Steps.{IsFree, Compares, Differs, CheckStep, HasNone, HasRoom, Reply, put_row, with_state, failing, marked}
 use Rattle.board_steps.specs.Steps.Reply.{Whole, Same, Changed}
 use Rattle.board_steps.proofs.Steps.{check_step}
 use Rattle.board_lines.specs.Hands.{HasNoLine, notes_of}
 use Rattle.board_lines.specs.Notes.{Noted, note_by, notes_by, key_and_name}
-use Rattle.board_lines.specs.Parts.{Kept, Parts, no_notes, row_with, row_by, state_of, answer_by, board_of, HandsHold, IsKept}
-use Rattle.board_lines.specs.Sights.{IsCheck, IsOther, IsSame, names_now}
-use Rattle.board_lines.proofs.Boards.{Puts, place_of, row_there, board_is, row_new, row_old, kept_put}
+use Rattle.board_lines.specs.Parts.{Kept, Parts, no_notes, row_with, row_by, row_shown, state_of, answer_by, board_of, kept_at, HandsHold, IsKept}
+use Rattle.board_lines.specs.declared.lines.Lines.TheInside.{Inside}
+use Rattle.board_lines.specs.declared.row.LineRow.{LineRow}
+use Rattle.board_lines.specs.Sights.{IsCheck, IsOther, names_now}
+use Rattle.board_lines.proofs.Boards.{Puts, board_shown, parts_of, place_of, row_there, board_is, row_new, row_old, kept_put}
 use Rattle.board_lines.proofs.Commits.{state_there}
 use Rattle.board_lines.proofs.Hands.{hand_put}
 use Rattle.board_lines.proofs.Moves.{puts_of, board_eq}
-use Rattle.board_lines.proofs.Rows.{live_there, state_shown, state_somewhere, entries_at}
+use Rattle.board_lines.proofs.Rows.{live_stands, live_there, state_shown, state_somewhere, entries_at}
 use Rattle.board_lines.proofs.Sights.{has_none, has_some}
 
 -- ---- the state of a line that is done or being checked
@@ -100,10 +102,10 @@ names_past b n (Some p) h = absurd (none-some (names_now b n p) h)
 
 -- the names are one
 pub is_same : (b : Board) (w n : ℕ) (notes : List Note) (answer : Option Answer) (t i : ℕ) (key : Key) (noted : Name) → Compares b w n notes answer t i
-    → Some (key, noted) ≡ option_map key_and_name (slice_get (notes_of (row_at b n).state) i) → found (row_at b) n key ≡ Named noted → IsSame b w n t i
+    → Some (key, noted) ≡ option_map key_and_name (slice_get (notes_of (row_at b n).state) i) → found (row_at b) n key ≡ Named noted → (x : Note) × (slice_get notes i ≡ Some x) × IsNow (row_at b) n x
 is_same b w n notes answer t i key noted c e f =
     let x = note_there notes i key noted (e ∙ ap (λ (y : List Note). option_map key_and_name (slice_get y i)) (check_notes b w n notes answer t i c)) in
-    (notes, answer, c, x.0, x.1, ap (λ (k : Key). found (row_at b) n k) x.2 ∙ f ∙ ap Named (sym x.3))
+    (x.0, x.1, ap (λ (k : Key). found (row_at b) n k) x.2 ∙ f ∙ ap Named (sym x.3))
 
 -- they are two
 pub is_other : (b : Board) (w n : ℕ) (notes : List Note) (answer : Option Answer) (t i : ℕ) (key : Key) (noted : Name) (now : Found) → Compares b w n notes answer t i
@@ -133,15 +135,11 @@ named_some : (o : Option (Key × Shown)) (r : Option (Bor Key × ℕ)) → IsNam
 named_some None r h e = absurd (let z : false ≡ true = sym (ap is_some h) ∙ e in cc)
 named_some (Some x) r h e = (x, refl)
 
-module _ (plan : Planned) (a : Parts) (kept : IsKept plan a) (n : ℕ) where
-  pub none_there : (r : Option (Bor Key × ℕ)) → IsNamedAt (slice_get (entries (store.line_at a.store n)) 0) r → is_some r ≡ false → HasNone (row_at (board_of plan.base a) n)
-  none_there r h e = has_none (row_at (board_of plan.base a) n)
-      (ap (λ (l : store.Line). slice_get (entries l) 0) (entries_at plan a kept n) ∙ named_none (slice_get (entries (store.line_at a.store n)) 0) r h e)
+pub none_there : (l : Row) (r : Option (Bor Key × ℕ)) → IsNamedAt (slice_get (entries l.entries) 0) r → is_some r ≡ false → HasNone l
+none_there l r h e = has_none l (named_none (slice_get (entries l.entries) 0) r h e)
 
-  pub some_there : (r : Option (Bor Key × ℕ)) → IsNamedAt (slice_get (entries (store.line_at a.store n)) 0) r → is_some r ≡ true → HasNone (row_at (board_of plan.base a) n) → ⊥
-  some_there r h e =
-      let x = named_some (slice_get (entries (store.line_at a.store n)) 0) r h e in
-      has_some (row_at (board_of plan.base a) n) x.0 (ap (λ (l : store.Line). slice_get (entries l) 0) (entries_at plan a kept n) ∙ x.1)
+pub some_there : (l : Row) (r : Option (Bor Key × ℕ)) → IsNamedAt (slice_get (entries l.entries) 0) r → is_some r ≡ true → HasNone l → ⊥
+some_there l r h e = (let x = named_some (slice_get (entries l.entries) 0) r h e in has_some l x.0 x.1)
 
 -- ---- which check it is
 module _ (plan : Planned) (a : Parts) (kept : IsKept plan a) (w n : ℕ) where
@@ -468,3 +466,86 @@ module _ (plan : Planned) (a : Parts) (kept : IsKept plan a) (w n : ℕ) where
         where
           lines_with : (from : a.store.first ≤ n) → (store.with_line a.store n (store.suspected (store.line_at a.store n))).lines ≡ set a.store.lines (n - a.store.first) (store.suspected (store.line_at a.store n))
           lines_with from = rw (le-ltb n a.store.first from) refl
+
+-- ---- the same on the board that a value shows
+module _ {J : Type 0} (x : Inside J) (plan : Planned) (same : x.plan.now ≡ plan) (kept : IsKept plan (parts_of x)) (b : Board) (view : board_of x.plan.now.base (parts_of x) ≡ b) (w n : ℕ) where
+  is : board_of plan.base (parts_of x) ≡ b
+  is = board_shown x plan b same view
+
+  -- a step of the fields is one of the board
+  step_shown : (reply : Reply) (q : Parts) → CheckStep (board_of plan.base (parts_of x)) w n reply (board_of plan.base q) → CheckStep b w n reply (board_of x.plan.now.base q)
+  step_shown reply q step = subst (λ (y : Board). CheckStep y w n reply (board_of x.plan.now.base q)) is
+      (subst (λ (y : Planned). CheckStep (board_of plan.base (parts_of x)) w n reply (board_of y.base q)) (sym same) step)
+
+  -- a note is compared
+  module _ (notes : List Note) (answer : Option Answer) (t i : ℕ) (c : Compares b w n notes answer t i) where
+    compares : Compares (board_of plan.base (parts_of x)) w n notes answer t i
+    compares = subst (λ (y : Board). Compares y w n notes answer t i) (sym is) c
+
+    pub line_here : IsLine (board_of plan.base (parts_of x)) n
+    line_here = check_line plan (parts_of x) kept w n notes answer t i compares
+
+    pub live_here : IsSomeAnd (state_at x.attempts n) (λ s. is_live s ≡ true)
+    live_here = live_stands plan (parts_of x) kept n line_here (check_live (board_of plan.base (parts_of x)) w n notes answer t i compares)
+
+    pub hand_here : w < length x.hands.items
+    hand_here = check_within plan (parts_of x) kept w n notes answer t i compares
+
+    -- all names were compared
+    pub whole_here : length notes ≤ i → (t' : States) → t' ≡ moves.moved x.attempts n (states.Done (Some t))
+        → CheckStep b w n Whole (board_of x.plan.now.base (record (parts_of x) { states = t'; hands = set x.hands.items w None })) × IsKept plan (record (parts_of x) { states = t'; hands = set x.hands.items w None })
+    whole_here past t' moved =
+        let q : Parts = record (parts_of x) { states = t'; hands = set x.hands.items w None } in (
+          step_shown Whole q (whole_returns plan (parts_of x) kept w n notes answer t i compares past q moved refl refl refl refl refl),
+          whole_kept plan (parts_of x) kept w n notes answer t i compares past q moved refl refl refl refl refl,
+        )
+
+    -- one more name is that of the visible entry
+    pub same_here : (note : Note) → slice_get notes i ≡ Some note → IsNow (row_at b) n note → (t' : States) → t' ≡ moves.moved x.attempts n (states.Checking w t (i + 1))
+        → CheckStep b w n Same (board_of x.plan.now.base (record (parts_of x) { states = t'; hands = set x.hands.items w (Some n) })) × IsKept plan (record (parts_of x) { states = t'; hands = set x.hands.items w (Some n) })
+    same_here note there now t' moved =
+        let q : Parts = record (parts_of x) { states = t'; hands = set x.hands.items w (Some n) } in
+        let now_is = subst (λ (y : Board). IsNow (row_at y) n note) (sym is) now in (
+          step_shown Same q (same_returns plan (parts_of x) kept w n notes answer t i compares note there now_is q moved refl refl refl refl refl),
+          same_kept plan (parts_of x) kept w n notes answer t i compares note there now_is q moved refl refl refl refl refl,
+        )
+
+  -- the name of a note is another: the line waits again
+  module _ (i : ℕ) (noted : Name) (now : Found) (o : IsOther b w n i noted now) where
+    pub other_line : IsLine (board_of plan.base (parts_of x)) n
+    other_line = line_here o.0 o.1 o.2 i o.3
+
+    pub other_live : IsSomeAnd (state_at x.attempts n) (λ s. is_live s ≡ true)
+    other_live = live_here o.0 o.1 o.2 i o.3
+
+    pub other_hand : w < length x.hands.items
+    other_hand = hand_here o.0 o.1 o.2 i o.3
+
+    differs : Differs (board_of plan.base (parts_of x)) n o.0 i o.4 noted now
+    differs = subst (λ (y : Board). Differs y n o.0 i o.4 noted now) (sym is) o.5
+
+    -- the key of that note
+    pub other_key : (spot : LineRow J) → kept_at (parts_of x) n ≡ row_shown spot → (y : Option Key) → y ≡ option_map (λ (m : Noted). m.key) (slice_get spot.notes i) → y ≡ Some o.4
+    other_key spot was y is_key =
+        is_key ∙ ap (λ (k : Kept). option_map (λ (m : Noted). m.key) (slice_get k.notes i)) (sym was)
+        ∙ key_there plan (parts_of x) kept w n o.0 o.1 o.2 i (compares o.0 o.1 o.2 i o.3) o.4 noted now differs
+
+    module _ (key : Key) (key_is : Some key ≡ Some o.4) (k : Kept) (rows : List Kept) (rows_is : rows ≡ set (parts_of x).rows (n - x.attempts.first) k) (t' : States) (failed : t' ≡ moves.failed x.attempts n) where
+      keyed : (q : Parts) → CheckStep (board_of plan.base (parts_of x)) w n (Changed o.4 noted now) (board_of plan.base q) → CheckStep b w n (Changed key noted now) (board_of x.plan.now.base q)
+      keyed q step = subst (λ (y : Key). CheckStep b w n (Changed y noted now) (board_of x.plan.now.base q)) (sym (same_Some key o.4 key_is)) (step_shown (Changed o.4 noted now) q step)
+
+      pub none_here : HasNone (row_at b n) → k.changed ≡ (kept_at (parts_of x) n).changed
+          → CheckStep b w n (Changed key noted now) (board_of x.plan.now.base (record (parts_of x) { states = t'; rows = rows; hands = set x.hands.items w None }))
+          × IsKept plan (record (parts_of x) { states = t'; rows = rows; hands = set x.hands.items w None })
+      none_here none changed_is =
+          let q : Parts = record (parts_of x) { states = t'; rows = rows; hands = set x.hands.items w None } in
+          let back = none_back plan (parts_of x) kept w n o.0 o.1 o.2 i (compares o.0 o.1 o.2 i o.3) o.4 noted now differs q k failed rows_is refl refl (subst (λ (y : Board). HasNone (row_at y n)) (sym is) none) refl changed_is refl in
+          (keyed q back.0, back.1)
+
+      pub some_here : (HasNone (row_at b n) → ⊥) → HasRoom (board_of plan.base (parts_of x)) → (s : store.Store) → s ≡ store.with_line x.entries n (store.suspected (store.line_at x.entries n)) → k.changed ≡ x.clock + 1
+          → CheckStep b w n (Changed key noted now) (board_of x.plan.now.base (record (parts_of x) { states = t'; store = s; rows = rows; hands = set x.hands.items w None; clock = x.clock + 1 }))
+          × IsKept plan (record (parts_of x) { states = t'; store = s; rows = rows; hands = set x.hands.items w None; clock = x.clock + 1 })
+      some_here some room s store_is changed_is =
+          let q : Parts = record (parts_of x) { states = t'; store = s; rows = rows; hands = set x.hands.items w None; clock = x.clock + 1 } in
+          let back = some_back plan (parts_of x) kept w n o.0 o.1 o.2 i (compares o.0 o.1 o.2 i o.3) o.4 noted now differs q k failed rows_is refl refl (λ h. some (subst (λ (y : Board). HasNone (row_at y n)) is h)) room store_is changed_is refl in
+          (keyed q back.0, back.1)

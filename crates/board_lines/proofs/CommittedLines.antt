@@ -1,25 +1,26 @@
 -- What a board gives of a committed line, and the record that is seen past the last.
-use Rattle.std.proofs.Common.{◌≡◌, ℕ, ◌-◌, List, Option, Some, None, get_or, refl, sym, ap, subst, ◌∙◌, arith, false}
-use Rattle.std.specs.Option.{option_and_then}
+use Rattle.std.proofs.Common.{◌≡◌, ℕ, suc, ◌-◌, ◌≤◌, List, Option, Some, None, refl, sym, ap, subst, ◌∙◌, arith, false}
 use Rattle.std.specs.Prelude.{option_map}
-use Rattle.std.proofs.lemmas.Option.{slice_get-get_or}
 use Rattle.circ_records.specs.Records.{Entries, record_at}
 use Rattle.circ_records.specs.declared.key.Key.{Key}
 use Rattle.read_set.specs.Plans.{Planned}
 use Rattle.read_set.specs.Settling.{Contents}
 use Rattle.read_set.specs.declared.notes.Note.{Note}
-use Rattle.attempts.specs.Moves.{no_row}
-use Rattle.attempts.specs.States.{is_waiting, newest_at, newest_of}
+use Rattle.attempts.specs.States.{IsNumbered, is_waiting, row_at as row_in}
+use Rattle.attempts.specs.declared.table.AttemptRow.{AttemptRow}
 use Rattle.attempts.specs.declared.state.LineState.{LineState}
 use Rattle.attempts.specs.declared.state.LineState.TheVariants as states
 use Rattle.version_store.specs.Entries as store
 use Rattle.version_store.specs.Entries.{Shown}
-use Rattle.board_steps.specs.Board.{Board, IsCommitted, IsLine, record_of, row_at, value_at}
+use Rattle.board_steps.specs.Board.{Board, IsCommitted, IsLine, holder, record_of, row_at, value_at}
 use Rattle.board_steps.proofs.Lines.{within_board}
-use Rattle.board_lines.specs.Notes.{found_by}
-use Rattle.board_lines.specs.Parts.{IsKept, Parts, board_of, state_of}
-use Rattle.board_lines.proofs.Boards.{place_of}
-use Rattle.board_lines.proofs.Rows.{newest_from, newest_if, state_shown}
+use Rattle.board_lines.specs.Notes.{found_by, notes_by}
+use Rattle.board_lines.specs.Parts.{IsKept, Parts, board_of, kept_at, state_of}
+use Rattle.board_lines.specs.declared.lines.Lines.TheInside.{Inside}
+use Rattle.board_lines.proofs.Boards.{board_shown, parts_of}
+use Rattle.board_lines.proofs.Commits.{line_there, state_there}
+use Rattle.board_lines.proofs.Moves.{state_told}
+use Rattle.board_lines.proofs.Rows.{held_waits, next_shown}
 use Rattle.board_lines.proofs.Sights.{entry_seen}
 
 committed_waits : (s : LineState) (notes : List Note) (contents : Option Contents) → IsCommitted (state_of s notes contents) → is_waiting s ≡ false
@@ -40,19 +41,27 @@ contents_record base k None = refl
 contents_record base k (Some p) = refl
 
 module _ (plan : Planned) (a : Parts) (kept : IsKept plan a) where
-  -- a committed line has an attempt
-  pub newest_committed : (n : ℕ) → IsCommitted (row_at (board_of plan.base a) n).state → newest_at a.states n ≡ None → ⊥
-  newest_committed n committed h =
-      let there : IsLine (board_of plan.base a) n = committed_there (board_of plan.base a) n committed in
-      let within = place_of plan.base a n there in
-      newest_if (is_waiting (get_or a.states.rows (n - a.states.first) no_row).state) _
-      (committed_waits (get_or a.states.rows (n - a.states.first) no_row).state _ _ (subst IsCommitted (state_shown plan a kept n there) committed))
-      (ap (option_and_then newest_of) (sym (slice_get-get_or a.states.rows (n - a.states.first) no_row (omega (arith, within, kept.all_states))))
-      ∙ sym (newest_from a.states n there.0) ∙ h)
-
   -- the record that line n sees, by the version that the store shows it
   pub value_shown : (n : ℕ) (k : Key) (o : Option Contents) → o ≡ option_map (λ (p : ℕ × Shown). p.1.contents) (store.visible (store.line_at a.store) n k) → found_by plan.base k o ≡ value_at plan (row_at (board_of plan.base a)) n k
   value_shown n k o is =
       ap (found_by plan.base k) is
       ∙ contents_record plan.base k (store.visible (store.line_at a.store) n k)
       ∙ sym (ap (λ (v : Option (ℕ × Shown)). record_of k v (record_at plan.base k)) (entry_seen plan a kept n k))
+
+-- the newest attempt of a line that doesn't wait, by its row
+module _ {J : Type 0} (x : Inside J) (plan : Planned) (same : x.plan.now ≡ plan) (kept : IsKept plan (parts_of x)) (b : Board) (view : board_of x.plan.now.base (parts_of x) ≡ b)
+    (n : ℕ) (r : AttemptRow) (is : Some r ≡ row_in x.attempts n) (numbered : IsNumbered r) where
+  told : (row_at b n).state ≡ state_of r.state (notes_by plan.base (kept_at (parts_of x) n).notes) (kept_at (parts_of x) n).contents
+  told = ap (λ (y : Board). (row_at y n).state) (sym (board_shown x plan b same view)) ∙ state_there plan (parts_of x) kept n r.state (state_told _ _ _ is)
+
+  one_more : is_waiting r.state ≡ false → (1 ≤ r.next) × (suc (r.next - 1) ≡ (row_at b n).next)
+  one_more waits =
+      let one = numbered.begun waits in
+      let next = next_shown plan (parts_of x) kept n (line_there plan (parts_of x) kept n r.state (state_told _ _ _ is)) r.next (sym (ap (option_map (λ (y : AttemptRow). y.next)) is)) in
+      (one, omega (arith, one, next, ap (λ (y : Board). (row_at y n).next) (board_shown x plan b same view)))
+
+  pub begun_held : (w : ℕ) → holder (row_at b n).state ≡ Some w → (1 ≤ r.next) × (suc (r.next - 1) ≡ (row_at b n).next)
+  begun_held w h = one_more (held_waits r.state _ _ w (sym (ap holder told) ∙ h))
+
+  pub begun_committed : IsCommitted (row_at b n).state → (1 ≤ r.next) × (suc (r.next - 1) ≡ (row_at b n).next)
+  begun_committed h = one_more (committed_waits r.state _ _ (subst IsCommitted told h))

@@ -7,7 +7,7 @@ use Rattle.circ_records.specs.Records.{Entries}
 use Rattle.read_set.specs.Settling.{Contents}
 use Rattle.read_set.specs.declared.notes.Note.{Note}
 use Rattle.attempts.specs.Moves.{no_row}
-use Rattle.attempts.specs.States.{States, state_at, next_at}
+use Rattle.attempts.specs.States.{States, row_at as row_in, state_at, next_at}
 use Rattle.attempts.specs.declared.state.LineState.{LineState}
 use Rattle.attempts.specs.declared.state.LineState.TheVariants as states
 use Rattle.attempts.specs.declared.table.AttemptRow as attempt
@@ -35,6 +35,13 @@ state_is t n s h = elim (cases_lt n t.first) [
   | inl before ↦ absurd (none-some s (sym (state_before t n before) ∙ h))
   | inr from ↦ (let r = state_read t.rows (n - t.first) _ s refl (sym (state_from t n from) ∙ h) in (from, r.0, r.1))
 ]
+
+-- by its row
+pub state_told : (t : States) (n : ℕ) (r : attempt.AttemptRow) → Some r ≡ row_in t n → state_at t n ≡ Some r.state
+state_told t n r is = sym (ap (option_map (λ (x : attempt.AttemptRow). x.state)) is)
+
+pub state_lacks : (t : States) (n : ℕ) → None ≡ row_in t n → state_at t n ≡ None
+state_lacks t n is = sym (ap (option_map (λ (x : attempt.AttemptRow). x.state)) is)
 
 -- the next attempt of a line
 next_before : (t : States) (n : ℕ) → n < t.first → next_at t n ≡ None

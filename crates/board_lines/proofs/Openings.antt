@@ -89,6 +89,20 @@ module _ (plan : Planned) (workers number clock : ℕ) (q : Parts)
     attained = inl latest_is;
   }
 
+-- the same, by what the code has of the plan
+pub opening_here : (plan now : Planned) (workers number clock lines first second : ℕ) (q : Parts) → now ≡ plan → lines ≡ length now.readings → first ≡ now.first → second ≡ now.first
+    → q.states ≡ all_waiting first lines number → q.store ≡ store.none_placed second lines → q.rows ≡ replicate lines no_notes → q.hands ≡ replicate workers None → q.clock ≡ clock → q.latest ≡ 0
+    → IsKept plan q × (board_of now.base q ≡ opening plan workers number clock)
+opening_here plan now workers number clock lines first second q named many from from_too states_is store_is rows_is hands_is clock_is latest_is =
+    let count : lines ≡ length plan.readings = many ∙ ap (λ (x : Planned). length x.readings) named in
+    let f = ap (λ (x : Planned). x.first) named in
+    let s = states_is ∙ ap (λ x. all_waiting x lines number) (from ∙ f) ∙ ap (λ x. all_waiting plan.first x number) count in
+    let t = store_is ∙ ap (λ x. store.none_placed x lines) (from_too ∙ f) ∙ ap (λ x. store.none_placed plan.first x) count in
+    let r = rows_is ∙ ap (λ x. replicate x no_notes) count in (
+      opening_kept plan workers number clock q s t r hands_is clock_is latest_is,
+      ap (λ (x : Planned). board_of x.base q) named ∙ opening_board plan workers number clock q s t r hands_is clock_is latest_is,
+    )
+
 -- one more row that shows no notes
 replicate_more : {X : Type 0} (i : ℕ) (x : X) → replicate i x ++ x ∷ [] ≡ replicate (suc i) x
 replicate_more zero x = refl

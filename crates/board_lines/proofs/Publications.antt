@@ -18,6 +18,7 @@ use Rattle.attempts.specs.declared.state.LineState.TheVariants as states
 use Rattle.attempts.specs.declared.table.AttemptRow as attempt
 use Rattle.version_store.specs.Entries as store
 use Rattle.version_store.specs.Entries.{shown_by}
+use Rattle.version_store.specs.declared.table.Place.{Place}
 use Rattle.version_store.proofs.Sights.{line_from, put_is}
 use Rattle.version_store.proofs.Walks.{Rising}
 use Rattle.board_steps.specs.Board.{State, Row, Board, IsLine, IsCommitted, row_at, holder}
@@ -28,12 +29,14 @@ use Rattle.board_steps.proofs.Steps.{publish_step}
 use Rattle.board_lines.specs.Acts.{IsAct, notes_at}
 use Rattle.board_lines.specs.Notes.{notes_by}
 use Rattle.board_lines.specs.Courses.{ComesTo, FirstPlaced, FirstPlacedBut, IsUnderWay, UnderWay}
-use Rattle.board_lines.specs.Parts.{Kept, Parts, no_notes, row_with, row_by, state_of, board_of, kept_at, HandsHold, IsKept}
+use Rattle.board_lines.specs.Parts.{Kept, Parts, no_notes, row_with, row_by, row_shown, state_of, board_of, kept_at, HandsHold, IsKept}
+use Rattle.board_lines.specs.declared.lines.Lines.TheInside.{Inside}
+use Rattle.board_lines.specs.declared.row.LineRow.{LineRow}
 use Rattle.board_lines.specs.declared.row.LineProgress.{LineProgress}
 use Rattle.board_lines.specs.Hands.{notes_of}
 use Rattle.board_lines.specs.declared.acts.PublishAct.{PublishAct}
 use Rattle.board_lines.specs.declared.acts.PublishAct.TheVariants as acts
-use Rattle.board_lines.proofs.Boards.{Puts, place_of, row_there, board_is, row_new, row_old, kept_put}
+use Rattle.board_lines.proofs.Boards.{Puts, board_shown, parts_of, place_of, row_there, board_is, row_new, row_old, kept_put}
 use Rattle.board_lines.proofs.Hands.{hand_same, hand_put}
 use Rattle.board_lines.proofs.Moves.{running_state, placing_state, puts_of, board_eq}
 use Rattle.board_lines.proofs.Rows.{held_there}
@@ -265,9 +268,8 @@ act_left r v (acts.Lift k) h not all none = h.1.left.2 (none k.now h.1.left.0 h.
 act_left r v acts.Finish h not all none = not refl
 
 -- the act of a line's entries is that of the line on the board
-pub act_shown : (r : Row) (l : store.Line) (t v : Contents) (act : PublishAct) → r.entries ≡ l → t ≡ v → ((x : Row) → x.entries ≡ l → IsAct x t act) → ComesTo l t act → IsAct r v act × ComesTo r.entries v act
-act_shown r l t v act e is acts comes =
-    (subst (λ (x : Contents). IsAct r x act) is (acts r e), subst (λ (x : store.Line). ComesTo x v act) (sym e) (subst (λ (x : Contents). ComesTo l x act) is comes))
+pub act_shown : (r : Row) (l : store.Line) (v : Contents) (act : PublishAct) → r.entries ≡ l → ((x : Row) → x.entries ≡ l → IsAct x v act) → ComesTo l v act → IsAct r v act × ComesTo r.entries v act
+act_shown r l v act e acts comes = (acts r e, subst (λ (x : store.Line). ComesTo x v act) (sym e) comes)
 
 -- ---- whether a version fits
 pub not_fits : (b : Board) (n : ℕ) (notes : List Note) (v : Contents) (a : ℕ) → suc a ≡ (row_at b n).next → ((v.line ≡ n) × (v.attempt ≡ a) → ⊥) → Decides false (Fits b n notes v)
@@ -292,3 +294,90 @@ more_fits b w n notes v come here under = record {
   same_attempt = under.same_attempt;
   same_notes = under.same_notes ∙ more_notes b w n notes v here;
 }
+
+-- ---- the same on the board that a value shows
+module _ {J : Type 0} (x : Inside J) (plan : Planned) (same : x.plan.now ≡ plan) (kept : IsKept plan (parts_of x)) (b : Board) (view : board_of x.plan.now.base (parts_of x) ≡ b)
+    (w n : ℕ) (may : MayPublish b w n (notes_at b n)) (place : Place J) where
+  is : board_of plan.base (parts_of x) ≡ b
+  is = board_shown x plan b same view
+
+  may_is : MayPublish (board_of plan.base (parts_of x)) w n (notes_at (board_of plan.base (parts_of x)) n)
+  may_is = subst (λ (y : Board). MayPublish y w n (notes_at y n)) (sym is) may
+
+  pub line_here : IsLine (board_of plan.base (parts_of x)) n
+  line_here = act_line plan (parts_of x) kept w n _ may_is place.version.now
+
+  pub live_here : IsSomeAnd (state_at x.attempts n) (λ s. is_live s ≡ true)
+  live_here = live_there plan (parts_of x) kept n line_here w _ may_is
+
+  pub store_here : store.IsLine x.entries n
+  store_here = store_line plan (parts_of x) kept n line_here
+
+  pub hand_here : w < length x.hands.items
+  hand_here = slice_get_within x.hands.items w (Some n) ((kept.hand w n).1 (act_held plan (parts_of x) kept w n _ may_is place.version.now))
+
+  module _ (fits : Fits b n (notes_at b n) place.version.now) (version : IsVersion plan place.version.now) (spot : LineRow J) (was : kept_at (parts_of x) n ≡ row_shown spot) (rows : List Kept) (t : States) where
+    fits_is : Fits (board_of plan.base (parts_of x)) n (notes_at (board_of plan.base (parts_of x)) n) place.version.now
+    fits_is = subst (λ (y : Board). Fits y n (notes_at y n) place.version.now) (sym is) fits
+
+    -- all is published
+    pub done_here : rows ≡ set (parts_of x).rows (n - x.attempts.first) (record (row_shown spot) { contents = Some place.version.now }) → t ≡ moved x.attempts n (states.Done None)
+        → AllPlaced (row_at b n) place.version.now → NoneLeft (row_at b n) place.version.now
+        → (board_of x.plan.now.base (record (parts_of x) { states = t; rows = rows; hands = set x.hands.items w None }) ≡ put_row b n (with_state (row_at b n) (Done (notes_at b n) place.version.now.answer None)))
+        × IsKept plan (record (parts_of x) { states = t; rows = rows; hands = set x.hands.items w None })
+    done_here rows_is moves all none =
+        let v = place.version.now in
+        let q : Parts = record (parts_of x) { states = t; rows = rows; hands = set x.hands.items w None } in
+        let k : Kept = record (row_shown spot) { contents = Some v } in
+        let k_is = ap (λ (y : Kept). record y { contents = Some v }) (sym was) in (
+          subst (λ (y : Board). board_of x.plan.now.base q ≡ put_row y n (with_state (row_at y n) (Done (notes_at y n) v.answer None))) is
+              (ap (λ (y : Planned). board_of y.base q) same ∙ done_board plan (parts_of x) kept w n _ may_is v q k moves refl rows_is k_is refl refl refl),
+          done_kept plan (parts_of x) kept w n _ may_is v q k moves refl rows_is k_is refl refl refl fits_is version
+              (subst (λ (y : Board). AllPlaced (row_at y n) v) (sym is) all) (subst (λ (y : Board). NoneLeft (row_at y n) v) (sym is) none),
+        )
+
+    -- an entry is placed or lifted, and the clock is raised
+    module _ (come : LineProgress) (rows_is : rows ≡ set (parts_of x).rows (n - x.attempts.first) (record { notes = spot.notes; contents = Some place.version.now; course = come; changed = x.clock + 1 }))
+        (moves : t ≡ moved x.attempts n (states.Placing w)) (room : HasRoom b) (s : store.Store) (key : Key) where
+      room_is : HasRoom (board_of plan.base (parts_of x))
+      room_is = subst HasRoom (sym is) room
+
+      entries_is : store.line_at x.entries n ≡ (row_at (board_of plan.base (parts_of x)) n).entries
+      entries_is = sym (entries_there plan (parts_of x) kept n line_here)
+
+      pub placed_here : (attempt : ℕ) → attempt ≡ place.version.now.attempt → s ≡ store.with_line x.entries n (insert (store.line_at x.entries n) key (shown_by attempt place.version.now))
+          → (value : Record) × IsNextWrite (row_at b n) place.version.now key value
+          → FirstPlacedBut (row_at b n).entries place.version.now.attempt place.version.now.writes key come.placed
+          → (board_of x.plan.now.base (record (parts_of x) { states = t; store = s; rows = rows; clock = x.clock + 1 }) ≡ placed b w n (notes_at b n) place.version.now key)
+          × IsKept plan (record (parts_of x) { states = t; store = s; rows = rows; clock = x.clock + 1 })
+      placed_here attempt attempt_is store_is next but =
+          let v = place.version.now in
+          let q : Parts = record (parts_of x) { states = t; store = s; rows = rows; clock = x.clock + 1 } in
+          let k : Kept = record { notes = spot.notes; contents = Some v; course = come; changed = x.clock + 1 } in
+          let k_is = ap (λ (y : Kept). record { notes = y.notes; contents = Some v; course = come; changed = x.clock + 1 }) (sym was) in
+          let l = insert (store.line_at x.entries n) key (shown_by attempt v) in
+          let l_is : l ≡ insert (row_at (board_of plan.base (parts_of x)) n).entries key (shown_by v.attempt v) =
+          ap (λ y. insert (store.line_at x.entries n) key (shown_by y v)) attempt_is ∙ ap (λ (y : store.Line). insert y key (shown_by v.attempt v)) entries_is in
+          let next_is = subst (λ (y : Board). (value : Record) × IsNextWrite (row_at y n) v key value) (sym is) next in (
+            subst (λ (y : Board). board_of x.plan.now.base q ≡ placed y w n (notes_at y n) v key) is
+                (ap (λ (y : Planned). board_of y.base q) same ∙ placed_board plan (parts_of x) kept w n _ may_is v q l k come moves store_is rows_is k_is refl refl refl key fits_is version room_is next_is l_is),
+            placed_kept_here plan (parts_of x) kept w n _ may_is v q l k come moves store_is rows_is k_is refl refl refl key fits_is version room_is next_is l_is
+                (subst (λ (y : Board). FirstPlacedBut (row_at y n).entries v.attempt v.writes key come.placed) (sym is) but),
+          )
+
+      pub lifted_here : s ≡ store.with_line x.entries n (remove (store.line_at x.entries n) key) → AllPlaced (row_at b n) place.version.now → IsNextLeft (row_at b n) place.version.now key → Rising place.version.now.writes
+          → (board_of x.plan.now.base (record (parts_of x) { states = t; store = s; rows = rows; clock = x.clock + 1 }) ≡ lifted b w n (notes_at b n) place.version.now key)
+          × IsKept plan (record (parts_of x) { states = t; store = s; rows = rows; clock = x.clock + 1 })
+      lifted_here store_is all next up =
+          let v = place.version.now in
+          let q : Parts = record (parts_of x) { states = t; store = s; rows = rows; clock = x.clock + 1 } in
+          let k : Kept = record { notes = spot.notes; contents = Some v; course = come; changed = x.clock + 1 } in
+          let k_is = ap (λ (y : Kept). record { notes = y.notes; contents = Some v; course = come; changed = x.clock + 1 }) (sym was) in
+          let l = remove (store.line_at x.entries n) key in
+          let l_is = ap (λ (y : store.Line). remove y key) entries_is in
+          let all_is = subst (λ (y : Board). AllPlaced (row_at y n) v) (sym is) all in
+          let next_is = subst (λ (y : Board). IsNextLeft (row_at y n) v key) (sym is) next in (
+            subst (λ (y : Board). board_of x.plan.now.base q ≡ lifted y w n (notes_at y n) v key) is
+                (ap (λ (y : Planned). board_of y.base q) same ∙ lifted_board plan (parts_of x) kept w n _ may_is v q l k come moves store_is rows_is k_is refl refl refl key fits_is version room_is all_is next_is l_is),
+            lifted_kept_here plan (parts_of x) kept w n _ may_is v q l k come moves store_is rows_is k_is refl refl refl key fits_is version room_is all_is next_is l_is up,
+          )

@@ -1,7 +1,6 @@
 -- What the fields say of a line that is on the board.
 use Rattle.std.proofs.Common.{◌≡◌, ℕ, ◌-◌, ◌<◌, ◌≤◌, Bool, true, false, List, Option, Some, None, length, get_or, slice_get, refl, sym, ap, subst, ◌∙◌, inl, inr, arith}
-use Rattle.std.specs.Prelude.{option_map, if◌then◌else◌, IsSomeAnd}
-use Rattle.std.specs.Option.{option_and_then}
+use Rattle.std.specs.Prelude.{option_map, IsSomeAnd}
 use Rattle.std.proofs.lemmas.Bool.{cases_lt, lt-ltb, le-ltb}
 use Rattle.std.proofs.lemmas.List.{get_or_past}
 use Rattle.std.proofs.lemmas.Option.{none-some, slice_get-get_or}
@@ -9,7 +8,7 @@ use Rattle.read_set.specs.Plans.{Planned}
 use Rattle.read_set.specs.Settling.{Contents}
 use Rattle.read_set.specs.declared.notes.Note.{Note}
 use Rattle.attempts.specs.Moves.{no_row}
-use Rattle.attempts.specs.States.{States, state_at, next_at, newest_at, newest_of, is_live, is_waiting}
+use Rattle.attempts.specs.States.{States, state_at, next_at, is_live, is_waiting}
 use Rattle.attempts.specs.declared.state.LineState.{LineState}
 use Rattle.attempts.specs.declared.state.LineState.TheVariants as states
 use Rattle.attempts.specs.declared.table.AttemptRow as attempt
@@ -63,13 +62,6 @@ held_notes (states.Done t) notes contents w h = refl
 held_notes (states.Checking v t i) notes contents w h = refl
 held_notes states.Committed notes contents w h = absurd (none-some w h)
 
-pub newest_from : (t : States) (n : ℕ) → t.first ≤ n → newest_at t n ≡ option_and_then newest_of (slice_get t.rows (n - t.first))
-newest_from t n l = rw (le-ltb n t.first l) refl
-
-pub newest_if : (b : Bool) (x : ℕ) → b ≡ false → if b then None else Some x ≡ None → ⊥
-newest_if true x e h = cc
-newest_if false x e h = cc
-
 is_some_and : (o : Option LineState) (s : LineState) (P : LineState → Type 0) → o ≡ Some s → P s → IsSomeAnd o P
 is_some_and o s P e h = subst (λ x. IsSomeAnd x P) (sym e) h
 
@@ -120,15 +112,6 @@ module _ (plan : Planned) (a : Parts) (kept : IsKept plan a) where
     pub next_shown : (x : ℕ) → next_at a.states n ≡ Some x → (row_at (board_of plan.base a) n).next ≡ x
     next_shown x h = ap (λ (y : Row). y.next) (row_there plan.base a n there) ∙ next_is a.states n x h
 
-    -- an attempt of a line in hand has a number
-    pub newest_held : (w : ℕ) → holder (row_at (board_of plan.base a) n).state ≡ Some w → newest_at a.states n ≡ None → ⊥
-    newest_held w held h =
-        let within = place_of plan.base a n there in
-        newest_if (is_waiting (get_or a.states.rows (n - a.states.first) no_row).state) _
-        (held_waits (get_or a.states.rows (n - a.states.first) no_row).state _ _ w (sym (ap holder state_shown) ∙ held))
-        (ap (option_and_then newest_of) (sym (slice_get-get_or a.states.rows (n - a.states.first) no_row (omega (arith, within, kept.all_states))))
-        ∙ sym (newest_from a.states n there.0) ∙ h)
-
     -- an attempt goes on, in the table too
     pub live_stands : live_of (row_at (board_of plan.base a) n).state ≡ 1 → IsSomeAnd (state_at a.states n) (λ s. is_live s ≡ true)
     live_stands h = is_some_and (state_at a.states n) (get_or a.states.rows (n - a.states.first) no_row).state (λ s. is_live s ≡ true) state_stands
@@ -145,3 +128,7 @@ module _ (plan : Planned) (a : Parts) (kept : IsKept plan a) where
 -- the entries of a line on the board that a value shows are those of its store
 pub entries_shown : {J : Type 0} (a : Inside J) (plan : Planned) (b : Board) → a.plan.now ≡ plan → IsKept plan (parts_of a) → board_of a.plan.now.base (parts_of a) ≡ b → (n : ℕ) → (row_at b n).entries ≡ store.line_at a.entries n
 entries_shown a plan b same kept view n = ap (λ (x : Board). (row_at x n).entries) (sym (board_shown a plan b same view)) ∙ entries_at plan (parts_of a) kept n
+
+-- a line of that board is one of the fields'
+pub line_shown : {J : Type 0} (a : Inside J) (plan : Planned) (same : a.plan.now ≡ plan) (kept : IsKept plan (parts_of a)) (b : Board) (view : board_of a.plan.now.base (parts_of a) ≡ b) (n : ℕ) → IsLine b n → IsLine (board_of plan.base (parts_of a)) n
+line_shown a plan same kept b view n there = subst (λ (x : Board). IsLine x n) (sym (board_shown a plan b same view)) there

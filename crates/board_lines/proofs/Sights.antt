@@ -9,31 +9,32 @@ use Rattle.circ_records.specs.Records.{Entries, record_at}
 use Rattle.circ_records.specs.declared.key.Key.{Key}
 use Rattle.circ_records.specs.declared.record.Record.{Record}
 use Rattle.read_set.specs.Plans.{Planned}
+use Rattle.read_set.specs.declared.notes.Name.{Name}
 use Rattle.read_set.specs.declared.notes.Name.TheVariants.{Base, Made}
 use Rattle.read_set.specs.declared.notes.Note.{Note}
 use Rattle.version_store.specs.Entries as store
 use Rattle.version_store.specs.Entries.{Shown, found_of, found_at, visible}
 use Rattle.version_store.specs.declared.entry.Found.TheVariants.{Named, Suspect}
+use Rattle.version_store.specs.declared.table.Place.{Place}
 use Rattle.board_steps.specs.Board.{Row, EachNote, row_at, found, record_of, seen_entry, value_at}
 use Rattle.board_steps.specs.Steps.{HasNone}
 use Rattle.board_steps.proofs.Entries.{same_keys}
 use Rattle.board_lines.specs.Notes.{Noted, found_by, is_noted, IsPlaced, key_and_name, note_by, notes_by, note_with, contents_at}
 use Rattle.board_lines.specs.Parts.{Parts, board_of, IsKept}
 use Rattle.board_lines.specs.Sights.{IsNameOf}
-use Rattle.board_lines.specs.declared.notes.PlacedName.{PlacedName}
 use Rattle.board_lines.proofs.Rows.{entries_at}
 
 -- ---- names and records of what is seen
-pub sight_named : {J : Type 0} (base : Entries) (k : Key) (o : Option (ℕ × Shown)) (x : PlacedName J)
-    → IsNameOf o x → (found_of o ≡ Named x.name) × (found_by base k (option_map contents_at x.place) ≡ record_of k o (record_at base k))
-sight_named base k None x h = (ap Named (sym h.0), ap (λ p. found_by base k (option_map contents_at p)) h.1)
-sight_named base k (Some p) x h =
+pub sight_named : {J : Type 0} (base : Entries) (k : Key) (o : Option (ℕ × Shown)) (name : Name) (place : Option (Place J))
+    → IsNameOf o name place → (found_of o ≡ Named name) × (found_by base k (option_map contents_at place) ≡ record_of k o (record_at base k))
+sight_named base k None name place h = (ap Named (sym h.0), ap (λ p. found_by base k (option_map contents_at p)) h.1)
+sight_named base k (Some p) name place h =
     (ap (λ (b : Bool). if b then Suspect p.0 else Named (Made p.1.attempt p.0)) h.0 ∙ ap Named (sym h.1), ap (found_by base k) h.2)
 
 -- what is seen has no place just where it is the base's
-pub sight_placed : {J : Type 0} (k : Key) (o : Option (ℕ × Shown)) (x : PlacedName J) → IsNameOf o x → IsPlaced (note_with k x)
-sight_placed k None x h = (λ e. ap (option_map contents_at) h.1, λ e. h.0)
-sight_placed k (Some p) x h = (
+pub sight_placed : {J : Type 0} (k : Key) (o : Option (ℕ × Shown)) (name : Name) (place : Option (Place J)) → IsNameOf o name place → IsPlaced (note_with k name place)
+sight_placed k None name place h = (λ e. ap (option_map contents_at) h.1, λ e. h.0)
+sight_placed k (Some p) name place h = (
   λ e. absurd (let z : Made p.1.attempt p.0 ≡ Base = sym h.1 ∙ e in cc),
   λ e. absurd (none-some p.1.contents (sym e ∙ h.2)),
 )
@@ -50,10 +51,10 @@ module _ (plan : Planned) (a : Parts) (kept : IsKept plan a) where
   found_seen n k = ap found_of (entry_seen n k)
 
   -- what was seen has its name and its record on the board
-  pub named_seen : {J : Type 0} (n : ℕ) (k : Key) (x : PlacedName J) → IsNameOf (visible (store.line_at a.store) n k) x
-      → (found (row_at (board_of plan.base a)) n k ≡ Named x.name) × (found_by plan.base k (option_map contents_at x.place) ≡ value_at plan (row_at (board_of plan.base a)) n k)
-  named_seen n k x h =
-      let r = sight_named plan.base k (visible (store.line_at a.store) n k) x h in (
+  pub named_seen : {J : Type 0} (n : ℕ) (k : Key) (name : Name) (place : Option (Place J)) → IsNameOf (visible (store.line_at a.store) n k) name place
+      → (found (row_at (board_of plan.base a)) n k ≡ Named name) × (found_by plan.base k (option_map contents_at place) ≡ value_at plan (row_at (board_of plan.base a)) n k)
+  named_seen n k name place h =
+      let r = sight_named plan.base k (visible (store.line_at a.store) n k) name place h in (
         found_seen n k ∙ r.0,
         r.1 ∙ sym (ap (λ (o : Option (ℕ × Shown)). record_of k o (record_at plan.base k)) (entry_seen n k)),
       )
@@ -103,9 +104,9 @@ notes_past base [] i h = refl
 notes_past base (n ∷ ns) zero h = absurd (omega (arith, h))
 notes_past base (n ∷ ns) (suc i) h = notes_past base ns i (omega (arith, h))
 
-pub note_is : {J : Type 0} (base : Entries) (k : Key) (seen : PlacedName J) (v : Option Record) → found_by base k (option_map contents_at seen.place) ≡ v
-    → note_by base (note_with k seen) ≡ record { key = k; name = seen.name; found = v }
-note_is base k seen v h = ap (λ (x : Option Record). record { key = k; name = seen.name; found = x }) h
+pub note_is : {J : Type 0} (base : Entries) (k : Key) (name : Name) (place : Option (Place J)) (v : Option Record) → found_by base k (option_map contents_at place) ≡ v
+    → note_by base (note_with k name place) ≡ record { key = k; name = name; found = v }
+note_is base k name place v h = ap (λ (x : Option Record). record { key = k; name = name; found = x }) h
 
 -- ---- lines without entries
 none_first : {X : Type 0} (es : List X) → slice_get es 0 ≡ None → es ≡ []

@@ -1,5 +1,4 @@
 -- What a line has noted. A record is given by a place: it is what the version there writes; without a place it is the base's.
-use denote.Ref.{Bor}
 use Rattle.std.specs.Prelude.{◌≡◌, ◌↔◌, ◌||◌, ℕ, Bool, false, List, map, slice_get, take, Option, Some, None, option_map}
 use Rattle.std.specs.Global.{Box}
 use Rattle.std.specs.BTreeMap.{is_at}
@@ -16,7 +15,6 @@ use Rattle.read_set.specs.declared.notes.Name.TheVariants as names
 use Rattle.read_set.specs.declared.notes.Note.{Note}
 use Rattle.version_store.specs.declared.table.Place.{Place}
 use Rattle.board_lines.specs.declared.notes.PlaceNote.{PlaceNote}
-use Rattle.board_lines.specs.declared.notes.PlacedName.{PlacedName}
 
 -- a note, with the contents of the version at its place
 pub record Noted : Type 0 where
@@ -27,16 +25,12 @@ pub record Noted : Type 0 where
 abbrev pub contents_at : {J : Type 0} → Place J → Contents
 contents_at place = place.version.now
 
-abbrev pub note_with : {J : Type 0} → Key → PlacedName J → Noted
-note_with key n = record { key = key; name = n.name; contents = option_map contents_at n.place }
-
--- a note, from a borrowed key and what was seen there
-abbrev pub noted_as : {J : Type 0} → Bor Key × PlacedName J → Noted
-noted_as p = note_with p.0.now p.1
+abbrev pub note_with : {J : Type 0} → Key → Name → Option (Place J) → Noted
+note_with key name place = record { key = key; name = name; contents = option_map contents_at place }
 
 -- a note as the code stores it
 abbrev pub noted : {J : Type 0} → PlaceNote J → Noted
-noted n = note_with n.key n.seen
+noted n = note_with n.key n.name n.place
 
 -- the record of a note: the base's, or what the version writes at the key
 abbrev pub found_by : Entries → Key → Option Contents → Option Record

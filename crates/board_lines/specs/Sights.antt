@@ -8,35 +8,25 @@ use Rattle.read_set.specs.declared.notes.Note.{Note}
 use Rattle.version_store.specs.Entries.{Shown, shown}
 use Rattle.version_store.specs.declared.entry.StoredEntry.{StoredEntry}
 use Rattle.version_store.specs.declared.entry.Found.{Found}
+use Rattle.version_store.specs.declared.table.Place.{Place}
 use Rattle.board_steps.specs.Board.{Board, found, row_at}
 use Rattle.board_steps.specs.Reached.{IsNow}
 use Rattle.board_steps.specs.Steps.{MayLook, Compares, Differs, stopped}
 use Rattle.board_lines.specs.Notes.{contents_at}
-use Rattle.board_lines.specs.declared.notes.PlacedName.{PlacedName}
 
 -- an entry with its line, from what is stored
 abbrev pub entry_shown : {J : Type 0} → ℕ × StoredEntry J → ℕ × Shown
 entry_shown p = (p.0, shown p.1)
 
 -- the name and the place of the visible entry
-abbrev pub IsNameOf : {J : Type 0} → Option (ℕ × Shown) → PlacedName J → Type 0
-IsNameOf None n = (n.name ≡ names.Base) × (n.place ≡ None)
-IsNameOf (Some p) n = (p.1.suspect ≡ false) × (n.name ≡ names.Made p.1.attempt p.0) × (option_map contents_at n.place ≡ Some p.1.contents)
+abbrev pub IsNameOf : {J : Type 0} → Option (ℕ × Shown) → Name → Option (Place J) → Type 0
+IsNameOf None name place = (name ≡ names.Base) × (place ≡ None)
+IsNameOf (Some p) name place = (p.1.suspect ≡ false) × (name ≡ names.Made p.1.attempt p.0) × (option_map contents_at place ≡ Some p.1.contents)
 
 -- the stamp of the check, and how many notes it has compared
 abbrev pub IsCheck : Board → ℕ → ℕ → Option (ℕ × ℕ) → Type 0
 IsCheck b w n None = (notes : List Note) (answer : Option Answer) (t i : ℕ) → Compares b w n notes answer t i → ⊥
 IsCheck b w n (Some c) = (notes : List Note) × (answer : Option Answer) × Compares b w n notes answer c.0 c.1
-
--- all notes are compared
-abbrev pub IsWhole : Board → ℕ → ℕ → ℕ → Type 0
-IsWhole b w n t = (notes : List Note) × (answer : Option Answer) × (i : ℕ) × Compares b w n notes answer t i × (length notes ≤ i)
-
--- the i-th note is compared, and its name is that of the visible entry
-abbrev pub IsSame : Board → ℕ → ℕ → ℕ → ℕ → Type 0
-IsSame b w n t i =
-    (notes : List Note) × (answer : Option Answer) × Compares b w n notes answer t i
-    × (x : Note) × (slice_get notes i ≡ Some x) × IsNow (row_at b) n x
 
 -- the i-th note is compared, and its name isn't that of the visible entry
 abbrev pub IsOther : Board → ℕ → ℕ → ℕ → Name → Found → Type 0

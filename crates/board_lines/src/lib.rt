@@ -18,6 +18,6 @@ mod same;
 
 pub use hand::Hand;
 pub use lines::Lines;
-pub use notes::{PlaceNotes, PlacedName};
+pub use notes::{PlaceNote, PlaceNotes};
 pub use reading::{copied, read_notes, record_seen};
 pub use reply::Reply;

@@ -1,6 +1,6 @@
 //! The lines of a board: what is stored of each, which worker has it in hand, and how work on a line begins and ends.
 
-ghost use Rattle.std.specs.Prelude.{◌≡◌, IfOk, None, option_copied, slice_get, unwrap_or, ◌≤◌, map, replicate};
+ghost use Rattle.std.specs.Prelude.{◌≡◌, IfOk, None, option_copied, ◌≤◌, map, replicate};
 ghost use Rattle.board_steps.specs.Reached.{Reached};
 ghost use Rattle.board_steps.specs.Steps.{opening};
 ghost use Rattle.board_steps.specs.Steps.Call.{Commit, Take};
@@ -114,10 +114,10 @@ impl<'p, 't, J: PlanName> Lines<'p, 't, J> {
         if hand >= self.hands.len() || self.hands[hand].is_some() {
             return Reply::Idle;
         }
-        let Some(state) = self.attempts.state(line) else {
+        let Some(own) = self.attempts.row(line) else {
             return Reply::Idle;
         };
-        let LineState::Waiting = state else {
+        let LineState::Waiting = own.state else {
             return Reply::Idle;
         };
         let Some(attempt) = self.attempts.take(line, worker) else {
@@ -133,17 +133,17 @@ impl<'p, 't, J: PlanName> Lines<'p, 't, J> {
     pub fn commit(&mut self, line: u64) -> Reply<'t, J>
         ensures { Answers J.plan self.old (Commit line) result self.new }
     {
-        let Some(state) = self.attempts.state(line) else {
+        let Some(own) = self.attempts.row(line) else {
             return Reply::Idle;
         };
-        if let LineState::Committed = state {
+        if let LineState::Committed = own.state {
             return Reply::Idle;
         }
         let position = line - self.plan.first();
         if position != self.attempts.counts().commits {
             return Reply::Later;
         }
-        let LineState::Done { stamp } = state else {
+        let LineState::Done { stamp } = own.state else {
             return Reply::Later;
         };
         let Some(stamp) = stamp else {
@@ -165,7 +165,7 @@ impl<'p, 't, J: PlanName> Lines<'p, 't, J> {
     fn in_hand(&self, worker: u32) -> Option<u64>
         ensures { IsInHand self.now worker result }
     {
-        hand_at(&self.hands, worker)
+        self.hands.get(worker as usize).copied().flatten()
     }
 
     /// The line that a worker has in hand, with its attempt.
@@ -175,10 +175,13 @@ impl<'p, 't, J: PlanName> Lines<'p, 't, J> {
         let Some(line) = self.in_hand(worker) else {
             return None;
         };
-        let Some(attempt) = self.attempts.newest(line) else {
+        let Some(own) = self.attempts.row(line) else {
             return None;
         };
-        Some(Hand { line, attempt })
+        Some(Hand {
+            line,
+            attempt: (own.next - 1) as u32,
+        })
     }
 
     /// What the line that a worker has in hand has noted.
@@ -198,11 +201,11 @@ impl<'p, 't, J: PlanName> Lines<'p, 't, J> {
     fn row(&self, line: u64) -> Option<(LineState, &LineRow<'t, J>)>
         ensures { IsRow J.plan self.now line result }
     {
-        let Some(state) = self.attempts.state(line) else {
+        let Some(own) = self.attempts.row(line) else {
             return None;
         };
         let row = &self.rows[(line - self.plan.first()) as usize];
-        Some((state, row))
+        Some((own.state, row))
     }
 
     /// How many attempts were begun, how many of them failed, stopped or were committed, and how many are unfinished.
@@ -220,28 +223,11 @@ impl<'p, 't, J: PlanName> Lines<'p, 't, J> {
         self.hands.len()
     }
 
-    /// How many lines are committed.
-    pub fn committed(&self) -> u64
-        ensures { result ≡ self.now.committed }
-    {
-        self.attempts.counts().commits
-    }
-
     /// The clock: its first value, and 1 more for each change of an entry.
     pub fn clock(&self) -> u64
         ensures { result ≡ self.now.clock }
     {
         self.clock
-    }
-}
-
-/// The line that a worker has in hand, where it has one.
-fn hand_at(hands: &[Option<u64>], worker: u32) -> Option<u64>
-    ensures { result ≡ unwrap_or (slice_get hands.now worker) None }
-{
-    match hands.get(worker as usize) {
-        Some(hand) => *hand,
-        None => None,
     }
 }
 

@@ -4,7 +4,7 @@ ghost use Rattle.std.specs.Prelude.{◌≡◌, ◌++◌, ◌∷◌, [], None, co
 ghost use Rattle.std.specs.Ordering.{eq_by_cmp};
 ghost use Rattle.circ_records.specs.Keys.{key_cmp};
 ghost use Rattle.circ_records.specs.declared.key.Key.{Key};
-ghost use Rattle.board_lines.specs.Notes.{few, is_indexed, is_key_in, is_noted, note_with, noted, noted_as, AreNoted, AreOnce, ArePlaced, IsPlaced};
+ghost use Rattle.board_lines.specs.Notes.{is_indexed, is_noted, note_with, noted, AreNoted, AreOnce, ArePlaced, IsPlaced};
 
 use circ_records::Key;
 use read_set::{Name, PlanName};
@@ -13,35 +13,20 @@ use std::collections::BTreeSet;
 use std::marker::Model;
 use version_store::Place;
 
-/// The name under which a key was seen, and the place of the version whose record was seen; no place for the base.
-pub struct PlacedName<'t, J: PlanName> {
+/// A note: a key, the name under which it was seen, and the place of the version whose record was seen; no place for the base.
+pub struct PlaceNote<'t, J: PlanName> {
+    pub key: Key,
     pub name: Name,
     pub place: Option<Place<'t, J>>,
 }
 
-impl<'t, J: PlanName> Clone for PlacedName<'t, J> {
-    ghost use Rattle.std.specs.Prelude.{◌≡◌, ⊤};
-
-    ghost is_clone = { λ x y. y ≡ x };
-
-    ghost is_infallible = { λ _. ⊤ };
-
-    fn clone(&self) -> Result<PlacedName<'t, J>, AllocError> {
-        Ok(*self)
-    }
-}
-
-impl<'t, J: PlanName> Copy for PlacedName<'t, J> {}
-
-/// A note: a key, with the name and place of what was seen there.
-struct PlaceNote<'t, J: PlanName> {
-    key: Key,
-    seen: PlacedName<'t, J>,
-}
-
 impl<J: PlanName> Drop for PlaceNote<'_, J> {
     fn drop(self) {
-        let PlaceNote { key: _, seen: _ } = self;
+        let PlaceNote {
+            key: _,
+            name: _,
+            place: _,
+        } = self;
     }
 }
 
@@ -49,7 +34,11 @@ impl<J: PlanName> PlaceNote<'_, J> {
     fn into_key(self) -> Key
         ensures { result ≡ self.entry.key }
     {
-        let PlaceNote { key, seen: _ } = self;
+        let PlaceNote {
+            key,
+            name: _,
+            place: _,
+        } = self;
         key
     }
 }
@@ -89,29 +78,6 @@ impl<'t, J: PlanName> Spare<'t, J> {
     /// No spare memory.
     pub(crate) fn new() -> Spare<'t, J> {
         Spare { held: None }
-    }
-
-    /// Keeps the memory of at most `SCANNED_MAX` notes; the memory of more is freed.
-    fn keep(&mut self, held: Box<NoteList<'t, J>>) {
-        if held.notes.len() <= SCANNED_MAX {
-            self.held = Some(held);
-        }
-    }
-
-    /// Memory for the notes of a line that has none: the spare memory, or new memory for as many notes as most lines have.
-    fn take(&mut self, alloc: Global) -> Result<Box<NoteList<'t, J>>, AllocError>
-        ensures notes { IfOk result (λ held. held.value.notes.items ≡ []) }
-        ensures index { IfOk result (λ held. held.value.index ≡ None) }
-    {
-        if let Some(mut held) = self.held.take() {
-            held.empty();
-            return Ok(held);
-        }
-        let notes = Vec::with_capacity(alloc, FIRST_ROOM)?;
-        match Box::new(alloc, NoteList { notes, index: None }) {
-            Ok(held) => Ok(held),
-            Err(_) => Err(AllocError),
-        }
     }
 }
 
@@ -154,8 +120,15 @@ impl<'t, J: PlanName> PlaceNotes<'t, J> {
     pub fn has(&self, key: &Key) -> bool
         ensures { result ≡ is_noted self.now key.now }
     {
-        match &self.held {
-            Some(held) => is_among(first_few(&held.notes), key) || is_indexed(&held.index, key),
+        let Some(held) = &self.held else {
+            return false;
+        };
+        let few = &held.notes[..held.notes.len().min(SCANNED_MAX)];
+        if few.iter().any(|note| *key == note.key) {
+            return true;
+        }
+        match &held.index {
+            Some(keys) => keys.contains(key),
             None => false,
         }
     }
@@ -167,18 +140,26 @@ impl<'t, J: PlanName> PlaceNotes<'t, J> {
         alloc: Global,
         spare: &mut Spare<'t, J>,
         key: &Key,
-        seen: PlacedName<'t, J>,
+        name: Name,
+        place: Option<Place<'t, J>>,
     ) -> Result<(), AllocError>
         requires fresh { is_noted self.old key.now ≡ false }
-        requires placed { IsPlaced (note_with key.now seen) }
-        ensures ok { OnOk result (self.new ≡ self.old ++ note_with key.now seen.entry ∷ []) }
+        requires placed { IsPlaced (note_with key.now name place) }
+        ensures ok { OnOk result (self.new ≡ self.old ++ note_with key.now name place.entry ∷ []) }
         ensures err { OnErr result (self.new ≡ self.old) }
     {
         if let Some(held) = &mut self.held {
-            return held.add(alloc, key, seen);
+            return held.add(alloc, key, name, place);
         }
-        let mut held = spare.take(alloc)?;
-        held.add(alloc, key, seen)?;
+        let mut held = match spare.held.take() {
+            Some(held) => held,
+            None => {
+                let notes = Vec::with_capacity(alloc, FIRST_ROOM)?;
+                Box::new(alloc, NoteList { notes, index: None })?
+            }
+        };
+        held.empty();
+        held.add(alloc, key, name, place)?;
         self.held = Some(held);
         Ok(())
     }
@@ -188,7 +169,9 @@ impl<'t, J: PlanName> PlaceNotes<'t, J> {
         ensures { self.new ≡ [] }
     {
         if let Some(held) = self.held.take() {
-            spare.keep(held);
+            if held.notes.len() <= SCANNED_MAX {
+                spare.held = Some(held);
+            }
         }
     }
 
@@ -201,7 +184,9 @@ impl<'t, J: PlanName> PlaceNotes<'t, J> {
             return None;
         };
         let key = held.take_key(i);
-        spare.keep(held);
+        if held.notes.len() <= SCANNED_MAX {
+            spare.held = Some(held);
+        }
         key
     }
 
@@ -217,17 +202,14 @@ impl<'t, J: PlanName> PlaceNotes<'t, J> {
         }
     }
 
-    /// The key of the i-th note, from 0, and what was seen there.
-    pub fn get(&self, i: usize) -> Option<(&Key, PlacedName<'t, J>)>
-        ensures { option_map noted_as result ≡ slice_get self.now i }
+    /// The i-th note, from 0.
+    pub fn get(&self, i: usize) -> Option<&PlaceNote<'t, J>>
+        ensures { option_map (λ n. noted n.now) result ≡ slice_get self.now i }
     {
         let Some(held) = &self.held else {
             return None;
         };
-        match held.notes.get(i) {
-            Some(note) => Some((&note.key, note.seen)),
-            None => None,
-        }
+        held.notes.get(i)
     }
 }
 
@@ -252,19 +234,26 @@ impl<'t, J: PlanName> NoteList<'t, J> {
     }
 
     /// Adds a note, of a key that isn't noted. Out of memory, the notes stay as they are.
-    fn add(&mut self, alloc: Global, key: &Key, seen: PlacedName<'t, J>) -> Result<(), AllocError>
+    fn add(
+        &mut self,
+        alloc: Global,
+        key: &Key,
+        name: Name,
+        place: Option<Place<'t, J>>,
+    ) -> Result<(), AllocError>
         requires noted { AreNoted self.old.notes.items self.old.index }
         requires fresh { is_noted (map noted self.old.notes.items) key.now ≡ false }
-        requires placed { IsPlaced (note_with key.now seen) }
+        requires placed { IsPlaced (note_with key.now name place) }
         ensures noted { AreNoted self.new.notes.items self.new.index }
-        ensures ok { OnOk result (map noted self.new.notes.items ≡ map noted self.old.notes.items ++ note_with key.now seen.entry ∷ []) }
+        ensures ok { OnOk result (map noted self.new.notes.items ≡ map noted self.old.notes.items ++ note_with key.now name place.entry ∷ []) }
         ensures err { OnErr result (map noted self.new.notes.items ≡ map noted self.old.notes.items) }
     {
         let position = self.notes.len();
         let key_of_note = key.clone()?;
         let Ok(()) = self.notes.push(PlaceNote {
             key: key_of_note,
-            seen,
+            name,
+            place,
         })
         else {
             return Err(AllocError);
@@ -279,34 +268,6 @@ impl<'t, J: PlanName> NoteList<'t, J> {
                 Err(refused)
             }
         }
-    }
-}
-
-/// The notes that are searched one by one.
-fn first_few<'n, 't, J: PlanName>(notes: &'n [PlaceNote<'t, J>]) -> &'n [PlaceNote<'t, J>]
-    ensures { result.now ≡ few notes.now }
-{
-    if notes.len() <= SCANNED_MAX {
-        notes
-    } else {
-        &notes[..SCANNED_MAX]
-    }
-}
-
-/// Whether a key is noted in one of these notes.
-fn is_among<J: PlanName>(notes: &[PlaceNote<'_, J>], key: &Key) -> bool
-    ensures { result ≡ is_key_in notes.now key.now }
-{
-    notes.iter().any(|note| *key == note.key)
-}
-
-/// Whether a key is in the index, if there is one.
-fn is_indexed(index: &Option<Box<BTreeSet<Key>>>, key: &Key) -> bool
-    ensures { result ≡ is_indexed index.now key.now }
-{
-    match index {
-        Some(keys) => keys.contains(key),
-        None => false,
     }
 }
 

@@ -8,7 +8,7 @@ ghost use Rattle.read_set.specs.Settling.{Contents};
 ghost use Rattle.board_steps.specs.Steps.{IsVersion};
 ghost use Rattle.board_lines.specs.Notes.{found_by, notes_by, contents_at};
 
-use crate::notes::{PlaceNotes, PlacedName};
+use crate::notes::PlaceNotes;
 use circ_records::{Key, Record};
 use read_set::{Note, NotedRecord, Notes, Plan, PlanName, found_in};
 use std::alloc::{AllocError, Global};
@@ -16,20 +16,6 @@ use version_store::Place;
 
 /// Up to this many writes are searched one by one: testing two keys for equality costs less than ordering them.
 const SCANNED_MAX: usize = 4;
-
-/// The record that is written at a key.
-pub fn written<'w>(writes: &'w [(Key, Record)], key: &Key) -> Option<&'w Record>
-    requires { IsStrictlySortedBy key_cmp (map (λ e. e.0) writes.now) }
-    ensures { option_copied result ≡ record_at writes.now key.now }
-{
-    if writes.len() <= SCANNED_MAX {
-        return found_in(writes, key);
-    }
-    let Ok(place) = writes.binary_search_by(|write| write.0.cmp(key)) else {
-        return None;
-    };
-    Some(&writes[place].1)
-}
 
 /// The record that was seen at a key: what the version at the place writes; the base's where there is no place.
 pub fn record_seen<'p, J: PlanName>(
@@ -40,7 +26,16 @@ pub fn record_seen<'p, J: PlanName>(
     ensures { option_copied result ≡ found_by plan.now.base key.now (option_map contents_at place.entry) }
 {
     match place {
-        Some(place) => written(place.show().writes(), key),
+        Some(place) => {
+            let writes = place.version.writes();
+            if writes.len() <= SCANNED_MAX {
+                return found_in(writes, key);
+            }
+            let Ok(position) = writes.binary_search_by(|write| write.0.cmp(key)) else {
+                return None;
+            };
+            Some(&writes[position].1)
+        }
         None => plan.base(key),
     }
 }
@@ -69,12 +64,12 @@ fn read_note<J: PlanName>(
     requires { i < length noted.now }
     ensures { IfOk result (λ note. Some note ≡ slice_get (notes_by plan.now.base noted.now) i) }
 {
-    let Some((key, seen)) = noted.get(i) else {
+    let Some(seen) = noted.get(i) else {
         unreachable!()
     };
-    let found = NotedRecord::new(copied(record_seen(plan, key, seen.place))?);
+    let found = NotedRecord::new(copied(record_seen(plan, &seen.key, seen.place))?);
     Ok(Note {
-        key: key.clone()?,
+        key: seen.key.clone()?,
         name: seen.name,
         found,
     })

@@ -247,7 +247,8 @@ impl<'p, 't, J: PlanName> Board<'p, 't, J> {
         ensures { IsChoice self.now (chosen result) }
     {
         let plan = self.lines.plan();
-        let committed = self.lines.committed();
+        let counts = self.lines.counts();
+        let committed = counts.commits;
         if committed >= lines_of(plan) as u64 {
             return Choice::End;
         }

@@ -18,7 +18,7 @@ mod ready;
 mod steps;
 
 pub use board::Board;
-pub use board_lines::{Hand, PlaceNotes, PlacedName, Reply, read_notes};
+pub use board_lines::{Hand, PlaceNote, PlaceNotes, Reply, read_notes};
 pub use choice::Choice;
 pub use driving::drive_in_order;
 pub use finished::{Finished, Open};

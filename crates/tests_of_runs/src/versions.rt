@@ -68,13 +68,22 @@ fn agree_of<J: PlanName>(
             return false;
         }
         if let Some(attempt) = plain.attempt_at(line, i) {
-            if store.keys_of(line, count) != Some((key, attempt)) {
+            if nth(store, line, count) != Some((key, attempt)) {
                 return false;
             }
             count = count.saturating_add(1);
         }
     }
-    store.keys_of(line, count).is_none()
+    nth(store, line, count).is_none()
+}
+
+/// The i-th key, from 0, at which a line has an entry, and the attempt of that entry; None after the last, or without such a line.
+fn nth<'s, J: PlanName>(
+    store: &'s EntryStore<'_, J>,
+    line: u64,
+    i: usize,
+) -> Option<(&'s Key, u32)> {
+    store.line(line)?.nth(i)
 }
 
 /// The name of the entry that a line sees.

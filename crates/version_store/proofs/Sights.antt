@@ -4,7 +4,7 @@ use Rattle.std.specs.Prelude.{is_some, slice_get}
 use Rattle.std.specs.FinMap.{get, get-empty, entries, len-empty, len-entries}
 use Rattle.std.proofs.lemmas.Grind.{common_steps}
 use Rattle.std.proofs.lemmas.Bool.{cases_eq, cases_lt, lt-ltb, le-ltb}
-use Rattle.std.proofs.lemmas.Option.{none-some, same_Some, slice_get_past}
+use Rattle.std.proofs.lemmas.Option.{none-some, same_Some, slice_get_past, slice_get-get_or, get_or_from_slice_get}
 use Rattle.std.proofs.lemmas.List.{get_or-replicate, get_or_past, get_or_default, get_or-set_same, get_or-set_other}
 use Rattle.circ_records.specs.Keys.{key_cmp}
 use Rattle.circ_records.specs.declared.key.Key.{Key}
@@ -21,6 +21,12 @@ line_from s n l = rw (le-ltb n s.first l) refl
 
 pub line_read : (s : Store) (n : ℕ) (row : Line) → IsLine s n → row ≡ get_or s.lines (n - s.first) row → row ≡ line_at s n
 line_read s n row there is = is ∙ get_or_default s.lines (n - s.first) row no_entries (omega (arith, there.0, there.1)) ∙ sym (line_from s n there.0)
+
+pub line_got : (s : Store) (n : ℕ) (row : Line) → s.first ≤ n → slice_get s.lines (n - s.first) ≡ Some row → row ≡ line_at s n
+line_got s n row from is = sym (get_or_from_slice_get s.lines (n - s.first) row no_entries is) ∙ sym (line_from s n from)
+
+pub line_past : (s : Store) (n : ℕ) → slice_get s.lines (n - s.first) ≡ None → IsLine s n → ⊥
+line_past s n none there = none-some _ (sym none ∙ slice_get-get_or s.lines (n - s.first) no_entries (omega (arith, there.0, there.1)))
 
 pub line_put_same : (s : Store) (n : ℕ) (l : Line) → IsLine s n → line_at (with_line s n l) n ≡ l
 line_put_same s n l there = rw (le-ltb n s.first there.0) (get_or-set_same s.lines (n - s.first) l no_entries (omega (arith, there.0, there.1)))
@@ -57,11 +63,12 @@ position_is s n p h = ⊎_elim
     (cases_lt (n - s.first) (length s.lines)))
     (cases_lt n s.first)
 
-pub position_none : (s : Store) (n : ℕ) → position_of s n ≡ None → line_at s n ≡ no_entries
-position_none s n h = ⊎_elim
+-- a line that isn't there has no entries
+pub line_none : (s : Store) (n : ℕ) → (IsLine s n → ⊥) → line_at s n ≡ no_entries
+line_none s n h = ⊎_elim
     (λ before. line_before s n before)
     (λ from. ⊎_elim
-    (λ within. absurd (none-some (n - s.first) (sym h ∙ position_within s n from within)))
+    (λ within. absurd (h (from, omega (arith, within, from))))
     (λ past. line_from s n from ∙ get_or_past s.lines (n - s.first) no_entries past)
     (cases_lt (n - s.first) (length s.lines)))
     (cases_lt n s.first)

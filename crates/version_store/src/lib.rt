@@ -14,5 +14,6 @@ mod store;
 mod table;
 
 pub use entry::{Found, StoredEntry};
+pub use line::LineEntries;
 pub use store::EntryStore;
 pub use table::{Place, VersionTable};

@@ -1,8 +1,8 @@
 //! The entries of all lines.
 
-ghost use Rattle.std.specs.Prelude.{◌≡◌, ◌^◌, ◌<◌, ℕ, OnOk, OnErr, IfOk, MatchOption, length, option_map, slice_get};
+ghost use Rattle.std.specs.Prelude.{◌≡◌, OnOk, OnErr, IfOk, IfSome, IfNone, option_map};
 ghost use Rattle.std.specs.FinMap as fin;
-ghost use Rattle.version_store.specs.Entries.{AllOf, IsLeastLeft, IsLine, IsNamedAt, attempt_at, found_at, line_at, no_rows, none_placed, position_of, shown, shown_by, suspected, visible, with_line};
+ghost use Rattle.version_store.specs.Entries.{IsLine, found_at, line_at, no_rows, none_placed, position_of, shown, shown_by, suspected, visible, with_line};
 
 use crate::entry::{Found, StoredEntry};
 use crate::index::KeyIndex;
@@ -84,44 +84,15 @@ impl<'t, J: PlanName> EntryStore<'t, J> {
         })
     }
 
-    /// The i-th key, from 0 and rising, at which a line has an entry, and the attempt of that entry; None past the last.
-    pub fn keys_of(&self, line: u64, i: usize) -> Option<(&Key, u32)>
-        ensures value { IsNamedAt (slice_get (fin.entries (line_at self.now line)) i) result }
-        ensures few { length (fin.entries (line_at self.now line)) < 2 ^ 64 }
+    /// The entries of a line; None where there is no such line.
+    pub fn line(&self, line: u64) -> Option<&LineEntries<'t, J>>
+        ensures entries { IfSome result (λ entries. entries.now ≡ line_at self.now line) }
+        ensures none { IfNone result (IsLine self.now line → ⊥) }
     {
-        let Some(position) = self.position(line) else {
+        if line < self.first {
             return None;
-        };
-        self.lines[position].nth(i)
-    }
-
-    /// How many entries a line has.
-    pub fn count_of(&self, line: u64) -> usize
-        ensures { result ≡ length (fin.entries (line_at self.now line)) }
-    {
-        let Some(position) = self.position(line) else {
-            return 0;
-        };
-        self.lines[position].count()
-    }
-
-    /// The attempt of a line's entry at a key; None where it has no entry.
-    pub fn attempt_at(&self, line: u64, key: &Key) -> Option<u32>
-        ensures { result ≡ attempt_at (line_at self.now line) key.now }
-    {
-        let position = self.position(line)?;
-        let made = self.lines[position].get(key)?;
-        Some(made.attempt)
-    }
-
-    /// The least key at which a line has an entry of another attempt; None where it has none.
-    pub fn left(&self, line: u64, attempt: u32) -> Option<&'t Key>
-        ensures { MatchOption result (AllOf (line_at self.now line) attempt) (λ k. IsLeastLeft (line_at self.now line) attempt k.now) }
-    {
-        let Some(position) = self.position(line) else {
-            return None;
-        };
-        self.lines[position].left(attempt)
+        }
+        self.lines.get((line - self.first) as usize)
     }
 
     /// Puts an entry of a line at a key: it is of this attempt and at this place, isn't suspect, and borrows the key. Out of memory,

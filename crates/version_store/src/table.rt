@@ -31,7 +31,7 @@ impl<J: PlanName> Drop for VersionTable<J> {
 
 /// A version in the table.
 pub struct Place<'t, J: PlanName> {
-    version: &'t Version<J>,
+    pub version: &'t Version<J>,
 }
 
 impl<'t, J: PlanName> Clone for Place<'t, J> {
@@ -91,14 +91,5 @@ impl<J: PlanName> VersionTable<J> {
             }),
             Err(boxed) => Err(Box::into_inner(boxed)),
         }
-    }
-}
-
-impl<'t, J: PlanName> Place<'t, J> {
-    /// The version at the place.
-    pub fn show(self) -> &'t Version<J>
-        ensures { result.now ≡ self.entry.version.now }
-    {
-        self.version
     }
 }

@@ -10,7 +10,7 @@ ghost use Rattle.version_store.specs.declared.entry.Found.TheVariants.{Named};
 ghost use Rattle.board_lines.specs.Hands.{notes_of};
 ghost use Rattle.board_lines.specs.Notes.{key_and_name};
 ghost use Rattle.board_lines.specs.Replies.{Answers};
-ghost use Rattle.board_lines.specs.Sights.{IsCheck, IsOther, IsSame, IsWhole, names_now};
+ghost use Rattle.board_lines.specs.Sights.{IsCheck, IsOther, names_now};
 
 use super::Lines;
 use crate::reply::Reply;
@@ -27,11 +27,21 @@ impl<'p, 't, J: PlanName> Lines<'p, 't, J> {
             return Reply::Idle;
         };
         let Some((noted, found)) = self.names_at(line, compared) else {
-            self.end_check(worker, line, stamp);
+            // all names matched: the line is done again, with the stamp of this check
+            self.attempts
+                .go_on(line, LineState::Done { stamp: Some(stamp) });
+            self.hands[worker as usize] = None;
             return Reply::Whole;
         };
-        if is_named(found, noted) {
-            self.go_on(worker, line, stamp, compared);
+        if found == Found::Named(noted) {
+            let compared = compared + 1;
+            let state = LineState::Checking {
+                worker,
+                stamp,
+                compared,
+            };
+            self.attempts.go_on(line, state);
+            self.hands[worker as usize] = Some(line);
             return Reply::Same;
         }
         self.send_back(worker, line, compared, noted, found)
@@ -45,21 +55,21 @@ impl<'p, 't, J: PlanName> Lines<'p, 't, J> {
         if worker as usize >= self.hands.len() {
             return None;
         }
-        let Some(state) = self.attempts.state(line) else {
+        let Some(own) = self.attempts.row(line) else {
             return None;
         };
         if let LineState::Checking {
             worker: holder,
             stamp,
             compared,
-        } = state
+        } = own.state
         {
             if holder != worker {
                 return None;
             }
             return Some((stamp, compared));
         }
-        let LineState::Done { .. } = state else {
+        let LineState::Done { .. } = own.state else {
             return None;
         };
         let None = self.in_hand(worker) else {
@@ -81,35 +91,10 @@ impl<'p, 't, J: PlanName> Lines<'p, 't, J> {
         if i >= row.notes.len() as u64 {
             return None;
         }
-        let Some((key, seen)) = row.notes.get(i as usize) else {
+        let Some(note) = row.notes.get(i as usize) else {
             return None;
         };
-        Some((seen.name, self.entries.name(key, line)))
-    }
-
-    /// All names matched: the line's state is `Done` again, with the stamp of this check.
-    fn end_check(&mut self, worker: u32, line: u64, stamp: u64)
-        requires { IsWhole self.old worker line stamp }
-        ensures { CheckStep self.old worker line TheWhole self.new }
-    {
-        self.attempts
-            .go_on(line, LineState::Done { stamp: Some(stamp) });
-        self.hands[worker as usize] = None;
-    }
-
-    /// One more name matched: the check goes on.
-    fn go_on(&mut self, worker: u32, line: u64, stamp: u64, compared: u64)
-        requires same { IsSame self.old worker line stamp compared }
-        requires few { compared + 1 < 2 ^ 64 }
-        ensures { CheckStep self.old worker line TheSame self.new }
-    {
-        let state = LineState::Checking {
-            worker,
-            stamp,
-            compared: compared + 1,
-        };
-        self.attempts.go_on(line, state);
-        self.hands[worker as usize] = Some(line);
+        Some((note.name, self.entries.name(&note.key, line)))
     }
 
     /// The name of the i-th note isn't that of the visible entry: the line waits again, and its entries become suspect. The reply
@@ -125,7 +110,7 @@ impl<'p, 't, J: PlanName> Lines<'p, 't, J> {
         requires { IsOther self.old worker line i noted found }
         ensures { Answers J.plan self.old (Check worker line) result self.new }
     {
-        if self.entries.keys_of(line, 0).is_none() {
+        if self.keys_of(line, 0).is_none() {
             let row = &mut self.rows[(line - self.plan.first()) as usize];
             let Some(key) = row.notes.take_key(&mut self.spare, i as usize) else {
                 unreachable!()
@@ -147,15 +132,5 @@ impl<'p, 't, J: PlanName> Lines<'p, 't, J> {
         self.attempts.fail(line);
         self.hands[worker as usize] = None;
         Reply::Changed { key, noted, found }
-    }
-}
-
-/// Whether what is found is a name; a suspect entry equals none.
-fn is_named(found: Found, noted: Name) -> bool
-    ensures { Decides result (found ≡ Named noted) }
-{
-    match found {
-        Found::Named(name) => name == noted,
-        Found::Suspect { .. } => false,
     }
 }

@@ -10,12 +10,11 @@ ghost use Rattle.board_steps.specs.Board.{IsCommitted, row_at, value_at};
 ghost use Rattle.version_store.specs.Entries.{IsNamedAt};
 
 use super::Lines;
-use crate::reading::written;
+use crate::reading::record_seen;
 use attempts::LineState;
 use circ_records::{Key, Record};
 use read_set::PlanName;
 use sip_answer::Answer;
-use version_store::Place;
 
 impl<'p, 't, J: PlanName> Lines<'p, 't, J> {
     /// The answer of a committed line, where it has one; None for any other line.
@@ -28,7 +27,10 @@ impl<'p, 't, J: PlanName> Lines<'p, 't, J> {
         let LineState::Committed = state else {
             return None;
         };
-        answer_at(row.version)
+        match row.version {
+            Some(place) => place.version.answer().as_ref(),
+            None => None,
+        }
     }
 
     /// Which attempt at a line was committed, counted from 0.
@@ -36,10 +38,10 @@ impl<'p, 't, J: PlanName> Lines<'p, 't, J> {
         requires { IsCommitted (row_at self.now line).state }
         ensures { suc result ≡ (row_at self.now line).next }
     {
-        let Some(attempt) = self.attempts.newest(line) else {
+        let Some(own) = self.attempts.row(line) else {
             unreachable!()
         };
-        attempt
+        (own.next - 1) as u32
     }
 
     /// The i-th key, from 0 and rising, at which a line has an entry, and the attempt of that entry; None after the last.
@@ -47,7 +49,10 @@ impl<'p, 't, J: PlanName> Lines<'p, 't, J> {
         ensures value { IsNamedAt (slice_get (fin.entries (row_at self.now line).entries) i) result }
         ensures few { length (fin.entries (row_at self.now line).entries) < 2 ^ 64 }
     {
-        self.entries.keys_of(line, i)
+        let Some(entries) = self.entries.line(line) else {
+            return None;
+        };
+        entries.nth(i)
     }
 
     /// The record that is visible at a key after the last line.
@@ -58,16 +63,6 @@ impl<'p, 't, J: PlanName> Lines<'p, 't, J> {
         let Some((_, made)) = self.entries.see(key, past) else {
             return self.plan.base(key);
         };
-        written(made.place.show().writes(), key)
-    }
-}
-
-/// The answer of the version at a place.
-fn answer_at<'t, J: PlanName>(place: Option<Place<'t, J>>) -> Option<&'t Answer>
-    ensures { option_copied result ≡ answer_by (option_map contents_at place.entry) }
-{
-    match place {
-        Some(place) => place.show().answer().as_ref(),
-        None => None,
+        record_seen(self.plan, key, Some(made.place))
     }
 }

@@ -8,12 +8,10 @@ ghost use Rattle.board_lines.specs.Replies.{Answers};
 ghost use Rattle.board_lines.specs.Sights.{IsNameOf, IsStopped, MayStop, entry_shown};
 
 use super::Lines;
-use crate::notes::PlacedName;
 use crate::reply::Reply;
 use attempts::LineState;
 use circ_records::Key;
 use read_set::{Name, PlanName};
-use version_store::StoredEntry;
 
 impl<'p, 't, J: PlanName> Lines<'p, 't, J> {
     /// The worker's line looks at a key, and notes under which name it is seen.
@@ -32,20 +30,25 @@ impl<'p, 't, J: PlanName> Lines<'p, 't, J> {
         if row.notes.has(key) {
             return Reply::Idle;
         }
-        let seen = match name_of(self.entries.see(key, line)) {
-            Ok(seen) => seen,
-            Err(suspect) => {
-                self.stop(worker, line);
-                return Reply::Suspect { line: suspect };
+        let (name, place) = match self.entries.see(key, line) {
+            None => (Name::Base, None),
+            Some((from, made)) => {
+                if made.suspect {
+                    self.stop(worker, line);
+                    return Reply::Suspect { line: from };
+                }
+                let attempt = made.attempt;
+                let name = Name::Made {
+                    line: from,
+                    attempt,
+                };
+                (name, Some(made.place))
             }
         };
         let alloc = *self.rows.allocator();
         let row = &mut self.rows[(line - self.plan.first()) as usize];
-        match row.notes.add(alloc, &mut self.spare, key, seen) {
-            Ok(()) => Reply::Seen {
-                name: seen.name,
-                place: seen.place,
-            },
+        match row.notes.add(alloc, &mut self.spare, key, name, place) {
+            Ok(()) => Reply::Seen { name, place },
             Err(_) => Reply::Memory,
         }
     }
@@ -58,29 +61,4 @@ impl<'p, 't, J: PlanName> Lines<'p, 't, J> {
         self.attempts.stop(line);
         self.hands[worker as usize] = None;
     }
-}
-
-/// The name of the visible entry, with the place of its version; the line whose entry it is, where that is suspect.
-fn name_of<'t, J: PlanName>(
-    visible: Option<(u64, StoredEntry<'t, J>)>,
-) -> Result<PlacedName<'t, J>, u64>
-    ensures named { IfOk result (λ name. IsNameOf (option_map entry_shown visible.entry) name) }
-    ensures suspect { IfErr result (λ line. found_of (option_map entry_shown visible.entry) ≡ Suspect line) }
-{
-    let Some((line, made)) = visible else {
-        return Ok(PlacedName {
-            name: Name::Base,
-            place: None,
-        });
-    };
-    if made.suspect {
-        return Err(line);
-    }
-    Ok(PlacedName {
-        name: Name::Made {
-            line,
-            attempt: made.attempt,
-        },
-        place: Some(made.place),
-    })
 }

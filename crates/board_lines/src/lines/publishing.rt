@@ -49,7 +49,7 @@ impl<'p, 't, J: PlanName> Lines<'p, 't, J> {
             return None;
         };
         // a version says that its notes determine what it writes
-        let _reads = place.show().reads();
+        let _reads = place.version.reads();
         Some(self.next_act(worker, line, place, count))
     }
 
@@ -87,9 +87,16 @@ impl<'p, 't, J: PlanName> Lines<'p, 't, J> {
         requires placed { FirstPlaced (row_at self.old line).entries (contents_at place).attempt (contents_at place).writes count }
         ensures { Answers J.plan self.old (Publish worker (contents_at place.entry)) result self.new }
     {
-        let act = act_of(&self.entries, line, place.show(), count);
+        let Some(entries) = self.entries.line(line) else {
+            unreachable!()
+        };
+        let act = act_of(entries, place.version, count);
         if let PublishAct::Finish = act {
-            self.finish(worker, line, place);
+            // all is published: the line is done, and not checked
+            self.attempts.go_on(line, LineState::Done { stamp: None });
+            let row = &mut self.rows[(line - self.plan.first()) as usize];
+            row.version = Some(place);
+            self.hands[worker as usize] = None;
             return Reply::Whole;
         }
         if self.clock == u64::MAX {
@@ -144,7 +151,7 @@ impl<'p, 't, J: PlanName> Lines<'p, 't, J> {
         ensures fits { (w : ℕ) (notes : List Note) → MayPublish self.now w hand.line notes → Decides result (Fits self.now hand.line notes (contents_at place.entry)) }
         ensures version { IsVersion J.plan (contents_at place.entry) }
     {
-        let version = place.show();
+        let version = place.version;
         let reads = version.reads();
         if version.line() != hand.line {
             return false;
@@ -177,7 +184,7 @@ impl<'p, 't, J: PlanName> Lines<'p, 't, J> {
         ensures same { OnErr result (self.new ≡ self.old) }
     {
         let alloc = *self.rows.allocator();
-        let attempt = place.show().attempt();
+        let attempt = place.version.attempt();
         let Ok(()) = self.entries.place(alloc, line, attempt, key, place) else {
             return Err(AllocError);
         };
@@ -201,7 +208,7 @@ impl<'p, 't, J: PlanName> Lines<'p, 't, J> {
         requires room { HasRoom self.old }
         ensures { self.new ≡ lifted self.old worker line (notes_at self.old line) (contents_at place.entry) key.now }
     {
-        let placed = place.show().writes().len();
+        let placed = place.version.writes().len();
         self.entries.lift(line, key);
         self.attempts.go_on(line, LineState::Placing { worker });
         let clock = self.clock + 1;
@@ -210,20 +217,5 @@ impl<'p, 't, J: PlanName> Lines<'p, 't, J> {
         row.course = LineProgress { placed };
         row.changed = clock;
         self.clock = clock;
-    }
-
-    /// All is published: the line is done, and not checked.
-    fn finish(&mut self, worker: u32, line: u64, place: Place<'t, J>)
-        requires may { MayPublish self.old worker line (notes_at self.old line) }
-        requires fits { Fits self.old line (notes_at self.old line) (contents_at place) }
-        requires version { IsVersion J.plan (contents_at place) }
-        requires all { AllPlaced (row_at self.old line) (contents_at place) }
-        requires none { NoneLeft (row_at self.old line) (contents_at place) }
-        ensures { self.new ≡ put_row self.old line (with_state (row_at self.old line) (Done (notes_at self.old line) (contents_at place.entry).answer None)) }
-    {
-        self.attempts.go_on(line, LineState::Done { stamp: None });
-        let row = &mut self.rows[(line - self.plan.first()) as usize];
-        row.version = Some(place);
-        self.hands[worker as usize] = None;
     }
 }

@@ -5,7 +5,7 @@ use Rattle.circ_records.specs.Keys.{key_cmp}
 use Rattle.circ_records.specs.Records.{Entries}
 use Rattle.circ_records.specs.declared.key.Key.{Key}
 use Rattle.circ_records.specs.declared.record.Record.{Record}
-use Rattle.version_store.specs.Entries.{AllOf, IsLeastLeft, line_at}
+use Rattle.version_store.specs.Entries.{AllOf, IsLeastLeft}
 use Rattle.version_store.proofs.Walks.{Rising}
 use Rattle.board_lines.specs.Acts.{IsFirstApart}
 use Rattle.board_lines.specs.Courses.{FirstPlaced}
@@ -15,7 +15,7 @@ use Rattle.board_lines.proofs.acts.act_of.Goals as goal
 pub returns-in-Some-clause-act : goal.returns-in-Some-clause-act
 returns-in-Some-clause-act g c r is =
     let v = c.args.version.now in
-    let l = line_at c.args.entries.now c.args.line in
+    let l = c.args.entries.now in
     let ws = c.writes-writes.result.now in
     let i = c.in-Some.i in
     let up : Rising v.writes = writes_rise v.writes c.writes-writes.ensures.rising in
@@ -28,7 +28,7 @@ returns-in-Some-clause-act g c r is =
 pub returns-in-Some-clause-comes : goal.returns-in-Some-clause-comes
 returns-in-Some-clause-comes g c =
     let v = c.args.version.now in
-    let l = line_at c.args.entries.now c.args.line in
+    let l = c.args.entries.now in
     let ws = c.writes-writes.result.now in
     let i = c.in-Some.i in
     let found : IsFirstApart l c.attempt-attempt.result ws (Some i) = subst (IsFirstApart l c.attempt-attempt.result ws) c.in-Some.is c.next_write.ensures in
@@ -44,14 +44,14 @@ next_write-requires-clause-rising g c =
 pub next_write-requires-clause-placed : goal.next_write-requires-clause-placed
 next_write-requires-clause-placed g c =
     let v = c.args.version.now in
-    let l = line_at c.args.entries.now c.args.line in
+    let l = c.args.entries.now in
     subst (λ (a : ℕ). FirstPlaced l a c.writes-writes.result.now c.args.placed) (sym c.attempt-attempt.ensures)
     (subst (λ (x : Entries). FirstPlaced l v.attempt x c.args.placed) (sym c.writes-writes.ensures.writes) c.requires)
 
 pub returns-in-Some-left-clause-act : goal.returns-in-Some-left-clause-act
 returns-in-Some-left-clause-act g c r is =
     let v = c.args.version.now in
-    let l = line_at c.args.entries.now c.args.line in
+    let l = c.args.entries.now in
     let ws = c.writes-writes.result.now in
     let up : Rising v.writes = writes_rise v.writes c.writes-writes.ensures.rising in
     let found : IsFirstApart l c.attempt-attempt.result ws None = subst (IsFirstApart l c.attempt-attempt.result ws) c.in_default.is c.next_write.ensures in
@@ -63,7 +63,7 @@ returns-in-Some-left-clause-act g c r is =
 pub returns-in-None-clause-act : goal.returns-in-None-clause-act
 returns-in-None-clause-act g c r is =
     let v = c.args.version.now in
-    let l = line_at c.args.entries.now c.args.line in
+    let l = c.args.entries.now in
     let ws = c.writes-writes.result.now in
     let up : Rising v.writes = writes_rise v.writes c.writes-writes.ensures.rising in
     let found : IsFirstApart l c.attempt-attempt.result ws None = subst (IsFirstApart l c.attempt-attempt.result ws) c.in_default.is c.next_write.ensures in

@@ -4,7 +4,6 @@ use Rattle.std.proofs.lemmas.Option.{same_Some, slice_get-get_or, slice_get_with
 use Rattle.circ_records.specs.declared.key.Key.{Key}
 use Rattle.circ_records.specs.declared.record.Record.{Record}
 use Rattle.std.specs.FinMap.{entries}
-use Rattle.version_store.specs.Entries.{line_at}
 use Rattle.board_lines.specs.Acts.{IsPlacedAt}
 use Rattle.board_lines.proofs.Writes.{next_apart, there, writes_rise}
 use Rattle.board_lines.proofs.acts.next_write.Goals as goal
@@ -25,7 +24,7 @@ loop-i-preserved g c =
     let x : Key × Record = get_or ws c.loop-i.i c.index-writes-i.result in
     let here : slice_get ws c.loop-i.i ≡ Some x = slice_get-get_or ws c.loop-i.i c.index-writes-i.result (omega arith) in
     λ j y lt h. elim (cases_eq j c.loop-i.i) [
-      | inl e ↦ subst (λ (z : Key × Record). IsPlacedAt (line_at c.args.entries.now c.args.line) c.args.attempt z.0)
+      | inl e ↦ subst (λ (z : Key × Record). IsPlacedAt c.args.entries.now c.args.attempt z.0)
           (same_Some x y (sym here ∙ subst (λ k. slice_get ws k ≡ Some y) e h)) (c.is_placed.ensures.0 c.if-not-is_placed.false)
       | inr ne ↦ c.loop-i.invariant j y (omega (arith, lt, ne)) h
     ]
@@ -33,11 +32,11 @@ loop-i-preserved g c =
 pub returns : goal.returns
 returns g c = λ j y h. c.loop-i.invariant j y (omega (arith, slice_get_within c.args.writes.now j y h)) h
 
-pub returns-then-count_of-placed : goal.returns-then-count_of-placed
-returns-then-count_of-placed g c =
+pub returns-then-count-placed : goal.returns-then-count-placed
+returns-then-count-placed g c =
     let ws = c.args.writes.now in
-    let l = line_at c.args.entries.now c.args.line in
+    let l = c.args.entries.now in
     let within : c.args.placed < length ws = omega arith in
-    let few : length (entries l) ≤ c.args.placed = omega (arith, c.count_of.ensures) in
+    let few : length (entries l) ≤ c.args.placed = omega (arith, c.count.ensures) in
     let x = there ws c.args.placed within in
     ((x.0, x.1, next_apart l c.args.attempt ws c.args.placed x.0 (writes_rise ws c.requires.rising) c.requires.placed few x.1), λ j y lt h. c.requires.placed j y lt h)

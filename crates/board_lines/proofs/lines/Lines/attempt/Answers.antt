@@ -1,30 +1,22 @@
-use Rattle.std.proofs.Common.{◌≡◌, ◌+◌, suc, sym, ap, subst, ◌∙◌, arith}
-use Rattle.read_set.specs.Plans.{Planned}
-use Rattle.board_steps.specs.Board.{Board, IsCommitted, IsLine, row_at}
-use Rattle.board_lines.specs.Parts.{IsKept, Parts, board_of}
+use Rattle.std.proofs.Common.{arith}
 use Rattle.board_lines.proofs.Boards.{parts_of}
-use Rattle.board_lines.proofs.CommittedLines.{committed_there, newest_committed}
-use Rattle.board_lines.proofs.Rows.{next_shown}
+use Rattle.board_lines.proofs.CommittedLines.{begun_committed, committed_there}
+use Rattle.board_lines.proofs.Moves.{state_lacks}
+use Rattle.board_lines.proofs.Rows.{line_shown, state_somewhere}
 use Rattle.board_lines.proofs.lines.Lines.attempt.Goals as goal
 
 pub unreachable-requires : goal.unreachable-requires
 unreachable-requires g c =
-    let a = c.self.inside in
-    let plan = g.J.PlanName.plan in
-    let parts : Parts = parts_of a in
-    let kept : IsKept plan parts = c.self.invariant.1 in
-    let is : board_of plan.base parts ≡ c.args.self.now = ap (λ (x : Planned). board_of x.base parts) (sym c.self.invariant.0) ∙ c.self.view_is in
-    let committed : IsCommitted (row_at (board_of plan.base parts) c.args.line).state = subst (λ (b : Board). IsCommitted (row_at b c.args.line).state) (sym is) c.requires in
-    absurd (newest_committed plan parts kept c.args.line committed (sym c.in_default.ensures.newest))
+    state_somewhere g.J.PlanName.plan (parts_of c.self.inside) c.self.invariant.1 c.args.line (line_shown c.self.inside g.J.PlanName.plan c.self.invariant.0 c.self.invariant.1 c.args.self.now c.self.view_is c.args.line (committed_there c.args.self.now c.args.line c.requires)) (state_lacks _ _ c.in_default.ensures.row)
+
+pub overflow_sub-result : goal.overflow_sub-result
+overflow_sub-result g c = (begun_committed c.self.inside g.J.PlanName.plan c.self.invariant.0 c.self.invariant.1 c.args.self.now c.self.view_is c.args.line c.in-Some.own c.in-Some.ensures.row c.in-Some.ensures.numbered c.requires).0
+
+pub overflow_cast-result : goal.overflow_cast-result
+overflow_cast-result g c =
+    let s = c.in-Some.ensures.numbered.spent in
+    let b = begun_committed c.self.inside g.J.PlanName.plan c.self.invariant.0 c.self.invariant.1 c.args.self.now c.self.view_is c.args.line c.in-Some.own c.in-Some.ensures.row c.in-Some.ensures.numbered c.requires in
+    search (arith, s, b.0)
 
 pub returns : goal.returns
-returns g c =
-    let a = c.self.inside in
-    let plan = g.J.PlanName.plan in
-    let parts : Parts = parts_of a in
-    let kept : IsKept plan parts = c.self.invariant.1 in
-    let is : board_of plan.base parts ≡ c.args.self.now = ap (λ (x : Planned). board_of x.base parts) (sym c.self.invariant.0) ∙ c.self.view_is in
-    let committed : IsCommitted (row_at (board_of plan.base parts) c.args.line).state = subst (λ (b : Board). IsCommitted (row_at b c.args.line).state) (sym is) c.requires in
-    let there : IsLine (board_of plan.base parts) c.args.line = committed_there (board_of plan.base parts) c.args.line committed in
-    let next = next_shown plan parts kept c.args.line there (c.in-Some.attempt + 1) c.in-Some.ensures.begun in
-    subst (λ (b : Board). suc c.in-Some.attempt ≡ (row_at b c.args.line).next) is (omega (arith, next))
+returns g c = (begun_committed c.self.inside g.J.PlanName.plan c.self.invariant.0 c.self.invariant.1 c.args.self.now c.self.view_is c.args.line c.in-Some.own c.in-Some.ensures.row c.in-Some.ensures.numbered c.requires).1

@@ -1,30 +1,23 @@
-use Rattle.std.proofs.Common.{◌≡◌, ◌+◌, suc, Some, sym, ap, subst, ◌∙◌, arith}
-use Rattle.read_set.specs.Plans.{Planned}
-use Rattle.board_steps.specs.Board.{Board, row_at, holder}
-use Rattle.board_lines.specs.Parts.{Parts, IsKept, board_of}
+use Rattle.std.proofs.Common.{arith}
 use Rattle.board_lines.proofs.Boards.{parts_of}
-use Rattle.board_lines.proofs.Rows.{held_there, newest_held, next_shown}
+use Rattle.board_lines.proofs.CommittedLines.{begun_held}
+use Rattle.board_lines.proofs.Moves.{state_lacks}
+use Rattle.board_lines.proofs.Rows.{held_there, line_shown, state_somewhere}
 use Rattle.board_lines.proofs.lines.Lines.hand.Goals as goal
 
-pub returns-in_default-newest : goal.returns-in_default-newest
-returns-in_default-newest g c =
-    let a = c.self.inside in
-    let plan = g.J.PlanName.plan in
-    let parts : Parts = parts_of a in
-    let kept : IsKept plan parts = c.self.invariant.1 in
-    let is : board_of plan.base parts ≡ c.args.self.now = ap (λ (x : Planned). board_of x.base parts) (sym c.self.invariant.0) ∙ c.self.view_is in
-    let held : holder (row_at (board_of plan.base parts) c.in-Some.line).state ≡ Some c.args.worker =
-    subst (λ (b : Board). holder (row_at b c.in-Some.line).state ≡ Some c.args.worker) (sym is) c.in-Some.ensures in
-    absurd (newest_held plan parts kept c.in-Some.line (held_there (board_of plan.base parts) c.in-Some.line c.args.worker held) c.args.worker held (sym c.in_default-newest.ensures.newest))
+pub returns-in_default-row : goal.returns-in_default-row
+returns-in_default-row g c =
+    let there = held_there c.args.self.now c.in-Some.line c.args.worker c.in-Some.ensures in
+    absurd (state_somewhere g.J.PlanName.plan (parts_of c.self.inside) c.self.invariant.1 c.in-Some.line (line_shown c.self.inside g.J.PlanName.plan c.self.invariant.0 c.self.invariant.1 c.args.self.now c.self.view_is c.in-Some.line there) (state_lacks _ _ c.in_default-row.ensures.row))
+
+pub overflow_sub-attempt : goal.overflow_sub-attempt
+overflow_sub-attempt g c = (begun_held c.self.inside g.J.PlanName.plan c.self.invariant.0 c.self.invariant.1 c.args.self.now c.self.view_is c.in-Some.line c.in-Some-row.own c.in-Some-row.ensures.row c.in-Some-row.ensures.numbered c.args.worker c.in-Some.ensures).0
+
+pub overflow_cast-attempt : goal.overflow_cast-attempt
+overflow_cast-attempt g c =
+    let s = c.in-Some-row.ensures.numbered.spent in
+    let b = begun_held c.self.inside g.J.PlanName.plan c.self.invariant.0 c.self.invariant.1 c.args.self.now c.self.view_is c.in-Some.line c.in-Some-row.own c.in-Some-row.ensures.row c.in-Some-row.ensures.numbered c.args.worker c.in-Some.ensures in
+    search (arith, s, b.0)
 
 pub returns : goal.returns
-returns g c =
-    let a = c.self.inside in
-    let plan = g.J.PlanName.plan in
-    let parts : Parts = parts_of a in
-    let kept : IsKept plan parts = c.self.invariant.1 in
-    let is : board_of plan.base parts ≡ c.args.self.now = ap (λ (x : Planned). board_of x.base parts) (sym c.self.invariant.0) ∙ c.self.view_is in
-    let held : holder (row_at (board_of plan.base parts) c.in-Some.line).state ≡ Some c.args.worker =
-    subst (λ (b : Board). holder (row_at b c.in-Some.line).state ≡ Some c.args.worker) (sym is) c.in-Some.ensures in
-    let next = next_shown plan parts kept c.in-Some.line (held_there (board_of plan.base parts) c.in-Some.line c.args.worker held) (c.in-Some-newest.attempt + 1) c.in-Some-newest.ensures.begun in
-    (c.in-Some.ensures, subst (λ (b : Board). suc c.in-Some-newest.attempt ≡ (row_at b c.in-Some.line).next) is (omega (arith, next)))
+returns g c = (c.in-Some.ensures, (begun_held c.self.inside g.J.PlanName.plan c.self.invariant.0 c.self.invariant.1 c.args.self.now c.self.view_is c.in-Some.line c.in-Some-row.own c.in-Some-row.ensures.row c.in-Some-row.ensures.numbered c.args.worker c.in-Some.ensures).1)

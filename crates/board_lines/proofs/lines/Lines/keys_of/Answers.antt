@@ -1,23 +1,20 @@
-use Rattle.std.proofs.Common.{◌≡◌, ◌<◌, ◌^◌, length, sym, ap, subst, ◌∙◌}
+use Rattle.std.proofs.Common.{◌<◌, ◌^◌, length, refl, sym, subst, ◌∙◌, arith}
 use Rattle.std.specs.Prelude.{slice_get}
 use Rattle.std.specs.FinMap.{entries}
-use Rattle.read_set.specs.Plans.{Planned}
 use Rattle.version_store.specs.Entries.{IsNamedAt, Line}
-use Rattle.board_steps.specs.Board.{Board, row_at}
-use Rattle.board_lines.specs.Parts.{IsKept, Parts, board_of}
-use Rattle.board_lines.proofs.Boards.{parts_of}
-use Rattle.board_lines.proofs.Rows.{entries_at}
+use Rattle.version_store.proofs.Sights.{line_none, none_few, none_nth}
+use Rattle.board_lines.proofs.Rows.{entries_shown}
 use Rattle.board_lines.proofs.lines.Lines.keys_of.Goals as goal
+
+pub returns-in_default : goal.returns-in_default
+returns-in_default g c =
+    let here = entries_shown c.self.inside g.J.PlanName.plan c.args.self.now c.self.invariant.0 c.self.invariant.1 c.self.view_is c.args.line ∙ line_none c.self.inside.entries c.args.line c.in_default.ensures.none in
+    record { value = rw (here, none_nth c.args.i) refl; few = rw here (omega (arith, none_few)) }
 
 pub returns : goal.returns
 returns g c =
-    let a = c.self.inside in
-    let plan = g.J.PlanName.plan in
-    let parts : Parts = parts_of a in
-    let kept : IsKept plan parts = c.self.invariant.1 in
-    let is : board_of plan.base parts ≡ c.args.self.now = ap (λ (x : Planned). board_of x.base parts) (sym c.self.invariant.0) ∙ c.self.view_is in
-    let here = ap (λ (b : Board). (row_at b c.args.line).entries) (sym is) ∙ entries_at plan parts kept c.args.line in
+    let here = c.in-Some.ensures.entries ∙ sym (entries_shown c.self.inside g.J.PlanName.plan c.args.self.now c.self.invariant.0 c.self.invariant.1 c.self.view_is c.args.line) in
     record {
-      value = subst (λ (l : Line). IsNamedAt (slice_get (entries l) c.args.i) c.keys_of.result) (sym here) c.keys_of.ensures.value;
-      few = subst (λ (l : Line). length (entries l) < 2 ^ 64) (sym here) c.keys_of.ensures.few;
+      value = subst (λ (l : Line). IsNamedAt (slice_get (entries l) c.args.i) c.nth.result) here c.nth.ensures.value;
+      few = subst (λ (l : Line). length (entries l) < 2 ^ 64) here c.nth.ensures.few;
     }

@@ -3,7 +3,7 @@ use Rattle.std.specs.Prelude.{Some, option_map}
 use Rattle.version_store.specs.declared.entry.Found.{Found}
 use Rattle.board_steps.specs.Board.{Board, found, row_at}
 use Rattle.board_lines.specs.Hands.{notes_of}
-use Rattle.board_lines.specs.Notes.{notes_by, note_with, key_and_name}
+use Rattle.board_lines.specs.Notes.{notes_by, noted, key_and_name}
 use Rattle.board_lines.specs.Parts.{row_shown}
 use Rattle.board_lines.specs.Sights.{names_now}
 use Rattle.board_lines.proofs.Alike.{no_note, nth_note}
@@ -37,11 +37,11 @@ returns-clause-names g c =
     let a = c.self.inside in
     let plan = g.J.PlanName.plan in
     let noted = c.in-Some.row.now.notes in
-    let key = c.in-Some-get.key.now in
-    let seen = c.in-Some-get.seen in
+    let seen = c.in-Some-get.note.now in
+    let key = seen.key in
     let notes : notes_of (row_at c.args.self.now c.args.line).state ≡ notes_by plan.base noted = noted_live plan c.args.self.now c.args.line c.in-Some.field-0-0 (row_shown c.in-Some.row.now) c.in-Some.ensures c.requires in
     let note : option_map key_and_name (slice_get (notes_of (row_at c.args.self.now c.args.line).state) c.args.i) ≡ Some (key, seen.name) =
-    ap (λ x. option_map key_and_name (slice_get x c.args.i)) notes ∙ ap (option_map key_and_name) (nth_note plan.base noted c.args.i (note_with key seen) c.in-Some-get.ensures) in
+    ap (λ x. option_map key_and_name (slice_get x c.args.i)) notes ∙ ap (option_map key_and_name) (nth_note plan.base noted c.args.i (noted seen) c.in-Some-get.ensures) in
     let now : c.name.result ≡ found (row_at c.args.self.now) c.args.line key =
     c.name.ensures ∙ sym (found_seen plan (parts_of a) c.self.invariant.1 c.args.line key)
     ∙ ap (λ (b : Board). found (row_at b) c.args.line key) (board_shown a plan c.args.self.now c.self.invariant.0 c.self.view_is) in

@@ -1,6 +1,4 @@
-use Rattle.std.proofs.Common.{refl, subst}
-use Rattle.read_set.specs.Settling.{Contents}
-use Rattle.board_steps.specs.Steps.{IsVersion}
+use Rattle.std.proofs.Common.{refl}
 use Rattle.board_lines.specs.Notes.{contents_at}
 use Rattle.board_lines.proofs.Publications.{more_may, more_fits}
 use Rattle.board_lines.proofs.lines.Lines.publish_more.Goals as goal
@@ -17,7 +15,7 @@ next_act-requires g c =
     record {
       may = more_may b w c.in-Some.line u.0 v u.1;
       fits = more_fits b w c.in-Some.line u.0 v _ u.1 u.2;
-      version = subst (λ (x : Contents). IsVersion g.J.PlanName.plan x) c.show.ensures c.reads-reads.ensures.settles;
+      version = c.reads-reads.ensures.settles;
       placed = u.2.placed;
     }
 
@@ -26,6 +24,6 @@ returns g c =
     let u = c.in-Some.ensures in (
       contents_at c.in-Some.place,
       (c.in-Some.line, u.0, u.1),
-      subst (λ (x : Contents). IsVersion g.J.PlanName.plan x) c.show.ensures c.reads-reads.ensures.settles,
+      c.reads-reads.ensures.settles,
       c.next_act.ensures,
     )

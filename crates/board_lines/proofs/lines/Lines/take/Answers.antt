@@ -9,9 +9,9 @@ use Rattle.attempts.specs.States.{States, state_at}
 use Rattle.attempts.specs.declared.state.LineState.TheVariants as states
 use Rattle.board_steps.specs.Steps.{TakeStep}
 use Rattle.board_steps.specs.Steps.Reply.{Idle, Taken, Attempts}
-use Rattle.board_lines.proofs.Boards.{parts_of, place_of, row_read, row_set}
+use Rattle.board_lines.proofs.Boards.{board_shown, parts_of, place_of, row_read, row_set}
 use Rattle.board_lines.proofs.Hands.{hand_read, none_if, some_if}
-use Rattle.board_lines.proofs.Moves.{state_none, state_waits, no_worker, busy}
+use Rattle.board_lines.proofs.Moves.{state_lacks, state_none, state_told, state_waits, no_worker, busy}
 use Rattle.board_lines.proofs.Takes.{there, next_there, attempts_returns, take_returns, take_kept}
 use Rattle.board_lines.proofs.Commits.{state_there}
 use Rattle.board_lines.proofs.lines.Lines.take.Goals as goal
@@ -21,15 +21,13 @@ pub returns-then-hand-len : goal.returns-then-hand-len
 returns-then-hand-len g c =
     let a = c.self.inside in
     let plan = g.J.PlanName.plan in
-    let parts : Parts = parts_of a in
-    let kept : IsKept plan parts = c.self.invariant.1 in
-    let is : board_of plan.base parts ≡ c.args.self.now = ap (λ (x : Planned). board_of x.base parts) (sym c.self.invariant.0) ∙ c.self.view_is in
+    let is = board_shown a plan c.args.self.now c.self.invariant.0 c.self.view_is in
     subst (λ (b : Board). TakeStep b c.args.worker c.args.line Idle b) is (
       elim c.then-hand-len.branch [
-        | then-hand-len-via-then-hand-len w ↦ (λ may. no_worker a.hands.items (board_of plan.base parts) kept.hand refl c.args.worker (omega (arith, a.hands.ok.0)) may.free)
+        | then-hand-len-via-then-hand-len w ↦ (λ may. no_worker a.hands.items (board_of plan.base (parts_of a)) c.self.invariant.1.hand refl c.args.worker (omega (arith, a.hands.ok.0)) may.free)
         | then-hand-len-via-else-hand-len+then-is_some w ↦
             (let s = some_if w.index.result.now (sym w.is_some.ensures ∙ w.if-is_some.true) in
-            λ may. busy a.hands.items (board_of plan.base parts) kept.hand refl c.args.worker s.0
+            λ may. busy a.hands.items (board_of plan.base (parts_of a)) c.self.invariant.1.hand refl c.args.worker s.0
             (hand_read a.hands.items c.args.worker w.index.result.now (omega (arith, a.hands.ok.0)) w.index.ensures ∙ ap (λ x. Some x) s.1) may.free)
       ],
       refl,
@@ -39,24 +37,20 @@ pub returns-in_default : goal.returns-in_default
 returns-in_default g c =
     let a = c.self.inside in
     let plan = g.J.PlanName.plan in
-    let parts : Parts = parts_of a in
-    let kept : IsKept plan parts = c.self.invariant.1 in
-    let is : board_of plan.base parts ≡ c.args.self.now = ap (λ (x : Planned). board_of x.base parts) (sym c.self.invariant.0) ∙ c.self.view_is in
+    let is = board_shown a plan c.args.self.now c.self.invariant.0 c.self.view_is in
     subst (λ (b : Board). TakeStep b c.args.worker c.args.line Idle b) is (
-      λ may. state_none parts.states c.args.line (sym c.in_default.ensures) may.within.0
-          (omega (arith, place_of plan.base parts c.args.line may.within, kept.all_states)),
+      λ may. state_none a.attempts c.args.line (state_lacks _ _ c.in_default.ensures.row) may.within.0
+          (omega (arith, place_of plan.base (parts_of a) c.args.line may.within, c.self.invariant.1.all_states)),
       refl,
     )
 
-pub returns-in_default-state : goal.returns-in_default-state
-returns-in_default-state g c =
+pub returns-in_default-own : goal.returns-in_default-own
+returns-in_default-own g c =
     let a = c.self.inside in
     let plan = g.J.PlanName.plan in
-    let parts : Parts = parts_of a in
-    let kept : IsKept plan parts = c.self.invariant.1 in
-    let is : board_of plan.base parts ≡ c.args.self.now = ap (λ (x : Planned). board_of x.base parts) (sym c.self.invariant.0) ∙ c.self.view_is in
+    let is = board_shown a plan c.args.self.now c.self.invariant.0 c.self.view_is in
     subst (λ (b : Board). TakeStep b c.args.worker c.args.line Idle b) is (
-      λ may. c.in_default-state.not-Waiting (state_waits c.in-Some.state _ _ (sym (state_there plan parts kept c.args.line c.in-Some.state (sym c.in-Some.ensures)) ∙ may.waiting)),
+      λ may. c.in_default-own.not-Waiting (state_waits c.in-Some.own.state _ _ (sym (state_there plan (parts_of a) c.self.invariant.1 c.args.line c.in-Some.own.state (state_told _ _ _ c.in-Some.ensures.row)) ∙ may.waiting)),
       refl,
     )
 
@@ -64,15 +58,13 @@ pub returns-in_default-take : goal.returns-in_default-take
 returns-in_default-take g c =
     let a = c.self.inside in
     let plan = g.J.PlanName.plan in
-    let parts : Parts = parts_of a in
-    let kept : IsKept plan parts = c.self.invariant.1 in
-    let is : board_of plan.base parts ≡ c.args.self.now = ap (λ (x : Planned). board_of x.base parts) (sym c.self.invariant.0) ∙ c.self.view_is in
-    let waits : state_at parts.states c.args.line ≡ Some states.Waiting = sym c.in-Some.ensures ∙ ap (λ x. Some x) c.in-Waiting.is in
+    let is = board_shown a plan c.args.self.now c.self.invariant.0 c.self.view_is in
+    let waits : state_at a.attempts c.args.line ≡ Some states.Waiting = state_told _ _ _ c.in-Some.ensures.row ∙ ap (λ x. Some x) c.in-Waiting.is in
     let hand : slice_get a.hands.items c.args.worker ≡ Some None =
     hand_read a.hands.items c.args.worker c.index.result.now (omega (arith, a.hands.ok.0)) c.index.ensures ∙ ap (λ x. Some x) (none_if c.index.result.now (sym c.is_some.ensures ∙ c.if-is_some.false)) in
     let spent = c.in_default-take.ensures.none in
     let t : TakeStep c.args.self.now c.args.worker c.args.line (Attempts c.args.line) c.args.self.now =
-    subst (λ (b : Board). TakeStep b c.args.worker c.args.line (Attempts c.args.line) b) is (attempts_returns plan parts kept c.args.line c.args.worker waits hand spent.0) in (
+    subst (λ (b : Board). TakeStep b c.args.worker c.args.line (Attempts c.args.line) b) is (attempts_returns plan (parts_of a) c.self.invariant.1 c.args.line c.args.worker waits hand spent.0) in (
       t.0,
       t.1,
       refl,
@@ -85,7 +77,7 @@ index_mut-row-requires g c =
     let plan = g.J.PlanName.plan in
     let parts : Parts = parts_of a in
     let kept : IsKept plan parts = c.self.invariant.1 in
-    let waits : state_at parts.states c.args.line ≡ Some states.Waiting = sym c.in-Some.ensures ∙ ap (λ x. Some x) c.in-Waiting.is in
+    let waits : state_at parts.states c.args.line ≡ Some states.Waiting = state_told _ _ _ c.in-Some.ensures.row ∙ ap (λ x. Some x) c.in-Waiting.is in
     let hand : slice_get a.hands.items c.args.worker ≡ Some None =
     hand_read a.hands.items c.args.worker c.index.result.now (omega (arith, a.hands.ok.0)) c.index.ensures ∙ ap (λ x. Some x) (none_if c.index.result.now (sym c.is_some.ensures ∙ c.if-is_some.false)) in
     let f : c.first.result ≡ parts.states.first = c.first.ensures ∙ ap (λ (x : Planned). x.first) c.self.invariant.0 ∙ sym kept.reached.first in
@@ -102,7 +94,7 @@ taken_here g c =
     let plan = g.J.PlanName.plan in
     let parts : Parts = parts_of a in
     let kept : IsKept plan parts = c.self.invariant.1 in
-    let waits : state_at parts.states c.args.line ≡ Some states.Waiting = sym c.in-Some.ensures ∙ ap (λ x. Some x) c.in-Waiting.is in
+    let waits : state_at parts.states c.args.line ≡ Some states.Waiting = state_told _ _ _ c.in-Some.ensures.row ∙ ap (λ x. Some x) c.in-Waiting.is in
     let hand : slice_get a.hands.items c.args.worker ≡ Some None =
     hand_read a.hands.items c.args.worker c.index.result.now (omega (arith, a.hands.ok.0)) c.index.ensures ∙ ap (λ x. Some x) (none_if c.index.result.now (sym c.is_some.ensures ∙ c.if-is_some.false)) in
     let spot = c.index_mut-row.result.now in

@@ -3,14 +3,12 @@ use Rattle.std.proofs.lemmas.Option.{slice_get_within}
 use Rattle.read_set.specs.Plans.{Planned}
 use Rattle.board_lines.specs.Hands.{AreWorkers}
 use Rattle.board_lines.specs.Parts.{Parts, IsKept, board_of}
-use Rattle.board_lines.proofs.Boards.{parts_of}
+use Rattle.board_lines.proofs.Boards.{board_shown, parts_of}
 use Rattle.board_lines.proofs.lines.Lines.workers.Goals as goal
 
 pub returns-clause-hands : goal.returns-clause-hands
 returns-clause-hands g c =
     let a = c.self.inside in
     let plan = g.J.PlanName.plan in
-    let parts : Parts = parts_of a in
-    let kept : IsKept plan parts = c.self.invariant.1 in
-    let is : board_of plan.base parts ≡ c.args.self.now = ap (λ (x : Planned). board_of x.base parts) (sym c.self.invariant.0) ∙ c.self.view_is in
-    subst AreWorkers is (λ n w h. slice_get_within parts.hands w (Some n) ((kept.hand w n).1 h))
+    let is = board_shown a plan c.args.self.now c.self.invariant.0 c.self.view_is in
+    subst AreWorkers is (λ n w h. slice_get_within a.hands.items w (Some n) ((c.self.invariant.1.hand w n).1 h))

@@ -12,10 +12,10 @@ pub returns-then-has : goal.returns-then-has
 returns-then-has g c =
     let b = c.self.inside.lines in
     let r = c.self.inside.ready in
-    let line : b.first + b.committed ≡ c.first.result + c.committed-committed.result =
-    omega (arith, c.first.ensures, ap (λ (x : Planned). x.first) c.plan-plan.ensures.plan, c.plan-plan.ensures.reached.first, c.committed-committed.ensures) in
-    let has : has_position r.checked b.committed ≡ true = ap (has_position r.checked) (sym c.committed-committed.ensures) ∙ sym c.has.ensures ∙ c.if-has.true in
-    subst (λ (x : Board). IsChoice x (ToCommit (c.first.result + c.committed-committed.result))) c.self.view_is
+    let line : b.first + b.committed ≡ c.first.result + c.counts-counts.result.commits =
+    omega (arith, c.first.ensures, ap (λ (x : Planned). x.first) c.plan-plan.ensures.plan, c.plan-plan.ensures.reached.first, c.counts-counts.ensures.commits) in
+    let has : has_position r.checked b.committed ≡ true = ap (has_position r.checked) (sym c.counts-counts.ensures.commits) ∙ sym c.has.ensures ∙ c.if-has.true in
+    subst (λ (x : Board). IsChoice x (ToCommit (c.first.result + c.counts-counts.result.commits))) c.self.view_is
     (subst (λ n. IsChoice b (ToCommit n)) line (commits g.J.PlanName.plan b r c.plan-plan.ensures.reached c.self.invariant has))
 
 pub returns-in-Some : goal.returns-in-Some
@@ -24,9 +24,9 @@ returns-in-Some g c =
     let r = c.self.inside.ready in
     let line : b.first + c.in-Some.position ≡ c.first-in-Some.result + c.in-Some.position =
     omega (arith, c.first-in-Some.ensures, ap (λ (x : Planned). x.first) c.plan-plan.ensures.plan, c.plan-plan.ensures.reached.first) in
-    let none : has_position r.checked b.committed ≡ false = ap (has_position r.checked) (sym c.committed-committed.ensures) ∙ sym c.has.ensures ∙ c.if-has.false in
+    let none : has_position r.checked b.committed ≡ false = ap (has_position r.checked) (sym c.counts-counts.ensures.commits) ∙ sym c.has.ensures ∙ c.if-has.false in
     subst (λ (x : Board). IsChoice x (ToCheck (c.first-in-Some.result + c.in-Some.position))) c.self.view_is
-    (subst (λ n. IsChoice b (ToCheck n)) line (checks g.J.PlanName.plan b r c.plan-plan.ensures.reached c.self.invariant c.in-Some.position none (subst (λ n. IsLeastFrom r.unchecked n (Some c.in-Some.position)) c.committed-committed.ensures c.in-Some.ensures)))
+    (subst (λ n. IsChoice b (ToCheck n)) line (checks g.J.PlanName.plan b r c.plan-plan.ensures.reached c.self.invariant c.in-Some.position none (subst (λ n. IsLeastFrom r.unchecked n (Some c.in-Some.position)) c.counts-counts.ensures.commits c.in-Some.ensures)))
 
 pub returns-in-Some-least_from : goal.returns-in-Some-least_from
 returns-in-Some-least_from g c =
@@ -35,20 +35,20 @@ returns-in-Some-least_from g c =
     let p = c.in-Some-least_from.position in
     let line : b.first + p ≡ c.first-in-Some-least_from.result + p =
     omega (arith, c.first-in-Some-least_from.ensures, ap (λ (x : Planned). x.first) c.plan-plan.ensures.plan, c.plan-plan.ensures.reached.first) in
-    let none : has_position r.checked b.committed ≡ false = ap (has_position r.checked) (sym c.committed-committed.ensures) ∙ sym c.has.ensures ∙ c.if-has.false in
+    let none : has_position r.checked b.committed ≡ false = ap (has_position r.checked) (sym c.counts-counts.ensures.commits) ∙ sym c.has.ensures ∙ c.if-has.false in
     subst (λ (x : Board). IsChoice x (ToTake (c.first-in-Some-least_from.result + p))) c.self.view_is
     (subst (λ n. IsChoice b (ToTake n)) line
-    (takes g.J.PlanName.plan b r c.plan-plan.ensures.reached c.self.invariant p none (subst (λ n. IsLeastFrom r.unchecked n None) c.committed-committed.ensures c.in_default.ensures)
-    (subst (λ n. IsLeastFrom r.waiting n (Some p)) c.committed-committed.ensures c.in-Some-least_from.ensures)))
+    (takes g.J.PlanName.plan b r c.plan-plan.ensures.reached c.self.invariant p none (subst (λ n. IsLeastFrom r.unchecked n None) c.counts-counts.ensures.commits c.in_default.ensures)
+    (subst (λ n. IsLeastFrom r.waiting n (Some p)) c.counts-counts.ensures.commits c.in-Some-least_from.ensures)))
 
 pub returns : goal.returns
 returns g c =
     let b = c.self.inside.lines in
     let r = c.self.inside.ready in
-    let none : has_position r.checked b.committed ≡ false = ap (has_position r.checked) (sym c.committed-committed.ensures) ∙ sym c.has.ensures ∙ c.if-has.false in
+    let none : has_position r.checked b.committed ≡ false = ap (has_position r.checked) (sym c.counts-counts.ensures.commits) ∙ sym c.has.ensures ∙ c.if-has.false in
     let more : b.committed < length g.J.PlanName.plan.readings =
-    omega (arith, c.if-committed-lines_of.false, c.lines_of.ensures.lines, ap (λ (x : Planned). length x.readings) c.plan-plan.ensures.plan, c.committed-committed.ensures) in
+    omega (arith, c.if-committed-lines_of.false, c.lines_of.ensures.lines, ap (λ (x : Planned). length x.readings) c.plan-plan.ensures.plan, c.counts-counts.ensures.commits) in
     subst (λ (x : Board). IsChoice x ToWait) c.self.view_is
     (waits_for_others g.J.PlanName.plan b r c.plan-plan.ensures.reached c.self.invariant more none
-    (subst (λ n. IsLeastFrom r.unchecked n None) c.committed-committed.ensures c.in_default.ensures)
-    (subst (λ n. IsLeastFrom r.waiting n None) c.committed-committed.ensures c.in_default-least_from.ensures))
+    (subst (λ n. IsLeastFrom r.unchecked n None) c.counts-counts.ensures.commits c.in_default.ensures)
+    (subst (λ n. IsLeastFrom r.waiting n None) c.counts-counts.ensures.commits c.in_default-least_from.ensures))

@@ -1,8 +1,7 @@
 //! The entries of one line.
 
-ghost use Rattle.std.specs.Prelude.{◌≡◌, ◌^◌, ◌<◌, ◌≤◌, OnOk, OnErr, Some, None, MatchOption, MatchResult, length, slice_get, option_map};
+ghost use Rattle.std.specs.Prelude.{◌≡◌, ◌^◌, ◌<◌, OnOk, OnErr, Some, None, MatchOption, MatchResult, length, slice_get, option_map};
 ghost use Rattle.std.specs.FinMap as fin;
-ghost use Rattle.std.specs.List.{insert};
 ghost use Rattle.version_store.specs.Entries.{AllOf, IsLeastLeft, IsNamedAt, keyed, line_of, no_entries, shown, suspected};
 ghost use Rattle.version_store.specs.Devices.Positions.{IsAt, IsGap, Rise, all_marked};
 
@@ -76,7 +75,16 @@ impl<'t, J: PlanName> LineEntries<'t, J> {
     {
         match position_of(&self.entries, key) {
             Ok(position) => self.entries[position] = (key, made),
-            Err(position) => insert_at(&mut self.entries, position, (key, made))?,
+            Err(position) => {
+                // the first takes memory for no more than most lines need, since there are many lines
+                let room = if self.entries.is_empty() {
+                    USUAL_ENTRIES
+                } else {
+                    0
+                };
+                self.entries.reserve_exact(room)?;
+                self.entries.insert(position, (key, made))?;
+            }
         }
         Ok(())
     }
@@ -136,23 +144,6 @@ fn position_of<J: PlanName>(entries: &[Placed<'_, J>], key: &Key) -> Result<usiz
     ensures { MatchResult result (IsAt (keyed entries.now) key.now) (IsGap (keyed entries.now) key.now) }
 {
     entries.binary_search_by(|entry| (*entry.0).cmp(key))
-}
-
-/// Inserts an entry at a position. The first takes memory for no more than most lines need, since there are many lines.
-fn insert_at<'t, J: PlanName>(
-    entries: &mut Vec<Placed<'t, J>>,
-    position: usize,
-    entry: Placed<'t, J>,
-) -> Result<(), AllocError>
-    requires { position ≤ length entries.old.items }
-    ensures put { OnOk result (entries.new.items ≡ insert entries.old.items position entry.entry) }
-    ensures same { OnErr result (entries.new.items ≡ entries.old.items) }
-{
-    if entries.is_empty() {
-        entries.reserve_exact(USUAL_ENTRIES)?;
-    }
-    entries.insert(position, entry)?;
-    Ok(())
 }
 
 /// Makes each entry suspect.

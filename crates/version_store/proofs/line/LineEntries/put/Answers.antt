@@ -1,6 +1,12 @@
-use Rattle.std.proofs.Common.{◌≡◌, ◌∙◌, ap, arith, set, subst, sym}
+use denote.Ref.{Bor}
+use Rattle.std.proofs.Common.{ℕ, List, None, ◌≡◌, ◌∙◌, ap, arith, cond, false, set, subst, sym, true, Bool}
 use Rattle.std.specs.Prelude.{option_map}
+use Rattle.std.specs.FinMap as fin
 use Rattle.std.specs.FinMap.{put}
+use Rattle.std.specs.List.{insert}
+use Rattle.std.specs.Result.{is_ok}
+use Rattle.circ_records.specs.declared.key.Key.{Key}
+use Rattle.version_store.specs.declared.entry.StoredEntry.{StoredEntry}
 use Rattle.std.specs.FinMap.Entries.{is_sorted-put}
 use Rattle.circ_records.specs.Keys.{key_cmp, key_cmp_total}
 use Rattle.circ_records.proofs.Changing.{on-err}
@@ -18,32 +24,44 @@ set_here g c =
     keyed_set es c.in-Ok.position (c.args.key, c.args.made)
     ∙ set_put (keyed es) c.args.key.now c.args.made c.in-Ok.position c.self.invariant at
 
-inserted_here : (g : _) (c : goal.In_ok-insert_at-in-Err g) → keyed c.insert_at.new.entries.items ≡ put key_cmp c.args.key.now c.args.made (keyed c.self.inside.entries.items)
-inserted_here g c =
-    let es = c.self.inside.entries.items in
-    let gap = subst (λ l. IsGap (keyed l) c.args.key.now c.in-Err.position) c.deref.ensures.value c.in-Err.ensures in
-    ap (λ l. keyed l) c.in_ok-insert_at-in-Err.ensures.put
-    ∙ keyed_insert es c.in-Err.position (c.args.key, c.args.made)
-    ∙ gap_put (keyed es) c.args.key.now c.args.made c.in-Err.position gap
+inserted : {J : Type 0} (es now : List (Bor Key × StoredEntry J)) (k : Bor Key) (made : StoredEntry J) (i : ℕ) → IsGap (keyed es) k.now i → now ≡ insert es i (k, made) → keyed now ≡ put key_cmp k.now made (keyed es)
+inserted es now k made i gap is = ap (λ l. keyed l) is ∙ keyed_insert es i (k, made) ∙ gap_put (keyed es) k.now made i gap
 
 pub invariant_of-self : goal.invariant_of-self
 invariant_of-self g c = subst Rise (sym (set_here g c)) (is_sorted-put key_cmp key_cmp_total c.args.key.now c.args.made (keyed c.self.inside.entries.items) c.self.invariant)
 
-pub invariant_of-self-in-Continue-1 : goal.invariant_of-self-in-Continue-1
-invariant_of-self-in-Continue-1 g c = subst Rise (sym (inserted_here g c)) (is_sorted-put key_cmp key_cmp_total c.args.key.now c.args.made (keyed c.self.inside.entries.items) c.self.invariant)
+risen : {J : Type 0} (done : Bool) (es now : List (Bor Key × StoredEntry J)) (k : Bor Key) (made : StoredEntry J) (i : ℕ) → Rise (keyed es) → IsGap (keyed es) k.now i → now ≡ cond done (insert es i (k, made)) es → Rise (keyed now)
+risen true es now k made i rise gap is = subst Rise (sym (inserted es now k made i gap is)) (is_sorted-put key_cmp key_cmp_total k.now made (keyed es) rise)
+risen false es now k made i rise gap is = subst (λ l. Rise (keyed l)) (sym is) rise
 
-pub insert_at-requires : goal.insert_at-requires
-insert_at-requires g c = omega (arith, c.in-Err.ensures.within, keyed_length c.deref.result.now, c.deref.ensures.len)
+pub invariant_of-self-in-Continue-branch-2 : goal.invariant_of-self-in-Continue-branch-2
+invariant_of-self-in-Continue-branch-2 g c =
+    let gap = subst (λ l. IsGap (keyed l) c.args.key.now c.in-Err.position) c.deref.ensures.value c.in-Err.ensures in
+    risen (is_ok c.insert.result) c.self.inside.entries.items _ c.args.key c.args.made c.in-Err.position c.self.invariant gap
+    (c.insert.ensures.items ∙ ap (λ (l : List (Bor Key × StoredEntry g.row.J.Denot)). cond (is_ok c.insert.result) (insert l c.in-Err.position (c.args.key, c.args.made)) l) c.reserve_exact.ensures.items)
+
+pub insert-requires : goal.insert-requires
+insert-requires g c = omega (arith, c.in-Err.ensures.within, keyed_length c.deref.result.now, c.deref.ensures.len, c.reserve_exact.ensures.len)
 
 pub returns-in-Ok-clause-put : goal.returns-in-Ok-clause-put
 returns-in-Ok-clause-put g c = rw (← c.self.view_is) (ap line_of (set_here g c) ∙ line_put (keyed c.self.inside.entries.items) c.args.key.now c.args.made)
 
-pub returns-in_ok-insert_at-in-Err-clause-put : goal.returns-in_ok-insert_at-in-Err-clause-put
-returns-in_ok-insert_at-in-Err-clause-put g c = rw (← c.self.view_is) (ap line_of (inserted_here g c) ∙ line_put (keyed c.self.inside.entries.items) c.args.key.now c.args.made)
-
-pub returns-in_err-insert_at-in-Err-clause-absent : goal.returns-in_err-insert_at-in-Err-clause-absent
-returns-in_err-insert_at-in-Err-clause-absent g c =
-    let es = keyed c.self.inside.entries.items in
+pub returns-in_ok-insert-in-Err-clause-put : goal.returns-in_ok-insert-in-Err-clause-put
+returns-in_ok-insert-in-Err-clause-put g c =
+    let es = c.self.inside.entries.items in
     let gap = subst (λ l. IsGap (keyed l) c.args.key.now c.in-Err.position) c.deref.ensures.value c.in-Err.ensures in
-    let none = get_shown es c.args.key.now ∙ ap (option_map shown) (gap_find es c.args.key.now c.in-Err.position gap) in
-    rw (← c.self.view_is) (on-err c.from_residual.result none)
+    let now = c.in_ok-insert-in-Err.ensures.items ∙ ap (λ (l : List (Bor Key × StoredEntry g.row.J.Denot)). insert l c.in-Err.position (c.args.key, c.args.made)) c.reserve_exact.ensures.items in
+    rw (← c.self.view_is) (ap line_of (inserted es _ c.args.key c.args.made c.in-Err.position gap now) ∙ line_put (keyed es) c.args.key.now c.args.made)
+
+absent : {J : Type 0} (es : List (Key × StoredEntry J)) (k : Key) (i : ℕ) → IsGap es k i → fin.get (line_of es) k ≡ None
+absent es k i gap = get_shown es k ∙ ap (option_map shown) (gap_find es k i gap)
+
+pub returns-in_err-reserve_exact-in-Err-clause-absent : goal.returns-in_err-reserve_exact-in-Err-clause-absent
+returns-in_err-reserve_exact-in-Err-clause-absent g c =
+    let gap = subst (λ l. IsGap (keyed l) c.args.key.now c.in-Err.position) c.deref.ensures.value c.in-Err.ensures in
+    rw (← c.self.view_is) (on-err c.from_residual.result (absent (keyed c.self.inside.entries.items) c.args.key.now c.in-Err.position gap))
+
+pub returns-in_err-insert-in-Err-clause-absent : goal.returns-in_err-insert-in-Err-clause-absent
+returns-in_err-insert-in-Err-clause-absent g c =
+    let gap = subst (λ l. IsGap (keyed l) c.args.key.now c.in-Err.position) c.deref.ensures.value c.in-Err.ensures in
+    rw (← c.self.view_is) (on-err c.from_residual-in_err-insert-in-Err.result (absent (keyed c.self.inside.entries.items) c.args.key.now c.in-Err.position gap))

@@ -110,8 +110,8 @@ fn publish<J: PlanName + 'static, R: Wait + AllocGlobal>(
     out: &mut String,
 ) -> Result<(), AllocError> {
     let notes = Notes::new(rt.alloc());
-    let needed = need(rt.alloc(), shared.plan(), u64::MAX, 0, &notes)?;
-    match put(rt, shared.table(), Some(needed)) {
+    let needed = need(rt.alloc(), shared.plan, u64::MAX, 0, &notes)?;
+    match put(rt, shared.table, Some(needed)) {
         Some(place) => tell_reply(out, &steps::publish(rt, shared, worker, place)),
         None => out.push_str("no version"),
     }

@@ -259,7 +259,7 @@ fn begin_often<J: PlanName + 'static, R: Wait>(
     others: &AtomicU64,
 ) {
     for _ in 0..BEGINS {
-        if shared.vain_tries() > VAIN_TRIES {
+        if shared.vain_tries.load(Ordering::Relaxed) > VAIN_TRIES {
             return;
         }
         if !tells_memory(&steps::begin(rt, shared, worker)) {

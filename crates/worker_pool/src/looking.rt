@@ -27,7 +27,7 @@ impl<J: PlanName + 'static, R: Wait> Looks for OnBoard<'_, '_, '_, J, R> {
         let seen = self.shared.hold(self.rt).look(self.worker, key);
         match seen {
             Ok(Reply::Seen { name, place }) => {
-                let found = copied(record_seen(self.shared.plan(), key, place))?;
+                let found = copied(record_seen(self.shared.plan, key, place))?;
                 Ok(Some((name, found)))
             }
             Ok(_) => Ok(None),

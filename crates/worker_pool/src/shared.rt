@@ -23,11 +23,14 @@ pub const TRIES_AT_EASE: u32 = 20;
 /// (`hold`, `try_hold`), in which it calls one method of the `FusedBoard`. The two counters don't need the board.
 #[derive(Drop)]
 pub struct SharedBoard<'p, 't, J: PlanName> {
-    plan: &'p Plan,
-    table: &'t VersionTable<J>,
-    workers: usize,
-    /// How many tries at the lock have found it taken.
-    vain_tries: AtomicU64,
+    /// The plan.
+    pub plan: &'p Plan,
+    /// The table of the versions.
+    pub table: &'t VersionTable<J>,
+    /// How many workers the board was made for.
+    pub workers: usize,
+    /// How many tries at the lock have found it taken so far, by all workers.
+    pub vain_tries: AtomicU64,
     /// 1 once a worker has ended. A worker that rests waits for a change of this.
     ended: AtomicU64,
     held: Mutex<FusedBoard<'p, 't, J>>,
@@ -49,49 +52,26 @@ impl<'p, 't, J: PlanName + 'static> SharedBoard<'p, 't, J> {
         }
     }
 
-    /// The plan.
-    pub fn plan(&self) -> &'p Plan
-        ensures { result.now ≡ J.plan }
-    {
-        self.plan
-    }
-
-    /// The table of the versions.
-    pub fn table(&self) -> &'t VersionTable<J> {
-        self.table
-    }
-
-    /// How many workers the board was made for.
-    pub fn workers(&self) -> usize {
-        self.workers
-    }
-
-    /// How many tries at the lock have found it taken so far, by all workers.
-    pub fn vain_tries(&self) -> u64 {
-        self.vain_tries.load(Ordering::Relaxed)
-    }
-
     /// Takes the lock, if it is free at one of this number of tries; else None: the board wasn't asked, and a stored fault wasn't
     /// looked for.
     pub fn try_hold(&self, tries: u32) -> Option<MutexGuard<'_, FusedBoard<'p, 't, J>>> {
+        let mut held = None;
+        let mut vain_tries = 0;
         for tried in 0..tries {
-            if let Some(held) = self.held.try_lock() {
-                self.count(tried);
-                return Some(held);
+            held = self.held.try_lock();
+            if held.is_some() {
+                break;
             }
+            vain_tries = tried + 1;
             spin_loop();
         }
-        self.count(tries);
-        None
-    }
-
-    /// Counts tries at the lock that found it taken. Mostly there are none, and nothing is written.
-    fn count(&self, vain_tries: u32) {
+        // mostly there are none, and nothing is written
         if vain_tries > 0 {
             let _ = self
                 .vain_tries
                 .fetch_add(u64::from(vain_tries), Ordering::Relaxed);
         }
+        held
     }
 
     /// Takes the lock, without sleeping if it can. (`lock` alone sleeps at once where another worker sleeps.)

@@ -15,6 +15,7 @@ use speculate::{BoardFault, Choice};
 use std::alloc::Global;
 use std::hint::spin_loop;
 use std::sync::Wait;
+use std::sync::atomic::Ordering;
 use std::thread;
 use std::thread::Threads;
 use std::time::Duration;
@@ -45,17 +46,6 @@ struct WorkerTask {
     attempt: u32,
 }
 
-/// How far a publication or a check has come.
-#[derive(Clone, Copy)]
-enum StepsLeft {
-    /// An act was done, and there is more to do.
-    More,
-    /// All is published, or all was compared.
-    Whole,
-    /// The publication or check has ended, or there is none.
-    Over,
-}
-
 /// How a worker goes on.
 #[derive(Clone, Copy)]
 enum WorkerTurn {
@@ -75,7 +65,7 @@ pub fn run_workers<J: PlanName + Send + Sync + 'static, G: Gate + Sync, R: Threa
     shared: &SharedBoard<'_, '_, J>,
     gate: &G,
 ) -> Result<(), BoardFault> {
-    let workers = shared.workers();
+    let workers = shared.workers;
     thread::scope(
         thread::scope_env(),
         rt,
@@ -109,37 +99,28 @@ fn work<J: PlanName + 'static, G: Gate, R: Wait>(
     gate: &G,
     worker: u32,
 ) {
-    if let Err(Left(fault)) = take_turns(rt, alloc, shared, gate, worker) {
-        shared.leave(rt, fault);
-    }
-    shared.end_rests();
-}
-
-/// Takes turn after turn, until all lines are committed.
-fn take_turns<J: PlanName + 'static, G: Gate, R: Wait>(
-    rt: &R,
-    alloc: Global,
-    shared: &SharedBoard<'_, '_, J>,
-    gate: &G,
-    worker: u32,
-) -> Result<(), Left> {
     let mut busy_turns: u32 = 0;
     for _ in rt.forever() {
-        let vain_tries = shared.vain_tries();
-        let turn = take_turn(rt, alloc, shared, gate, worker)?;
-        let is_busy = shared.vain_tries().saturating_sub(vain_tries) >= BUSY;
+        let before = shared.vain_tries.load(Ordering::Relaxed);
+        let turn = take_turn(rt, alloc, shared, gate, worker);
+        let after = shared.vain_tries.load(Ordering::Relaxed);
+        let is_busy = after.saturating_sub(before) >= BUSY;
         busy_turns = if is_busy {
             busy_turns.saturating_add(1)
         } else {
             0
         };
         match turn {
-            WorkerTurn::Next if worker == 0 || !is_busy => {}
-            WorkerTurn::Next | WorkerTurn::Yield => stand_back(rt, shared, worker, busy_turns),
-            WorkerTurn::Last => return Ok(()),
+            Ok(WorkerTurn::Next) if worker == 0 || !is_busy => {}
+            Ok(WorkerTurn::Next | WorkerTurn::Yield) => stand_back(rt, shared, worker, busy_turns),
+            Ok(WorkerTurn::Last) => break,
+            Err(Left(fault)) => {
+                shared.leave(rt, fault);
+                break;
+            }
         }
     }
-    unreachable!()
+    shared.end_rests();
 }
 
 /// Lets other workers go first. Only to yield does nothing where no other thread wants the core.
@@ -183,8 +164,12 @@ fn take_turn<J: PlanName + 'static, G: Gate, R: Wait>(
             gate.at(worker, *line, Moment::Committed);
             Ok(WorkerTurn::Next)
         }
-        Ok((Choice::Check(line), Some(reply))) => {
-            check_line(rt, shared, gate, worker, *line, course_of(reply))
+        Ok((Choice::Check(line), Some(Reply::Same))) => {
+            check_line(rt, shared, gate, worker, *line)
+        }
+        Ok((Choice::Check(line), Some(Reply::Whole))) => {
+            gate.at(worker, *line, Moment::Checked);
+            Ok(WorkerTurn::Next)
         }
         Ok((Choice::Take(line), Some(Reply::Taken { attempt }))) => {
             let task = WorkerTask {
@@ -199,41 +184,25 @@ fn take_turn<J: PlanName + 'static, G: Gate, R: Wait>(
     }
 }
 
-/// How far a publication or a check has come, by the reply.
-fn course_of<J: PlanName>(reply: &Reply<'_, J>) -> StepsLeft {
-    match reply {
-        Reply::Placed => StepsLeft::More,
-        Reply::Lifted => StepsLeft::More,
-        Reply::Same => StepsLeft::More,
-        Reply::Whole => StepsLeft::Whole,
-        _ => StepsLeft::Over,
-    }
-}
-
-/// Goes on with a check that has begun.
+/// Goes on with a check that has begun, until all notes were compared or the check ends.
 fn check_line<J: PlanName + 'static, G: Gate, R: Wait>(
     rt: &R,
     shared: &SharedBoard<'_, '_, J>,
     gate: &G,
     worker: u32,
     line: u64,
-    begun: StepsLeft,
 ) -> Result<WorkerTurn, Left> {
-    let mut course = begun;
     for _ in rt.forever() {
-        match course {
-            StepsLeft::More => {}
-            StepsLeft::Whole => {
+        let checked = shared.hold(rt).check(worker, line);
+        match &checked {
+            Ok(Reply::Same) => {}
+            Ok(Reply::Whole) => {
                 gate.at(worker, line, Moment::Checked);
                 return Ok(WorkerTurn::Next);
             }
-            StepsLeft::Over => return Ok(WorkerTurn::Yield),
-        }
-        let checked = shared.hold(rt).check(worker, line);
-        course = match &checked {
-            Ok(reply) => course_of(reply),
+            Ok(_) => return Ok(WorkerTurn::Yield),
             Err(left) => return Err(*left),
-        };
+        }
     }
     unreachable!()
 }
@@ -251,25 +220,26 @@ fn run_line<J: PlanName + 'static, G: Gate, R: Wait>(
         return Ok(WorkerTurn::Yield);
     };
     let published = shared.hold(rt).publish(task.worker, place);
-    let mut course = match &published {
-        Ok(reply) => course_of(reply),
+    match &published {
+        Ok(Reply::Placed | Reply::Lifted) => {}
+        Ok(Reply::Whole) => {
+            gate.at(task.worker, task.line, Moment::Whole);
+            return Ok(WorkerTurn::Next);
+        }
+        Ok(_) => return Ok(WorkerTurn::Yield),
         Err(left) => return Err(*left),
-    };
+    }
     for _ in rt.forever() {
-        match course {
-            StepsLeft::More => {}
-            StepsLeft::Whole => {
+        let more = shared.hold(rt).publish_more(task.worker);
+        match &more {
+            Ok(Some(Reply::Placed | Reply::Lifted)) => {}
+            Ok(Some(Reply::Whole)) => {
                 gate.at(task.worker, task.line, Moment::Whole);
                 return Ok(WorkerTurn::Next);
             }
-            StepsLeft::Over => return Ok(WorkerTurn::Yield),
-        }
-        let more = shared.hold(rt).publish_more(task.worker);
-        course = match &more {
-            Ok(Some(reply)) => course_of(reply),
-            Ok(None) => StepsLeft::Over,
+            Ok(_) => return Ok(WorkerTurn::Yield),
             Err(left) => return Err(*left),
-        };
+        }
     }
     unreachable!()
 }
@@ -293,10 +263,10 @@ fn read_line<'t, J: PlanName + 'static, R: Wait>(
             left: None,
         },
     };
-    match perform_one_by_one(alloc, shared.plan(), task.line, &mut source) {
+    match perform_one_by_one(alloc, shared.plan, task.line, &mut source) {
         Ok(Effect { writes, answer }) => {
             let version = Version::new(task.line, task.attempt, source.notes, writes, answer);
-            match shared.table().put(rt, version) {
+            match shared.table.put(rt, version) {
                 Ok(place) => Ok(Some(place)),
                 Err(_) => Err(Left(BoardFault::Memory)),
             }

@@ -1,7 +1,7 @@
 -- Sets of positions that lose some.
 use Rattle.std.proofs.Common.{◌≡◌, ℕ, ◌<◌, ◌≤◌, Bool, true, false, cond, ◌||◌, List, length, set, get_or, refl, sym, ap, ap₂, subst, ◌∙◌, inl, inr, arith, length-set, get_or-set_same, get_or-set_other, sum_by}
 use Rattle.std.proofs.lemmas.Bool.{cases_eq}
-use Rattle.std.proofs.lemmas.List.{get_or_past, set-get_or}
+use Rattle.std.proofs.lemmas.List.{get_or_past}
 use Rattle.std.proofs.lemmas.Bool.{cases_lt}
 use Rattle.std.proofs.lemmas.List.Sums.{sum_by-set}
 use Rattle.speculate.specs.Marks.{has_position, GoesOver}
@@ -25,9 +25,6 @@ smaller flags p h =
     let s = sum_by-set bit flags p false false (position_within flags p h) in
     let one : bit (get_or flags p false) ≡ 1 = ap bit h in
     omega (arith, s, one)
-
-pub flag_stays : (flags : List Bool) (p : ℕ) (b : Bool) → has_position flags p ≡ b → p < length flags → flags ≡ set flags p b
-flag_stays flags p b h lt = sym (set-get_or flags p false) ∙ ap (λ x. set flags p x) h
 
 -- ---- what is in the first set goes over to the second, so far
 pub record GoesPart (first second first_new second_new : List Bool) (from : ℕ) : Type 0 where

@@ -1,13 +1,13 @@
 //! The board.
 
-ghost use Rattle.std.specs.Prelude.{◌≡◌, ◌+◌, ◌-◌, ◌^◌, ◌≤◌, IfOk, length, option_copied, option_map};
+ghost use Rattle.std.specs.Prelude.{◌≡◌, ◌+◌, ◌-◌, ◌<◌, ◌≤◌, IfErr, IfOk, OnErr, length, option_copied, option_map};
 ghost use Rattle.board_steps.specs.Choice.{IsChoice};
 ghost use Rattle.board_steps.specs.Reached.{Reached};
 ghost use Rattle.board_steps.specs.Steps.{opening};
 ghost use Rattle.board_steps.specs.declared.TheConstants.{WORKERS_MAX};
 ghost use Rattle.board_steps.specs.Steps.Call.{Check, Commit, Look, Publish, Take};
-ghost use Rattle.journal_table.specs.declared.TheConstants.{LINE_LIMIT};
 ghost use Rattle.speculate.specs.Choices.{Begins, chosen};
+ghost use Rattle.speculate.specs.Finishing.{IsWhole};
 ghost use Rattle.board_lines.specs.Courses.{PublishesMore};
 ghost use Rattle.board_lines.specs.Hands.{AreCounts, AreNotesOf, AreWorkers, IsHand};
 ghost use Rattle.board_lines.specs.Acts.{IsPlacing};
@@ -15,6 +15,7 @@ ghost use Rattle.board_lines.specs.Notes.{contents_at};
 ghost use Rattle.board_lines.specs.Replies.{Answers};
 
 use crate::choice::Choice;
+use crate::finished::{Finished, Open};
 use crate::ready::{Mark, Ready};
 use attempts::Counts;
 use board_lines::{Hand, Lines, PlaceNotes, Reply};
@@ -77,7 +78,7 @@ impl<'p, 't, J: PlanName> Board<'p, 't, J> {
     {
         Ok(Board {
             lines: Lines::new(alloc, plan, workers, attempt, clock)?,
-            ready: Ready::new(alloc, lines_of(plan))?,
+            ready: Ready::new(alloc, plan.readings().len())?,
         })
     }
 
@@ -164,7 +165,15 @@ impl<'p, 't, J: PlanName> Board<'p, 't, J> {
                 Reply::Same
             }
             Reply::Whole => {
-                self.ready.end_check(position_of(plan, line), begins);
+                let position = position_of(plan, line);
+                // if an earlier line has changed during the check, its stamp isn't valid
+                let valid = begins || self.ready.checking.has(position);
+                let mark = if valid {
+                    Mark::Checked
+                } else {
+                    Mark::Unchecked
+                };
+                self.ready.put(position, mark);
                 Reply::Whole
             }
             Reply::Changed { key, noted, found } => {
@@ -231,7 +240,7 @@ impl<'p, 't, J: PlanName> Board<'p, 't, J> {
     pub fn committed(&self) -> u64
         ensures { result ≡ self.now.committed }
     {
-        self.counts().commits
+        self.lines.committed()
     }
 
     /// The clock: its first value, and 1 more for each change of an entry.
@@ -248,7 +257,7 @@ impl<'p, 't, J: PlanName> Board<'p, 't, J> {
     {
         let plan = self.lines.plan();
         let committed = self.lines.committed();
-        if committed >= lines_of(plan) as u64 {
+        if committed >= plan.readings().len() as u64 {
             return Choice::End;
         }
         // the committed lines are the first ones, and in none of the sets
@@ -279,15 +288,25 @@ impl<'p, 't, J: PlanName> Board<'p, 't, J> {
             Choice::End => (choice, None),
         }
     }
-}
 
-/// How many lines a plan has.
-pub fn lines_of(plan: &Plan) -> usize
-    ensures lines { result ≡ length plan.now.readings }
-    ensures few { result ≤ LINE_LIMIT }
-    ensures numbered { plan.now.first + result ≤ 2 ^ 64 }
-{
-    plan.readings().len()
+    /// The outcome of the replay, where all lines are committed; else the board as it was, with the number of committed
+    /// lines.
+    pub fn finish(self) -> Result<Finished<'p, 't, J>, Open<'p, 't, J>>
+        ensures finished { IfOk result (λ finished. (finished ≡ self.entry) × IsWhole self.entry) }
+        ensures all { IsWhole self.entry → OnErr result ⊥ }
+        ensures still { IfErr result (λ rest. (rest.board ≡ self.entry) × (rest.committed ≡ self.entry.committed) × (rest.committed < length J.plan.readings)) }
+    {
+        let committed = self.lines.committed();
+        let plan = self.lines.plan();
+        if committed < plan.readings().len() as u64 {
+            return Err(Open {
+                board: self,
+                committed,
+            });
+        }
+        let Board { lines, ready: _ } = self;
+        Ok(Finished { lines })
+    }
 }
 
 /// The position of a line, from 0 on.

@@ -12,7 +12,7 @@ ghost use Rattle.board_lines.specs.Notes.{contents_at};
 ghost use Rattle.board_lines.specs.Replies.{Answers};
 ghost use Rattle.speculate.specs.Devices.Phases.{Appears, AreFresh, Drives, Holds, IsBegun, IsDone, IsFresh, IsRechecked, IsTaken, Proves, Reads, Spares, Waits};
 
-use crate::board::{Board, lines_of};
+use crate::board::Board;
 use crate::draining::drain;
 use crate::playing::{put, settled_if_done};
 use crate::steps::BoardFault;
@@ -59,7 +59,7 @@ fn drive_lines<'t, J: PlanName + 'static, R: Wait>(
 {
     let plan = board.plan();
     let first = plan.first();
-    let lines = lines_of(plan) as u64;
+    let lines = plan.readings().len() as u64;
     for position in board.committed()..lines {
         drive_line(rt, alloc, table, board, first + position)?;
     }

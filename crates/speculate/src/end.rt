@@ -21,14 +21,13 @@ impl<'t, J: PlanName> End<'t> for Finished<'_, 't, J> {
     ghost left = { λ _ key. last J.plan key };
 
     fn plan(&self) -> &Plan {
-        self.board.plan()
+        self.lines.plan()
     }
 
     /// The answer that the replay by one thread gives. It is in the table of versions, and outlives the board.
     fn answer(&self, line: u64) -> Option<&'t Answer> {
-        let board = &self.board;
-        let _plan = board.plan();
-        board.lines.answer(line)
+        let _plan = self.lines.plan();
+        self.lines.answer(line)
     }
 
     /// 0 for a line that isn't there.
@@ -40,20 +39,17 @@ impl<'t, J: PlanName> End<'t> for Finished<'_, 't, J> {
         if numbers.end <= line {
             return 0;
         }
-        let board = &self.board;
-        board.lines.attempt(line)
+        self.lines.attempt(line)
     }
 
     fn keys_of(&self, line: u64, i: usize) -> Option<(&Key, u32)> {
-        let board = &self.board;
-        board.lines.keys_of(line, i)
+        self.lines.keys_of(line, i)
     }
 
     /// The last record that the replay by one thread gives.
     fn final_of(&self, key: &Key) -> Option<&Record> {
-        let board = &self.board;
-        let _plan = board.plan();
-        board.lines.value_of(key)
+        let _plan = self.lines.plan();
+        self.lines.value_of(key)
     }
 
     /// None: a board has no list of the last records.

@@ -1,21 +1,22 @@
 //! A board on which all lines are committed.
 
-ghost use Rattle.std.specs.Prelude.{◌≡◌, ◌<◌, IfErr, IfOk, OnErr, length};
+ghost use Rattle.std.specs.Prelude.{◌≡◌};
 ghost use Rattle.board_steps.specs.Reached.{Reached};
 ghost use Rattle.speculate.specs.Finishing.{IsWhole};
 
-use crate::board::{Board, lines_of};
+use crate::board::Board;
+use board_lines::Lines;
 use read_set::{Plan, PlanName};
 use std::marker::Model;
 
 /// A board on which all lines are committed: the outcome of a replay.
 pub struct Finished<'p, 't, J: PlanName> {
-    pub(crate) board: Board<'p, 't, J>,
+    pub(crate) lines: Lines<'p, 't, J>,
 }
 
 impl<J: PlanName> Drop for Finished<'_, '_, J> {
     fn drop(self) {
-        let Finished { board: _ } = self;
+        let Finished { lines: _ } = self;
     }
 }
 
@@ -30,9 +31,9 @@ impl<'p, 't, J: PlanName> Model for Finished<'p, 't, J> {
 
     ghost use Rattle.speculate.specs.Finishing.{IsWhole};
 
-    ghost view = { λ f. f.board };
+    ghost view = { λ f. f.lines };
 
-    ghost invariant = { λ f. IsWhole f.board };
+    ghost invariant = { λ f. IsWhole f.lines };
 }
 
 /// A board on which some line isn't committed, and how many lines are.
@@ -63,26 +64,6 @@ impl<'p, 't, J: PlanName> Open<'p, 't, J> {
     }
 }
 
-impl<'p, 't, J: PlanName> Board<'p, 't, J> {
-    /// The outcome of the replay, where all lines are committed; else the board as it was, with the number of committed
-    /// lines.
-    pub fn finish(self) -> Result<Finished<'p, 't, J>, Open<'p, 't, J>>
-        ensures finished { IfOk result (λ finished. (finished ≡ self.entry) × IsWhole self.entry) }
-        ensures all { IsWhole self.entry → OnErr result ⊥ }
-        ensures still { IfErr result (λ rest. (rest.board ≡ self.entry) × (rest.committed ≡ self.entry.committed) × (rest.committed < length J.plan.readings)) }
-    {
-        let committed = self.committed();
-        let plan = self.plan();
-        if committed < lines_of(plan) as u64 {
-            return Err(Open {
-                board: self,
-                committed,
-            });
-        }
-        Ok(Finished { board: self })
-    }
-}
-
 impl<'p, 't, J: PlanName> Finished<'p, 't, J> {
     /// The plan. The contract also says that all lines are committed, and gives `Reached`, which holds of every board that steps lead
     /// to.
@@ -91,6 +72,6 @@ impl<'p, 't, J: PlanName> Finished<'p, 't, J> {
         ensures reached { Reached J.plan self.now }
         ensures whole { IsWhole self.now }
     {
-        self.board.plan()
+        self.lines.plan()
     }
 }

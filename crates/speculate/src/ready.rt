@@ -1,8 +1,8 @@
 //! Which lines wait, which need a check, and which have a valid stamp.
 
-ghost use Rattle.std.specs.Prelude.{◌≡◌, ◌+◌, ◌<◌, ◌≤◌, ◌||◌, IfOk, length, slice_set};
+ghost use Rattle.std.specs.Prelude.{◌≡◌, ◌+◌, ◌<◌, ◌≤◌, IfOk, length};
 ghost use Rattle.journal_table.specs.declared.TheConstants.{LINE_LIMIT};
-ghost use Rattle.speculate.specs.Marks.{Follows, GoesOut, GoesOver, IsPosition, Loses, Puts, SendsBack, all_waiting, ended, has_position};
+ghost use Rattle.speculate.specs.Marks.{Follows, GoesOver, IsPosition, Loses, Puts, SendsBack, all_waiting};
 
 use board_lines::Reply;
 use line_set::LineSet;
@@ -61,10 +61,17 @@ impl Ready {
         requires { IsPosition self.old position }
         ensures { Puts self.old self.new position mark }
     {
-        put_flag(&mut self.waiting, position, mark == Mark::Waiting);
-        put_flag(&mut self.unchecked, position, mark == Mark::Unchecked);
-        put_flag(&mut self.checked, position, mark == Mark::Checked);
-        put_flag(&mut self.checking, position, mark == Mark::Checking);
+        self.waiting.remove(position);
+        self.unchecked.remove(position);
+        self.checked.remove(position);
+        self.checking.remove(position);
+        match mark {
+            Mark::Nowhere => {}
+            Mark::Waiting => self.waiting.insert(position),
+            Mark::Unchecked => self.unchecked.insert(position),
+            Mark::Checked => self.checked.insert(position),
+            Mark::Checking => self.checking.insert(position),
+        }
     }
 
     /// An act of the publication of the line at a position had this reply: the line's entries have changed, or all is published.
@@ -86,19 +93,8 @@ impl Ready {
         ensures { Loses self.old self.new position }
     {
         lose_checked(&mut self.checked, &mut self.unchecked, position + 1);
-        lose_checking(&mut self.checking, position + 1);
-    }
-
-    /// All notes of a line were compared, in a check that begins with this call or began earlier.
-    pub fn end_check(&mut self, position: usize, begins: bool)
-        requires { IsPosition self.old position }
-        ensures { Puts self.old self.new position (ended (begins || has_position self.old.checking position)) }
-    {
-        if begins || self.checking.has(position) {
-            self.put(position, Mark::Checked);
-        } else {
-            // an earlier line has changed during the check
-            self.put(position, Mark::Unchecked);
+        while let Some(later) = self.checking.least_from(position + 1) {
+            self.checking.remove(later);
         }
     }
 
@@ -114,21 +110,6 @@ impl Ready {
     }
 }
 
-/// Adds a position to a set, or removes it.
-fn put_flag(set: &mut LineSet, position: usize, flag: bool)
-    requires { position < length set.old }
-    ensures { set.new ≡ slice_set set.old position flag }
-{
-    if set.has(position) == flag {
-        return;
-    }
-    if flag {
-        set.insert(position);
-    } else {
-        set.remove(position);
-    }
-}
-
 /// The checked lines from a position on need a check again.
 fn lose_checked(checked: &mut LineSet, unchecked: &mut LineSet, from: usize)
     requires { length checked.old ≡ length unchecked.old }
@@ -137,14 +118,5 @@ fn lose_checked(checked: &mut LineSet, unchecked: &mut LineSet, from: usize)
     while let Some(position) = checked.least_from(from) {
         checked.remove(position);
         unchecked.insert(position);
-    }
-}
-
-/// The checks that go on at lines from a position on are no longer valid.
-fn lose_checking(checking: &mut LineSet, from: usize)
-    ensures { GoesOut checking.old checking.new from }
-{
-    while let Some(position) = checking.least_from(from) {
-        checking.remove(position);
     }
 }

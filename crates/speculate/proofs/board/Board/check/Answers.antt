@@ -9,7 +9,7 @@ use Rattle.speculate.specs.Marks.{Puts, SendsBack, ended, has_position}
 use Rattle.speculate.proofs.Readying.{position_is, puts_at}
 use Rattle.speculate.proofs.Calling.{check_other, differs_if, same_if, same_begin, same_goes_on, whole_ready, failed_ready}
 use Rattle.speculate.proofs.board.Board.check.Goals as goal
-use Rattle.speculate.proofs.board.Board.check.Goals.{then-begins, else-begins}
+use Rattle.speculate.proofs.board.Board.check.Goals.{then-begins, else-begins, then-begins-in-Whole, else-begins-in-Whole, then-valid, else-valid}
 
 -- the check begins
 pub invariant_of-self : goal.invariant_of-self
@@ -28,10 +28,19 @@ invariant_of-self-else-begins g c =
 pub invariant_of-self-in-Whole : goal.invariant_of-self-in-Whole
 invariant_of-self-in-Whole g c =
     let r = c.self.inside.ready in
-    let at = position_is g.J.PlanName.plan c.plan-plan.result.now c.self.inside.lines c.position_of-in-Whole.result c.args.line c.position_of-in-Whole.ensures c.plan-plan.ensures.plan c.plan-plan.ensures.reached in
-    whole_ready g.J.PlanName.plan c.self.inside.lines c.check.new.self c.args.worker c.args.line r c.end_check.new.self
+    let at = position_is g.J.PlanName.plan c.plan-plan.result.now c.self.inside.lines c.position_of-position.result c.args.line c.position_of-position.ensures c.plan-plan.ensures.plan c.plan-plan.ensures.reached in
+    let valid : c.if-begins.value ≡ (c.is_none-begins.result || has_position r.checking c.position_of-position.result) = elim c.if-begins.branch [
+      | then-begins-in-Whole w ↦ w.value-is ∙ w.if-begins.true ∙ sym (ap (λ b. b || has_position r.checking c.position_of-position.result) w.if-begins.true)
+      | else-begins-in-Whole w ↦ w.value-is ∙ w.has.ensures ∙ sym (ap (λ b. b || has_position r.checking c.position_of-position.result) w.if-begins.false)
+    ] in
+    let mark : c.if-valid.mark ≡ ended c.if-begins.value = elim c.if-valid.branch [
+      | then-valid w ↦ w.mark-is ∙ ap ended (sym w.if-valid.true)
+      | else-valid w ↦ w.mark-is ∙ ap ended (sym w.if-valid.false)
+    ] in
+    let puts = subst (λ m. Puts r c.put-in-Whole.new.self c.position_of-position.result m) (mark ∙ ap ended valid) c.put-in-Whole.ensures in
+    whole_ready g.J.PlanName.plan c.self.inside.lines c.check.new.self c.args.worker c.args.line r c.put-in-Whole.new.self
     c.plan-plan.ensures.reached c.in-Whole.ensures c.self.invariant c.hand.result c.is_none-begins.result c.hand.ensures c.is_none-begins.ensures
-    (subst (λ p. Puts r c.end_check.new.self p (ended (c.is_none-begins.result || has_position r.checking p))) at c.end_check.ensures)
+    (subst (λ p. Puts r c.put-in-Whole.new.self p (ended (c.is_none-begins.result || has_position r.checking p))) at puts)
 
 pub invariant_of-self-in-Changed : goal.invariant_of-self-in-Changed
 invariant_of-self-in-Changed g c =

@@ -1,4 +1,4 @@
-use Rattle.std.proofs.Common.{◌≡◌, ◌+◌, ◌<◌, length, ap, sym, subst, ◌∙◌, arith, true, false, Some, None}
+use Rattle.std.proofs.Common.{◌≡◌, ◌+◌, ◌<◌, length, rules, ap, sym, subst, ◌∙◌, arith, true, false, Some, None}
 use Rattle.read_set.specs.Plans.{Planned}
 use Rattle.board_steps.specs.Board.{Board}
 use Rattle.board_steps.specs.Choice.{IsChoice}
@@ -46,8 +46,9 @@ returns g c =
     let b = c.self.inside.lines in
     let r = c.self.inside.ready in
     let none : has_position r.checked b.committed ≡ false = ap (has_position r.checked) (sym c.committed-committed.ensures) ∙ sym c.has.ensures ∙ c.if-has.false in
+    let lines : c.len.result ≡ length c.plan-plan.result.now.readings = search rules in
     let more : b.committed < length g.J.PlanName.plan.readings =
-    omega (arith, c.if-committed-lines_of.false, c.lines_of.ensures.lines, ap (λ (x : Planned). length x.readings) c.plan-plan.ensures.plan, c.committed-committed.ensures) in
+    omega (arith, c.if-committed-len.false, lines, ap (λ (x : Planned). length x.readings) c.plan-plan.ensures.plan, c.committed-committed.ensures) in
     subst (λ (x : Board). IsChoice x ToWait) c.self.view_is
     (waits_for_others g.J.PlanName.plan b r c.plan-plan.ensures.reached c.self.invariant more none
     (subst (λ n. IsLeastFrom r.unchecked n None) c.committed-committed.ensures c.in_default.ensures)

@@ -1,4 +1,4 @@
-use Rattle.std.proofs.Common.{◌∙◌, length, ap, subst, sym, arith}
+use Rattle.std.proofs.Common.{length, ap, subst, sym, arith}
 use Rattle.board_steps.specs.Board.{Board, IsCommitted, row_at}
 use Rattle.read_set.specs.Plans.{Planned}
 use Rattle.speculate.proofs.BoardEnds.{none_outside}
@@ -21,7 +21,7 @@ pub attempt-requires : goal.attempt-requires
 attempt-requires g c =
     let first = ap (λ (p : Planned). p.first) c.plan.ensures.plan in
     let count = ap (λ (p : Planned). length p.readings) c.plan.ensures.plan in
-    subst (λ (b : Board). IsCommitted (row_at b c.args.line).state) (sym (c.board.view_is ∙ c.self.view_is)) (c.plan.ensures.whole c.args.line (
+    subst (λ (b : Board). IsCommitted (row_at b c.args.line).state) (sym c.self.view_is) (c.plan.ensures.whole c.args.line (
       omega (arith, c.if-line-numbers.false, c.numbers-numbers.ensures.start, first, c.plan.ensures.reached.first),
       omega (arith, c.if-numbers-line.false, c.numbers-numbers.ensures.end, first, count, c.plan.ensures.reached.first, c.plan.ensures.reached.all),
     ))

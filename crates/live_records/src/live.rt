@@ -2,9 +2,9 @@
 
 ghost use Rattle.std.specs.Prelude.{◌≡◌};
 
-use circ_records::{Key, KeyRef, LikelyPositions, Record, RecordMap, Records};
+use circ_records::{Key, LikelyPositions, Record, RecordMap, Records};
 use read_set::{Plan, Source, Stop, Writes, named_by};
-use sip_reader::{Id, Reading};
+use sip_reader::Reading;
 use std::alloc::{AllocError, Global};
 use std::marker::Model;
 
@@ -104,24 +104,6 @@ impl Source for Live {
     #[tactic(auto, using(read_set::proofs::Gaining::gains_none))]
     fn read(&mut self, _alloc: Global, key: &Key) -> Result<Option<Record>, Stop> {
         match self.get(key) {
-            Some(found) => Ok(Some(found.copy()?)),
-            None => Ok(None),
-        }
-    }
-
-    #[inline(always)]
-    #[tactic(auto, using(read_set::proofs::Gaining::gains_none))]
-    fn read_patron(&mut self, _alloc: Global, id: &Id) -> Result<Option<Record>, Stop> {
-        match self.records.get(KeyRef::Patron(id)) {
-            Some(found) => Ok(Some(found.copy()?)),
-            None => Ok(None),
-        }
-    }
-
-    #[inline(always)]
-    #[tactic(auto, using(read_set::proofs::Gaining::gains_none))]
-    fn read_item(&mut self, _alloc: Global, id: &Id) -> Result<Option<Record>, Stop> {
-        match self.records.get(KeyRef::Item(id)) {
             Some(found) => Ok(Some(found.copy()?)),
             None => Ok(None),
         }

@@ -23,7 +23,7 @@ pub fn patron_of<S: Source>(
     ensures gives { Follows result (follow (S.has source.new) (patron_at policy.now id.now)) }
     ensures keeps { Gains S.one_by_one (S.has source.old) (S.has source.new) (patron_at policy.now id.now) }
 {
-    let found = source.read_patron(alloc, id)?;
+    let found = source.read(alloc, &Key::Patron(id.clone()?))?;
     Ok(known_patron(policy, found))
 }
 
@@ -39,7 +39,7 @@ pub fn item_of<S: Source>(
     ensures gives { Follows result (follow (S.has source.new) (item_at policy.now id.now)) }
     ensures keeps { Gains S.one_by_one (S.has source.old) (S.has source.new) (item_at policy.now id.now) }
 {
-    let found = source.read_item(alloc, id)?;
+    let found = source.read(alloc, &Key::Item(id.clone()?))?;
     Ok(known_item(policy, found))
 }
 

@@ -1,12 +1,10 @@
 ghost use Rattle.std.specs.Prelude.{Option};
 ghost use Rattle.circ_records.specs.declared.key.Key.{Key};
-ghost use Rattle.circ_records.specs.declared.key.Key.TheVariants as keys;
 ghost use Rattle.circ_records.specs.declared.record.Record.{Record};
 ghost use Rattle.read_set.specs.Asks.{follow, Ask, Give, Gains};
 ghost use Rattle.read_set.specs.Stops.{Follows};
 
 use circ_records::{Key, Record};
-use sip_reader::Id;
 use std::alloc::{AllocError, Global};
 
 /// Why the meaning of a line stopped before its end.
@@ -42,20 +40,4 @@ pub trait Source {
     fn read(&mut self, alloc: Global, key: &Key) -> Result<Option<Record>, Stop>
         ensures gives { Follows result (follow (has self.new) (Ask key.now Give)) }
         ensures keeps { Gains one_by_one (has self.old) (has self.new) (Ask key.now Give) };
-
-    /// The same for the patron with this id. A source may do this without making a key.
-    fn read_patron(&mut self, alloc: Global, id: &Id) -> Result<Option<Record>, Stop>
-        ensures gives { Follows result (follow (has self.new) (Ask (keys.Patron id.now) Give)) }
-        ensures keeps { Gains one_by_one (has self.old) (has self.new) (Ask (keys.Patron id.now) Give) }
-    {
-        self.read(alloc, &Key::Patron(id.clone()?))
-    }
-
-    /// The same for the item with this id.
-    fn read_item(&mut self, alloc: Global, id: &Id) -> Result<Option<Record>, Stop>
-        ensures gives { Follows result (follow (has self.new) (Ask (keys.Item id.now) Give)) }
-        ensures keeps { Gains one_by_one (has self.old) (has self.new) (Ask (keys.Item id.now) Give) }
-    {
-        self.read(alloc, &Key::Item(id.clone()?))
-    }
 }

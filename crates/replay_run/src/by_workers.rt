@@ -1,9 +1,13 @@
 //! A whole run by workers in threads.
 
-ghost use Rattle.std.specs.Prelude.{◌≡◌, ◌≤◌, IfErr, IfOk, length};
+ghost use Rattle.std.specs.Prelude.{◌≡◌, ◌≤◌, ◌+◌, IfErr, IfOk, length};
+ghost use Rattle.std.specs.Thread.{IsSync};
 ghost use Rattle.read_set.specs.Plans.{readings_of};
 ghost use Rattle.read_set.specs.Replay.{last};
-ghost use Rattle.result_report.specs.Report.{answers_behind};
+ghost use Rattle.record_tables.specs.Tables.{texts_of};
+ghost use Rattle.record_tables.specs.Written.{tables_of};
+ghost use Rattle.result_report.specs.Report.{AreAnswers, answers_behind, line_results};
+ghost use Rattle.result_report.specs.Tables.{AreTexts};
 ghost use Rattle.replay_run.specs.Answers.{answers_of};
 ghost use Rattle.replay_run.specs.Attempts.{AreOnePerLine};
 ghost use Rattle.replay_run.specs.BySteps.{AreWorkers, attempts_on};
@@ -19,17 +23,16 @@ use crate::replay::replay;
 use crate::replay_end::ReplayEnd;
 use crate::run::{judge_parallel, put_together};
 use board_steps::WORKERS_MAX;
-use circ_records::{RecordMap, Records};
 use journal_table::Journal;
 use read_set::{Plan, PlanName};
-use record_tables::write_records;
-use result_report::{LastRecords, Outcome, collect, report_parallel};
+use record_tables::{Tables, write_records};
+use result_report::{Outcome, ResultTexts, collect, report_parallel};
 use speculate::{Board, Finished, Open, drive_in_order};
 use std::alloc::{AllocError, Global};
 use std::marker::Brand;
 use std::mem::forget;
 use std::sync::Wait;
-use std::thread::Threads;
+use std::thread::{Threads, join};
 use version_store::VersionTable;
 use worker_pool::{Gate, SharedBoard, run_workers};
 
@@ -182,8 +185,8 @@ fn collect_parallel<J: PlanName + 'static, R: Threads + Sync>(
     Ok(output)
 }
 
-/// The output of a run over the plan of a journal that ended with the records and the answers of one thread; the result tables are made by
-/// all cores.
+/// The output of a run over the plan of a journal that ended with the records and the answers of one thread. The tables of the records and
+/// the result tables are made side by side, the latter by all cores.
 fn output_parallel<R: Threads + Sync>(
     rt: &R,
     alloc: Global,
@@ -196,19 +199,15 @@ fn output_parallel<R: Threads + Sync>(
     requires records { AreEntries (last plan.now) outcome.records }
     ensures { IfOk result (IsOutputBy plan.now journal.now outcome.entry.attempts.items) }
 {
-    let Outcome {
-        records,
-        answers,
-        attempts,
-    } = outcome;
-    let tables = write_records(alloc, records.as_records())?;
-    // the records' memory is needed for the texts
-    drop(records);
-    let rest = Outcome {
-        records: LastRecords::collected(Records::from_map(alloc, RecordMap::new(alloc))?),
-        answers,
-        attempts,
-    };
-    let texts = report_parallel(rt, alloc, journal, plan, &rest)?;
-    Ok(put_together(tables, texts, rest.attempts))
+    let (records, lent) = (outcome.records.as_records(), &outcome);
+    let write = || -> Result<Tables, AllocError>
+        ensures { IfOk result (λ tables. texts_of tables ≡ tables_of records.entry.now) }
+    { write_records(alloc, records) };
+    let tell = || -> Result<ResultTexts, AllocError>
+        requires { IsSync R.row × (plan.now.readings ≡ readings_of journal.now) × AreAnswers (readings_of journal.now) (answers_behind lent.now.answers.items) }
+        ensures { IfOk result (λ t. AreTexts (line_results journal.entry.now (readings_of journal.entry.now) (answers_behind lent.entry.now.answers.items)) t
+            × (t.sizes.answered + t.sizes.passed ≡ length journal.entry.now)) }
+    { report_parallel(rt, alloc, journal, plan, lent) };
+    let (tables, texts) = join(rt, write, tell);
+    Ok(put_together(tables?, texts?, outcome.attempts))
 }

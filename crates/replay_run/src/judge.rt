@@ -1,22 +1,24 @@
 //! The inputs of a run, judged: the first fault of policy, tables and journal, in this order.
 
-ghost use Rattle.std.specs.Prelude.{◌≡◌, Err, None};
-ghost use Rattle.circ_policy.specs.Reading.{policy_of};
+ghost use Rattle.std.specs.Prelude.{◌≡◌, List, Result};
 ghost use Rattle.record_tables.specs.Base.{base_of};
-ghost use Rattle.record_tables.specs.Tables.{texts_of};
-ghost use Rattle.journal_table.specs.Journal.{journal_of};
-ghost use Rattle.replay_run.specs.Judgements.{Fails, first_read, with_base, with_policy};
+ghost use Rattle.record_tables.specs.Tables.{Texts, texts_of};
+ghost use Rattle.journal_table.specs.Entry.{Entry};
+ghost use Rattle.journal_table.specs.Journal.{Gives, journal_of};
+ghost use Rattle.journal_table.specs.declared.error.JournalError.{JournalError};
+ghost use Rattle.replay_run.specs.Judgements.{first_read, with_base};
 ghost use Rattle.replay_run.specs.OneThread.{judgement};
-ghost use Rattle.replay_run.specs.Prepared.{IsSound};
+ghost use Rattle.replay_run.specs.Prepared.{IsBase, IsSound};
 
 use crate::fault::Fault;
 use crate::inputs::Inputs;
 use crate::prepared::Sound;
 use circ_policy::Policy;
 use circ_records::Records;
-use journal_table::{Journal, JournalError};
-use record_tables::{Tables, read_base};
+use journal_table::{Journal, JournalError, number_of};
+use record_tables::{BaseError, Tables, read_base};
 use std::alloc::Global;
+use std::thread::{Threads, join};
 
 /// The policy, the base and the journal that the inputs give, or their first fault.
 #[tactic(auto, unfolding(crate::specs::Judgements::judgement_on))]
@@ -24,22 +26,78 @@ pub fn judge(alloc: Global, inputs: &Inputs) -> Result<Sound<'_>, Fault>
     ensures { IsSound result (judgement inputs.now) }
 {
     match Policy::read(alloc, inputs.policy.as_slice()) {
-        Ok(policy) => judge_journal(alloc, policy, &inputs.tables, inputs.journal.as_slice()),
+        Ok(policy) => {
+            let journal = Journal::read(alloc, inputs.journal.as_slice());
+            let base = read_base(alloc, &policy, &inputs.tables, first_of(&journal));
+            accept(policy, base, journal)
+        }
         Err(error) => Err(Fault::from(error)),
     }
 }
 
-/// The journal is read before the base, which asks for its first number, but its fault comes after the base's.
-fn judge_journal<'i>(
+/// The same; tables and journal are read side by side. The tables are judged by the number of the journal's first line, which is guessed until
+/// the journal is read.
+#[tactic(auto, unfolding(crate::specs::Judgements::judgement_on))]
+pub fn judge_side_by_side<'i, R: Threads + Sync>(
+    rt: &R,
     alloc: Global,
-    policy: Policy,
-    tables: &Tables,
-    journal: &'i [u8],
+    inputs: &'i Inputs,
 ) -> Result<Sound<'i>, Fault>
-    ensures { IsSound result (with_base policy (journal_of journal.now) (base_of policy (texts_of tables.now) (first_read (journal_of journal.now)))) }
+    ensures { IsSound result (judgement inputs.now) }
 {
-    match Journal::read(alloc, journal) {
-        Ok(journal) => match read_base(alloc, &policy, tables, journal.first()) {
+    match Policy::read(alloc, inputs.policy.as_slice()) {
+        Ok(policy) => {
+            let (tables, bytes) = (&inputs.tables, inputs.journal.as_slice());
+            let guess = likely_first(bytes);
+            let (early, journal) = join(
+                rt,
+                || -> Result<Records, BaseError>
+                    ensures { IsBase policy (texts_of tables.entry.now) guess result }
+                { read_base(alloc, &policy, tables, guess) },
+                || -> Result<Journal, JournalError>
+                    ensures { Gives result (journal_of bytes.entry.now) }
+                { Journal::read(alloc, bytes) },
+            );
+            let first = first_of(&journal);
+            let base = if guess == first {
+                early
+            } else {
+                read_base(alloc, &policy, tables, first)
+            };
+            accept(policy, base, journal)
+        }
+        Err(error) => Err(Fault::from(error)),
+    }
+}
+
+/// The number that most journals begin with: the one at the start of the second line of the text.
+fn likely_first(journal: &[u8]) -> Option<u64> {
+    let row = journal.split(|byte| *byte == b'\n').nth(1)?;
+    number_of(row.split(|byte| *byte == b',').next()?)
+}
+
+/// The number of the first line, where the journal was read and has one.
+fn first_of(journal: &Result<Journal<'_>, JournalError>) -> Option<u64>
+    ensures { result ≡ first_read journal.now }
+{
+    match journal {
+        Ok(journal) => journal.first(),
+        Err(_) => None,
+    }
+}
+
+/// The inputs, where neither the base nor the journal is refused; else the base's fault or, where it has none, the journal's. The first number
+/// of a journal that memory didn't suffice for isn't known, and so no fault of the base.
+fn accept<'i>(
+    policy: Policy,
+    base: Result<Records, BaseError>,
+    journal: Result<Journal<'i>, JournalError>,
+) -> Result<Sound<'i>, Fault>
+    ensures { (tables : Texts) (read : Result (List Entry) JournalError) → Gives journal.entry read → IsBase policy tables (first_read journal.entry) base
+        → IsSound result (with_base policy read (base_of policy tables (first_read read))) }
+{
+    match journal {
+        Ok(journal) => match base {
             Ok(base) => Ok(Sound {
                 policy,
                 base,
@@ -48,16 +106,9 @@ fn judge_journal<'i>(
             Err(error) => Err(Fault::from(error)),
         },
         Err(JournalError::Memory) => Err(Fault::Memory),
-        Err(error) => Err(refuse_journal(alloc, &policy, tables, error)),
-    }
-}
-
-/// The fault where the journal is refused: that of the base, if it has one, else that of the journal.
-fn refuse_journal(alloc: Global, policy: &Policy, tables: &Tables, refused: JournalError) -> Fault
-    ensures { Fails result (with_base policy.now (Err refused) (base_of policy.now (texts_of tables.now) None)) }
-{
-    match read_base(alloc, policy, tables, None) {
-        Ok(_) => Fault::from(refused),
-        Err(error) => Fault::from(error),
+        Err(refused) => match base {
+            Ok(_) => Err(Fault::from(refused)),
+            Err(broken) => Err(Fault::from(broken)),
+        },
     }
 }

@@ -11,7 +11,7 @@ ghost use Rattle.replay_run.specs.OneThread.{IsOneThread, IsOutput, IsOutputBy, 
 
 use crate::fault::Fault;
 use crate::inputs::{Inputs, Output};
-use crate::judge::judge;
+use crate::judge::{judge, judge_side_by_side};
 use crate::prepared::{Prepared, Sound};
 use crate::replay::replay;
 use crate::replay_end::ReplayEnd;
@@ -62,7 +62,7 @@ pub fn judge_inputs(alloc: Global, inputs: &Inputs) -> Result<Prepared<'_>, Faul
     }
 }
 
-/// The same; the requests are read by all cores.
+/// The same; tables and journal are read side by side, and then the requests by all cores.
 pub fn judge_parallel<'i, R: Threads + Sync>(
     rt: &R,
     alloc: Global,
@@ -71,7 +71,7 @@ pub fn judge_parallel<'i, R: Threads + Sync>(
     ensures due { IsJudgement result (judgement inputs.now) }
     ensures fits { IfOk result (λ j. j.plan.readings ≡ readings_of j.journal) }
 {
-    match judge(alloc, inputs) {
+    match judge_side_by_side(rt, alloc, inputs) {
         Ok(
             Sound {
                 policy,

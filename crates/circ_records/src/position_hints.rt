@@ -2,6 +2,7 @@
 
 use crate::key::Key;
 use crate::record::Record;
+use sip_reader::Id;
 use std::alloc::{AllocError, Global};
 
 /// The number of slots for each record: with fewer, more records would find theirs taken.
@@ -28,6 +29,8 @@ pub(crate) struct PositionHints {
     taken: usize,
     /// The positions that are looked at before any slot.
     pub(crate) likely: LikelyPositions,
+    /// The extent of the records that were last read ahead: it is stored so that they are read.
+    pub(crate) extent: usize,
 }
 
 impl Drop for PositionHints {
@@ -36,6 +39,7 @@ impl Drop for PositionHints {
             slots: _,
             taken: _,
             likely: _,
+            extent: _,
         } = self;
     }
 }
@@ -53,6 +57,7 @@ impl PositionHints {
             slots: Vec::new(alloc),
             taken: 0,
             likely: UNLIKELY,
+            extent: 0,
         }
     }
 
@@ -71,6 +76,7 @@ impl PositionHints {
             slots,
             taken: listed.len(),
             likely: UNLIKELY,
+            extent: 0,
         })
     }
 
@@ -101,12 +107,25 @@ impl PositionHints {
         Ok(())
     }
 
+    /// The position in the first slot for an id: most likely that of its record.
+    pub(crate) fn first(&self, id: &Id) -> Option<usize> {
+        let firsts = self.slots.len().saturating_sub(TRIES) as u64;
+        match self
+            .slots
+            .get((id.hash().wrapping_mul(firsts) >> 32) as usize)
+        {
+            Some(position) if *position != FREE => Some(*position as usize),
+            _ => None,
+        }
+    }
+
     /// The same hints, for a list that likely has the same keys.
     pub(crate) fn copy(&self) -> Result<PositionHints, AllocError> {
         Ok(PositionHints {
             slots: self.slots.clone()?,
             taken: self.taken,
             likely: self.likely,
+            extent: 0,
         })
     }
 }

@@ -233,6 +233,19 @@ impl Record {
         Ok(Record::Fee(Shared::new(alloc, fee)?))
     }
 
+    /// How many bytes and ids the record has. To count them reads the memory that most rules read of it.
+    pub(crate) fn extent(&self) -> usize {
+        match self {
+            Record::Patron(patron) => {
+                let patron = patron.get();
+                let ids = patron.loans.as_slice().len();
+                patron.name.as_bytes().len().saturating_add(ids)
+            }
+            Record::Item(item) => item.get().title.as_bytes().len(),
+            Record::Fee(_) => 0,
+        }
+    }
+
     /// The same record, in the same memory.
     pub fn copy(&self) -> Result<Record, AllocError>
         ensures { IfOk result (λ r. r ≡ self.now) }

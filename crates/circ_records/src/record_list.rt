@@ -92,6 +92,17 @@ impl RecordList {
         listed.binary_search_by(|entry| key.order(&entry.0))
     }
 
+    /// The extent of the record at a position, 0 where there is none.
+    pub(crate) fn extent_at(&self, position: Option<usize>) -> usize {
+        let Some(position) = position else {
+            return 0;
+        };
+        match self.entries.get(position) {
+            Some(entry) => entry.1.extent(),
+            None => 0,
+        }
+    }
+
     /// Whether a key comes after all others, by a comparison with the last.
     pub(crate) fn goes_last(&self, key: KeyRef<'_>) -> bool
         requires { AreRising self.now.entries.items }

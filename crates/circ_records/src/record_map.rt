@@ -90,18 +90,27 @@ impl RecordMap {
         }
     }
 
-    /// Where the records of a patron and an item likely are. Asked for several lines one after the other, the look-ups wait for
-    /// memory side by side.
+    /// Where the records of a patron and an item likely are.
     pub fn likely(&self, patron: Option<&Id>, item: Option<&Id>) -> LikelyPositions {
-        let patron = match patron {
-            Some(id) => self.listed.position(KeyRef::Patron(id)).ok(),
-            None => None,
-        };
-        let item = match item {
-            Some(id) => self.listed.position(KeyRef::Item(id)).ok(),
-            None => None,
-        };
-        LikelyPositions { patron, item }
+        let hints = &self.listed.hints;
+        LikelyPositions {
+            patron: patron.and_then(|id| hints.first(id)),
+            item: item.and_then(|id| hints.first(id)),
+        }
+    }
+
+    /// Reads the records at these positions, so that they are in the processor's cache when rules ask for them: here the reads wait
+    /// for memory side by side.
+    pub fn read_ahead(&mut self, likely: &[LikelyPositions])
+        ensures { self.new ≡ self.old }
+    {
+        let mut extent: usize = 0;
+        for positions in likely {
+            extent = extent
+                .saturating_add(self.listed.extent_at(positions.patron))
+                .saturating_add(self.listed.extent_at(positions.item));
+        }
+        self.listed.hints.extent = extent;
     }
 
     /// From now on a patron or an item is looked for at these positions first. Only the time of look-ups depends on them.

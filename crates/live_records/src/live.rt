@@ -64,6 +64,13 @@ impl Live {
         self.records.likely(patron, item)
     }
 
+    /// Reads the records at these positions, so that rules wait for memory less.
+    pub fn read_ahead(&mut self, likely: &[LikelyPositions])
+        ensures { self.new ≡ self.old }
+    {
+        self.records.read_ahead(likely);
+    }
+
     /// From now on looks for a patron or an item at these positions first.
     pub fn expect(&mut self, likely: LikelyPositions)
         ensures { self.new ≡ self.old }

@@ -56,7 +56,7 @@ pub fn replay<G: Gate>(alloc: Global, plan: &Plan, gate: &G) -> Result<Replayed,
 }
 
 /// Has the records that a line names be looked for first where they likely are. Where no line is left for which that is known, the next
-/// `AHEAD` lines' records are looked for: one after the other, while no rule runs, so that these look-ups wait for memory side by side.
+/// `AHEAD` lines' records are looked for and read: one after the other, while no rule runs, so that they wait for memory side by side.
 fn expect(
     plan: &Plan,
     line: u64,
@@ -71,6 +71,7 @@ fn expect(
             let reading = plan.reading(line.saturating_add(i));
             likely.push(live.likely(reading))?;
         }
+        live.read_ahead(likely.as_slice());
     }
     if let Some(positions) = likely.pop() {
         live.expect(positions);

@@ -1,6 +1,7 @@
 //! The six tables of a library's records: read as a base, which a run begins with, and written of the records that it ends with.
 //!
-//! `read_base` makes records of six tables, or names the first rule that they break; `write_records` makes the tables of records.
+//! `read_base` makes records of six tables, or names the first rule that they break; `write_records` makes the tables of records,
+//! and `write_records_parallel` makes the same by two threads.
 #![tactic(auto)]
 
 mod adding;
@@ -34,4 +35,4 @@ pub use patrons::{class_of, patron_id};
 pub use rows::check_table;
 pub use tables::{TableName, Tables};
 pub use values::{due_of, flag_of, renewals_of};
-pub use written::write_records;
+pub use written::{write_records, write_records_parallel};

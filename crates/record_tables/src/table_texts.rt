@@ -1,9 +1,12 @@
-//! The six tables while they are written.
+//! The tables while they are written: those of patrons and fees, and those of items. Neither needs the other, so each has its
+//! own walk over the records.
 
 ghost use Rattle.std.specs.Prelude.{◌≡◌, [], Some, IfOk, OnOk};
 ghost use Rattle.csv_table.specs.Text.{written};
 ghost use Rattle.circ_records.specs.Records.{Entries};
 ghost use Rattle.record_tables.specs.Tables.{header_of, texts_of};
+ghost use Rattle.record_tables.specs.Writing.{GainsItem, GainsPatron, HoldsItems, HoldsPatrons, ItemWidths, PatronWidths};
+ghost use Rattle.record_tables.specs.Written.{tables_of};
 ghost use Rattle.circ_records.specs.declared.key.Key.TheVariants as key_of;
 ghost use Rattle.circ_records.specs.declared.record.Record.TheVariants as record_of;
 
@@ -16,48 +19,31 @@ use circ_records::{Item, Key, Patron, Record, Records};
 use csv_table::TableText;
 use std::alloc::{AllocError, Global};
 
-/// The texts of the tables while they are written. Where memory runs out all six are dropped (`written.rt`), so nothing is
-/// said of what they then hold.
-pub(crate) struct TableTexts {
+/// What patrons and fees have in the tables. Where memory runs out all texts are dropped (`written.rt`), so nothing is said of
+/// what they then hold.
+#[derive(Drop)]
+pub(crate) struct PatronTexts {
     pub(crate) patrons: TableText,
-    pub(crate) items: TableText,
     pub(crate) loans: TableText,
     pub(crate) fees: TableText,
     pub(crate) closed: TableText,
-    pub(crate) holds: TableText,
 }
 
-impl Drop for TableTexts {
-    fn drop(self) {
-        let TableTexts {
-            patrons: _,
-            items: _,
-            loans: _,
-            fees: _,
-            closed: _,
-            holds: _,
-        } = self;
-    }
-}
-
-impl TableTexts {
-    ghost use Rattle.record_tables.specs.Writing.{AreOf, Gains, HasWidths, Holds};
-
+impl PatronTexts {
     /// The headers alone.
-    pub(crate) fn new(alloc: Global) -> Result<TableTexts, AllocError>
-        ensures { IfOk result (λ texts. (all : Entries) → Holds all [] texts) }
+    pub(crate) fn new(alloc: Global) -> Result<PatronTexts, AllocError>
+        ensures { IfOk result (λ texts. (all : Entries) → HoldsPatrons all [] texts) }
     {
-        Ok(TableTexts {
+        Ok(PatronTexts {
             patrons: under(alloc, TableName::Patrons)?,
-            items: under(alloc, TableName::Items)?,
             loans: under(alloc, TableName::Loans)?,
             fees: under(alloc, TableName::Fees)?,
             closed: under(alloc, TableName::Closed)?,
-            holds: under(alloc, TableName::Holds)?,
         })
     }
 
-    /// Writes what an entry of the records has in each table.
+    /// Writes what an entry of the records has in each of these tables: an item has nothing there, and neither has a record
+    /// of another kind than its key's.
     pub(crate) fn entry(
         &mut self,
         alloc: Global,
@@ -65,18 +51,16 @@ impl TableTexts {
         key: &Key,
         record: &Record,
     ) -> Result<(), AllocError>
-        requires { HasWidths self.old }
-        ensures { OnOk result (Gains records.now (key.now, «record».now) self.old self.new) }
+        requires { PatronWidths self.old }
+        ensures { OnOk result (GainsPatron records.now (key.now, «record».now) self.old self.new) }
     {
         match (key, record) {
             (Key::Patron(id), Record::Patron(patron)) => {
                 self.patron(alloc, records, id.as_bytes(), patron.get())
             }
-            (Key::Item(id), Record::Item(item)) => self.item(id.as_bytes(), item.get()),
             (Key::Fee(id), Record::Fee(fee)) => {
                 write_closed(alloc, &mut self.closed, id.as_bytes(), fee.get())
             }
-            // a record of another kind than its key's has no row
             _ => Ok(()),
         }
     }
@@ -89,8 +73,8 @@ impl TableTexts {
         id: &[u8],
         patron: &Patron,
     ) -> Result<(), AllocError>
-        requires { HasWidths self.old }
-        ensures { OnOk result (Gains records.now (key_of.Patron id.now, record_of.Patron patron.now) self.old self.new) }
+        requires { PatronWidths self.old }
+        ensures { OnOk result (GainsPatron records.now (key_of.Patron id.now, record_of.Patron patron.now) self.old self.new) }
     {
         self.patrons.row(&[
             id,
@@ -101,11 +85,41 @@ impl TableTexts {
         write_loans(&mut self.loans, records, id, patron.loans.as_slice())?;
         write_fees(alloc, &mut self.fees, records, id, patron.fees.as_slice())
     }
+}
+
+/// What items have in the tables; where memory runs out, the same holds.
+#[derive(Drop)]
+pub(crate) struct ItemTexts {
+    pub(crate) items: TableText,
+    pub(crate) holds: TableText,
+}
+
+impl ItemTexts {
+    /// The headers alone.
+    pub(crate) fn new(alloc: Global) -> Result<ItemTexts, AllocError>
+        ensures { IfOk result (HoldsItems []) }
+    {
+        Ok(ItemTexts {
+            items: under(alloc, TableName::Items)?,
+            holds: under(alloc, TableName::Holds)?,
+        })
+    }
+
+    /// Writes what an entry of the records has in both tables: what is no item has nothing there.
+    pub(crate) fn entry(&mut self, key: &Key, record: &Record) -> Result<(), AllocError>
+        requires { ItemWidths self.old }
+        ensures { OnOk result (GainsItem (key.now, «record».now) self.old self.new) }
+    {
+        match (key, record) {
+            (Key::Item(id), Record::Item(item)) => self.item(id.as_bytes(), item.get()),
+            _ => Ok(()),
+        }
+    }
 
     /// An item and its queue.
     fn item(&mut self, id: &[u8], item: &Item) -> Result<(), AllocError>
-        requires { HasWidths self.old }
-        ensures { OnOk result ((all : Entries) → Gains all (key_of.Item id.now, record_of.Item item.now) self.old self.new) }
+        requires { ItemWidths self.old }
+        ensures { OnOk result (GainsItem (key_of.Item id.now, record_of.Item item.now) self.old self.new) }
     {
         self.items.row(&[
             id,
@@ -116,28 +130,28 @@ impl TableTexts {
         ])?;
         write_holds(&mut self.holds, id, item.holds.as_slice())
     }
+}
 
-    /// The texts.
-    pub(crate) fn finish(self) -> Result<Tables, AllocError>
-        ensures { IfOk result (λ tables. AreOf self (texts_of tables)) }
-    {
-        let TableTexts {
-            patrons,
-            items,
-            loans,
-            fees,
-            closed,
-            holds,
-        } = self;
-        Ok(Tables {
-            patrons: patrons.finish()?,
-            items: items.finish()?,
-            loans: loans.finish()?,
-            fees: fees.finish()?,
-            closed: closed.finish()?,
-            holds: holds.finish()?,
-        })
-    }
+/// The six texts, when both walks have gone over all records.
+#[tactic(auto, unfolding(crate::specs::Written::rows_telling))]
+pub(crate) fn finish(patrons: PatronTexts, items: ItemTexts) -> Result<Tables, AllocError>
+    ensures { IfOk result (λ tables. (all : Entries) → HoldsPatrons all all patrons → HoldsItems all items → texts_of tables ≡ tables_of all) }
+{
+    let PatronTexts {
+        patrons,
+        loans,
+        fees,
+        closed,
+    } = patrons;
+    let ItemTexts { items, holds } = items;
+    Ok(Tables {
+        patrons: patrons.finish()?,
+        items: items.finish()?,
+        loans: loans.finish()?,
+        fees: fees.finish()?,
+        closed: closed.finish()?,
+        holds: holds.finish()?,
+    })
 }
 
 /// A table of its header alone.

@@ -1,0 +1,7 @@
+use Rattle.std.proofs.Common.{take}
+use Rattle.record_tables.specs.Writing.{HoldsPatrons}
+use Rattle.record_tables.proofs.written.write_patrons.Given as goal
+
+-- what the entries so far have is written
+abbrev pub invariant-loop-entry : goal.invariant-loop-entry
+invariant-loop-entry l = HoldsPatrons l.records (take l.entry-index l.entries) l.texts

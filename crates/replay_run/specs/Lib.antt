@@ -6,6 +6,7 @@ pub mod Devices
 pub mod Entries
 pub mod Faults
 pub mod FinalTables
+pub mod InOrder
 pub mod Judgements
 pub mod OneThread
 pub mod Prepared

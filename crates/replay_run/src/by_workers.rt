@@ -13,14 +13,13 @@ ghost use Rattle.replay_run.specs.Attempts.{AreOnePerLine};
 ghost use Rattle.replay_run.specs.BySteps.{AreWorkers, attempts_on};
 ghost use Rattle.replay_run.specs.ByWorkers.{IsByWorkers, IsMade, MayFail};
 ghost use Rattle.replay_run.specs.Entries.{AreEntries};
-ghost use Rattle.replay_run.specs.OneThread.{IsOutput, IsOutputBy, judgement};
+ghost use Rattle.replay_run.specs.OneThread.{IsOutputBy, judgement};
 ghost use Rattle.speculate.specs.Driving.{RunsTo};
 
 use crate::fault::Fault;
+use crate::in_order::run_in_order;
 use crate::inputs::{Inputs, Output};
 use crate::prepared::Prepared;
-use crate::replay::replay;
-use crate::replay_end::ReplayEnd;
 use crate::run::{judge_parallel, put_together};
 use board_steps::WORKERS_MAX;
 use journal_table::Journal;
@@ -88,30 +87,6 @@ fn run<G: Gate + Sync, R: Threads + Wait + Sync>(
     } else {
         run_named::<Brand, G, R>(rt, alloc, plan, journal, workers, gate)
     }
-}
-
-/// The output of one thread over the plan of a journal; the result tables are made by all cores. The outcome of the replay isn't dropped.
-fn run_in_order<G: Gate, R: Threads + Sync>(
-    rt: &R,
-    alloc: Global,
-    plan: &Plan,
-    journal: &Journal,
-    gate: &G,
-) -> Result<Output, AllocError>
-    requires { plan.now.readings ≡ readings_of journal.now }
-    ensures { IfOk result (IsOutput plan.now journal.now) }
-{
-    let replayed = replay(alloc, plan, gate)?;
-    let outcome = collect(
-        alloc,
-        &ReplayEnd {
-            plan,
-            replayed: &replayed,
-        },
-    )?;
-    let output = output_parallel(rt, alloc, plan, journal, outcome)?;
-    forget(replayed);
-    Ok(output)
 }
 
 /// The run of the workers over the plan of a journal. A fault that they return ends it, whatever is committed by then. Where they

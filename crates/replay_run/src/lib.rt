@@ -6,6 +6,7 @@
 mod by_steps;
 mod by_workers;
 mod fault;
+mod in_order;
 mod inputs;
 mod judge;
 mod laws;

@@ -22,7 +22,6 @@ use result_report::{Outcome, ResultTexts, collect, report};
 use std::alloc::{AllocError, Global};
 use std::mem::forget;
 use std::thread::Threads;
-use worker_pool::NoGate;
 
 /// The output of one thread that takes the lines in the order of the journal, or the first fault of the inputs: first
 /// the policy, then the tables, then the journal. Each line is attempted once.
@@ -92,7 +91,7 @@ fn output(alloc: Global, plan: &Plan, journal: &Journal) -> Result<Output, Alloc
     requires { plan.now.readings ≡ readings_of journal.now }
     ensures { IfOk result (IsOutput plan.now journal.now) }
 {
-    let replayed = replay(alloc, plan, &NoGate)?;
+    let replayed = replay(alloc, plan)?;
     let outcome = collect(
         alloc,
         &ReplayEnd {

@@ -1,5 +1,6 @@
 mod Joined
 mod TellingLines
 mod Parts
+mod Further
 pub mod Collected
-mod Once
+pub mod Once

@@ -11,4 +11,5 @@ mod words;
 
 pub use ends::{End, collect};
 pub use outcome::{LastRecords, Outcome};
+pub use telling::Telling;
 pub use texts::{ResultTexts, Sizes, report, report_parallel};

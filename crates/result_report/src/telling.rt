@@ -1,6 +1,6 @@
 //! The three result tables, written line by line.
 
-ghost use Rattle.std.specs.Prelude.{◌≡◌, [], None, IfOk, OnOk, option_copied};
+ghost use Rattle.std.specs.Prelude.{◌≡◌, ◌⊎◌, [], None, Some, IfOk, IfSome, OnOk, option_copied, slice_get};
 ghost use Rattle.result_report.specs.Report.{difference_row, passed_row};
 ghost use Rattle.result_report.specs.Listings.{Gains, HasRoomFor};
 ghost use Rattle.sip_answer.specs.Differ.{differ};
@@ -9,7 +9,8 @@ ghost use Rattle.sip_answer.specs.Texts.{answer_text};
 use crate::listing::Listing;
 use crate::texts::{ResultTexts, Sizes};
 use crate::words::reason_of;
-use journal_table::Line;
+use journal_table::{Journal, Line};
+use read_set::Plan;
 use sip_answer::{Answer, differences, is_own_text, put_answer};
 use sip_reader::Reading;
 use std::alloc::{AllocError, Global};
@@ -22,11 +23,11 @@ const PASSED_HEADER: [&str; 3] = ["line", "connection", "why"];
 
 /// The result tables while they are written.
 pub struct Telling {
-    pub answers: Listing,
-    pub report: Listing,
-    pub passed: Listing,
+    pub(crate) answers: Listing,
+    pub(crate) report: Listing,
+    pub(crate) passed: Listing,
     /// The text of the last answer: its memory is used again for the next.
-    pub text: Vec<u8>,
+    pub(crate) text: Vec<u8>,
 }
 
 impl Drop for Telling {
@@ -41,8 +42,9 @@ impl Drop for Telling {
 }
 
 impl Telling {
-    ghost use Rattle.std.specs.Prelude.{List};
-    ghost use Rattle.result_report.specs.Report.{LineResult};
+    ghost use Rattle.std.specs.Prelude.{◌≡◌, ◌<◌, ◌+◌, ◌++◌, ◌^◌, List, Option, length};
+    ghost use Rattle.sip_answer.specs.declared.answer.Answer.{Answer};
+    ghost use Rattle.result_report.specs.Report.{LineResult, line_results};
     ghost use Rattle.result_report.specs.Tables.{AreTexts};
     ghost use Rattle.result_report.specs.Tellings.{Gained, HasRoom, Tells};
 
@@ -80,9 +82,33 @@ impl Telling {
         })
     }
 
+    /// Writes the rows of further lines: those after the first `told` lines, of which these are the answers. Out of memory, the caller drops all
+    /// tables, so the contract says nothing of them.
+    pub fn lines(
+        &mut self,
+        alloc: Global,
+        journal: &Journal,
+        plan: &Plan,
+        told: usize,
+        answers: &[Option<Answer>],
+    ) -> Result<(), AllocError>
+        requires few { told + length answers.now < 2 ^ 64 }
+        requires told { (before : List (Option Answer)) × (length before ≡ told) × Tells (line_results journal.now plan.now.readings before) self.old }
+        ensures { OnOk result ((before : List (Option Answer)) → length before ≡ told → Tells (line_results journal.now plan.now.readings before) self.old
+            → Tells (line_results journal.now plan.now.readings (before ++ answers.now)) self.new) }
+    {
+        let lines = journal.lines();
+        for (i, answer) in answers.iter().enumerate() {
+            if let Some((line, reading)) = line_at(lines, plan, told + i) {
+                self.line(alloc, line, reading, answer.as_ref())?;
+            }
+        }
+        Ok(())
+    }
+
     /// Writes the rows of one line. Out of memory, the caller drops all tables, so the contract says nothing of them.
     #[inline(always)]
-    pub fn line(
+    pub(crate) fn line(
         &mut self,
         alloc: Global,
         line: &Line,
@@ -106,6 +132,20 @@ impl Telling {
             None => tell_reason(&mut self.passed, line, reading),
         }
     }
+}
+
+/// The line at a position, with its reading.
+fn line_at<'l, 't, 'p>(
+    lines: &'l [Line<'t>],
+    plan: &'p Plan,
+    position: usize,
+) -> Option<(&'l Line<'t>, &'p Reading)>
+    ensures some { IfSome result (λ t. (slice_get lines.now position ≡ Some t.0.now) × (slice_get plan.now.readings position ≡ Some t.1.now)) }
+    ensures none { result ≡ None → (slice_get lines.now position ≡ None) ⊎ (slice_get plan.now.readings position ≡ None) }
+{
+    let line = lines.get(position)?;
+    let reading = plan.readings().get(position)?;
+    Some((line, reading))
 }
 
 /// An answered line whose recorded response differs, with the words of what differs. Where the response is the text that was just written

@@ -1,0 +1,38 @@
+use Rattle.std.proofs.Common.{◌≡◌, ◌∙◌, ap, sym, List, ◌⊎◌, ◌+◌, ◌*◌, ◌/◌, inl, inr, length, arith}
+use Rattle.std.proofs.lemmas.List.{length-map}
+use Rattle.journal_table.specs.Readings.{reading_at}
+use Rattle.sip_reader.specs.declared.request.Reading.{Reading}
+use Rattle.replay_run.specs.InOrder.{reached}
+use Rattle.replay_run.proofs.in_order.run_in_order.Goals as goal
+
+pub loop-init : goal.loop-init
+loop-init g c =
+    let count : c.len.result ≡ length c.args.plan.now.readings = c.len.ensures.len ∙ sym (length-map c.readings.result.now reading_at) ∙ ap (λ (rs : List Reading). length rs) c.readings.ensures.readings in
+    (c.in_ok-run.ensures.begun c.args.journal.now, inr (omega (arith, c.in_ok-run.ensures.start)), ap (λ n. n / 4096 + 1) count)
+
+pub go_on-requires-after_bounds : goal.go_on-requires-after_bounds
+go_on-requires-after_bounds g c κs within = c.loop.invariant.0
+
+pub loop-preserved : goal.loop-preserved
+loop-preserved g c =
+    let so = c.in_ok-run-2.ensures.so in
+    let was = c.loop.invariant.1 in
+    let further : (reached c.in_ok-run-2.run' ≡ length c.args.plan.now.readings) ⊎ (reached c.in_ok-run-2.run' ≡ (c.loop.counter + 1) * 4096) = elim c.in_ok-run-2.ensures.further [
+      | inl all ↦ inl all
+      | inr more ↦ elim was [
+        | inl all ↦ absurd (omega (arith, all, more, so.within))
+        | inr at ↦ inr (omega (arith, at, more))
+      ]
+    ] in
+    (so, further, c.loop.invariant.2)
+
+pub finish-requires-clause-so : goal.finish-requires-clause-so
+finish-requires-clause-so g c κs within = c.loop.invariant.0
+
+pub finish-requires-clause-all : goal.finish-requires-clause-all
+finish-requires-clause-all g c κs within =
+    let so = c.loop.invariant.0 in
+    elim c.loop.invariant.1 [
+      | inl all ↦ all
+      | inr at ↦ absurd (omega (arith, at, c.loop.invariant.2, c.loop-test.false, so.within))
+    ]

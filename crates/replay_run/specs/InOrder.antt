@@ -22,7 +22,7 @@ pub record HasReplayed (plan : Planned) (from to : ℕ) (r : Replaying) : Type 0
 abbrev pub first_results : Planned → List Entry → ℕ → List LineResult
 first_results plan lines n = line_results lines plan.readings (first_answers plan n)
 
--- these results are told, and these answers are those of the lines after them
+-- these results are written, and these answers are those of the lines after them
 pub record AreNext (plan : Planned) (lines : List Entry) (told : ℕ) (telling : Telling) (given : List (Option Answer)) : Type 0 where
   pub tells : Tells (first_results plan lines told) telling
   pub answers : first_answers plan (told + length given) ≡ first_answers plan told ++ given
@@ -32,7 +32,7 @@ pub record AreNext (plan : Planned) (lines : List Entry) (told : ℕ) (telling :
 abbrev pub reached : InOrder → ℕ
 reached run = run.told + length run.replaying.answers.items
 
--- the first lines are told, and the lines after them are replayed
+-- the first lines are reported, and the lines after them are replayed
 pub record IsUnderWay (plan : Planned) (lines : List Entry) (run : InOrder) : Type 0 where
   pub replayed : HasReplayed plan run.told (reached run) run.replaying
   pub told : Tells (first_results plan lines run.told) run.telling

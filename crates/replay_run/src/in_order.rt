@@ -1,5 +1,5 @@
 //! A whole run by one worker, who has nobody to share a board with: the lines in the order of the journal. While some of them are
-//! replayed, another core tells the results of those before them.
+//! replayed, another core reports those before them.
 
 ghost use Rattle.std.specs.Prelude.{◌≡◌, ◌≤◌, ◌+◌, IfOk, OnOk, length};
 ghost use Rattle.circ_records.specs.Records.{record_at};
@@ -24,7 +24,7 @@ use std::mem::forget;
 use std::thread::{Threads, join_mut};
 use worker_pool::{Gate, Moment};
 
-/// This many lines are replayed while those before them are told.
+/// This many lines are replayed while those before them are reported.
 const SPAN: usize = 4096;
 
 /// The records that lines name are looked for this number of lines in advance.
@@ -41,10 +41,10 @@ pub(crate) struct Replaying {
 #[derive(Drop)]
 pub(crate) struct InOrder {
     pub(crate) replaying: Replaying,
-    /// How many lines are told: all but the last ones, whose answers are above.
+    /// How many lines are reported: all but the last ones, whose answers are above.
     pub(crate) told: usize,
     pub(crate) telling: Telling,
-    /// Answers of lines that are told: their memory is used again.
+    /// Answers of lines that are reported: their memory is used again.
     pub(crate) spare: Vec<Option<Answer>>,
 }
 
@@ -90,7 +90,7 @@ impl InOrder {
         })
     }
 
-    /// The run after `SPAN` lines more, or after all. The lines that were replayed before are told meanwhile.
+    /// The run after `SPAN` lines more, or after all. The lines that were replayed before are reported meanwhile.
     fn go_on<G: Gate + Sync, R: Threads + Sync>(
         self,
         rt: &R,

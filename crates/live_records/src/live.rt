@@ -48,6 +48,13 @@ impl Live {
         Ok(Live { records })
     }
 
+    /// These records, not copied: what lines write changes them in place.
+    pub fn of(records: RecordMap) -> Live
+        ensures { result ≡ records }
+    {
+        Live { records }
+    }
+
     /// The record at a key.
     pub fn get(&self, key: &Key) -> Option<&Record>
         ensures { option_copied result ≡ record_at self.now key.now }

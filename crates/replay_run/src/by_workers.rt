@@ -58,8 +58,7 @@ pub fn rebuild<G: Gate + Sync, R: Threads + Wait + Sync>(
     }
     match judge_parallel(rt, alloc, inputs) {
         Ok(Prepared { plan, journal }) => {
-            let output = run(rt, alloc, &plan, &journal, workers, gate);
-            forget(plan);
+            let output = run(rt, alloc, plan, &journal, workers, gate);
             forget(journal);
             output
         }
@@ -71,21 +70,23 @@ pub fn rebuild<G: Gate + Sync, R: Threads + Wait + Sync>(
 fn run<G: Gate + Sync, R: Threads + Wait + Sync>(
     rt: &R,
     alloc: Global,
-    plan: &Plan,
+    plan: Plan,
     journal: &Journal,
     workers: u32,
     gate: &G,
 ) -> Result<Output, Fault>
-    requires fits { plan.now.readings ≡ readings_of journal.now }
+    requires fits { plan.readings ≡ readings_of journal.now }
     requires workers { AreWorkers workers }
-    ensures output { IsMade (record { plan = plan.now; lines = journal.now }) result }
+    ensures output { IsMade (record { plan = plan; lines = journal.now }) result }
     ensures attempts { IfOk result (λ o. length o.attempts.items ≡ length journal.now) }
 {
     if workers == 1 {
-        let output = run_in_order(rt, alloc, plan, journal, gate)?;
+        let output = run_in_order::<Brand, G, R>(rt, alloc, plan, journal, gate)?;
         Ok(output)
     } else {
-        run_named::<Brand, G, R>(rt, alloc, plan, journal, workers, gate)
+        let output = run_named::<Brand, G, R>(rt, alloc, &plan, journal, workers, gate);
+        forget(plan);
+        output
     }
 }
 

@@ -1,10 +1,10 @@
-//! A whole run by one worker, who has nobody to share a board with: the lines in the order of the journal. While some of them are
-//! replayed, another core reports those before them.
+//! A whole run by one worker, who has nobody to share a board with: the lines in the order of the journal, on records that they change in
+//! place. While some of them are replayed, another core reports those before them.
 
-ghost use Rattle.std.specs.Prelude.{◌≡◌, ◌≤◌, ◌+◌, IfOk, OnOk, length};
+ghost use Rattle.std.specs.Prelude.{◌≡◌, ◌≤◌, ◌+◌, [], IfOk, OnOk, length};
 ghost use Rattle.circ_records.specs.Records.{record_at};
 ghost use Rattle.circ_records.specs.declared.key.Key.{Key};
-ghost use Rattle.read_set.specs.Plans.{readings_of};
+ghost use Rattle.read_set.specs.Plans.{plan_over, readings_of};
 ghost use Rattle.read_set.specs.Replay.{after};
 ghost use Rattle.replay_run.specs.InOrder.{HasReplayed};
 ghost use Rattle.replay_run.specs.OneThread.{IsOutput};
@@ -15,7 +15,7 @@ use crate::run::put_together;
 use circ_records::LikelyPositions;
 use journal_table::Journal;
 use live_records::Live;
-use read_set::{Effect, Plan};
+use read_set::{Effect, Plan, PlanName};
 use record_tables::write_records_parallel;
 use result_report::Telling;
 use sip_answer::Answer;
@@ -48,40 +48,48 @@ pub(crate) struct InOrder {
     pub(crate) spare: Vec<Option<Answer>>,
 }
 
-/// The output of one thread over the plan of a journal. The gate is called as after the steps of a worker 0.
-pub fn run_in_order<G: Gate + Sync, R: Threads + Sync>(
+/// The output of one thread over the plan of a journal. The gate is called as after the steps of a worker 0. The lines change the records of
+/// the plan, which aren't copied, so the plan is used up.
+pub fn run_in_order<J: PlanName, G: Gate + Sync, R: Threads + Sync>(
     rt: &R,
     alloc: Global,
-    plan: &Plan,
+    plan: Plan,
     journal: &Journal,
     gate: &G,
 ) -> Result<Output, AllocError>
-    requires { plan.now.readings ≡ readings_of journal.now }
-    ensures { IfOk result (IsOutput plan.now journal.now) }
+    requires named { plan ≡ J.plan }
+    requires fits { plan.readings ≡ readings_of journal.now }
+    ensures { IfOk result (IsOutput J.plan journal.now) }
 {
-    let mut run = InOrder::new(alloc, plan)?;
+    let mut bare = plan;
+    let live = Live::of(bare.take_base(alloc));
+    let plan = bare;
+    let mut run = InOrder::new(alloc, live)?;
     for _ in 0..plan.readings().len() / SPAN + 1 {
-        run = run.go_on(rt, alloc, plan, journal, gate)?;
+        run = run.go_on::<J, G, R>(rt, alloc, &plan, journal, gate)?;
     }
-    run.finish(rt, alloc, plan, journal)
+    let output = run.finish::<J, R>(rt, alloc, &plan, journal)?;
+    forget(plan);
+    Ok(output)
 }
 
 impl InOrder {
-    ghost use Rattle.std.specs.Prelude.{◌≡◌, ◌+◌, ◌⊎◌, List, length};
+    ghost use Rattle.std.specs.Prelude.{◌≡◌, ◌<◌, ◌+◌, ◌++◌, ◌^◌, ◌⊎◌, [], List, Option, length};
     ghost use Rattle.std.specs.Thread.{IsSync};
+    ghost use Rattle.read_set.specs.Plans.{Planned, plan_over};
     ghost use Rattle.journal_table.specs.Entry.{Entry};
-    ghost use Rattle.result_report.specs.Tellings.{Tells};
-    ghost use Rattle.replay_run.specs.InOrder.{AreNext, IsUnderWay, first_results, reached};
+    ghost use Rattle.sip_answer.specs.declared.answer.Answer.{Answer};
+    ghost use Rattle.replay_run.specs.InOrder.{HasTold, IsUnderWay, reached};
     ghost use Rattle.replay_run.specs.declared.in_order.TheConstants.{SPAN};
 
-    /// A run before the first line.
-    fn new(alloc: Global, plan: &Plan) -> Result<InOrder, AllocError>
-        ensures begun { IfOk result (λ run. (lines : List Entry) → IsUnderWay plan.now lines run) }
+    /// A run before the first line, on the records before it.
+    fn new(alloc: Global, live: Live) -> Result<InOrder, AllocError>
+        ensures begun { IfOk result (λ run. (plan : Planned) (lines : List Entry) → live ≡ plan.base → IsUnderWay plan lines run) }
         ensures start { IfOk result (λ run. reached run ≡ 0) }
     {
         Ok(InOrder {
             replaying: Replaying {
-                live: Live::over(alloc, plan)?,
+                live,
                 answers: Vec::new(alloc),
             },
             told: 0,
@@ -90,8 +98,9 @@ impl InOrder {
         })
     }
 
-    /// The run after `SPAN` lines more, or after all. The lines that were replayed before are reported meanwhile.
-    fn go_on<G: Gate + Sync, R: Threads + Sync>(
+    /// The run after `SPAN` lines more, or after all. The lines that were replayed before are reported meanwhile. The plan has no records: the
+    /// run has them.
+    fn go_on<J: PlanName, G: Gate + Sync, R: Threads + Sync>(
         self,
         rt: &R,
         alloc: Global,
@@ -99,9 +108,10 @@ impl InOrder {
         journal: &Journal,
         gate: &G,
     ) -> Result<InOrder, AllocError>
-        requires { IsUnderWay plan.now journal.now self }
-        ensures so { IfOk result (IsUnderWay plan.now journal.now) }
-        ensures further { IfOk result (λ run. (reached run ≡ length plan.now.readings) ⊎ (reached run ≡ reached self + SPAN)) }
+        requires bare { plan.now ≡ plan_over J.plan [] }
+        requires so { IsUnderWay J.plan journal.now self }
+        ensures so { IfOk result (IsUnderWay J.plan journal.now) }
+        ensures further { IfOk result (λ run. (reached run ≡ length J.plan.readings) ⊎ (reached run ≡ reached self + SPAN)) }
     {
         let InOrder {
             replaying: Replaying { live, answers },
@@ -115,17 +125,18 @@ impl InOrder {
         let given = answers.as_slice();
         let mut telling = telling;
         let mut tell = || -> Result<(), AllocError>
-            requires { AreNext plan.now journal.now told telling given.now }
-            ensures { OnOk result (Tells (first_results plan.entry.now journal.entry.now (told + length given.entry.now)) telling.exit) }
+            requires { (told + length given.now < 2 ^ 64) × (before : List (Option Answer)) × (length before ≡ told) × HasTold plan.now journal.now before telling }
+            ensures { OnOk result ((before : List (Option Answer)) → length before ≡ told → HasTold plan.entry.now journal.entry.now before telling.entry
+                → HasTold plan.entry.now journal.entry.now (before ++ given.entry.now) telling.exit) }
         { telling.lines(alloc, journal, plan, told, given) };
         let mut replaying = Replaying {
             live,
             answers: spare,
         };
         let mut replay = || -> Result<(), AllocError>
-            requires { IsSync G.row × (from ≤ to) × (to ≤ length plan.now.readings) × ((k : Key) → record_at replaying.live k ≡ after plan.now from k) }
-            ensures { OnOk result (HasReplayed plan.entry.now from to replaying.exit) }
-        { replay_span(alloc, plan, gate, from, to, &mut replaying) };
+            requires { IsSync G.row × (plan.now ≡ plan_over J.plan []) × (from ≤ to) × (to ≤ length J.plan.readings) × ((k : Key) → record_at replaying.live k ≡ after J.plan from k) }
+            ensures { OnOk result (HasReplayed J.plan from to replaying.exit) }
+        { replay_span::<J, G>(alloc, plan, gate, from, to, &mut replaying) };
         let (told_on, replayed) = join_mut(rt, &mut tell, &mut replay);
         told_on?;
         replayed?;
@@ -138,17 +149,18 @@ impl InOrder {
     }
 
     /// The output of a run after all lines. What it was made of isn't dropped.
-    fn finish<R: Threads + Sync>(
+    fn finish<J: PlanName, R: Threads + Sync>(
         self,
         rt: &R,
         alloc: Global,
         plan: &Plan,
         journal: &Journal,
     ) -> Result<Output, AllocError>
-        requires fits { plan.now.readings ≡ readings_of journal.now }
-        requires so { IsUnderWay plan.now journal.now self }
-        requires all { reached self ≡ length plan.now.readings }
-        ensures { IfOk result (IsOutput plan.now journal.now) }
+        requires bare { plan.now ≡ plan_over J.plan [] }
+        requires fits { J.plan.readings ≡ readings_of journal.now }
+        requires so { IsUnderWay J.plan journal.now self }
+        requires all { reached self ≡ length J.plan.readings }
+        ensures { IfOk result (IsOutput J.plan journal.now) }
     {
         let InOrder {
             replaying: Replaying { live, answers },
@@ -171,7 +183,7 @@ impl InOrder {
 }
 
 /// Replays the lines of a plan from one position on up to another. The list of answers is emptied, and then has these lines'.
-fn replay_span<G: Gate>(
+fn replay_span<J: PlanName, G: Gate>(
     alloc: Global,
     plan: &Plan,
     gate: &G,
@@ -179,10 +191,11 @@ fn replay_span<G: Gate>(
     to: usize,
     replaying: &mut Replaying,
 ) -> Result<(), AllocError>
+    requires bare { plan.now ≡ plan_over J.plan [] }
     requires rises { from ≤ to }
-    requires within { to ≤ length plan.now.readings }
-    requires records { (k : Key) → record_at replaying.old.live k ≡ after plan.now from k }
-    ensures { OnOk result (HasReplayed plan.now from to replaying.new) }
+    requires within { to ≤ length J.plan.readings }
+    requires records { (k : Key) → record_at replaying.old.live k ≡ after J.plan from k }
+    ensures { OnOk result (HasReplayed J.plan from to replaying.new) }
 {
     let Replaying { live, answers } = replaying;
     answers.clear();

@@ -1,4 +1,5 @@
 use Rattle.std.proofs.Common.{◌≡◌, ◌+◌, ◌∷◌, [], List, length, sym, arith, refl, subst, ap}
+use Rattle.circ_records.specs.Records.{Entries, record_at}
 use Rattle.journal_table.specs.Entry.{Entry}
 use Rattle.result_report.specs.Report.{LineResult, line_results}
 use Rattle.result_report.specs.Tellings.{Tells}
@@ -13,16 +14,15 @@ none-yet (line ∷ lines) [] = refl
 none-yet (line ∷ lines) (r ∷ readings) = refl
 
 pub returns-clause-begun : goal.returns-clause-begun
-returns-clause-begun c lines =
-    let plan = c.args.plan.now in
+returns-clause-begun c plan lines is =
     let none : c.new.result.items ≡ [] = c.new.ensures.items in
     let count : 0 ≡ 0 + length c.new.result.items = let many : length c.new.result.items ≡ 0 = ap length none in omega (arith, many) in
-    let begun : HasReplayed plan 0 0 (record { live = c.in_ok-over.field-0; answers = c.new.result }) = record {
-      records = c.in_ok-over.ensures;
+    let begun : HasReplayed plan 0 0 (record { live = c.args.live; answers = c.new.result }) = record {
+      records = λ k. ap (λ (live : Entries). record_at live k) is;
       answers = sym none;
     } in
     record {
-      replayed = subst (λ n. HasReplayed plan 0 n (record { live = c.in_ok-over.field-0; answers = c.new.result })) count begun;
+      replayed = subst (λ n. HasReplayed plan 0 n (record { live = c.args.live; answers = c.new.result })) count begun;
       told = subst (λ (results : List LineResult). Tells results c.in_ok-new.field-0) (sym (none-yet lines plan.readings)) c.in_ok-new.ensures;
       within = omega (arith, count);
     }

@@ -7,7 +7,7 @@ use std::marker::Model;
 
 /// The longest list that is copied exactly as large as it is when an id is added. Most lists have no more ids, and a run stores each
 /// list that a line writes. A longer one grows in steps, in place where no copy shares it.
-const FEW: usize = 6;
+const COPIED_EXACTLY: usize = 6;
 
 /// A list of ids, such as a patron's loans or open fees, the oldest first. The empty list takes no memory; any other list shares its
 /// memory with its copies.
@@ -66,7 +66,7 @@ impl Ids {
         ensures err { OnErr result (self.new ≡ self.old) }
     {
         match &mut self.held {
-            Some(ids) if ids.get().len() > FEW => ids.make_mut()?.push(id)?,
+            Some(ids) if ids.get().len() > COPIED_EXACTLY => ids.make_mut()?.push(id)?,
             _ => {
                 let ids = self.as_slice();
                 let mut longer = Vec::with_capacity(alloc, ids.len().saturating_add(1))?;

@@ -24,7 +24,7 @@ pub use known::{Article, Member, known_fee, known_item, known_patron};
 pub use laws::{meaning_keeps_coherence, read_plans_stay_coherent, replay_keeps_coherence};
 pub use names::named_by;
 pub use notes::{Name, Note, Notes};
-pub use noting::{Looks, NotesName, NotesSource, Noting};
+pub use noting::{NotesName, NotesSource, RecordReader, RecordingSource};
 pub use plan::{Plan, PlanName};
 pub use progress::{Payments, Renewals};
 pub use sorted::found_in;

@@ -60,7 +60,7 @@ impl<N: NotesName> Source for NotesSource<'_, N> {
 }
 
 /// Where to look for a record that isn't noted yet.
-pub trait Looks {
+pub trait RecordReader {
     /// The note of what is now at a key, a record or none; None where the attempt has to end.
     fn look(&mut self, alloc: Global, key: &Key) -> Result<Option<Note>, AllocError>
         ensures { IfOk result (λ found. IfSome found (λ note. note.key ≡ key.now)) };
@@ -68,12 +68,12 @@ pub trait Looks {
 
 /// A source that looks for what isn't noted yet, and notes what it sees. It stops where a look returns None.
 #[derive(Drop)]
-pub struct Noting<L: Looks> {
+pub struct RecordingSource<L: RecordReader> {
     pub notes: Notes,
-    pub looks: L,
+    pub reader: L,
 }
 
-impl<L: Looks> Source for Noting<L> {
+impl<L: RecordReader> Source for RecordingSource<L> {
     ghost use Rattle.read_set.specs.Notes.{noted};
 
     ghost has = { λ s. noted s.notes };
@@ -85,7 +85,7 @@ impl<L: Looks> Source for Noting<L> {
         if let Some(note) = self.notes.get(key) {
             return Ok(note.found.record()?);
         }
-        let Some(note) = self.looks.look(alloc, key)? else {
+        let Some(note) = self.reader.look(alloc, key)? else {
             return Err(Stop::Unnoted(key.clone()?));
         };
         let copy = note.found.record()?;

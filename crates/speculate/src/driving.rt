@@ -19,7 +19,9 @@ use crate::steps::BoardFault;
 use board_lines::{Reply, copied, record_seen};
 use circ_records::Key;
 use message_meaning::{need, perform};
-use read_set::{Looks, Name, Need, Note, NotedRecord, Notes, Noting, PlanName, Stop, Version};
+use read_set::{
+    Name, Need, Note, NotedRecord, Notes, PlanName, RecordReader, RecordingSource, Stop, Version,
+};
 use std::alloc::{AllocError, Global};
 use std::sync::Wait;
 use version_store::{Place, VersionTable};
@@ -248,9 +250,9 @@ fn foreseen<J: PlanName + 'static>(
     board: &Board<'_, '_, J>,
     line: u64,
 ) -> Result<Notes, AllocError> {
-    let mut source = Noting {
+    let mut source = RecordingSource {
         notes: Notes::new(alloc),
-        looks: PastAll { board },
+        reader: PastAll { board },
     };
     match perform(alloc, board.plan(), line, &mut source) {
         Err(Stop::Memory) => Err(AllocError),
@@ -264,7 +266,7 @@ struct PastAll<'b, 'p, 't, J: PlanName> {
     board: &'b Board<'p, 't, J>,
 }
 
-impl<J: PlanName> Looks for PastAll<'_, '_, '_, J> {
+impl<J: PlanName> RecordReader for PastAll<'_, '_, '_, J> {
     fn look(&mut self, _alloc: Global, key: &Key) -> Result<Option<Note>, AllocError> {
         let board = self.board;
         let found = copied(board.lines.value_of(key))?;

@@ -4,7 +4,7 @@ use crate::calls::Left;
 use crate::shared::SharedBoard;
 use board_lines::{Reply, copied, record_seen};
 use circ_records::Key;
-use read_set::{Looks, Note, NotedRecord, PlanName};
+use read_set::{Note, NotedRecord, PlanName, RecordReader};
 use std::alloc::{AllocError, Global};
 use std::sync::Wait;
 
@@ -25,7 +25,7 @@ impl<'t, J: PlanName + 'static, R: Wait> OnBoard<'_, '_, 't, J, R> {
     }
 }
 
-impl<J: PlanName + 'static, R: Wait> Looks for OnBoard<'_, '_, '_, J, R> {
+impl<J: PlanName + 'static, R: Wait> RecordReader for OnBoard<'_, '_, '_, J, R> {
     fn look(&mut self, _alloc: Global, key: &Key) -> Result<Option<Note>, AllocError> {
         match self.reply(key) {
             Ok(Reply::Seen { name, place }) => {

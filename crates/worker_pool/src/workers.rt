@@ -10,7 +10,7 @@ use crate::looking::OnBoard;
 use crate::shared::{SharedBoard, TRIES_AT_EASE};
 use board_lines::Reply;
 use message_meaning::perform;
-use read_set::{Effect, Notes, Noting, PlanName, Stop, Version};
+use read_set::{Effect, Notes, PlanName, RecordingSource, Stop, Version};
 use speculate::{BoardFault, Choice};
 use std::alloc::Global;
 use std::hint::spin_loop;
@@ -253,9 +253,9 @@ fn read_line<'t, J: PlanName + 'static, R: Wait>(
 ) -> Result<Option<Place<'t, J>>, Left>
     ensures { IfOk result (λ o. IfSome o (λ p. AreAsked J.plan task.line p.version.now.reads)) }
 {
-    let mut source = Noting {
+    let mut source = RecordingSource {
         notes: Notes::new(alloc),
-        looks: OnBoard {
+        reader: OnBoard {
             rt,
             shared,
             worker: task.worker,
@@ -270,7 +270,7 @@ fn read_line<'t, J: PlanName + 'static, R: Wait>(
                 Err(_) => Err(Left(BoardFault::Memory)),
             }
         }
-        Err(Stop::Unnoted(_)) => match source.looks.left {
+        Err(Stop::Unnoted(_)) => match source.reader.left {
             Some(left) => Err(left),
             None => Ok(None),
         },

@@ -2,7 +2,7 @@ use Rattle.std.proofs.Common.{◌≡◌, None, ap, rules, sym, ◌∙◌}
 use Rattle.read_set.specs.Asks.{Done}
 use Rattle.read_set.specs.Notes.{note_of}
 use Rattle.read_set.proofs.More.{asked_there, noted_gains}
-use Rattle.read_set.proofs.noting.NotingSource.read.Goals as goal
+use Rattle.read_set.proofs.noting.RecordingSourceSource.read.Goals as goal
 
 pub returns-clause-gives : goal.returns-clause-gives
 returns-clause-gives g c =

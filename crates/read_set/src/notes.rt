@@ -140,11 +140,16 @@ impl Notes {
         }
     }
 
-    /// Frees the spare capacity.
-    pub(crate) fn shrink_to_fit(&mut self)
-        ensures { self.new ≡ self.old }
+    /// The notes in the order of reading, in no more memory than they need.
+    pub(crate) fn into_vec(self) -> Vec<Note>
+        ensures { result.items ≡ self }
     {
-        self.notes.shrink_to_fit();
+        let Notes {
+            mut notes,
+            positions: _,
+        } = self;
+        notes.shrink_to_fit();
+        notes
     }
 
     /// The notes in the order of reading.

@@ -1,12 +1,12 @@
 //! What a line writes and answers, given what it has read.
 
-ghost use Rattle.std.specs.Prelude.{◌≡◌, map};
+ghost use Rattle.std.specs.Prelude.{◌≡◌, map, option_copied};
 ghost use Rattle.std.specs.List.Sorted.{IsStrictlySortedBy};
 ghost use Rattle.circ_records.specs.Keys.{key_cmp};
 ghost use Rattle.read_set.specs.Settling.{Settles};
 
 use crate::effect::Writes;
-use crate::notes::Notes;
+use crate::notes::{Note, Notes};
 use crate::plan::PlanName;
 use circ_records::{Key, Record};
 use sip_answer::Answer;
@@ -15,21 +15,38 @@ use std::marker::{Model, PhantomData};
 /// What a line of a plan writes and answers, and the notes that determine it.
 pub struct Version<J: PlanName> {
     line: u64,
-    attempt: u32,
-    reads: Notes,
+    reads: Vec<Note>,
     writes: Writes,
-    answer: Option<Answer>,
+    ended: Ended,
     of: PhantomData<J>,
+}
+
+/// How an attempt has ended. Its number comes first, so that it shares a machine word with the discriminant: versions are kept until
+/// the run ends.
+pub(crate) enum Ended {
+    Unanswered { attempt: u32 },
+    Answered { attempt: u32, answer: Answer },
+}
+
+impl Drop for Ended {
+    fn drop(self) {
+        match self {
+            Ended::Unanswered { attempt: _ } => {}
+            Ended::Answered {
+                attempt: _,
+                answer: _,
+            } => {}
+        }
+    }
 }
 
 impl<J: PlanName> Drop for Version<J> {
     fn drop(self) {
         let Version {
             line: _,
-            attempt: _,
             reads: _,
             writes: _,
-            answer: _,
+            ended: _,
             of: _,
         } = self;
     }
@@ -40,9 +57,11 @@ impl<J: PlanName> Model for Version<J> {
 
     ghost Value = { Contents };
 
-    ghost view = { λ v. record { line = v.line; attempt = v.attempt; reads = v.reads; writes = v.writes; answer = v.answer } };
+    ghost use Rattle.read_set.specs.Devices.Ended.{answer_in, attempt_in};
 
-    ghost invariant = { λ v. Settles J.plan v.line v.reads v.writes v.answer };
+    ghost view = { λ v. record { line = v.line; attempt = attempt_in v.ended; reads = v.reads.items; writes = v.writes; answer = answer_in v.ended } };
+
+    ghost invariant = { λ v. Settles J.plan v.line v.reads.items v.writes (answer_in v.ended) };
 }
 
 impl<J: PlanName> Version<J> {
@@ -58,15 +77,17 @@ impl<J: PlanName> Version<J> {
         ensures { result ≡ record { line = line; attempt = attempt; reads = reads; writes = writes; answer = answer } }
     {
         // versions are kept until the run ends
-        let (mut reads, mut writes) = (reads, writes);
-        reads.shrink_to_fit();
+        let mut writes = writes;
         writes.shrink_to_fit();
+        let ended = match answer {
+            Some(answer) => Ended::Answered { attempt, answer },
+            None => Ended::Unanswered { attempt },
+        };
         Version {
             line,
-            attempt,
-            reads,
+            reads: reads.into_vec(),
             writes,
-            answer,
+            ended,
             of: PhantomData,
         }
     }
@@ -82,15 +103,18 @@ impl<J: PlanName> Version<J> {
     pub fn attempt(&self) -> u32
         ensures { result ≡ self.now.attempt }
     {
-        self.attempt
+        match &self.ended {
+            Ended::Unanswered { attempt } => *attempt,
+            Ended::Answered { attempt, answer: _ } => *attempt,
+        }
     }
 
     /// What the line has read. This determines what it writes and answers.
-    pub fn reads(&self) -> &Notes
+    pub fn reads(&self) -> &[Note]
         ensures reads { result.now ≡ self.now.reads }
         ensures settles { Settles J.plan self.now.line self.now.reads self.now.writes self.now.answer }
     {
-        &self.reads
+        self.reads.as_slice()
     }
 
     /// The records that the line writes, with their keys, rising.
@@ -102,10 +126,13 @@ impl<J: PlanName> Version<J> {
     }
 
     /// The line's answer, if it has one.
-    pub fn answer(&self) -> &Option<Answer>
-        ensures { result.now ≡ self.now.answer }
+    pub fn answer(&self) -> Option<&Answer>
+        ensures { option_copied result ≡ self.now.answer }
     {
-        &self.answer
+        match &self.ended {
+            Ended::Unanswered { attempt: _ } => None,
+            Ended::Answered { attempt: _, answer } => Some(answer),
+        }
     }
 }
 

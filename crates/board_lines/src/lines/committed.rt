@@ -28,7 +28,7 @@ impl<'p, 't, J: PlanName> Lines<'p, 't, J> {
         let Some(place) = row.version else {
             return None;
         };
-        place.show().answer().as_ref()
+        place.show().answer()
     }
 
     /// Which attempt at a line was committed, counted from 0.

@@ -159,7 +159,7 @@ impl<'p, 't, J: PlanName> Lines<'p, 't, J> {
         let Some((_, row)) = self.row(hand.line) else {
             return false;
         };
-        same_notes(self.plan, &row.notes, reads.as_slice())
+        same_notes(self.plan, &row.notes, reads)
     }
 
     /// Places the next write, after which the first `count` are placed. Out of memory, nothing changes.

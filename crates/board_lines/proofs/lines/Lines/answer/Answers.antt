@@ -19,7 +19,7 @@ returns-in_default-version g c =
 
 pub returns : goal.returns
 returns g c =
-    let here : option_copied c.as_ref.result ≡ answer_by (Some (contents_at c.in-Some-version.place)) = search (rules, c.show.ensures) in
+    let here : option_copied c.answer.result ≡ answer_by (Some (contents_at c.in-Some-version.place)) = search (rules, c.show.ensures) in
     here
     ∙ sym (ap (λ (v : Option (Place _)). answer_by (option_map contents_at v)) c.in-Some-version.is)
     ∙ its_answer g.J.PlanName.plan c.args.self.now c.args.line c.in-Some.state (row_shown c.in-Some.row.now) c.in-Some.ensures c.in-Committed.is

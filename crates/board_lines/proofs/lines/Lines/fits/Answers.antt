@@ -29,11 +29,11 @@ returns-clause-fits g c =
     let row = c.in-Some.row.now in
     λ w notes may.
     let r = c.same_notes.result in
-    let theirs_is : c.as_slice.result.now ≡ v.reads = c.as_slice.ensures.notes ∙ c.reads-reads.ensures.reads ∙ ap (λ (x : Contents). x.reads) c.show-version.ensures in
+    let theirs_is : c.reads-reads.result.now ≡ v.reads = c.reads-reads.ensures.reads ∙ ap (λ (x : Contents). x.reads) c.show-version.ensures in
     let notes_is : notes ≡ notes_by c.self.inside.plan.now.base row.notes =
     noted_may plan c.args.self.now c.args.hand.line c.in-Some.field-0-0 (row_shown row) c.in-Some.ensures w notes may ∙ ap (λ (x : Planned). notes_by x.base row.notes) (sym c.self.invariant.0) in
     let decided : Decides r (v.reads ≡ notes) =
-    subst (λ (xs : List Note). Decides r (xs ≡ notes)) theirs_is (subst (λ (ys : List Note). Decides r (c.as_slice.result.now ≡ ys)) (sym notes_is) c.same_notes.ensures) in
+    subst (λ (xs : List Note). Decides r (xs ≡ notes)) theirs_is (subst (λ (ys : List Note). Decides r (c.reads-reads.result.now ≡ ys)) (sym notes_is) c.same_notes.ensures) in
     fits_by c.args.self.now c.args.hand.line notes v c.args.hand.attempt c.requires.attempt r
     (ap (λ (x : Contents). x.line) (sym c.show-version.ensures) ∙ sym c.line.ensures ∙ c.if-line-hand.false)
     (ap (λ (x : Contents). x.attempt) (sym c.show-version.ensures) ∙ sym c.attempt.ensures ∙ c.if-attempt-hand.false)

@@ -2,6 +2,7 @@ pub mod Columns
 pub mod Rising
 pub mod Positions
 pub mod Keyed
+pub mod Few
 pub mod Views
 pub mod Sights
 pub mod Changes

@@ -1,3 +1,4 @@
 -- For proofs alone: how things are stored or counted. No promise needs it.
 pub mod Columns
+pub mod FewOrMany
 pub mod Positions

@@ -6,7 +6,6 @@ use Rattle.std.specs.declared.cmp.Ordering.TheVariants.{Less}
 use Rattle.circ_records.specs.Keys.{key_cmp}
 use Rattle.circ_records.specs.declared.key.Key.{Key}
 use Rattle.read_set.specs.Settling.{Contents}
-use Rattle.read_set.specs.declared.notes.Name.{Name}
 use Rattle.read_set.specs.declared.notes.Name.TheVariants as names
 use Rattle.version_store.specs.declared.entry.StoredEntry.{StoredEntry}
 use Rattle.version_store.specs.declared.entry.Found.{Found}

@@ -8,6 +8,9 @@ use std::alloc::{AllocError, Global};
 use std::cmp::Ordering;
 use std::marker::Model;
 
+/// The first allocation has capacity for this many older lines: many keys have no more, and no block of memory is smaller.
+const FIRST_ROOM: usize = 3;
+
 /// The lines that have an entry at one key. The newest, the greatest of them, is inline, since mostly that one is asked for. The older
 /// ones are a vector that rises: lines are mostly added in rising order, and mostly a late one is removed, so few others are moved.
 pub struct Column {
@@ -57,6 +60,7 @@ impl Column {
         };
         match newest.cmp(&line) {
             Ordering::Less => {
+                make_first_room(&mut self.older)?;
                 self.older.push(newest)?;
                 self.newest = Some(line);
             }
@@ -98,4 +102,14 @@ impl Column {
         }
         Some(self.older[count - 1])
     }
+}
+
+/// Allocates memory for the first older lines. Out of memory, nothing changes.
+fn make_first_room(older: &mut Vec<u64>) -> Result<(), AllocError>
+    ensures { older.new.items ≡ older.old.items }
+{
+    if older.is_empty() {
+        older.reserve_exact(FIRST_ROOM)?;
+    }
+    Ok(())
 }

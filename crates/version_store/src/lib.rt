@@ -7,6 +7,7 @@
 
 mod column;
 mod entry;
+mod entry_list;
 mod index;
 mod line;
 mod parts;

@@ -1,27 +1,20 @@
 //! The entries of one line.
 
-ghost use Rattle.std.specs.Prelude.{◌≡◌, ◌^◌, ◌<◌, ◌≤◌, OnOk, OnErr, Some, None, MatchOption, MatchResult, length, slice_get, option_map};
+ghost use Rattle.std.specs.Prelude.{◌≡◌, ◌^◌, ◌<◌, OnOk, OnErr, Some, None, MatchOption, MatchResult, length, slice_get, option_map};
 ghost use Rattle.std.specs.FinMap as fin;
-ghost use Rattle.std.specs.List.{insert};
 ghost use Rattle.version_store.specs.Entries.{AllOf, IsLeastLeft, IsNamedAt, keyed, line_of, no_entries, shown, suspected};
-ghost use Rattle.version_store.specs.Devices.Positions.{IsAt, IsGap, Rise, all_marked};
+ghost use Rattle.version_store.specs.Devices.Positions.{IsAt, IsGap, Rise};
 
 use crate::entry::StoredEntry;
+use crate::entry_list::{EntryList, Placed};
 use circ_records::Key;
 use read_set::PlanName;
 use std::alloc::{AllocError, Global};
 use std::marker::Model;
 
-/// An entry, and its key, borrowed from the writes of the version at its place: with a key of its own it would take more memory.
-type Placed<'t, J> = (&'t Key, StoredEntry<'t, J>);
-
-/// Most lines that write have this many entries.
-const USUAL_ENTRIES: usize = 2;
-
-/// The entries of one line, rising by key. `SmallVec` would hold a few inline, but its elements need a default, which a reference
-/// doesn't have.
+/// The entries of one line, rising by key.
 pub struct LineEntries<'t, J: PlanName> {
-    entries: Vec<Placed<'t, J>>,
+    entries: EntryList<'t, J>,
 }
 
 impl<J: PlanName> Drop for LineEntries<'_, J> {
@@ -41,20 +34,20 @@ impl<'t, J: PlanName> Model for LineEntries<'t, J> {
 
     ghost use Rattle.version_store.specs.Entries.{keyed, line_of};
 
-    ghost view = { λ l. line_of (keyed l.entries.items) };
+    ghost view = { λ l. line_of (keyed l.entries) };
 
     ghost use Rattle.version_store.specs.Devices.Positions.{Rise};
 
-    ghost invariant = { λ l. Rise (keyed l.entries.items) };
+    ghost invariant = { λ l. Rise (keyed l.entries) };
 }
 
 impl<'t, J: PlanName> LineEntries<'t, J> {
     /// No entries.
-    pub fn new(alloc: Global) -> LineEntries<'t, J>
+    pub fn new() -> LineEntries<'t, J>
         ensures { result ≡ no_entries }
     {
         LineEntries {
-            entries: Vec::new(alloc),
+            entries: EntryList::new(),
         }
     }
 
@@ -62,21 +55,26 @@ impl<'t, J: PlanName> LineEntries<'t, J> {
     pub fn get(&self, key: &Key) -> Option<StoredEntry<'t, J>>
         ensures { option_map shown result ≡ fin.get self.now key.now }
     {
-        match position_of(&self.entries, key) {
-            Ok(position) => Some(self.entries[position].1),
+        match self.entries.position(key) {
+            Ok(position) => Some(self.entries.index(position).1),
             Err(_) => None,
         }
     }
 
     /// Puts an entry at a key, and borrows the key.
-    pub fn put(&mut self, key: &'t Key, made: StoredEntry<'t, J>) -> Result<(), AllocError>
+    pub fn put(
+        &mut self,
+        alloc: Global,
+        key: &'t Key,
+        made: StoredEntry<'t, J>,
+    ) -> Result<(), AllocError>
         ensures put { OnOk result (self.new ≡ fin.insert self.old key.now (shown made.entry)) }
         ensures same { OnErr result (self.new ≡ self.old) }
         ensures absent { OnErr result (fin.get self.old key.now ≡ None) }
     {
-        match position_of(&self.entries, key) {
-            Ok(position) => self.entries[position] = (key, made),
-            Err(position) => insert_at(&mut self.entries, position, (key, made))?,
+        match self.entries.position(key) {
+            Ok(position) => self.entries.set(position, (key, made)),
+            Err(position) => self.entries.insert(alloc, position, (key, made))?,
         }
         Ok(())
     }
@@ -85,8 +83,8 @@ impl<'t, J: PlanName> LineEntries<'t, J> {
     pub fn take_out(&mut self, key: &Key)
         ensures { self.new ≡ fin.remove self.old key.now }
     {
-        if let Ok(position) = position_of(&self.entries, key) {
-            let _ = self.entries.remove(position);
+        if let Ok(position) = self.entries.position(key) {
+            self.entries.remove(position);
         }
     }
 
@@ -94,7 +92,7 @@ impl<'t, J: PlanName> LineEntries<'t, J> {
     pub fn suspect_all(&mut self)
         ensures { self.new ≡ suspected self.old }
     {
-        mark_all(&mut self.entries);
+        self.entries.suspect_all();
     }
 
     /// The i-th key, rising, and the attempt of its entry.
@@ -105,8 +103,8 @@ impl<'t, J: PlanName> LineEntries<'t, J> {
         if i >= self.entries.len() {
             return None;
         }
-        let (key, made) = &self.entries[i];
-        Some((*key, made.attempt))
+        let (key, made) = self.entries.index(i);
+        Some((key, made.attempt))
     }
 
     /// How many entries there are.
@@ -121,45 +119,11 @@ impl<'t, J: PlanName> LineEntries<'t, J> {
         ensures { MatchOption result (AllOf self.now attempt) (λ k. IsLeastLeft self.now attempt k.now) }
     {
         for i in 0..self.entries.len() {
-            let (key, made) = &self.entries[i];
+            let (key, made) = self.entries.index(i);
             if made.attempt != attempt {
-                return Some(*key);
+                return Some(key);
             }
         }
         None
-    }
-}
-
-/// The position of a key, or else the position to which it goes.
-fn position_of<J: PlanName>(entries: &[Placed<'_, J>], key: &Key) -> Result<usize, usize>
-    requires { Rise (keyed entries.now) }
-    ensures { MatchResult result (IsAt (keyed entries.now) key.now) (IsGap (keyed entries.now) key.now) }
-{
-    entries.binary_search_by(|entry| (*entry.0).cmp(key))
-}
-
-/// Inserts an entry at a position. The first takes memory for no more than most lines need, since there are many lines.
-fn insert_at<'t, J: PlanName>(
-    entries: &mut Vec<Placed<'t, J>>,
-    position: usize,
-    entry: Placed<'t, J>,
-) -> Result<(), AllocError>
-    requires { position ≤ length entries.old.items }
-    ensures put { OnOk result (entries.new.items ≡ insert entries.old.items position entry.entry) }
-    ensures same { OnErr result (entries.new.items ≡ entries.old.items) }
-{
-    if entries.is_empty() {
-        entries.reserve_exact(USUAL_ENTRIES)?;
-    }
-    entries.insert(position, entry)?;
-    Ok(())
-}
-
-/// Makes each entry suspect.
-fn mark_all<J: PlanName>(entries: &mut [Placed<'_, J>])
-    ensures { entries.new ≡ all_marked entries.old }
-{
-    for i in 0..entries.len() {
-        entries[i].1.suspect = true;
     }
 }

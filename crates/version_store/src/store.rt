@@ -145,7 +145,7 @@ impl<'t, J: PlanName> EntryStore<'t, J> {
         };
         self.index.set(alloc, key, line)?;
         let row = &mut self.lines[(line - self.first) as usize];
-        match row.put(key, made) {
+        match row.put(alloc, key, made) {
             Ok(()) => Ok(()),
             Err(refused) => {
                 self.index.clear(key, line);
@@ -201,7 +201,7 @@ fn no_lines<'t, J: PlanName>(
 {
     let mut rows = Vec::with_capacity(alloc, lines)?;
     for _i in 0..lines {
-        rows.push(LineEntries::new(alloc))?;
+        rows.push(LineEntries::new())?;
     }
     Ok(rows)
 }

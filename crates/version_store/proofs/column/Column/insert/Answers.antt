@@ -25,10 +25,10 @@ pub returns-in_ok-push-in-Less-clause-put : goal.returns-in_ok-push-in-Less-clau
 returns-in_ok-push-in-Less-clause-put c = λ m.
     let older = c.self.inside.older.items in
     let n = c.in-Some.newest in
-    rw (← c.self.view_is, c.in-Some.is) (ap (λ ns. has (ns ++ c.args.line ∷ []) m) c.in_ok-push-in-Less.ensures.items ∙ has_newer (older ++ n ∷ []) c.args.line m)
+    rw (← c.self.view_is, c.in-Some.is) (ap (λ ns. has (ns ++ c.args.line ∷ []) m) (c.in_ok-push-in-Less.ensures.items ∙ ap (λ ns. ns ++ n ∷ []) c.make_first_room.ensures) ∙ has_newer (older ++ n ∷ []) c.args.line m)
 
-pub invariant_of-self-in-Continue-branch-2 : goal.invariant_of-self-in-Continue-branch-2
-invariant_of-self-in-Continue-branch-2 c =
+pub invariant_of-self-in-Continue-branch-3 : goal.invariant_of-self-in-Continue-branch-3
+invariant_of-self-in-Continue-branch-3 c =
     let older = c.self.inside.older.items in
     let n = c.in-Some.newest in
     let rise = subst (λ o. IsColumn o older) c.in-Some.is c.self.invariant in

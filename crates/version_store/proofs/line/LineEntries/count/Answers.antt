@@ -6,6 +6,6 @@ use Rattle.version_store.proofs.line.LineEntries.count.Goals as goal
 
 pub returns : goal.returns
 returns g c =
-    let es = c.self.inside.entries.items in
+    let es = c.self.inside.entries in
     let long : c.len.result ≡ length es = search rules in
     rw (← c.self.view_is, entries_count (keyed es) c.self.invariant, keyed_length es) long

@@ -5,7 +5,7 @@ use Rattle.circ_records.specs.Keys.{key_cmp}
 use Rattle.circ_records.specs.declared.key.Key.{Key}
 use Rattle.version_store.specs.declared.entry.StoredEntry.{StoredEntry}
 use Rattle.version_store.proofs.Keyed.{searched}
-use Rattle.version_store.proofs.line.position_of.Goals as goal
+use Rattle.version_store.proofs.entry_list.position_of.Goals as goal
 
 -- the closure says how the key of an entry compares with the one that is looked for
 pub returns : goal.returns

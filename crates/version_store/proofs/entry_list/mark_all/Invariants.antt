@@ -1,6 +1,6 @@
 use Rattle.std.proofs.Common.{◌≡◌, ◌++◌, drop, take}
 use Rattle.version_store.specs.Devices.Positions.{all_marked}
-use Rattle.version_store.proofs.line.mark_all.Given as goal
+use Rattle.version_store.proofs.entry_list.mark_all.Given as goal
 
 -- the first are suspect
 abbrev pub invariant-loop-i : goal.invariant-loop-i

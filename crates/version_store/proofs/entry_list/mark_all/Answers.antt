@@ -1,6 +1,6 @@
 use Rattle.std.proofs.Common.{◌+◌, arith}
 use Rattle.version_store.proofs.Positions.{mark_next}
-use Rattle.version_store.proofs.line.mark_all.Goals as goal
+use Rattle.version_store.proofs.entry_list.mark_all.Goals as goal
 
 pub loop-i-preserved : goal.loop-i-preserved
 loop-i-preserved g c =

@@ -61,8 +61,33 @@ some-chosen true x some = refl
 some-chosen false x some = cc some
 
 -- a record that is there was taken
-pub already : (keys : List Key) (M : Map) (old : Entries) (key : Key) → IsSome (record_at old key) → HasAt keys M old → HasAt (keys ++ key ∷ []) M old
+already : (keys : List Key) (M : Map) (old : Entries) (key : Key) → IsSome (record_at old key) → HasAt keys M old → HasAt (keys ++ key ∷ []) M old
 already keys M old key some has = unchanged keys M (record_at old) key (inl (some-chosen (list_any (is_at (key_cmp key)) keys) (M key) (subst IsSome (has key) some))) has
+
+-- a key of the base is among the keys
+base-key : (base : Entries) (key : Key) → IsSome (record_at base key) → list_any (is_at (key_cmp key)) (map (λ e. e.0) base) ≡ true
+base-key [] key some = cc some
+base-key (e ∷ es) key some = either (is_at (key_cmp key) e.0) (Some e.1) (record_at es key) _ some (base-key es key)
+  where
+    either : (b : Bool) (x rest : Option Record) (there : Bool) → IsSome (cond b x rest) → (IsSome rest → there ≡ true) → (b || there) ≡ true
+    either true x rest there some next = refl
+    either false x rest there some next = next some
+
+or-first : (a b : Bool) → a ≡ true → (a || b) ≡ true
+or-first true b is = refl
+or-first false b is = cc is
+
+-- the record at a key of the base, or one that is there, was taken
+pub settled : (base : Entries) (more rest : List Key) (M : Map) (old : Entries) (key : Key) → IsSome (record_at base key) ⊎ IsSome (record_at old key)
+    → HasAt ((map (λ e. e.0) base ++ more) ++ rest) M old → HasAt (((map (λ e. e.0) base ++ more) ++ rest) ++ key ∷ []) M old
+settled base more rest M old key there has = elim there [
+  | inl known ↦
+      let keys = map (λ e. e.0) base in
+      let is_it = is_at (key_cmp key) in
+      let first = list_any-append is_it keys more ∙ or-first (list_any is_it keys) (list_any is_it more) (base-key base key known) in
+      unchanged ((keys ++ more) ++ rest) M (record_at old) key (inl (list_any-append is_it (keys ++ more) rest ∙ or-first (list_any is_it (keys ++ more)) (list_any is_it rest) first)) has
+  | inr some ↦ already ((map (λ e. e.0) base ++ more) ++ rest) M old key some has
+]
 
 pub nothing : (keys : List Key) (M : Map) (old : Entries) (key : Key) → None ≡ M key → HasAt keys M old → HasAt (keys ++ key ∷ []) M old
 nothing keys M old key none has = unchanged keys M (record_at old) key (inr (sym none)) has

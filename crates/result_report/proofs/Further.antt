@@ -1,5 +1,5 @@
 -- Lines that come after others.
-use Rattle.std.proofs.Common.{◌≡◌, ◌∙◌, ◌⊎◌, inl, inr, ◌≤◌, ℕ, zero, suc, List, [], ◌∷◌, ◌++◌, length, take, Option, Some, None, arith, refl, sym, ap}
+use Rattle.std.proofs.Common.{◌≡◌, ◌⊎◌, inl, inr, ◌≤◌, List, [], ◌∷◌, ◌++◌, length, Option, Some, None, arith, refl, ap}
 use Rattle.std.specs.Prelude.{slice_get}
 use Rattle.journal_table.specs.Entry.{Entry}
 use Rattle.sip_answer.specs.declared.answer.Answer.{Answer}

@@ -1,6 +1,7 @@
 //! The end of a run, and what is collected from it.
 
-ghost use Rattle.std.specs.Prelude.{◌≡◌, ◌<◌, ◌++◌, ◌^◌, ℕ, List, Option, IfOk, IfSome, OnOk, length, map, option_copied, option_map, slice_get};
+ghost use Rattle.std.specs.Prelude.{◌≡◌, ◌<◌, ◌++◌, ◌^◌, ◌⊎◌, ◌↔◌, ℕ, List, Option, IfOk, IfSome, IsSome, IsTrue, OnOk, length, map, option_copied, option_map, slice_get};
+ghost use Rattle.circ_records.specs.Records.{record_at};
 ghost use Rattle.circ_records.specs.declared.key.Key.{Key};
 ghost use Rattle.circ_records.specs.declared.record.Record.{Record};
 ghost use Rattle.read_set.specs.Plans.{Planned};
@@ -99,12 +100,13 @@ fn collect_records<'e, E: End<'e>>(alloc: Global, end: &E) -> Result<Records, Al
     Ok(Records::from_map(alloc, records)?)
 }
 
-/// The records at the keys of the plan. These rise, so each goes after the others.
+/// The records at the keys of the plan. These rise, so each goes after the others. There is capacity for as many new ones: a list that
+/// grows is copied.
 fn base_records<'e, E: End<'e>>(alloc: Global, end: &E) -> Result<RecordMap, AllocError>
     ensures { IfOk result (HasAt (map (λ e. e.0) (E.planned end.now).base) (E.left end.now)) }
 {
-    let mut records = end.plan().empty_map(alloc)?;
     let keys = end.plan().keys();
+    let mut records = RecordMap::with_capacity(alloc, keys.len().saturating_mul(2))?;
     for entry in keys {
         if let Some(found) = end.final_of(&entry.0) {
             records.put(alloc, entry.0.clone()?, found.copy()?)?;
@@ -113,20 +115,20 @@ fn base_records<'e, E: End<'e>>(alloc: Global, end: &E) -> Result<RecordMap, All
     Ok(records)
 }
 
-/// Takes the records at the keys of what one line wrote. Each is copied once, however often its key is named. Where memory
-/// runs out `collect` drops them all.
+/// Takes the records at the keys of what one line wrote, where those at the keys of the plan are taken. Each is copied once, however
+/// often its key is named. Where memory runs out `collect` drops them all.
 fn take_entries<'e, E: End<'e>>(
     alloc: Global,
     end: &E,
     line: u64,
     records: &mut RecordMap,
 ) -> Result<(), AllocError>
-    ensures { OnOk result ((keys : List Key) → HasAt keys (E.left end.now) records.old
-        → HasAt (keys ++ keys_named (E.entered end.now line)) (E.left end.now) records.new) }
+    ensures { OnOk result ((more : List Key) → HasAt (map (λ e. e.0) (E.planned end.now).base ++ more) (E.left end.now) records.old
+        → HasAt ((map (λ e. e.0) (E.planned end.now).base ++ more) ++ keys_named (E.entered end.now line)) (E.left end.now) records.new) }
 {
     let mut i = 0;
     while let Some(entry) = end.keys_of(line, i) {
-        if records.get(entry.0.as_ref()).is_none() {
+        if !is_taken(end, records, entry.0) {
             if let Some(found) = end.final_of(entry.0) {
                 records.put(alloc, entry.0.clone()?, found.copy()?)?;
             }
@@ -134,4 +136,11 @@ fn take_entries<'e, E: End<'e>>(
         i += 1;
     }
     Ok(())
+}
+
+/// Whether the record at a key is taken, where those at the keys of the plan are.
+fn is_taken<'e, E: End<'e>>(end: &E, records: &RecordMap, key: &Key) -> bool
+    ensures { IsTrue result ↔ (IsSome (record_at (E.planned end.now).base key.now) ⊎ IsSome (record_at records.now key.now)) }
+{
+    end.plan().base(key).is_some() || records.get(key.as_ref()).is_some()
 }

@@ -54,8 +54,12 @@ pub fn report(
     tell(alloc, lines, plan, answers, 0, lines.len())?.finish()
 }
 
-/// This many stretches are written in parallel and then joined: enough for all cores, and their texts are small in comparison.
-const BATCH: usize = 16;
+/// This many stretches are written in parallel and then joined: enough for most processors, and their texts are small in comparison.
+const BATCH: usize = 8;
+
+/// The answers get the capacity that they need if rows have this number of bytes. Most are shorter, so that their text never moves;
+/// memory that is never written to isn't touched.
+const USUAL_ANSWER: usize = 160;
 
 /// The same, written by as many threads as there are processors, a stretch of lines at a time.
 pub fn report_parallel(
@@ -78,6 +82,9 @@ pub fn report_parallel(
         report: whole.report.len(),
         passed: whole.passed.len(),
     };
+    whole
+        .answers
+        .reserve(lines.len().saturating_mul(USUAL_ANSWER))?;
     let stretches = lines.len() / STRETCH + 1;
     for batch in 0..stretches / BATCH + 1 {
         let from = batch * BATCH;

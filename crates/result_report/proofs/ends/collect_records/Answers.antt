@@ -10,7 +10,7 @@ loop-i-preserved g c =
     let entered = g.E.End.entered c.args.end.now in
     let keys = map (λ e. e.0) (g.E.End.planned c.args.end.now).base in
     line-more entered M c.take_entries.new.records keys c.first-first.result c.loop-i.i _ refl
-    (c.in_ok-take_entries.ensures (keys ++ lines_keys entered (range_with_len c.first-first.result c.loop-i.i)) c.loop-i.invariant)
+    (c.in_ok-take_entries.ensures (lines_keys entered (range_with_len c.first-first.result c.loop-i.i)) c.loop-i.invariant)
 
 pub returns : goal.returns
 returns g c =

@@ -24,7 +24,7 @@ loop-batch-init g c =
         report = rw none.report at report;
         passed = rw none.passed at passed;
       };
-      told = none;
+      told = record { answers = c.in_ok-reserve.ensures.items ∙ none.answers; report = none.report; passed = none.passed; sizes = none.sizes };
     }
 
 pub loop-batch-preserved : goal.loop-batch-preserved
@@ -34,7 +34,7 @@ loop-batch-preserved g c =
     let all = line_results lines c.args.plan.now.readings (answers_behind answers) in
     let few = few-line_results lines c.args.plan.now.readings (answers_behind answers) in
     let small : length lines < 2 ^ 64 = search rules in
-    let told = c.loop-batch.batch * 16 in
+    let told = c.loop-batch.batch * 8 in
     let h = c.in_ok-parts.ensures in
     let given = h.1 in
     let ends = c.into_par_iter.ensures in
@@ -48,7 +48,7 @@ loop-batch-preserved g c =
     let before = c.loop-batch.invariant in
     let made = c.in_ok-whole-2.ensures all told (omega arith) before.heads before.told (subst (λ ps. AreParts told all ps) (sym items) parts.1) in
     let many : length c.in_ok-parts-2.field-0.items ≡ n = ap length items ∙ parts.0 in
-    let same : take ((told + length c.in_ok-parts-2.field-0.items) * 4096) all ≡ take ((c.loop-batch.batch + 1) * 16 * 4096) all = taken-same all _ _ (elim (cases_lt (told + 16) (length lines / 4096 + 1)) [
+    let same : take ((told + length c.in_ok-parts-2.field-0.items) * 4096) all ≡ take ((c.loop-batch.batch + 1) * 8 * 4096) all = taken-same all _ _ (elim (cases_lt (told + 8) (length lines / 4096 + 1)) [
       | inl full ↦ inl (omega (arith, many, full, c.min.ensures))
       | inr last ↦ inr (omega (arith, many, last, few, c.min.ensures), omega (arith, few, last))
     ]) in
@@ -63,10 +63,10 @@ returns-clause-texts g c =
     let answers = c.as_slice-answers.result.now in
     let all = line_results lines c.args.plan.now.readings (answers_behind answers) in
     let few = few-line_results lines c.args.plan.now.readings (answers_behind answers) in
-    let over : (length lines / 4096 + 1) / 16 + 1 ≤ c.loop-batch.batch = search rules in
+    let over : (length lines / 4096 + 1) / 8 + 1 ≤ c.loop-batch.batch = search rules in
     let same : all ≡ line_results c.args.journal.now (readings_of c.args.journal.now) (answers_behind c.args.outcome.now.answers.items) =
     λ i. line_results (c.lines-lines.ensures.lines i) (c.requires.planned i) (answers_behind (c.as_slice-answers.ensures.value i)) in
-    subst (λ ls. AreTexts ls c.loop-batch.whole) (take_all (c.loop-batch.batch * 16 * 4096) all (omega arith) ∙ same) c.loop-batch.invariant.told
+    subst (λ ls. AreTexts ls c.loop-batch.whole) (take_all (c.loop-batch.batch * 8 * 4096) all (omega arith) ∙ same) c.loop-batch.invariant.told
 
 pub returns-clause-each_once : goal.returns-clause-each_once
 returns-clause-each_once g c = each-once c.args.journal.now (answers_behind c.args.outcome.now.answers.items) c.loop-batch.whole c.requires.answered (returns-clause-texts g c)

@@ -7,5 +7,5 @@ use Rattle.result_report.proofs.texts.report_parallel.Given as goal
 abbrev pub invariant-loop-batch : goal.invariant-loop-batch
 invariant-loop-batch g l = record {
   heads : AreHeads l.heads;
-  told : AreTexts (take (l.batch * 16 * 4096) (line_results l.lines l.plan.readings (answers_behind l.answers))) l.whole;
+  told : AreTexts (take (l.batch * 8 * 4096) (line_results l.lines l.plan.readings (answers_behind l.answers))) l.whole;
 }

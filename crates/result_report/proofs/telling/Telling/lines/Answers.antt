@@ -1,4 +1,4 @@
-use Rattle.std.proofs.Common.{◌≡◌, ◌∙◌, ◌⊎◌, ℕ, None, refl, ◌<◌, ◌^◌, ◌+◌, ◌++◌, ◌∷◌, [], List, Option, Some, length, take, append_assoc, sym, ap, subst, arith, min}
+use Rattle.std.proofs.Common.{◌≡◌, ◌∙◌, ◌⊎◌, ℕ, None, refl, ◌+◌, ◌++◌, ◌∷◌, [], List, Option, length, take, append_assoc, sym, ap, subst, arith, min}
 use Rattle.std.proofs.lemmas.List.{length-append, length-take, take_all, take_more}
 use Rattle.std.specs.Prelude.{option_copied, slice_get}
 use Rattle.sip_answer.specs.declared.answer.Answer.{Answer}

@@ -9,5 +9,6 @@ pub mod FinalTables
 pub mod InOrder
 pub mod Judgements
 pub mod OneThread
+pub mod Outcomes
 pub mod Prepared
 pub mod ReplayEnd

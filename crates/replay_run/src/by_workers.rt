@@ -1,19 +1,17 @@
 //! A whole run by workers in threads.
 
-ghost use Rattle.std.specs.Prelude.{◌≡◌, ◌≤◌, ◌+◌, IfErr, IfOk, length};
+ghost use Rattle.std.specs.Prelude.{◌≡◌, ◌+◌, [], IfErr, IfOk, length};
 ghost use Rattle.std.specs.Thread.{IsSync};
-ghost use Rattle.read_set.specs.Plans.{readings_of};
-ghost use Rattle.read_set.specs.Replay.{last};
+ghost use Rattle.read_set.specs.Plans.{plan_over, readings_of};
 ghost use Rattle.record_tables.specs.Tables.{texts_of};
 ghost use Rattle.record_tables.specs.Written.{tables_of};
 ghost use Rattle.result_report.specs.Report.{AreAnswers, answers_behind, line_results};
 ghost use Rattle.result_report.specs.Tables.{AreTexts};
-ghost use Rattle.replay_run.specs.Answers.{answers_of};
 ghost use Rattle.replay_run.specs.Attempts.{AreOnePerLine};
-ghost use Rattle.replay_run.specs.BySteps.{AreWorkers, attempts_on};
+ghost use Rattle.replay_run.specs.BySteps.{AreWorkers};
 ghost use Rattle.replay_run.specs.ByWorkers.{IsByWorkers, IsMade, MayFail};
-ghost use Rattle.replay_run.specs.Entries.{AreEntries};
 ghost use Rattle.replay_run.specs.OneThread.{IsOutputBy, judgement};
+ghost use Rattle.replay_run.specs.Outcomes.{IsOutcome};
 ghost use Rattle.speculate.specs.Driving.{RunsTo};
 
 use crate::fault::Fault;
@@ -84,41 +82,62 @@ fn run<G: Gate + Sync, R: Threads + Wait + Sync>(
         let output = run_in_order::<Brand, G, R>(rt, alloc, plan, journal, gate)?;
         Ok(output)
     } else {
-        let output = run_named::<Brand, G, R>(rt, alloc, &plan, journal, workers, gate);
-        forget(plan);
-        output
+        run_named::<Brand, G, R>(rt, alloc, plan, journal, workers, gate)
     }
 }
 
-/// The run of the workers over the plan of a journal. A fault that they return ends it, whatever is committed by then. Where they
-/// end with lines open and no fault, the calling thread commits these in order.
-#[tactic(auto, using(crate::proofs::Stepping::met))]
+/// The run of the workers over the plan of a journal. Once they are done, the records before the first line aren't needed, and their
+/// memory is freed for the texts.
 fn run_named<J: PlanName + Send + Sync + 'static, G: Gate + Sync, R: Threads + Wait + Sync>(
     rt: &R,
     alloc: Global,
-    plan: &Plan,
+    plan: Plan,
     journal: &Journal,
     workers: u32,
     gate: &G,
 ) -> Result<Output, Fault>
-    requires named { plan.now ≡ J.plan }
-    requires fits { plan.now.readings ≡ readings_of journal.now }
+    requires named { plan ≡ J.plan }
+    requires fits { plan.readings ≡ readings_of journal.now }
     requires workers { AreWorkers workers }
-    ensures output { IsMade (record { plan = plan.now; lines = journal.now }) result }
+    ensures output { IsMade (record { plan = J.plan; lines = journal.now }) result }
     ensures attempts { IfOk result (λ o. length o.attempts.items ≡ length journal.now) }
 {
     let table: VersionTable<J> = VersionTable::for_lines(alloc, plan.readings().len())?;
+    let outcome = outcome_of(rt, alloc, &plan, &table, workers, gate)?;
+    let mut bare = plan;
+    drop(bare.take_base(alloc));
+    let output = output_parallel::<J, R>(rt, alloc, &bare, journal, outcome)?;
+    forget(table);
+    forget(bare);
+    Ok(output)
+}
+
+/// The outcome of the workers. A fault that they return ends the run, whatever is committed by then. Where they end with lines open
+/// and no fault, the calling thread commits these in order.
+#[tactic(auto, using(crate::proofs::Stepping::met))]
+fn outcome_of<'t, J: PlanName + Send + Sync + 'static, G: Gate + Sync, R: Threads + Wait + Sync>(
+    rt: &R,
+    alloc: Global,
+    plan: &Plan,
+    table: &'t VersionTable<J>,
+    workers: u32,
+    gate: &G,
+) -> Result<Outcome<'t>, Fault>
+    requires named { plan.now ≡ J.plan }
+    requires workers { AreWorkers workers }
+    ensures outcome { IfOk result (IsOutcome J.plan) }
+    ensures fault { IfErr result MayFail }
+{
     let board = Board::new(alloc, plan, workers)?;
-    let shared = SharedBoard::new(board, &table);
+    let shared = SharedBoard::new(board, table);
     let run = run_workers(rt, alloc, &shared, gate);
     let finished = match (run, shared.close()) {
         (Err(fault), _) => return Err(Fault::from(fault)),
         (Ok(()), Ok(finished)) => finished,
-        (Ok(()), Err(open)) => finish_in_order(rt, alloc, &table, open)?,
+        (Ok(()), Err(open)) => finish_in_order(rt, alloc, table, open)?,
     };
-    let output = collect_parallel(rt, alloc, plan, journal, finished)?;
-    forget(table);
-    Ok(output)
+    let outcome = collected(alloc, finished)?;
+    Ok(outcome)
 }
 
 /// The end of an open board's replay: each line that isn't committed is, in the order of the journal.
@@ -140,40 +159,32 @@ fn finish_in_order<'p, 't, J: PlanName + 'static, R: Wait>(
     }
 }
 
-/// The output of a board on which all lines are committed.
-fn collect_parallel<J: PlanName + 'static, R: Threads + Sync>(
-    rt: &R,
+/// What is collected from a board on which all lines are committed. The board's memory is freed for the texts.
+fn collected<'t, J: PlanName + 'static>(
     alloc: Global,
-    plan: &Plan,
-    journal: &Journal,
-    finished: Finished<'_, '_, J>,
-) -> Result<Output, AllocError>
-    requires named { plan.now ≡ J.plan }
-    requires fits { plan.now.readings ≡ readings_of journal.now }
-    ensures output { IfOk result (IsOutputBy plan.now journal.now (attempts_on plan.now finished.entry)) }
-    ensures attempts { IfOk result (λ o. length o.attempts.items ≡ length journal.now) }
+    finished: Finished<'_, 't, J>,
+) -> Result<Outcome<'t>, AllocError>
+    ensures { IfOk result (IsOutcome J.plan) }
 {
     let _plan = finished.plan();
     let outcome = collect(alloc, &finished)?;
-    // the board's memory is needed for the texts
     drop(finished);
-    let output = output_parallel(rt, alloc, plan, journal, outcome)?;
-    Ok(output)
+    Ok(outcome)
 }
 
-/// The output of a run over the plan of a journal that ended with the records and the answers of one thread. The tables of the records and
-/// the result tables are made side by side, the latter by all cores.
-fn output_parallel<R: Threads + Sync>(
+/// The output of a run over the plan of a journal that ended with the records and the answers of one thread; its records before the
+/// first line aren't needed. The tables of the records and the result tables are made side by side, the latter by all cores.
+fn output_parallel<J: PlanName, R: Threads + Sync>(
     rt: &R,
     alloc: Global,
     plan: &Plan,
     journal: &Journal,
     outcome: Outcome<'_>,
 ) -> Result<Output, AllocError>
-    requires fits { plan.now.readings ≡ readings_of journal.now }
-    requires answers { answers_behind outcome.answers.items ≡ answers_of plan.now }
-    requires records { AreEntries (last plan.now) outcome.records }
-    ensures { IfOk result (IsOutputBy plan.now journal.now outcome.entry.attempts.items) }
+    requires bare { plan.now ≡ plan_over J.plan [] }
+    requires fits { J.plan.readings ≡ readings_of journal.now }
+    requires outcome { IsOutcome J.plan outcome }
+    ensures { IfOk result (IsOutputBy J.plan journal.now outcome.entry.attempts.items) }
 {
     let (records, lent) = (outcome.records.as_records(), &outcome);
     let write = || -> Result<Tables, AllocError>

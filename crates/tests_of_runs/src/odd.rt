@@ -168,7 +168,7 @@ fn tell_line(alloc: Global, plan: &Plan, text: &str, out: &mut String) -> Result
     let mut live = Live::over(alloc, plan)?;
     put_records(alloc, &mut live, text)?;
     match perform(alloc, plan, 1, &mut live) {
-        Ok(effect) => tell_effect(alloc, out, &effect.answer, effect.writes.as_slice()),
+        Ok(effect) => tell_effect(alloc, out, effect.answer.as_ref(), effect.writes.as_slice()),
         Err(_) => Err(AllocError),
     }
 }

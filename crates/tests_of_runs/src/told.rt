@@ -122,7 +122,7 @@ pub(crate) fn tell_fault(out: &mut String, fault: BoardFault) -> Result<(), Allo
 pub(crate) fn tell_effect(
     alloc: Global,
     out: &mut String,
-    answer: &Option<Answer>,
+    answer: Option<&Answer>,
     writes: &[(Key, Record)],
 ) -> Result<(), AllocError> {
     if let Some(answer) = answer {

@@ -139,13 +139,13 @@ fn refuse<O: Outside>(refusal: &Refusal, outside: &mut O) -> u8
 
 /// The result of a run that isn't stopped.
 #[derive(Drop)]
-struct Ended {
+struct RunResult {
     sizes: Sizes,
     /// Why its result is doubtful, where that is to be printed.
     doubt: Option<Doubt>,
 }
 
-impl Ended {
+impl RunResult {
     fn status(&self) -> u8
         ensures { result ≡ ended_status self.now.sizes.differences }
     {
@@ -162,7 +162,7 @@ fn replay<R: AllocGlobal + Threads + Wait + Sync + Clock + Eprint, O: Outside>(
     rt: &R,
     outside: &mut O,
     options: &Options,
-) -> Result<Ended, RunError>
+) -> Result<RunResult, RunError>
     ensures ended { IfOk result (λ e. Did (HasEnded options.now e.sizes) (O.log outside.old) (O.log outside.new)) }
     ensures doubt { IfOk result (λ e. IsToldDoubt options.now e.sizes e.doubt) }
     ensures stops { IfErr result (λ stop. Did (HasStopped options.now stop) (O.log outside.old) (O.log outside.new)) }
@@ -184,7 +184,7 @@ fn rewrite<R: AllocGlobal + Threads + Wait + Sync + Clock + Eprint, O: Outside>(
     outside: &mut O,
     options: &Options,
     progress: &Progress<'_, R>,
-) -> Result<Ended, RunError>
+) -> Result<RunResult, RunError>
     ensures doubt { IfOk result (λ e. IsToldDoubt options.now e.sizes e.doubt) }
     ensures written { IfOk result (λ e. Did (λ events. (output : Output) × (reads : List Event) × IsReplayed options.now (Ok output) reads × (e.sizes ≡ output.sizes)
         × (events ≡ reads ++ writes_of options.now output)) (O.log outside.old) (O.log outside.new)) }
@@ -199,7 +199,7 @@ fn rewrite<R: AllocGlobal + Threads + Wait + Sync + Clock + Eprint, O: Outside>(
     write_output(outside, rt.alloc(), options.out.as_str(), &output)?;
     let sizes = output.sizes;
     let doubt = doubt_where_asked(options, outside.is_terminal(), rt.alloc(), &inputs, sizes);
-    Ok(Ended { sizes, doubt })
+    Ok(RunResult { sizes, doubt })
 }
 
 /// Why the result can't be meant, where that is to be printed.

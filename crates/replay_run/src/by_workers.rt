@@ -8,7 +8,7 @@ ghost use Rattle.record_tables.specs.Written.{tables_of};
 ghost use Rattle.result_report.specs.Report.{AreAnswers, answers_behind, line_results};
 ghost use Rattle.result_report.specs.Tables.{AreTexts};
 ghost use Rattle.replay_run.specs.Attempts.{AreOnePerLine};
-ghost use Rattle.replay_run.specs.BySteps.{AreWorkers};
+ghost use Rattle.replay_run.specs.BySteps.{AreWorkers, attempts_on};
 ghost use Rattle.replay_run.specs.ByWorkers.{IsByWorkers, IsMade, MayFail};
 ghost use Rattle.replay_run.specs.OneThread.{IsOutputBy, judgement};
 ghost use Rattle.replay_run.specs.Outcomes.{IsOutcome};
@@ -164,7 +164,8 @@ fn collected<'t, J: PlanName + 'static>(
     alloc: Global,
     finished: Finished<'_, 't, J>,
 ) -> Result<Outcome<'t>, AllocError>
-    ensures { IfOk result (IsOutcome J.plan) }
+    ensures outcome { IfOk result (IsOutcome J.plan) }
+    ensures attempts { IfOk result (λ o. o.attempts.items ≡ attempts_on J.plan finished.entry) }
 {
     let _plan = finished.plan();
     let outcome = collect(alloc, &finished)?;

@@ -39,15 +39,6 @@ impl<'e> Model for LastRecords<'e> {
 }
 
 impl<'e> LastRecords<'e> {
-    /// Records that were collected.
-    pub fn collected(records: Records) -> LastRecords<'e>
-        ensures { result ≡ records }
-    {
-        LastRecords {
-            held: RecordsFrom::Collected(records),
-        }
-    }
-
     /// The records.
     pub fn as_records(&self) -> &Records
         ensures { result.now ≡ self.now }

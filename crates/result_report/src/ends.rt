@@ -66,9 +66,13 @@ pub fn collect<'e, E: End<'e>>(alloc: Global, end: &E) -> Result<Outcome<'e>, Al
     ensures attempts { IfOk result (λ o. o.attempts.items ≡ map (E.attempted end.now) (numbers_of (E.planned end.now))) }
     ensures records { IfOk result (λ o. AreRecordsAt (named_keys (E.planned end.now) (E.entered end.now)) (E.left end.now) o.records) }
 {
-    let held = match end.records() {
-        Some(records) => RecordsFrom::Lent(records),
-        None => RecordsFrom::Collected(collect_records(alloc, end)?),
+    let records = match end.records() {
+        Some(records) => LastRecords {
+            held: RecordsFrom::Lent(records),
+        },
+        None => LastRecords {
+            held: RecordsFrom::Collected(collect_records(alloc, end)?),
+        },
     };
     let first = end.plan().first();
     let count = end.plan().readings().len();
@@ -79,7 +83,7 @@ pub fn collect<'e, E: End<'e>>(alloc: Global, end: &E) -> Result<Outcome<'e>, Al
         attempts.push(end.attempt(first + i as u64))?;
     }
     Ok(Outcome {
-        records: LastRecords { held },
+        records,
         answers,
         attempts,
     })

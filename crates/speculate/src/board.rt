@@ -231,7 +231,7 @@ impl<'p, 't, J: PlanName> Board<'p, 't, J> {
     pub fn committed(&self) -> u64
         ensures { result ≡ self.now.committed }
     {
-        self.counts().commits
+        self.lines.counts().commits
     }
 
     /// The clock: its first value, and 1 more for each change of an entry.

@@ -71,7 +71,7 @@ impl<'p, 't, J: PlanName> Board<'p, 't, J> {
         ensures all { IsWhole self.entry → OnErr result ⊥ }
         ensures still { IfErr result (λ rest. (rest.board ≡ self.entry) × (rest.committed ≡ self.entry.committed) × (rest.committed < length J.plan.readings)) }
     {
-        let committed = self.lines.counts().commits;
+        let committed = self.committed();
         let plan = self.plan();
         if committed < lines_of(plan) as u64 {
             return Err(Open {

@@ -18,10 +18,16 @@ pub struct OnBoard<'a, 'p, 't, J: PlanName + 'static, R: Wait> {
     pub left: Option<Left>,
 }
 
+impl<'t, J: PlanName + 'static, R: Wait> OnBoard<'_, '_, 't, J, R> {
+    /// The board's reply to one look, by one hold of the lock.
+    fn reply(&self, key: &Key) -> Result<Reply<'t, J>, Left> {
+        self.shared.hold(self.rt).look(self.worker, key)
+    }
+}
+
 impl<J: PlanName + 'static, R: Wait> RecordReader for OnBoard<'_, '_, '_, J, R> {
     fn look(&mut self, _alloc: Global, key: &Key) -> Result<Option<Note>, AllocError> {
-        let reply = self.shared.hold(self.rt).look(self.worker, key);
-        match reply {
+        match self.reply(key) {
             Ok(Reply::Seen { name, place }) => {
                 let found = copied(record_seen(self.shared.plan(), key, place))?;
                 Ok(Some(Note {

@@ -110,7 +110,7 @@ impl Findings {
         texts: &RunTexts<'_>,
         fates: &[Fate],
         names: &CaseNames,
-        whys: &mut Whys,
+        whys: &Whys,
     ) -> Result<(), PageError> {
         let mut reading = RunReader::of(self.alloc, texts)?;
         for fate in fates {
@@ -125,7 +125,7 @@ impl Findings {
         line: &LineRows,
         fate: Fate,
         names: &CaseNames,
-        whys: &mut Whys,
+        whys: &Whys,
     ) -> Result<(), AllocError> {
         if self.lines == 0 {
             self.first_line = line.number;
@@ -144,7 +144,7 @@ impl Findings {
         line: &LineRows,
         is_wrong: bool,
         names: &CaseNames,
-        whys: &mut Whys,
+        whys: &Whys,
     ) -> Result<(), AllocError> {
         self.answered = self.answered.saturating_add(1);
         let case = line.case(self.alloc)?;
@@ -170,9 +170,6 @@ impl Findings {
         let (Some(day), Some(hour)) = (self.date.get(..8), self.date.get(12..14)) else {
             return Ok(());
         };
-        if !day.iter().all(|byte| byte.is_ascii_digit()) {
-            return Ok(());
-        }
         count(self.alloc, &mut self.days, day, more)?;
         count(self.alloc, &mut self.hours, hour, more)
     }

@@ -90,7 +90,7 @@ fn add_line_sentence(
 ) -> Result<(), AllocError> {
     let mut said = Wording::new(run.alloc);
     put_said(&mut said, run, line.words(), case);
-    run.whys.put(&mut said, line, case, &run.names)?;
+    run.whys.put(&mut said, line, &run.names)?;
     let date = value_in(&case.asked, b"date");
     add_moment(sheet, run.alloc, "", date, run.findings.is_dated());
     sheet.add(", ", line.connection());
@@ -182,7 +182,7 @@ fn add_line(
     sheet.add_markup("</summary>");
     let mut because = Wording::new(run.alloc);
     if !is_same {
-        run.whys.put(&mut because, line, &case, &run.names)?;
+        run.whys.put(&mut because, line, &run.names)?;
     }
     if !because.is_empty() {
         sheet.add_words("<p>Because", because);

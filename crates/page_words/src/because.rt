@@ -15,7 +15,7 @@ pub struct Origin<'w> {
     pub id: &'w [u8],
     /// What mattered of the record: words with their values, with `; ` between them.
     pub said: &'w [u8],
-    /// Since when it was so: `base`, or the number of a line.
+    /// The line that wrote the record last, whatever of it that was; `base` where none did.
     pub since: &'w [u8],
 }
 
@@ -35,8 +35,8 @@ const BECAUSES: &str = "\
 *|unknown_item|*|item|no table has {+id}
 fee|*|rental|item|its rental is {=rental}
 due|*|due day given|item|the request gives that day
-due|*|closed|item|its {=days} days end on a closed day: {&closed}
-due|*|days|item|it is lent for {=days} days
+due|*|closed|item|a loan of {=days} day{sdays} ends on a closed day: {&closed}
+due|*|days|item|it is lent for {=days} day{sdays}
 alert|*|first|item|{@first} waits for it first, of {=holds}{~since}
 alert|*|*|item|nobody waits for it{~since}
 available|*|borrower none|item|nobody has it{~since}

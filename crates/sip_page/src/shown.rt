@@ -2,7 +2,7 @@
 
 use crate::gathered::Gathered;
 use crate::groups::Group;
-use crate::index::plural_of;
+use crate::index::{name_of_several, plural_of};
 use crate::messages::add_messages;
 use crate::reading::LineRows;
 use crate::sheet::{Sheet, TABLE_END};
@@ -135,11 +135,13 @@ fn add_several(sheet: &mut Sheet, run: &Gathered, group: &Group) -> Result<(), A
 /// Adds one sentence for all lines of a group, as: `9 checkouts at SELF3, 12:18 to 16:25: due 14 March told, 16 March is right`.
 fn add_group_sentence(sheet: &mut Sheet, run: &Gathered, group: &Group) {
     sheet.add_number("", group.count);
-    sheet.add(" ", plural_of(&group.kind));
+    sheet.add(" ", name_of_several(&group.kind, group.count));
     sheet.add(" at ", &group.connection);
     let dated = run.findings.is_dated();
     add_moment(sheet, run.alloc, ", ", &group.first, dated);
-    add_moment(sheet, run.alloc, " to ", &group.last, !group.is_one_day());
+    if group.count > 1 {
+        add_moment(sheet, run.alloc, " to ", &group.last, !group.is_one_day());
+    }
     if group.is_same {
         sheet.add(": ", &group.same);
     } else {

@@ -8,22 +8,25 @@ use command_line::PageOptions;
 use page_words::{Wording, put_day};
 use std::alloc::AllocError;
 
-/// What the three weights say, with the markup before the count of each.
-static WEIGHTS: [(u8, &str, &str); 3] = [
+/// What the three weights say: the markup before the count of each, what one and what several are, and the rest.
+static WEIGHTS: [(u8, &str, [&str; 2], &str); 3] = [
     (
         b'1',
         "<li class=\"w1\"><a href=\"#w1\"><b>",
-        "</b> records may be wrong</a>: done where the rules refuse it, or refused</li>\n",
+        ["</b> record", "</b> records"],
+        " may be wrong</a>: done where the rules refuse it, or refused</li>\n",
     ),
     (
         b'2',
         "<li class=\"w2\"><a href=\"#w2\"><b>",
-        "</b> told wrong</a>: the records are right, and what was said isn't</li>\n",
+        ["</b>", "</b>"],
+        " told wrong</a>: the records are right, and what was said isn't</li>\n",
     ),
     (
         b'3',
         "<li class=\"w3\"><a href=\"#w3\"><b>",
-        "</b> not readable</a>: nobody knows what the server did</li>\n",
+        ["</b>", "</b>"],
+        " not readable</a>: nobody knows what the server did</li>\n",
     ),
 ];
 
@@ -95,10 +98,11 @@ pub fn add_summary(
 /// Adds how many wrong responses have each weight, with links to the first of them.
 fn add_weights(sheet: &mut Sheet, run: &Gathered) {
     sheet.add_markup("<ul class=\"w\">\n");
-    for (weight, before, after) in &WEIGHTS {
+    for (weight, before, [one, several], after) in &WEIGHTS {
         let count = run.findings.wrong_of(*weight);
         if count > 0 {
             sheet.add_number(before, count);
+            sheet.add_markup(if count == 1 { one } else { several });
             sheet.add_markup(after);
         }
     }

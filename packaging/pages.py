@@ -16,7 +16,8 @@ class Help:
         for block in re.split(r"\n\n+", rest.strip()):
             title = re.match(r"(Options|Arguments):\n", block)
             if title:
-                self.options += [self.option(line) for line in block.splitlines()[1:]]
+                # a text that goes on in the next line is indented there up to where it began
+                self.options += [self.option(line) for line in re.sub(r"\n {9,}", " ", block).splitlines()[1:]]
             else:
                 self.paragraphs.append(block)
         if not self.about or not self.options or not any(it.startswith("Status 0:") for it in self.paragraphs):

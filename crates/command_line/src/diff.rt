@@ -12,28 +12,29 @@ use clap::{Arg, ArgAction, ArgMatches, Command};
 use std::alloc::{AllocError, Global};
 use std::convert::AsStr;
 
-const ABOUT: &str =
-    "Compares two folders of tables of a library's circulation, row by row and in any order of rows, and \
-writes what differs";
+const ABOUT: &str = "Compares two folders of tables of a library's circulation,
+row by row and in any order of rows, and writes what differs";
 
-const LEFT_HELP: &str =
-    "A folder of tables: patrons.csv, items.csv, loans.csv, fees.csv, closed.csv and, where there are holds, holds.csv";
+const LEFT_HELP: &str = "A folder of tables: patrons.csv, items.csv, loans.csv,
+fees.csv, closed.csv and, where there are holds, holds.csv";
 
 const RIGHT_HELP: &str = "The folder that it is compared with";
 
-const LEAVE_HELP: &str =
-    "A column that isn't compared, such as items.properties; may be given several times";
+const LEAVE_HELP: &str = "A column that isn't compared, such as
+items.properties; may be given several times";
 
 const AFTER_HELP: &str = "Example:
   sip_diff result exported > differences.csv
 
-What differs goes to standard output, as CSV with the columns table, id, column, left, right: a row for each value that differs.
-Where only one side has a row, the column is (row), and left or right has its values. A loan is named by its item, a hold by its item
-and its patron; a hold's place in the queue is a column. A fee whose id only one side has counts as the same as a fee of another id
-with the same patron, type, amount and paid. Where nothing differs nothing is written.
+What differs goes to standard output, as CSV with the columns table, id, column, left, right: a
+row for each value that differs. Where only one side has a row, the column is (row), and left or
+right has its values. A loan is named by its item, a hold by its item and its patron; a hold's
+place in the queue is a column. A fee whose id only one side has counts as the same as a fee of
+another id with the same patron, type, amount and paid. Where nothing differs nothing is written.
 
-Status 0: nothing differs. 1: something does. 2: the command line or a table is refused, and standard error says why. 3: a file
-cannot be read, standard output takes nothing more, or memory ran out.";
+Status 0: nothing differs. 1: something does. 2: the command line or
+a table is refused, and standard error says why. 3: a file cannot be
+read, standard output takes nothing more, or memory ran out.";
 
 /// The two folders of tables that are compared, and what of them isn't, as the words name them.
 pub struct DiffOptions {

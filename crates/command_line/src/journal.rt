@@ -11,44 +11,44 @@ use std::convert::AsStr;
 const ABOUT: &str =
     "Makes a journal for sip_replay from a server's log: each request with the response to it";
 
-const REQUEST_HELP: &str =
-    "An expression that a line with a request matches; its one group is the request";
+const REQUEST_HELP: &str = "An expression that a line with a request
+matches; its one group is the request";
 
-const RESPONSE_HELP: &str =
-    "An expression that a line with a response matches; its one group is the response";
+const RESPONSE_HELP: &str = "An expression that a line with a response
+matches; its one group is the response";
 
-const CONNECTION_HELP: &str =
-    "An expression that each of these lines matches; its one group names the connection";
+const CONNECTION_HELP: &str = "An expression that each of these lines
+matches; its one group names the connection";
 
-const ESCAPES_HELP: &str =
-    "How the log spells bytes: bare (as they are), backslash (\\r \\n \\t \\\\ \\x0D), angle (<CR> <LF>), \
-octal (#015), hexadecimal (two digits a byte)";
+const ESCAPES_HELP: &str = "How the log spells bytes: bare (as they are),
+backslash (\\r \\n \\t \\\\ \\x0D), angle (<CR> <LF>), octal (#015),
+hexadecimal (two digits a byte)";
 
-const MARK_HELP: &str =
-    "An expression of lines that are read as one with the next, with a line feed between them";
+const MARK_HELP: &str = "An expression of lines that are read as one
+with the next, with a line feed between them";
 
-const LAYOUT_HELP: &str =
-    "What a line has: single (one message), pair (a request with its response), json (an object of journalctl -o json)";
+const LAYOUT_HELP: &str = "What a line has: single (one message), pair (a request
+with its response), json (an object of journalctl -o json)";
 
-const TRY_HELP: &str =
-    "Tries all presets on the first 10000 lines of this log, and prints what each finds, the best first";
+const TRY_HELP: &str = "Tries all presets on the first 10000 lines of this
+log, and prints what each finds, the best first";
 
 const MERGE_HELP: &str = "Reads the logs side by side, by the times of their lines";
 
-const FORCE_HELP: &str =
-    "Writes the journal even if too much in it is odd, and reads files that don't look like a log";
+const FORCE_HELP: &str = "Writes the journal even if too much in it is
+odd, and reads files that don't look like a log";
 
-const PRESET_HELP: &str =
-    "A known form of lines: koha-log4perl, koha-syslog, evergreen, rsyslog, mediator, journald, two-line, pair, arrows, \
+const PRESET_HELP: &str = "A known form of lines: koha-log4perl, koha-syslog, evergreen,
+rsyslog, mediator, journald, two-line, pair, arrows,
 input-output or received-sent; other options replace parts of it";
 
 const FIRST_HELP: &str = "The number of the first row, 1 to 9999999999; 1 if left out";
 
-const CAPTURE_HELP: &str =
-    "Reads captures of packets (pcap, pcapng) in place of logs; a connection's name is the client's address and port";
+const CAPTURE_HELP: &str = "Reads captures of packets (pcap, pcapng) in place of logs;
+a connection's name is the client's address and port";
 
-const PORT_HELP: &str =
-    "The server's port in captures; if left out 6001, and on other ports the side that sends responses is the server";
+const PORT_HELP: &str = "The server's port in captures; if left out 6001, and on
+other ports the side that sends responses is the server";
 
 const LOGS_HELP: &str = "The logs, in the order in which they were written; - is standard input";
 
@@ -57,16 +57,19 @@ const AFTER_HELP: &str = "Example:
   sip_journal --preset arrows server.log > journal.csv
   sip_journal --capture sip.pcap > journal.csv
 
-A line that matches --request is a request, else one that matches --response a response; all others are skipped. A
-response belongs to the last request of its connection that has none yet; a request that is followed by another one has
-an empty response. The journal goes to standard output. Standard error names each response without a request, the first
-skipped lines and the first odd messages (an unknown identifier, a wrong checksum, none where the client sends some), and
-ends with
-  lines <n> exchanges <n> without-response <n> without-request <n> skipped <n> unknown <n> wrong-checksum <n> without-checksum <n>
+A line that matches --request is a request, else one that matches --response a response;
+all others are skipped. A response belongs to the last request of its connection that
+has none yet; a request that is followed by another one has an empty response. The
+journal goes to standard output. Standard error names each response without a request,
+the first skipped lines and the first odd messages (an unknown identifier, a wrong
+checksum, none where the client sends some), and ends with one line, here in two:
+  lines <n> exchanges <n> without-response <n> without-request <n> skipped <n> unknown <n>
+  wrong-checksum <n> without-checksum <n>
 
-Status 0: each request has its response, and nothing is odd. 1: some have none, a response has no request, a message is odd,
-or times go back by more than a minute. 2: the command line, a log or a line is refused, no exchange was found, or more
-than one message in ten is odd; standard error says why. 3: a file cannot be read or written, or memory ran out.";
+Status 0: each request has its response, and nothing is odd. 1: some have none, a response
+has no request, a message is odd, or times go back by more than a minute. 2: the command
+line, a log or a line is refused, no exchange was found, or more than one message in ten
+is odd; standard error says why. 3: a file cannot be read or written, or memory ran out.";
 
 /// The logs or captures of a journal, as the words name them, and how they are read.
 pub struct JournalOptions {

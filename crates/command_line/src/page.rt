@@ -19,24 +19,24 @@ const ABOUT: &str = "Writes an HTML page that shows what a run of sip_replay fou
 
 const JOURNAL_HELP: &str = "The journal of the run";
 
-const BASE_HELP: &str =
-    "The folder of the tables that the run began with; without it the page shows no changes of records";
+const BASE_HELP: &str = "The folder of the tables that the run began with;
+without it the page shows no changes of records";
 
 const OUT_HELP: &str = "The folder that has what the run wrote";
 
-const WHY_HELP: &str =
-    "The output of sip_why for this run's wrong responses; the page then says why each was wrong";
+const WHY_HELP: &str = "The output of sip_why for this run's wrong
+responses; the page then says why each was wrong";
 
-const LIMIT_HELP: &str =
-    "How many wrong responses, and how many changes, the page shows; 1000 if left out";
+const LIMIT_HELP: &str = "How many wrong responses, and how many
+changes, the page shows; 1000 if left out";
 
 const AFTER_HELP: &str = "Example:
   sip_page --journal journal.csv --base tables --out result > page.html
 
 The page goes to standard output. It has names of patrons and what they borrowed, and no passwords.
 
-Status 0: the page was written. 2: the command line or a table is refused, or the tables are not those of one run; standard error
-says why. 3: a file cannot be read, or memory ran out.";
+Status 0: the page was written. 2: the command line or a table is refused, or the tables are
+not those of one run; standard error says why. 3: a file cannot be read, or memory ran out.";
 
 /// The options of a page that the words give, of which the first is the program's name; or why they give none.
 pub fn page_options<S: AsStr>(alloc: Global, words: &[S]) -> Result<PageOptions, Refusal>

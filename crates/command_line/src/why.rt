@@ -8,41 +8,44 @@ use clap::{ArgMatches, Command};
 use std::alloc::{AllocError, Global};
 use std::convert::AsStr;
 
-const ABOUT: &str =
-    "Explains the answers that the rules give: lists each record that a line read, which line wrote it last and what of it mattered";
+const ABOUT: &str = "Explains the answers that the rules give: lists each record that
+a line read, which line wrote it last and what of it mattered";
 
 const POLICY_HELP: &str = "The rules of the library, a TOML file";
 
 const BASE_HELP: &str = "The folder of the tables before the first message";
 
-const JOURNAL_HELP: &str =
-    "The messages, a CSV file with the columns line, connection, request, response";
+const JOURNAL_HELP: &str = "The messages, a CSV file with the columns
+line, connection, request, response";
 
 const REPORT_HELP: &str =
     "The report of a run of sip_replay on these files; its lines are explained";
 
 const LINE_HELP: &str = "The number of a line to explain; may be given several times";
 
-const CHANGES_HELP: &str =
-    "A file that gets what to change in the live system: one JSON object a line for each record that changed";
+const CHANGES_HELP: &str = "A file that gets what to change in the live system:
+one JSON object a line for each record that changed";
 
-const OUT_HELP: &str =
-    "The folder of the tables that sip_replay wrote for these files; needed by --changes";
+const OUT_HELP: &str = "The folder of the tables that sip_replay
+wrote for these files; needed by --changes";
 
-const TEST_HELP: &str =
-    "A folder that gets a test case for each line of --report and --line, in a folder named by the line's number";
+const TEST_HELP: &str = "A folder that gets a test case for each line of --report
+and --line, in a folder named by the line's number";
 
 const AFTER_HELP: &str = "Example:
-  sip_why --policy policy.toml --base tables --journal journal.csv --report result/report.csv > why.csv
+  sip_why --policy policy.toml --base tables --journal journal.csv \\
+      --report result/report.csv > why.csv
 
-Standard output gets a table with the columns line, reason, kind, id, since, said: a row for each record that a line read. Without --report and
---line each answered line is explained.
+Standard output gets a table with the columns line, reason, kind, id, since, said: a row for
+each record that a line read. Without --report and --line each answered line is explained.
 
-A test case has the policy, a base with what the line read, a journal of that line with its recorded response, and expected/answers.csv, the answer
-that sip_replay gives for these files and gave in the whole run. It has the names of patrons, and passwords where the journal has them.
+A test case has the policy, a base with what the line read, a journal of that line with its
+recorded response, and expected/answers.csv, the answer that sip_replay gives for these files and
+gave in the whole run. It has the names of patrons, and passwords where the journal has them.
 
-Status 0: each line was explained. 2: the command line, an input, or a given line is refused; standard error names it, and the other lines are
-explained. 3: a file cannot be read or written, or memory ran out.";
+Status 0: each line was explained. 2: the command line, an input, or a
+given line is refused; standard error names it, and the other lines
+are explained. 3: a file cannot be read or written, or memory ran out.";
 
 /// The inputs, the lines that are wanted, and what is written of them, as the words name them.
 pub struct WhyOptions {

@@ -13,47 +13,44 @@ use std::convert::AsStr;
 
 const DEFAULT_WORKERS: u32 = 4;
 
-const ABOUT: &str =
-    "Replays a journal of SIP2 messages over the tables of a library's circulation, and reports where \
-the recorded responses differ from what the rules give";
+const ABOUT: &str = "Replays a journal of SIP2 messages over the tables of a library's circulation,
+and reports where the recorded responses differ from what the rules give";
 
-const POLICY_HELP: &str =
-    "The rules of the library, a TOML file: institution, currency, closed days, patron classes, \
-media types";
+const POLICY_HELP: &str = "The rules of the library, a TOML file: institution,
+currency, closed days, patron classes, media types";
 
-const BASE_HELP: &str =
-    "The folder of the tables before the first message: patrons.csv, items.csv, loans.csv, \
-fees.csv, closed.csv and, where there are holds, holds.csv";
+const BASE_HELP: &str = "The folder of the tables before the first message: patrons.csv, items.csv,
+loans.csv, fees.csv, closed.csv and, where there are holds, holds.csv";
 
-const JOURNAL_HELP: &str =
-    "The messages, a CSV file with the columns line, connection, request, response; - for standard input";
+const JOURNAL_HELP: &str = "The messages, a CSV file with the columns line,
+connection, request, response; - for standard input";
 
-const OUT_HELP: &str =
-    "An existing folder: it gets the six tables after the last message, and answers.csv, \
-report.csv and passed.csv";
+const OUT_HELP: &str = "An existing folder: it gets the six tables after the
+last message, and answers.csv, report.csv and passed.csv";
 
-const WORKERS_HELP: &str =
-    "How many workers process messages, each in a thread of its own, 1 to 64; 4 if left out. The output \
-is the same with any number";
+const WORKERS_HELP: &str = "How many workers process messages, each in a thread of its own,
+1 to 64; 4 if left out. The output is the same with any number";
 
-const EXPLAIN_HELP: &str =
-    "Where an input is refused or a file fails, prints a second line on standard error that says what to do; on a \
-terminal it is always printed";
+const EXPLAIN_HELP: &str = "Where an input is refused or a file fails, prints a second line on
+standard error that says what to do; on a terminal it is always printed";
 
-const CHECK_HELP: &str =
-    "Only checks the inputs: lists the rows that break a rule, the first 100 of them, and writes no file";
+const CHECK_HELP: &str = "Only checks the inputs: lists the rows that break
+a rule, the first 100 of them, and writes no file";
 
 const AFTER_HELP: &str = "Example:
   sip_replay --policy policy.toml --base tables --journal journal.csv --out result
 
-answers.csv has the response to each message, report.csv a row for each recorded response that differs, with what
-differs in it, passed.csv each message that has no answer, with the reason. Standard output gets one line:
+answers.csv has the response to each message, report.csv a row for each
+recorded response that differs, with what differs in it, passed.csv each
+message that has no answer, with the reason. Standard output gets one line:
   lines <n> answered <n> passed <n> differences <n>
 
-With --check standard output gets a line for each row that breaks a rule instead, or one line that says what was read.
+With --check standard output gets a line for each row that
+breaks a rule instead, or one line that says what was read.
 
-Status 0: no recorded response differs. 1: some do. 2: the command line, the policy, a table or the journal is
-refused, and standard error says why. 3: a file cannot be read or written, or memory ran out.";
+Status 0: no recorded response differs. 1: some do. 2: the command
+line, the policy, a table or the journal is refused, and standard error
+says why. 3: a file cannot be read or written, or memory ran out.";
 
 /// The options from the words of a command line, of which the first is the program's name; or why there are none.
 pub fn options<S: AsStr>(alloc: Global, words: &[S]) -> Result<Options, Refusal>

@@ -93,7 +93,7 @@ pub fn passed_for(request: &[u8], why: &[u8]) -> bool {
     why.len() != 2 || request.starts_with(why)
 }
 
-/// Whether the words of the report can be said of a recorded response: `missing` exactly where nothing is recorded.
+/// Whether the words of the report can be said of a recorded response: `missing` exactly where nothing but line ends is recorded.
 pub fn said_of(response: &[u8], words: &[u8]) -> bool {
-    (words == b"missing".as_slice()) == response.trim_ascii_end().is_empty()
+    (words == b"missing".as_slice()) == response.iter().all(|byte| matches!(*byte, b'\r' | b'\n'))
 }

@@ -1,4 +1,4 @@
-//! Why a response was wrong: the record by which the rules decided, and since when it was so.
+//! Why a response was wrong: the record by which the rules decided.
 
 use crate::case::CaseNames;
 use crate::days::put_day;
@@ -15,7 +15,7 @@ pub struct Origin<'w> {
     pub id: &'w [u8],
     /// What mattered of the record: words with their values, with `; ` between them.
     pub said: &'w [u8],
-    /// Since when it was so: `base`, or the number of a line.
+    /// The line that wrote the record last, whatever of it that was; `base` where none did.
     pub since: &'w [u8],
 }
 
@@ -28,21 +28,22 @@ pub struct Because<'w> {
 
 /// What is said of why a response was wrong: the word of the report, the reason of the answer, what is said of the record, the kind of the record, and
 /// the saying; `*` fits any. The first line that fits counts. A place in braces has a mark, which says how it is written, and `id` or a word of
-/// what is said of the record: a patron (`@`), an item (`+`), a day (`#`), days (`&`), or a text as it is (`=`); `~` is since when it was so.
+/// what is said of the record: a patron (`@`), an item (`+`), a day (`#`), days (`&`), a text as it is (`=`), or the `s` of a plural (`s`); `~` says that it
+/// was so before the first line, where no line wrote the record. What is owed isn't in the record of a patron: so that isn't said of it.
 const BECAUSES: &str = "\
 *|unknown_patron|*|patron|no table has {@id}
 *|unknown_item|*|item|no table has {+id}
 fee|*|rental|item|its rental is {=rental}
 due|*|due day given|item|the request gives that day
-due|*|closed|item|its {=days} days end on a closed day: {&closed}
-due|*|days|item|it is lent for {=days} days
+due|*|closed|item|a loan of {=days} day{sdays} ends on a closed day: {&closed}
+due|*|days|item|it is lent for {=days} day{sdays}
 alert|*|first|item|{@first} waits for it first, of {=holds}{~since}
 alert|*|*|item|nobody waits for it{~since}
 available|*|borrower none|item|nobody has it{~since}
 available|*|borrower|item|{@borrower} has it until {#due}{~since}
 status|*|blocked Y|patron|{@id} is blocked{~since}
 valid|*|class|patron|{@id} is in the tables{~since}
-accepted|*|owed|patron|{@id} owed {=owed}{~since}
+accepted|*|owed|patron|{@id} owed {=owed}
 *|own_loan|borrower|item|{@borrower} has it until {#due}{~since}
 *|lent|borrower|item|{@borrower} has it until {#due}{~since}
 *|third_party|borrower|item|{@borrower} has it until {#due}{~since}
@@ -51,12 +52,12 @@ accepted|*|owed|patron|{@id} owed {=owed}{~since}
 *|waited_for|first|item|{@first} waits for it, of {=holds}{~since}
 *|blocked|*|patron|{@id} is blocked{~since}
 *|max_loans|*|patron|{@id} has {=loans} loans{~since}
-*|max_fees|*|patron|{@id} owes {=owed}{~since}
-*|max_renewals|*|item|it was renewed {=renewals} times{~since}
+*|max_fees|*|patron|{@id} owes {=owed}
+*|max_renewals|*|item|it was renewed {=renewals} time{srenewals}{~since}
 *|rental|*|item|nobody agreed to its rental of {=rental}
 *|has_entry|*|item|{@first} waits for it first, of {=holds}{~since}
-*|queue_full|*|item|{=holds} wait for it{~since}
-*|no_entry|*|item|{=holds} wait for it, and the patron isn't among them{~since}
+*|queue_full|*|item|its queue has {=holds}{~since}
+*|no_entry|*|item|its queue has {=holds}, and the patron isn't in it{~since}
 *|returned_late|borrower|item|{@borrower} had it until {#due}{~since}, and it came back on {#back}
 *|returned|borrower|item|{@borrower} had it until {#due}{~since}
 *|made|borrower none|item|nobody had it{~since}
@@ -109,24 +110,18 @@ fn value_of<'w>(part: &'w [u8], word: &[u8]) -> Option<&'w [u8]> {
 }
 
 impl Because<'_> {
-    /// Writes it; `since` says in words since when it was so.
-    pub fn put(&self, out: &mut Wording, since: &[u8], names: &CaseNames) {
+    /// Writes it.
+    pub fn put(&self, out: &mut Wording, names: &CaseNames) {
         for piece in split(self.saying, b'}') {
             let (before, place) = cut(piece, b'{');
             out.add(before);
-            put_place(out, place, &self.origin, since, names);
+            put_place(out, place, &self.origin, names);
         }
     }
 }
 
 /// Writes the value of a place.
-fn put_place(
-    out: &mut Wording,
-    place: &[u8],
-    origin: &Origin<'_>,
-    since: &[u8],
-    names: &CaseNames,
-) {
+fn put_place(out: &mut Wording, place: &[u8], origin: &Origin<'_>, names: &CaseNames) {
     let Some((mark, word)) = place.split_first() else {
         return;
     };
@@ -136,7 +131,10 @@ fn put_place(
         said_of(origin.said, word).unwrap_or(b"")
     };
     match *mark {
-        b'~' => out.add(since),
+        b'~' if origin.since == b"base".as_slice() => out.add(b", since before the first line"),
+        b'~' => {}
+        b's' if value == b"1".as_slice() => {}
+        b's' => out.add(b"s"),
         b'@' => put_patron(out, value, names),
         b'+' => put_item(out, value, names),
         b'#' => put_day(out, value),

@@ -17,7 +17,7 @@ pub use case::{Case, CaseNames, TextsById};
 pub use days::{put_day, put_moment, put_time};
 pub use fields::{ShownField, add_fields, name_of, other_of, value_in, values_in};
 pub use lists::{
-    ANSWERED, BLOCKED, FEE_TYPES, FIELDS, PLURALS, REASONS, SECRETS, WEIGHTS, WORDS, known,
+    ANSWERED, BLOCKED, FEE_TYPES, FIELDS, REASONS, REQUESTS, SECRETS, WEIGHTS, WORDS, known,
 };
 pub use parts::{Parts, cut, split};
 pub use sayings::{fill, group_saying, put_item, put_patron, say};

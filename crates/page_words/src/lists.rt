@@ -115,17 +115,17 @@ pub const FEE_TYPES: &str = "\
 09=hold
 ";
 
-/// What several requests of a kind are called.
-pub const PLURALS: &str = "\
-01=blocks
-09=returns
-11=checkouts
-15=holds
-19=updates of items
-25=ends of blocks
-29=renewals
-37=payments
-65=renewals of all loans
+/// What a request of each kind is called, `;`, and what several of them are.
+pub const REQUESTS: &str = "\
+01=block;blocks
+09=return;returns
+11=checkout;checkouts
+15=hold;holds
+19=update of an item;updates of items
+25=end of a block;ends of blocks
+29=renewal;renewals
+37=payment;payments
+65=renewal of all loans;renewals of all loans
 ";
 
 /// How much each word of the report weighs: 1 where the server did another thing than the rules, so that its records may be wrong; 2

@@ -17,7 +17,8 @@ const BAR: u8 = b'|';
 /// What is said of a file that has no such table.
 const NO_TABLE: &str = "its header is missing or another, or its rows aren't of one length";
 
-/// The rows of a table of a folder, in the order of their names, with these columns. No `holds.csv` counts as one without rows.
+/// The rows of a table of a folder, in the order of their names, with these columns. A `holds.csv` that is missing or has no bytes
+/// counts as one without rows.
 pub fn read_rows<R: Files + AllocGlobal>(
     rt: &R,
     folder: &str,
@@ -26,10 +27,12 @@ pub fn read_rows<R: Files + AllocGlobal>(
 ) -> Result<Vec<DiffRow>, DiffError> {
     let alloc = rt.alloc();
     let name = table.file;
+    let may_be_empty = name == "holds.csv";
     let path = format!(in alloc; "{folder}/{name}")?;
     match fs::read(rt, path.as_str()) {
+        Ok(text) if may_be_empty && text.is_empty() => Ok(Vec::new(alloc)),
         Ok(text) => rows_of(alloc, path.as_str(), table, columns, &text),
-        Err(error) if error.kind() == io::ErrorKind::NotFound && name == "holds.csv" => Ok(Vec::new(
+        Err(error) if may_be_empty && error.kind() == io::ErrorKind::NotFound => Ok(Vec::new(
             alloc,
         )),
         Err(error) => Err(DiffError::of_file(alloc, &error, path.as_str())),

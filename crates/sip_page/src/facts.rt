@@ -20,7 +20,7 @@ pub fn put_facts(
     let mut same = Wording::new(alloc);
     let mut other = Wording::new(alloc);
     group.weight = put_sayings(&mut same, &mut other, line.words(), case, names);
-    whys.put(&mut same, line, case, names)?;
+    whys.put(&mut same, line, names)?;
     let reason = known(ANSWERED, whys.reason_of(line.number));
     if !reason.is_empty() {
         other.add(b": ");

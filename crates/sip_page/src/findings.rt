@@ -26,6 +26,8 @@ pub struct Findings {
     pub last_line: u64,
     /// The institution of the first answer that has one.
     pub library: Vec<u8>,
+    /// The transaction date of the last line that wasn't damaged.
+    date: Vec<u8>,
     /// How many of the wrong responses came on each day, as eight digits, and in each hour of the clock, as two.
     pub days: Tally,
     pub hours: Tally,
@@ -47,6 +49,7 @@ impl Drop for Findings {
             first_line: _,
             last_line: _,
             library: _,
+            date: _,
             days: _,
             hours: _,
             right: _,
@@ -69,6 +72,7 @@ impl Findings {
             first_line: 0,
             last_line: 0,
             library: Vec::new(alloc),
+            date: Vec::new(alloc),
             days: BTreeMap::new(alloc),
             hours: BTreeMap::new(alloc),
             right: BTreeMap::new(alloc),
@@ -106,7 +110,7 @@ impl Findings {
         texts: &RunTexts<'_>,
         fates: &[Fate],
         names: &CaseNames,
-        whys: &mut Whys,
+        whys: &Whys,
     ) -> Result<(), PageError> {
         let mut reading = RunReader::of(self.alloc, texts)?;
         for fate in fates {
@@ -121,7 +125,7 @@ impl Findings {
         line: &LineRows,
         fate: Fate,
         names: &CaseNames,
-        whys: &mut Whys,
+        whys: &Whys,
     ) -> Result<(), AllocError> {
         if self.lines == 0 {
             self.first_line = line.number;
@@ -140,7 +144,7 @@ impl Findings {
         line: &LineRows,
         is_wrong: bool,
         names: &CaseNames,
-        whys: &mut Whys,
+        whys: &Whys,
     ) -> Result<(), AllocError> {
         self.answered = self.answered.saturating_add(1);
         let case = line.case(self.alloc)?;
@@ -148,9 +152,11 @@ impl Findings {
             self.library
                 .extend_from_slice(value_in(&case.right, b"AO"))?;
         }
-        let date = value_in(&case.asked, b"date");
-        whys.note(line.number, date, line.connection())?;
-        self.note_time(date, u64::from(is_wrong))?;
+        if !line.is_damaged() {
+            self.date.clear();
+            self.date.extend_from_slice(value_in(&case.asked, b"date"))?;
+        }
+        self.note_time(u64::from(is_wrong))?;
         if is_wrong {
             self.wrong = self.wrong.saturating_add(1);
             return self.note_wrong(line, &case, names, whys);
@@ -159,16 +165,12 @@ impl Findings {
         count(self.alloc, &mut self.right, &name, 1)
     }
 
-    /// Counts this many wrong responses more in the day and the hour of a transaction date, if it begins with eight digits.
-    fn note_time(&mut self, date: &[u8], more: u64) -> Result<(), AllocError> {
-        let Some(day) = date.get(..8) else {
+    /// Counts this many wrong responses more in the day and the hour of the last line that wasn't damaged, where there was one.
+    fn note_time(&mut self, more: u64) -> Result<(), AllocError> {
+        let (Some(day), Some(hour)) = (self.date.get(..8), self.date.get(12..14)) else {
             return Ok(());
         };
-        if !day.iter().all(|byte| byte.is_ascii_digit()) {
-            return Ok(());
-        }
         count(self.alloc, &mut self.days, day, more)?;
-        let hour = date.get(12..14).unwrap_or(b"--");
         count(self.alloc, &mut self.hours, hour, more)
     }
 

@@ -93,7 +93,7 @@ impl Gathered {
     fn note(&mut self, texts: &RunTexts<'_>) -> Result<(), PageError> {
         let fates = fates(self.alloc, texts)?;
         self.findings
-            .note_lines(texts, &fates, &self.names, &mut self.whys)?;
+            .note_lines(texts, &fates, &self.names, &self.whys)?;
         self.count_passed(texts.passed)
     }
 

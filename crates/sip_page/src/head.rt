@@ -77,8 +77,10 @@ details details > summary { color: var(--dim); font-size: .875rem; padding: .2re
 .s { padding: .3rem 0; border-bottom: 1px solid var(--line); }
 .s p { margin: .25rem 0; }
 .s span, .s li span { color: var(--dim); }
-.c th { width: 40%; }
-.c td { width: 30%; }
+.c th:nth-child(1) { width: 14%; }
+.c th:nth-child(2) { width: 26%; }
+.c th:nth-child(3) { width: 30%; }
+.c th:nth-child(4) { width: 30%; }
 :target { outline: .15rem solid var(--link); outline-offset: .15rem; }
 @media (max-width: 44rem) {
 body { padding: 0 1rem 3rem; }
@@ -89,9 +91,9 @@ h2 { margin-top: 2.25rem; font-size: 1.25rem; }
 .w b { display: inline; font-size: 1.25rem; }
 .facts { grid-template-columns: 1fr; }
 .facts dd { margin-bottom: .4rem; }
-.n thead, .r thead { position: absolute; width: 1px; height: 1px; overflow: hidden; clip-path: inset(50%); }
-.n tr, .r tr { display: flex; flex-wrap: wrap; padding: .4rem 0; border-bottom: 1px solid var(--line); }
-.n th, .n td, .r th, .r td { flex: 1 1 100%; padding: .05rem 0; border: 0; }
+.n thead, .r thead, .c thead { position: absolute; width: 1px; height: 1px; overflow: hidden; clip-path: inset(50%); }
+.n tr, .r tr, .c tr { display: flex; flex-wrap: wrap; padding: .4rem 0; border-bottom: 1px solid var(--line); }
+.n th, .n td, .r th, .r td, .c th, .c td { flex: 1 1 100%; padding: .05rem 0; border: 0; }
 .n th:first-child { flex: 1 1 0; width: auto; }
 .n td:nth-child(2) { flex: 0 0 auto; width: auto; }
 .n svg { width: 4rem; }
@@ -101,6 +103,10 @@ h2 { margin-top: 2.25rem; font-size: 1.25rem; }
 .r td:nth-child(2) { flex: 1 1 auto; }
 .r td:nth-child(5)::before { content: \"told \"; color: var(--dim); font-weight: 400; }
 .r td:nth-child(6)::before { content: \"right \"; color: var(--dim); font-weight: 400; }
+.c th:nth-child(1) { flex: 0 0 auto; width: auto; margin-right: 1rem; }
+.c td:nth-child(2) { flex: 1 1 0; }
+.c td:nth-child(3)::before { content: \"before \"; color: var(--dim); }
+.c td:nth-child(4)::before { content: \"after \"; color: var(--dim); }
 .g { padding: .6rem .75rem; }
 .g > summary { margin: -.6rem -.75rem; padding: .6rem .75rem; }
 }

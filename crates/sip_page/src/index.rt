@@ -4,7 +4,7 @@ use crate::gathered::Gathered;
 use crate::groups::Group;
 use crate::sheet::{Sheet, TABLE_END};
 use crate::tally::Tally;
-use page_words::{PLURALS, WORDS, Wording, known, put_day, split};
+use page_words::{REQUESTS, WORDS, Wording, cut, known, put_day, split};
 use std::alloc::{AllocError, Global};
 use std::collections::BTreeMap;
 
@@ -57,10 +57,23 @@ impl By {
     }
 }
 
+/// What a request of a kind is called, and what several of them are.
+fn names_of(kind: &[u8]) -> (&'static [u8], &'static [u8]) {
+    match cut(known(REQUESTS, kind), b';') {
+        (b"", _) => (b"request".as_slice(), b"requests".as_slice()),
+        names => names,
+    }
+}
+
 /// What several requests of a kind are called.
 pub fn plural_of(kind: &[u8]) -> &'static [u8] {
-    let name = known(PLURALS, kind);
-    if name.is_empty() { b"requests" } else { name }
+    names_of(kind).1
+}
+
+/// What this many requests of a kind are called.
+pub fn name_of_several(kind: &[u8], count: u64) -> &'static [u8] {
+    let (one, several) = names_of(kind);
+    if count == 1 { one } else { several }
 }
 
 /// Adds a table of the groups under their words, messages or connections.

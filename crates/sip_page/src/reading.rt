@@ -47,6 +47,11 @@ impl LineRows {
         column(&self.report, 2)
     }
 
+    /// Whether the right answer asks for the request again, whose checksum was wrong: nothing that it says can be relied on.
+    pub fn is_damaged(&self) -> bool {
+        column(&self.answer, 2).starts_with(b"96")
+    }
+
     /// A copy.
     pub fn copy(&self) -> Result<LineRows, AllocError> {
         Ok(LineRows {

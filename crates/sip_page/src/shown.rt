@@ -2,7 +2,7 @@
 
 use crate::gathered::Gathered;
 use crate::groups::Group;
-use crate::index::plural_of;
+use crate::index::{name_of_several, plural_of};
 use crate::messages::add_messages;
 use crate::reading::LineRows;
 use crate::sheet::{Sheet, TABLE_END};
@@ -90,7 +90,7 @@ fn add_line_sentence(
 ) -> Result<(), AllocError> {
     let mut said = Wording::new(run.alloc);
     put_said(&mut said, run, line.words(), case);
-    run.whys.put(&mut said, line, case, &run.names)?;
+    run.whys.put(&mut said, line, &run.names)?;
     let date = value_in(&case.asked, b"date");
     add_moment(sheet, run.alloc, "", date, run.findings.is_dated());
     sheet.add(", ", line.connection());
@@ -135,11 +135,13 @@ fn add_several(sheet: &mut Sheet, run: &Gathered, group: &Group) -> Result<(), A
 /// Adds one sentence for all lines of a group, as: `9 checkouts at SELF3, 12:18 to 16:25: due 14 March told, 16 March is right`.
 fn add_group_sentence(sheet: &mut Sheet, run: &Gathered, group: &Group) {
     sheet.add_number("", group.count);
-    sheet.add(" ", plural_of(&group.kind));
+    sheet.add(" ", name_of_several(&group.kind, group.count));
     sheet.add(" at ", &group.connection);
     let dated = run.findings.is_dated();
     add_moment(sheet, run.alloc, ", ", &group.first, dated);
-    add_moment(sheet, run.alloc, " to ", &group.last, !group.is_one_day());
+    if group.count > 1 {
+        add_moment(sheet, run.alloc, " to ", &group.last, !group.is_one_day());
+    }
     if group.is_same {
         sheet.add(": ", &group.same);
     } else {
@@ -182,7 +184,7 @@ fn add_line(
     sheet.add_markup("</summary>");
     let mut because = Wording::new(run.alloc);
     if !is_same {
-        run.whys.put(&mut because, line, &case, &run.names)?;
+        run.whys.put(&mut because, line, &run.names)?;
     }
     if !because.is_empty() {
         sheet.add_words("<p>Because", because);

@@ -185,7 +185,8 @@ fn add_subjects(sheet: &mut Sheet, run: &Gathered, list: &SubjectList<'_>) {
         sheet.add("", id);
         sheet.add("</b> ", called(list.texts, id));
         if run.others.is_some() {
-            add_size(sheet, subject.changes.len() as u64);
+            add_size(sheet, " <span>", &subject.changes);
+            sheet.add_markup("</span>");
         }
         sheet.add_markup("</summary>\n");
         add_lines(sheet, &subject.lines);
@@ -204,14 +205,14 @@ fn called<'t>(texts: &'t TextsById, id: &[u8]) -> &'t [u8] {
     }
 }
 
-/// Adds how many changes there are.
-fn add_size(sheet: &mut Sheet, count: u64) {
-    match count {
-        0 => sheet.add_markup(" <span>nothing changed</span>"),
-        1 => sheet.add_markup(" <span>1 change</span>"),
-        _ => {
-            sheet.add_number(" <span>", count);
-            sheet.add_markup(" changes</span>");
+/// Adds markup, and how many changes there are.
+fn add_size(sheet: &mut Sheet, markup: &'static str, changes: &[SubjectChange]) {
+    match changes.len() as u64 {
+        0 => sheet.add(markup, b"nothing changed"),
+        1 => sheet.add(markup, b"1 change"),
+        count => {
+            sheet.add_number(markup, count);
+            sheet.add_markup(" changes");
         }
     }
 }
@@ -243,10 +244,9 @@ fn add_changes(sheet: &mut Sheet, changes: &[SubjectChange]) {
 
 /// Adds what changed for patrons that no wrong response is about, `limit` changes at most.
 fn add_others(sheet: &mut Sheet, others: &[SubjectChange], limit: u64) {
-    let count = others.len() as u64;
-    sheet.add_markup("<details class=\"x\"><summary>What changed for others: ");
-    sheet.add_number("", count);
-    sheet.add_markup(" changes</summary>\n");
+    let size = "<details class=\"x\"><summary>What changed for others: ";
+    add_size(sheet, size, others);
+    sheet.add_markup("</summary>\n");
     sheet.add_head(
         "<div class=\"t\"><table class=\"c\"><caption>",
         "Loans, fees, holds and blocks that changed",
@@ -261,6 +261,6 @@ fn add_others(sheet: &mut Sheet, others: &[SubjectChange], limit: u64) {
         sheet.add_markup("</td></tr>\n");
     }
     sheet.add_markup(TABLE_END);
-    sheet.add_left_out(count.saturating_sub(limit));
+    sheet.add_left_out((others.len() as u64).saturating_sub(limit));
     sheet.add_markup("</details>\n");
 }

@@ -8,23 +8,37 @@ use command_line::PageOptions;
 use page_words::{Wording, put_day};
 use std::alloc::AllocError;
 
-/// What the three weights say, with the markup before the count of each.
-static WEIGHTS: [(u8, &str, &str); 3] = [
-    (
-        b'1',
-        "<li class=\"w1\"><a href=\"#w1\"><b>",
-        "</b> records may be wrong</a>: done where the rules refuse it, or refused</li>\n",
-    ),
-    (
-        b'2',
-        "<li class=\"w2\"><a href=\"#w2\"><b>",
-        "</b> told wrong</a>: the records are right, and what was said isn't</li>\n",
-    ),
-    (
-        b'3',
-        "<li class=\"w3\"><a href=\"#w3\"><b>",
-        "</b> not readable</a>: nobody knows what the server did</li>\n",
-    ),
+/// What is said of the wrong responses of a weight: the markup before their count, what one and what several are, and the rest.
+struct WeightLine {
+    weight: u8,
+    before: &'static str,
+    one: &'static str,
+    several: &'static str,
+    after: &'static str,
+}
+
+static WEIGHTS: [WeightLine; 3] = [
+    WeightLine {
+        weight: b'1',
+        before: "<li class=\"w1\"><a href=\"#w1\"><b>",
+        one: "</b> record",
+        several: "</b> records",
+        after: " may be wrong</a>: done where the rules refuse it, or refused</li>\n",
+    },
+    WeightLine {
+        weight: b'2',
+        before: "<li class=\"w2\"><a href=\"#w2\"><b>",
+        one: "</b>",
+        several: "</b>",
+        after: " told wrong</a>: the records are right, and what was said isn't</li>\n",
+    },
+    WeightLine {
+        weight: b'3',
+        before: "<li class=\"w3\"><a href=\"#w3\"><b>",
+        one: "</b>",
+        several: "</b>",
+        after: " not readable</a>: nobody knows what the server did</li>\n",
+    },
 ];
 
 /// Adds the head of the page: what it is of, and where its parts are.
@@ -95,11 +109,12 @@ pub fn add_summary(
 /// Adds how many wrong responses have each weight, with links to the first of them.
 fn add_weights(sheet: &mut Sheet, run: &Gathered) {
     sheet.add_markup("<ul class=\"w\">\n");
-    for (weight, before, after) in &WEIGHTS {
-        let count = run.findings.wrong_of(*weight);
+    for line in &WEIGHTS {
+        let count = run.findings.wrong_of(line.weight);
         if count > 0 {
-            sheet.add_number(before, count);
-            sheet.add_markup(after);
+            sheet.add_number(line.before, count);
+            sheet.add_markup(if count == 1 { line.one } else { line.several });
+            sheet.add_markup(line.after);
         }
     }
     sheet.add_markup("</ul>\n");

@@ -5,31 +5,19 @@ use crate::reading::{LineRows, number_of};
 use crate::stop::PageError;
 use csv::ByteRecord;
 use csv_table::column;
-use page_words::{Case, CaseNames, Origin, Wording, because_of, cut, put_moment, value_in};
+use page_words::{CaseNames, Origin, Wording, because_of, cut};
 use std::alloc::{AllocError, Global};
 use std::collections::BTreeMap;
 
-/// A date and a connection.
-#[derive(Drop)]
-struct LineMoment {
-    date: Vec<u8>,
-    connection: Vec<u8>,
-}
-
-/// The rows of `why.csv` by wrong line, and the date and connection of the lines that these rows name.
+/// The rows of `why.csv` by wrong line.
 pub struct Whys {
     alloc: Global,
     rows: BTreeMap<u64, Vec<ByteRecord>>,
-    moments: BTreeMap<u64, Option<LineMoment>>,
 }
 
 impl Drop for Whys {
     fn drop(self) {
-        let Whys {
-            alloc: _,
-            rows: _,
-            moments: _,
-        } = self;
+        let Whys { alloc: _, rows: _ } = self;
     }
 }
 
@@ -39,7 +27,6 @@ impl Whys {
         Whys {
             alloc,
             rows: BTreeMap::new(alloc),
-            moments: BTreeMap::new(alloc),
         }
     }
 
@@ -69,20 +56,6 @@ impl Whys {
         };
         if let Some(rows) = self.rows.get_mut(&number) {
             rows.push(row.clone()?)?;
-            if let Some(line) = number_of(column(row, 4)) {
-                self.moments.insert(line, None)?;
-            }
-        }
-        Ok(())
-    }
-
-    /// Notes when and where a line came, where a row names it.
-    pub fn note(&mut self, number: u64, date: &[u8], connection: &[u8]) -> Result<(), AllocError> {
-        if let Some(moment) = self.moments.get_mut(&number) {
-            *moment = Some(LineMoment {
-                date: Vec::from_slice(self.alloc, date)?,
-                connection: Vec::from_slice(self.alloc, connection)?,
-            });
         }
         Ok(())
     }
@@ -100,7 +73,6 @@ impl Whys {
         &self,
         out: &mut Wording,
         line: &LineRows,
-        case: &Case<'_>,
         names: &CaseNames,
     ) -> Result<(), AllocError> {
         let Some(rows) = self.rows.get(&line.number) else {
@@ -112,31 +84,8 @@ impl Whys {
             return Ok(());
         };
         out.add(b": ");
-        let since = self.since_of(because.origin.since, value_in(&case.asked, b"date"))?;
-        because.put(out, &since, names);
+        because.put(out, names);
         Ok(())
-    }
-
-    /// Since when something is so, in words: `, since 09:12 (line 214, SELF2)`.
-    fn since_of(&self, since: &[u8], date: &[u8]) -> Result<Vec<u8>, AllocError> {
-        let mut words = Wording::new(self.alloc);
-        match number_of(since) {
-            Some(number) => {
-                if let Some(Some(moment)) = self.moments.get(&number) {
-                    let dated = moment.date.get(..8) != date.get(..8);
-                    words.add(b", since ");
-                    put_moment(&mut words, &moment.date, dated);
-                    words.add(b" (line ");
-                    words.add(since);
-                    words.add(b", ");
-                    words.add(&moment.connection);
-                    words.add(b")");
-                }
-            }
-            None if since == b"base".as_slice() => words.add(b", since before the first line"),
-            None => {}
-        }
-        words.finish()
     }
 }
 

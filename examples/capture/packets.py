@@ -4,18 +4,27 @@ import struct
 SYN, FIN, RST, ACK, PSH = 2, 1, 4, 16, 8
 
 
-def tcp(source, target, number, waited, flags, payload):
-    return struct.pack('>HHIIBBHHH', source, target, number % 2 ** 32, waited % 2 ** 32, 8 << 4, flags, 512, 0, 0) + bytes(12) + payload
+# How options that do nothing are spelled: one byte of IPv4 and of TCP.
+NO_OPERATION = b'\x01'
 
 
-def version_4(source, target, segment):
-    return struct.pack('>BBHHHBBH', 0x45, 0, 20 + len(segment), 7, 0x4000, 64, 6, 0) + bytes(source) + bytes(target) + segment
+def tcp(source, target, number, waited, flags, payload, options):
+    words = 5 + len(options) // 4
+    return struct.pack('>HHIIBBHHH', source, target, number % 2 ** 32, waited % 2 ** 32, words << 4, flags, 512, 0, 0) + options + payload
 
 
-def version_6(source, target, segment):
-    # (with options for each hop before the segment)
-    return (struct.pack('>IHBB', 6 << 28, 8 + len(segment), 0, 64) + bytes(10) + b'\xff\xff' + bytes(source) + bytes(10) + b'\xff\xff' + bytes(target)
-            + bytes([6, 0, 1, 4, 0, 0, 0, 0]) + segment)
+def version_4(source, target, segment, options, is_measured):
+    whole = 20 + len(options) + len(segment) if is_measured else 0
+    return struct.pack('>BBHHHBBH', 0x45 + len(options) // 4, 0, whole, 7, 0x4000, 64, 6, 0) + bytes(source) + bytes(target) + options + segment
+
+
+def version_6(source, target, segment, extensions, is_measured):
+    """A packet with extension headers of these kinds and lengths before the segment."""
+    kinds = [kind for kind, _ in extensions] + [6]
+    headers = b''.join(bytes([after, length // 8 - 1, 1, length - 4]) + bytes(length - 4) for after, (_, length) in zip(kinds[1:], extensions))
+    whole = len(headers) + len(segment) if is_measured else 0
+    return (struct.pack('>IHBB', 6 << 28, whole, kinds[0], 64) + bytes(10) + b'\xff\xff' + bytes(source) + bytes(10) + b'\xff\xff' + bytes(target)
+            + headers + segment)
 
 
 def ethertype(version):
@@ -26,6 +35,7 @@ def ethertype(version):
 LINKS = {
     'ethernet': (1, lambda version: bytes(12) + ethertype(version)),
     'vlan': (1, lambda version: bytes(12) + b'\x81\x00\x00\x07' + ethertype(version)),
+    'vlan in vlan': (1, lambda version: bytes(12) + b'\x88\xa8\x00\x07\x81\x00\x00\x08' + ethertype(version)),
     'cooked': (113, lambda version: bytes(14) + ethertype(version)),
     'cooked-2': (276, lambda version: ethertype(version) + bytes(18)),
     'loopback': (0, lambda version: struct.pack('<I', 30 if version == 6 else 2)),
@@ -36,6 +46,9 @@ LINKS = {
 class Conversation:
     """A connection of a client with a server: what it sends becomes packets of IP, in a list."""
 
+    # the options of TCP and of IPv4, the extension headers of IPv6 (those for each hop are 0), and whether a packet says how long it is
+    tcp_options, options_4, extensions_6, is_measured = bytes(12), b'', ((0, 8),), True
+
     def __init__(self, packets, version, client, port, first=(1000, 5000)):
         self.packets, self.version, self.client, self.port, self.first = packets, version, client, port, first
         self.sent = [first[0], first[1]]
@@ -44,8 +57,9 @@ class Conversation:
         ends = [((10, 0, 0, self.client % 200 + 7), 40000 + self.client), ((10, 0, 0, 1), self.port)]
         (source, source_port), (target, target_port) = ends[::-1] if of_server else ends
         waited = self.sent[0 if of_server else 1]
-        segment = tcp(source_port, target_port, number, waited if flags & ACK else 0, flags, payload)
-        self.packets.append((version_6 if self.version == 6 else version_4)(source, target, segment))
+        segment = tcp(source_port, target_port, number, waited if flags & ACK else 0, flags, payload, self.tcp_options)
+        make, more = (version_6, self.extensions_6) if self.version == 6 else (version_4, self.options_4)
+        self.packets.append(make(source, target, segment, more, self.is_measured))
 
     def begin(self):
         self.packet(False, self.sent[0], SYN)
@@ -73,13 +87,19 @@ class Conversation:
         return f'[::ffff:{address}]:{40000 + self.client}' if self.version == 6 else f'{address}:{40000 + self.client}'
 
 
-def framed(packets, link):
-    return [LINKS[link][1](packet[0] >> 4) + packet for packet in packets]
+def framed(packets, link, least=0, filler=b'\0'):
+    """The frames of packets; a card fills a short one up to what its link carries at least."""
+    frames = [LINKS[link][1](packet[0] >> 4) + packet for packet in packets]
+    return [frame + filler * (least - len(frame)) for frame in frames]
 
 
 def pcap(packets, link, order='<', magic=0xa1b2c3d4):
-    out = struct.pack(order + 'IHHiIII', magic, 2, 4, 0, 0, 262144, LINKS[link][0])
-    for at, packet in enumerate(framed(packets, link)):
+    return pcap_of(framed(packets, link), LINKS[link][0], order, magic)
+
+
+def pcap_of(frames, number, order='<', magic=0xa1b2c3d4):
+    out = struct.pack(order + 'IHHiIII', magic, 2, 4, 0, 0, 262144, number)
+    for at, packet in enumerate(frames):
         out += struct.pack(order + 'IIII', 1772874000 + at // 100, at % 100 * 10000, len(packet), len(packet)) + packet
     return out
 
@@ -89,14 +109,27 @@ def block(order, kind, body):
     return struct.pack(order + 'II', kind, len(body) + 12) + body + struct.pack(order + 'I', len(body) + 12)
 
 
-def pcapng(packets, link, order='<', simple=False):
-    out = block(order, 0x0a0d0d0a, struct.pack(order + 'IHHq', 0x1a2b3c4d, 1, 0, -1))
-    out += block(order, 1, struct.pack(order + 'HHI', LINKS[link][0], 0, 262144))
-    for at, packet in enumerate(framed(packets, link)):
+# The kinds of the blocks of pcapng that have a packet.
+OLD, SIMPLE, ENHANCED = 2, 3, 6
+
+
+def packet_block(order, kind, interface, at, packet):
+    if kind == SIMPLE:
+        return block(order, kind, struct.pack(order + 'I', len(packet)) + packet)
+    # (an old one has 16 bits for its interface, and counts what was dropped before it)
+    head = struct.pack(order + 'HH', interface, 3) if kind == OLD else struct.pack(order + 'I', interface)
+    return block(order, kind, head + struct.pack(order + 'IIII', 0, at, len(packet), len(packet)) + packet)
+
+
+def pcapng(packets, links, order='<', kind=ENHANCED, options=b''):
+    """A section whose interfaces have these links; the packets come on them by turns."""
+    links = [links] if isinstance(links, str) else links
+    out = block(order, 0x0a0d0d0a, struct.pack(order + 'IHHq', 0x1a2b3c4d, 1, 0, -1) + options)
+    for link in links:
+        out += block(order, 1, struct.pack(order + 'HHI', LINKS[link][0], 0, 262144))
+    for at, packet in enumerate(packets):
         if at % 50 == 7:
             out += block(order, 5, struct.pack(order + 'III', 0, 0, at))
-        if simple:
-            out += block(order, 3, struct.pack(order + 'I', len(packet)) + packet)
-        else:
-            out += block(order, 6, struct.pack(order + 'IIIII', 0, 0, at, len(packet), len(packet)) + packet)
+        interface = at % len(links)
+        out += packet_block(order, kind, interface, at, framed([packet], links[interface])[0])
     return out

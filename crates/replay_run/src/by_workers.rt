@@ -12,7 +12,6 @@ ghost use Rattle.replay_run.specs.BySteps.{AreWorkers, attempts_on};
 ghost use Rattle.replay_run.specs.ByWorkers.{IsByWorkers, IsMade, MayFail};
 ghost use Rattle.replay_run.specs.OneThread.{IsOutputBy, judgement};
 ghost use Rattle.replay_run.specs.Outcomes.{IsOutcome};
-ghost use Rattle.speculate.specs.Driving.{RunsTo};
 
 use crate::fault::Fault;
 use crate::in_order::run_in_order;
@@ -112,8 +111,7 @@ fn run_named<J: PlanName + Send + Sync + 'static, G: Gate + Sync, R: Threads + W
     Ok(output)
 }
 
-/// The outcome of the workers. A fault that they return ends the run, whatever is committed by then. Where they end with lines open
-/// and no fault, the calling thread commits these in order.
+/// The outcome of the workers. A fault that they return ends the run, whatever is committed by then.
 #[tactic(auto, using(crate::proofs::Stepping::met))]
 fn outcome_of<'t, J: PlanName + Send + Sync + 'static, G: Gate + Sync, R: Threads + Wait + Sync>(
     rt: &R,
@@ -133,25 +131,44 @@ fn outcome_of<'t, J: PlanName + Send + Sync + 'static, G: Gate + Sync, R: Thread
     let run = run_workers(rt, alloc, &shared, gate);
     let finished = match (run, shared.close()) {
         (Err(fault), _) => return Err(Fault::from(fault)),
-        (Ok(()), Ok(finished)) => finished,
-        (Ok(()), Err(open)) => finish_in_order(rt, alloc, table, open)?,
+        (Ok(()), closed) => finished_of(rt, alloc, plan, table, closed)?,
     };
     let outcome = collected(alloc, finished)?;
     Ok(outcome)
 }
 
-/// The end of an open board's replay: each line that isn't committed is, in the order of the journal.
-#[tactic(auto, using(crate::proofs::Stepping::met))]
-fn finish_in_order<'p, 't, J: PlanName + 'static, R: Wait>(
+/// The end of the replay where workers have ended without a fault: on their board; or, if they have left lines open, on a new one.
+pub fn finished_of<'p, 't, J: PlanName + 'static, R: Wait>(
     rt: &R,
     alloc: Global,
+    plan: &'p Plan,
     table: &'t VersionTable<J>,
-    open: Open<'p, 't, J>,
+    closed: Result<Finished<'p, 't, J>, Open<'p, 't, J>>,
 ) -> Result<Finished<'p, 't, J>, Fault>
-    ensures led { IfOk result (λ finished. RunsTo J.plan «open».entry.board finished) }
-    ensures fault { IfErr result MayFail }
+    requires { plan.now ≡ J.plan }
+    ensures { IfErr result MayFail }
 {
-    let mut board = open.into_board();
+    match closed {
+        Ok(finished) => Ok(finished),
+        Err(open) => {
+            drop(open);
+            begin_again(rt, alloc, plan, table)
+        }
+    }
+}
+
+/// The replay from its beginning, in the calling thread: all lines of a new board, in the order of the journal.
+#[tactic(auto, using(crate::proofs::Stepping::met))]
+fn begin_again<'p, 't, J: PlanName + 'static, R: Wait>(
+    rt: &R,
+    alloc: Global,
+    plan: &'p Plan,
+    table: &'t VersionTable<J>,
+) -> Result<Finished<'p, 't, J>, Fault>
+    requires { plan.now ≡ J.plan }
+    ensures { IfErr result MayFail }
+{
+    let mut board = Board::new(alloc, plan, 1)?;
     drive_in_order(rt, alloc, table, &mut board)?;
     match board.finish() {
         Ok(finished) => Ok(finished),

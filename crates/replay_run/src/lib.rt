@@ -17,7 +17,7 @@ mod run;
 mod written;
 
 pub use by_steps::{Run, collect_output, rebuild_by_steps};
-pub use by_workers::rebuild;
+pub use by_workers::{finished_of, rebuild};
 pub use fault::Fault;
 pub use inputs::{Inputs, Output};
 pub use laws::final_tables_read_back;

@@ -1,5 +1,5 @@
 -- The board's replies while a line is run alone, and the steps that were made.
-use Rattle.std.proofs.Common.{◌≡◌, ◌≢◌, ℕ, suc, ◌+◌, ◌-◌, ◌<◌, ◌≤◌, ◌⊎◌, List, [], ◌∷◌, ◌++◌, Option, Some, None, Result, Ok, Err, IfErr, IfOk, OnOk, length, replicate, inl, inr, zero, refl, sym, ap, subst, ◌∙◌, arith, option_map, cond, get_or, map, take, sum_by, true, false, Bool}
+use Rattle.std.proofs.Common.{◌≡◌, ◌≢◌, ℕ, suc, ◌+◌, ◌-◌, ◌<◌, ◌⊎◌, List, [], ◌∷◌, ◌++◌, Option, Some, None, length, replicate, inl, inr, zero, refl, sym, ap, subst, ◌∙◌, arith, option_map, cond, get_or, map, take, sum_by, true, false, Bool}
 use Rattle.std.specs.BTreeMap.{is_at}
 use Rattle.std.proofs.lemmas.Bool.{cases_lt}
 use Rattle.std.proofs.lemmas.List.{get_or-replicate, get_or_past, length-replicate, take_more}
@@ -16,7 +16,6 @@ use Rattle.read_set.specs.declared.notes.Note.{Note}
 use Rattle.read_set.specs.declared.version.Need.{Need}
 use Rattle.read_set.specs.declared.version.Need.TheVariants as needs
 use Rattle.version_store.specs.declared.table.Place.{Place}
-use Rattle.version_store.specs.declared.entry.Found.{Found}
 use Rattle.board_steps.specs.Board.{Board, EachNote, IsCommitted, IsLine, Row, State, blank, holder, live_of, row_at}
 use Rattle.board_steps.specs.Board.State.{Waiting, Running, Placing, Done, Checking, Committed}
 use Rattle.board_steps.specs.Reached.{Reached, live}
@@ -24,22 +23,18 @@ use Rattle.board_steps.specs.Steps.{ByVersion, Call, IsVersion, Reply, Run, Step
 use Rattle.board_steps.specs.Steps.Call.{Take, Look, Publish, Check, Commit}
 use Rattle.board_steps.specs.Steps.Reply.{Idle, Taken, Seen, Stranger, Placed, Lifted, Whole, Same, Commits, Later, Attempts, ClockSpent as Spent}
 use Rattle.board_steps.proofs.Entries.{same_keys}
-use Rattle.board_steps.proofs.Lines.{row_before, row_from, within_board}
-use Rattle.speculate.specs.ComingOn.{NoneInHand}
-use Rattle.speculate.specs.Driving.{IsDriven, IsNew, MayHalt, MayStop, RunsTo}
+use Rattle.board_steps.proofs.Lines.{row_before, row_from}
+use Rattle.speculate.specs.Driving.{IsDriven, IsNew, MayStop, RunsTo}
 use Rattle.speculate.specs.Finishing.{IsWhole}
-use Rattle.speculate.specs.Ending.{ended_by}
 use Rattle.speculate.specs.Needed.{SettlesIfDone}
 use Rattle.board_lines.specs.Notes.{found_by, contents_at}
-use Rattle.speculate.specs.Devices.Phases.{Appears, AreFresh, Checks, Drives, GoesOn, Holds, IsAppearing, IsBegun, IsDone, IsFresh, IsTaken, Proves, Reads, Waits}
+use Rattle.speculate.specs.Devices.Phases.{Appears, AreFresh, Drives, GoesOn, Holds, IsAppearing, Proves, Reads, Stands, Waits}
 use Rattle.board_lines.specs.Replies.{Answers, Grows}
 use Rattle.board_lines.specs.declared.reply.Reply.{Reply as CodeReply}
 use Rattle.board_lines.specs.declared.reply.Reply.TheVariants as replies
-use Rattle.speculate.specs.declared.steps.BoardFault.{BoardFault}
 use Rattle.speculate.specs.declared.steps.BoardFault.TheVariants as faults
 use Rattle.read_set.proofs.Keeping.{fresh-at}
-use Rattle.speculate.proofs.Phases.{IsFor, IsKept, check_never_changes, check_never_idle, check_never_spent, commit_never_idle, commit_never_later, look_goes, look_never_idle, look_never_stops, publish_never_idle, publish_no_stranger, spares_none, spares_on, spares_same, step_spares}
-use Rattle.speculate.proofs.Plays.{CallEnds, call_ends}
+use Rattle.speculate.proofs.Phases.{IsFor, IsKept, check_never_changes, check_never_idle, check_never_spent, commit_never_idle, commit_never_later, look_goes, look_never_idle, look_never_stops, publish_never_idle, publish_no_stranger, spares_none, spares_on, spares_same, step_spares, take_never_idle, take_never_spent}
 
 -- ---- steps that were made
 pub runs_none : (plan : Planned) (b : Board) → RunsTo plan b b
@@ -51,14 +46,6 @@ run_on plan a b c (x ∷ xs) ys r s = (r.0, (r.1.0, r.1.1, run_on plan r.1.0 b c
 
 pub runs_on : (plan : Planned) (a b c : Board) → RunsTo plan a b → RunsTo plan b c → RunsTo plan a c
 runs_on plan a b c r s = (r.0 ++ s.0, run_on plan a b c r.0 s.0 r.1 s.1)
-
-ended_led : (plan : Planned) (old new : Board) (call : Call) (r : Result (Unit {0}) BoardFault) → ByVersion plan call → CallEnds plan old call r new → RunsTo plan old new
-ended_led plan old new call (Ok u) by h = ((call, h.0) ∷ [], (by, (new, h.1, refl)))
-ended_led plan old new call (Err fault) by h = ([], h.1)
-
--- a call of the board is a step, or none
-pub led : {J : Type 0} (plan : Planned) (old new : Board) (call : Call) (reply : CodeReply J) → ByVersion plan call → Answers plan old call reply new → RunsTo plan old new
-led plan old new call reply by h = ended_led plan old new call (ended_by reply) by (call_ends plan old new call reply h)
 
 -- a reply of code that is neither a stop nor a failed check
 abbrev pub KeptReply : {J : Type 0} → CodeReply J → Type 0
@@ -104,59 +91,23 @@ drives_none plan b line = record { led = runs_none plan b; spares = spares_none 
 pub drives_on : (plan : Planned) (line : ℕ) (a b c : Board) → Drives plan a b line → Drives plan b c line → Drives plan a c line
 drives_on plan line a b c x y = record { led = runs_on plan a b c x.led y.led; spares = spares_on a b c line x.spares y.spares }
 
--- what stops a new board may stop any
-pub may_halt : (plan : Planned) (b : Board) (fault : BoardFault) → MayStop plan b fault → MayHalt plan b fault
-may_halt plan b (faults.Attempts n) h = absurd h
-may_halt plan b faults.ClockSpent h = (Publish 0 h.0, h.1, h.2)
-may_halt plan b faults.Memory h = (0, h)
-
-pub stop_halts : {A : Type 0} (plan : Planned) (b : Board) (r : Result A BoardFault) → IfErr r (MayStop plan b) → IfErr r (MayHalt plan b)
-stop_halts plan b (Ok u) h = tt
-stop_halts plan b (Err fault) h = may_halt plan b fault h
-
 -- ---- take
-pub take_other : {J : Type 0} (plan : Planned) (b new : Board) (line : ℕ) (reply : CodeReply J) → Answers plan b (Take 0 line) reply new
-    → ((a : ℕ) → reply ≡ replies.Taken a → ⊥) → (reply ≢ replies.Idle) → ((n : ℕ) → reply ≡ replies.Attempts n → ⊥) → ⊥
-take_other plan b new line (replies.Taken a) h t i n = t a refl
-take_other plan b new line replies.Idle h t i n = i refl
-take_other plan b new line (replies.Attempts m) h t i n = n m refl
-take_other plan b new line replies.Memory h t i n = h.0
-take_other plan b new line (replies.Seen name place) h t i n = h
-take_other plan b new line (replies.Suspect m) h t i n = h
-take_other plan b new line replies.Stranger h t i n = h
-take_other plan b new line replies.Placed h t i n = h
-take_other plan b new line replies.Lifted h t i n = h
-take_other plan b new line replies.Whole h t i n = h
-take_other plan b new line replies.Same h t i n = h
-take_other plan b new line (replies.Changed key name found) h t i n = h
-take_other plan b new line replies.Committed h t i n = h
-take_other plan b new line replies.Later h t i n = h
-take_other plan b new line replies.ClockSpent h t i n = h
-
--- a take that is refused
-pub attempts_halt : (plan : Planned) (b new : Board) (line n : ℕ) → Step plan b (Take 0 line) (Attempts n) new → MayHalt plan new (faults.Attempts n)
-attempts_halt plan b new line n h =
-    let at : line ≡ n = sym h.2 in
-    (0, subst (λ x. Step plan x (Take 0 n) (Attempts n) x) (sym h.3) (subst (λ m. Step plan b (Take 0 m) (Attempts n) b) at (subst (λ x. Step plan b (Take 0 line) (Attempts n) x) h.3 h)))
-
--- ---- the next line
-pub begun_taken : (plan : Planned) (old new : Board) (line : ℕ) (o : Option ℕ) (a : ℕ) → IsTaken plan old new line o → o ≡ Some a → IsBegun plan new line (Some a)
-begun_taken plan old new line o a h e = subst (λ x. IsTaken plan old new line x) e h
-
-pub taken_none : (plan : Planned) (old new : Board) (line : ℕ) (o : Option ℕ) → IsTaken plan old new line o → o ≡ None → IsDone (row_at old line).state × (new ≡ old)
-taken_none plan old new line o h e = subst (λ x. IsTaken plan old new line x) e h
-
-never_done : (s : State) → s ≡ Waiting → IsDone s → ⊥
-never_done s waits (notes, answer, stamp, is) = let z : Waiting ≡ Done notes answer stamp = sym waits ∙ is in cc
-
--- a line that waits is taken
-pub begun_again : (plan : Planned) (b new : Board) (line : ℕ) (r : Result (Option ℕ) BoardFault) → (row_at b line).state ≡ Waiting → IfOk r (IsTaken plan b new line) → IfOk r (IsBegun plan new line)
-begun_again plan b new line (Ok (Some a)) waits h = h
-begun_again plan b new line (Ok None) waits h = absurd (never_done (row_at b line).state waits h.0)
-begun_again plan b new line (Err fault) waits h = tt
-
-pub fresh_waits : (b : Board) (line : ℕ) → IsFresh b line → IsDone (row_at b line).state → ⊥
-fresh_waits b line fresh done = never_done (row_at b line).state (ap (λ (r : Row). r.state) fresh) done
+pub take_only : {J : Type 0} (plan : Planned) (b new : Board) (line : ℕ) (reply : CodeReply J) → Waits plan b line → Answers plan b (Take 0 line) reply new → ((a : ℕ) → reply ≡ replies.Taken a → ⊥) → ⊥
+take_only plan b new line (replies.Taken a) waits h not = not a refl
+take_only plan b new line replies.Idle waits h not = take_never_idle plan b line waits new h
+take_only plan b new line (replies.Attempts m) waits h not = take_never_spent plan b line waits m new h
+take_only plan b new line replies.Memory waits h not = h.0
+take_only plan b new line (replies.Seen name place) waits h not = h
+take_only plan b new line (replies.Suspect m) waits h not = h
+take_only plan b new line replies.Stranger waits h not = h
+take_only plan b new line replies.Placed waits h not = h
+take_only plan b new line replies.Lifted waits h not = h
+take_only plan b new line replies.Whole waits h not = h
+take_only plan b new line replies.Same waits h not = h
+take_only plan b new line (replies.Changed key name found) waits h not = h
+take_only plan b new line replies.Committed waits h not = h
+take_only plan b new line replies.Later waits h not = h
+take_only plan b new line replies.ClockSpent waits h not = h
 
 -- ---- look
 at_own_key : (k : Key) (x : Note) (b : Bool) → is_at (key_cmp k) x.key ≡ b → x.key ≡ k → b ≡ true
@@ -306,29 +257,6 @@ check_other plan b new line replies.Lifted proves h s w = h
 check_other plan b new line replies.Committed proves h s w = h
 check_other plan b new line replies.Later proves h s w = h
 
--- a line that is done is checked anew
-pub recheck_other : {J : Type 0} (plan : Planned) (b new : Board) (line : ℕ) (notes : List Note) (reply : CodeReply J) → Checks plan b line notes → Answers plan b (Check 0 line) reply new
-    → (reply ≢ replies.Same) → (reply ≢ replies.Whole) → ((key : Key) (name : Name) (found : Found) → reply ≡ replies.Changed key name found → ⊥) → (reply ≢ replies.ClockSpent) → ⊥
-recheck_other plan b new line notes replies.Same checks h s w c p = s refl
-recheck_other plan b new line notes replies.Whole checks h s w c p = w refl
-recheck_other plan b new line notes (replies.Changed key name found) checks h s w c p = c key name found refl
-recheck_other plan b new line notes replies.ClockSpent checks h s w c p = p refl
-recheck_other plan b new line notes replies.Idle checks h s w c p = check_never_idle plan b line notes checks new h
-recheck_other plan b new line notes replies.Memory checks h s w c p = h.0
-recheck_other plan b new line notes (replies.Taken a) checks h s w c p = h
-recheck_other plan b new line notes (replies.Attempts n) checks h s w c p = h
-recheck_other plan b new line notes (replies.Seen name place) checks h s w c p = h
-recheck_other plan b new line notes (replies.Suspect n) checks h s w c p = h
-recheck_other plan b new line notes replies.Stranger checks h s w c p = h
-recheck_other plan b new line notes replies.Placed checks h s w c p = h
-recheck_other plan b new line notes replies.Lifted checks h s w c p = h
-recheck_other plan b new line notes replies.Committed checks h s w c p = h
-recheck_other plan b new line notes replies.Later checks h s w c p = h
-
--- at the end of the clock
-pub check_halts : (plan : Planned) (b new : Board) (line : ℕ) → Step plan b (Check 0 line) Spent new → MayHalt plan new faults.ClockSpent
-check_halts plan b new line h = (Check 0 line, tt, subst (λ x. Step plan x (Check 0 line) Spent x) (sym h.8) (subst (λ x. Step plan b (Check 0 line) Spent x) h.8 h))
-
 -- ---- commit
 pub commit_only : {J : Type 0} (plan : Planned) (b new : Board) (line : ℕ) (reply : CodeReply J) → Holds plan b line → Answers plan b (Commit line) reply new → (reply ≢ replies.Committed) → ⊥
 commit_only plan b new line replies.Committed holds h not = not refl
@@ -348,6 +276,7 @@ commit_only plan b new line (replies.Changed key name found) holds h not = h
 commit_only plan b new line replies.ClockSpent holds h not = h
 
 -- ---- all lines
+-- the lines of a new board wait for their first attempt, and no worker has one in hand
 opening_rows : (plan : Planned) (workers m : ℕ) → row_at (opening plan workers 0 0) m ≡ opening_row 0
 opening_rows plan workers m = elim (cases_lt m plan.first) [
   | inl lt ↦ row_before (opening plan workers 0 0) m lt
@@ -357,42 +286,32 @@ opening_rows plan workers m = elim (cases_lt m plan.first) [
   ]
 ]
 
-opening_fresh : (plan : Planned) (workers : ℕ) → AreFresh (opening plan workers 0 0) (plan.first + 0)
-opening_fresh plan workers = record { above = λ m le. opening_rows plan workers m; failed = refl; stops = refl }
+new_rows : (plan : Planned) (b : Board) → IsNew plan b → (m : ℕ) → row_at b m ≡ opening_row 0
+new_rows plan b (workers, some, e) m = ap (λ (x : Board). row_at x m) e ∙ opening_rows plan workers m
 
-pub new_fresh : (plan : Planned) (b : Board) → IsNew plan b → AreFresh b (plan.first + b.committed)
-new_fresh plan b (workers, some, e) = subst (λ x. AreFresh x (plan.first + x.committed)) (sym e) (opening_fresh plan workers)
+pub new_fresh : (plan : Planned) (b : Board) → IsNew plan b → AreFresh b (plan.first + 0)
+new_fresh plan b new = record {
+  above = λ m le. new_rows plan b new m;
+  failed = ap (λ (x : Board). x.failed) new.2;
+  stops = ap (λ (x : Board). x.stops) new.2;
+}
 
--- no worker has a line in hand on a new board
-pub new_free : (plan : Planned) (b : Board) → IsNew plan b → NoneInHand b
-new_free plan b (workers, some, e) = λ w m h. none-some w (sym (ap (λ (x : Board). holder (row_at x m).state) e ∙ ap (λ (r : Row). holder r.state) (opening_rows plan workers m)) ∙ h)
-
--- the next line, where no worker has a line in hand
-pub free_waits : (plan : Planned) (b : Board) → Reached plan b → 0 < b.workers → NoneInHand b → Waits plan b (plan.first + b.committed)
-free_waits plan b reached worker none = record {
-  stands = record { reached = reached; worker = worker; commits = refl; others = λ m w ne. none w m };
-  own = λ w. none w (plan.first + b.committed);
+pub new_stands : (plan : Planned) (b : Board) → Reached plan b → IsNew plan b → Stands plan b (plan.first + 0)
+new_stands plan b reached new = record {
+  reached = reached;
+  worker = let e : b.workers ≡ new.0 = ap (λ (x : Board). x.workers) new.2 in omega (arith, new.1, e);
+  commits = ap (λ (x : Board). plan.first + x.committed) new.2;
+  others = λ m w ne h. none-some w (sym (ap (λ (r : Row). holder r.state) (new_rows plan b new m)) ∙ h);
 }
 
 pub line_there : (plan : Planned) (b : Board) (i : ℕ) → Reached plan b → i < length plan.readings → IsLine b (plan.first + i)
 line_there plan b i reached lt = (omega (arith, reached.first), omega (arith, lt, reached.first, reached.all))
 
--- no more lines are committed than there are
-pub few_committed : (plan : Planned) (b : Board) → Reached plan b → b.committed ≤ length plan.readings
-few_committed plan b reached = elim (cases_lt (length plan.readings) b.committed) [
-  | inl more ↦
-      let q : ℕ = plan.first + length plan.readings in
-      let is : IsCommitted (row_at b q).state = reached.rows.first q (omega arith) (omega (arith, more)) in
-      let there = within_board b q (λ e. subst IsCommitted e is) in
-      absurd (omega (arith, there.1, reached.first, reached.all))
-  | inr le ↦ le
-]
-
 -- all lines are committed
-pub all_whole : (plan : Planned) (b : Board) → Waits plan b (plan.first + length plan.readings) → IsWhole b
-all_whole plan b waits m there =
-    let reached = waits.stands.reached in
-    reached.rows.first m (omega (arith, there.0, reached.first)) (omega (arith, there.1, reached.first, reached.all, waits.stands.commits))
+all_whole : (plan : Planned) (b : Board) → Stands plan b (plan.first + length plan.readings) → IsWhole b
+all_whole plan b stands m there =
+    let reached = stands.reached in
+    reached.rows.first m (omega (arith, there.0, reached.first)) (omega (arith, there.1, reached.first, reached.all, stands.commits))
 
 live_committed : (s : State) → IsCommitted s → live_of s ≡ 0
 live_committed (Committed answer) is = refl
@@ -412,28 +331,15 @@ none_live (r ∷ rows) each =
 row_place : (b : Board) (i : ℕ) → row_at b (b.first + i) ≡ get_or b.rows i blank
 row_place b i = let e : b.first + i - b.first ≡ i = omega arith in row_from b (b.first + i) (omega arith) ∙ ap (λ p. get_or b.rows p blank) e
 
-pub driven : (plan : Planned) (b : Board) → Waits plan b (plan.first + length plan.readings) → AreFresh b (plan.first + length plan.readings) → IsDriven plan b
-driven plan b waits fresh =
-    let reached = waits.stands.reached in
-    let all : IsWhole b = all_whole plan b waits in
+pub driven : (plan : Planned) (b : Board) → Stands plan b (plan.first + length plan.readings) → AreFresh b (plan.first + length plan.readings) → IsDriven plan b
+driven plan b stands fresh =
+    let all : IsWhole b = all_whole plan b stands in
     let none : live b ≡ 0 = none_live b.rows (λ i lt. subst (λ (r : Row). IsCommitted r.state) (row_place b i) (all (b.first + i) (omega arith, omega (arith, lt)))) in
-    let commits : b.committed ≡ length plan.readings = omega (arith, waits.stands.commits) in
+    let commits : b.committed ≡ length plan.readings = omega (arith, stands.commits) in
     record {
-      committed = all;
+      whole = all;
       commits = commits;
-      takes = omega (arith, reached.counted, commits, fresh.failed, fresh.stops, none);
+      takes = omega (arith, stands.reached.counted, commits, fresh.failed, fresh.stops, none);
       failed = fresh.failed;
       stops = fresh.stops;
     }
-
--- ---- as the drive ends
-pub all_whole_ok : (plan : Planned) (b : Board) (r : Result (Unit {0}) BoardFault) → OnOk r (Waits plan b (plan.first + length plan.readings)) → OnOk r (IsWhole b)
-all_whole_ok plan b (Ok u) waits = all_whole plan b waits
-all_whole_ok plan b (Err fault) waits = tt
-
-pub all_driven : (plan : Planned) (b : Board) (r : Result (Unit {0}) BoardFault) → OnOk r (Waits plan b (plan.first + length plan.readings)) → OnOk r (AreFresh b (plan.first + length plan.readings)) → OnOk r (IsDriven plan b)
-all_driven plan b (Ok u) waits fresh = driven plan b waits fresh
-all_driven plan b (Err fault) waits fresh = tt
-
-pub fresh_after : (plan : Planned) (old new : Board) → IsNew plan old → new ≡ old → AreFresh new (plan.first + new.committed)
-fresh_after plan old new is same = subst (λ b. AreFresh b (plan.first + b.committed)) (sym same) (new_fresh plan old is)

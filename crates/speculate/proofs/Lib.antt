@@ -11,4 +11,3 @@ pub mod Marking
 pub mod Phases
 pub mod Plays
 pub mod Readying
-pub mod Works

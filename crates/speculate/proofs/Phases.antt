@@ -12,7 +12,7 @@ use Rattle.read_set.specs.Settling.{Contents}
 use Rattle.read_set.specs.declared.notes.Name.{Name}
 use Rattle.read_set.specs.declared.notes.Name.TheVariants as names
 use Rattle.read_set.specs.declared.notes.Note.{Note}
-use Rattle.version_store.specs.Entries.{Shown, above, found_of, shown_by, suspected}
+use Rattle.version_store.specs.Entries.{Shown, above, found_of, shown_by}
 use Rattle.version_store.specs.declared.entry.Found.{Found}
 use Rattle.version_store.specs.declared.entry.Found.TheVariants.{Named, Suspect}
 use Rattle.board_steps.specs.Board.{Board, EachNote, IsCommitted, IsLine, Row, State, entry, found, holder, row_at, seen_entry, value_at}
@@ -28,7 +28,7 @@ use Rattle.board_steps.proofs.Steps.{step_reached}
 use Rattle.board_steps.proofs.Views.{visible_entry}
 use Rattle.board_lines.specs.Acts.{IsPlacing}
 use Rattle.board_lines.specs.Hands.{notes_of}
-use Rattle.speculate.specs.Devices.Phases.{Appears, AreFresh, Checks, GoesOn, Holds, IsAppearing, IsChecked, IsDone, IsFresh, Proves, Reads, Spares, Stands, Waits, left_of}
+use Rattle.speculate.specs.Devices.Phases.{Appears, AreFresh, Checks, GoesOn, Holds, IsAppearing, IsChecked, Proves, Reads, Spares, Stands, Waits, left_of}
 
 -- ---- what is seen
 above_same : (n : ℕ) (o p : Option Shown) (x y : Option (ℕ × Shown)) → o ≡ p → x ≡ y → above n o x ≡ above n p y
@@ -124,15 +124,22 @@ module _ (plan : Planned) (b : Board) (line : ℕ) (stands : Stands plan b line)
   with_row_next = ap (λ (x : Row). x.next) row_is
 
 -- ---- take
-module _ (plan : Planned) (b : Board) (line : ℕ) (waits : Waits plan b line) (there : IsLine b line) where
-  free_here : IsFree b 0
-  free_here = (
-    waits.stands.worker,
-    λ m. elim (cases_eq m line) [
-      | inl e ↦ (λ h. waits.own 0 (ap (λ q. holder (row_at b q).state) (sym e) ∙ h))
-      | inr ne ↦ waits.stands.others m 0 ne
-    ],
-  )
+module _ (plan : Planned) (b : Board) (line : ℕ) (waits : Waits plan b line) where
+  waiting : (row_at b line).state ≡ Waiting
+  waiting = ap (λ (r : Row). r.state) waits.fresh
+
+  may_take : MayTake b 0 line
+  may_take = record {
+    within = waits.there;
+    free = (
+      waits.stands.worker,
+      λ m. elim (cases_eq m line) [
+        | inl e ↦ (λ h. none-some 0 (sym (ap (λ q. holder (row_at b q).state) e ∙ ap holder waiting) ∙ h))
+        | inr ne ↦ waits.stands.others m 0 ne
+      ],
+    );
+    waiting = waiting;
+  }
 
   begun : Row
   begun = record (row_at b line) { state = Running 0 []; next = (row_at b line).next + 1 }
@@ -141,10 +148,10 @@ module _ (plan : Planned) (b : Board) (line : ℕ) (waits : Waits plan b line) (
   unfolding begun
   taken_reads reached = (
     record {
-      goes = with_row_goes plan b line waits.stands there begun (b.takes + 1) b.clock b.failed [] reached (λ j x at. absurd (none-some x at));
-      state = with_row_state plan b line waits.stands there begun (b.takes + 1) b.clock b.failed;
+      goes = with_row_goes plan b line waits.stands waits.there begun (b.takes + 1) b.clock b.failed [] reached (λ j x at. absurd (none-some x at));
+      state = with_row_state plan b line waits.stands waits.there begun (b.takes + 1) b.clock b.failed;
     },
-    (let e : (row_at (taken b 0 line) line).next ≡ (row_at b line).next + 1 = with_row_next plan b line waits.stands there begun (b.takes + 1) b.clock b.failed in omega (arith, e)),
+    (let e : (row_at (taken b 0 line) line).next ≡ (row_at b line).next + 1 = with_row_next plan b line waits.stands waits.there begun (b.takes + 1) b.clock b.failed in omega (arith, e)),
   )
 
   pub take_goes : (a : ℕ) (new : Board) → Step plan b (Take 0 line) (Taken a) new → Reads plan new line [] × (suc a ≡ (row_at new line).next)
@@ -154,24 +161,12 @@ module _ (plan : Planned) (b : Board) (line : ℕ) (waits : Waits plan b line) (
       let done = taken_reads (subst (λ x. Reached plan x) e reached) in
       (subst (λ x. Reads plan x line []) (sym e) done.0, ap suc h.2 ∙ done.1 ∙ ap (λ (x : Board). (row_at x line).next) (sym e))
 
-  -- a fresh line has attempts left
-  pub take_never : (n : ℕ) (new : Board) → IsFresh b line → Step plan b (Take 0 line) (Attempts n) new → ⊥
-  take_never n new fresh h = omega (arith, h.1, ap (λ (r : Row). r.next) fresh)
+  -- it has attempts left
+  pub take_never_spent : (n : ℕ) (new : Board) → Step plan b (Take 0 line) (Attempts n) new → ⊥
+  take_never_spent n new h = omega (arith, h.1, ap (λ (r : Row). r.next) waits.fresh)
 
-  idle_done : (s : State) → (row_at b line).state ≡ s → (MayTake b 0 line → ⊥) → IsDone s
-  idle_done Waiting is not = absurd (not (record { within = there; free = free_here; waiting = is }))
-  idle_done (Running w notes) is not = absurd (waits.own w (ap holder is))
-  idle_done (Placing w notes last) is not = absurd (waits.own w (ap holder is))
-  idle_done (Done notes answer stamp) is not = (notes, answer, stamp, refl)
-  idle_done (Checking w notes answer t i) is not = absurd (waits.own w (ap holder is))
-  idle_done (Committed answer) is not = absurd (is_open plan b line waits.stands (subst IsCommitted (sym is) tt))
-
-  -- one that can't be taken is done
-  pub take_idle : (new : Board) → Step plan b (Take 0 line) Idle new → IsDone (row_at b line).state × (new ≡ b)
-  take_idle new h = (idle_done (row_at b line).state refl h.0, h.1)
-
-  pub done_checks : IsDone (row_at b line).state → (notes : List Note) × Checks plan b line notes
-  done_checks d = (d.0, record { stands = waits.stands; there = there; state = subst (λ s. IsChecked s d.0 b.clock) (sym d.3) refl })
+  pub take_never_idle : (new : Board) → Step plan b (Take 0 line) Idle new → ⊥
+  take_never_idle new h = h.0 may_take
 
 -- ---- look
 module _ (plan : Planned) (b : Board) (line : ℕ) (notes : List Note) (reads : Reads plan b line notes) where
@@ -401,27 +396,6 @@ module _ (plan : Planned) (b : Board) (line : ℕ) (ns : List Note) (checks : Ch
   pub check_never_idle : (new : Board) → Step plan b (Check 0 line) Idle new → ⊥
   check_never_idle new h = let (notes, answer, t, i, c) = compares_so (row_at b line).state refl checks.state in h.0 notes answer t i c
 
-  -- a check that fails sends the line back
-  back_waits : (r : Row) (clock : ℕ) (new : Board) → r.state ≡ Waiting → new ≡ record (put_row b line r) { clock = clock; failed = b.failed + 1 } → Reached plan new
-      → Waits plan new line × IsLine new line × ((row_at new line).state ≡ Waiting)
-  back_waits r clock new is e reached =
-      let stands = with_row_stands plan b line checks.stands checks.there r b.takes clock (b.failed + 1) (subst (λ y. Reached plan y) e reached) in
-      let there = with_row_there plan b line checks.stands checks.there r b.takes clock (b.failed + 1) in
-      let state : (row_at new line).state ≡ Waiting = ap (λ (y : Board). (row_at y line).state) e ∙ with_row_state plan b line checks.stands checks.there r b.takes clock (b.failed + 1) ∙ is in (
-        record { stands = subst (λ y. Stands plan y line) (sym e) stands; own = λ w h. none-some w (sym (ap holder state) ∙ h) },
-        subst (λ y. IsLine y line) (sym e) there,
-        state,
-      )
-
-  pub changed_waits : (key : Key) (noted : Name) (now : Found) (new : Board) → Step plan b (Check 0 line) (Changed key noted now) new
-      → Waits plan new line × IsLine new line × ((row_at new line).state ≡ Waiting)
-  changed_waits key noted now new h =
-      let reached = step_reached plan b new (Check 0 line) (Changed key noted now) checks.stands.reached tt h in
-      elim h.6 [
-        | inl g ↦ back_waits (with_state (row_at b line) Waiting) b.clock new refl g.1 reached
-        | inr g ↦ back_waits (record (row_at b line) { state = Waiting; entries = suspected (row_at b line).entries; changed = b.clock + 1 }) (b.clock + 1) new refl g.2 reached
-      ]
-
 -- its names are so now
 module _ (plan : Planned) (b : Board) (line : ℕ) (proves : Proves plan b line) where
   pub same_goes : (new : Board) → Step plan b (Check 0 line) Same new → Proves plan new line × (left_of (row_at new line).state < left_of (row_at b line).state)
@@ -450,34 +424,24 @@ module _ (plan : Planned) (b : Board) (line : ℕ) (holds : Holds plan b line) w
     unchanged = λ m lt. unchanged plan b line holds.stands m;
   }
 
-  -- no line is in hand
-  none_held : (m w : ℕ) → holder (row_at b m).state ≢ Some w
-  none_held m w h = elim (cases_eq m line) [
-    | inl e ↦ none-some w (sym (ap (λ q. holder (row_at b q).state) e ∙ ap holder holds.state) ∙ h)
-    | inr ne ↦ holds.stands.others m w ne h
-  ]
-
-  committed_waits : (answer : Option Answer) (new : Board) → new ≡ record (put_row b line (with_state (row_at b line) (Committed answer))) { committed = b.committed + 1 } → Reached plan new → Waits plan new (line + 1)
-  committed_waits answer new e reached =
+  committed_stands : (answer : Option Answer) (new : Board) → new ≡ record (put_row b line (with_state (row_at b line) (Committed answer))) { committed = b.committed + 1 } → Reached plan new → Stands plan new (line + 1)
+  committed_stands answer new e reached =
       let r : Row = with_state (row_at b line) (Committed answer) in
       let at : row_at new line ≡ r = ap (λ (x : Board). row_at x line) e ∙ row_put b line r holds.there in
-      let free : (m w : ℕ) → holder (row_at new m).state ≢ Some w = λ m w h. elim (cases_eq m line) [
-        | inl q ↦ none-some w (sym (ap (λ j. holder (row_at new j).state) q ∙ ap (λ (x : Row). holder x.state) at) ∙ h)
-        | inr ne ↦ none_held m w (sym (ap (λ (x : Board). holder (row_at x m).state) e ∙ ap (λ (x : Row). holder x.state) (row_put_off b line r m ne)) ∙ h)
-      ] in
+      let off : (m : ℕ) → m ≢ line → row_at new m ≡ row_at b m = λ m ne. ap (λ (x : Board). row_at x m) e ∙ row_put_off b line r m ne in
       record {
-        stands = record {
-          reached = reached;
-          worker = omega (arith, holds.stands.worker, ap (λ (x : Board). x.workers) e);
-          commits = omega (arith, holds.stands.commits, ap (λ (x : Board). x.committed) e);
-          others = λ m w ne. free m w;
-        };
-        own = λ w. free (line + 1) w;
+        reached = reached;
+        worker = omega (arith, holds.stands.worker, ap (λ (x : Board). x.workers) e);
+        commits = omega (arith, holds.stands.commits, ap (λ (x : Board). x.committed) e);
+        others = λ m w above h. elim (cases_eq m line) [
+          | inl q ↦ none-some w (sym (ap (λ j. holder (row_at new j).state) q ∙ ap (λ (x : Row). holder x.state) at) ∙ h)
+          | inr ne ↦ holds.stands.others m w ne (sym (ap (λ (x : Row). holder x.state) (off m ne)) ∙ h)
+        ];
       }
 
-  pub commit_goes : (new : Board) → Step plan b (Commit line) Commits new → Waits plan new (line + 1)
+  pub commit_goes : (new : Board) → Step plan b (Commit line) Commits new → Stands plan new (line + 1)
   commit_goes new (notes, answer, t, may, e) =
-      committed_waits answer new e (step_reached plan b new (Commit line) Commits holds.stands.reached tt (notes, answer, t, may, e))
+      committed_stands answer new e (step_reached plan b new (Commit line) Commits holds.stands.reached tt (notes, answer, t, may, e))
 
   pub commit_never_later : (new : Board) → Step plan b (Commit line) Later new → ⊥
   commit_never_later new h = h.2 holds.notes holds.answer b.clock may_commit

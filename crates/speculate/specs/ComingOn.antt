@@ -1,4 +1,4 @@
--- No deadlock: the choice of a free worker where no worker has a line in hand, and what the call that it names leads to (the board:
+-- No idle board: the choice of a free worker where no worker has a line in hand, and what the call that it names leads to (the board:
 -- the choice of a free worker).
 use Rattle.std.specs.Prelude.{◌≡◌, ℕ, ◌⊎◌, Some}
 use Rattle.board_steps.specs.Board.{Board, IsCommitted, holder, row_at}

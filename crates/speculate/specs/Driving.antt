@@ -2,10 +2,11 @@
 use Rattle.std.specs.Prelude.{◌≡◌, ℕ, ◌<◌, ◌⊎◌, List, length}
 use Rattle.read_set.specs.Plans.{Planned}
 use Rattle.read_set.specs.Settling.{Contents}
-use Rattle.board_steps.specs.Board.{Board, IsCommitted, IsLine, row_at}
-use Rattle.board_steps.specs.Steps.{ByVersion, Call, IsVersion, Reply, Run, Step, opening}
-use Rattle.board_steps.specs.Steps.Call.{Publish, Take}
-use Rattle.board_steps.specs.Steps.Reply.{Attempts, ClockSpent}
+use Rattle.board_steps.specs.Board.{Board}
+use Rattle.board_steps.specs.Steps.{Call, IsVersion, Reply, Run, Step, opening}
+use Rattle.board_steps.specs.Steps.Call.{Publish}
+use Rattle.board_steps.specs.Steps.Reply.{ClockSpent}
+use Rattle.speculate.specs.Finishing.{IsWhole}
 use Rattle.speculate.specs.Playing.{HasRunning, WouldPlace}
 use Rattle.speculate.specs.declared.steps.BoardFault.{BoardFault}
 use Rattle.speculate.specs.declared.steps.BoardFault.TheVariants as faults
@@ -16,7 +17,7 @@ IsNew plan b = (workers : ℕ) × (0 < workers) × (b ≡ opening plan workers 0
 
 -- Driven: all lines are committed, each by one take, with no failed check and no stop.
 pub record IsDriven (plan : Planned) (b : Board) : Type 0 where
-  pub committed : (m : ℕ) → IsLine b m → IsCommitted (row_at b m).state
+  pub whole : IsWhole b
   pub commits : b.committed ≡ length plan.readings
   pub takes : b.takes ≡ length plan.readings
   pub failed : b.failed ≡ 0
@@ -33,10 +34,3 @@ abbrev pub MayStop : Planned → Board → BoardFault → Type 0
 MayStop plan b (faults.Attempts line) = ⊥
 MayStop plan b faults.ClockSpent = (v : Contents) × IsVersion plan v × Step plan b (Publish 0 v) ClockSpent b
 MayStop plan b faults.Memory = HasRunning b 0 ⊎ WouldPlace plan b 0
-
--- What may stop it on any board: a line has had all its attempts, or the clock is at its end, exactly where the board's reply to the
--- next step says so; or running out of memory, where a worker's line runs, or where a publication to go on with would place an entry.
-abbrev pub MayHalt : Planned → Board → BoardFault → Type 0
-MayHalt plan b (faults.Attempts line) = (w : ℕ) × Step plan b (Take w line) (Attempts line) b
-MayHalt plan b faults.ClockSpent = (call : Call) × ByVersion plan call × Step plan b call ClockSpent b
-MayHalt plan b faults.Memory = (w : ℕ) × (HasRunning b w ⊎ WouldPlace plan b w)

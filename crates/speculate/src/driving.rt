@@ -1,19 +1,16 @@
 //! Running the lines of a board one after another, in the order of the journal.
 
-ghost use Rattle.std.specs.Prelude.{◌≡◌, ◌+◌, ◌<◌, ◌++◌, ◌∷◌, [], None, suc, IfErr, IfOk, OnErr, OnOk, length, map};
-ghost use Rattle.board_steps.specs.Board.{IsLine, row_at};
+ghost use Rattle.std.specs.Prelude.{◌≡◌, ◌+◌, ◌++◌, ◌∷◌, [], None, suc, IfErr, IfOk, OnOk, length, map};
+ghost use Rattle.board_steps.specs.Board.{row_at};
 ghost use Rattle.board_steps.specs.Steps.Call.{Publish};
 ghost use Rattle.read_set.specs.Notes.{noted, IsOnceEach};
-ghost use Rattle.speculate.specs.ComingOn.{NoneInHand};
-ghost use Rattle.speculate.specs.Driving.{IsDriven, IsNew, MayHalt, MayStop, RunsTo};
-ghost use Rattle.speculate.specs.Finishing.{IsWhole};
+ghost use Rattle.speculate.specs.Driving.{IsDriven, IsNew, MayStop, RunsTo};
 ghost use Rattle.speculate.specs.Playing.{HasRunning};
 ghost use Rattle.board_lines.specs.Notes.{contents_at};
 ghost use Rattle.board_lines.specs.Replies.{Answers};
-ghost use Rattle.speculate.specs.Devices.Phases.{Appears, AreFresh, Drives, Holds, IsBegun, IsDone, IsFresh, IsRechecked, IsTaken, Proves, Reads, Spares, Waits};
+ghost use Rattle.speculate.specs.Devices.Phases.{Appears, Drives, Holds, Proves, Reads, Stands, Waits};
 
 use crate::board::{Board, lines_of};
-use crate::draining::drain;
 use crate::playing::{put, settled_if_done};
 use crate::steps::BoardFault;
 use board_lines::{Reply, copied, record_seen};
@@ -26,49 +23,28 @@ use std::alloc::{AllocError, Global};
 use std::sync::Wait;
 use version_store::{Place, VersionTable};
 
-/// Commits all uncommitted lines in the order of the journal, each before the next begins. First the lines that workers have in hand
-/// are finished; worker 0 does the rest. On a new board each line runs once.
+/// Commits all lines of a new board in the order of the journal, each before the next begins. Each line runs once.
 pub fn drive_in_order<'t, J: PlanName + 'static, R: Wait>(
     rt: &R,
     alloc: Global,
     table: &'t VersionTable<J>,
     board: &mut Board<'_, 't, J>,
 ) -> Result<(), BoardFault>
-    ensures whole { OnOk result (IsWhole board.new) }
-    ensures all { IsNew J.plan board.old → OnOk result (IsDriven J.plan board.new) }
+    requires { IsNew J.plan board.old }
+    ensures all { OnOk result (IsDriven J.plan board.new) }
     ensures led { RunsTo J.plan board.old board.new }
-    ensures fault { IfErr result (MayHalt J.plan board.new) }
-    ensures stop { IsNew J.plan board.old → IfErr result (MayStop J.plan board.new) }
-{
-    drain(rt, alloc, table, board)?;
-    drive_lines(rt, alloc, table, board)
-}
-
-/// Commits each line that isn't committed, where no worker has a line in hand.
-fn drive_lines<'t, J: PlanName + 'static, R: Wait>(
-    rt: &R,
-    alloc: Global,
-    table: &'t VersionTable<J>,
-    board: &mut Board<'_, 't, J>,
-) -> Result<(), BoardFault>
-    requires free { NoneInHand board.old }
-    requires worker { 0 < board.old.workers }
-    ensures all { OnOk result (Waits J.plan board.new (J.plan.first + length J.plan.readings)) }
-    ensures fresh { AreFresh board.old (J.plan.first + board.old.committed) → OnOk result (AreFresh board.new (J.plan.first + length J.plan.readings)) }
-    ensures led { RunsTo J.plan board.old board.new }
-    ensures fault { IfErr result (MayHalt J.plan board.new) }
-    ensures stop { AreFresh board.old (J.plan.first + board.old.committed) → IfErr result (MayStop J.plan board.new) }
+    ensures stop { IfErr result (MayStop J.plan board.new) }
 {
     let plan = board.plan();
     let first = plan.first();
     let lines = lines_of(plan) as u64;
-    for position in board.committed()..lines {
+    for position in 0..lines {
         drive_line(rt, alloc, table, board, first + position)?;
     }
     Ok(())
 }
 
-/// Runs the next line, or checks it where it is done, and commits it.
+/// Runs the next line, and commits it.
 fn drive_line<'t, J: PlanName + 'static, R: Wait>(
     rt: &R,
     alloc: Global,
@@ -76,119 +52,28 @@ fn drive_line<'t, J: PlanName + 'static, R: Wait>(
     board: &mut Board<'_, 't, J>,
     line: u64,
 ) -> Result<(), BoardFault>
-    requires waits { Waits J.plan board.old line }
-    requires there { IsLine board.old line }
-    ensures next { OnOk result (Waits J.plan board.new (line + 1)) }
-    ensures led { RunsTo J.plan board.old board.new }
-    ensures fault { IfErr result (MayHalt J.plan board.new) }
-    ensures fresh { IsFresh board.old line → Spares board.old board.new line }
-    ensures stop { IsFresh board.old line → IfErr result (MayStop J.plan board.new) }
+    requires { Waits J.plan board.old line }
+    ensures next { OnOk result (Stands J.plan board.new (line + 1)) }
+    ensures led { Drives J.plan board.old board.new line }
+    ensures fault { IfErr result (MayStop J.plan board.new) }
 {
-    hold_line(rt, alloc, table, board, line)?;
+    let attempt = take_line(board, line);
+    run_line(rt, alloc, table, board, line, attempt)?;
     commit_line(board, line);
     Ok(())
 }
 
-/// Brings the next line to where it may be committed: it is done and checked.
-fn hold_line<'t, J: PlanName + 'static, R: Wait>(
-    rt: &R,
-    alloc: Global,
-    table: &'t VersionTable<J>,
-    board: &mut Board<'_, 't, J>,
-    line: u64,
-) -> Result<(), BoardFault>
-    requires waits { Waits J.plan board.old line }
-    requires there { IsLine board.old line }
-    ensures holds { OnOk result (Holds J.plan board.new line) }
-    ensures led { RunsTo J.plan board.old board.new }
-    ensures fault { IfErr result (MayHalt J.plan board.new) }
-    ensures fresh { IsFresh board.old line → Spares board.old board.new line }
-    ensures stop { IsFresh board.old line → IfErr result (MayStop J.plan board.new) }
-{
-    let begun = begin_line(board, line)?;
-    match begun {
-        Some(attempt) => run_line(rt, alloc, table, board, line, attempt),
-        None => Ok(()),
-    }
-}
-
-/// Takes the next line, and returns the attempt's number. None where the line is done, and all that it has read is as it was.
-fn begin_line<J: PlanName>(
-    board: &mut Board<'_, '_, J>,
-    line: u64,
-) -> Result<Option<u32>, BoardFault>
-    requires waits { Waits J.plan board.old line }
-    requires there { IsLine board.old line }
-    ensures begun { IfOk result (IsBegun J.plan board.new line) }
-    ensures led { RunsTo J.plan board.old board.new }
-    ensures fault { IfErr result (MayHalt J.plan board.new) }
-    ensures fresh { IsFresh board.old line → Spares board.old board.new line }
-    ensures stop { IsFresh board.old line → OnErr result ⊥ }
-{
-    let taken = take_line(board, line)?;
-    match taken {
-        Some(attempt) => Ok(Some(attempt)),
-        None => retake_line(board, line),
-    }
-}
-
-/// Checks the next line, which is done. Where not all that it has read is as it was, the line is taken again.
-fn retake_line<J: PlanName>(
-    board: &mut Board<'_, '_, J>,
-    line: u64,
-) -> Result<Option<u32>, BoardFault>
-    requires waits { Waits J.plan board.old line }
-    requires there { IsLine board.old line }
-    requires done { IsDone (row_at board.old line).state }
-    ensures begun { IfOk result (IsBegun J.plan board.new line) }
-    ensures led { RunsTo J.plan board.old board.new }
-    ensures fault { IfErr result (MayHalt J.plan board.new) }
-{
-    let holds = recheck_line(board, line)?;
-    if holds {
-        return Ok(None);
-    }
-    take_line(board, line)
-}
-
-/// Takes the next line, and returns the attempt's number. None, and no change, where the line is done.
-fn take_line<J: PlanName>(
-    board: &mut Board<'_, '_, J>,
-    line: u64,
-) -> Result<Option<u32>, BoardFault>
-    requires waits { Waits J.plan board.old line }
-    requires there { IsLine board.old line }
-    ensures taken { IfOk result (IsTaken J.plan board.old board.new line) }
+/// Takes the next line, and returns the attempt's number.
+fn take_line<J: PlanName>(board: &mut Board<'_, '_, J>, line: u64) -> u32
+    requires { Waits J.plan board.old line }
+    ensures reads { Reads J.plan board.new line [] }
+    ensures attempt { suc result ≡ (row_at board.new line).next }
     ensures led { Drives J.plan board.old board.new line }
-    ensures fault { IfErr result (MayHalt J.plan board.new) }
-    ensures stop { IsFresh board.old line → OnErr result ⊥ }
 {
-    match board.take(0, line) {
-        Reply::Taken { attempt } => Ok(Some(attempt)),
-        Reply::Idle => Ok(None),
-        Reply::Attempts { line } => Err(BoardFault::Attempts { line }),
-        _ => unreachable!(),
-    }
-}
-
-/// Checks a line that is done: whether all that it has read is as it was. If not, it waits again.
-fn recheck_line<J: PlanName>(board: &mut Board<'_, '_, J>, line: u64) -> Result<bool, BoardFault>
-    requires waits { Waits J.plan board.old line }
-    requires there { IsLine board.old line }
-    requires done { IsDone (row_at board.old line).state }
-    ensures checked { IfOk result (IsRechecked J.plan board.new line) }
-    ensures led { RunsTo J.plan board.old board.new }
-    ensures fault { IfErr result (MayHalt J.plan board.new) }
-{
-    'notes: loop {
-        match board.check(0, line) {
-            Reply::Same => {}
-            Reply::Whole => return Ok(true),
-            Reply::Changed { .. } => return Ok(false),
-            Reply::ClockSpent => return Err(BoardFault::ClockSpent),
-            _ => unreachable!(),
-        }
-    }
+    let Reply::Taken { attempt } = board.take(0, line) else {
+        unreachable!()
+    };
+    attempt
 }
 
 /// Runs a line that was taken in this attempt, and checks it.
@@ -389,7 +274,7 @@ fn check_line<J: PlanName>(board: &mut Board<'_, '_, J>, line: u64)
 /// Commits a line that is checked.
 fn commit_line<J: PlanName>(board: &mut Board<'_, '_, J>, line: u64)
     requires { Holds J.plan board.old line }
-    ensures next { Waits J.plan board.new (line + 1) }
+    ensures next { Stands J.plan board.new (line + 1) }
     ensures led { Drives J.plan board.old board.new line }
 {
     let Reply::Committed = board.commit(line) else {

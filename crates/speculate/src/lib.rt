@@ -7,7 +7,6 @@
 
 mod board;
 mod choice;
-mod draining;
 mod driving;
 mod end;
 mod ending;

@@ -39,7 +39,7 @@ pub fn play<'t, J: PlanName, R: Wait>(
 }
 
 /// Makes one step.
-pub fn act<'t, J: PlanName, R: Wait>(
+fn act<'t, J: PlanName, R: Wait>(
     rt: &R,
     alloc: Global,
     table: &'t VersionTable<J>,
@@ -149,7 +149,7 @@ fn version_in<J: PlanName>(next: Option<Need<J>>) -> Option<Version<J>>
 }
 
 /// What the worker's line in hand needs next, where that line runs; else None, and no memory is allocated.
-pub fn next_need<J: PlanName>(
+fn next_need<J: PlanName>(
     alloc: Global,
     board: &Board<'_, '_, J>,
     worker: u32,

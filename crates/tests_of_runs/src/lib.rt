@@ -18,7 +18,7 @@
 //! | `does WORKER` | what the line does: its answer, then each record that it writes (`told`); or `needs ID`, a record that it needs first |
 //! | `clock`, `committed`, `counts` | the board's; of the counts takes, failed checks, stops, commits and live lines |
 //! | `run WORKERS` | a run by the steps so far: `output` and the attempts where all else is what one thread gives, `unfinished` and how many lines are committed, or the fault |
-//! | `play on` | the steps so far as a list on another board, which is then driven to its end; or after how many steps the list halts |
+//! | `play on` | the steps so far as a list on another board, closed as where its workers have ended: `output` and its attempts, or those of a new board, all 0, where lines are open; or after how many steps the list halts |
 //! | `one thread` | the nine files that one thread gives |
 //!
 //! Of a shared board: `begin`, `look WORKER ID`, `publish WORKER` (the version of a line that the journal lacks), `publish_more`, `check`, `leave FAULT`,

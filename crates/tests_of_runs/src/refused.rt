@@ -8,6 +8,7 @@
 
 ghost use Rattle.std.specs.Prelude.{◌≡◌};
 ghost use Rattle.read_set.specs.Plans.{readings_of};
+ghost use Rattle.speculate.specs.Driving.{IsNew};
 
 use crate::books::rows::{IN_ORDER, IN_PART, STALE, SUSPECT};
 use crate::calls::tell_counts;
@@ -198,14 +199,16 @@ fn try_over<J: PlanName + 'static, R: Wait + AllocGlobal + Abort + Print>(
     collect_output(alloc, plan, journal, &finished)
 }
 
-/// Plays the steps, or drives the board in order. The fault, and how many steps were made: as `play` says; any number where the board is driven.
+/// Plays the steps on a new board, or drives it in order. The fault, and how many steps were made: as `play` says; any number where the board is driven.
 fn halted<'t, J: PlanName + 'static, R: Wait + AllocGlobal>(
     rt: &R,
     table: &'t VersionTable<J>,
     board: &mut Board<'_, 't, J>,
     steps: &[Step],
     is_driven: bool,
-) -> Option<(BoardFault, Range<usize>)> {
+) -> Option<(BoardFault, Range<usize>)>
+    requires { IsNew J.plan board.old }
+{
     if is_driven {
         let fault = drive_in_order(rt, rt.alloc(), table, board).err()?;
         return Some((fault, 0..steps.len()));

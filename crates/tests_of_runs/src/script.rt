@@ -1,14 +1,19 @@
 //! Scripts: calls of the board beside their replies, and what runs and lists of steps give.
 
 ghost use Rattle.std.specs.Prelude.{◌≡◌};
+ghost use Rattle.read_set.specs.Plans.{readings_of};
 
 use crate::calls::{number, parts_of, reply_to, small};
 use crate::shared::share_board;
 use crate::texts::{inputs_of, is_same, plan_of, tell_files};
 use crate::told::{tell_fault, tell_number};
+use journal_table::Journal;
 use read_set::{Plan, PlanName};
-use replay_run::{Inputs, Output, Run, Step, one_thread, rebuild_by_steps};
-use speculate::{Board, Halt, drive_in_order, play};
+use replay_run::{
+    Inputs, Output, Prepared, Run, Step, collect_output, finished_of, judge_inputs, one_thread,
+    rebuild_by_steps,
+};
+use speculate::{Board, Halt, play};
 use std::alloc::{AllocError, AllocGlobal, Global};
 use std::marker::Brand;
 use std::process::Abort;
@@ -16,6 +21,7 @@ use std::sync::Wait;
 use std::test::Fail;
 use std::thread::Threads;
 use version_store::VersionTable;
+use worker_pool::SharedBoard;
 
 /// For how many workers each board is made: 0 to 63.
 pub(crate) const WORKERS: u32 = 64;
@@ -165,7 +171,7 @@ fn play_call<'t, J: PlanName + 'static, R: Wait + AllocGlobal>(
     match call.split_once(' ') {
         Some(("run", workers)) => tell_run(rt, script.inputs, small(workers), out),
         Some(("one", _)) => tell_one_thread(rt.alloc(), script.inputs, out),
-        Some(("play", _)) => tell_play(rt, table, board.plan(), script, out),
+        Some(("play", _)) => tell_play(rt, script, out),
         _ => reply_to(rt, table, board, call, out),
     }
 }
@@ -219,25 +225,42 @@ pub(crate) fn is_of_one_thread(alloc: Global, inputs: &Inputs, output: &Output) 
     }
 }
 
-/// Plays the steps so far as a list on another board, and drives that board to its end; or says where the list halts.
-fn tell_play<J: PlanName + 'static, R: Wait + AllocGlobal>(
+/// Plays the steps so far as a list on another board, which is then closed as where workers have ended without a fault.
+fn tell_play<R: Wait + AllocGlobal>(
     rt: &R,
-    table: &VersionTable<J>,
+    script: &Script<'_>,
+    out: &mut String,
+) -> Result<(), AllocError> {
+    match judge_inputs(rt.alloc(), script.inputs) {
+        Ok(Prepared { plan, journal }) => play_on::<Brand, R>(rt, &plan, &journal, script, out),
+        Err(fault) => write!(out, "{fault}"),
+    }
+}
+
+/// What comes of that board: its own end, or that of a new board where a line is open; or where the list halts.
+fn play_on<J: PlanName + 'static, R: Wait + AllocGlobal>(
+    rt: &R,
     plan: &Plan,
+    journal: &Journal,
     script: &Script<'_>,
     out: &mut String,
 ) -> Result<(), AllocError>
-    requires { plan.now ≡ J.plan }
+    requires named { plan.now ≡ J.plan }
+    requires fits { plan.now.readings ≡ readings_of journal.now }
 {
     let alloc = rt.alloc();
     let steps = steps_of(alloc, out.as_str())?;
+    let table: VersionTable<J> = VersionTable::new(alloc)?;
     let mut board = Board::starting(alloc, plan, WORKERS, script.attempt, script.clock)?;
-    if let Err(halt) = play(rt, alloc, table, &mut board, steps.as_slice()) {
+    if let Err(halt) = play(rt, alloc, &table, &mut board, steps.as_slice()) {
         return tell_halt(out, halt);
     }
-    let driven = drive_in_order(rt, alloc, table, &mut board).is_ok();
-    let ended = driven && board.finish().is_ok();
-    out.push_str(if ended { "driven to the end" } else { "no end" })
+    let closed = SharedBoard::new(board, &table).close();
+    let Ok(finished) = finished_of(rt, alloc, plan, &table, closed) else {
+        return out.push_str("no end");
+    };
+    let output = collect_output(alloc, plan, journal, &finished)?;
+    tell_attempts(alloc, script.inputs, &output, out)
 }
 
 fn tell_halt(out: &mut String, halt: Halt) -> Result<(), AllocError> {

@@ -1,5 +1,5 @@
 -- For proofs alone: a board whose lines are run in the order of the journal, while one of them is run.
-use Rattle.std.specs.Prelude.{◌≡◌, ◌≢◌, ℕ, suc, ◌+◌, ◌-◌, ◌<◌, ◌≤◌, ◌⊎◌, Bool, true, false, List, [], length, Option, Some, None}
+use Rattle.std.specs.Prelude.{◌≡◌, ◌≢◌, ℕ, suc, ◌+◌, ◌-◌, ◌<◌, ◌≤◌, ◌⊎◌, List, length, Option, Some}
 use Rattle.sip_answer.specs.declared.answer.Answer.{Answer}
 use Rattle.read_set.specs.Plans.{Planned}
 use Rattle.read_set.specs.Settling.{Contents}
@@ -10,6 +10,10 @@ use Rattle.board_steps.specs.Reached.{IsNow, Reached}
 use Rattle.board_steps.specs.Steps.{IsVersion, opening_row}
 use Rattle.speculate.specs.Driving.{RunsTo}
 
+-- a line that waits for its first attempt
+abbrev pub IsFresh : Board → ℕ → Type 0
+IsFresh b line = row_at b line ≡ opening_row 0
+
 -- the lines below this one are committed, and no other is in hand
 pub record Stands (plan : Planned) (b : Board) (line : ℕ) : Type 0 where
   pub reached : Reached plan b
@@ -17,14 +21,11 @@ pub record Stands (plan : Planned) (b : Board) (line : ℕ) : Type 0 where
   pub commits : plan.first + b.committed ≡ line
   pub others : (m w : ℕ) → m ≢ line → holder (row_at b m).state ≢ Some w
 
--- nor is this one
+-- this one waits for its first attempt
 pub record Waits (plan : Planned) (b : Board) (line : ℕ) : Type 0 where
   pub stands : Stands plan b line
-  pub own : (w : ℕ) → holder (row_at b line).state ≢ Some w
-
--- it is done
-abbrev pub IsDone : State → Type 0
-IsDone s = (notes : List Note) × (answer : Option Answer) × (stamp : Option ℕ) × (s ≡ Done notes answer stamp)
+  pub there : IsLine b line
+  pub fresh : IsFresh b line
 
 -- an attempt of the line goes on, and what it has noted is so now
 pub record GoesOn (plan : Planned) (b : Board) (line : ℕ) (notes : List Note) : Type 0 where
@@ -87,25 +88,6 @@ pub record Spares (old new : Board) (line : ℕ) : Type 0 where
 pub record Drives (plan : Planned) (old new : Board) (line : ℕ) : Type 0 where
   pub led : RunsTo plan old new
   pub spares : Spares old new line
-
--- the next line is taken, in an attempt of this number; or it is done, and nothing changes
-abbrev pub IsTaken : Planned → Board → Board → ℕ → Option ℕ → Type 0
-IsTaken plan old new line (Some attempt) = Reads plan new line [] × (suc attempt ≡ (row_at new line).next)
-IsTaken plan old new line None = IsDone (row_at old line).state × (new ≡ old)
-
--- it is taken, or checked
-abbrev pub IsBegun : Planned → Board → ℕ → Option ℕ → Type 0
-IsBegun plan b line (Some attempt) = Reads plan b line [] × (suc attempt ≡ (row_at b line).next)
-IsBegun plan b line None = Holds plan b line
-
--- whether a line that is done holds; else it waits again
-abbrev pub IsRechecked : Planned → Board → ℕ → Bool → Type 0
-IsRechecked plan b line true = Holds plan b line
-IsRechecked plan b line false = Waits plan b line × IsLine b line × ((row_at b line).state ≡ Waiting)
-
--- a line that waits for its first attempt
-abbrev pub IsFresh : Board → ℕ → Type 0
-IsFresh b line = row_at b line ≡ opening_row 0
 
 -- nothing was sent back, and the lines from this one on wait for their first attempt
 pub record AreFresh (b : Board) (line : ℕ) : Type 0 where

@@ -94,7 +94,7 @@ choose = end
 take 0 1 = idle
 commit 1 = idle
 run 1 = output
-play on = driven to the end
+play on = output
 one thread = 
 id,name,class,blocked
 P1,Ann,A,N
@@ -118,7 +118,7 @@ journal 9999999998,C1,88,
 journal 9999999999,C1,09N20260320    09000020260320    090000APx|AOL1|ABI1|ACx|,
 
 take 0 9999999999 = taken 0
-play on = driven to the end
+play on = output 0 0 0
 one thread = 
 id,name,class,blocked
 P1,Ann,A,N

@@ -5,7 +5,9 @@ mod answer;
 mod comparing;
 mod field;
 mod item_ids;
+mod item_texts;
 mod laws;
+mod outcome;
 mod owed;
 mod writing;
 
@@ -17,6 +19,8 @@ pub use answer::{
 pub use comparing::{differences, is_own_text};
 pub use field::Field;
 pub use item_ids::ItemIds;
+pub use item_texts::ItemTexts;
 pub use laws::own_text_agrees;
+pub use outcome::{Outcome, ToldLoan};
 pub use owed::Owed;
 pub use writing::{put_answer, write_answer};

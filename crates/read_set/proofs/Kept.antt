@@ -1,6 +1,6 @@
 -- The meaning of a line keeps records coherent, and so does a replay.
 use Rattle.std.proofs.Common.{◌≡◌, ◌≤◌, ◌^◌, ◌+◌, ◌-◌, ℕ, zero, suc, List, [], ◌∷◌, Bool, true, false, cond, Option, Some, None, length, map, refl, subst, sym, ap, ◌∙◌, arith}
-use Rattle.std.specs.Prelude.{◌||◌, is_some, nat_lt, slice_get}
+use Rattle.std.specs.Prelude.{◌||◌, is_some, nat_lt, slice_get, unwrap_or}
 use Rattle.std.specs.List.{AllByRecursion}
 use Rattle.std.specs.Ordering.{is_eq}
 use Rattle.circ_policy.specs.Ranges.{FitsPolicy}
@@ -13,17 +13,21 @@ use Rattle.circ_records.specs.Texts.{is_same}
 use Rattle.circ_records.specs.declared.key.Key.{Key}
 use Rattle.circ_records.specs.declared.key.Key.TheVariants as keys
 use Rattle.circ_records.specs.declared.record.Record.{Record}
+use Rattle.sip_answer.specs.declared.outcome.Outcome.{Outcome}
 use Rattle.sip_reader.specs.Dates.{is_stamp}
 use Rattle.sip_reader.specs.declared.request.Act.{Act}
 use Rattle.sip_reader.specs.declared.request.Act.TheVariants as acts
 use Rattle.sip_reader.specs.declared.request.Reading.{Reading}
 use Rattle.sip_reader.specs.declared.request.Reading.TheVariants as readings
 use Rattle.read_set.specs.Asks.{over}
-use Rattle.read_set.specs.Coherence.{FitsAct, FitsPlan, FitsReading, HasFewItems, MeaningKeepsCoherence, ReplayKeepsCoherence}
+use Rattle.read_set.specs.Coherence.{FitsAct, FitsPlan, FitsReading, HasFewItems, HasFitOutcome, MeaningKeepsCoherence, ReplayKeepsCoherence}
 use Rattle.read_set.specs.Maps.{Map, put}
-use Rattle.read_set.specs.Meaning.{effect, one, rule, rule_of}
-use Rattle.read_set.specs.Plans.{Planned, reading_at}
+use Rattle.read_set.specs.AsRecorded.{followed}
+use Rattle.read_set.specs.Meaning.{effect, one, rule, rule_of, rule_with}
+use Rattle.read_set.specs.Plans.{Planned, outcome_at, reading_at}
 use Rattle.read_set.specs.Replay.{after, one_at, one_by}
+use Rattle.read_set.specs.declared.effect.Effect.{Effect}
+use Rattle.read_set.proofs.Following.{over_then}
 use Rattle.read_set.proofs.Keeping.{one-key}
 use Rattle.read_set.proofs.Lent.{checkout-keeps, renew-keeps}
 use Rattle.read_set.proofs.Line.{Line}
@@ -32,6 +36,7 @@ use Rattle.read_set.proofs.Paid.{payment-keeps}
 use Rattle.read_set.proofs.RenewedAll.{renew-all-keeps}
 use Rattle.read_set.proofs.Returned.{checkin-keeps}
 use Rattle.read_set.proofs.SimpleKinds.{block-keeps, hold-keeps, nothing, status-keeps}
+use Rattle.read_set.proofs.Told.{followed-keeps}
 use Rattle.read_set.proofs.States.{Parts, coherent-parts, parts-later}
 
 -- ONE LINE
@@ -44,24 +49,32 @@ unfolding rule_of
 act-keeps p n M line date (acts.BlockPatron q) stamp fits = block-keeps p (n + 1) true q.patron date M line.parts
 act-keeps p n M line date (acts.Checkin q) stamp fits = checkin-keeps p n M line q date
 act-keeps p n M line date (acts.Checkout q) stamp fits = checkout-keeps p n M line q date stamp fits
-act-keeps p n M line date (acts.Hold q) stamp fits = hold-keeps p (n + 1) q date M line.parts fits
+act-keeps p n M line date (acts.Hold q) stamp fits = hold-keeps p (n + 1) false q date M line.parts fits
 act-keeps p n M line date (acts.ItemStatus q) stamp fits = status-keeps p (n + 1) q date M line.parts fits
 act-keeps p n M line date (acts.PatronEnable q) stamp fits = block-keeps p (n + 1) false q.patron date M line.parts
 act-keeps p n M line date (acts.Renew q) stamp fits = renew-keeps p n M line q date stamp fits
 act-keeps p n M line date (acts.FeePaid q) stamp fits = payment-keeps p n M line q date
-act-keeps p n M line date (acts.RenewAll q) stamp fits = renew-all-keeps p n M line q date stamp
+act-keeps p n M line date (acts.RenewAll q) stamp fits = renew-all-keeps p n M line None q date stamp
 
-line-keeps : (p : Terms) (n : ℕ) (M : Map) → Line p n M → (r : Reading) → FitsReading r → Parts p (n + 1) M (put (effect p n r M).writes M)
+with-keeps : (p : Terms) (n : ℕ) (M : Map) → Line p n M → (date : List ℕ) (act : Act) (o : Option Outcome) → is_stamp date ≡ true → FitsAct act → HasFitOutcome o
+    → Parts p (n + 1) M (put (over M (rule_with p n date act o)).writes M)
+unfolding rule_with
+with-keeps p n M line date act None stamp fits told = act-keeps p n M line date act stamp fits
+with-keeps p n M line date act (Some o) stamp fits told =
+    subst (λ (x : Effect). Parts p (n + 1) M (put x.writes M)) (sym (over_then M (rule_of p n date act) (followed p n date act o)))
+    (followed-keeps p n M line date stamp act o (over M (rule_of p n date act)) fits told (act-keeps p n M line date act stamp fits))
+
+line-keeps : (p : Terms) (n : ℕ) (M : Map) → Line p n M → (r : Reading) (o : Option Outcome) → FitsReading r → HasFitOutcome o → Parts p (n + 1) M (put (effect p n r o M).writes M)
 unfolding rule
-line-keeps p n M line (readings.Asked q) fits = act-keeps p n M line q.date q.act fits.0 fits.1
-line-keeps p n M line readings.BadSum fits = nothing p (n + 1) M line.parts
-line-keeps p n M line (readings.Passed why) fits = nothing p (n + 1) M line.parts
-line-keeps p n M line (readings.Unread why) fits = nothing p (n + 1) M line.parts
+line-keeps p n M line (readings.Asked q) o fits told = with-keeps p n M line q.date q.act o fits.0 fits.1 told
+line-keeps p n M line readings.BadSum o fits told = nothing p (n + 1) M line.parts
+line-keeps p n M line (readings.Passed why) o fits told = nothing p (n + 1) M line.parts
+line-keeps p n M line (readings.Unread why) o fits told = nothing p (n + 1) M line.parts
 
 pub meaning-keeps : MeaningKeepsCoherence
-meaning-keeps p n r M policy fits low few h =
-    let parts = line-keeps p n M (line-begins p n M policy low few h) r fits in
-    (coherent-parts p (n + 1) M (one p n r M).0 parts, parts.few, parts.kinds)
+meaning-keeps p n r o M policy fits told low few h =
+    let parts = line-keeps p n M (line-begins p n M policy low few h) r o fits told in
+    (coherent-parts p (n + 1) M (one p n r o M).0 parts, parts.few, parts.kinds)
 
 -- ALL LINES
 
@@ -101,6 +114,12 @@ fits-reading plan fits line r e = by (nat_lt line plan.first) e
     by true g = cc g
     by false g = fits-at plan.readings (line - plan.first) r fits.readings g
 
+-- so does each outcome
+told-at : (os : List (Option Outcome)) (i : ℕ) → AllByRecursion HasFitOutcome os → HasFitOutcome (unwrap_or (slice_get os i) None)
+told-at [] i all = tt
+told-at (o ∷ os) zero all = all.0
+told-at (o ∷ os) (suc i) all = told-at os i all.1
+
 record Stands (plan : Planned) (line : ℕ) (M : Map) : Type 0 where
   coherent : IsCoherentMap plan.policy line M
   kinds : AreOfKind (record_at plan.base) → AreOfKind M
@@ -109,7 +128,7 @@ record Stands (plan : Planned) (line : ℕ) (M : Map) : Type 0 where
 step-by : (plan : Planned) → FitsPlan plan → (line : ℕ) (M : Map) → Stands plan line M → line ≤ 9999999999 → (o : Option Reading) → reading_at plan line ≡ o → Stands plan (line + 1) (one_by plan line o M).0
 step-by plan fits line M h low None e = record { coherent = coherent-parts plan.policy (line + 1) M M (parts-later plan.policy line M h.coherent h.few); kinds = h.kinds; few = h.few }
 step-by plan fits line M h low (Some r) e =
-    let kept = meaning-keeps plan.policy line r M fits.policy (fits-reading plan fits line r e) low h.few h.coherent in
+    let kept = meaning-keeps plan.policy line r (outcome_at plan line) M fits.policy (fits-reading plan fits line r e) (told-at plan.outcomes (line - plan.first) fits.outcomes) low h.few h.coherent in
     record { coherent = kept.0; kinds = λ base. kept.2 (h.kinds base); few = kept.1 }
 
 stands-after : (plan : Planned) → FitsPlan plan → (n : ℕ) → n ≤ length plan.readings → Stands plan (plan.first + n) (after plan n)

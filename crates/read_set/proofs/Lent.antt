@@ -21,7 +21,7 @@ use Rattle.read_set.specs.Coherence.{IsDay}
 use Rattle.read_set.specs.Fees.{fee_made}
 use Rattle.read_set.specs.Ids.{same, without}
 use Rattle.read_set.specs.Known.{item_in, patron_in}
-use Rattle.read_set.specs.Checkouts.{checkout, checkout_rule, checkout_rule_known, loan_ended, loan_ended_by, lending_made, lending_of, lending_patron, lending_records, lending_rule, lending_rule_by, lending_tests, lending_writes, lent, other_at}
+use Rattle.read_set.specs.Checkouts.{checkout, checkout_rule_for, checkout_rule_known, loan_ended, loan_ended_by, lending_made, lending_of, lending_patron, lending_records, lending_rule, lending_rule_by, lending_tests, lending_writes, lent, other_at}
 use Rattle.read_set.specs.Loans.{by_checkout, by_renew, charge_for, due_for, lent_to, refused}
 use Rattle.read_set.specs.Renewals.{renew, renew_rule, renew_rule_known, renewal_rule}
 use Rattle.read_set.specs.Lookups.{item_at, patron_at}
@@ -36,7 +36,7 @@ use Rattle.read_set.specs.declared.verdict.Verdict.TheVariants as verdicts
 use Rattle.read_set.proofs.Following.{over_all, over_either, over_then}
 use Rattle.read_set.proofs.IdLists.{same-is, same-turned}
 use Rattle.read_set.proofs.KnownParts.{article-known, article-there, known-member, member-known, member-there}
-use Rattle.read_set.proofs.Line.{Line, charge-most, due-day, put-three, renewal-keeps}
+use Rattle.read_set.proofs.Line.{FitsAsked, Line, charge-most, due-day, put-three, renewal-keeps}
 use Rattle.read_set.proofs.Listing.{IsListed, listed-less, listed-more, set-other, set-same, set-there, set-twice, set_at}
 use Rattle.read_set.proofs.MapParts.{borrower_of, fees_of, lent_by, loans_of, owed_by, put_one, puts, sound-in}
 use Rattle.read_set.proofs.OneRecord.{lent-at, listed-made, put-made, same-fees, same-patron}
@@ -146,7 +146,7 @@ lending-writes p n M line a due charge member article day most e f =
         (subst (λ (x : List ℕ → Option (List (List ℕ))). IsListed x (lent_by M)) (sym (set-same a.patron (Some member.patron.loans) (loans_of M) own)) line.parts.loans))
     by (Some loan) l = lent-to loan l (same loan.patron a.patron) refl
 
-pub lending-keeps : (p : Terms) (n : ℕ) (M : Map) → Line p n M → (a : LoanRequest) (date : List ℕ) (member : Member) (article : Article) → is_stamp date ≡ true → IfSome a.given IsDay
+pub lending-keeps : (p : Terms) (n : ℕ) (M : Map) → Line p n M → (a : LoanRequest) (date : List ℕ) (member : Member) (article : Article) → is_stamp date ≡ true → FitsAsked a
     → patron_in p M a.patron ≡ Some member → item_in p M a.item ≡ Some article → Parts p (n + 1) M (put (over M (lending_rule p n a date member article)).writes M)
 unfolding refused lending_made lending_of lending_rule
 lending-keeps p n M line a date member article stamp fits e f =
@@ -159,7 +159,7 @@ lending-keeps p n M line a date member article stamp fits e f =
         let there = article-there p M a.item article f in
         let terms : FitsMedia article.media = line.policy article.item.media article.media there.1 in
         subst (λ (x : Effect). Parts p (n + 1) M (put x.writes M)) (sym (over_then M (other_at p a.patron article.item.loan) (λ other. Give (lending_made p n a date member article other))))
-        (lending-writes p n M line a (due_for p a date article.media) (charge_for a article.media) member article (due-day p a date article.media stamp terms.days fits) (charge-most a article.media terms.rental)
+        (lending-writes p n M line a (due_for p a date article.media) (charge_for a article.media) member article (due-day p a date article.media stamp terms.days fits.0) (charge-most a article.media fits.1 terms.rental)
         (member-there p M a.patron member e) there.0)
 
 -- THE TWO REQUESTS
@@ -172,18 +172,29 @@ renew-keeps p n M line q date stamp fits = by (patron_in p M q.patron) refl (ite
     by None e None f = nothing p (n + 1) M line.parts
     by None e (Some article) f = nothing p (n + 1) M line.parts
     by (Some member) e None f = nothing p (n + 1) M line.parts
-    by (Some member) e (Some article) f = renewal-keeps p n M line (by_renew q) date member article stamp fits e f
+    by (Some member) e (Some article) f = renewal-keeps p n M line (by_renew q) date member article stamp (fits, tt) e f
 
-pub checkout-keeps : (p : Terms) (n : ℕ) (M : Map) → Line p n M → (q : Checkout) (date : List ℕ) → is_stamp date ≡ true → IfSome q.due IsDay → Parts p (n + 1) M (put (checkout p n q date M).writes M)
-unfolding refused checkout_rule patron_at item_at
-checkout-keeps p n M line q date stamp fits = by (patron_in p M q.patron) refl (item_in p M q.item) refl
+-- a checkout's rule for any loan that is asked for
+pub checkout-for-keeps : (p : Terms) (n : ℕ) (M : Map) → Line p n M → (renewal : Bool) (a : LoanRequest) (date : List ℕ) → is_stamp date ≡ true → FitsAsked a → Parts p (n + 1) M (put (over M (checkout_rule_for p n renewal a date)).writes M)
+unfolding refused checkout_rule_for patron_at item_at
+checkout-for-keeps p n M line renewal a date stamp fits = by (patron_in p M a.patron) refl (item_in p M a.item) refl
   where
-    by : (o : Option Member) → patron_in p M q.patron ≡ o → (x : Option Article) → item_in p M q.item ≡ x → Parts p (n + 1) M (put (over M (checkout_rule_known p n q date o x)).writes M)
+    by : (o : Option Member) → patron_in p M a.patron ≡ o → (x : Option Article) → item_in p M a.item ≡ x → Parts p (n + 1) M (put (over M (checkout_rule_known p n renewal a date o x)).writes M)
     by None e None f = nothing p (n + 1) M line.parts
     by None e (Some article) f = nothing p (n + 1) M line.parts
     by (Some member) e None f = nothing p (n + 1) M line.parts
     by (Some member) e (Some article) f =
-        over_either M (q.renewal && lent_to q.patron article.item.loan) (renewal_rule p n (by_checkout q) date member article) (lending_rule p n (by_checkout q) date member article)
+        over_either M (renewal && lent_to a.patron article.item.loan) (renewal_rule p n a date member article) (lending_rule p n a date member article)
         (λ (x : Effect). Parts p (n + 1) M (put x.writes M))
-        (λ t. renewal-keeps p n M line (by_checkout q) date member article stamp fits e f)
-        (λ t. lending-keeps p n M line (by_checkout q) date member article stamp fits e f)
+        (λ t. renewal-keeps p n M line a date member article stamp fits e f)
+        (λ t. lending-keeps p n M line a date member article stamp fits e f)
+
+pub fits-checkout : (q : Checkout) → IfSome q.due IsDay → FitsAsked (by_checkout q)
+fits-checkout q fits = (fits, by q.cancel)
+  where
+    by : (b : Bool) → IfSome (cond b (Some 0) None) (λ x. x ≤ 99999999999)
+    by true = omega arith
+    by false = tt
+
+pub checkout-keeps : (p : Terms) (n : ℕ) (M : Map) → Line p n M → (q : Checkout) (date : List ℕ) → is_stamp date ≡ true → IfSome q.due IsDay → Parts p (n + 1) M (put (checkout p n q date M).writes M)
+checkout-keeps p n M line q date stamp fits = checkout-for-keeps p n M line q.renewal (by_checkout q) date stamp (fits-checkout q fits)

@@ -13,6 +13,7 @@ pub mod MapParts
 pub mod More
 pub mod Numbers
 pub mod OneRecord
+mod OutcomeLists
 pub mod Overs
 pub mod Paid
 pub mod PlanFits
@@ -24,3 +25,4 @@ pub mod Returned
 pub mod Rising
 pub mod SimpleKinds
 pub mod States
+pub mod Told

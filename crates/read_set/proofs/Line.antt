@@ -1,5 +1,5 @@
 -- What a line begins with, and renewals: they keep records coherent.
-use Rattle.std.proofs.Common.{◌≡◌, ◌≤◌, ◌<◌, ◌^◌, ◌+◌, ℕ, List, [], ◌∷◌, ◌++◌, Bool, true, false, cond, Option, Some, None, refl, subst, sym, ap, ◌∙◌, arith}
+use Rattle.std.proofs.Common.{◌≡◌, ◌≤◌, ◌<◌, ◌^◌, ◌+◌, ℕ, List, [], ◌∷◌, ◌++◌, Bool, true, false, cond, Option, Some, None, refl, subst, sym, ap, ◌∙◌, arith, unwrap_or}
 use Rattle.std.specs.Prelude.{IfSome, nat_lt}
 use Rattle.std.proofs.lemmas.Bool.{ltb-true}
 use Rattle.circ_policy.specs.Due.{due_day}
@@ -64,13 +64,17 @@ due-day p a date media stamp days fits = by a.given a.forced fits
     by (Some day) true f = f
     by (Some day) false f = due-real p date media stamp days
 
+-- the day that a request names is a day, and its price an amount
+abbrev pub FitsAsked : LoanRequest → Type 0
+FitsAsked a = IfSome a.given IsDay × IfSome a.price (λ x. x ≤ 99999999999)
+
 -- what is charged is an amount
-pub charge-most : (a : LoanRequest) (media : Media) → media.rental ≤ 99999999999 → charge_for a media ≤ 99999999999
-charge-most a media h = by a.free
+pub charge-most : (a : LoanRequest) (media : Media) → IfSome a.price (λ x. x ≤ 99999999999) → media.rental ≤ 99999999999 → charge_for a media ≤ 99999999999
+charge-most a media fits h = by a.price fits
   where
-    by : (b : Bool) → cond b 0 media.rental ≤ 99999999999
-    by true = omega arith
-    by false = h
+    by : (o : Option ℕ) → IfSome o (λ x. x ≤ 99999999999) → unwrap_or o media.rental ≤ 99999999999
+    by None f = h
+    by (Some x) f = f
 
 -- THE PATRON WHO IS CHARGED
 
@@ -137,7 +141,7 @@ renewal-writes p n M line a due charge member article day most e f =
     (subst (λ (x : List ℕ → Option (List ℕ)). IsListed (loans_of M) x) (sym (ap (λ b. set_at a.item b (lent_by M)) (same-renewed due article.item.loan) ∙ same-borrower M a.item article.item f)) line.parts.loans)
     (listed-made n 0 a.patron charge (fees_of M) (owed_by M) member.patron.fees line.parts.fees (fees-at M a.patron member.patron e) (line.free 0 (omega arith))))
 
-pub renewal-keeps : (p : Terms) (n : ℕ) (M : Map) → Line p n M → (a : LoanRequest) (date : List ℕ) (member : Member) (article : Article) → is_stamp date ≡ true → IfSome a.given IsDay
+pub renewal-keeps : (p : Terms) (n : ℕ) (M : Map) → Line p n M → (a : LoanRequest) (date : List ℕ) (member : Member) (article : Article) → is_stamp date ≡ true → FitsAsked a
     → patron_in p M a.patron ≡ Some member → item_in p M a.item ≡ Some article → Parts p (n + 1) M (put (over M (renewal_rule p n a date member article)).writes M)
 unfolding refused renewal_made renewal_rule
 renewal-keeps p n M line a date member article stamp fits e f =
@@ -149,5 +153,5 @@ renewal-keeps p n M line a date member article stamp fits e f =
     by verdicts.Made =
         let there = article-there p M a.item article f in
         let terms : FitsMedia article.media = line.policy article.item.media article.media there.1 in
-        renewal-writes p n M line a (due_for p a date article.media) (charge_for a article.media) member article (due-day p a date article.media stamp terms.days fits) (charge-most a article.media terms.rental)
+        renewal-writes p n M line a (due_for p a date article.media) (charge_for a article.media) member article (due-day p a date article.media stamp terms.days fits.0) (charge-most a article.media fits.1 terms.rental)
         (member-there p M a.patron member e) there.0

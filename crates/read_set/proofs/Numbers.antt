@@ -1,11 +1,13 @@
 -- The plan of a journal's readings.
-use Rattle.std.proofs.Common.{◌≡◌, ◌∙◌, ℕ, List, [], ◌∷◌, map, refl, ap}
+use Rattle.std.proofs.Common.{◌≡◌, ◌∙◌, ℕ, List, [], ◌∷◌, Option, map, refl, ap}
 use Rattle.std.specs.Prelude.{unwrap_or}
 use Rattle.circ_policy.specs.Terms.{Terms}
 use Rattle.circ_records.specs.Records.{Entries}
 use Rattle.journal_table.specs.Entry.{Entry, first_number}
 use Rattle.journal_table.specs.Readings.{first_read, readings_of, requests_read, reading_at}
-use Rattle.read_set.specs.Plans.{Planned, plan_of, plan_read}
+use Rattle.read_set.specs.Plans.{Planned, outcomes_of, plan_of, plan_read}
+use Rattle.read_set.specs.declared.way.Way.{Way}
+use Rattle.sip_answer.specs.declared.outcome.Outcome.{Outcome}
 use Rattle.sip_reader.specs.Reading.{reading}
 use Rattle.sip_reader.specs.declared.request.Reading.{Reading}
 
@@ -17,12 +19,13 @@ readings-same : (lines : List Entry) → map reading_at (readings_of lines) ≡ 
 readings-same [] = refl
 readings-same (line ∷ rest) = ap (λ rs. reading_at (record { number = line.number; reading = reading line.request }) ∷ rs) (readings-same rest)
 
-planned : Terms → Entries → ℕ → List Reading → Planned
-planned policy base first readings = record { policy = policy; base = base; first = first; readings = readings }
+planned : Terms → Entries → List (Option Outcome) → ℕ → List Reading → Planned
+planned policy base outcomes first readings = record { policy = policy; base = base; first = first; readings = readings; outcomes = outcomes }
 
 -- of a journal's readings the plan is the journal's
-pub plan-same : (policy : Terms) (base : Entries) (lines : List Entry) → plan_read policy base (readings_of lines) ≡ plan_of policy base lines
+pub plan-same : (way : Way) (policy : Terms) (base : Entries) (lines : List Entry) → plan_read policy base (readings_of lines) (outcomes_of way policy.due_form lines) ≡ plan_of way policy base lines
 unfolding planned
-plan-same policy base lines =
-    ap (λ first. planned policy base (unwrap_or first 10000000000) (map reading_at (readings_of lines))) (first-same lines)
-    ∙ ap (planned policy base (unwrap_or (first_number lines) 10000000000)) (readings-same lines)
+plan-same way policy base lines =
+    let told = outcomes_of way policy.due_form lines in
+    ap (λ first. planned policy base told (unwrap_or first 10000000000) (map reading_at (readings_of lines))) (first-same lines)
+    ∙ ap (planned policy base told (unwrap_or (first_number lines) 10000000000)) (readings-same lines)

@@ -1,6 +1,6 @@
 -- Lines that write at most one record: blocks, item statuses and holds keep records coherent.
 use Rattle.std.proofs.Common.{◌≡◌, ◌≤◌, ◌<◌, ◌+◌, ℕ, List, [], ◌∷◌, ◌++◌, Bool, true, false, cond, Option, Some, None, length, refl, subst, sym, ap, ◌∙◌, arith}
-use Rattle.std.specs.Prelude.{◌||◌, IfSome, nat_le}
+use Rattle.std.specs.Prelude.{◌||◌, ◌&&◌, not, IfSome, nat_le}
 use Rattle.std.specs.List.{list_all}
 use Rattle.std.proofs.lemmas.Bool.{and_from, leb-false}
 use Rattle.circ_policy.specs.Terms.{Terms}
@@ -144,24 +144,24 @@ pub either-keeps : (p : Terms) (n : ℕ) (M : Map) (b : Bool) (x y : Effect) →
 either-keeps p n M true x y h k = h refl
 either-keeps p n M false x y h k = k refl
 
-pub hold-keeps : (p : Terms) (n : ℕ) (q : HoldRequest) (date : List ℕ) (M : Map) → Parts p n M M → is_text q.pickup ≡ true → Parts p n M (put (hold p q date M).writes M)
+pub hold-keeps : (p : Terms) (n : ℕ) (forced : Bool) (q : HoldRequest) (date : List ℕ) (M : Map) → Parts p n M M → is_text q.pickup ≡ true → Parts p n M (put (hold p forced q date M).writes M)
 unfolding held hold_kept hold_rule patron_at item_at
-hold-keeps p n q date M h text = by (patron_in p M q.patron) refl (item_in p M q.item) refl
+hold-keeps p n forced q date M h text = by (patron_in p M q.patron) refl (item_in p M q.item) refl
   where
-    kept : (member : Member) (article : Article) → patron_in p M q.patron ≡ Some member → item_in p M q.item ≡ Some article → refuses_hold q.mode q.patron member.patron.blocked article.item ≡ false
+    kept : (member : Member) (article : Article) → patron_in p M q.patron ≡ Some member → item_in p M q.item ≡ Some article → refuses_hold q.mode q.patron (not forced && member.patron.blocked) article.item ≡ false
         → Parts p n M (put (hold_kept p q date article.item (queue_after q article.item.holds q.mode)).writes M)
     kept member article e f made =
         let there = (article-there p M q.item article f).0 in
         let changed = record article.item { holds = queue_after q article.item.holds q.mode } in
         subst (λ (N : Map). Parts p n M N) (sym (put-single (keys.Item q.item) (records.Item changed) M))
         (keeps-borrower p n M h q.item article.item changed there
-        (queue-right p M q article.item q.mode member.patron.blocked (h.sound.at (keys.Item q.item) (records.Item article.item) there)
+        (queue-right p M q article.item q.mode (not forced && member.patron.blocked) (h.sound.at (keys.Item q.item) (records.Item article.item) there)
         (member-known M q.patron member.patron (member-there p M q.patron member e)) text made) refl)
 
-    by : (o : Option Member) → patron_in p M q.patron ≡ o → (a : Option Article) → item_in p M q.item ≡ a → Parts p n M (put (held p q date o a).writes M)
+    by : (o : Option Member) → patron_in p M q.patron ≡ o → (a : Option Article) → item_in p M q.item ≡ a → Parts p n M (put (held p forced q date o a).writes M)
     by None e None f = nothing p n M h
     by None e (Some article) f = nothing p n M h
     by (Some member) e None f = nothing p n M h
     by (Some member) e (Some article) f =
-        either-keeps p n M (refuses_hold q.mode q.patron member.patron.blocked article.item) _ (hold_kept p q date article.item (queue_after q article.item.holds q.mode))
+        either-keeps p n M (refuses_hold q.mode q.patron (not forced && member.patron.blocked) article.item) _ (hold_kept p q date article.item (queue_after q article.item.holds q.mode))
         (λ r. nothing p n M h) (kept member article e f)

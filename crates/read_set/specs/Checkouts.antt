@@ -1,5 +1,5 @@
 -- Checkout (SIP 2.00, message 11), by the circulation rules: checkout.
-use Rattle.std.specs.Prelude.{ℕ, false, ◌&&◌, nat_le, List, [], ◌∷◌, ◌++◌, length, Option, Some, None, if◌then◌else◌}
+use Rattle.std.specs.Prelude.{ℕ, Bool, false, ◌&&◌, nat_le, List, [], ◌∷◌, ◌++◌, length, Option, Some, None, if◌then◌else◌}
 use Rattle.circ_policy.specs.Terms.{Terms}
 use Rattle.circ_records.specs.Records.{Entries}
 use Rattle.circ_records.specs.declared.key.Key.TheVariants as keys
@@ -93,19 +93,22 @@ lending_rule p n a date member article = do
   verdict ← lending_tests a member article
   lending_rule_by p n a date member article verdict
 
--- a checkout of what is on loan to the same patron is a renewal, where the terminal allows it
-abbrev pub checkout_rule_known : Terms → ℕ → Checkout → List ℕ → Option Member → Option Article → Asks Effect
-checkout_rule_known p n q date (Some member) (Some article) =
-    if q.renewal && lent_to q.patron article.item.loan then renewal_rule p n (by_checkout q) date member article
-    else lending_rule p n (by_checkout q) date member article
-checkout_rule_known p n q date _ article = Give (refused p (by_checkout q) date article 0)
+-- a checkout of what is on loan to the same patron is a renewal, where the terminal allows it (SC renewal policy)
+abbrev pub checkout_rule_known : Terms → ℕ → Bool → LoanRequest → List ℕ → Option Member → Option Article → Asks Effect
+checkout_rule_known p n renewal a date (Some member) (Some article) =
+    if renewal && lent_to a.patron article.item.loan then renewal_rule p n a date member article
+    else lending_rule p n a date member article
+checkout_rule_known p n renewal a date _ article = Give (refused p a date article 0)
 
 -- asks for the patron, then for the item, then for the fees where they matter, then for the other patron whose loan ends
-unfoldable pub checkout_rule : Terms → ℕ → Checkout → List ℕ → Asks Effect
-checkout_rule p n q date = do
-  patron ← patron_at p q.patron
-  item ← item_at p q.item
-  checkout_rule_known p n q date patron item
+unfoldable pub checkout_rule_for : Terms → ℕ → Bool → LoanRequest → List ℕ → Asks Effect
+checkout_rule_for p n renewal a date = do
+  patron ← patron_at p a.patron
+  item ← item_at p a.item
+  checkout_rule_known p n renewal a date patron item
+
+abbrev pub checkout_rule : Terms → ℕ → Checkout → List ℕ → Asks Effect
+checkout_rule p n q date = checkout_rule_for p n q.renewal (by_checkout q) date
 
 abbrev pub checkout : Terms → ℕ → Checkout → List ℕ → Map → Effect
 checkout p n q date M = over M (checkout_rule p n q date)

@@ -1,6 +1,6 @@
 -- The meaning of a line keeps records coherent (circulation rules, records of any moment): what a line leaves of coherent records is coherent
 -- before the next line, the ids of the fees that it made included.
-use Rattle.std.specs.Prelude.{◌≡◌, ◌≤◌, ◌+◌, ◌^◌, ℕ, true, List, length, Some, Ok, IfSome, is_some}
+use Rattle.std.specs.Prelude.{◌≡◌, ◌≤◌, ◌+◌, ◌^◌, ℕ, true, List, length, Some, Ok, IfSome, is_some, Option}
 use Rattle.std.specs.List.{AllByRecursion}
 use Rattle.circ_policy.specs.Ranges.{FitsPolicy}
 use Rattle.circ_policy.specs.Reading.{policy_of}
@@ -10,6 +10,8 @@ use Rattle.circ_records.specs.Records.{Entries, record_at}
 use Rattle.circ_records.specs.declared.key.Key.TheVariants as keys
 use Rattle.journal_table.specs.Entry.{Entry, first_number}
 use Rattle.journal_table.specs.Journal.{journal_of}
+use Rattle.sip_answer.specs.Outcomes.{FitsOutcome}
+use Rattle.sip_answer.specs.declared.outcome.Outcome.{Outcome}
 use Rattle.sip_reader.specs.Dates.{is_stamp}
 use Rattle.sip_reader.specs.Days.{day_at}
 use Rattle.sip_reader.specs.Texts.{is_text, line_number_end, line_number_max}
@@ -21,6 +23,7 @@ use Rattle.read_set.specs.Maps.{Map}
 use Rattle.read_set.specs.Meaning.{one}
 use Rattle.read_set.specs.Plans.{Planned, plan_of}
 use Rattle.read_set.specs.Replay.{before, last}
+use Rattle.read_set.specs.declared.way.Way.{Way}
 
 -- the number of a real day of the years 1900 to 9999
 abbrev pub IsDay : ℕ → Type 0
@@ -39,20 +42,26 @@ abbrev pub FitsReading : Reading → Type 0
 FitsReading (readings.Asked q) = (is_stamp q.date ≡ true) × FitsAct q.act
 FitsReading r = Unit {0}
 
+-- what holds of each line's outcome, if it has one
+abbrev pub HasFitOutcome : Option Outcome → Type 0
+HasFitOutcome o = IfSome o FitsOutcome
+
 -- there are at most 2^64 items (a list that names them all has no more), so no line makes more fees than that
 abbrev pub HasFewItems : Map → Type 0
 HasFewItems M = (ids : List (List ℕ)) × (length ids ≤ 2 ^ 64) × ((id : List ℕ) → is_some (as_item (M (keys.Item id))) ≡ true → has_id id ids ≡ true)
 
 -- if the records before line n are coherent, those after it are coherent before line n + 1; where all are of their keys' kinds, they stay so
 abbrev pub MeaningKeepsCoherence : Type 0
-MeaningKeepsCoherence = (policy : Terms) (n : ℕ) (r : Reading) (M : Map) → FitsPolicy policy → FitsReading r → n ≤ line_number_max
-    → HasFewItems M → IsCoherentMap policy n M → IsCoherentMap policy (n + 1) (one policy n r M).0 × HasFewItems (one policy n r M).0 × (AreOfKind M → AreOfKind (one policy n r M).0)
+MeaningKeepsCoherence = (policy : Terms) (n : ℕ) (r : Reading) (o : Option Outcome) (M : Map) → FitsPolicy policy → FitsReading r → IfSome o FitsOutcome
+    → n ≤ line_number_max → HasFewItems M → IsCoherentMap policy n M
+    → IsCoherentMap policy (n + 1) (one policy n r o M).0 × HasFewItems (one policy n r o M).0 × (AreOfKind M → AreOfKind (one policy n r o M).0)
 
--- what a plan's type promises: policy and readings fit, the base has at most 2^64 records and is coherent at the number of the first line, and no line has a
+-- what a plan's type promises: policy, readings and outcomes fit, the base has at most 2^64 records and is coherent at the number of the first line, and no line has a
 -- number of more than ten digits
 pub record FitsPlan (plan : Planned) : Type 0 where
   pub policy : FitsPolicy plan.policy
   pub readings : AllByRecursion FitsReading plan.readings
+  pub outcomes : AllByRecursion HasFitOutcome plan.outcomes
   pub base : Coherent plan.policy plan.first plan.base
   pub few : length plan.base ≤ 2 ^ 64
   pub last : plan.first + length plan.readings ≤ line_number_end
@@ -69,5 +78,5 @@ ReplayKeepsCoherence = (plan : Planned) → FitsPlan plan → StaysCoherent plan
 
 -- it also holds for the plan of this base with any policy and journal that were read, where the base is coherent before the journal's first line
 abbrev pub ReadPlansStayCoherent : Entries → Type 0
-ReadPlansStayCoherent base = (text bytes : List ℕ) (policy : Terms) (lines : List Entry) → policy_of text ≡ Ok policy → journal_of bytes ≡ Ok lines
-    → Coherent policy (number_before (first_number lines)) base → StaysCoherent (plan_of policy base lines)
+ReadPlansStayCoherent base = (way : Way) (text bytes : List ℕ) (policy : Terms) (lines : List Entry) → policy_of text ≡ Ok policy → journal_of bytes ≡ Ok lines
+    → Coherent policy (number_before (first_number lines)) base → StaysCoherent (plan_of way policy base lines)

@@ -71,17 +71,17 @@ hold_known p q date blocked item =
     if refuses_hold q.mode q.patron blocked item then unwritten (Some (hold_answer p q date (Some item.title) false false None))
     else hold_kept p q date item (queue_after q item.holds q.mode)
 
--- an unknown patron or item is refused
-unfoldable pub held : Terms → HoldRequest → List ℕ → Option Member → Option Article → Effect
-held p q date (Some member) (Some article) = hold_known p q date member.patron.blocked article.item
-held p q date _ article = unwritten (Some (hold_answer p q date (option_map (λ a. a.item.title) article) false false None))
+-- An unknown patron or item is refused. By the rules no hold is forced; that the patron is blocked doesn't count for one that is.
+unfoldable pub held : Terms → Bool → HoldRequest → List ℕ → Option Member → Option Article → Effect
+held p forced q date (Some member) (Some article) = hold_known p q date (not forced && member.patron.blocked) article.item
+held p forced q date _ article = unwritten (Some (hold_answer p q date (option_map (λ a. a.item.title) article) false false None))
 
 -- asks for the patron, then for the item
-unfoldable pub hold_rule : Terms → HoldRequest → List ℕ → Asks Effect
-hold_rule p q date = do
+unfoldable pub hold_rule : Terms → Bool → HoldRequest → List ℕ → Asks Effect
+hold_rule p forced q date = do
   patron ← patron_at p q.patron
   item ← item_at p q.item
-  Give (held p q date patron item)
+  Give (held p forced q date patron item)
 
-abbrev pub hold : Terms → HoldRequest → List ℕ → Map → Effect
-hold p q date M = over M (hold_rule p q date)
+abbrev pub hold : Terms → Bool → HoldRequest → List ℕ → Map → Effect
+hold p forced q date M = over M (hold_rule p forced q date)

@@ -1,3 +1,4 @@
+pub mod AsRecorded
 pub mod Asks
 pub mod Blocks
 pub mod Checkins

@@ -1,5 +1,5 @@
 -- What checkouts and renewals have in common: what is asked for, who has the item, the due day and the charge, the answers.
-use Rattle.std.specs.Prelude.{ℕ, Bool, true, false, ◌||◌, nat_lt, List, Option, Some, None, option_map, if◌then◌else◌}
+use Rattle.std.specs.Prelude.{ℕ, Bool, true, false, ◌||◌, nat_lt, List, Option, Some, None, option_map, unwrap_or, if◌then◌else◌}
 use Rattle.circ_policy.specs.Due.{due_day}
 use Rattle.circ_policy.specs.Terms.{Terms}
 use Rattle.circ_policy.specs.declared.media.Media.{Media}
@@ -22,11 +22,11 @@ use Rattle.read_set.specs.declared.verdict.LoanRequest.{LoanRequest}
 
 -- a checkout is forced where no block is Y or BI is Y, and with BI Y no rental is charged; it allows no third party
 abbrev pub by_checkout : Checkout → LoanRequest
-by_checkout q = record { patron = q.patron; item = q.item; third_party = false; forced = q.no_block || q.cancel; given = q.due; agreed = q.agreed; free = q.cancel; checkout = true }
+by_checkout q = record { patron = q.patron; item = q.item; third_party = false; forced = q.no_block || q.cancel; given = q.due; agreed = q.agreed; price = if q.cancel then Some 0 else None; checkout = true }
 
 -- a renewal is forced where no block is Y
 abbrev pub by_renew : Renew → LoanRequest
-by_renew q = record { patron = q.patron; item = q.item; third_party = q.third_party; forced = q.no_block; given = q.due; agreed = q.agreed; free = false; checkout = false }
+by_renew q = record { patron = q.patron; item = q.item; third_party = q.third_party; forced = q.no_block; given = q.due; agreed = q.agreed; price = None; checkout = false }
 
 -- the due day: a date that a forced request gives, even if not an open day; else by the policy
 abbrev pub given_or : Bool → Option ℕ → ℕ → ℕ
@@ -36,9 +36,9 @@ given_or forced (Some given) day = if forced then given else day
 unfoldable pub due_for : Terms → LoanRequest → List ℕ → Media → ℕ
 due_for p a date media = given_or a.forced a.given (due_day p (day_of date) media)
 
--- what is charged
+-- what is charged: the price that the request names, else the media type's rental
 abbrev pub charge_for : LoanRequest → Media → ℕ
-charge_for a media = if a.free then 0 else media.rental
+charge_for a media = unwrap_or a.price media.rental
 
 -- WHO HAS THE ITEM (the item alone decides)
 

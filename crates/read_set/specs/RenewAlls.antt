@@ -1,9 +1,10 @@
 -- Renew All (SIP 2.00, message 65), by the circulation rules: renew all.
-use Rattle.std.specs.Prelude.{ℕ, Bool, true, false, nat_lt, ◌+◌, List, [], ◌∷◌, ◌++◌, Option, Some, None, if◌then◌else◌}
+use Rattle.std.specs.Prelude.{ℕ, Bool, true, false, not, ◌&&◌, nat_lt, ◌+◌, List, [], ◌∷◌, ◌++◌, Option, Some, None, is_some, filter, if◌then◌else◌}
 use Rattle.circ_policy.specs.Terms.{Terms}
 use Rattle.circ_records.specs.declared.key.Key.TheVariants as keys
 use Rattle.circ_records.specs.declared.record.FeeType.TheVariants as fee_types
 use Rattle.circ_records.specs.declared.record.Record.TheVariants as records
+use Rattle.sip_answer.specs.Outcomes.{names_item}
 use Rattle.sip_answer.specs.declared.answer.Answer.{Answer}
 use Rattle.sip_answer.specs.declared.answer.Answer.TheVariants as answers
 use Rattle.sip_reader.specs.declared.request.RenewAll.{RenewAll}
@@ -11,7 +12,7 @@ use Rattle.read_set.specs.Asks.{Asks, Give, over, ◌>>=◌}
 use Rattle.read_set.specs.Effects.{unwritten, ◌⊕◌}
 use Rattle.read_set.specs.Fees.{fee_made, with_fee}
 use Rattle.read_set.specs.Known.{as_article}
-use Rattle.read_set.specs.Loans.{due_for}
+use Rattle.read_set.specs.Loans.{charge_for, due_for}
 use Rattle.read_set.specs.Lookups.{ask_after, patron_at}
 use Rattle.read_set.specs.Maps.{Map}
 use Rattle.read_set.specs.Renewals.{renewal_tests, renewed}
@@ -23,17 +24,27 @@ use Rattle.read_set.specs.declared.verdict.LoanRequest.{LoanRequest}
 use Rattle.read_set.specs.declared.verdict.Verdict.{Verdict}
 use Rattle.read_set.specs.declared.verdict.Verdict.TheVariants as verdicts
 
--- each item is asked for without a third party, and never forced
-abbrev pub by_renew_all : RenewAll → List ℕ → LoanRequest
-by_renew_all q item = record { patron = q.patron; item = item; third_party = false; forced = false; given = None; agreed = q.agreed; free = false; checkout = false }
+-- Each item is asked for without a third party, by the rules never forced. Where a response named it as renewed it is, and its
+-- rental is charged only if the user agreed to it, as such a response tells no fee.
+abbrev pub by_renew_all : Bool → RenewAll → List ℕ → LoanRequest
+by_renew_all forced q item = record {
+  patron = q.patron;
+  item = item;
+  third_party = false;
+  forced = forced;
+  given = None;
+  agreed = q.agreed;
+  price = if forced && not q.agreed then Some 0 else None;
+  checkout = false;
+}
 
 -- an item's turn, after the ones before it: the item is renewed, and a rental charged under the next number
 abbrev pub one_renewed : Terms → ℕ → LoanRequest → List ℕ → Article → Renewals → Renewals
 one_renewed p n a date article done = record done {
   writes = done.writes ⊕ ((keys.Item a.item, records.Item (renewed (due_for p a date article.media) article.item)) ∷ [])
-      ⊕ fee_made n done.made a.patron fee_types.Rental article.media.rental;
-  member = record done.member { patron = record done.member.patron { fees = with_fee n done.made article.media.rental done.member.patron.fees } };
-  made = if nat_lt 0 article.media.rental then done.made + 1 else done.made;
+      ⊕ fee_made n done.made a.patron fee_types.Rental (charge_for a article.media);
+  member = record done.member { patron = record done.member.patron { fees = with_fee n done.made (charge_for a article.media) done.member.patron.fees } };
+  made = if nat_lt 0 (charge_for a article.media) then done.made + 1 else done.made;
   renewed = done.renewed ++ a.item ∷ [];
 }
 
@@ -56,11 +67,11 @@ turn_rule p n a date done = do
   turn_rule_known p n a date done (as_article p found)
 
 -- the items of a list, each on the records as the ones before it left them
-abbrev pub turns_rule : Terms → ℕ → RenewAll → List ℕ → List (List ℕ) → Renewals → Asks Renewals
-turns_rule p n q date [] done = Give done
-turns_rule p n q date (id ∷ more) done = do
-  next ← turn_rule p n (by_renew_all q id) date done
-  turns_rule p n q date more next
+abbrev pub turns_rule : Terms → ℕ → Bool → RenewAll → List ℕ → List (List ℕ) → Renewals → Asks Renewals
+turns_rule p n forced q date [] done = Give done
+turns_rule p n forced q date (id ∷ more) done = do
+  next ← turn_rule p n (by_renew_all forced q id) date done
+  turns_rule p n forced q date more next
 
 abbrev pub none_renewed : Member → Renewals
 none_renewed member = record { writes = []; member = member; made = 0; renewed = []; others = [] }
@@ -75,18 +86,23 @@ all_renewed p q date done = record {
   answer = Some (renew_all_answer p date true done.renewed done.others);
 }
 
+-- whose turn comes: by the rules each item of the patron's list; of the texts of a response, those that these name
+abbrev pub turns_of : Option (List (List ℕ)) → List (List ℕ) → List (List ℕ)
+turns_of None loans = loans
+turns_of (Some named) loans = filter (names_item named) loans
+
 -- ok is 1 where the patron is known; then each item of the patron's list, as it was at entry
-abbrev pub renew_all_rule_known : Terms → ℕ → RenewAll → List ℕ → Option Member → Asks Effect
-renew_all_rule_known p n q date None = Give (unwritten (Some (renew_all_answer p date false [] [])))
-renew_all_rule_known p n q date (Some member) = do
-  done ← turns_rule p n q date member.patron.loans (none_renewed member)
+abbrev pub renew_all_rule_known : Terms → ℕ → Option (List (List ℕ)) → RenewAll → List ℕ → Option Member → Asks Effect
+renew_all_rule_known p n named q date None = Give (unwritten (Some (renew_all_answer p date false [] [])))
+renew_all_rule_known p n named q date (Some member) = do
+  done ← turns_rule p n (is_some named) q date (turns_of named member.patron.loans) (none_renewed member)
   Give (all_renewed p q date done)
 
--- asks for the patron, then for each item of its list
-unfoldable pub renew_all_rule : Terms → ℕ → RenewAll → List ℕ → Asks Effect
-renew_all_rule p n q date = do
+-- asks for the patron, then for each item of its list whose turn comes
+unfoldable pub renew_all_rule : Terms → ℕ → Option (List (List ℕ)) → RenewAll → List ℕ → Asks Effect
+renew_all_rule p n named q date = do
   patron ← patron_at p q.patron
-  renew_all_rule_known p n q date patron
+  renew_all_rule_known p n named q date patron
 
-abbrev pub renew_all : Terms → ℕ → RenewAll → List ℕ → Map → Effect
-renew_all p n q date M = over M (renew_all_rule p n q date)
+abbrev pub renew_all : Terms → ℕ → Option (List (List ℕ)) → RenewAll → List ℕ → Map → Effect
+renew_all p n named q date M = over M (renew_all_rule p n named q date)

@@ -11,12 +11,14 @@ mod laws;
 mod names;
 mod notes;
 mod noting;
+mod outcomes;
 mod plan;
 mod progress;
 mod sorted;
 mod source;
 mod verdict;
 mod version;
+mod way;
 
 pub use effect::{Draft, Effect, Writes};
 pub use found::NotedRecord;
@@ -25,9 +27,11 @@ pub use laws::{meaning_keeps_coherence, read_plans_stay_coherent, replay_keeps_c
 pub use names::named_by;
 pub use notes::{Name, Note, Notes};
 pub use noting::{NotesName, NotesSource, RecordReader, RecordingSource};
+pub use outcomes::Outcomes;
 pub use plan::{Plan, PlanName};
 pub use progress::{Payments, Renewals};
 pub use sorted::found_in;
 pub use source::{Source, Stop};
 pub use verdict::{LoanRequest, Verdict};
 pub use version::{Need, Version};
+pub use way::Way;

@@ -1,6 +1,6 @@
 //! What a replay begins with.
 
-ghost use Rattle.std.specs.Prelude.{◌≡◌, ◌+◌, ◌≤◌, ◌^◌, ◌&&◌, ℕ, List, [], IfOk, is_some, length, map, nat_le, nat_lt, option_copied};
+ghost use Rattle.std.specs.Prelude.{◌≡◌, ◌+◌, ◌≤◌, ◌^◌, ◌&&◌, ℕ, List, [], IfOk, IfSome, is_some, length, map, nat_le, nat_lt, option_copied};
 ghost use Rattle.std.specs.List.Sorted.{IsStrictlySortedBy};
 ghost use Rattle.sip_reader.specs.Texts.{line_number_end};
 ghost use Rattle.circ_records.specs.Coherent.{Coherent, number_before};
@@ -10,22 +10,27 @@ ghost use Rattle.journal_table.specs.Entry.{Entry};
 ghost use Rattle.journal_table.specs.Readings.{first_read, reading_at as reading_in, readings_of as all_read};
 ghost use Rattle.journal_table.specs.declared.TheConstants.{LINE_LIMIT};
 ghost use Rattle.read_set.specs.Coherence.{StaysCoherent};
-ghost use Rattle.read_set.specs.Plans.{plan_over, plan_of, plan_read, reading_at};
+ghost use Rattle.read_set.specs.Plans.{outcome_at, outcomes_of, plan_over, plan_of, plan_read, reading_at};
+ghost use Rattle.read_set.specs.declared.way.Way.{Way};
+ghost use Rattle.sip_answer.specs.Outcomes.{FitsOutcome};
 
+use crate::outcomes::Outcomes;
 use circ_policy::Policy;
 use circ_records::{Key, Record, RecordMap, Records};
 use journal_table::Readings;
+use sip_answer::Outcome;
 use sip_reader::{LINE_NUMBER_END, Reading};
 use std::alloc::{AllocError, Global};
 use std::marker::{Brand, Model};
 use std::ops::Range;
 
-/// The policy, the records before the first line, and the reading of each line.
+/// The policy, the records before the first line, the reading of each line, and what its response says was done.
 pub struct Plan {
     policy: Policy,
     base: Records,
     first: u64,
     readings: Readings,
+    outcomes: Outcomes,
 }
 
 impl Drop for Plan {
@@ -35,6 +40,7 @@ impl Drop for Plan {
             base: _,
             first: _,
             readings: _,
+            outcomes: _,
         } = self;
     }
 }
@@ -49,29 +55,37 @@ impl Model for Plan {
 
     ghost Value = { Planned };
 
-    ghost view = { λ p. record { policy = p.policy; base = p.base; first = p.first; readings = map reading_at p.readings } };
+    ghost view = { λ p. record { policy = p.policy; base = p.base; first = p.first; readings = map reading_at p.readings; outcomes = p.outcomes } };
 
-    ghost invariant = { λ p. (p.first + length p.readings ≤ line_number_end) × (length p.readings ≤ LINE_LIMIT) × FitsPlan (record { policy = p.policy; base = p.base; first = p.first; readings = map reading_at p.readings }) };
+    ghost invariant = { λ p. (p.first + length p.readings ≤ line_number_end) × (length p.readings ≤ LINE_LIMIT) × FitsPlan (record { policy = p.policy; base = p.base; first = p.first; readings = map reading_at p.readings; outcomes = p.outcomes }) };
 }
 
 impl Plan {
-    /// The plan of what the requests of a journal were read as, over a base that is coherent before the first of them.
-    pub fn from_readings(policy: Policy, base: Records, readings: Readings) -> Plan
+    /// The plan of what the requests of a journal were read as and its responses say was done, over a base that is coherent before the
+    /// first of them.
+    pub fn from_readings(
+        policy: Policy,
+        base: Records,
+        readings: Readings,
+        outcomes: Outcomes,
+    ) -> Plan
         requires { Coherent policy (number_before (first_read readings)) base }
-        ensures value { result ≡ plan_read policy base readings }
-        ensures journal { (lines : List Entry) → readings ≡ all_read lines → result ≡ plan_of policy base lines }
+        ensures value { result ≡ plan_read policy base readings outcomes }
+        ensures journal { (way : Way) (lines : List Entry) → readings ≡ all_read lines → outcomes ≡ outcomes_of way policy.due_form lines → result ≡ plan_of way policy base lines }
     {
         let first = readings.first().unwrap_or(LINE_NUMBER_END);
         // Called for their contracts alone: there are at most `LINE_LIMIT` lines, each read from a message; the policy's terms
-        // are in their ranges; and the number of records fits into a count.
+        // are in their ranges; the number of records fits into a count; and days and fees of outcomes are in their ranges.
         let _lines = readings.len();
         let _currency = policy.currency();
         let _records = base.as_slice();
+        outcomes.keep_their_form();
         Plan {
             policy,
             base,
             first,
             readings,
+            outcomes,
         }
     }
 
@@ -118,6 +132,14 @@ impl Plan {
             return None;
         }
         self.readings.get((line - self.first) as usize)
+    }
+
+    /// What the response of the line of a number says was done, if that counts.
+    pub fn outcome(&self, line: u64) -> Option<&Outcome>
+        ensures value { option_copied result ≡ outcome_at self.now line }
+        ensures fits { IfSome (option_copied result) FitsOutcome }
+    {
+        self.outcomes.get(line.saturating_sub(self.first) as usize)
     }
 
     /// The keys of the records before the first line, rising, each with its record. These records are coherent before it.

@@ -1,6 +1,6 @@
 //! A loan or a renewal that is asked for, and how its tests end.
 
-use sip_reader::{Day, Id};
+use sip_reader::{Amount, Day, Id};
 
 /// A loan or a renewal that is asked for.
 #[derive(Drop)]
@@ -15,8 +15,8 @@ pub struct LoanRequest {
     pub given: Option<Day>,
     /// Whether the user agreed to pay a rental.
     pub agreed: bool,
-    /// Whether no rental is charged.
-    pub free: bool,
+    /// What is charged in hundredths, 0 being nothing; if none, the media type's rental.
+    pub price: Option<Amount>,
     /// Whether a checkout asks, and not a renewal.
     pub checkout: bool,
 }

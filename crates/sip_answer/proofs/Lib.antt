@@ -12,3 +12,4 @@ pub mod OwnText
 pub mod OwnTexts
 pub mod WholeTexts
 pub mod Written
+pub mod OutcomeFits

@@ -6,3 +6,4 @@ pub mod Parts
 pub mod Recorded
 pub mod Texts
 pub mod Words
+pub mod Outcomes

@@ -21,6 +21,6 @@ pub use field::Field;
 pub use item_ids::ItemIds;
 pub use item_texts::ItemTexts;
 pub use laws::own_text_agrees;
-pub use outcome::{Outcome, ToldLoan};
+pub use outcome::{Outcome, ToldLoan, agrees, outcome_of};
 pub use owed::Owed;
 pub use writing::{put_answer, write_answer};

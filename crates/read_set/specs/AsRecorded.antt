@@ -1,0 +1,95 @@
+-- As recorded: the records follow what a recorded response says was done, and the answer stays the rule's on the records before.
+-- "No block" (SIP 2.00) says that a transaction was done off line and is not to be refused, and the nb due date is the day that was
+-- given then: so what a response says is carried out by the same rules, forced.
+use Rattle.std.specs.Prelude.{ℕ, Bool, true, false, ◌&&◌, List, Option, Some, None, is_some, if◌then◌else◌}
+use Rattle.std.specs.Option.{option_map_or, option_or}
+use Rattle.circ_policy.specs.Terms.{Terms}
+use Rattle.sip_answer.specs.Outcomes.{agrees}
+use Rattle.sip_answer.specs.declared.answer.Answer.{Answer}
+use Rattle.sip_answer.specs.declared.outcome.Outcome.{Outcome}
+use Rattle.sip_answer.specs.declared.outcome.Outcome.TheVariants as outcomes
+use Rattle.sip_answer.specs.declared.outcome.ToldLoan.{ToldLoan}
+use Rattle.sip_reader.specs.declared.request.Act.{Act}
+use Rattle.sip_reader.specs.declared.request.Act.TheVariants as acts
+use Rattle.read_set.specs.Asks.{Asks, Give, over, ◌>>=◌}
+use Rattle.read_set.specs.Checkouts.{checkout_rule_for, lending_rule}
+use Rattle.read_set.specs.Effects.{unwritten}
+use Rattle.read_set.specs.Holds.{hold_rule}
+use Rattle.read_set.specs.Loans.{by_checkout, by_renew, refused}
+use Rattle.read_set.specs.Lookups.{item_at, patron_at}
+use Rattle.read_set.specs.Maps.{Map}
+use Rattle.read_set.specs.RenewAlls.{renew_all_rule}
+use Rattle.read_set.specs.Renewals.{may_renew, renewal_rule}
+use Rattle.read_set.specs.declared.effect.Effect.{Effect}
+use Rattle.read_set.specs.declared.known.Article.{Article}
+use Rattle.read_set.specs.declared.known.Member.{Member}
+use Rattle.read_set.specs.declared.verdict.LoanRequest.{LoanRequest}
+
+-- the day that was told; if none was, the one that the request gives, if the request itself was forced
+abbrev pub day_told : LoanRequest → Option ℕ → Option ℕ
+day_told a (Some day) = Some day
+day_told a None = if a.forced then a.given else None
+
+-- the fee that was told, 0 being nothing; if none was, the rental for one who agreed to it. So nobody is charged what nobody told and
+-- nobody agreed to.
+abbrev pub price_told : LoanRequest → Option ℕ → Option ℕ
+price_told a (Some fee) = Some fee
+price_told a None = if a.agreed then a.price else Some 0
+
+-- a loan or a renewal as it was told: it isn't refused
+abbrev pub told : LoanRequest → ToldLoan → LoanRequest
+told a t = record a { forced = true; given = day_told a t.due; price = price_told a t.fee }
+
+-- A renewal (message 29) that was told as done: one's own loan is renewed, and that of another where a third party is allowed; what isn't
+-- on loan to the asker is lent to the asker.
+abbrev pub renewal_told_known : Terms → ℕ → LoanRequest → List ℕ → Option Member → Option Article → Asks Effect
+renewal_told_known p n a date (Some member) (Some article) =
+    if may_renew a article.item.loan then renewal_rule p n a date member article else lending_rule p n a date member article
+renewal_told_known p n a date _ article = Give (refused p a date article 0)
+
+unfoldable pub renewal_told : Terms → ℕ → LoanRequest → List ℕ → Asks Effect
+renewal_told p n a date = do
+  patron ← patron_at p a.patron
+  item ← item_at p a.item
+  renewal_told_known p n a date patron item
+
+-- a checkout or a renewal that was told as done
+unfoldable pub loan_told : Terms → ℕ → List ℕ → Act → ToldLoan → Asks Effect
+loan_told p n date (acts.Checkout q) t = checkout_rule_for p n t.renewal (told (by_checkout q) t) date
+loan_told p n date (acts.Renew q) t = renewal_told p n (told (by_renew q) t) date
+loan_told p n date act t = Give (unwritten None)
+
+-- a hold that was told as done: that the patron is blocked doesn't count. Of the other requests there is nothing to do that their rule
+-- hasn't done
+unfoldable pub done_told : Terms → List ℕ → Act → Asks Effect
+done_told p date (acts.Hold q) = hold_rule p true q date
+done_told p date act = Give (unwritten None)
+
+-- a renewal of all items that names what was renewed
+unfoldable pub renewals_told : Terms → ℕ → List ℕ → Act → List (List ℕ) → Asks Effect
+renewals_told p n date (acts.RenewAll q) named = renew_all_rule p n (Some named) q date
+renewals_told p n date act named = Give (unwritten None)
+
+-- What is carried out where the rule's answer doesn't agree with the outcome: nothing where nothing was done.
+unfoldable pub carried : Terms → ℕ → List ℕ → Act → Outcome → Asks Effect
+carried p n date act outcomes.NotTaken = Give (unwritten None)
+carried p n date act (outcomes.Said false) = Give (unwritten None)
+carried p n date act (outcomes.Said true) = done_told p date act
+carried p n date act outcomes.Refused = Give (unwritten None)
+carried p n date act (outcomes.Lent t) = loan_told p n date act t
+carried p n date act (outcomes.Renewed named) = renewals_told p n date act named
+
+-- whether the rule's answer agrees with an outcome
+abbrev pub agrees_with : Option Answer → Outcome → Bool
+agrees_with None o = false
+agrees_with (Some answer) o = agrees answer o
+
+-- what is written is what was carried out, and what is answered stays the rule's answer
+abbrev pub answering : Option Answer → Effect → Effect
+answering answer done = record { writes = done.writes; answer = answer }
+
+-- where the rule's answer agrees with the outcome, the rule's own writes stand
+unfoldable pub followed : Terms → ℕ → List ℕ → Act → Outcome → Effect → Asks Effect
+followed p n date act o ruled = if agrees_with ruled.answer o then Give ruled else do
+  done ← carried p n date act o
+  Give (answering ruled.answer done)

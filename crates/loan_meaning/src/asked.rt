@@ -27,3 +27,21 @@ pub struct LoanContext<'p> {
     pub date: Stamp,
     pub request: LoanRequest,
 }
+
+impl<'p> LineContext<'p> {
+    /// The same, for what the line asks for.
+    pub fn asking(&self, request: LoanRequest) -> LoanContext<'p>
+        ensures policy { result.policy.now ≡ self.now.policy.now }
+        ensures number { result.number ≡ self.now.number }
+        ensures date { result.date ≡ self.now.date }
+        ensures request { result.request ≡ request }
+    {
+        LoanContext {
+            alloc: self.alloc,
+            policy: self.policy,
+            number: self.number,
+            date: self.date,
+            request,
+        }
+    }
+}

@@ -1,13 +1,16 @@
 //! The loan or the renewal for which a request asks, and what the item's record says.
 
 ghost use Rattle.std.specs.Prelude.{◌≡◌, IfOk};
-ghost use Rattle.read_set.specs.Loans.{by_checkout, by_renew, due_for, is_lent, lent_to};
+ghost use Rattle.read_set.specs.AsRecorded.{told};
+ghost use Rattle.read_set.specs.Loans.{by_checkout, by_renew, charge_for, due_for, is_lent, lent_to};
 
 use crate::asked::LoanContext;
+use crate::fees::nothing;
 use circ_policy::Media;
 use circ_records::Loan;
 use read_set::LoanRequest;
-use sip_reader::{Checkout, Day, Id, Renew};
+use sip_answer::ToldLoan;
+use sip_reader::{Amount, Checkout, Day, Id, Renew};
 use std::alloc::AllocError;
 
 /// The loan or the renewal for which a checkout asks: forced where no block or BI is Y; with BI Y no rental is charged.
@@ -21,7 +24,7 @@ pub fn ask_checkout(request: &Checkout) -> Result<LoanRequest, AllocError>
         forced: request.no_block || request.cancel,
         given: request.due,
         agreed: request.agreed,
-        free: request.cancel,
+        price: if request.cancel { Some(nothing()) } else { None },
         checkout: true,
     })
 }
@@ -37,7 +40,7 @@ pub fn ask_renew(request: &Renew) -> Result<LoanRequest, AllocError>
         forced: request.no_block,
         given: request.due,
         agreed: request.agreed,
-        free: false,
+        price: None,
         checkout: false,
     })
 }
@@ -53,6 +56,30 @@ pub fn due_of(asked: &LoanContext<'_>, media: &Media) -> Day
         Some(given) => { if a.forced { given } else { due } }
         None => due,
     }
+}
+
+/// What is charged: the price that the request names, else the media type's rental.
+pub fn charge_of(asked: &LoanContext<'_>, media: &Media) -> Amount
+    ensures { result ≡ charge_for asked.now.request media.now }
+{
+    asked.request.price.unwrap_or(media.rental)
+}
+
+/// The loan or the renewal as a response told it: it isn't refused, and has the day and the fee that were told.
+pub fn as_told(asked: LoanRequest, told: &ToldLoan) -> LoanRequest
+    ensures { result ≡ told asked told.now }
+{
+    let given = if asked.forced { asked.given } else { None };
+    let price = if asked.agreed {
+        asked.price
+    } else {
+        Some(nothing())
+    };
+    let mut asked = asked;
+    asked.forced = true;
+    asked.given = told.due.or(given);
+    asked.price = told.fee.or(price);
+    asked
 }
 
 /// Whether there is a loan.

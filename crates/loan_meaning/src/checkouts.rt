@@ -1,29 +1,31 @@
 //! Checkout.
 
-ghost use Rattle.std.specs.Prelude.{◌≡◌, ◌∷◌, [], IfOk, Some};
+ghost use Rattle.std.specs.Prelude.{◌≡◌, ◌∷◌, [], IfOk, Some, true};
 ghost use Rattle.circ_records.specs.declared.key.Key.TheVariants as keys;
 ghost use Rattle.circ_records.specs.declared.record.FeeType.TheVariants as fee_types;
 ghost use Rattle.circ_records.specs.declared.record.Record.TheVariants as records;
-ghost use Rattle.read_set.specs.Checkouts.{lending_tests, other_at, lending_rule, checkout_rule_known, checkout_rule, loan_ended_by, lent, lending_made, checkout};
+ghost use Rattle.read_set.specs.Checkouts.{lending_tests, other_at, lending_rule, checkout_rule_known, checkout_rule, checkout_rule_for, loan_ended_by, lent, lending_made, checkout};
 ghost use Rattle.read_set.specs.Asks.{follow, Done, Gains};
 ghost use Rattle.read_set.specs.Effects.{◌⊕◌};
 ghost use Rattle.read_set.specs.Fees.{fee_made};
 ghost use Rattle.read_set.specs.Ids.{without};
-ghost use Rattle.read_set.specs.Loans.{by_checkout};
+ghost use Rattle.read_set.specs.AsRecorded.{told};
+ghost use Rattle.read_set.specs.Loans.{by_checkout, by_renew};
 ghost use Rattle.read_set.specs.Maps.{Map, Agrees};
 ghost use Rattle.read_set.specs.Stops.{Follows};
 
-use crate::asked::LoanContext;
-use crate::asking::{ask_checkout, due_of, has_lent_to};
-use crate::fees::{Charge, list_fee, make_fee, nothing, test_owing};
+use crate::asked::{LineContext, LoanContext};
+use crate::asking::{as_told, ask_checkout, ask_renew, charge_of, due_of, has_lent_to};
+use crate::fees::{Charge, list_fee, make_fee, test_owing};
 use crate::lists::{is_first_another, without, without_hold};
 use crate::lookup::{item_of, patron_of};
-use crate::renewals::renew_one;
+use crate::renewals::{is_renewable, renew_one};
 use crate::telling::{refuse, refuse_for, tell};
 use circ_policy::Policy;
 use circ_records::{FeeType, Key, Loan, Patron, Record};
 use read_set::{Article, Draft, Effect, LoanRequest, Member, Source, Stop, Verdict};
-use sip_reader::{Amount, Checkout, Day, Id, Stamp};
+use sip_answer::ToldLoan;
+use sip_reader::{Amount, Checkout, Day, Id, Renew, Stamp};
 use std::alloc::{AllocError, Global};
 
 #[tactic(auto, unfolding(read_set::specs::Checkouts::lending_tests), using(read_set::proofs::Gaining::gains_none, read_set::proofs::Gaining::gains_first))]
@@ -146,7 +148,7 @@ fn make_loan(
     let alloc = asked.alloc;
     let (a, media) = (&asked.request, &article.media);
     let due = due_of(asked, media);
-    let charge = if a.free { nothing() } else { media.rental };
+    let charge = charge_of(asked, media);
     let mut patron = member.patron.get().clone()?;
     // the item goes last in the patron's list, once
     if has_lent_to(&a.patron, &article.item.get().loan) {
@@ -190,14 +192,13 @@ fn lend<S: Source>(
 #[tactic(auto, using(read_set::proofs::Gaining::gains_none, read_set::proofs::Gaining::gains_first))]
 fn lend_both<S: Source>(
     asked: &LoanContext<'_>,
-    request: &Checkout,
+    renewal: bool,
     member: Option<Member>,
     article: Option<Article>,
     source: &mut S,
 ) -> Result<Effect, Stop>
-    requires { asked.now.request ≡ by_checkout request.now }
-    ensures gives { Follows result (follow (S.has source.new) (checkout_rule_known asked.now.policy.now asked.now.number request.now asked.now.date member article)) }
-    ensures keeps { Gains S.one_by_one (S.has source.old) (S.has source.new) (checkout_rule_known asked.now.policy.now asked.now.number request.now asked.now.date member article) }
+    ensures gives { Follows result (follow (S.has source.new) (checkout_rule_known asked.now.policy.now asked.now.number renewal asked.now.request asked.now.date member article)) }
+    ensures keeps { Gains S.one_by_one (S.has source.old) (S.has source.new) (checkout_rule_known asked.now.policy.now asked.now.number renewal asked.now.request asked.now.date member article) }
 {
     let Some(member) = member else {
         return refuse(asked, article);
@@ -205,14 +206,29 @@ fn lend_both<S: Source>(
     let Some(article) = article else {
         return refuse(asked, None);
     };
-    if request.renewal && has_lent_to(&request.patron, &article.item.get().loan) {
+    if renewal && is_renewable(&asked.request, &article.item.get().loan) {
         return renew_one(asked, member, article, source);
     }
     lend(asked, member, article, source)
 }
 
+/// A loan that is asked for; `renewal` says whether one that the patron may renew is renewed.
+#[tactic(auto, unfolding(read_set::specs::Checkouts::checkout_rule_for), using(read_set::proofs::Gaining::gains_none, read_set::proofs::Gaining::gains_first, read_set::proofs::Following::follow_wants))]
+fn lend_known<S: Source>(
+    asked: &LoanContext<'_>,
+    renewal: bool,
+    source: &mut S,
+) -> Result<Effect, Stop>
+    ensures gives { Follows result (follow (S.has source.new) (checkout_rule_for asked.now.policy.now asked.now.number renewal asked.now.request asked.now.date)) }
+    ensures keeps { Gains S.one_by_one (S.has source.old) (S.has source.new) (checkout_rule_for asked.now.policy.now asked.now.number renewal asked.now.request asked.now.date) }
+{
+    let member = patron_of(asked.alloc, asked.policy, source, &asked.request.patron)?;
+    let article = item_of(asked.alloc, asked.policy, source, &asked.request.item)?;
+    lend_both(asked, renewal, member, article, source)
+}
+
 /// A checkout (message 11) on line n.
-#[tactic(auto, unfolding(read_set::specs::Checkouts::checkout_rule), using(read_set::proofs::Gaining::gains_none, read_set::proofs::Gaining::gains_first, read_set::proofs::Following::follow_wants))]
+#[tactic(auto, using(read_set::proofs::Gaining::gains_none))]
 pub fn check_out<S: Source>(
     alloc: Global,
     policy: &Policy,
@@ -232,7 +248,35 @@ pub fn check_out<S: Source>(
         date,
         request: ask_checkout(request)?,
     };
-    let member = patron_of(alloc, policy, source, &request.patron)?;
-    let article = item_of(alloc, policy, source, &request.item)?;
-    lend_both(&asked, request, member, article, source)
+    lend_known(&asked, request.renewal, source)
+}
+
+/// A checkout that a response told as done.
+#[tactic(auto, using(read_set::proofs::Gaining::gains_none))]
+pub fn check_out_told<S: Source>(
+    line: &LineContext<'_>,
+    request: &Checkout,
+    told: &ToldLoan,
+    source: &mut S,
+) -> Result<Effect, Stop>
+    ensures gives { Follows result (follow (S.has source.new) (checkout_rule_for line.now.policy.now line.now.number told.now.renewal (told (by_checkout request.now) told.now) line.now.date)) }
+    ensures keeps { Gains S.one_by_one (S.has source.old) (S.has source.new) (checkout_rule_for line.now.policy.now line.now.number told.now.renewal (told (by_checkout request.now) told.now) line.now.date) }
+{
+    let asked = line.asking(as_told(ask_checkout(request)?, told));
+    lend_known(&asked, told.renewal, source)
+}
+
+/// A renewal that a response told as done: what can't be renewed is lent.
+#[tactic(auto, using(read_set::proofs::Gaining::gains_none))]
+pub fn renew_item_told<S: Source>(
+    line: &LineContext<'_>,
+    request: &Renew,
+    told: &ToldLoan,
+    source: &mut S,
+) -> Result<Effect, Stop>
+    ensures gives { Follows result (follow (S.has source.new) (checkout_rule_for line.now.policy.now line.now.number true (told (by_renew request.now) told.now) line.now.date)) }
+    ensures keeps { Gains S.one_by_one (S.has source.old) (S.has source.new) (checkout_rule_for line.now.policy.now line.now.number true (told (by_renew request.now) told.now) line.now.date) }
+{
+    let asked = line.asking(as_told(ask_renew(request)?, told));
+    lend_known(&asked, true, source)
 }

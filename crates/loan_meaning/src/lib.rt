@@ -14,9 +14,10 @@ mod renewals;
 mod running;
 mod telling;
 
+pub use asked::LineContext;
 pub use asking::{ask_checkout, ask_renew, has_lent_to, has_loan};
 pub use checkins::check_in;
-pub use checkouts::check_out;
+pub use checkouts::{check_out, check_out_told, renew_item_told};
 pub use fees::{owed_of, rest_of};
 pub use lists::{
     has_id, has_queue, is_first_another, position, waits, with_pickup, without, without_all,

@@ -1,10 +1,11 @@
 //! Renewal of all items.
 
-ghost use Rattle.std.specs.Prelude.{◌≡◌, ◌+◌, ◌<◌, ◌≤◌, ◌^◌, ◌∷◌, [], nat_lt, if◌then◌else◌, IfOk, OnOk, Some};
+ghost use Rattle.std.specs.Prelude.{◌≡◌, ◌+◌, ◌<◌, ◌≤◌, ◌^◌, ◌∷◌, [], nat_lt, if◌then◌else◌, IfOk, OnOk, Some, filter, option_copied};
 ghost use Rattle.circ_records.specs.declared.key.Key.TheVariants as keys;
 ghost use Rattle.circ_records.specs.declared.record.FeeType.TheVariants as fee_types;
 ghost use Rattle.circ_records.specs.declared.record.Record.TheVariants as records;
-ghost use Rattle.read_set.specs.RenewAlls.{turn_rule_known, turn_rule, turns_rule, renew_all_rule_known, renew_all_rule, by_renew_all, one_renewed, one_left, turn_by, none_renewed, renew_all_answer, all_renewed, renew_all};
+ghost use Rattle.read_set.specs.RenewAlls.{turn_rule_known, turn_rule, turns_rule, renew_all_rule_known, renew_all_rule, by_renew_all, one_renewed, one_left, turn_by, none_renewed, renew_all_answer, all_renewed, renew_all, turns_of};
+ghost use Rattle.sip_answer.specs.Outcomes.{names_item};
 ghost use Rattle.loan_meaning.specs.Devices.Sums.{Runs};
 ghost use Rattle.read_set.specs.Asks.{follow, Gains};
 ghost use Rattle.read_set.specs.Effects.{written};
@@ -14,32 +15,35 @@ ghost use Rattle.read_set.specs.Maps.{Map, Agrees};
 ghost use Rattle.read_set.specs.Stops.{Follows};
 
 use crate::asked::{LineContext, LoanContext};
-use crate::asking::due_of;
-use crate::fees::{Charge, list_fee_of, make_fee};
+use crate::asking::{charge_of, due_of};
+use crate::fees::{Charge, list_fee_of, make_fee, nothing};
 use crate::lookup::{patron_of, read_after};
 use crate::renewals::{renew_loan_of, test_renewal};
 use crate::running::{are_new, charge_by, owed_with};
-use circ_policy::Policy;
-use circ_records::{FeeType, Key, Record};
+use circ_records::{FeeType, Ids, Key, Record};
 use read_set::{
     Article, Draft, Effect, LoanRequest, Member, Renewals, Source, Stop, Verdict, known_item,
 };
-use sip_answer::{Answer, ItemIds, RenewAllAnswer};
-use sip_reader::{Amount, Day, Id, RenewAll, Stamp};
+use sip_answer::{Answer, ItemIds, ItemTexts, RenewAllAnswer};
+use sip_reader::{Amount, Day, Id, RenewAll};
 use std::alloc::{AllocError, Global};
 
-/// The renewal of an item for which a renewal of all items asks: it isn't forced, and asked for by the borrower.
-pub fn ask_for(request: &RenewAll, item: &Id) -> Result<LoanRequest, AllocError>
-    ensures { IfOk result (λ a. a ≡ by_renew_all request.now item.now) }
+/// The renewal of an item for which a renewal of all items asks, by the borrower. It is forced if a response named the item.
+pub fn ask_for(forced: bool, request: &RenewAll, item: &Id) -> Result<LoanRequest, AllocError>
+    ensures { IfOk result (λ a. a ≡ by_renew_all forced request.now item.now) }
 {
     Ok(LoanRequest {
         patron: request.patron.clone()?,
         item: item.clone()?,
         third_party: false,
-        forced: false,
+        forced,
         given: None,
         agreed: request.agreed,
-        free: false,
+        price: if forced && !request.agreed {
+            Some(nothing())
+        } else {
+            None
+        },
         checkout: false,
     })
 }
@@ -92,7 +96,7 @@ fn renew_next(
     let n = asked.number;
     let media = &article.media;
     let due = due_of(asked, media);
-    let rental = media.rental;
+    let rental = charge_of(asked, media);
     let made = done.made;
     let mut done = done;
     write_turn(asked, made, due, rental, article, &mut done.writes)?;
@@ -145,8 +149,7 @@ fn turn_known<S: Source>(
     ensures runs { IfOk result (λ next. Runs (S.has source.new) asked.now.number fresh next sum.new) }
 {
     let verdict = test_renewal(asked, &done.writes, &done.member, &article, sum, source)?;
-    let media = &article.media;
-    let charge = charge_by(verdict, media.rental);
+    let charge = charge_by(verdict, charge_of(asked, &article.media));
     *sum = owed_with(fresh, charge, *sum);
     Ok(end_turn(asked, article, done, verdict)?)
 }
@@ -211,25 +214,20 @@ fn begin(alloc: Global, member: Member) -> Renewals
 #[tactic(auto, using(read_set::proofs::Gaining::gains_none, read_set::proofs::Gaining::gains_first))]
 fn take_turns<S: Source>(
     line: &LineContext<'_>,
+    forced: bool,
     request: &RenewAll,
     items: &[Id],
     member: Member,
     source: &mut S,
 ) -> Result<Renewals, Stop>
-    ensures gives { Follows result (follow (S.has source.new) (turns_rule line.now.policy.now line.now.number request.now line.now.date items.now (none_renewed member))) }
-    ensures keeps { Gains S.one_by_one (S.has source.old) (S.has source.new) (turns_rule line.now.policy.now line.now.number request.now line.now.date items.now (none_renewed member)) }
+    ensures gives { Follows result (follow (S.has source.new) (turns_rule line.now.policy.now line.now.number forced request.now line.now.date items.now (none_renewed member))) }
+    ensures keeps { Gains S.one_by_one (S.has source.old) (S.has source.new) (turns_rule line.now.policy.now line.now.number forced request.now line.now.date items.now (none_renewed member)) }
 {
     let fresh = are_new(line.alloc, line.number, member.patron.get().fees.as_slice())?;
     let mut sum = None;
     let mut done = begin(line.alloc, member);
     for item in items {
-        let asked = LoanContext {
-            alloc: line.alloc,
-            policy: line.policy,
-            number: line.number,
-            date: line.date,
-            request: ask_for(request, item)?,
-        };
+        let asked = line.asking(ask_for(forced, request, item)?);
         done = take_turn(&asked, done, fresh, &mut sum, source)?;
     }
     Ok(done)
@@ -277,29 +275,53 @@ fn finish(line: &LineContext<'_>, request: &RenewAll, done: Renewals) -> Result<
 fn renew_each<S: Source>(
     line: &LineContext<'_>,
     request: &RenewAll,
+    named: Option<&ItemTexts>,
     member: Member,
     source: &mut S,
 ) -> Result<Effect, Stop>
-    ensures gives { Follows result (follow (S.has source.new) (renew_all_rule_known line.now.policy.now line.now.number request.now line.now.date (Some member))) }
-    ensures keeps { Gains S.one_by_one (S.has source.old) (S.has source.new) (renew_all_rule_known line.now.policy.now line.now.number request.now line.now.date (Some member)) }
+    ensures gives { Follows result (follow (S.has source.new) (renew_all_rule_known line.now.policy.now line.now.number (option_copied named.entry) request.now line.now.date (Some member))) }
+    ensures keeps { Gains S.one_by_one (S.has source.old) (S.has source.new) (renew_all_rule_known line.now.policy.now line.now.number (option_copied named.entry) request.now line.now.date (Some member)) }
 {
-    let items = member.patron.get().loans.copy()?;
-    let done = take_turns(line, request, items.as_slice(), member, source)?;
+    let items = turns_of(line.alloc, named, &member.patron.get().loans)?;
+    let done = take_turns(line, named.is_some(), request, items.as_slice(), member, source)?;
     Ok(finish(line, request, done)?)
+}
+
+/// Whose turn comes: each item of a list, or those that a response names.
+fn turns_of(alloc: Global, named: Option<&ItemTexts>, loans: &Ids) -> Result<Ids, AllocError>
+    ensures { IfOk result (λ turns. turns ≡ turns_of (option_copied named.entry) loans.now) }
+{
+    match named {
+        None => loans.copy(),
+        Some(texts) => Ids::from_vec(alloc, named_among(alloc, texts, loans.as_slice())?),
+    }
+}
+
+fn named_among(alloc: Global, texts: &ItemTexts, loans: &[Id]) -> Result<Vec<Id>, AllocError>
+    ensures { IfOk result (λ v. v.items ≡ filter (names_item texts.now) loans.now) }
+{
+    let mut named = Vec::new(alloc);
+    for id in loans {
+        if texts.has(id) {
+            named.push(id.clone()?)?;
+        }
+    }
+    Ok(named)
 }
 
 #[tactic(auto, using(read_set::proofs::Gaining::gains_none, read_set::proofs::Gaining::gains_first))]
 fn renew_any<S: Source>(
     line: &LineContext<'_>,
     request: &RenewAll,
+    named: Option<&ItemTexts>,
     member: Option<Member>,
     source: &mut S,
 ) -> Result<Effect, Stop>
-    ensures gives { Follows result (follow (S.has source.new) (renew_all_rule_known line.now.policy.now line.now.number request.now line.now.date member)) }
-    ensures keeps { Gains S.one_by_one (S.has source.old) (S.has source.new) (renew_all_rule_known line.now.policy.now line.now.number request.now line.now.date member) }
+    ensures gives { Follows result (follow (S.has source.new) (renew_all_rule_known line.now.policy.now line.now.number (option_copied named.entry) request.now line.now.date member)) }
+    ensures keeps { Gains S.one_by_one (S.has source.old) (S.has source.new) (renew_all_rule_known line.now.policy.now line.now.number (option_copied named.entry) request.now line.now.date member) }
 {
     match member {
-        Some(member) => renew_each(line, request, member, source),
+        Some(member) => renew_each(line, request, named, member, source),
         None => {
             let alloc = line.alloc;
             let none = tell(line, false, ItemIds::new(alloc), ItemIds::new(alloc))?;
@@ -308,26 +330,18 @@ fn renew_any<S: Source>(
     }
 }
 
-/// A renewal of all items (message 65) on line n.
+/// A renewal of all items (message 65): by the rules of each item, or of those that a response names as renewed.
 #[tactic(auto, unfolding(read_set::specs::RenewAlls::renew_all_rule), using(read_set::proofs::Gaining::gains_none, read_set::proofs::Gaining::gains_first, read_set::proofs::Following::follow_wants))]
 pub fn renew_all<S: Source>(
-    alloc: Global,
-    policy: &Policy,
-    n: u64,
+    line: &LineContext<'_>,
     request: &RenewAll,
-    date: Stamp,
+    named: Option<&ItemTexts>,
     source: &mut S,
 ) -> Result<Effect, Stop>
-    ensures gives { Follows result (follow (S.has source.new) (renew_all_rule policy.now n request.now date)) }
-    ensures means { IfOk result (λ e. (M : Map) → Agrees (S.has source.new) M → e ≡ renew_all policy.now n request.now date M) }
-    ensures keeps { Gains S.one_by_one (S.has source.old) (S.has source.new) (renew_all_rule policy.now n request.now date) }
+    ensures gives { Follows result (follow (S.has source.new) (renew_all_rule line.now.policy.now line.now.number (option_copied named.entry) request.now line.now.date)) }
+    ensures means { IfOk result (λ e. (M : Map) → Agrees (S.has source.new) M → e ≡ renew_all line.now.policy.now line.now.number (option_copied named.entry) request.now line.now.date M) }
+    ensures keeps { Gains S.one_by_one (S.has source.old) (S.has source.new) (renew_all_rule line.now.policy.now line.now.number (option_copied named.entry) request.now line.now.date) }
 {
-    let member = patron_of(alloc, policy, source, &request.patron)?;
-    let line = LineContext {
-        alloc,
-        policy,
-        number: n,
-        date,
-    };
-    renew_any(&line, request, member, source)
+    let member = patron_of(line.alloc, line.policy, source, &request.patron)?;
+    renew_any(line, request, named, member, source)
 }

@@ -13,8 +13,8 @@ ghost use Rattle.read_set.specs.Maps.{Map, Agrees};
 ghost use Rattle.read_set.specs.Stops.{Follows};
 
 use crate::asked::LoanContext;
-use crate::asking::{ask_renew, due_of};
-use crate::fees::{Charge, list_fee, make_fee, nothing, test_owing};
+use crate::asking::{ask_renew, charge_of, due_of};
+use crate::fees::{Charge, list_fee, make_fee, test_owing};
 use crate::lists::has_queue;
 use crate::lookup::{item_of, patron_of};
 use crate::telling::{refuse, refuse_for, tell};
@@ -24,7 +24,8 @@ use read_set::{Article, Draft, Effect, LoanRequest, Member, Source, Stop, Verdic
 use sip_reader::{Amount, Day, Renew, Stamp};
 use std::alloc::{AllocError, Global};
 
-fn is_renewable(a: &LoanRequest, loan: &Option<Loan>) -> bool
+/// Whether this request may renew a loan.
+pub fn is_renewable(a: &LoanRequest, loan: &Option<Loan>) -> bool
     ensures { result ≡ may_renew a.now loan.now }
 {
     match loan {
@@ -108,9 +109,9 @@ pub fn renew_loan_of(alloc: Global, due: Day, article: Article) -> Result<Item, 
 fn make_renewal(asked: &LoanContext<'_>, member: Member, article: Article) -> Result<Effect, Stop>
     ensures { Follows result (Done (renewal_made asked.now.policy.now asked.now.number asked.now.request asked.now.date member article)) }
 {
-    let (a, media) = (&asked.request, &article.media);
+    let media = &article.media;
     let due = due_of(asked, media);
-    let charge = if a.free { nothing() } else { media.rental };
+    let charge = charge_of(asked, media);
     let answer = tell(asked, Some(&article), Some(due), true, charge)?;
     let mut patron = member.patron.get().clone()?;
     list_fee(asked.alloc, asked.number, 0, charge, &mut patron.fees)?;

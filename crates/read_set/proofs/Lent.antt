@@ -23,7 +23,7 @@ use Rattle.read_set.specs.Ids.{same, without}
 use Rattle.read_set.specs.Known.{item_in, patron_in}
 use Rattle.read_set.specs.Checkouts.{checkout, checkout_rule_for, checkout_rule_known, loan_ended, loan_ended_by, lending_made, lending_of, lending_patron, lending_records, lending_rule, lending_rule_by, lending_tests, lending_writes, lent, other_at}
 use Rattle.read_set.specs.Loans.{by_checkout, by_renew, charge_for, due_for, lent_to, refused}
-use Rattle.read_set.specs.Renewals.{renew, renew_rule, renew_rule_known, renewal_rule}
+use Rattle.read_set.specs.Renewals.{may_renew, renew, renew_rule, renew_rule_known, renewal_rule}
 use Rattle.read_set.specs.Lookups.{item_at, patron_at}
 use Rattle.read_set.specs.Maps.{Map, put}
 use Rattle.read_set.specs.Queues.{without_hold}
@@ -184,7 +184,7 @@ checkout-for-keeps p n M line renewal a date stamp fits = by (patron_in p M a.pa
     by None e (Some article) f = nothing p (n + 1) M line.parts
     by (Some member) e None f = nothing p (n + 1) M line.parts
     by (Some member) e (Some article) f =
-        over_either M (renewal && lent_to a.patron article.item.loan) (renewal_rule p n a date member article) (lending_rule p n a date member article)
+        over_either M (renewal && may_renew a article.item.loan) (renewal_rule p n a date member article) (lending_rule p n a date member article)
         (λ (x : Effect). Parts p (n + 1) M (put x.writes M))
         (λ t. renewal-keeps p n M line a date member article stamp fits e f)
         (λ t. lending-keeps p n M line a date member article stamp fits e f)

@@ -6,7 +6,6 @@ use Rattle.circ_policy.proofs.Ranges.{policy-fits}
 use Rattle.circ_policy.specs.Ranges.{FitsPolicy}
 use Rattle.circ_policy.specs.Reading.{policy_of}
 use Rattle.circ_policy.specs.Terms.{Terms}
-use Rattle.read_set.specs.Replay.{last}
 use Rattle.circ_records.specs.Coherent.{Coherent, number_before}
 use Rattle.circ_records.specs.Records.{Entries}
 use Rattle.journal_table.proofs.Ends.{ends-lines}

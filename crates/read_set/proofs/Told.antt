@@ -1,5 +1,5 @@
 -- What is carried out as it was told keeps records coherent.
-use Rattle.std.proofs.Common.{◌≡◌, ◌≤◌, ◌+◌, ℕ, List, Bool, true, false, cond, Option, Some, None, refl, subst, sym, arith}
+use Rattle.std.proofs.Common.{◌≡◌, ◌≤◌, ◌+◌, ℕ, List, Bool, true, false, cond, Option, Some, None, subst, sym, arith}
 use Rattle.std.specs.Prelude.{IfSome}
 use Rattle.circ_policy.specs.Terms.{Terms}
 use Rattle.sip_answer.specs.Outcomes.{FitsOutcome}
@@ -9,22 +9,16 @@ use Rattle.sip_answer.specs.declared.outcome.ToldLoan.{ToldLoan}
 use Rattle.sip_reader.specs.Dates.{is_stamp}
 use Rattle.sip_reader.specs.declared.request.Act.{Act}
 use Rattle.sip_reader.specs.declared.request.Act.TheVariants as acts
-use Rattle.read_set.specs.AsRecorded.{agrees_with, answering, carried, day_told, done_told, followed, loan_told, price_told, renewal_told, renewal_told_known, renewals_told, told as told_for}
+use Rattle.read_set.specs.AsRecorded.{agrees_with, answering, carried, day_told, done_told, followed, loan_told, price_told, renewals_told, told as told_for}
 use Rattle.read_set.specs.Asks.{Give, over}
-use Rattle.read_set.specs.Checkouts.{lending_rule}
 use Rattle.read_set.specs.Coherence.{FitsAct, IsDay}
-use Rattle.read_set.specs.Known.{item_in, patron_in}
-use Rattle.read_set.specs.Loans.{by_checkout, by_renew, refused}
-use Rattle.read_set.specs.Lookups.{item_at, patron_at}
+use Rattle.read_set.specs.Loans.{by_checkout, by_renew}
 use Rattle.read_set.specs.Maps.{Map, put}
-use Rattle.read_set.specs.Renewals.{may_renew, renewal_rule}
 use Rattle.read_set.specs.declared.effect.Effect.{Effect}
-use Rattle.read_set.specs.declared.known.Article.{Article}
-use Rattle.read_set.specs.declared.known.Member.{Member}
 use Rattle.read_set.specs.declared.verdict.LoanRequest.{LoanRequest}
 use Rattle.read_set.proofs.Following.{over_either, over_then}
-use Rattle.read_set.proofs.Lent.{checkout-for-keeps, fits-checkout, lending-keeps}
-use Rattle.read_set.proofs.Line.{FitsAsked, Line, renewal-keeps}
+use Rattle.read_set.proofs.Lent.{checkout-for-keeps, fits-checkout}
+use Rattle.read_set.proofs.Line.{FitsAsked, Line}
 use Rattle.read_set.proofs.RenewedAll.{renew-all-keeps}
 use Rattle.read_set.proofs.SimpleKinds.{hold-keeps, nothing}
 use Rattle.read_set.proofs.States.{Parts}
@@ -49,24 +43,10 @@ told-fits a t asked fits = (day t.due fits.0, price t.fee fits.1)
     price None f = agreed a.agreed a.price asked.1
 
 module _ (p : Terms) (n : ℕ) (M : Map) (line : Line p n M) (date : List ℕ) (stamp : is_stamp date ≡ true) where
-  renewal-told-keeps : (a : LoanRequest) → FitsAsked a → Parts p (n + 1) M (put (over M (renewal_told p n a date)).writes M)
-  unfolding refused renewal_told patron_at item_at
-  renewal-told-keeps a fits = by (patron_in p M a.patron) refl (item_in p M a.item) refl
-    where
-      by : (o : Option Member) → patron_in p M a.patron ≡ o → (x : Option Article) → item_in p M a.item ≡ x → Parts p (n + 1) M (put (over M (renewal_told_known p n a date o x)).writes M)
-      by None e None f = nothing p (n + 1) M line.parts
-      by None e (Some article) f = nothing p (n + 1) M line.parts
-      by (Some member) e None f = nothing p (n + 1) M line.parts
-      by (Some member) e (Some article) f =
-          over_either M (may_renew a article.item.loan) (renewal_rule p n a date member article) (lending_rule p n a date member article)
-          (λ (x : Effect). Parts p (n + 1) M (put x.writes M))
-          (λ t. renewal-keeps p n M line a date member article stamp fits e f)
-          (λ t. lending-keeps p n M line a date member article stamp fits e f)
-
   loan-told-keeps : (act : Act) (t : ToldLoan) → FitsAct act → FitsOutcome (outcomes.Lent t) → Parts p (n + 1) M (put (over M (loan_told p n date act t)).writes M)
   unfolding loan_told
   loan-told-keeps (acts.Checkout q) t fits told = checkout-for-keeps p n M line t.renewal (told_for (by_checkout q) t) date stamp (told-fits (by_checkout q) t (fits-checkout q fits) told)
-  loan-told-keeps (acts.Renew q) t fits told = renewal-told-keeps (told_for (by_renew q) t) (told-fits (by_renew q) t (fits, tt) told)
+  loan-told-keeps (acts.Renew q) t fits told = checkout-for-keeps p n M line true (told_for (by_renew q) t) date stamp (told-fits (by_renew q) t (fits, tt) told)
   loan-told-keeps (acts.BlockPatron q) t fits told = nothing p (n + 1) M line.parts
   loan-told-keeps (acts.Checkin q) t fits told = nothing p (n + 1) M line.parts
   loan-told-keeps (acts.Hold q) t fits told = nothing p (n + 1) M line.parts

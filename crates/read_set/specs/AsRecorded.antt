@@ -1,8 +1,7 @@
 -- As recorded: the records follow what a recorded response says was done, and the answer stays the rule's on the records before.
 -- "No block" (SIP 2.00) says that a transaction was done off line and is not to be refused, and the nb due date is the day that was
 -- given then: so what a response says is carried out by the same rules, forced.
-use Rattle.std.specs.Prelude.{ℕ, Bool, true, false, ◌&&◌, List, Option, Some, None, is_some, if◌then◌else◌}
-use Rattle.std.specs.Option.{option_map_or, option_or}
+use Rattle.std.specs.Prelude.{ℕ, Bool, true, false, List, Option, Some, None, if◌then◌else◌}
 use Rattle.circ_policy.specs.Terms.{Terms}
 use Rattle.sip_answer.specs.Outcomes.{agrees}
 use Rattle.sip_answer.specs.declared.answer.Answer.{Answer}
@@ -11,18 +10,13 @@ use Rattle.sip_answer.specs.declared.outcome.Outcome.TheVariants as outcomes
 use Rattle.sip_answer.specs.declared.outcome.ToldLoan.{ToldLoan}
 use Rattle.sip_reader.specs.declared.request.Act.{Act}
 use Rattle.sip_reader.specs.declared.request.Act.TheVariants as acts
-use Rattle.read_set.specs.Asks.{Asks, Give, over, ◌>>=◌}
-use Rattle.read_set.specs.Checkouts.{checkout_rule_for, lending_rule}
+use Rattle.read_set.specs.Asks.{Asks, Give, ◌>>=◌}
+use Rattle.read_set.specs.Checkouts.{checkout_rule_for}
 use Rattle.read_set.specs.Effects.{unwritten}
 use Rattle.read_set.specs.Holds.{hold_rule}
-use Rattle.read_set.specs.Loans.{by_checkout, by_renew, refused}
-use Rattle.read_set.specs.Lookups.{item_at, patron_at}
-use Rattle.read_set.specs.Maps.{Map}
+use Rattle.read_set.specs.Loans.{by_checkout, by_renew}
 use Rattle.read_set.specs.RenewAlls.{renew_all_rule}
-use Rattle.read_set.specs.Renewals.{may_renew, renewal_rule}
 use Rattle.read_set.specs.declared.effect.Effect.{Effect}
-use Rattle.read_set.specs.declared.known.Article.{Article}
-use Rattle.read_set.specs.declared.known.Member.{Member}
 use Rattle.read_set.specs.declared.verdict.LoanRequest.{LoanRequest}
 
 -- the day that was told; if none was, the one that the request gives, if the request itself was forced
@@ -40,23 +34,11 @@ price_told a None = if a.agreed then a.price else Some 0
 abbrev pub told : LoanRequest → ToldLoan → LoanRequest
 told a t = record a { forced = true; given = day_told a t.due; price = price_told a t.fee }
 
--- A renewal (message 29) that was told as done: one's own loan is renewed, and that of another where a third party is allowed; what isn't
--- on loan to the asker is lent to the asker.
-abbrev pub renewal_told_known : Terms → ℕ → LoanRequest → List ℕ → Option Member → Option Article → Asks Effect
-renewal_told_known p n a date (Some member) (Some article) =
-    if may_renew a article.item.loan then renewal_rule p n a date member article else lending_rule p n a date member article
-renewal_told_known p n a date _ article = Give (refused p a date article 0)
-
-unfoldable pub renewal_told : Terms → ℕ → LoanRequest → List ℕ → Asks Effect
-renewal_told p n a date = do
-  patron ← patron_at p a.patron
-  item ← item_at p a.item
-  renewal_told_known p n a date patron item
-
--- a checkout or a renewal that was told as done
+-- A checkout or a renewal (message 29) that was told as done. One's own loan is renewed, and that of another where a third party is
+-- allowed; what isn't on loan to the asker is lent to the asker: so a renewal is as a checkout that may renew.
 unfoldable pub loan_told : Terms → ℕ → List ℕ → Act → ToldLoan → Asks Effect
 loan_told p n date (acts.Checkout q) t = checkout_rule_for p n t.renewal (told (by_checkout q) t) date
-loan_told p n date (acts.Renew q) t = renewal_told p n (told (by_renew q) t) date
+loan_told p n date (acts.Renew q) t = checkout_rule_for p n true (told (by_renew q) t) date
 loan_told p n date act t = Give (unwritten None)
 
 -- a hold that was told as done: that the patron is blocked doesn't count. Of the other requests there is nothing to do that their rule

@@ -18,7 +18,7 @@ use Rattle.read_set.specs.Lookups.{item_at, patron_at}
 use Rattle.read_set.specs.Maps.{Map}
 use Rattle.read_set.specs.Owing.{owing_tests}
 use Rattle.read_set.specs.Queues.{first_is_another, without_hold}
-use Rattle.read_set.specs.Renewals.{renewal_rule}
+use Rattle.read_set.specs.Renewals.{may_renew, renewal_rule}
 use Rattle.read_set.specs.declared.effect.Effect.{Effect}
 use Rattle.read_set.specs.declared.known.Article.{Article}
 use Rattle.read_set.specs.declared.known.Member.{Member}
@@ -93,10 +93,11 @@ lending_rule p n a date member article = do
   verdict ← lending_tests a member article
   lending_rule_by p n a date member article verdict
 
--- a checkout of what is on loan to the same patron is a renewal, where the terminal allows it (SC renewal policy)
+-- A checkout of what is on loan to the same patron is a renewal, where the terminal allows it (SC renewal policy). No checkout allows a
+-- third party to renew.
 abbrev pub checkout_rule_known : Terms → ℕ → Bool → LoanRequest → List ℕ → Option Member → Option Article → Asks Effect
 checkout_rule_known p n renewal a date (Some member) (Some article) =
-    if renewal && lent_to a.patron article.item.loan then renewal_rule p n a date member article
+    if renewal && may_renew a article.item.loan then renewal_rule p n a date member article
     else lending_rule p n a date member article
 checkout_rule_known p n renewal a date _ article = Give (refused p a date article 0)
 

@@ -1,4 +1,4 @@
-use Rattle.std.proofs.Common.{◌≡◌, ◌∙◌, ◌+◌, ◌≤◌, Some, length, map, slice_get, List, Option, ap, arith, suc, subst, sym, take, take_all}
+use Rattle.std.proofs.Common.{◌≡◌, ◌∙◌, ◌+◌, ◌≤◌, Some, length, map, slice_get, List, Option, ap, arith, suc, sym, take_all}
 use Rattle.std.proofs.lemmas.Option.{slice_get-get_or}
 use Rattle.journal_table.specs.Entry.{Entry}
 use Rattle.read_set.specs.Coherence.{HasFitOutcome}

@@ -1,6 +1,6 @@
 -- Lists of items and how often each is in them.
-use Rattle.std.proofs.Common.{◌≡◌, ℕ, ◌+◌, Bool, ◌&&◌, eqb, List, [], ◌∷◌, ◌++◌, Option, Some, None, cond, map, refl, sym, ap, ◌∙◌, true, false, append-nil, unwrap_or, add-zero}
-use Rattle.std.specs.List.{cons_option, count_by, filter_map, fold, list_all}
+use Rattle.std.proofs.Common.{◌≡◌, ℕ, ◌+◌, Bool, ◌&&◌, ◌||◌, eqb, List, [], ◌∷◌, ◌++◌, Option, Some, None, cond, map, refl, sym, ap, ◌∙◌, true, false, append-nil, unwrap_or, add-zero}
+use Rattle.std.specs.List.{cons_option, count_by, filter_map, fold, list_all, list_any}
 use Rattle.std.specs.Str.{bytes_eq}
 use Rattle.std.specs.Borrow.{Bor}
 use Rattle.std.proofs.lemmas.List.Elements.{filter_map-append}
@@ -65,3 +65,8 @@ tally_more had has item xs n before is after q = by (bytes_eq q item.now) refl
     by false e =
         let back : bytes_eq item.now q ≡ false = false_from_ne_true (bytes_eq item.now q) (λ t. false≢true (sym e ∙ (bytes_eq-Decides q item.now).1 (sym ((bytes_eq-Decides item.now q).0 t)))) in
         rw (after q, back, fold_push (λ a x. a + cond (bytes_eq q x.now) 1 0) 0 xs item, e) (before q ∙ sym (add-zero (count_by (λ x. bytes_eq q x.now) xs)))
+
+-- a test of some of what a list is mapped to
+pub list_any-map : {X Y : Type 0} (p : Y → Bool) (h : X → Y) (xs : List X) → list_any p (map h xs) ≡ list_any (λ x. p (h x)) xs
+list_any-map p h [] = refl
+list_any-map p h (x ∷ xs) = ap (λ b. p (h x) || b) (list_any-map p h xs)

@@ -1,4 +1,5 @@
 pub mod AmountDigits
+pub mod AsRecorded
 pub mod Calendar
 pub mod Codes
 pub mod DueTexts

@@ -22,6 +22,7 @@ use Rattle.sip_answer.specs.DueDates.{due_text}
 use Rattle.sip_answer.specs.Laws.{loan_texts, LoanParts}
 use Rattle.sip_answer.specs.Parts.{digit, field, filled, flag, given}
 use Rattle.sip_answer.specs.Recorded.{day_in, due_in, fee_in, fee_of}
+use Rattle.sip_answer.specs.Responses.{loan_in}
 use Rattle.sip_answer.specs.Texts.{loan_text, money}
 use Rattle.sip_answer.specs.declared.answer.Answer.TheVariants as answers
 use Rattle.sip_answer.specs.declared.answer.KnownItem.{KnownItem}
@@ -76,10 +77,10 @@ media_clean BookWithCd = refl
 media_clean BookWithTape = refl
 
 -- a fee that is written is read
-fee_read : (t : List ℕ) (n : ℕ) → amount_of t ≡ Some n → fee_of (Some t) ≡ Some n
+fee_read : (t : List ℕ) (n : ℕ) → amount_of t ≡ Some n → fee_of (Some t) ≡ Some (Some n)
 unfolding amount_of
 fee_read [] n e = cc e
-fee_read (x ∷ t) n e = e
+fee_read (x ∷ t) n e = ap (option_map Some) e
 
 -- the fields after a fee: none is BV
 behind : Option KnownItem → List ℕ
@@ -99,7 +100,7 @@ charged : List ℕ → Option ℕ → List ℕ
 charged currency rental = option_map_or (λ (r : ℕ). field (codes "BT") (codes "06") ++ money currency r) rental []
 
 rental_read : (currency : List ℕ) (rental : Option ℕ) (known : Option KnownItem) → is_whole currency ≡ true → is_whole (option_map_or (λ (i : KnownItem). i.properties) known []) ≡ true
-    → IfSome rental (λ r. r ≤ 99_999_999_999) → fee_of (first 66 86 (charged currency rental ++ behind known)) ≡ Some (unwrap_or rental 0)
+    → IfSome rental (λ r. r ≤ 99_999_999_999) → fee_of (first 66 86 (charged currency rental ++ behind known)) ≡ Some rental
 unfolding charged
 rental_read currency None known c1 c2 most = rw (no_fee known c2) refl
 rental_read currency (Some r) known c1 c2 most =
@@ -182,10 +183,10 @@ unfolding due_words word_unless
 no_due_word f None range = refl
 no_due_word f (Some n) range = rw (due_read f n range, eqb_itself n) refl
 
-words_none : (a : LoanAnswer) (x y : ℕ) (more : List ℕ) → 18 ≤ length more → fee_in (drop 18 more) ≡ Some (unwrap_or a.rental 0)
+words_none : (a : LoanAnswer) (x y : ℕ) (more : List ℕ) → 18 ≤ length more → fee_in (drop 18 more) ≡ Some a.rental
     → due_words a.due (is_some a.due) (due_in (drop 18 more)) ≡ []
-    → loan_words a (x ∷ y ∷ ok_byte (is_some a.due) ∷ flag_byte a.renewed ∷ 85 ∷ flag_byte (is_some a.due) ∷ more) ≡ Some []
-unfolding loan_words word_unless
+    → option_map (loan_words a) (loan_in (x ∷ y ∷ ok_byte (is_some a.due) ∷ flag_byte a.renewed ∷ 85 ∷ flag_byte (is_some a.due) ∷ more)) ≡ Some []
+unfolding loan_in loan_words word_unless
 words_none a x y more long fee due =
     rw (
       le-ltb (length (x ∷ y ∷ ok_byte (is_some a.due) ∷ flag_byte a.renewed ∷ 85 ∷ flag_byte (is_some a.due) ∷ more)) 24 (omega arith),
@@ -228,17 +229,17 @@ ends id a =
     ends_filled (due ++ charged a.currency a.rental ++ given (codes "CK") media) (codes "CH") (option_map_or (λ (i : KnownItem). i.properties) a.known [])
     (ends_given (due ++ charged a.currency a.rental) (codes "CK") media (ends_charged due a.currency a.rental dued))
 
-none : (x y : ℕ) (a : LoanAnswer) → list_all is_whole (loan_texts a) ≡ true → LoanParts a → loan_words a (loan_text (x ∷ y ∷ []) a) ≡ Some []
+none : (x y : ℕ) (a : LoanAnswer) → list_all is_whole (loan_texts a) ≡ true → LoanParts a → option_map (loan_words a) (loan_in (loan_text (x ∷ y ∷ []) a)) ≡ Some []
 unfolding fee_in due_in first due_of
 none x y a clean parts =
     let c = clean_of a clean in
     let dated : is_whole (due_of a) ≡ true = due_clean a.due_form a.due parts.1 in
     let long : 18 ≤ length (a.date ++ fields a) = simp length-append (omega (arith, parts.0)) in
-    let fee : fee_in (drop 18 (a.date ++ fields a)) ≡ Some (unwrap_or a.rental 0) =
+    let fee : fee_in (drop 18 (a.date ++ fields a)) ≡ Some a.rental =
     rw (behind_date a.date (fields a) parts.0) (ap fee_of (fee_found a c dated) ∙ rental_read a.currency a.rental a.known c.currency c.properties parts.2) in
     let due : due_words a.due (is_some a.due) (due_in (drop 18 (a.date ++ fields a))) ≡ [] =
     rw (behind_date a.date (fields a) parts.0) (ap (λ (o : Option (List ℕ)). due_words a.due (is_some a.due) (option_and_then day_in o)) (due_found a c dated) ∙ no_due_word a.due_form a.due parts.1) in
-    subst (λ (t : List ℕ). loan_words a t ≡ Some []) (sym (shape x y a)) (words_none a x y (a.date ++ fields a) long fee due)
+    subst (λ (t : List ℕ). option_map (loan_words a) (loan_in t) ≡ Some []) (sym (shape x y a)) (words_none a x y (a.date ++ fields a) long fee due)
 
 text_long : (x y : ℕ) (a : LoanAnswer) → 2 ≤ length (loan_text (x ∷ y ∷ []) a)
 text_long x y a = subst (λ (t : List ℕ). 2 ≤ length t) (sym (shape x y a)) (omega arith)

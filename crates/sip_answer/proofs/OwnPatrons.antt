@@ -2,17 +2,18 @@
 use Rattle.std.proofs.Common.{◌≡◌, ℕ, ◌≤◌, Bool, true, false, List, [], ◌∷◌, ◌++◌, length, drop, Option, Some, None, refl, sym, subst, ap, ◌∙◌, append_assoc, append-nil, arith}
 use Rattle.std.specs.Prelude.{codes, is_some}
 use Rattle.std.specs.List.{list_all}
-use Rattle.std.specs.Option.{option_map_or}
+use Rattle.std.specs.Option.{option_map, option_map_or}
 use Rattle.std.proofs.lemmas.Bool.{and_parts, le-ltb}
 use Rattle.std.proofs.lemmas.List.{length-append}
 use Rattle.std.proofs.Math.Seq.{drop-append_seam}
 use Rattle.sip_reader.specs.Amounts.{amount_text}
 use Rattle.sip_answer.specs.Devices.ReadBack.{is_whole}
-use Rattle.sip_answer.specs.Differ.{is_response, is_same_status, patron_words, word_unless, words_of}
+use Rattle.sip_answer.specs.Differ.{identifier_of, is_same_status, patron_words, word_unless, words_of}
 use Rattle.sip_answer.specs.Laws.{patron_texts}
 use Rattle.sip_answer.specs.Parts.{field, flag}
 use Rattle.sip_reader.specs.Reading.{says_yes}
 use Rattle.sip_answer.specs.Recorded.{valid_in}
+use Rattle.sip_answer.specs.Responses.{has_id, patron_in, status_in}
 use Rattle.sip_answer.specs.Texts.{money, owed_text, patron_text, status_text}
 use Rattle.sip_answer.specs.declared.answer.Answer.{Answer}
 use Rattle.sip_answer.specs.declared.answer.Answer.TheVariants as answers
@@ -34,8 +35,8 @@ status_bytes s more =
     mark_byte s.charge_denied ∷ mark_byte s.renewal_denied ∷ 32 ∷ mark_byte s.hold_denied ∷ 32 ∷ mark_byte s.too_many_items
     ∷ 32 ∷ 32 ∷ 32 ∷ 32 ∷ 32 ∷ mark_byte s.excessive_fees ∷ 32 ∷ 32 ∷ 48 ∷ 48 ∷ 48 ∷ more
 
-status_read : (s : PatronStatus) (x y : ℕ) (more : List ℕ) → is_same_status s (x ∷ y ∷ status_bytes s more) ≡ true
-unfolding is_same_status status_bytes
+status_read : (s : PatronStatus) (x y : ℕ) (more : List ℕ) → is_same_status s (status_in (x ∷ y ∷ status_bytes s more)) ≡ true
+unfolding is_same_status status_in status_bytes
 status_read s x y more =
     rw (
       mark_read s.charge_denied,
@@ -49,8 +50,8 @@ status_read s x y more =
     ) refl
 
 patron_none : (a : PatronAnswer) (x y : ℕ) (more : List ℕ) → 18 ≤ length more → valid_in (drop 18 more) ≡ is_some a.known
-    → patron_words a (x ∷ y ∷ status_bytes a.status more) ≡ Some []
-unfolding patron_words status_bytes word_unless
+    → option_map (patron_words a) (patron_in (x ∷ y ∷ status_bytes a.status more)) ≡ Some []
+unfolding patron_in patron_words status_bytes word_unless
 patron_none a x y more long valid =
     rw (le-ltb (length (x ∷ y ∷ status_bytes a.status more)) 37 (omega arith), status_read a.status x y more, valid, is_same-itself (is_some a.known)) refl
 
@@ -101,17 +102,17 @@ shape x y a more = rw (mark_is a.status.charge_denied, mark_is a.status.renewal_
     (regroup a.date (field (codes "AO") a.institution) (field (codes "AA") a.patron) (field (codes "AE") (option_map_or (λ (p : KnownPatron). p.name) a.known [])) (field (codes "BL") (flag (is_some a.known))) more))
 
 none : (x y : ℕ) (a : PatronAnswer) (more : List ℕ) → list_all is_whole (patron_texts a) ≡ true → length a.date ≡ 18
-    → patron_words a (patron_text (x ∷ y ∷ []) a ++ more) ≡ Some []
+    → option_map (patron_words a) (patron_in (patron_text (x ∷ y ∷ []) a ++ more)) ≡ Some []
 none x y a more clean date =
     let long : 18 ≤ length (a.date ++ fields a more) = simp length-append (omega arith) in
     let read : valid_in (drop 18 (a.date ++ fields a more)) ≡ is_some a.known = rw (behind_date a.date (fields a more) date) (valid_read a more clean) in
-    subst (λ t. patron_words a t ≡ Some []) (sym (shape x y a more)) (patron_none a x y (a.date ++ fields a more) long read)
+    subst (λ t. option_map (patron_words a) (patron_in t) ≡ Some []) (sym (shape x y a more)) (patron_none a x y (a.date ++ fields a more) long read)
 
 text_long : (x y : ℕ) (a : PatronAnswer) (more : List ℕ) → 2 ≤ length (patron_text (x ∷ y ∷ []) a ++ more)
 unfolding status_bytes
 text_long x y a more = subst (λ t. 2 ≤ length t) (sym (shape x y a more)) (omega arith)
 
-agreeing : (x y : ℕ) (a : PatronAnswer) (more : List ℕ) (answer : Answer) → EndsIn 124 (patron_text (x ∷ y ∷ []) a ++ more) → is_response answer (patron_text (x ∷ y ∷ []) a ++ more) ≡ true
+agreeing : (x y : ℕ) (a : PatronAnswer) (more : List ℕ) (answer : Answer) → EndsIn 124 (patron_text (x ∷ y ∷ []) a ++ more) → has_id (identifier_of answer) (patron_text (x ∷ y ∷ []) a ++ more) ≡ true
     → words_of answer (patron_text (x ∷ y ∷ []) a ++ more) ≡ Some [] → Agreeing answer (patron_text (x ∷ y ∷ []) a ++ more)
 agreeing x y a more answer end kind words = record { end = end; long = text_long x y a more; kind = kind; none = words }
 

@@ -3,6 +3,7 @@ use Rattle.std.proofs.Common.{◌≡◌, ℕ, ◌+◌, ◌/◌, ◌%◌, ◌≤�
 use Rattle.std.specs.Prelude.{codes}
 use Rattle.std.specs.Char.{is_ascii_digit}
 use Rattle.std.specs.List.{flat_map, list_all, list_any}
+use Rattle.std.specs.Option.{option_map}
 use Rattle.std.proofs.lemmas.Bool.{and_parts, le-ltb, ltb-false}
 use Rattle.std.proofs.lemmas.Grind.{common_steps}
 use Rattle.std.proofs.lemmas.List.{length-append}
@@ -12,6 +13,7 @@ use Rattle.sip_answer.specs.Differ.{are_same_items, capped, renew_all_words, tim
 use Rattle.sip_answer.specs.DueDates.{four_digits, two_digits}
 use Rattle.sip_answer.specs.Parts.{count, digit, each, field}
 use Rattle.sip_answer.specs.Recorded.{count_at, items_in}
+use Rattle.sip_answer.specs.Responses.{renew_all_in}
 use Rattle.sip_answer.specs.Texts.{renew_all_text}
 use Rattle.sip_answer.specs.declared.answer.Answer.TheVariants as answers
 use Rattle.sip_answer.specs.declared.answer.RenewAllAnswer.{RenewAllAnswer}
@@ -115,8 +117,8 @@ unrenewed_read a c1 c2 c3 =
 
 -- Renew all response (66).
 words_none : (a : RenewAllAnswer) (more : List ℕ) → 18 ≤ length more → items_in 66 77 (drop 18 more) ≡ a.renewed → items_in 66 78 (drop 18 more) ≡ a.unrenewed
-    → renew_all_words a (54 ∷ 54 ∷ ok_byte a.ok ∷ (four_digits (capped (length a.renewed)) ++ (four_digits (capped (length a.unrenewed)) ++ more))) ≡ Some []
-unfolding renew_all_words four_digits two_digits word_unless
+    → option_map (renew_all_words a) (renew_all_in (54 ∷ 54 ∷ ok_byte a.ok ∷ (four_digits (capped (length a.renewed)) ++ (four_digits (capped (length a.unrenewed)) ++ more)))) ≡ Some []
+unfolding renew_all_in renew_all_words four_digits two_digits word_unless
 words_none a more long renewed unrenewed =
     let r = capped (length a.renewed) in
     let u = capped (length a.unrenewed) in

@@ -9,8 +9,9 @@ use Rattle.std.proofs.lemmas.List.{length-append}
 use Rattle.circ_policy.specs.Medias.{media_code}
 use Rattle.sip_reader.specs.Reading.{trimmed}
 use Rattle.sip_reader.specs.Sum.{body, has_trailer}
-use Rattle.sip_answer.specs.Differ.{checkin_words, differ, differ_body, fee_paid_words, hold_words, is_response, item_status_words, words_of}
+use Rattle.sip_answer.specs.Differ.{checkin_words, differ, fee_paid_words, hold_words, identifier_of, item_status_words, words_of}
 use Rattle.sip_answer.specs.Parts.{digit, field, filled, flag, given, with_sequence}
+use Rattle.sip_answer.specs.Responses.{body_with, checkin_in, fee_paid_in, has_id, hold_in, item_status_in, response_with}
 use Rattle.sip_answer.specs.Texts.{checkin_text, fee_paid_text, hold_text, item_status_text, position_text, resend_text}
 use Rattle.sip_answer.specs.declared.answer.Answer.{Answer}
 use Rattle.sip_answer.specs.declared.answer.Answer.TheVariants as answers
@@ -28,11 +29,11 @@ use Rattle.sip_answer.proofs.Written.{digit_is, ends_field, ends_filled, ends_gi
 pub record Agreeing (a : Answer) (t : List ℕ) : Type 0 where
   pub end : EndsIn 124 t
   pub long : 2 ≤ length t
-  pub kind : is_response a t ≡ true
+  pub kind : has_id (identifier_of a) t ≡ true
   pub none : words_of a t ≡ Some []
 
 pub agrees : (a : Answer) (t : List ℕ) (sequence : Option ℕ) → Agreeing a t → IfSome sequence (λ s. is_ascii_digit s ≡ true) → differ a (with_sequence t sequence) ≡ []
-unfolding differ differ_body
+unfolding differ response_with body_with
 agrees a t sequence own digit =
     let f = unframed_again t sequence own.end digit in
     let some : eqb (length (with_sequence t sequence)) 0 ≡ false = ne_eqb (length (with_sequence t sequence)) (omega (arith, f.long, own.long)) in
@@ -42,8 +43,8 @@ agrees a t sequence own digit =
     ne_eqb n h = grind (arith, common_steps)
 
 -- Fee paid response (38).
-fee_paid_none : (a : FeePaidAnswer) (more : List ℕ) → 18 ≤ length more → fee_paid_words a (51 ∷ 56 ∷ flag_byte a.accepted ∷ more) ≡ Some []
-unfolding fee_paid_words
+fee_paid_none : (a : FeePaidAnswer) (more : List ℕ) → 18 ≤ length more → words_of (answers.FeePaid a) (51 ∷ 56 ∷ flag_byte a.accepted ∷ more) ≡ Some []
+unfolding fee_paid_in fee_paid_words
 fee_paid_none a more long = rw (le-ltb (length (51 ∷ 56 ∷ flag_byte a.accepted ∷ more)) 21 (omega arith), flag_read a.accepted, no_word words.Accepted a.accepted) refl
 
 pub fee_paid : (a : FeePaidAnswer) → length a.date ≡ 18 → Agreeing (answers.FeePaid a) (fee_paid_text a)
@@ -55,8 +56,8 @@ fee_paid a date =
     subst (Agreeing (answers.FeePaid a)) (sym shape) (record { end = subst (EndsIn 124) shape end; long = omega arith; kind = refl; none = fee_paid_none a more long })
 
 -- Item status update response (20).
-item_status_none : (a : ItemStatusAnswer) (more : List ℕ) → 18 ≤ length more → item_status_words a (50 ∷ 48 ∷ ok_byte (is_some a.known) ∷ more) ≡ Some []
-unfolding item_status_words
+item_status_none : (a : ItemStatusAnswer) (more : List ℕ) → 18 ≤ length more → words_of (answers.ItemStatus a) (50 ∷ 48 ∷ ok_byte (is_some a.known) ∷ more) ≡ Some []
+unfolding item_status_in item_status_words
 item_status_none a more long = rw (le-ltb (length (50 ∷ 48 ∷ ok_byte (is_some a.known) ∷ more)) 21 (omega arith), stored_read (is_some a.known), no_word words.Ok (is_some a.known)) refl
 
 pub item_status : (a : ItemStatusAnswer) → length a.date ≡ 18 → Agreeing (answers.ItemStatus a) (item_status_text a)
@@ -72,8 +73,8 @@ item_status a date =
     subst (Agreeing (answers.ItemStatus a)) (sym shape) (record { end = subst (EndsIn 124) shape end; long = omega arith; kind = refl; none = item_status_none a more long })
 
 -- Hold response (16).
-hold_none : (a : HoldAnswer) (more : List ℕ) → 18 ≤ length more → hold_words a (49 ∷ 54 ∷ ok_byte a.ok ∷ flag_byte a.available ∷ more) ≡ Some []
-unfolding hold_words
+hold_none : (a : HoldAnswer) (more : List ℕ) → 18 ≤ length more → words_of (answers.Hold a) (49 ∷ 54 ∷ ok_byte a.ok ∷ flag_byte a.available ∷ more) ≡ Some []
+unfolding hold_in hold_words
 hold_none a more long =
     rw (le-ltb (length (49 ∷ 54 ∷ ok_byte a.ok ∷ flag_byte a.available ∷ more)) 22 (omega arith), ok_read a.ok, flag_read a.available, no_word words.Ok a.ok, no_word words.Available a.available) refl
 
@@ -90,8 +91,8 @@ hold a date =
 
 -- Checkin response (10).
 checkin_none : (a : CheckinAnswer) (more : List ℕ) → 18 ≤ length more →
-    checkin_words a (49 ∷ 48 ∷ ok_byte (is_some a.known) ∷ flag_byte (is_some a.known) ∷ 85 ∷ flag_byte a.alert ∷ more) ≡ Some []
-unfolding checkin_words
+    words_of (answers.Checkin a) (49 ∷ 48 ∷ ok_byte (is_some a.known) ∷ flag_byte (is_some a.known) ∷ 85 ∷ flag_byte a.alert ∷ more) ≡ Some []
+unfolding checkin_in checkin_words
 checkin_none a more long =
     rw (
       le-ltb (length (49 ∷ 48 ∷ ok_byte (is_some a.known) ∷ flag_byte (is_some a.known) ∷ 85 ∷ flag_byte a.alert ∷ more)) 24 (omega arith),
@@ -122,5 +123,5 @@ checkin a date =
 
 -- Request SC resend (96).
 pub resend : differ answers.Resend resend_text ≡ []
-unfolding differ differ_body trimmed body has_trailer
+unfolding differ response_with body_with trimmed body has_trailer
 resend = refl

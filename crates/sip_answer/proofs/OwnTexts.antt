@@ -5,6 +5,7 @@ use Rattle.std.specs.Char.{is_ascii_digit}
 use Rattle.sip_reader.specs.Reading.{trimmed}
 use Rattle.sip_answer.specs.Devices.ReadBack.{ReadsBack}
 use Rattle.sip_answer.specs.Differ.{differ}
+use Rattle.sip_answer.specs.Responses.{response_with}
 use Rattle.sip_answer.specs.Texts.{answer_text, checkin_text, fee_paid_text, hold_text, item_status_text, loan_text, owed_text, patron_text, renew_all_text}
 use Rattle.sip_answer.specs.declared.answer.Answer.{Answer}
 use Rattle.sip_answer.specs.declared.answer.Answer.TheVariants as answers
@@ -28,7 +29,7 @@ own_agrees answers.Resend s fit digit = resend
 
 -- CR and LF at the end make no difference
 trimmed_alike : (a : Answer) (recorded text : List ℕ) → trimmed recorded ≡ trimmed text → differ a recorded ≡ differ a text
-unfolding differ
+unfolding differ response_with
 trimmed_alike a recorded text same = rw same refl
 
 pub recorded_agrees : (a : Answer) (recorded text : List ℕ) → trimmed recorded ≡ trimmed text → differ a text ≡ [] → differ a recorded ≡ []

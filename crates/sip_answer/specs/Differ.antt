@@ -1,12 +1,12 @@
 -- In which words a recorded response differs from an answer.
-use Rattle.std.specs.Prelude.{◌≡◌, ◌+◌, ℕ, Bool, true, false, ◌&&◌, ◌==◌, not, nat_lt, List, [], ◌∷◌, ◌++◌, length, drop, slice_index, Option, Some, None, unwrap_or, is_some, count_by, if◌then◌else◌, codes}
+use Rattle.std.specs.Prelude.{◌≡◌, ℕ, Bool, true, false, ◌&&◌, ◌==◌, not, nat_lt, List, [], ◌∷◌, ◌++◌, length, Option, Some, None, Result, Ok, Err, unwrap_or, is_some, count_by, if◌then◌else◌}
 use Rattle.std.specs.List.{list_all}
+use Rattle.std.specs.Option.{option_map, option_map_or}
 use Rattle.std.specs.Str.{bytes_eq}
-use Rattle.sip_reader.specs.Bytes as byte
-use Rattle.sip_reader.specs.Reading.{trimmed}
-use Rattle.sip_reader.specs.Sum.{body}
+use Rattle.sip_reader.specs.declared.request.Kind.{Kind}
+use Rattle.sip_reader.specs.declared.request.Kind.TheVariants as kinds
 use Rattle.sip_answer.specs.Parts.{count_max}
-use Rattle.sip_answer.specs.Recorded.{◌>>=◌, ok_of, flag_of, count_at, due_in, fee_in, valid_in, items_in}
+use Rattle.sip_answer.specs.Responses.{checkin_in, fee_paid_in, hold_in, item_status_in, loan_in, patron_in, renew_all_in, resend_id, response_to, response_with}
 use Rattle.sip_answer.specs.declared.answer.Answer.{Answer}
 use Rattle.sip_answer.specs.declared.answer.Answer.TheVariants as answers
 use Rattle.sip_answer.specs.declared.answer.CheckinAnswer.{CheckinAnswer}
@@ -19,6 +19,11 @@ use Rattle.sip_answer.specs.declared.answer.PatronStatus.{PatronStatus}
 use Rattle.sip_answer.specs.declared.answer.RenewAllAnswer.{RenewAllAnswer}
 use Rattle.sip_answer.specs.declared.field.Field.{Field}
 use Rattle.sip_answer.specs.declared.field.Field.TheVariants as words
+use Rattle.sip_answer.specs.declared.response.CheckinResponse.{CheckinResponse}
+use Rattle.sip_answer.specs.declared.response.HoldResponse.{HoldResponse}
+use Rattle.sip_answer.specs.declared.response.LoanResponse.{LoanResponse}
+use Rattle.sip_answer.specs.declared.response.PatronResponse.{PatronResponse}
+use Rattle.sip_answer.specs.declared.response.RenewAllResponse.{RenewAllResponse}
 
 -- this word, unless the two agree
 unfoldable pub word_unless : Field → Bool → List Field
@@ -37,64 +42,22 @@ times_in items item = count_by (bytes_eq item) items
 unfoldable pub are_same_items : List (List ℕ) → List (List ℕ) → Bool
 are_same_items xs ys = list_all (λ item. times_in xs item == times_in ys item) (xs ++ ys)
 
--- a position of a patron status is set (SIP 2.00)
-abbrev pub is_set : ℕ → List ℕ → Bool
-is_set position m = slice_index m (2 + position) == byte.Y
-
--- the positions that are compared: 0, 1, 5 and 11
-unfoldable pub is_same_status : PatronStatus → List ℕ → Bool
-is_same_status s m =
-    is_same s.charge_denied (is_set 0 m) && (is_same s.renewal_denied (is_set 1 m)
-    && (is_same s.too_many_items (is_set 5 m) && is_same s.excessive_fees (is_set 11 m)))
-
--- The fixed parts of responses (SIP 2.00), each with its identifier: of a patron's status (a status of fourteen bytes, a
--- language, a date), of a checkin, a checkout and a renewal (four flags, a date), of an item status update and a payment (one
--- flag, a date), of a renewal of all items (a flag, two counts, a date), and of a hold (two flags, a date).
-abbrev pub patron_fixed : ℕ
-patron_fixed = 37
-
-abbrev pub loan_fixed : ℕ
-loan_fixed = 24
-
-abbrev pub short_fixed : ℕ
-short_fixed = 21
-
-abbrev pub renew_all_fixed : ℕ
-renew_all_fixed = 29
-
-abbrev pub hold_fixed : ℕ
-hold_fixed = 22
-
--- where they say it: ok, or that a payment is accepted, after the identifier; that a hold is available after that; the
--- alert of a checkin as its last flag; the counts of a renewal of all items
-abbrev pub ok_byte : List ℕ → ℕ
-ok_byte m = slice_index m 2
-
-abbrev pub available_byte : List ℕ → ℕ
-available_byte m = slice_index m 3
-
-abbrev pub alert_byte : List ℕ → ℕ
-alert_byte m = slice_index m 5
-
-abbrev pub renewed_at : ℕ
-renewed_at = 3
-
-abbrev pub unrenewed_at : ℕ
-unrenewed_at = 7
+-- the positions of a patron status that are compared: 0, 1, 5 and 11
+unfoldable pub is_same_status : PatronStatus → PatronStatus → Bool
+is_same_status s t =
+    is_same s.charge_denied t.charge_denied && (is_same s.renewal_denied t.renewal_denied
+    && (is_same s.too_many_items t.too_many_items && is_same s.excessive_fees t.excessive_fees))
 
 -- Patron status response (24) and patron enable response (26).
-unfoldable pub patron_words : PatronAnswer → List ℕ → Option (List Field)
-patron_words a m =
-    if nat_lt (length m) patron_fixed then None
-    else Some (word_unless words.Status (is_same_status a.status m)
-    ++ word_unless words.Valid (is_same (is_some a.known) (valid_in (drop patron_fixed m))))
+unfoldable pub patron_words : PatronAnswer → PatronResponse → List Field
+patron_words a r =
+    word_unless words.Status (is_same_status a.status r.status)
+    ++ word_unless words.Valid (is_same (is_some a.known) r.valid)
 
 -- Checkin response (10).
-unfoldable pub checkin_words : CheckinAnswer → List ℕ → Option (List Field)
-checkin_words a m = if nat_lt (length m) loan_fixed then None else do
-  ok ← ok_of (ok_byte m)
-  alert ← flag_of (alert_byte m)
-  Some (word_unless words.Ok (is_same (is_some a.known) ok) ++ word_unless words.Alert (is_same a.alert alert))
+unfoldable pub checkin_words : CheckinAnswer → CheckinResponse → List Field
+checkin_words a r =
+    word_unless words.Ok (is_same (is_some a.known) r.ok) ++ word_unless words.Alert (is_same a.alert r.alert)
 
 -- the day is compared where both oks are 1
 unfoldable pub due_words : Option ℕ → Bool → Option ℕ → List Field
@@ -103,92 +66,80 @@ due_words (Some day) false recorded = []
 due_words (Some day) true None = words.Due ∷ []
 due_words (Some day) true (Some recorded) = word_unless words.Due (day == recorded)
 
--- Checkout response (12) and renew response (30).
-unfoldable pub loan_words : LoanAnswer → List ℕ → Option (List Field)
-loan_words a m = if nat_lt (length m) loan_fixed then None else do
-  ok ← ok_of (ok_byte m)
-  fee ← fee_in (drop loan_fixed m)
-  Some (word_unless words.Ok (is_same (is_some a.due) ok)
-      ++ due_words a.due ok (due_in (drop loan_fixed m))
-      ++ word_unless words.Fee (unwrap_or a.rental 0 == fee))
+-- the same amount, of which none is 0
+abbrev pub is_same_fee : Option ℕ → Option ℕ → Bool
+is_same_fee fee recorded = unwrap_or fee 0 == unwrap_or recorded 0
 
--- Item status update response (20): ok is 1 where the properties were stored, and any other byte where not.
-unfoldable pub item_status_words : ItemStatusAnswer → List ℕ → Option (List Field)
-item_status_words a m =
-    if nat_lt (length m) short_fixed then None
-    else Some (word_unless words.Ok (is_same (is_some a.known) (ok_byte m == byte.one)))
+-- Checkout response (12) and renew response (30).
+unfoldable pub loan_words : LoanAnswer → LoanResponse → List Field
+loan_words a r =
+    word_unless words.Ok (is_same (is_some a.due) r.ok)
+    ++ due_words a.due r.ok r.due
+    ++ word_unless words.Fee (is_same_fee a.rental r.fee)
+
+-- Item status update response (20).
+unfoldable pub item_status_words : ItemStatusAnswer → Bool → List Field
+item_status_words a stored = word_unless words.Ok (is_same (is_some a.known) stored)
 
 -- Fee paid response (38).
-unfoldable pub fee_paid_words : FeePaidAnswer → List ℕ → Option (List Field)
-fee_paid_words a m = if nat_lt (length m) short_fixed then None else do
-  accepted ← flag_of (ok_byte m)
-  Some (word_unless words.Accepted (is_same a.accepted accepted))
+unfoldable pub fee_paid_words : FeePaidAnswer → Bool → List Field
+fee_paid_words a accepted = word_unless words.Accepted (is_same a.accepted accepted)
 
 -- the number that a count has in four digits
 abbrev pub capped : ℕ → ℕ
 capped n = if nat_lt count_max n then count_max else n
 
--- Renew all response (66): BM for each renewed item, BN for each other one.
-unfoldable pub renew_all_words : RenewAllAnswer → List ℕ → Option (List Field)
-renew_all_words a m = if nat_lt (length m) renew_all_fixed then None else do
-  ok ← ok_of (ok_byte m)
-  renewed ← count_at renewed_at m
-  unrenewed ← count_at unrenewed_at m
-  Some (word_unless words.Ok (is_same a.ok ok)
-      ++ word_unless words.Renewed (capped (length a.renewed) == renewed)
-      ++ word_unless words.Unrenewed (capped (length a.unrenewed) == unrenewed)
-      ++ word_unless words.RenewedItems (are_same_items a.renewed (items_in byte.B byte.M (drop renew_all_fixed m)))
-      ++ word_unless words.UnrenewedItems (are_same_items a.unrenewed (items_in byte.B byte.N (drop renew_all_fixed m))))
+-- Renew all response (66).
+unfoldable pub renew_all_words : RenewAllAnswer → RenewAllResponse → List Field
+renew_all_words a r =
+    word_unless words.Ok (is_same a.ok r.ok)
+    ++ word_unless words.Renewed (capped (length a.renewed) == r.renewed)
+    ++ word_unless words.Unrenewed (capped (length a.unrenewed) == r.unrenewed)
+    ++ word_unless words.RenewedItems (are_same_items a.renewed r.renewed_items)
+    ++ word_unless words.UnrenewedItems (are_same_items a.unrenewed r.unrenewed_items)
 
 -- Hold response (16).
-unfoldable pub hold_words : HoldAnswer → List ℕ → Option (List Field)
-hold_words a m = if nat_lt (length m) hold_fixed then None else do
-  ok ← ok_of (ok_byte m)
-  available ← flag_of (available_byte m)
-  Some (word_unless words.Ok (is_same a.ok ok) ++ word_unless words.Available (is_same a.available available))
+unfoldable pub hold_words : HoldAnswer → HoldResponse → List Field
+hold_words a r = word_unless words.Ok (is_same a.ok r.ok) ++ word_unless words.Available (is_same a.available r.available)
 
 -- the words by which a response of the right kind differs; none where what is compared can't be read
 abbrev pub words_of : Answer → List ℕ → Option (List Field)
-words_of (answers.BlockPatron a) m = patron_words a m
-words_of (answers.Checkin a) m = checkin_words a m
-words_of (answers.Checkout a) m = loan_words a m
-words_of (answers.Hold a) m = hold_words a m
-words_of (answers.ItemStatus a) m = item_status_words a m
-words_of (answers.PatronEnable a) m = patron_words a m
-words_of (answers.Renew a) m = loan_words a m
-words_of (answers.FeePaid a) m = fee_paid_words a m
-words_of (answers.RenewAll a) m = renew_all_words a m
+words_of (answers.BlockPatron a) m = option_map (patron_words a) (patron_in m)
+words_of (answers.Checkin a) m = option_map (checkin_words a) (checkin_in m)
+words_of (answers.Checkout a) m = option_map (loan_words a) (loan_in m)
+words_of (answers.Hold a) m = option_map (hold_words a) (hold_in m)
+words_of (answers.ItemStatus a) m = option_map (item_status_words a) (item_status_in m)
+words_of (answers.PatronEnable a) m = option_map (patron_words a) (patron_in m)
+words_of (answers.Renew a) m = option_map (loan_words a) (loan_in m)
+words_of (answers.FeePaid a) m = option_map (fee_paid_words a) (fee_paid_in m)
+words_of (answers.RenewAll a) m = option_map (renew_all_words a) (renew_all_in m)
 words_of answers.Resend m = Some []
+
+-- the kind of request that it answers; the wish to have a message again answers none
+abbrev pub kind_answered : Answer → Option Kind
+kind_answered (answers.BlockPatron a) = Some kinds.BlockPatron
+kind_answered (answers.Checkin a) = Some kinds.Checkin
+kind_answered (answers.Checkout a) = Some kinds.Checkout
+kind_answered (answers.Hold a) = Some kinds.Hold
+kind_answered (answers.ItemStatus a) = Some kinds.ItemStatus
+kind_answered (answers.PatronEnable a) = Some kinds.PatronEnable
+kind_answered (answers.Renew a) = Some kinds.Renew
+kind_answered (answers.FeePaid a) = Some kinds.FeePaid
+kind_answered (answers.RenewAll a) = Some kinds.RenewAll
+kind_answered answers.Resend = None
 
 -- the identifier of the response (SIP 2.00)
 abbrev pub identifier_of : Answer → List ℕ
-identifier_of (answers.BlockPatron a) = codes "24"
-identifier_of (answers.Checkin a) = codes "10"
-identifier_of (answers.Checkout a) = codes "12"
-identifier_of (answers.Hold a) = codes "16"
-identifier_of (answers.ItemStatus a) = codes "20"
-identifier_of (answers.PatronEnable a) = codes "26"
-identifier_of (answers.Renew a) = codes "30"
-identifier_of (answers.FeePaid a) = codes "38"
-identifier_of (answers.RenewAll a) = codes "66"
-identifier_of answers.Resend = codes "96"
+identifier_of a = option_map_or response_to (kind_answered a) resend_id
 
--- the response begins with that identifier
-abbrev pub is_response : Answer → List ℕ → Bool
-is_response a m = (slice_index m 0 == slice_index (identifier_of a) 0) && (slice_index m 1 == slice_index (identifier_of a) 1)
-
--- the words by which a response without its error detection differs
-unfoldable pub differ_body : Answer → List ℕ → List Field
-differ_body a m =
-    if nat_lt (length m) 2 then words.Unreadable ∷ []
-    else if not (is_response a m) then words.Kind ∷ []
-    else unwrap_or (words_of a m) (words.Unreadable ∷ [])
+-- the words by which what is there differs: that of a response of the wrong kind alone
+abbrev pub words_in : Answer → Result (List ℕ) Field → List Field
+words_in a (Err word) = word ∷ []
+words_in a (Ok m) = unwrap_or (words_of a m) (words.Unreadable ∷ [])
 
 -- The words by which a recorded response differs from an answer, in their order (the profile of this project).
 unfoldable pub differ : Answer → List ℕ → List Field
-differ a recorded =
-    if length (trimmed recorded) == 0 then words.Missing ∷ []
-    else differ_body a (body (trimmed recorded))
+differ a recorded = words_in a (response_with (identifier_of a) recorded)
 
 -- the recorded response agrees with the answer
 abbrev pub Agrees : Answer → List ℕ → Type 0

@@ -2,8 +2,9 @@ pub mod Devices
 pub mod Differ
 pub mod DueDates
 pub mod Laws
+pub mod Outcomes
 pub mod Parts
 pub mod Recorded
+pub mod Responses
 pub mod Texts
 pub mod Words
-pub mod Outcomes

@@ -1,20 +1,24 @@
 -- What can be read in a recorded response.
-use Rattle.std.specs.Prelude.{ℕ, Bool, true, false, ◌+◌, ◌*◌, ◌&&◌, ◌==◌, nat_le, List, [], ◌∷◌, length, slice_index, Option, Some, None, if◌then◌else◌}
+use Rattle.std.specs.Prelude.{ℕ, Bool, true, false, not, ◌+◌, ◌*◌, ◌&&◌, ◌==◌, nat_le, List, [], ◌∷◌, length, slice_index, Option, Some, None, if◌then◌else◌}
 use Rattle.std.specs.Char.{is_ascii_digit}
 use Rattle.std.specs.List.{filter_map}
-use Rattle.std.specs.Option.{option_and_then}
+use Rattle.std.specs.Option.{option_and_then, option_map, option_map_or}
 use Rattle.sip_reader.specs.Amounts.{amount_of}
 use Rattle.sip_reader.specs.Bytes as byte
 use Rattle.sip_reader.specs.Dates.{two_at}
 use Rattle.sip_reader.specs.Days.{day_at}
 use Rattle.sip_reader.specs.Fields.{field, pieces, text_after}
-use Rattle.sip_reader.specs.Reading.{says_yes}
+use Rattle.sip_reader.specs.Reading.{is_blank, says_yes}
 
 -- what can't be read lets nothing after it be read
 infixl 10 ◌>>=◌
 abbrev pub ◌>>=◌ : {A B : Type 0} → Option A → (A → Option B) → Option B
 None >>= f = None
 (Some x) >>= f = f x
+
+-- the letter Q
+abbrev pub Q : ℕ
+Q = 81
 
 -- ok (SIP 2.00): 1 or 0
 abbrev pub ok_of : ℕ → Option Bool
@@ -45,12 +49,16 @@ day_of_digits t century year month day = do
   d ← number_at day t
   day_at (c * 100 + y) m d
 
+-- a due date begins with MM/DD/YYYY, if what stands there are digits
+abbrev pub has_slashes : List ℕ → Bool
+has_slashes t = nat_le 10 (length t) && ((slice_index t 2 == byte.slash) && (slice_index t 5 == byte.slash))
+
 -- The day of a due date at the front of a text, whatever follows, in one of its forms (the profile of this project):
 -- YYYY-MM-DD, MM/DD/YYYY or eight digits.
 unfoldable pub day_in : List ℕ → Option ℕ
 day_in t =
     if nat_le 10 (length t) && ((slice_index t 4 == byte.hyphen) && (slice_index t 7 == byte.hyphen)) then day_of_digits t 0 2 5 8
-    else if nat_le 10 (length t) && ((slice_index t 2 == byte.slash) && (slice_index t 5 == byte.slash)) then day_of_digits t 6 8 0 3
+    else if has_slashes t then day_of_digits t 6 8 0 3
     else if nat_le 8 (length t) then day_of_digits t 0 2 4 6
     else None
 
@@ -58,15 +66,23 @@ day_in t =
 unfoldable pub due_in : List ℕ → Option ℕ
 due_in rest = option_and_then day_in (field byte.A byte.H (pieces rest))
 
--- an empty text is no amount and counts as 0, any other has to be an amount
-abbrev pub fee_of : Option (List ℕ) → Option ℕ
-fee_of None = Some 0
-fee_of (Some []) = Some 0
-fee_of (Some (x ∷ text)) = amount_of (x ∷ text)
+-- its form is the one with slashes
+unfoldable pub slashed_in : List ℕ → Bool
+slashed_in rest = option_map_or has_slashes (field byte.A byte.H (pieces rest)) false
 
--- Fee amount (BV) of the variable fields, 0 where it is missing.
-unfoldable pub fee_in : List ℕ → Option ℕ
+-- an empty text tells no amount, and any other has to be one
+abbrev pub fee_of : Option (List ℕ) → Option (Option ℕ)
+fee_of None = Some None
+fee_of (Some []) = Some None
+fee_of (Some (x ∷ text)) = option_map Some (amount_of (x ∷ text))
+
+-- Fee amount (BV) of the variable fields: the one that it tells, if any, or that it can't be read.
+unfoldable pub fee_in : List ℕ → Option (Option ℕ)
 fee_in rest = fee_of (field byte.B byte.V (pieces rest))
+
+-- Permanent location (AQ) of the variable fields: it has at least one byte.
+unfoldable pub placed_in : List ℕ → Bool
+placed_in rest = not (is_blank (field byte.A Q (pieces rest)))
 
 -- Valid patron (BL) of the variable fields: a yes is Y, all else no.
 unfoldable pub valid_in : List ℕ → Bool

@@ -1,29 +1,31 @@
 //! In what recorded responses differ from answers.
 
 ghost use Rattle.std.specs.Prelude.{◌≡◌, ◌∷◌, [], IfOk};
-ghost use Rattle.sip_answer.specs.Differ.{differ, identifier_of};
+ghost use Rattle.std.specs.Option.{option_map};
+ghost use Rattle.sip_answer.specs.Differ.{differ, identifier_of, kind_answered, words_of};
 
-mod due_dates;
 mod items;
 mod own_text;
-mod recorded;
 mod responses;
 mod words;
 
 use crate::answer::Answer;
 use crate::field::Field;
+use crate::recorded::{RESEND, response_to, response_with};
+pub(crate) use items::are_items;
 pub use own_text::is_own_text;
+pub(crate) use responses::is_same_fee;
 use responses::{
     compare_checkin, compare_fee_paid, compare_hold, compare_item_status, compare_loan,
     compare_patron, compare_renew_all,
 };
-use sip_reader::{unsummed, without_line_end};
+use sip_reader::Kind;
 use std::alloc::{AllocError, Global};
 
 /// In what a recorded response differs from an answer, in the order of the report's words; nothing where it agrees.
 /// `Missing`, `Unreadable` and `Kind` come alone. The response may have error detection, whose sum isn't looked at, and
 /// any number of CR and LF after it. The error is that memory ran out.
-#[tactic(auto, unfolding(crate::specs::Differ::differ, crate::specs::Differ::differ_body))]
+#[tactic(auto, unfolding(crate::specs::Differ::differ))]
 pub fn differences(
     alloc: Global,
     answer: &Answer,
@@ -31,34 +33,35 @@ pub fn differences(
 ) -> Result<Vec<Field>, AllocError>
     ensures { IfOk result (λ v. v.items ≡ differ answer.now recorded.now) }
 {
-    let recorded = without_line_end(recorded);
-    if recorded.is_empty() {
-        return alone(alloc, Field::Missing);
-    }
-    let (response, _) = unsummed(recorded);
-    if response.len() < 2 {
-        return alone(alloc, Field::Unreadable);
-    }
-    let code = identifier(answer);
-    if response[0] != code[0] || response[1] != code[1] {
-        return alone(alloc, Field::Kind);
-    }
-    // none where what is compared can't be read
-    let words = match answer {
-        Answer::BlockPatron(a) => compare_patron(alloc, a, response)?,
-        Answer::Checkin(a) => compare_checkin(alloc, a, response)?,
-        Answer::Checkout(a) => compare_loan(alloc, a, response)?,
-        Answer::Hold(a) => compare_hold(alloc, a, response)?,
-        Answer::ItemStatus(a) => compare_item_status(alloc, a, response)?,
-        Answer::PatronEnable(a) => compare_patron(alloc, a, response)?,
-        Answer::Renew(a) => compare_loan(alloc, a, response)?,
-        Answer::FeePaid(a) => compare_fee_paid(alloc, a, response)?,
-        Answer::RenewAll(a) => compare_renew_all(alloc, a, response)?,
-        Answer::Resend => Some(Vec::new(alloc)),
+    let response = match response_with(identifier(answer), recorded) {
+        Ok(response) => response,
+        Err(word) => return alone(alloc, word),
     };
-    match words {
+    match compare(alloc, answer, response)? {
         Some(words) => Ok(words),
         None => alone(alloc, Field::Unreadable),
+    }
+}
+
+/// The words for a response of the right kind; none where what is compared can't be read.
+fn compare(
+    alloc: Global,
+    answer: &Answer,
+    response: &[u8],
+) -> Result<Option<Vec<Field>>, AllocError>
+    ensures { IfOk result (λ w. option_map (λ v. v.items) w ≡ words_of answer.now response.now) }
+{
+    match answer {
+        Answer::BlockPatron(a) => compare_patron(alloc, a, response),
+        Answer::Checkin(a) => compare_checkin(alloc, a, response),
+        Answer::Checkout(a) => compare_loan(alloc, a, response),
+        Answer::Hold(a) => compare_hold(alloc, a, response),
+        Answer::ItemStatus(a) => compare_item_status(alloc, a, response),
+        Answer::PatronEnable(a) => compare_patron(alloc, a, response),
+        Answer::Renew(a) => compare_loan(alloc, a, response),
+        Answer::FeePaid(a) => compare_fee_paid(alloc, a, response),
+        Answer::RenewAll(a) => compare_renew_all(alloc, a, response),
+        Answer::Resend => Ok(Some(Vec::new(alloc))),
     }
 }
 
@@ -71,19 +74,29 @@ fn alone(alloc: Global, field: Field) -> Result<Vec<Field>, AllocError>
 }
 
 /// The identifier of the response.
-fn identifier(answer: &Answer) -> &'static [u8]
+fn identifier(answer: &Answer) -> &'static [u8; 2]
     ensures { result.now ≡ identifier_of answer.now }
 {
+    match kind_answered(answer) {
+        Some(kind) => response_to(kind),
+        None => RESEND,
+    }
+}
+
+/// The kind of request that it answers.
+fn kind_answered(answer: &Answer) -> Option<Kind>
+    ensures { result ≡ kind_answered answer.now }
+{
     match answer {
-        Answer::BlockPatron(_) => b"24",
-        Answer::Checkin(_) => b"10",
-        Answer::Checkout(_) => b"12",
-        Answer::Hold(_) => b"16",
-        Answer::ItemStatus(_) => b"20",
-        Answer::PatronEnable(_) => b"26",
-        Answer::Renew(_) => b"30",
-        Answer::FeePaid(_) => b"38",
-        Answer::RenewAll(_) => b"66",
-        Answer::Resend => b"96",
+        Answer::BlockPatron(_) => Some(Kind::BlockPatron),
+        Answer::Checkin(_) => Some(Kind::Checkin),
+        Answer::Checkout(_) => Some(Kind::Checkout),
+        Answer::Hold(_) => Some(Kind::Hold),
+        Answer::ItemStatus(_) => Some(Kind::ItemStatus),
+        Answer::PatronEnable(_) => Some(Kind::PatronEnable),
+        Answer::Renew(_) => Some(Kind::Renew),
+        Answer::FeePaid(_) => Some(Kind::FeePaid),
+        Answer::RenewAll(_) => Some(Kind::RenewAll),
+        Answer::Resend => None,
     }
 }

@@ -1,5 +1,9 @@
-ghost use Rattle.std.specs.Prelude.{◌≡◌, ◌++◌, ◌∷◌, [], OnOk, OnErr, map};
+ghost use Rattle.std.specs.Prelude.{◌≡◌, ◌++◌, ◌∷◌, [], IfOk, OnOk, OnErr, length, map};
+ghost use Rattle.std.specs.List.{list_any};
+ghost use Rattle.std.specs.Str.{bytes_eq};
+ghost use Rattle.sip_answer.specs.Outcomes.{names_item};
 
+use sip_reader::Id;
 use std::alloc::{AllocError, Global};
 use std::marker::Model;
 
@@ -31,4 +35,50 @@ impl ItemTexts {
             texts: Vec::new(alloc),
         }
     }
+
+    /// Adds a text at the end. Out of memory, nothing changes.
+    pub fn push(&mut self, text: Vec<u8>) -> Result<(), AllocError>
+        ensures ok { OnOk result (self.new ≡ self.old ++ text.items ∷ []) }
+        ensures err { OnErr result (self.new ≡ self.old) }
+    {
+        self.texts.push(text)?;
+        Ok(())
+    }
+
+    /// How many there are.
+    pub fn len(&self) -> usize
+        ensures { result ≡ length self.now }
+    {
+        self.texts.len()
+    }
+
+    /// Whether one of them is the id's.
+    pub fn has(&self, id: &Id) -> bool
+        ensures { result ≡ names_item self.now id.now }
+    {
+        is_among(id.as_bytes(), &self.texts)
+    }
+
+    /// The texts.
+    pub(crate) fn to_slices(&self, alloc: Global) -> Result<Vec<&[u8]>, AllocError>
+        ensures { IfOk result (λ v. map (λ x. x.now) v.items ≡ self.now) }
+    {
+        slices_of(alloc, &self.texts)
+    }
+}
+
+fn is_among(id: &[u8], texts: &[Vec<u8>]) -> bool
+    ensures { result ≡ list_any (λ t. bytes_eq id.now t.items) texts.now }
+{
+    texts.iter().any(|text| id == text.as_slice())
+}
+
+fn slices_of(alloc: Global, texts: &[Vec<u8>]) -> Result<Vec<&[u8]>, AllocError>
+    ensures { IfOk result (λ v. map (λ x. x.now) v.items ≡ map (λ t. t.items) texts.now) }
+{
+    let mut slices = Vec::new(alloc);
+    for text in texts {
+        slices.push(text.as_slice())?;
+    }
+    Ok(slices)
 }

@@ -1,4 +1,5 @@
-//! The layer of answers: what is answered to a request, its bytes, and in which words a recorded response differs from it.
+//! The layer of answers: what is answered to a request, its bytes, in which words a recorded response differs from it, and
+//! what that response says was done.
 #![tactic(auto)]
 
 mod answer;
@@ -8,7 +9,10 @@ mod item_ids;
 mod item_texts;
 mod laws;
 mod outcome;
+mod outcomes;
 mod owed;
+mod recorded;
+mod response;
 mod writing;
 
 pub use answer::{
@@ -20,7 +24,8 @@ pub use comparing::{differences, is_own_text};
 pub use field::Field;
 pub use item_ids::ItemIds;
 pub use item_texts::ItemTexts;
-pub use laws::own_text_agrees;
-pub use outcome::{Outcome, ToldLoan, agrees, outcome_of};
+pub use laws::{agrees_as_recorded, own_text_agrees};
+pub use outcome::{Outcome, ToldLoan};
+pub use outcomes::{agrees, outcome_of};
 pub use owed::Owed;
 pub use writing::{put_answer, write_answer};

@@ -1,13 +1,7 @@
 //! What a recorded response says was done.
 
-ghost use Rattle.std.specs.Prelude.{◌≡◌, IfOk, IfSome};
-ghost use Rattle.sip_answer.specs.Outcomes.{FitsOutcome, agrees, outcome_in};
-
-use crate::answer::Answer;
 use crate::item_texts::ItemTexts;
-use circ_policy::DueForm;
-use sip_reader::{Act, Amount, Day};
-use std::alloc::{AllocError, Global};
+use sip_reader::{Amount, Day};
 
 /// What a recorded response says was done, beside what the rules say. A line by the rules alone has none.
 pub enum Outcome {
@@ -44,26 +38,4 @@ pub struct ToldLoan {
     pub fee: Option<Amount>,
     /// Whether it says that a renewal was made.
     pub renewal: bool,
-}
-
-#[tactic(auto, unfolding(crate::specs::Outcomes::outcome_in))]
-/// Provisional.
-pub fn outcome_of(
-    alloc: Global,
-    form: DueForm,
-    act: &Act,
-    recorded: &[u8],
-) -> Result<Option<Outcome>, AllocError>
-    ensures value { IfOk result (λ o. o ≡ outcome_in form act.now recorded.now) }
-    ensures fits { IfOk result (λ o. IfSome o FitsOutcome) }
-{
-    Ok(None)
-}
-
-#[tactic(auto, unfolding(crate::specs::Outcomes::agrees))]
-/// Provisional.
-pub fn agrees(alloc: Global, answer: &Answer, outcome: &Outcome) -> Result<bool, AllocError>
-    ensures { IfOk result (λ b. b ≡ agrees answer.now outcome.now) }
-{
-    Ok(true)
 }

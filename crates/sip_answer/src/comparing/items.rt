@@ -7,25 +7,18 @@ ghost use Rattle.std.specs.List.{list_all};
 ghost use Rattle.std.specs.Ordering.{nat_cmp};
 ghost use Rattle.std.specs.Str.{bytes_eq};
 ghost use Rattle.sip_answer.specs.Differ.{are_same_items, times_in};
-ghost use Rattle.sip_answer.specs.Recorded.{items_in};
 
-use super::recorded::text_of;
+use crate::item_texts::ItemTexts;
 use sip_reader::Id;
 use std::alloc::{AllocError, Global};
 use std::collections::BTreeMap;
 
-/// Whether the items after a fixed part, all of this identifier, are these, in whatever order.
-pub fn is_same_as_recorded(
-    alloc: Global,
-    ids: &[Id],
-    rest: &[u8],
-    a: u8,
-    b: u8,
-) -> Result<bool, AllocError>
-    ensures { IfOk result (λ r. r ≡ are_same_items ids.now (items_in a b rest.now)) }
+/// Whether the texts are those of the ids, each as often, in whatever order. The error is that memory ran out.
+pub fn are_items(alloc: Global, ids: &[Id], items: &ItemTexts) -> Result<bool, AllocError>
+    ensures { IfOk result (λ r. r ≡ are_same_items ids.now items.now) }
 {
     let ids = texts_of(alloc, ids)?;
-    let items = items_in(alloc, rest, a, b)?;
+    let items = items.to_slices(alloc)?;
     are_same_items(alloc, ids.as_slice(), items.as_slice())
 }
 
@@ -37,21 +30,6 @@ fn texts_of<'a>(alloc: Global, ids: &'a [Id]) -> Result<Vec<&'a [u8]>, AllocErro
         texts.push(id.as_bytes())?;
     }
     Ok(texts)
-}
-
-/// The texts of all fields with this identifier, in their order.
-#[tactic(auto, unfolding(crate::specs::Recorded::items_in))]
-fn items_in<'a>(alloc: Global, rest: &'a [u8], a: u8, b: u8) -> Result<Vec<&'a [u8]>, AllocError>
-    ensures { IfOk result (λ v. map (λ x. x.now) v.items ≡ items_in a b rest.now) }
-{
-    let mut items = Vec::new(alloc);
-    for piece in rest.split(|b| *b == b'|') {
-        match text_of(piece, a, b) {
-            Some(text) => items.push(text)?,
-            None => {}
-        }
-    }
-    Ok(items)
 }
 
 fn are_same_items(alloc: Global, xs: &[&[u8]], ys: &[&[u8]]) -> Result<bool, AllocError>

@@ -1,7 +1,7 @@
 use Rattle.std.proofs.lemmas.Result.{err_from_is_err_and}
 use Rattle.read_set.specs.Lookups.{patron_at, item_at}
 use Rattle.read_set.specs.Checkouts.{checkout_rule_known, checkout_rule_for}
-use Rattle.read_set.proofs.Following.{goes_on, meant, stop_next, stop_then}
+use Rattle.read_set.proofs.Following.{goes_on, stop_next, stop_then}
 use Rattle.read_set.proofs.Gaining.{gains_first, gains_then}
 use Rattle.loan_meaning.proofs.checkouts.lend_known.Goals as goal
 

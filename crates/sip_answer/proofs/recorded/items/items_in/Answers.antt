@@ -6,14 +6,14 @@ use Rattle.std.specs.List.{filter_map}
 use Rattle.sip_reader.specs.Fields.{text_after}
 use Rattle.sip_answer.specs.Recorded.{items_in}
 use Rattle.sip_answer.proofs.ItemLists.{filter_map-push, filter_map-skip}
-use Rattle.sip_answer.proofs.comparing.items.items_in.Goals as goal
+use Rattle.sip_answer.proofs.recorded.items.items_in.Goals as goal
 
-pub loop-piece-preserved-in-Continue-1 : goal.loop-piece-preserved-in-Continue-1
-loop-piece-preserved-in-Continue-1 c =
+pub loop-piece-preserved-in_ok-push-in-Some-text_of : goal.loop-piece-preserved-in_ok-push-in-Some-text_of
+loop-piece-preserved-in_ok-push-in-Some-text_of c =
     let has : text_after c.args.a c.args.b c.in-Some.piece.now ≡ Some c.in-Some-text_of.text.now = sym c.in-Some-text_of.ensures in
     rw (
-      c.in_ok-push-in-Some-text_of.ensures.items,
-      map_push (λ x. x.now) c.loop-piece.items.items c.in-Some-text_of.text,
+      c.in_ok-push-in-Some-text_of.ensures.ok,
+      c.in_ok-from_slice-in-Some-text_of.ensures.items,
       map_push (λ p. p.now) c.loop-piece.yielded c.in-Some.piece,
       filter_map-push (text_after c.args.a c.args.b) (map (λ p. p.now) c.loop-piece.yielded) c.in-Some.piece.now c.in-Some-text_of.text.now has,
       c.loop-piece.invariant,

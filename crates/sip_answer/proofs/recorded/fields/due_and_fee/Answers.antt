@@ -1,11 +1,10 @@
 use Rattle.std.proofs.Common.{rules, ◌∙◌, eqb, ap, refl}
-use Rattle.std.specs.Option.{option_and_then, option_copied}
+use Rattle.std.specs.Option.{option_copied}
 use Rattle.std.proofs.lemmas.Iterator.Consumers.{YieldsList-end}
 use Rattle.std.proofs.lemmas.Iterator.Splits.{YieldsList-from_slice_split}
 use Rattle.sip_reader.specs.Fields.{field}
-use Rattle.sip_answer.specs.Recorded.{day_in, due_in, fee_in, fee_of}
 use Rattle.sip_answer.proofs.FirstFields.{next_piece}
-use Rattle.sip_answer.proofs.comparing.recorded.due_and_fee.Goals as goal
+use Rattle.sip_answer.proofs.recorded.fields.due_and_fee.Goals as goal
 
 pub loop-piece-preserved : goal.loop-piece-preserved
 loop-piece-preserved c =
@@ -15,10 +14,9 @@ loop-piece-preserved c =
     )
 
 pub returns : goal.returns
-unfolding due_in fee_in
 returns c =
     let whole = YieldsList-end (YieldsList-from_slice_split _ (λ b. eqb b 124) c.args.rest.now (search rules) (search rules) refl (λ x b q k. search rules)) c.loop-piece.yielded _ c.loop-piece.yielded_by _ _ c.in-None.is c.next.ensures.steps in
     record {
-      due = c.day_of.ensures ∙ ap (option_and_then day_in) (c.loop-piece.invariant.0 ∙ ap (field 65 72) whole.0);
-      fee = c.fee_of.ensures ∙ ap fee_of (c.loop-piece.invariant.1 ∙ ap (field 66 86) whole.0);
+      due = c.loop-piece.invariant.0 ∙ ap (field 65 72) whole.0;
+      fee = c.loop-piece.invariant.1 ∙ ap (field 66 86) whole.0;
     }

@@ -1,7 +1,7 @@
 use Rattle.std.proofs.Common.{◌≡◌, map}
 use Rattle.std.specs.Option.{option_copied}
 use Rattle.sip_reader.specs.Fields.{field}
-use Rattle.sip_answer.proofs.comparing.recorded.due_and_fee.Given as goal
+use Rattle.sip_answer.proofs.recorded.fields.due_and_fee.Given as goal
 
 -- what was found are the first of the pieces so far
 abbrev pub invariant-loop-piece : goal.invariant-loop-piece

@@ -1,13 +1,13 @@
 //! What can be read in a recorded response.
 
-ghost use Rattle.std.specs.Prelude.{◌≡◌, ◌≤◌, ◌<◌, ◌+◌, length, IfSome};
+ghost use Rattle.std.specs.Prelude.{◌≡◌, ◌≤◌, ◌<◌, ◌+◌, length, not, IfSome};
 ghost use Rattle.std.specs.Option.{option_copied};
-ghost use Rattle.sip_reader.specs.Fields.{text_after};
-ghost use Rattle.sip_reader.specs.Reading.{says_yes};
-ghost use Rattle.sip_answer.specs.Recorded.{count_at, due_in, fee_in, fee_of, flag_of, number_at, ok_of, valid_in};
+ghost use Rattle.sip_reader.specs.Bytes as byte;
+ghost use Rattle.sip_reader.specs.Fields.{field, pieces, text_after};
+ghost use Rattle.sip_reader.specs.Reading.{is_blank, says_yes};
+ghost use Rattle.sip_answer.specs.Recorded.{count_at, fee_of, flag_of, number_at, ok_of, placed_in, valid_in};
 
-use super::due_dates::day_of;
-use sip_reader::{Amount, Day};
+use sip_reader::Amount;
 
 /// An ok.
 pub fn ok_of(b: u8) -> Option<bool>
@@ -63,11 +63,10 @@ pub fn text_of(piece: &[u8], a: u8, b: u8) -> Option<&[u8]>
     }
 }
 
-/// The day of the due date, and the fee in hundredths, 0 where it is missing or empty: from one pass over the pieces.
-#[tactic(auto, unfolding(crate::specs::Recorded::due_in, crate::specs::Recorded::fee_in))]
-pub fn due_and_fee(rest: &[u8]) -> (Option<Day>, Option<u64>)
-    ensures due { result.0 ≡ due_in rest.now }
-    ensures fee { result.1 ≡ fee_in rest.now }
+/// The texts of the due date and of the fee: from one pass over the pieces.
+pub fn due_and_fee(rest: &[u8]) -> (Option<&[u8]>, Option<&[u8]>)
+    ensures due { option_copied result.0 ≡ field byte.A byte.H (pieces rest.now) }
+    ensures fee { option_copied result.1 ≡ field byte.B byte.V (pieces rest.now) }
 {
     let mut due = None;
     let mut fee = None;
@@ -75,15 +74,16 @@ pub fn due_and_fee(rest: &[u8]) -> (Option<Day>, Option<u64>)
         due = due.or(text_of(piece, b'A', b'H'));
         fee = fee.or(text_of(piece, b'B', b'V'));
     }
-    (day_of(due), fee_of(fee))
+    (due, fee)
 }
 
-fn fee_of(text: Option<&[u8]>) -> Option<u64>
+/// The fee that a text tells, if it tells one; none if it can't be read.
+pub fn fee_of(text: Option<&[u8]>) -> Option<Option<Amount>>
     ensures { result ≡ fee_of (option_copied text.entry) }
 {
     match text {
-        Some(text) if !text.is_empty() => Some(Amount::read(text)?.hundredths()),
-        _ => Some(0),
+        Some(text) if !text.is_empty() => Some(Some(Amount::read(text)?)),
+        _ => Some(None),
     }
 }
 
@@ -92,11 +92,26 @@ fn fee_of(text: Option<&[u8]>) -> Option<u64>
 pub fn valid_in(rest: &[u8]) -> bool
     ensures { result ≡ valid_in rest.now }
 {
-    let mut valid = None;
+    says_yes(first_of(rest, b'B', b'L'))
+}
+
+/// Whether the response names the item's place.
+#[tactic(auto, unfolding(crate::specs::Recorded::placed_in))]
+pub fn is_placed(rest: &[u8]) -> bool
+    ensures { result ≡ placed_in rest.now }
+{
+    has_bytes(first_of(rest, b'A', b'Q'))
+}
+
+/// The text of the first field with this identifier.
+fn first_of(rest: &[u8], a: u8, b: u8) -> Option<&[u8]>
+    ensures { option_copied result ≡ field a b (pieces rest.now) }
+{
+    let mut found = None;
     for piece in rest.split(|b| *b == b'|') {
-        valid = valid.or(text_of(piece, b'B', b'L'));
+        found = found.or(text_of(piece, a, b));
     }
-    says_yes(valid)
+    found
 }
 
 fn says_yes(text: Option<&[u8]>) -> bool
@@ -104,6 +119,15 @@ fn says_yes(text: Option<&[u8]>) -> bool
 {
     match text {
         Some(text) => text.len() == 1 && text[0] == b'Y',
+        None => false,
+    }
+}
+
+fn has_bytes(text: Option<&[u8]>) -> bool
+    ensures { result ≡ not (is_blank (option_copied text.entry)) }
+{
+    match text {
+        Some(text) => !text.is_empty(),
         None => false,
     }
 }

@@ -31,7 +31,7 @@ use Rattle.read_set.specs.Asks.{Asks, Give, Ask, ◌>>=◌, Reached, Done, Wants
 use Rattle.read_set.specs.Effects.{written}
 use Rattle.read_set.specs.Fees.{rest_of}
 use Rattle.read_set.specs.Known.{as_fee}
-use Rattle.read_set.specs.Loans.{due_for}
+use Rattle.read_set.specs.Loans.{charge_for, due_for}
 use Rattle.read_set.specs.Renewals.{renewed}
 use Rattle.read_set.specs.Maps.{Part, Grows}
 use Rattle.read_set.specs.RenewAlls.{one_left, turn_by, none_renewed}
@@ -197,23 +197,23 @@ new_after true n made fees h k l s c =
     ]
 
 turn_runs : (has : Part) (p : Terms) (n : ℕ) (a : LoanRequest) (date : List ℕ) (article : Article) (done : Renewals) (v : Verdict) (fresh : Bool) (sum more : Option ℕ) → done.made < 2 ^ 64
-    → Runs has n fresh done sum → IsMore fresh (charged_by v article.media.rental) sum more → Runs has n fresh (turn_by p n a date article done v) more
+    → Runs has n fresh done sum → IsMore fresh (charged_by v (charge_for a article.media)) sum more → Runs has n fresh (turn_by p n a date article done v) more
 unfolding turn_by rest_of
 turn_runs has p n a date article done verdicts.Refused fresh sum more s h m = record { known = less_known has fresh done.writes done.member.patron.fees sum more m h.known; new = h.new }
 turn_runs has p n a date article done verdicts.Unpaid fresh sum more s h m = record { known = less_known has fresh done.writes done.member.patron.fees sum more m h.known; new = h.new }
 turn_runs has p n a date article done verdicts.Made fresh sum more s h m = record {
-  known = made_known has (nat_lt 0 article.media.rental) fresh done.writes a.item (records.Item (renewed (due_for p a date article.media) article.item)) (fee_id n done.made)
-      (record { patron = a.patron; kind = fee_types.Rental; amount = article.media.rental; paid = 0 }) done.member.patron.fees sum more article.media.rental refl (omega arith)
+  known = made_known has (nat_lt 0 (charge_for a article.media)) fresh done.writes a.item (records.Item (renewed (due_for p a date article.media) article.item)) (fee_id n done.made)
+      (record { patron = a.patron; kind = fee_types.Rental; amount = (charge_for a article.media); paid = 0 }) done.member.patron.fees sum more (charge_for a article.media) refl (omega arith)
       (λ is c. h.new is done.made (omega arith) s c) m h.known;
-  new = λ is. new_after (nat_lt 0 article.media.rental) n done.made done.member.patron.fees (h.new is);
+  new = λ is. new_after (nat_lt 0 (charge_for a article.media)) n done.made done.member.patron.fees (h.new is);
 }
 
 -- a turn, and the sum after it
 pub run_turn : (has : Part) (p : Terms) (n : ℕ) (a : LoanRequest) (date : List ℕ) (article : Article) (done : Renewals) (v : Verdict) (fresh : Bool) (sum more : Option ℕ) → done.made < 2 ^ 64
-    → Runs has n fresh done sum → more ≡ sum_with fresh (charged_by v article.media.rental) sum → Runs has n fresh (turn_by p n a date article done v) more
+    → Runs has n fresh done sum → more ≡ sum_with fresh (charged_by v (charge_for a article.media)) sum → Runs has n fresh (turn_by p n a date article done v) more
 run_turn has p n a date article done v fresh sum more s h e =
     turn_runs has p n a date article done v fresh sum more s h
-    (subst (IsMore fresh (charged_by v article.media.rental) sum) (sym e) (is-more fresh (charged_by v article.media.rental) sum))
+    (subst (IsMore fresh (charged_by v (charge_for a article.media)) sum) (sym e) (is-more fresh (charged_by v (charge_for a article.media)) sum))
 
 -- HOW THE IDS OF A LINE'S FEES BEGIN
 

@@ -1,5 +1,7 @@
 //! What stays the same while the rule of a line runs.
 
+ghost use Rattle.std.specs.Prelude.{◌≡◌};
+
 use circ_policy::Policy;
 use read_set::LoanRequest;
 use sip_reader::Stamp;

@@ -1,7 +1,7 @@
 //! The loan or the renewal for which a request asks, and what the item's record says.
 
 ghost use Rattle.std.specs.Prelude.{◌≡◌, IfOk};
-ghost use Rattle.read_set.specs.AsRecorded.{told};
+ghost use Rattle.read_set.specs.AsRecorded.{as_told};
 ghost use Rattle.read_set.specs.Loans.{by_checkout, by_renew, charge_for, due_for, is_lent, lent_to};
 
 use crate::asked::LoanContext;
@@ -67,7 +67,7 @@ pub fn charge_of(asked: &LoanContext<'_>, media: &Media) -> Amount
 
 /// The loan or the renewal as a response told it: it isn't refused, and has the day and the fee that were told.
 pub fn as_told(asked: LoanRequest, told: &ToldLoan) -> LoanRequest
-    ensures { result ≡ told asked told.now }
+    ensures { result ≡ as_told asked told.now }
 {
     let given = if asked.forced { asked.given } else { None };
     let price = if asked.agreed {

@@ -9,7 +9,7 @@ ghost use Rattle.read_set.specs.Asks.{follow, Done, Gains};
 ghost use Rattle.read_set.specs.Effects.{◌⊕◌};
 ghost use Rattle.read_set.specs.Fees.{fee_made};
 ghost use Rattle.read_set.specs.Ids.{without};
-ghost use Rattle.read_set.specs.AsRecorded.{told};
+ghost use Rattle.read_set.specs.AsRecorded.{as_told};
 ghost use Rattle.read_set.specs.Loans.{by_checkout, by_renew};
 ghost use Rattle.read_set.specs.Maps.{Map, Agrees};
 ghost use Rattle.read_set.specs.Stops.{Follows};
@@ -259,8 +259,8 @@ pub fn check_out_told<S: Source>(
     told: &ToldLoan,
     source: &mut S,
 ) -> Result<Effect, Stop>
-    ensures gives { Follows result (follow (S.has source.new) (checkout_rule_for line.now.policy.now line.now.number told.now.renewal (told (by_checkout request.now) told.now) line.now.date)) }
-    ensures keeps { Gains S.one_by_one (S.has source.old) (S.has source.new) (checkout_rule_for line.now.policy.now line.now.number told.now.renewal (told (by_checkout request.now) told.now) line.now.date) }
+    ensures gives { Follows result (follow (S.has source.new) (checkout_rule_for line.now.policy.now line.now.number told.now.renewal (as_told (by_checkout request.now) told.now) line.now.date)) }
+    ensures keeps { Gains S.one_by_one (S.has source.old) (S.has source.new) (checkout_rule_for line.now.policy.now line.now.number told.now.renewal (as_told (by_checkout request.now) told.now) line.now.date) }
 {
     let asked = line.asking(as_told(ask_checkout(request)?, told));
     lend_known(&asked, told.renewal, source)
@@ -274,8 +274,8 @@ pub fn renew_item_told<S: Source>(
     told: &ToldLoan,
     source: &mut S,
 ) -> Result<Effect, Stop>
-    ensures gives { Follows result (follow (S.has source.new) (checkout_rule_for line.now.policy.now line.now.number true (told (by_renew request.now) told.now) line.now.date)) }
-    ensures keeps { Gains S.one_by_one (S.has source.old) (S.has source.new) (checkout_rule_for line.now.policy.now line.now.number true (told (by_renew request.now) told.now) line.now.date) }
+    ensures gives { Follows result (follow (S.has source.new) (checkout_rule_for line.now.policy.now line.now.number true (as_told (by_renew request.now) told.now) line.now.date)) }
+    ensures keeps { Gains S.one_by_one (S.has source.old) (S.has source.new) (checkout_rule_for line.now.policy.now line.now.number true (as_told (by_renew request.now) told.now) line.now.date) }
 {
     let asked = line.asking(as_told(ask_renew(request)?, told));
     lend_known(&asked, true, source)

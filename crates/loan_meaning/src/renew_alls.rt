@@ -1,6 +1,6 @@
 //! Renewal of all items.
 
-ghost use Rattle.std.specs.Prelude.{◌≡◌, ◌+◌, ◌<◌, ◌≤◌, ◌^◌, ◌∷◌, [], nat_lt, if◌then◌else◌, IfOk, OnOk, Some, filter, option_copied};
+ghost use Rattle.std.specs.Prelude.{◌≡◌, ◌+◌, ◌<◌, ◌≤◌, ◌^◌, ◌∷◌, [], nat_lt, if◌then◌else◌, IfOk, OnOk, Some, filter, is_some, option_copied};
 ghost use Rattle.circ_records.specs.declared.key.Key.TheVariants as keys;
 ghost use Rattle.circ_records.specs.declared.record.FeeType.TheVariants as fee_types;
 ghost use Rattle.circ_records.specs.declared.record.Record.TheVariants as records;
@@ -283,8 +283,19 @@ fn renew_each<S: Source>(
     ensures keeps { Gains S.one_by_one (S.has source.old) (S.has source.new) (renew_all_rule_known line.now.policy.now line.now.number (option_copied named.entry) request.now line.now.date (Some member)) }
 {
     let items = turns_of(line.alloc, named, &member.patron.get().loans)?;
-    let done = take_turns(line, named.is_some(), request, items.as_slice(), member, source)?;
+    let forced = is_forced(named);
+    let done = take_turns(line, forced, request, items.as_slice(), member, source)?;
     Ok(finish(line, request, done)?)
+}
+
+/// Whether the renewals are forced, which those that a response names are.
+fn is_forced(named: Option<&ItemTexts>) -> bool
+    ensures { result ≡ is_some (option_copied named.entry) }
+{
+    match named {
+        Some(_) => true,
+        None => false,
+    }
 }
 
 /// Whose turn comes: each item of a list, or those that a response names.

@@ -9,7 +9,7 @@ use Rattle.sip_answer.specs.declared.outcome.ToldLoan.{ToldLoan}
 use Rattle.sip_reader.specs.Dates.{is_stamp}
 use Rattle.sip_reader.specs.declared.request.Act.{Act}
 use Rattle.sip_reader.specs.declared.request.Act.TheVariants as acts
-use Rattle.read_set.specs.AsRecorded.{agrees_with, answering, carried, day_told, done_told, followed, loan_told, price_told, renewals_told, told as told_for}
+use Rattle.read_set.specs.AsRecorded.{agrees_with, answering, carried, day_told, done_told, followed, loan_told, price_told, renewals_told, as_told}
 use Rattle.read_set.specs.Asks.{Give, over}
 use Rattle.read_set.specs.Coherence.{FitsAct, IsDay}
 use Rattle.read_set.specs.Loans.{by_checkout, by_renew}
@@ -23,7 +23,7 @@ use Rattle.read_set.proofs.RenewedAll.{renew-all-keeps}
 use Rattle.read_set.proofs.SimpleKinds.{hold-keeps, nothing}
 use Rattle.read_set.proofs.States.{Parts}
 
-told-fits : (a : LoanRequest) (t : ToldLoan) → FitsAsked a → FitsOutcome (outcomes.Lent t) → FitsAsked (told_for a t)
+told-fits : (a : LoanRequest) (t : ToldLoan) → FitsAsked a → FitsOutcome (outcomes.Lent t) → FitsAsked (as_told a t)
 told-fits a t asked fits = (day t.due fits.0, price t.fee fits.1)
   where
     own : (b : Bool) (o : Option ℕ) → IfSome o IsDay → IfSome (cond b o None) IsDay
@@ -45,8 +45,8 @@ told-fits a t asked fits = (day t.due fits.0, price t.fee fits.1)
 module _ (p : Terms) (n : ℕ) (M : Map) (line : Line p n M) (date : List ℕ) (stamp : is_stamp date ≡ true) where
   loan-told-keeps : (act : Act) (t : ToldLoan) → FitsAct act → FitsOutcome (outcomes.Lent t) → Parts p (n + 1) M (put (over M (loan_told p n date act t)).writes M)
   unfolding loan_told
-  loan-told-keeps (acts.Checkout q) t fits told = checkout-for-keeps p n M line t.renewal (told_for (by_checkout q) t) date stamp (told-fits (by_checkout q) t (fits-checkout q fits) told)
-  loan-told-keeps (acts.Renew q) t fits told = checkout-for-keeps p n M line true (told_for (by_renew q) t) date stamp (told-fits (by_renew q) t (fits, tt) told)
+  loan-told-keeps (acts.Checkout q) t fits told = checkout-for-keeps p n M line t.renewal (as_told (by_checkout q) t) date stamp (told-fits (by_checkout q) t (fits-checkout q fits) told)
+  loan-told-keeps (acts.Renew q) t fits told = checkout-for-keeps p n M line true (as_told (by_renew q) t) date stamp (told-fits (by_renew q) t (fits, tt) told)
   loan-told-keeps (acts.BlockPatron q) t fits told = nothing p (n + 1) M line.parts
   loan-told-keeps (acts.Checkin q) t fits told = nothing p (n + 1) M line.parts
   loan-told-keeps (acts.Hold q) t fits told = nothing p (n + 1) M line.parts

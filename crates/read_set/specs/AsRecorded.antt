@@ -31,14 +31,14 @@ price_told a (Some fee) = Some fee
 price_told a None = if a.agreed then a.price else Some 0
 
 -- a loan or a renewal as it was told: it isn't refused
-abbrev pub told : LoanRequest → ToldLoan → LoanRequest
-told a t = record a { forced = true; given = day_told a t.due; price = price_told a t.fee }
+abbrev pub as_told : LoanRequest → ToldLoan → LoanRequest
+as_told a t = record a { forced = true; given = day_told a t.due; price = price_told a t.fee }
 
 -- A checkout or a renewal (message 29) that was told as done. One's own loan is renewed, and that of another where a third party is
 -- allowed; what isn't on loan to the asker is lent to the asker: so a renewal is as a checkout that may renew.
 unfoldable pub loan_told : Terms → ℕ → List ℕ → Act → ToldLoan → Asks Effect
-loan_told p n date (acts.Checkout q) t = checkout_rule_for p n t.renewal (told (by_checkout q) t) date
-loan_told p n date (acts.Renew q) t = checkout_rule_for p n true (told (by_renew q) t) date
+loan_told p n date (acts.Checkout q) t = checkout_rule_for p n t.renewal (as_told (by_checkout q) t) date
+loan_told p n date (acts.Renew q) t = checkout_rule_for p n true (as_told (by_renew q) t) date
 loan_told p n date act t = Give (unwritten None)
 
 -- a hold that was told as done: that the patron is blocked doesn't count. Of the other requests there is nothing to do that their rule

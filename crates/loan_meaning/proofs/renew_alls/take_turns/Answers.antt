@@ -13,14 +13,14 @@ pub returns-in_err-done-clause-gives : goal.returns-in_err-done-clause-gives
 returns-in_err-done-clause-gives g c =
     let p = err_from_is_err_and c.from_residual-in_err-done.result c.from_residual-in_err-done.ensures.1 in
     let has : Part = g.S.Source.has c.take_turn.new.source in
-    let stops = rw c.in_ok-ask_for.ensures at c.in_err-done.ensures.gives in
+    let stops = rw (c.asking-asked.ensures.policy, c.asking-asked.ensures.number, c.asking-asked.ensures.request, c.asking-asked.ensures.date, c.in_ok-ask_for.ensures) at c.in_err-done.ensures.gives in
     rw (p.1, p.2, ← c.loop-item.invariant.same has c.in_err-done.ensures.keeps.grows)
     (stop_step has c.args.line.now.policy.now c.args.line.now.number c.args.forced c.args.request.now c.args.line.now.date c.args.items.now c.loop-item.item-index c.item-item.result c.loop-item.done _ c.loop-item-test.true c.item-item.is stops)
 
 pub returns-in_err-done-clause-keeps : goal.returns-in_err-done-clause-keeps
 returns-in_err-done-clause-keeps g c =
     let has : Part = g.S.Source.has c.take_turn.new.source in
-    let asked = rw c.in_ok-ask_for.ensures at c.in_err-done.ensures.keeps in
+    let asked = rw (c.asking-asked.ensures.policy, c.asking-asked.ensures.number, c.asking-asked.ensures.request, c.asking-asked.ensures.date, c.in_ok-ask_for.ensures) at c.in_err-done.ensures.keeps in
     gains_step _ _ has (turn_rule c.args.line.now.policy.now c.args.line.now.number (by_renew_all c.args.forced c.args.request.now c.item-item.result) c.args.line.now.date c.loop-item.done) (turns_rule c.args.line.now.policy.now c.args.line.now.number c.args.forced c.args.request.now c.args.line.now.date c.args.items.now (none_renewed c.args.member)) c.loop-item.invariant.keeps asked
     (λ k a. c.loop-item.invariant.asks has k c.in_err-done.ensures.keeps.grows
     (asks_here has c.args.line.now.policy.now c.args.line.now.number c.args.forced c.args.request.now c.args.line.now.date c.args.items.now c.loop-item.item-index c.item-item.result c.loop-item.done k c.loop-item-test.true c.item-item.is a))
@@ -28,8 +28,8 @@ returns-in_err-done-clause-keeps g c =
 pub loop-item-preserved : goal.loop-item-preserved
 loop-item-preserved g c =
     let has : Part = g.S.Source.has c.take_turn.new.source in
-    let next = rw c.in_ok-ask_for.ensures at c.in_ok-done.ensures.gives in
-    let asked = rw c.in_ok-ask_for.ensures at c.in_ok-done.ensures.keeps in
+    let next = rw (c.asking-asked.ensures.policy, c.asking-asked.ensures.number, c.asking-asked.ensures.request, c.asking-asked.ensures.date, c.in_ok-ask_for.ensures) at c.in_ok-done.ensures.gives in
+    let asked = rw (c.asking-asked.ensures.policy, c.asking-asked.ensures.number, c.asking-asked.ensures.request, c.asking-asked.ensures.date, c.in_ok-ask_for.ensures) at c.in_ok-done.ensures.keeps in
     let same : (more : Part) → Grows has more
     → follow more (turns_rule c.args.line.now.policy.now c.args.line.now.number c.args.forced c.args.request.now c.args.line.now.date (drop (c.loop-item.item-index + 1) c.args.items.now) c.in_ok-done.done)
     ≡ follow more (turns_rule c.args.line.now.policy.now c.args.line.now.number c.args.forced c.args.request.now c.args.line.now.date c.args.items.now (none_renewed c.args.member))
@@ -43,7 +43,7 @@ loop-item-preserved g c =
           (λ k a. c.loop-item.invariant.asks has k c.in_ok-done.ensures.keeps.grows
           (asks_here has c.args.line.now.policy.now c.args.line.now.number c.args.forced c.args.request.now c.args.line.now.date c.args.items.now c.loop-item.item-index c.item-item.result c.loop-item.done k c.loop-item-test.true c.item-item.is a));
       few = omega (arith, c.in_ok-done.ensures.few, c.loop-item.invariant.few);
-      runs = c.in_ok-done.ensures.runs;
+      runs = rw c.asking-asked.ensures.number at c.in_ok-done.ensures.runs;
       same = same;
       asks = λ more k grows a.
           c.loop-item.invariant.asks more k (λ j r e. grows j r (c.in_ok-done.ensures.keeps.grows j r e))

@@ -15,7 +15,7 @@ returns-clause-gives g c =
 pub returns-clause-runs : goal.returns-clause-runs
 returns-clause-runs g c =
     let has = g.S.Source.has c.test_renewal.new.source in
-    let more = rw c.charge_by-charge.ensures at c.owed_with.ensures in
+    let more = rw (c.charge_by-charge.ensures, c.charge_of.ensures) at c.owed_with.ensures in
     rw c.in_ok-end_turn.ensures.value
     (run_turn has c.args.asked.now.policy.now c.args.asked.now.number c.args.asked.now.request c.args.asked.now.date c.args.article c.args.done c.in_ok-verdict.verdict c.args.fresh c.test_renewal.new.sum c.owed_with.result (let s = c.requires.small in omega arith)
     (record { known = c.in_ok-verdict.ensures.known; new = c.requires.runs.new }) more)

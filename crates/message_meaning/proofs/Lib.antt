@@ -2,6 +2,7 @@ pub mod LineReach
 pub mod LoanReach
 pub mod Paying
 pub mod Reach
+mod Unlike
 pub mod Wanting
 pub mod WhatIsPaid
 pub mod Whole

@@ -13,6 +13,9 @@ use Rattle.circ_records.specs.declared.key.Key.TheVariants as keys
 use Rattle.circ_records.specs.declared.record.Fee.{Fee}
 use Rattle.circ_records.specs.declared.record.Patron.{Patron}
 use Rattle.sip_answer.specs.declared.answer.Answer.TheVariants as answers
+use Rattle.sip_answer.specs.declared.outcome.Outcome.{Outcome}
+use Rattle.sip_answer.specs.declared.outcome.Outcome.TheVariants as outcomes
+use Rattle.sip_answer.specs.declared.outcome.ToldLoan.{ToldLoan}
 use Rattle.sip_reader.specs.declared.request.Act.{Act}
 use Rattle.sip_reader.specs.declared.request.Act.TheVariants as acts
 use Rattle.sip_reader.specs.declared.request.FeePaid.{FeePaid}
@@ -32,8 +35,10 @@ use Rattle.read_set.specs.Effects.{unwritten}
 use Rattle.read_set.specs.Ids.{same, has_id}
 use Rattle.read_set.specs.Known.{as_fee}
 use Rattle.read_set.specs.Maps.{Part}
-use Rattle.read_set.specs.Meaning.{rule_of, rule}
-use Rattle.read_set.specs.Plans.{Planned, reading_at}
+use Rattle.read_set.specs.AsRecorded.{agrees_with, answering, as_told, carried, done_told, followed, loan_told, renewals_told}
+use Rattle.read_set.specs.Loans.{by_checkout, by_renew}
+use Rattle.read_set.specs.Meaning.{rule_of, rule_with, rule}
+use Rattle.read_set.specs.Plans.{Planned, outcome_at, reading_at}
 use Rattle.read_set.specs.Stops.{Follows}
 use Rattle.read_set.specs.Wanted.{IsOfAct, IsOfReading, IsOfLine, IsNamed, Wanted, WantsAt}
 use Rattle.read_set.specs.declared.effect.Effect.{Effect}
@@ -56,13 +61,13 @@ status_reach has near closed p q date i =
     reach_then has near (item_at p q.item) (λ item. Give (updated q date item)) (LentAll near) Any (item_reach has near closed p q.item i)
     (λ item h. reach_any has near (updated q date item))
 
-hold_reach : (has : Part) (near : Key → Type 0) → IsClosed has near → (p : Terms) (q : HoldRequest) (date : List ℕ) → near (keys.Patron q.patron) → near (keys.Item q.item)
-    → Reaches has near (hold_rule p q date) Any
+hold_reach : (has : Part) (near : Key → Type 0) → IsClosed has near → (p : Terms) (forced : Bool) (q : HoldRequest) (date : List ℕ) → near (keys.Patron q.patron) → near (keys.Item q.item)
+    → Reaches has near (hold_rule p forced q date) Any
 unfolding hold_rule
-hold_reach has near closed p q date a b =
-    reach_then has near (patron_at p q.patron) (λ patron. item_at p q.item >>= λ item. Give (held p q date patron item)) (ListsAll near) Any (patron_reach has near closed p q.patron a)
-    (λ patron h. reach_then has near (item_at p q.item) (λ item. Give (held p q date patron item)) (LentAll near) Any (item_reach has near closed p q.item b)
-    (λ item l. reach_any has near (held p q date patron item)))
+hold_reach has near closed p forced q date a b =
+    reach_then has near (patron_at p q.patron) (λ patron. item_at p q.item >>= λ item. Give (held p forced q date patron item)) (ListsAll near) Any (patron_reach has near closed p q.patron a)
+    (λ patron h. reach_then has near (item_at p q.item) (λ item. Give (held p forced q date patron item)) (LentAll near) Any (item_reach has near closed p q.item b)
+    (λ item l. reach_any has near (held p forced q date patron item)))
 
 block_known_reach : (has : Part) (near : Key → Type 0) (p : Terms) (blocks : Bool) (id : List ℕ) (date : List ℕ) (member : Option Member) → ListsAll near member
     → Reaches has near (block_rule_known p blocks id date member) Any
@@ -152,24 +157,86 @@ act_reach : (has : Part) (near : Key → Type 0) → IsClosed has near → (p : 
 unfolding rule_of
 act_reach has near closed p n date (acts.BlockPatron q) h = block_reach has near closed p true q.patron date (h (keys.Patron q.patron) refl)
 act_reach has near closed p n date (acts.Checkin q) h = checkin_reach has near closed p n q date (h (keys.Item q.item) refl)
-act_reach has near closed p n date (acts.Checkout q) h = checkout_reach has near closed p n q date (h (keys.Patron q.patron) (inl refl)) (h (keys.Item q.item) (inr refl))
-act_reach has near closed p n date (acts.Hold q) h = hold_reach has near closed p q date (h (keys.Patron q.patron) (inl refl)) (h (keys.Item q.item) (inr refl))
+act_reach has near closed p n date (acts.Checkout q) h = checkout_reach has near closed p n q.renewal (by_checkout q) date (h (keys.Patron q.patron) (inl refl)) (h (keys.Item q.item) (inr refl))
+act_reach has near closed p n date (acts.Hold q) h = hold_reach has near closed p false q date (h (keys.Patron q.patron) (inl refl)) (h (keys.Item q.item) (inr refl))
 act_reach has near closed p n date (acts.ItemStatus q) h = status_reach has near closed p q date (h (keys.Item q.item) refl)
 act_reach has near closed p n date (acts.PatronEnable q) h = block_reach has near closed p false q.patron date (h (keys.Patron q.patron) refl)
 act_reach has near closed p n date (acts.Renew q) h = renew_reach has near closed p n q date (h (keys.Patron q.patron) (inl refl)) (h (keys.Item q.item) (inr refl))
 act_reach has near closed p n date (acts.FeePaid q) h = fee_paid_reach has near closed p q date (h (keys.Patron q.patron) refl)
-act_reach has near closed p n date (acts.RenewAll q) h = renew_all_reach has near closed p n q date (h (keys.Patron q.patron) refl)
+act_reach has near closed p n date (acts.RenewAll q) h = renew_all_reach has near closed p n None q date (h (keys.Patron q.patron) refl)
 
-reading_reach : (has : Part) (near : Key → Type 0) → IsClosed has near → (p : Terms) (n : ℕ) (r : Reading) → ((k : Key) → IsOfReading r k → near k) → Reaches has near (rule p n r) Any
+-- as recorded
+
+loan_told_reach : (has : Part) (near : Key → Type 0) → IsClosed has near → (p : Terms) (n : ℕ) (date : List ℕ) (act : Act) (t : ToldLoan) → ((k : Key) → IsOfAct act k → near k) → Reaches has near (loan_told p n date act t) Any
+unfolding loan_told
+loan_told_reach has near closed p n date (acts.Checkout q) t h = checkout_reach has near closed p n t.renewal (as_told (by_checkout q) t) date (h (keys.Patron q.patron) (inl refl)) (h (keys.Item q.item) (inr refl))
+loan_told_reach has near closed p n date (acts.Renew q) t h = checkout_reach has near closed p n true (as_told (by_renew q) t) date (h (keys.Patron q.patron) (inl refl)) (h (keys.Item q.item) (inr refl))
+loan_told_reach has near closed p n date (acts.BlockPatron q) t h = reach_any has near (unwritten None)
+loan_told_reach has near closed p n date (acts.Checkin q) t h = reach_any has near (unwritten None)
+loan_told_reach has near closed p n date (acts.Hold q) t h = reach_any has near (unwritten None)
+loan_told_reach has near closed p n date (acts.ItemStatus q) t h = reach_any has near (unwritten None)
+loan_told_reach has near closed p n date (acts.PatronEnable q) t h = reach_any has near (unwritten None)
+loan_told_reach has near closed p n date (acts.FeePaid q) t h = reach_any has near (unwritten None)
+loan_told_reach has near closed p n date (acts.RenewAll q) t h = reach_any has near (unwritten None)
+
+done_told_reach : (has : Part) (near : Key → Type 0) → IsClosed has near → (p : Terms) (date : List ℕ) (act : Act) → ((k : Key) → IsOfAct act k → near k) → Reaches has near (done_told p date act) Any
+unfolding done_told
+done_told_reach has near closed p date (acts.Hold q) h = hold_reach has near closed p true q date (h (keys.Patron q.patron) (inl refl)) (h (keys.Item q.item) (inr refl))
+done_told_reach has near closed p date (acts.BlockPatron q) h = reach_any has near (unwritten None)
+done_told_reach has near closed p date (acts.Checkin q) h = reach_any has near (unwritten None)
+done_told_reach has near closed p date (acts.Checkout q) h = reach_any has near (unwritten None)
+done_told_reach has near closed p date (acts.ItemStatus q) h = reach_any has near (unwritten None)
+done_told_reach has near closed p date (acts.PatronEnable q) h = reach_any has near (unwritten None)
+done_told_reach has near closed p date (acts.Renew q) h = reach_any has near (unwritten None)
+done_told_reach has near closed p date (acts.FeePaid q) h = reach_any has near (unwritten None)
+done_told_reach has near closed p date (acts.RenewAll q) h = reach_any has near (unwritten None)
+
+renewals_told_reach : (has : Part) (near : Key → Type 0) → IsClosed has near → (p : Terms) (n : ℕ) (date : List ℕ) (act : Act) (named : List (List ℕ)) → ((k : Key) → IsOfAct act k → near k) → Reaches has near (renewals_told p n date act named) Any
+unfolding renewals_told
+renewals_told_reach has near closed p n date (acts.RenewAll q) named h = renew_all_reach has near closed p n (Some named) q date (h (keys.Patron q.patron) refl)
+renewals_told_reach has near closed p n date (acts.BlockPatron q) named h = reach_any has near (unwritten None)
+renewals_told_reach has near closed p n date (acts.Checkin q) named h = reach_any has near (unwritten None)
+renewals_told_reach has near closed p n date (acts.Checkout q) named h = reach_any has near (unwritten None)
+renewals_told_reach has near closed p n date (acts.Hold q) named h = reach_any has near (unwritten None)
+renewals_told_reach has near closed p n date (acts.ItemStatus q) named h = reach_any has near (unwritten None)
+renewals_told_reach has near closed p n date (acts.PatronEnable q) named h = reach_any has near (unwritten None)
+renewals_told_reach has near closed p n date (acts.Renew q) named h = reach_any has near (unwritten None)
+renewals_told_reach has near closed p n date (acts.FeePaid q) named h = reach_any has near (unwritten None)
+
+carried_reach : (has : Part) (near : Key → Type 0) → IsClosed has near → (p : Terms) (n : ℕ) (date : List ℕ) (act : Act) (o : Outcome) → ((k : Key) → IsOfAct act k → near k) → Reaches has near (carried p n date act o) Any
+unfolding carried
+carried_reach has near closed p n date act outcomes.NotTaken h = reach_any has near (unwritten None)
+carried_reach has near closed p n date act (outcomes.Said true) h = done_told_reach has near closed p date act h
+carried_reach has near closed p n date act (outcomes.Said false) h = reach_any has near (unwritten None)
+carried_reach has near closed p n date act outcomes.Refused h = reach_any has near (unwritten None)
+carried_reach has near closed p n date act (outcomes.Lent t) h = loan_told_reach has near closed p n date act t h
+carried_reach has near closed p n date act (outcomes.Renewed named) h = renewals_told_reach has near closed p n date act named h
+
+followed_reach : (has : Part) (near : Key → Type 0) → IsClosed has near → (p : Terms) (n : ℕ) (date : List ℕ) (act : Act) (o : Outcome) (ruled : Effect) → ((k : Key) → IsOfAct act k → near k)
+    → Reaches has near (followed p n date act o ruled) Any
+unfolding followed
+followed_reach has near closed p n date act o ruled h =
+    reach_if has near (agrees_with ruled.answer o) (Give ruled) (carried p n date act o >>= λ done. Give (answering ruled.answer done)) Any (λ e. reach_any has near ruled)
+    (λ e. reach_then has near (carried p n date act o) (λ done. Give (answering ruled.answer done)) Any Any (carried_reach has near closed p n date act o h)
+    (λ done u. reach_any has near (answering ruled.answer done)))
+
+with_reach : (has : Part) (near : Key → Type 0) → IsClosed has near → (p : Terms) (n : ℕ) (date : List ℕ) (act : Act) (o : Option Outcome) → ((k : Key) → IsOfAct act k → near k) → Reaches has near (rule_with p n date act o) Any
+unfolding rule_with
+with_reach has near closed p n date act None h = act_reach has near closed p n date act h
+with_reach has near closed p n date act (Some o) h =
+    reach_then has near (rule_of p n date act) (followed p n date act o) Any Any (act_reach has near closed p n date act h)
+    (λ ruled u. followed_reach has near closed p n date act o ruled h)
+
+reading_reach : (has : Part) (near : Key → Type 0) → IsClosed has near → (p : Terms) (n : ℕ) (r : Reading) (o : Option Outcome) → ((k : Key) → IsOfReading r k → near k) → Reaches has near (rule p n r o) Any
 unfolding rule
-reading_reach has near closed p n (readings.Asked q) h = act_reach has near closed p n q.date q.act h
-reading_reach has near closed p n readings.BadSum h = reach_any has near (unwritten (Some answers.Resend))
-reading_reach has near closed p n (readings.Passed why) h = reach_any has near (unwritten None)
-reading_reach has near closed p n (readings.Unread why) h = reach_any has near (unwritten None)
+reading_reach has near closed p n (readings.Asked q) o h = with_reach has near closed p n q.date q.act o h
+reading_reach has near closed p n readings.BadSum o h = reach_any has near (unwritten (Some answers.Resend))
+reading_reach has near closed p n (readings.Passed why) o h = reach_any has near (unwritten None)
+reading_reach has near closed p n (readings.Unread why) o h = reach_any has near (unwritten None)
 
 line_reach : (has : Part) (near : Key → Type 0) → IsClosed has near → (plan : Planned) (line : ℕ) (r : Option Reading) → ((k : Key) → IsOfLine r k → near k) → Reaches has near (rule_by plan line r) Any
 line_reach has near closed plan line None h = reach_any has near (unwritten None)
-line_reach has near closed plan line (Some r) h = reading_reach has near closed plan.policy line r h
+line_reach has near closed plan line (Some r) h = reading_reach has near closed plan.policy line r (outcome_at plan line) h
 
 -- the key at which a line stops is wanted
 pub wanted : (has : Part) (plan : Planned) (line : ℕ) (k : Key) → follow has (rule_at plan line) ≡ Wants k → Wanted plan line has k

@@ -1,7 +1,7 @@
 -- Which keys checkin, checkout, renewal and renewal of all items want.
-use Rattle.std.proofs.Common.{◌≡◌, inl, inr, ℕ, ◌+◌, Bool, true, false, cond, not, List, [], ◌∷◌, ◌++◌, length, Option, Some, None, refl, ap, sym, ◌∙◌}
-use Rattle.std.specs.Prelude.{◌&&◌, nat_le, nat_lt, Contains}
-use Rattle.std.proofs.lemmas.List.Elements.{Contains-append_right, Contains-push_cases}
+use Rattle.std.proofs.Common.{◌≡◌, inl, inr, ℕ, ◌+◌, Bool, true, false, cond, not, List, [], ◌∷◌, ◌++◌, length, Option, Some, None, refl, ap, subst, sym, ◌∙◌}
+use Rattle.std.specs.Prelude.{◌&&◌, nat_le, nat_lt, Contains, filter, is_some}
+use Rattle.std.proofs.lemmas.List.Elements.{Contains-append_cases, Contains-append_right, Contains-push_cases}
 use Rattle.circ_policy.specs.Terms.{Terms}
 use Rattle.circ_records.specs.Records.{Entries, record_at}
 use Rattle.circ_records.specs.declared.key.Key.{Key}
@@ -10,23 +10,24 @@ use Rattle.circ_records.specs.declared.record.FeeType.TheVariants as fee_types
 use Rattle.circ_records.specs.declared.record.Loan.{Loan}
 use Rattle.circ_records.specs.declared.record.Record.{Record}
 use Rattle.circ_records.specs.declared.record.Record.TheVariants as records
+use Rattle.sip_answer.specs.Outcomes.{names_item}
 use Rattle.sip_reader.specs.Texts.{fee_id}
 use Rattle.sip_reader.specs.declared.request.Checkin.{Checkin}
 use Rattle.sip_reader.specs.declared.request.Checkout.{Checkout}
 use Rattle.sip_reader.specs.declared.request.Renew.{Renew}
 use Rattle.sip_reader.specs.declared.request.RenewAll.{RenewAll}
-use Rattle.read_set.specs.Checkouts.{lending_tests, other_at, lending_of, lending_rule_by, lending_rule, checkout_rule_known, checkout_rule, lending_made}
+use Rattle.read_set.specs.Checkouts.{lending_tests, other_at, lending_of, lending_rule_by, lending_rule, checkout_rule_known, checkout_rule_for, lending_made}
 use Rattle.read_set.specs.Renewals.{renewal_tests, renewal_rule, renew_rule_known, renew_rule, may_renew, renewals_of, renewed, renewal_by}
 use Rattle.read_set.specs.Lookups.{patron_at, item_at, borrower_at, ask_after}
 use Rattle.read_set.specs.Owing.{owed_from, owed_at, owing_tests}
-use Rattle.read_set.specs.RenewAlls.{turn_rule_known, turn_rule, turns_rule, renew_all_rule_known, renew_all_rule, by_renew_all, one_left, turn_by, none_renewed, all_renewed}
+use Rattle.read_set.specs.RenewAlls.{turn_rule_known, turn_rule, turns_rule, renew_all_rule_known, renew_all_rule, by_renew_all, turns_of, one_left, turn_by, none_renewed, all_renewed}
 use Rattle.read_set.specs.Checkins.{checkin_rule, checked_in, loan_of}
 use Rattle.read_set.specs.Asks.{Give, ◌>>=◌}
 use Rattle.read_set.specs.Effects.{written}
 use Rattle.read_set.specs.Fees.{rest_of, owing_verdict}
 use Rattle.read_set.specs.Ids.{same}
 use Rattle.read_set.specs.Known.{as_article, as_fee}
-use Rattle.read_set.specs.Loans.{by_checkout, by_renew, is_lent, lent_to, refused, due_for}
+use Rattle.read_set.specs.Loans.{by_renew, charge_for, is_lent, lent_to, refused, due_for}
 use Rattle.read_set.specs.Maps.{Part}
 use Rattle.read_set.specs.Queues.{has_queue, first_is_another}
 use Rattle.read_set.specs.declared.known.Article.{Article}
@@ -37,7 +38,7 @@ use Rattle.read_set.specs.declared.verdict.Verdict.{Verdict}
 use Rattle.read_set.specs.declared.verdict.Verdict.TheVariants as verdicts
 use Rattle.read_set.proofs.Putting.{put-there, written-lacks}
 use Rattle.message_meaning.proofs.Reach.{Reaches, reach_give, reach_any, reach_then, reach_if}
-use Rattle.message_meaning.proofs.Wanting.{IsClosed, Lists, ListsAll, Lent, LentAll, patron_reach, item_reach, ask_reach, first-of}
+use Rattle.message_meaning.proofs.Wanting.{IsClosed, Lists, ListsAll, Lent, LentAll, patron_reach, item_reach, alone, ask_reach, first-of}
 
 -- anything may be given
 abbrev Any : {A : Type 0} → A → Type 0
@@ -162,22 +163,22 @@ renew_reach has near closed p n q date a b =
     (λ patron h. reach_then has near (item_at p q.item) (λ item. renew_rule_known p n (by_renew q) date patron item) (LentAll near) Any (item_reach has near closed p q.item b)
     (λ item u. renew_known_reach has near p n (by_renew q) date patron item h))
 
-checkout_known_reach : (has : Part) (near : Key → Type 0) → IsClosed has near → (p : Terms) (n : ℕ) (q : Checkout) (date : List ℕ) (member : Option Member) (article : Option Article) → ListsAll near member → LentAll near article
-    → Reaches has near (checkout_rule_known p n q date member article) Any
-checkout_known_reach has near closed p n q date None article h l = reach_any has near (refused p (by_checkout q) date article 0)
-checkout_known_reach has near closed p n q date (Some member) None h l = reach_any has near (refused p (by_checkout q) date None 0)
-checkout_known_reach has near closed p n q date (Some member) (Some article) h l =
-    reach_if has near (q.renewal && lent_to q.patron article.item.loan) (renewal_rule p n (by_checkout q) date member article) (lending_rule p n (by_checkout q) date member article) Any
-    (λ e. renewal_reach has near p n (by_checkout q) date member article h)
-    (λ e. lending_reach has near closed p n (by_checkout q) date member article h l)
+checkout_known_reach : (has : Part) (near : Key → Type 0) → IsClosed has near → (p : Terms) (n : ℕ) (renewal : Bool) (a : LoanRequest) (date : List ℕ) (member : Option Member) (article : Option Article) → ListsAll near member → LentAll near article
+    → Reaches has near (checkout_rule_known p n renewal a date member article) Any
+checkout_known_reach has near closed p n renewal a date None article h l = reach_any has near (refused p a date article 0)
+checkout_known_reach has near closed p n renewal a date (Some member) None h l = reach_any has near (refused p a date None 0)
+checkout_known_reach has near closed p n renewal a date (Some member) (Some article) h l =
+    reach_if has near (renewal && may_renew a article.item.loan) (renewal_rule p n a date member article) (lending_rule p n a date member article) Any
+    (λ e. renewal_reach has near p n a date member article h)
+    (λ e. lending_reach has near closed p n a date member article h l)
 
-pub checkout_reach : (has : Part) (near : Key → Type 0) → IsClosed has near → (p : Terms) (n : ℕ) (q : Checkout) (date : List ℕ) → near (keys.Patron q.patron) → near (keys.Item q.item)
-    → Reaches has near (checkout_rule p n q date) Any
-unfolding checkout_rule
-checkout_reach has near closed p n q date a b =
-    reach_then has near (patron_at p q.patron) (λ patron. item_at p q.item >>= λ item. checkout_rule_known p n q date patron item) (ListsAll near) Any (patron_reach has near closed p q.patron a)
-    (λ patron h. reach_then has near (item_at p q.item) (λ item. checkout_rule_known p n q date patron item) (LentAll near) Any (item_reach has near closed p q.item b)
-    (λ item l. checkout_known_reach has near closed p n q date patron item h l))
+pub checkout_reach : (has : Part) (near : Key → Type 0) → IsClosed has near → (p : Terms) (n : ℕ) (renewal : Bool) (a : LoanRequest) (date : List ℕ) → near (keys.Patron a.patron) → near (keys.Item a.item)
+    → Reaches has near (checkout_rule_for p n renewal a date) Any
+unfolding checkout_rule_for
+checkout_reach has near closed p n renewal a date i j =
+    reach_then has near (patron_at p a.patron) (λ patron. item_at p a.item >>= λ item. checkout_rule_known p n renewal a date patron item) (ListsAll near) Any (patron_reach has near closed p a.patron i)
+    (λ patron h. reach_then has near (item_at p a.item) (λ item. checkout_rule_known p n renewal a date patron item) (LentAll near) Any (item_reach has near closed p a.item j)
+    (λ item l. checkout_known_reach has near closed p n renewal a date patron item h l))
 
 -- RENEWAL OF ALL ITEMS
 
@@ -207,8 +208,8 @@ unfolding turn_by
 held_by near p n a date article done verdicts.Refused h = h
 held_by near p n a date article done verdicts.Unpaid h = h
 held_by near p n a date article done verdicts.Made h =
-    made_by near (nat_lt 0 article.media.rental) done.writes (keys.Item a.item, records.Item (renewed (due_for p a date article.media) article.item)) (fee_id n done.made)
-    (records.Fee (record { patron = a.patron; kind = fee_types.Rental; amount = article.media.rental; paid = 0 })) done.member.patron.fees h
+    made_by near (nat_lt 0 (charge_for a article.media)) done.writes (keys.Item a.item, records.Item (renewed (due_for p a date article.media) article.item)) (fee_id n done.made)
+    (records.Fee (record { patron = a.patron; kind = fee_types.Rental; amount = charge_for a article.media; paid = 0 })) done.member.patron.fees h
 
 turn_known_reach : (has : Part) (near : Key → Type 0) (p : Terms) (n : ℕ) (a : LoanRequest) (date : List ℕ) (done : Renewals) (article : Option Article) → Held near done
     → Reaches has near (turn_rule_known p n a date done article) (Held near)
@@ -226,25 +227,42 @@ turn_reach has near p n a date done i h =
     (ask_reach has near done.writes (keys.Item a.item) (λ u. i))
     (λ found u. turn_known_reach has near p n a date done (as_article p found) h)
 
-turns_reach : (has : Part) (near : Key → Type 0) (p : Terms) (n : ℕ) (q : RenewAll) (date : List ℕ) (items : List (List ℕ)) (done : Renewals) → ((id : List ℕ) → Contains items id → near (keys.Item id)) → Held near done
-    → Reaches has near (turns_rule p n q date items done) (Held near)
-turns_reach has near p n q date [] done i h = reach_give has near done (Held near) h
-turns_reach has near p n q date (id ∷ more) done i h =
-    reach_then has near (turn_rule p n (by_renew_all q id) date done) (λ next. turns_rule p n q date more next) (Held near) (Held near)
-    (turn_reach has near p n (by_renew_all q id) date done (i id (first-of id more)) h)
-    (λ next k. turns_reach has near p n q date more next (λ j c. i j (Contains-append_right (id ∷ []) more j c)) k)
+turns_reach : (has : Part) (near : Key → Type 0) (p : Terms) (n : ℕ) (forced : Bool) (q : RenewAll) (date : List ℕ) (items : List (List ℕ)) (done : Renewals) → ((id : List ℕ) → Contains items id → near (keys.Item id)) → Held near done
+    → Reaches has near (turns_rule p n forced q date items done) (Held near)
+turns_reach has near p n forced q date [] done i h = reach_give has near done (Held near) h
+turns_reach has near p n forced q date (id ∷ more) done i h =
+    reach_then has near (turn_rule p n (by_renew_all forced q id) date done) (λ next. turns_rule p n forced q date more next) (Held near) (Held near)
+    (turn_reach has near p n (by_renew_all forced q id) date done (i id (first-of id more)) h)
+    (λ next k. turns_reach has near p n forced q date more next (λ j c. i j (Contains-append_right (id ∷ []) more j c)) k)
 
-renew_all_known_reach : (has : Part) (near : Key → Type 0) (p : Terms) (n : ℕ) (q : RenewAll) (date : List ℕ) (member : Option Member) → ListsAll near member
-    → Reaches has near (renew_all_rule_known p n q date member) Any
-renew_all_known_reach has near p n q date None h = reach_any has near _
-renew_all_known_reach has near p n q date (Some member) h =
-    reach_then has near (turns_rule p n q date member.patron.loans (none_renewed member)) (λ done. Give (all_renewed p q date done)) (Held near) Any
-    (turns_reach has near p n q date member.patron.loans (none_renewed member) h.loans (λ id c u. h.fees id c))
+-- whose turn comes is in the list
+turn_there : (test : List ℕ → Bool) (ids : List (List ℕ)) (id : List ℕ) → Contains (filter test ids) id → Contains ids id
+turn_there test [] id c = c
+turn_there test (x ∷ more) id c = by (test x) (turn_there test more id) c
+  where
+    by : (b : Bool) → (Contains (filter test more) id → Contains more id) → Contains (cond b (x ∷ filter test more) (filter test more)) id → Contains (x ∷ more) id
+    by false ih d = Contains-append_right (x ∷ []) more id (ih d)
+    by true ih d = elim (Contains-append_cases (x ∷ []) (filter test more) id d) [
+      | inl here ↦ subst (λ (y : List ℕ). Contains (y ∷ more) id) (sym (alone x id here)) (first-of id more)
+      | inr later ↦ Contains-append_right (x ∷ []) more id (ih later)
+    ]
+
+turns_there : (named : Option (List (List ℕ))) (ids : List (List ℕ)) (id : List ℕ) → Contains (turns_of named ids) id → Contains ids id
+turns_there None ids id c = c
+turns_there (Some texts) ids id c = turn_there (names_item texts) ids id c
+
+renew_all_known_reach : (has : Part) (near : Key → Type 0) (p : Terms) (n : ℕ) (named : Option (List (List ℕ))) (q : RenewAll) (date : List ℕ) (member : Option Member) → ListsAll near member
+    → Reaches has near (renew_all_rule_known p n named q date member) Any
+renew_all_known_reach has near p n named q date None h = reach_any has near _
+renew_all_known_reach has near p n named q date (Some member) h =
+    let turns : List (List ℕ) = turns_of named member.patron.loans in
+    reach_then has near (turns_rule p n (is_some named) q date turns (none_renewed member)) (λ done. Give (all_renewed p q date done)) (Held near) Any
+    (turns_reach has near p n (is_some named) q date turns (none_renewed member) (λ id c. h.loans id (turns_there named member.patron.loans id c)) (λ id c u. h.fees id c))
     (λ done k. reach_any has near (all_renewed p q date done))
 
-pub renew_all_reach : (has : Part) (near : Key → Type 0) → IsClosed has near → (p : Terms) (n : ℕ) (q : RenewAll) (date : List ℕ) → near (keys.Patron q.patron)
-    → Reaches has near (renew_all_rule p n q date) Any
+pub renew_all_reach : (has : Part) (near : Key → Type 0) → IsClosed has near → (p : Terms) (n : ℕ) (named : Option (List (List ℕ))) (q : RenewAll) (date : List ℕ) → near (keys.Patron q.patron)
+    → Reaches has near (renew_all_rule p n named q date) Any
 unfolding renew_all_rule
-renew_all_reach has near closed p n q date a =
-    reach_then has near (patron_at p q.patron) (λ patron. renew_all_rule_known p n q date patron) (ListsAll near) Any (patron_reach has near closed p q.patron a)
-    (λ patron h. renew_all_known_reach has near p n q date patron h)
+renew_all_reach has near closed p n named q date a =
+    reach_then has near (patron_at p q.patron) (λ patron. renew_all_rule_known p n named q date patron) (ListsAll near) Any (patron_reach has near closed p q.patron a)
+    (λ patron h. renew_all_known_reach has near p n named q date patron h)

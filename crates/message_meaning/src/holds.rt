@@ -9,7 +9,7 @@ ghost use Rattle.read_set.specs.Stops.{Follows};
 use circ_policy::Policy;
 use circ_records::{Hold, Holds, Item, Key, QUEUE_MAX, Record, Shared};
 use loan_meaning::{
-    has_lent_to, has_loan, has_queue, is_first_another, item_of, patron_of, position, waits,
+    LineContext, has_lent_to, has_loan, has_queue, is_first_another, item_of, patron_of, position, waits,
     with_pickup, without_hold,
 };
 use read_set::{Article, Effect, Member, Source, Stop, Writes};
@@ -23,6 +23,8 @@ struct HoldAsked<'p> {
     alloc: Global,
     policy: &'p Policy,
     request: &'p HoldRequest,
+    /// Whether it isn't refused because the patron is blocked.
+    forced: bool,
     /// The moment of its message.
     date: Stamp,
 }
@@ -173,7 +175,7 @@ fn hold_both(
     member: Option<Member>,
     article: Option<Article>,
 ) -> Result<Effect, AllocError>
-    ensures { IfOk result (λ e. e ≡ held asked.now.policy.now asked.now.request.now asked.now.date member article) }
+    ensures { IfOk result (λ e. e ≡ held asked.now.policy.now asked.now.forced asked.now.request.now asked.now.date member article) }
 {
     let Some(member) = member else {
         let title = title_of(article)?;
@@ -185,29 +187,29 @@ fn hold_both(
         return Ok(Effect::unwritten(asked.alloc, Some(answer)));
     };
     let item = article.into_item();
-    hold_item(asked, member.patron.get().blocked, item)
+    hold_item(asked, !asked.forced && member.patron.get().blocked, item)
 }
 
-/// A hold (message 15).
+/// A hold (message 15); one that is forced isn't refused because the patron is blocked.
 #[tactic(auto, unfolding(read_set::specs::Holds::hold_rule), using(read_set::proofs::Gaining::gains_none, read_set::proofs::Gaining::gains_first, read_set::proofs::Following::follow_wants))]
 pub fn hold<S: Source>(
-    alloc: Global,
-    policy: &Policy,
+    line: &LineContext<'_>,
+    forced: bool,
     request: &HoldRequest,
-    date: Stamp,
     source: &mut S,
 ) -> Result<Effect, Stop>
-    ensures gives { Follows result (follow (S.has source.new) (hold_rule policy.now request.now date)) }
-    ensures means { IfOk result (λ e. (M : Map) → Agrees (S.has source.new) M → e ≡ hold policy.now request.now date M) }
-    ensures keeps { Gains S.one_by_one (S.has source.old) (S.has source.new) (hold_rule policy.now request.now date) }
+    ensures gives { Follows result (follow (S.has source.new) (hold_rule line.now.policy.now forced request.now line.now.date)) }
+    ensures means { IfOk result (λ e. (M : Map) → Agrees (S.has source.new) M → e ≡ hold line.now.policy.now forced request.now line.now.date M) }
+    ensures keeps { Gains S.one_by_one (S.has source.old) (S.has source.new) (hold_rule line.now.policy.now forced request.now line.now.date) }
 {
-    let member = patron_of(alloc, policy, source, &request.patron)?;
-    let article = item_of(alloc, policy, source, &request.item)?;
+    let member = patron_of(line.alloc, line.policy, source, &request.patron)?;
+    let article = item_of(line.alloc, line.policy, source, &request.item)?;
     let asked = HoldAsked {
-        alloc,
-        policy,
+        alloc: line.alloc,
+        policy: line.policy,
         request,
-        date,
+        forced,
+        date: line.date,
     };
     Ok(hold_both(&asked, member, article)?)
 }

@@ -9,6 +9,7 @@ mod laws;
 mod lines;
 mod needs;
 mod payments;
+mod told;
 
 pub use laws::payments_pay_what_is_meant;
 pub use lines::perform;

@@ -57,7 +57,8 @@ patron_words a r =
 -- Checkin response (10).
 unfoldable pub checkin_words : CheckinAnswer → CheckinResponse → List Field
 checkin_words a r =
-    word_unless words.Ok (is_same (is_some a.known) r.ok) ++ word_unless words.Alert (is_same a.alert r.alert)
+    word_unless words.Ok (is_same (is_some a.known) r.ok)
+    ++ word_unless words.Alert (is_same a.alert r.alert)
 
 -- the day is compared where both oks are 1
 unfoldable pub due_words : Option ℕ → Bool → Option ℕ → List Field
@@ -100,9 +101,12 @@ renew_all_words a r =
 
 -- Hold response (16).
 unfoldable pub hold_words : HoldAnswer → HoldResponse → List Field
-hold_words a r = word_unless words.Ok (is_same a.ok r.ok) ++ word_unless words.Available (is_same a.available r.available)
+hold_words a r =
+    word_unless words.Ok (is_same a.ok r.ok)
+    ++ word_unless words.Available (is_same a.available r.available)
 
--- the words by which a response of the right kind differs; none where what is compared can't be read
+-- the words by which a response of the right kind differs; none where what is compared can't be
+-- read
 abbrev pub words_of : Answer → List ℕ → Option (List Field)
 words_of (answers.BlockPatron a) m = option_map (patron_words a) (patron_in m)
 words_of (answers.Checkin a) m = option_map (checkin_words a) (checkin_in m)
@@ -137,7 +141,8 @@ abbrev pub words_in : Answer → Result (List ℕ) Field → List Field
 words_in a (Err word) = word ∷ []
 words_in a (Ok m) = unwrap_or (words_of a m) (words.Unreadable ∷ [])
 
--- The words by which a recorded response differs from an answer, in their order (the profile of this project).
+-- The words by which a recorded response differs from an answer, in their order (the profile of
+-- this project).
 unfoldable pub differ : Answer → List ℕ → List Field
 differ a recorded = words_in a (response_with (identifier_of a) recorded)
 

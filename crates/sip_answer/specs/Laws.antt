@@ -1,14 +1,18 @@
--- What the definitions promise together: the text that is written of an answer agrees with it.
+-- What the definitions promise together: the text that is written of an answer agrees with it,
+-- and an answer with which a response agrees has all that the response says was done.
 use Rattle.std.specs.Prelude.{◌≡◌, ◌≤◌, ℕ, Bool, true, not, List, [], ◌∷◌, ◌++◌, length, Option, IfSome}
 use Rattle.std.specs.Char.{is_ascii_digit}
 use Rattle.std.specs.Int.{IsInRange}
 use Rattle.std.specs.List.{list_all, list_any}
 use Rattle.std.specs.Option.{option_map_or}
+use Rattle.circ_policy.specs.declared.due_form.DueForm.{DueForm}
 use Rattle.sip_reader.specs.Dates.{stamp_len}
 use Rattle.sip_reader.specs.Days.{FIRST_DAY, LAST_DAY}
 use Rattle.sip_reader.specs.Texts.{is_barred}
 use Rattle.sip_reader.specs.declared.amount.TheConstants.{AMOUNT_MAX}
+use Rattle.sip_reader.specs.declared.request.Act.{Act}
 use Rattle.sip_answer.specs.Differ.{Agrees}
+use Rattle.sip_answer.specs.Outcomes.{agrees, answers_act, outcome_in}
 use Rattle.sip_answer.specs.Texts.{answer_text}
 use Rattle.sip_answer.specs.declared.answer.Answer.{Answer}
 use Rattle.sip_answer.specs.declared.answer.Answer.TheVariants as answers
@@ -81,3 +85,11 @@ abbrev pub OwnTextAgrees : Type 0
 OwnTextAgrees =
     (a : Answer) (sequence : Option ℕ) → list_all is_clean (texts_of a) ≡ true → PartsFit a
     → IfSome sequence (λ s. is_ascii_digit s ≡ true) → Agrees a (answer_text a sequence)
+
+-- If a response differs in no word from an answer, the answer agrees with what the response says was
+-- done, if it says so.
+abbrev pub AgreesAsRecorded : Type 0
+AgreesAsRecorded =
+    (a : Answer) (act : Act) (form : DueForm) (recorded : List ℕ)
+    → answers_act a act ≡ true → Agrees a recorded
+    → IfSome (outcome_in form act recorded) (λ outcome. agrees a outcome ≡ true)

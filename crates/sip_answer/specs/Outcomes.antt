@@ -1,4 +1,5 @@
--- What a recorded response says was done, beside what the rules say, and which answers agree with that.
+-- What a recorded response says was done, beside what the rules say, and which answers agree with
+-- that.
 use Rattle.std.specs.Prelude.{◌≡◌, ◌≤◌, ℕ, Bool, true, false, ◌&&◌, ◌==◌, not, nat_lt, List, length, Option, Some, None, Result, Ok, Err, IfSome, is_ok, is_some, if◌then◌else◌}
 use Rattle.std.specs.List.{list_any}
 use Rattle.std.specs.Option.{option_and_then, option_map}
@@ -11,7 +12,7 @@ use Rattle.sip_reader.specs.declared.amount.TheConstants.{AMOUNT_MAX}
 use Rattle.sip_reader.specs.declared.request.Act.{Act}
 use Rattle.sip_reader.specs.declared.request.Kind.{Kind}
 use Rattle.sip_reader.specs.declared.request.Kind.TheVariants as kinds
-use Rattle.sip_answer.specs.Differ.{Agrees, are_same_items, identifier_of, is_same, is_same_fee}
+use Rattle.sip_answer.specs.Differ.{are_same_items, identifier_of, is_same, is_same_fee}
 use Rattle.sip_answer.specs.Responses.{checkin_in, fee_paid_in, hold_in, item_status_in, loan_in, renew_all_in, resend_id, response_to, response_with}
 use Rattle.sip_answer.specs.declared.answer.Answer.{Answer}
 use Rattle.sip_answer.specs.declared.answer.Answer.TheVariants as answers
@@ -24,16 +25,19 @@ use Rattle.sip_answer.specs.declared.response.HoldResponse.{HoldResponse}
 use Rattle.sip_answer.specs.declared.response.LoanResponse.{LoanResponse}
 use Rattle.sip_answer.specs.declared.response.RenewAllResponse.{RenewAllResponse}
 
--- A checkin that is refused with the item's place named says nothing: the item was looked at, and isn't lent.
+-- A checkin that is refused with the item's place named says nothing: the item was looked at, and
+-- isn't lent.
 unfoldable pub checkin_outcome : CheckinResponse → Option Outcome
 checkin_outcome r = if r.placed then None else Some (outcomes.Said r.ok)
 
+-- the form with slashes
 abbrev pub is_us : DueForm → Bool
 is_us form.Us = true
 is_us form.Sip = false
 is_us form.Iso = false
 
--- a due date with slashes tells a day only if the policy writes due dates so: elsewhere its day may come before its month
+-- a due date with slashes names a day only if the policy writes due dates so: elsewhere its day may
+-- come before its month
 unfoldable pub told_day : DueForm → LoanResponse → Option ℕ
 told_day f r = if r.slashed && not (is_us f) then None else r.due
 
@@ -42,9 +46,12 @@ loan_outcome f r =
     if r.ok then outcomes.Lent (record { due = told_day f r; fee = r.fee; renewal = r.renewal })
     else outcomes.Refused
 
--- Renewed are the items that are named, whatever ok is; nothing is said if ok is 1 and fewer are named than counted.
+-- Renewed are the items that are named, whatever ok is; nothing is said if ok is 1 and fewer are
+-- named than counted.
 unfoldable pub renew_all_outcome : RenewAllResponse → Option Outcome
-renew_all_outcome r = if r.ok && nat_lt (length r.renewed_items) r.renewed then None else Some (outcomes.Renewed r.renewed_items)
+renew_all_outcome r =
+    if r.ok && nat_lt (length r.renewed_items) r.renewed then None
+    else Some (outcomes.Renewed r.renewed_items)
 
 -- what a response to a request of a kind says was done: nothing if it can't be read
 abbrev pub outcome_by : DueForm → Kind → List ℕ → Option Outcome
@@ -63,34 +70,37 @@ abbrev pub outcome_from : DueForm → Kind → Result (List ℕ) Field → Optio
 outcome_from f kind (Err word) = None
 outcome_from f kind (Ok m) = outcome_by f kind m
 
--- What a recorded response says was done (the profile of this project): a server that asks for the message again has done
--- nothing.
+-- What a recorded response says was done (the profile of this project): a server that asks for the
+-- message again has done nothing.
 unfoldable pub outcome_in : DueForm → Act → List ℕ → Option Outcome
 outcome_in f act recorded =
     if is_ok (response_with resend_id recorded) then Some outcomes.NotTaken
     else outcome_from f (kind_of act) (response_with (response_to (kind_of act)) recorded)
 
--- What the types of an outcome's parts promise: a due day is a real day of the years 1900 to 9999, and a fee is an amount.
+-- What the types of an outcome's parts promise: a due day is a real day of the years 1900 to 9999,
+-- and a fee is an amount.
 abbrev pub IsRealDay : ℕ → Type 0
 IsRealDay n = (year : ℕ) × (month : ℕ) × (day : ℕ) × (day_at year month day ≡ Some n)
 
 abbrev pub FitsOutcome : Outcome → Type 0
-FitsOutcome (outcomes.Lent told) = IfSome told.due IsRealDay × IfSome told.fee (λ fee. fee ≤ AMOUNT_MAX)
+FitsOutcome (outcomes.Lent told) =
+    IfSome told.due IsRealDay × IfSome told.fee (λ fee. fee ≤ AMOUNT_MAX)
 FitsOutcome _ = Unit {0}
 
--- it has a due day, and that one if one is told
+-- it has a due day, and that one if one is named
 abbrev pub is_told_day : Option ℕ → Option ℕ → Bool
 is_told_day None told = false
 is_told_day (Some day) None = true
 is_told_day (Some day) (Some told) = day == told
 
--- a loan or a renewal is refused, or granted with the day and the rental that are told
+-- a loan or a renewal is refused, or granted with the day and the rental that are named
 abbrev pub loan_agrees : LoanAnswer → Outcome → Bool
 loan_agrees a outcomes.Refused = not (is_some a.due)
 loan_agrees a (outcomes.Lent told) = is_told_day a.due told.due && is_same_fee a.rental told.fee
 loan_agrees a _ = false
 
--- An answer agrees with an outcome if it has all that the outcome says (the profile of this project).
+-- An answer agrees with an outcome if it has all that the outcome says (the profile of this
+-- project).
 abbrev pub agrees : Answer → Outcome → Bool
 agrees (answers.Checkin a) (outcomes.Said told) = is_same (is_some a.known) told
 agrees (answers.Checkout a) outcome = loan_agrees a outcome
@@ -108,9 +118,3 @@ names_item texts id = list_any (bytes_eq id) texts
 -- it is written as the response to what the act asks
 abbrev pub answers_act : Answer → Act → Bool
 answers_act a act = bytes_eq (identifier_of a) (response_to (kind_of act))
-
--- If a response differs in no word from an answer, the answer agrees with what the response says was done, if it says so.
-abbrev pub AgreesAsRecorded : Type 0
-AgreesAsRecorded =
-    (a : Answer) (act : Act) (f : DueForm) (recorded : List ℕ) → answers_act a act ≡ true → Agrees a recorded
-    → IfSome (outcome_in f act recorded) (λ outcome. agrees a outcome ≡ true)

@@ -39,8 +39,8 @@ count_at i m = do
   ones ← number_at (i + 2) m
   Some (hundreds * 100 + ones)
 
--- the day whose century, year, month and day of the month are two digits each, from these positions on, where it is a real one
--- of the years 1900 to 9999
+-- the day whose century, year, month and day of the month are two digits each, from these positions
+-- on, where it is a real one of the years 1900 to 9999
 abbrev pub day_of_digits : List ℕ → ℕ → ℕ → ℕ → ℕ → Option ℕ
 day_of_digits t century year month day = do
   c ← number_at century t
@@ -49,12 +49,13 @@ day_of_digits t century year month day = do
   d ← number_at day t
   day_at (c * 100 + y) m d
 
--- a due date begins with MM/DD/YYYY, if what stands there are digits
+-- a due date begins with MM/DD/YYYY, if what is there are digits
 abbrev pub has_slashes : List ℕ → Bool
-has_slashes t = nat_le 10 (length t) && ((slice_index t 2 == byte.slash) && (slice_index t 5 == byte.slash))
+has_slashes t =
+    nat_le 10 (length t) && ((slice_index t 2 == byte.slash) && (slice_index t 5 == byte.slash))
 
--- The day of a due date at the front of a text, whatever follows, in one of its forms (the profile of this project):
--- YYYY-MM-DD, MM/DD/YYYY or eight digits.
+-- The day of a due date at the front of a text, whatever follows, in one of its forms (the profile
+-- of this project): YYYY-MM-DD, MM/DD/YYYY or eight digits.
 unfoldable pub day_in : List ℕ → Option ℕ
 day_in t =
     if nat_le 10 (length t) && ((slice_index t 4 == byte.hyphen) && (slice_index t 7 == byte.hyphen)) then day_of_digits t 0 2 5 8
@@ -70,13 +71,13 @@ due_in rest = option_and_then day_in (field byte.A byte.H (pieces rest))
 unfoldable pub slashed_in : List ℕ → Bool
 slashed_in rest = option_map_or has_slashes (field byte.A byte.H (pieces rest)) false
 
--- an empty text tells no amount, and any other has to be one
+-- an empty text names no amount, and any other has to be one
 abbrev pub fee_of : Option (List ℕ) → Option (Option ℕ)
 fee_of None = Some None
 fee_of (Some []) = Some None
 fee_of (Some (x ∷ text)) = option_map Some (amount_of (x ∷ text))
 
--- Fee amount (BV) of the variable fields: the one that it tells, if any, or that it can't be read.
+-- Fee amount (BV) of the variable fields: the one that it names, if any, or that it can't be read.
 unfoldable pub fee_in : List ℕ → Option (Option ℕ)
 fee_in rest = fee_of (field byte.B byte.V (pieces rest))
 

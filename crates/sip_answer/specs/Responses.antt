@@ -1,4 +1,5 @@
--- What is read of a recorded response of each kind (SIP 2.00), once: words in which it differs and its outcome follow from it.
+-- What is read of a recorded response of each kind (SIP 2.00), once: words in which it differs and
+-- its outcome follow from it.
 use Rattle.std.specs.Prelude.{ℕ, Bool, ◌+◌, ◌&&◌, ◌==◌, not, nat_lt, List, length, drop, slice_index, Option, Some, None, Result, Ok, Err, if◌then◌else◌, codes}
 use Rattle.sip_reader.specs.Bytes as byte
 use Rattle.sip_reader.specs.Reading.{trimmed}
@@ -15,7 +16,8 @@ use Rattle.sip_answer.specs.declared.response.LoanResponse.{LoanResponse}
 use Rattle.sip_answer.specs.declared.response.PatronResponse.{PatronResponse}
 use Rattle.sip_answer.specs.declared.response.RenewAllResponse.{RenewAllResponse}
 
--- the identifier of the response to a request of a kind, and of the wish to have a message again (SIP 2.00)
+-- the identifier of the response to a request of a kind, and of the wish to have a message again
+-- (SIP 2.00)
 abbrev pub response_to : Kind → List ℕ
 response_to kinds.BlockPatron = codes "24"
 response_to kinds.Checkin = codes "10"
@@ -34,7 +36,8 @@ resend_id = codes "96"
 abbrev pub has_id : List ℕ → List ℕ → Bool
 has_id id m = (slice_index m 0 == slice_index id 0) && (slice_index m 1 == slice_index id 1)
 
--- a response without its error detection, if it has this identifier, or the word for what is there in its place
+-- a response without its error detection, if it has this identifier, or the word for what is there
+-- in its place
 unfoldable pub body_with : List ℕ → List ℕ → Result (List ℕ) Field
 body_with id m =
     if nat_lt (length m) 2 then Err words.Unreadable
@@ -47,9 +50,10 @@ response_with id recorded =
     if length (trimmed recorded) == 0 then Err words.Missing
     else body_with id (body (trimmed recorded))
 
--- The fixed parts of responses (SIP 2.00), each with its identifier: of a patron's status (a status of fourteen bytes, a
--- language, a date), of a checkin, a checkout and a renewal (four flags, a date), of an item status update and a payment (one
--- flag, a date), of a renewal of all items (a flag, two counts, a date), and of a hold (two flags, a date).
+-- The fixed parts of responses (SIP 2.00), each with its identifier: of a patron's status (a status
+-- of fourteen bytes, a language, a date), of a checkin, a checkout and a renewal (four flags, a
+-- date), of an item status update and a payment (one flag, a date), of a renewal of all items (a
+-- flag, two counts, a date), and of a hold (two flags, a date).
 abbrev pub patron_fixed : ℕ
 patron_fixed = 37
 
@@ -65,8 +69,9 @@ renew_all_fixed = 29
 abbrev pub hold_fixed : ℕ
 hold_fixed = 22
 
--- where they say it: ok, or that a payment is accepted, after the identifier; that a loan was renewed, or a hold is
--- available, after that; the alert of a checkin as its last flag; the counts of a renewal of all items
+-- where they say it: ok, or that a payment is accepted, after the identifier; that a loan was
+-- renewed, or a hold is available, after that; the alert of a checkin as its last flag; the counts
+-- of a renewal of all items
 abbrev pub ok_byte : List ℕ → ℕ
 ok_byte m = slice_index m 2
 
@@ -125,7 +130,8 @@ loan_in m = if nat_lt (length m) loan_fixed then None else do
     fee = fee;
   })
 
--- Item status update response (20): ok is 1 where the properties were stored, and any other byte where not.
+-- Item status update response (20): ok is 1 where the properties were stored, and any other byte
+-- where not.
 unfoldable pub item_status_in : List ℕ → Option Bool
 item_status_in m = if nat_lt (length m) short_fixed then None else Some (ok_byte m == byte.one)
 

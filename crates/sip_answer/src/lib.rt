@@ -1,5 +1,5 @@
-//! The layer of answers: what is answered to a request, its bytes, in which words a recorded response differs from it, and
-//! what that response says was done.
+//! The layer of answers: what is answered to a request, its bytes, in which words a recorded
+//! response differs from it, and what that response says was done.
 #![tactic(auto)]
 
 mod answer;

@@ -29,7 +29,7 @@ impl Drop for Outcome {
     }
 }
 
-/// What a response that lends tells of the loan.
+/// What a response that lends says of the loan.
 #[derive(Clone, Copy)]
 pub struct ToldLoan {
     /// The due day, if one can be read.

@@ -18,9 +18,9 @@ use circ_policy::DueForm;
 use sip_reader::{Act, Amount, Day, Kind};
 use std::alloc::{AllocError, Global};
 
-/// What the recorded response to an act says was done, if it says so; `form` is the policy's form of due dates. The
-/// response may have error detection, whose sum isn't looked at, and any number of CR and LF after it. The error is that
-/// memory ran out.
+/// What the recorded response to an act says was done, if it says so; `form` is the policy's form
+/// of due dates. The response may have error detection, whose sum isn't looked at, and any number
+/// of CR and LF after it. The error is that memory ran out.
 pub fn outcome_of(
     alloc: Global,
     form: DueForm,
@@ -167,8 +167,9 @@ fn fee_is_amount(fee: Option<Amount>)
     }
 }
 
-/// Whether an answer has all that an outcome says: the same yes, the same refusal, a loan with the day and the rental that
-/// are told, or the same items renewed. With a message that wasn't taken none agrees. The error is that memory ran out.
+/// Whether an answer has all that an outcome says: the same yes, the same refusal, a loan with the
+/// day and the rental that it names, or the same items renewed. With a message that wasn't taken
+/// none agrees. The error is that memory ran out.
 pub fn agrees(alloc: Global, answer: &Answer, outcome: &Outcome) -> Result<bool, AllocError>
     ensures { IfOk result (λ r. r ≡ agrees answer.now outcome.now) }
 {
@@ -198,7 +199,7 @@ fn loan_agrees(answer: &LoanAnswer, outcome: &Outcome) -> bool
     }
 }
 
-/// Whether there is a due day, and that one if one is told.
+/// Whether there is a due day, and that one if one is named.
 fn is_told_day(due: Option<Day>, told: Option<Day>) -> bool
     ensures { result ≡ is_told_day due told }
 {

@@ -35,8 +35,9 @@ pub fn response_to(kind: Kind) -> &'static [u8; 2]
     }
 }
 
-/// What a recorded response with this identifier is without line end and error detection, whose sum isn't looked at. The
-/// error is the word for what is there in its place: `Missing`, `Unreadable` or `Kind`.
+/// What a recorded response with this identifier is without line end and error detection, whose sum
+/// isn't looked at. The error is the word for what is there in its place: `Missing`, `Unreadable`
+/// or `Kind`.
 #[tactic(auto, unfolding(crate::specs::Responses::response_with))]
 pub fn response_with<'a>(id: &[u8; 2], recorded: &'a [u8]) -> Result<&'a [u8], Field>
     ensures read { IfOk result (λ m. response_with id.now recorded.now ≡ Ok m.now) }

@@ -29,7 +29,8 @@ pub fn compare_patron(
     answer: &PatronAnswer,
     response: &[u8],
 ) -> Result<Option<Vec<Field>>, AllocError>
-    ensures { IfOk result (λ w. option_map (λ v. v.items) w ≡ option_map (patron_words answer.now) (patron_in response.now)) }
+    ensures { IfOk result (λ w. option_map (λ v. v.items) w
+        ≡ option_map (patron_words answer.now) (patron_in response.now)) }
 {
     let Some(read) = read_patron(response) else {
         return Ok(None);
@@ -59,7 +60,8 @@ pub fn compare_checkin(
     answer: &CheckinAnswer,
     response: &[u8],
 ) -> Result<Option<Vec<Field>>, AllocError>
-    ensures { IfOk result (λ w. option_map (λ v. v.items) w ≡ option_map (checkin_words answer.now) (checkin_in response.now)) }
+    ensures { IfOk result (λ w. option_map (λ v. v.items) w
+        ≡ option_map (checkin_words answer.now) (checkin_in response.now)) }
 {
     let Some(read) = read_checkin(response) else {
         return Ok(None);
@@ -78,7 +80,8 @@ pub fn compare_loan(
     answer: &LoanAnswer,
     response: &[u8],
 ) -> Result<Option<Vec<Field>>, AllocError>
-    ensures { IfOk result (λ w. option_map (λ v. v.items) w ≡ option_map (loan_words answer.now) (loan_in response.now)) }
+    ensures { IfOk result (λ w. option_map (λ v. v.items) w
+        ≡ option_map (loan_words answer.now) (loan_in response.now)) }
 {
     let Some(read) = read_loan(response) else {
         return Ok(None);
@@ -126,7 +129,8 @@ pub fn compare_item_status(
     answer: &ItemStatusAnswer,
     response: &[u8],
 ) -> Result<Option<Vec<Field>>, AllocError>
-    ensures { IfOk result (λ w. option_map (λ v. v.items) w ≡ option_map (item_status_words answer.now) (item_status_in response.now)) }
+    ensures { IfOk result (λ w. option_map (λ v. v.items) w
+        ≡ option_map (item_status_words answer.now) (item_status_in response.now)) }
 {
     let Some(is_stored) = read_item_status(response) else {
         return Ok(None);
@@ -142,7 +146,8 @@ pub fn compare_fee_paid(
     answer: &FeePaidAnswer,
     response: &[u8],
 ) -> Result<Option<Vec<Field>>, AllocError>
-    ensures { IfOk result (λ w. option_map (λ v. v.items) w ≡ option_map (fee_paid_words answer.now) (fee_paid_in response.now)) }
+    ensures { IfOk result (λ w. option_map (λ v. v.items) w
+        ≡ option_map (fee_paid_words answer.now) (fee_paid_in response.now)) }
 {
     let Some(accepted) = read_fee_paid(response) else {
         return Ok(None);
@@ -157,7 +162,8 @@ pub fn compare_renew_all(
     answer: &RenewAllAnswer,
     response: &[u8],
 ) -> Result<Option<Vec<Field>>, AllocError>
-    ensures { IfOk result (λ w. option_map (λ v. v.items) w ≡ option_map (renew_all_words answer.now) (renew_all_in response.now)) }
+    ensures { IfOk result (λ w. option_map (λ v. v.items) w
+        ≡ option_map (renew_all_words answer.now) (renew_all_in response.now)) }
 {
     match read_renew_all(alloc, response)? {
         Some(read) => compare_lists(alloc, answer, &read),
@@ -171,7 +177,8 @@ fn compare_lists(
     answer: &RenewAllAnswer,
     read: &RenewAllResponse,
 ) -> Result<Option<Vec<Field>>, AllocError>
-    ensures { IfOk result (λ w. option_map (λ v. v.items) w ≡ Some (renew_all_words answer.now read.now)) }
+    ensures { IfOk result (λ w. option_map (λ v. v.items) w
+        ≡ Some (renew_all_words answer.now read.now)) }
 {
     let made = answer.renewed.as_slice();
     let not_made = answer.unrenewed.as_slice();
@@ -201,7 +208,8 @@ pub fn compare_hold(
     answer: &HoldAnswer,
     response: &[u8],
 ) -> Result<Option<Vec<Field>>, AllocError>
-    ensures { IfOk result (λ w. option_map (λ v. v.items) w ≡ option_map (hold_words answer.now) (hold_in response.now)) }
+    ensures { IfOk result (λ w. option_map (λ v. v.items) w
+        ≡ option_map (hold_words answer.now) (hold_in response.now)) }
 {
     let Some(read) = read_hold(response) else {
         return Ok(None);

@@ -41,7 +41,8 @@ fn are_slashes(text: &[u8]) -> bool
     text.len() >= 10 && text[2] == b'/' && text[5] == b'/'
 }
 
-/// The day whose century, year, month and day of the month are two digits each, from these positions on.
+/// The day whose century, year, month and day of the month are two digits each, from these
+/// positions on.
 fn day_of_digits(text: &[u8], century: usize, year: usize, month: usize, day: usize) -> Option<Day>
     requires century { century + 2 ≤ length text.now }
     requires year { year + 2 ≤ length text.now }

@@ -77,7 +77,7 @@ pub fn due_and_fee(rest: &[u8]) -> (Option<&[u8]>, Option<&[u8]>)
     (due, fee)
 }
 
-/// The fee that a text tells, if it tells one; none if it can't be read.
+/// The fee that a text names, if it names one; none if it can't be read.
 pub fn fee_of(text: Option<&[u8]>) -> Option<Option<Amount>>
     ensures { result ≡ fee_of (option_copied text.entry) }
 {

@@ -5,7 +5,7 @@ ghost use Rattle.circ_records.specs.declared.key.Key.TheVariants as keys;
 ghost use Rattle.circ_records.specs.declared.record.FeeType.TheVariants as fee_types;
 ghost use Rattle.circ_records.specs.declared.record.Record.TheVariants as records;
 ghost use Rattle.read_set.specs.RenewAlls.{turn_rule_known, turn_rule, turns_rule, renew_all_rule_known, renew_all_rule, by_renew_all, one_renewed, one_left, turn_by, none_renewed, renew_all_answer, all_renewed, renew_all, turns_of};
-ghost use Rattle.sip_answer.specs.Outcomes.{names_item};
+ghost use Rattle.sip_answer.specs.Deeds.{names_item};
 ghost use Rattle.loan_meaning.specs.Devices.Sums.{Runs};
 ghost use Rattle.read_set.specs.Asks.{follow, Gains};
 ghost use Rattle.read_set.specs.Effects.{written};
@@ -24,7 +24,7 @@ use circ_records::{FeeType, Ids, Key, Record};
 use read_set::{
     Article, Draft, Effect, LoanRequest, Member, Renewals, Source, Stop, Verdict, known_item,
 };
-use sip_answer::{Answer, ItemIds, ItemTexts, RenewAllAnswer};
+use sip_answer::{Answer, ItemIds, NamedItems, RenewAllAnswer};
 use sip_reader::{Amount, Day, Id, RenewAll};
 use std::alloc::{AllocError, Global};
 
@@ -275,7 +275,7 @@ fn finish(line: &LineContext<'_>, request: &RenewAll, done: Renewals) -> Result<
 fn renew_each<S: Source>(
     line: &LineContext<'_>,
     request: &RenewAll,
-    named: Option<&ItemTexts>,
+    named: Option<&NamedItems>,
     member: Member,
     source: &mut S,
 ) -> Result<Effect, Stop>
@@ -289,7 +289,7 @@ fn renew_each<S: Source>(
 }
 
 /// Whether the renewals are forced, which those that a response names are.
-fn is_forced(named: Option<&ItemTexts>) -> bool
+fn is_forced(named: Option<&NamedItems>) -> bool
     ensures { result ≡ is_some (option_copied named.entry) }
 {
     match named {
@@ -299,7 +299,7 @@ fn is_forced(named: Option<&ItemTexts>) -> bool
 }
 
 /// Whose turn comes: each item of a list, or those that a response names.
-fn turns_of(alloc: Global, named: Option<&ItemTexts>, loans: &Ids) -> Result<Ids, AllocError>
+fn turns_of(alloc: Global, named: Option<&NamedItems>, loans: &Ids) -> Result<Ids, AllocError>
     ensures { IfOk result (λ turns. turns ≡ turns_of (option_copied named.entry) loans.now) }
 {
     match named {
@@ -308,7 +308,7 @@ fn turns_of(alloc: Global, named: Option<&ItemTexts>, loans: &Ids) -> Result<Ids
     }
 }
 
-fn named_among(alloc: Global, texts: &ItemTexts, loans: &[Id]) -> Result<Vec<Id>, AllocError>
+fn named_among(alloc: Global, texts: &NamedItems, loans: &[Id]) -> Result<Vec<Id>, AllocError>
     ensures { IfOk result (λ v. v.items ≡ filter (names_item texts.now) loans.now) }
 {
     let mut named = Vec::new(alloc);
@@ -324,7 +324,7 @@ fn named_among(alloc: Global, texts: &ItemTexts, loans: &[Id]) -> Result<Vec<Id>
 fn renew_any<S: Source>(
     line: &LineContext<'_>,
     request: &RenewAll,
-    named: Option<&ItemTexts>,
+    named: Option<&NamedItems>,
     member: Option<Member>,
     source: &mut S,
 ) -> Result<Effect, Stop>
@@ -346,7 +346,7 @@ fn renew_any<S: Source>(
 pub fn renew_all<S: Source>(
     line: &LineContext<'_>,
     request: &RenewAll,
-    named: Option<&ItemTexts>,
+    named: Option<&NamedItems>,
     source: &mut S,
 ) -> Result<Effect, Stop>
     ensures gives { Follows result (follow (S.has source.new) (renew_all_rule line.now.policy.now line.now.number (option_copied named.entry) request.now line.now.date)) }

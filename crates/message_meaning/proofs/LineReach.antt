@@ -13,9 +13,9 @@ use Rattle.circ_records.specs.declared.key.Key.TheVariants as keys
 use Rattle.circ_records.specs.declared.record.Fee.{Fee}
 use Rattle.circ_records.specs.declared.record.Patron.{Patron}
 use Rattle.sip_answer.specs.declared.answer.Answer.TheVariants as answers
-use Rattle.sip_answer.specs.declared.outcome.Outcome.{Outcome}
-use Rattle.sip_answer.specs.declared.outcome.Outcome.TheVariants as outcomes
-use Rattle.sip_answer.specs.declared.outcome.ToldLoan.{ToldLoan}
+use Rattle.sip_answer.specs.declared.deed.Deed.{Deed}
+use Rattle.sip_answer.specs.declared.deed.Deed.TheVariants as deeds
+use Rattle.sip_answer.specs.declared.deed.ToldLoan.{ToldLoan}
 use Rattle.sip_reader.specs.declared.request.Act.{Act}
 use Rattle.sip_reader.specs.declared.request.Act.TheVariants as acts
 use Rattle.sip_reader.specs.declared.request.FeePaid.{FeePaid}
@@ -38,7 +38,7 @@ use Rattle.read_set.specs.Maps.{Part}
 use Rattle.read_set.specs.AsRecorded.{agrees_with, answering, as_told, carried, done_told, followed, loan_told, renewals_told}
 use Rattle.read_set.specs.Loans.{by_checkout, by_renew}
 use Rattle.read_set.specs.Meaning.{rule_of, rule_with, rule}
-use Rattle.read_set.specs.Plans.{Planned, outcome_at, reading_at}
+use Rattle.read_set.specs.Plans.{Planned, deed_at, reading_at}
 use Rattle.read_set.specs.Stops.{Follows}
 use Rattle.read_set.specs.Wanted.{IsOfAct, IsOfReading, IsOfLine, IsNamed, Wanted, WantsAt}
 use Rattle.read_set.specs.declared.effect.Effect.{Effect}
@@ -203,16 +203,16 @@ renewals_told_reach has near closed p n date (acts.PatronEnable q) named h = rea
 renewals_told_reach has near closed p n date (acts.Renew q) named h = reach_any has near (unwritten None)
 renewals_told_reach has near closed p n date (acts.FeePaid q) named h = reach_any has near (unwritten None)
 
-carried_reach : (has : Part) (near : Key → Type 0) → IsClosed has near → (p : Terms) (n : ℕ) (date : List ℕ) (act : Act) (o : Outcome) → ((k : Key) → IsOfAct act k → near k) → Reaches has near (carried p n date act o) Any
+carried_reach : (has : Part) (near : Key → Type 0) → IsClosed has near → (p : Terms) (n : ℕ) (date : List ℕ) (act : Act) (o : Deed) → ((k : Key) → IsOfAct act k → near k) → Reaches has near (carried p n date act o) Any
 unfolding carried
-carried_reach has near closed p n date act outcomes.NotTaken h = reach_any has near (unwritten None)
-carried_reach has near closed p n date act (outcomes.Said true) h = done_told_reach has near closed p date act h
-carried_reach has near closed p n date act (outcomes.Said false) h = reach_any has near (unwritten None)
-carried_reach has near closed p n date act outcomes.Refused h = reach_any has near (unwritten None)
-carried_reach has near closed p n date act (outcomes.Lent t) h = loan_told_reach has near closed p n date act t h
-carried_reach has near closed p n date act (outcomes.Renewed named) h = renewals_told_reach has near closed p n date act named h
+carried_reach has near closed p n date act deeds.NotTaken h = reach_any has near (unwritten None)
+carried_reach has near closed p n date act (deeds.Said true) h = done_told_reach has near closed p date act h
+carried_reach has near closed p n date act (deeds.Said false) h = reach_any has near (unwritten None)
+carried_reach has near closed p n date act deeds.Refused h = reach_any has near (unwritten None)
+carried_reach has near closed p n date act (deeds.Lent t) h = loan_told_reach has near closed p n date act t h
+carried_reach has near closed p n date act (deeds.Renewed named) h = renewals_told_reach has near closed p n date act named h
 
-followed_reach : (has : Part) (near : Key → Type 0) → IsClosed has near → (p : Terms) (n : ℕ) (date : List ℕ) (act : Act) (o : Outcome) (ruled : Effect) → ((k : Key) → IsOfAct act k → near k)
+followed_reach : (has : Part) (near : Key → Type 0) → IsClosed has near → (p : Terms) (n : ℕ) (date : List ℕ) (act : Act) (o : Deed) (ruled : Effect) → ((k : Key) → IsOfAct act k → near k)
     → Reaches has near (followed p n date act o ruled) Any
 unfolding followed
 followed_reach has near closed p n date act o ruled h =
@@ -220,14 +220,14 @@ followed_reach has near closed p n date act o ruled h =
     (λ e. reach_then has near (carried p n date act o) (λ done. Give (answering ruled.answer done)) Any Any (carried_reach has near closed p n date act o h)
     (λ done u. reach_any has near (answering ruled.answer done)))
 
-with_reach : (has : Part) (near : Key → Type 0) → IsClosed has near → (p : Terms) (n : ℕ) (date : List ℕ) (act : Act) (o : Option Outcome) → ((k : Key) → IsOfAct act k → near k) → Reaches has near (rule_with p n date act o) Any
+with_reach : (has : Part) (near : Key → Type 0) → IsClosed has near → (p : Terms) (n : ℕ) (date : List ℕ) (act : Act) (o : Option Deed) → ((k : Key) → IsOfAct act k → near k) → Reaches has near (rule_with p n date act o) Any
 unfolding rule_with
 with_reach has near closed p n date act None h = act_reach has near closed p n date act h
 with_reach has near closed p n date act (Some o) h =
     reach_then has near (rule_of p n date act) (followed p n date act o) Any Any (act_reach has near closed p n date act h)
     (λ ruled u. followed_reach has near closed p n date act o ruled h)
 
-reading_reach : (has : Part) (near : Key → Type 0) → IsClosed has near → (p : Terms) (n : ℕ) (r : Reading) (o : Option Outcome) → ((k : Key) → IsOfReading r k → near k) → Reaches has near (rule p n r o) Any
+reading_reach : (has : Part) (near : Key → Type 0) → IsClosed has near → (p : Terms) (n : ℕ) (r : Reading) (o : Option Deed) → ((k : Key) → IsOfReading r k → near k) → Reaches has near (rule p n r o) Any
 unfolding rule
 reading_reach has near closed p n (readings.Asked q) o h = with_reach has near closed p n q.date q.act o h
 reading_reach has near closed p n readings.BadSum o h = reach_any has near (unwritten (Some answers.Resend))
@@ -236,7 +236,7 @@ reading_reach has near closed p n (readings.Unread why) o h = reach_any has near
 
 line_reach : (has : Part) (near : Key → Type 0) → IsClosed has near → (plan : Planned) (line : ℕ) (r : Option Reading) → ((k : Key) → IsOfLine r k → near k) → Reaches has near (rule_by plan line r) Any
 line_reach has near closed plan line None h = reach_any has near (unwritten None)
-line_reach has near closed plan line (Some r) h = reading_reach has near closed plan.policy line r (outcome_at plan line) h
+line_reach has near closed plan line (Some r) h = reading_reach has near closed plan.policy line r (deed_at plan line) h
 
 -- the key at which a line stops is wanted
 pub wanted : (has : Part) (plan : Planned) (line : ℕ) (k : Key) → follow has (rule_at plan line) ≡ Wants k → Wanted plan line has k

@@ -10,7 +10,7 @@ use Rattle.circ_records.specs.declared.record.FeeType.TheVariants as fee_types
 use Rattle.circ_records.specs.declared.record.Loan.{Loan}
 use Rattle.circ_records.specs.declared.record.Record.{Record}
 use Rattle.circ_records.specs.declared.record.Record.TheVariants as records
-use Rattle.sip_answer.specs.Outcomes.{names_item}
+use Rattle.sip_answer.specs.Deeds.{names_item}
 use Rattle.sip_reader.specs.Texts.{fee_id}
 use Rattle.sip_reader.specs.declared.request.Checkin.{Checkin}
 use Rattle.sip_reader.specs.declared.request.Checkout.{Checkout}

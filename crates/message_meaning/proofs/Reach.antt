@@ -51,7 +51,7 @@ then_gives : {A B : Type 0} (has : Part) (near : Key → Type 0) (m : Asks A) (f
 then_gives has near m f P Q (Done x) s h g y e = (g x (h.gives x s)).gives y (sym (follow_done has m f x s) ∙ e)
 then_gives has near m f P Q (Wants j) s h g y e = let w : Wants j ≡ Done y = sym (follow_wants has m f j s) ∙ e in cc
 
--- one, and then another on its outcome
+-- one, and then another on its result
 pub reach_then : {A B : Type 0} (has : Part) (near : Key → Type 0) (m : Asks A) (f : A → Asks B) (P : A → Type 0) (Q : B → Type 0)
     → Reaches has near m P → ((x : A) → P x → Reaches has near (f x) Q) → Reaches has near (m >>= f) Q
 reach_then has near m f P Q h g = record {

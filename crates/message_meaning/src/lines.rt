@@ -14,7 +14,7 @@ use crate::payments::take_payment;
 use crate::told::follow_told;
 use loan_meaning::{LineContext, check_in, check_out, renew_all, renew_item};
 use read_set::{Effect, Plan, Source, Stop};
-use sip_answer::{Answer, Outcome};
+use sip_answer::{Answer, Deed};
 use sip_reader::{Act, Reading};
 use std::alloc::Global;
 
@@ -60,24 +60,24 @@ fn follow_line<S: Source>(
         number: line,
         date: request.date,
     };
-    follow_with(&context, &request.act, plan.outcome(line), source)
+    follow_with(&context, &request.act, plan.deed(line), source)
 }
 
-/// By the rules, or as an outcome of the line says.
+/// By the rules, or as a deed of the line says.
 #[tactic(auto, unfolding(read_set::specs::Meaning::rule_with), using(read_set::proofs::Gaining::gains_none))]
 fn follow_with<S: Source>(
     line: &LineContext<'_>,
     act: &Act,
-    outcome: Option<&Outcome>,
+    deed: Option<&Deed>,
     source: &mut S,
 ) -> Result<Effect, Stop>
-    ensures gives { Follows result (follow (S.has source.new) (rule_with line.now.policy.now line.now.number line.now.date act.now (option_copied outcome.entry))) }
-    ensures keeps { Gains S.one_by_one (S.has source.old) (S.has source.new) (rule_with line.now.policy.now line.now.number line.now.date act.now (option_copied outcome.entry)) }
+    ensures gives { Follows result (follow (S.has source.new) (rule_with line.now.policy.now line.now.number line.now.date act.now (option_copied deed.entry))) }
+    ensures keeps { Gains S.one_by_one (S.has source.old) (S.has source.new) (rule_with line.now.policy.now line.now.number line.now.date act.now (option_copied deed.entry)) }
 {
     // each arm returns: an effect is large, and as the value of the `match` it would be moved once more
-    match outcome {
+    match deed {
         None => return follow_rules(line, act, source),
-        Some(outcome) => return follow_told(line, act, outcome, source),
+        Some(deed) => return follow_told(line, act, deed, source),
     }
 }
 

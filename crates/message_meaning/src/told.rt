@@ -10,53 +10,53 @@ use crate::holds::hold;
 use crate::lines::follow_rules;
 use loan_meaning::{LineContext, check_out_told, renew_all, renew_item_told};
 use read_set::{Effect, Source, Stop};
-use sip_answer::{Answer, ItemTexts, Outcome, ToldLoan, agrees};
+use sip_answer::{Answer, NamedItems, Deed, ToldLoan, agrees};
 use sip_reader::Act;
 use std::alloc::{AllocError, Global};
 
-/// The rule's answer, on the records as they were before the line, and what the outcome says was done.
+/// The rule's answer, on the records as they were before the line, and what the deed says was done.
 #[tactic(auto, unfolding(read_set::specs::Meaning::rule_with), using(read_set::proofs::Gaining::gains_none))]
 pub fn follow_told<S: Source>(
     line: &LineContext<'_>,
     act: &Act,
-    outcome: &Outcome,
+    deed: &Deed,
     source: &mut S,
 ) -> Result<Effect, Stop>
-    ensures gives { Follows result (follow (S.has source.new) (rule_with line.now.policy.now line.now.number line.now.date act.now (Some outcome.now))) }
-    ensures keeps { Gains S.one_by_one (S.has source.old) (S.has source.new) (rule_with line.now.policy.now line.now.number line.now.date act.now (Some outcome.now)) }
+    ensures gives { Follows result (follow (S.has source.new) (rule_with line.now.policy.now line.now.number line.now.date act.now (Some deed.now))) }
+    ensures keeps { Gains S.one_by_one (S.has source.old) (S.has source.new) (rule_with line.now.policy.now line.now.number line.now.date act.now (Some deed.now)) }
 {
     let ruled = follow_rules(line, act, source)?;
-    follow_up(line, act, outcome, ruled, source)
+    follow_up(line, act, deed, ruled, source)
 }
 
-/// If the rule's answer agrees with the outcome, what the rule writes; else what was carried out.
+/// If the rule's answer agrees with the deed, what the rule writes; else what was carried out.
 #[tactic(auto, unfolding(read_set::specs::AsRecorded::followed), using(read_set::proofs::Gaining::gains_none))]
 fn follow_up<S: Source>(
     line: &LineContext<'_>,
     act: &Act,
-    outcome: &Outcome,
+    deed: &Deed,
     ruled: Effect,
     source: &mut S,
 ) -> Result<Effect, Stop>
-    ensures gives { Follows result (follow (S.has source.new) (followed line.now.policy.now line.now.number line.now.date act.now outcome.now ruled)) }
-    ensures keeps { Gains S.one_by_one (S.has source.old) (S.has source.new) (followed line.now.policy.now line.now.number line.now.date act.now outcome.now ruled) }
+    ensures gives { Follows result (follow (S.has source.new) (followed line.now.policy.now line.now.number line.now.date act.now deed.now ruled)) }
+    ensures keeps { Gains S.one_by_one (S.has source.old) (S.has source.new) (followed line.now.policy.now line.now.number line.now.date act.now deed.now ruled) }
 {
-    if agrees_with(line.alloc, &ruled.answer, outcome)? {
+    if agrees_with(line.alloc, &ruled.answer, deed)? {
         return Ok(ruled);
     }
-    let done = carry_out(line, act, outcome, source)?;
+    let done = carry_out(line, act, deed, source)?;
     Ok(answering(ruled.answer, done))
 }
 
 fn agrees_with(
     alloc: Global,
     answer: &Option<Answer>,
-    outcome: &Outcome,
+    deed: &Deed,
 ) -> Result<bool, AllocError>
-    ensures { IfOk result (λ b. b ≡ agrees_with answer.now outcome.now) }
+    ensures { IfOk result (λ b. b ≡ agrees_with answer.now deed.now) }
 {
     match answer {
-        Some(answer) => agrees(alloc, answer, outcome),
+        Some(answer) => agrees(alloc, answer, deed),
         None => Ok(false),
     }
 }
@@ -75,19 +75,19 @@ fn answering(answer: Option<Answer>, done: Effect) -> Effect
 fn carry_out<S: Source>(
     line: &LineContext<'_>,
     act: &Act,
-    outcome: &Outcome,
+    deed: &Deed,
     source: &mut S,
 ) -> Result<Effect, Stop>
-    ensures gives { Follows result (follow (S.has source.new) (carried line.now.policy.now line.now.number line.now.date act.now outcome.now)) }
-    ensures keeps { Gains S.one_by_one (S.has source.old) (S.has source.new) (carried line.now.policy.now line.now.number line.now.date act.now outcome.now) }
+    ensures gives { Follows result (follow (S.has source.new) (carried line.now.policy.now line.now.number line.now.date act.now deed.now)) }
+    ensures keeps { Gains S.one_by_one (S.has source.old) (S.has source.new) (carried line.now.policy.now line.now.number line.now.date act.now deed.now) }
 {
-    match outcome {
-        Outcome::NotTaken | Outcome::Said(false) | Outcome::Refused => {
+    match deed {
+        Deed::NotTaken | Deed::Said(false) | Deed::Refused => {
             Ok(Effect::unwritten(line.alloc, None))
         }
-        Outcome::Said(true) => do_told(line, act, source),
-        Outcome::Lent(told) => lend_told(line, act, told, source),
-        Outcome::Renewed(named) => renew_told(line, act, named, source),
+        Deed::Said(true) => do_told(line, act, source),
+        Deed::Lent(told) => lend_told(line, act, told, source),
+        Deed::Renewed(named) => renew_told(line, act, named, source),
     }
 }
 
@@ -124,7 +124,7 @@ fn lend_told<S: Source>(
 fn renew_told<S: Source>(
     line: &LineContext<'_>,
     act: &Act,
-    named: &ItemTexts,
+    named: &NamedItems,
     source: &mut S,
 ) -> Result<Effect, Stop>
     ensures gives { Follows result (follow (S.has source.new) (renewals_told line.now.policy.now line.now.number line.now.date act.now named.now)) }

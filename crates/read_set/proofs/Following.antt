@@ -63,7 +63,7 @@ ends : {A : Type 0} (has : Key → Option (Option Record)) (M : Key → Option R
 ends has M k rule x None ih a e = cc
 ends has M k rule x (Some r) ih a e = rw (a r refl) (ih r e)
 
--- A rule that ends on what is had gives its outcome over every map that has it.
+-- A rule that ends on what is had gives its result over every map that has it.
 pub settles : {A : Type 0} (has : Key → Option (Option Record)) (M : Key → Option Record) (m : Asks A) (x : A) → Agrees has M → follow has m ≡ Done x → over M m ≡ x
 settles has M (Give y) x a e = cc
 settles has M (Ask k rule) x a e = ends has M k rule x (has k) (λ r. settles has M (rule r) x a) (a k) e
@@ -95,7 +95,7 @@ pub lacks_all : {A : Type 0} (has : Key → Option (Option Record)) (m : Asks A)
 lacks_all has m (Ok x) h = tt
 lacks_all has m (Err stop) h = stop_lacks has m stop h
 
--- a map gives one rule's outcome to the next
+-- a map gives one rule's result to the next
 pub over_then : {A B : Type 0} (M : Key → Option Record) (m : Asks A) (f : A → Asks B) → over M (m >>= f) ≡ over M (f (over M m))
 over_then M (Give x) f = refl
 over_then M (Ask k rule) f = over_then M (rule (M k)) f

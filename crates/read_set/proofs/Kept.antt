@@ -13,18 +13,18 @@ use Rattle.circ_records.specs.Texts.{is_same}
 use Rattle.circ_records.specs.declared.key.Key.{Key}
 use Rattle.circ_records.specs.declared.key.Key.TheVariants as keys
 use Rattle.circ_records.specs.declared.record.Record.{Record}
-use Rattle.sip_answer.specs.declared.outcome.Outcome.{Outcome}
+use Rattle.sip_answer.specs.declared.deed.Deed.{Deed}
 use Rattle.sip_reader.specs.Dates.{is_stamp}
 use Rattle.sip_reader.specs.declared.request.Act.{Act}
 use Rattle.sip_reader.specs.declared.request.Act.TheVariants as acts
 use Rattle.sip_reader.specs.declared.request.Reading.{Reading}
 use Rattle.sip_reader.specs.declared.request.Reading.TheVariants as readings
 use Rattle.read_set.specs.Asks.{over}
-use Rattle.read_set.specs.Coherence.{FitsAct, FitsPlan, FitsReading, HasFewItems, HasFitOutcome, MeaningKeepsCoherence, ReplayKeepsCoherence}
+use Rattle.read_set.specs.Coherence.{FitsAct, FitsPlan, FitsReading, HasFewItems, HasFitDeed, MeaningKeepsCoherence, ReplayKeepsCoherence}
 use Rattle.read_set.specs.Maps.{Map, put}
 use Rattle.read_set.specs.AsRecorded.{followed}
 use Rattle.read_set.specs.Meaning.{effect, one, rule, rule_of, rule_with}
-use Rattle.read_set.specs.Plans.{Planned, outcome_at, reading_at}
+use Rattle.read_set.specs.Plans.{Planned, deed_at, reading_at}
 use Rattle.read_set.specs.Replay.{after, one_at, one_by}
 use Rattle.read_set.specs.declared.effect.Effect.{Effect}
 use Rattle.read_set.proofs.Following.{over_then}
@@ -56,7 +56,7 @@ act-keeps p n M line date (acts.Renew q) stamp fits = renew-keeps p n M line q d
 act-keeps p n M line date (acts.FeePaid q) stamp fits = payment-keeps p n M line q date
 act-keeps p n M line date (acts.RenewAll q) stamp fits = renew-all-keeps p n M line None q date stamp
 
-with-keeps : (p : Terms) (n : ℕ) (M : Map) → Line p n M → (date : List ℕ) (act : Act) (o : Option Outcome) → is_stamp date ≡ true → FitsAct act → HasFitOutcome o
+with-keeps : (p : Terms) (n : ℕ) (M : Map) → Line p n M → (date : List ℕ) (act : Act) (o : Option Deed) → is_stamp date ≡ true → FitsAct act → HasFitDeed o
     → Parts p (n + 1) M (put (over M (rule_with p n date act o)).writes M)
 unfolding rule_with
 with-keeps p n M line date act None stamp fits told = act-keeps p n M line date act stamp fits
@@ -64,7 +64,7 @@ with-keeps p n M line date act (Some o) stamp fits told =
     subst (λ (x : Effect). Parts p (n + 1) M (put x.writes M)) (sym (over_then M (rule_of p n date act) (followed p n date act o)))
     (followed-keeps p n M line date stamp act o (over M (rule_of p n date act)) fits told (act-keeps p n M line date act stamp fits))
 
-line-keeps : (p : Terms) (n : ℕ) (M : Map) → Line p n M → (r : Reading) (o : Option Outcome) → FitsReading r → HasFitOutcome o → Parts p (n + 1) M (put (effect p n r o M).writes M)
+line-keeps : (p : Terms) (n : ℕ) (M : Map) → Line p n M → (r : Reading) (o : Option Deed) → FitsReading r → HasFitDeed o → Parts p (n + 1) M (put (effect p n r o M).writes M)
 unfolding rule
 line-keeps p n M line (readings.Asked q) o fits told = with-keeps p n M line q.date q.act o fits.0 fits.1 told
 line-keeps p n M line readings.BadSum o fits told = nothing p (n + 1) M line.parts
@@ -114,8 +114,8 @@ fits-reading plan fits line r e = by (nat_lt line plan.first) e
     by true g = cc g
     by false g = fits-at plan.readings (line - plan.first) r fits.readings g
 
--- so does each outcome
-told-at : (os : List (Option Outcome)) (i : ℕ) → AllByRecursion HasFitOutcome os → HasFitOutcome (unwrap_or (slice_get os i) None)
+-- so does each deed
+told-at : (os : List (Option Deed)) (i : ℕ) → AllByRecursion HasFitDeed os → HasFitDeed (unwrap_or (slice_get os i) None)
 told-at [] i all = tt
 told-at (o ∷ os) zero all = all.0
 told-at (o ∷ os) (suc i) all = told-at os i all.1
@@ -128,7 +128,7 @@ record Stands (plan : Planned) (line : ℕ) (M : Map) : Type 0 where
 step-by : (plan : Planned) → FitsPlan plan → (line : ℕ) (M : Map) → Stands plan line M → line ≤ 9999999999 → (o : Option Reading) → reading_at plan line ≡ o → Stands plan (line + 1) (one_by plan line o M).0
 step-by plan fits line M h low None e = record { coherent = coherent-parts plan.policy (line + 1) M M (parts-later plan.policy line M h.coherent h.few); kinds = h.kinds; few = h.few }
 step-by plan fits line M h low (Some r) e =
-    let kept = meaning-keeps plan.policy line r (outcome_at plan line) M fits.policy (fits-reading plan fits line r e) (told-at plan.outcomes (line - plan.first) fits.outcomes) low h.few h.coherent in
+    let kept = meaning-keeps plan.policy line r (deed_at plan line) M fits.policy (fits-reading plan fits line r e) (told-at plan.deeds (line - plan.first) fits.deeds) low h.few h.coherent in
     record { coherent = kept.0; kinds = λ base. kept.2 (h.kinds base); few = kept.1 }
 
 stands-after : (plan : Planned) → FitsPlan plan → (n : ℕ) → n ≤ length plan.readings → Stands plan (plan.first + n) (after plan n)

@@ -13,7 +13,7 @@ pub mod MapParts
 pub mod More
 pub mod Numbers
 pub mod OneRecord
-mod OutcomeLists
+mod DeedLists
 pub mod Overs
 pub mod Paid
 pub mod PlanFits

@@ -14,15 +14,15 @@ use Rattle.journal_table.specs.Journal.{journal_of, header}
 use Rattle.journal_table.specs.Readings.{EndInTime, IsRead, NumberedReading, first_read, reading_at}
 use Rattle.sip_reader.specs.declared.request.Reading.{Reading}
 use Rattle.csv_table.specs.Rows.{rows_under}
-use Rattle.sip_answer.proofs.OutcomeFits.{outcome-fits}
-use Rattle.sip_answer.specs.declared.outcome.Outcome.{Outcome}
+use Rattle.sip_answer.proofs.DeedFits.{deed-fits}
+use Rattle.sip_answer.specs.declared.deed.Deed.{Deed}
 use Rattle.sip_reader.specs.Reading.{reading}
 use Rattle.sip_reader.specs.declared.request.Reading.TheVariants as readings
 use Rattle.circ_policy.specs.declared.due_form.DueForm.{DueForm}
-use Rattle.read_set.specs.Coherence.{FitsPlan, FitsReading, HasFitOutcome, ReadPlansStayCoherent}
+use Rattle.read_set.specs.Coherence.{FitsPlan, FitsReading, HasFitDeed, ReadPlansStayCoherent}
 use Rattle.read_set.specs.declared.way.Way.{Way}
 use Rattle.read_set.specs.declared.way.Way.TheVariants as ways
-use Rattle.read_set.specs.Plans.{beginning, outcome_read, outcomes_of, plan_over, plan_of, plan_read, readings_of, Planned}
+use Rattle.read_set.specs.Plans.{beginning, deed_read, deeds_of, plan_over, plan_of, plan_read, readings_of, Planned}
 use Rattle.read_set.proofs.Kept.{replay-keeps}
 use Rattle.read_set.proofs.ReadingFits.{reading-fits}
 
@@ -55,31 +55,31 @@ as-many-read [] = refl
 as-many-read (r ∷ rest) = ap suc (as-many-read rest)
 
 -- the plan of numbered readings fits
-pub made-fits : (policy : Terms) (base : Entries) (read : List NumberedReading) (outcomes : List (Option Outcome)) → FitsPolicy policy → AllByRecursion IsRead (map reading_at read) → AllByRecursion HasFitOutcome outcomes → EndInTime read
-    → length base ≤ 2 ^ 64 → Coherent policy (number_before (first_read read)) base → FitsPlan (plan_read policy base read outcomes)
-made-fits policy base read outcomes p r told end few h = record {
+pub made-fits : (policy : Terms) (base : Entries) (read : List NumberedReading) (deeds : List (Option Deed)) → FitsPolicy policy → AllByRecursion IsRead (map reading_at read) → AllByRecursion HasFitDeed deeds → EndInTime read
+    → length base ≤ 2 ^ 64 → Coherent policy (number_before (first_read read)) base → FitsPlan (plan_read policy base read deeds)
+made-fits policy base read deeds p r told end few h = record {
   policy = p;
   readings = read-fits (map reading_at read) r;
-  outcomes = told;
+  deeds = told;
   base = subst (λ (n : ℕ). Coherent policy n base) (begins (first_read read)) h;
   few = few;
   last = let same : length (map reading_at read) ≡ length read = as-many-read read in omega arith;
 }
 
 -- what each response says was done fits
-read-told : (form : DueForm) (o : Option Reading) (response : List ℕ) → HasFitOutcome (outcome_read form o response)
+read-told : (form : DueForm) (o : Option Reading) (response : List ℕ) → HasFitDeed (deed_read form o response)
 read-told form None response = tt
-read-told form (Some (readings.Asked q)) response = outcome-fits form q.act response
+read-told form (Some (readings.Asked q)) response = deed-fits form q.act response
 read-told form (Some readings.BadSum) response = tt
 read-told form (Some (readings.Passed why)) response = tt
 read-told form (Some (readings.Unread why)) response = tt
 
-all-told : (form : DueForm) (lines : List Entry) → AllByRecursion HasFitOutcome (map (λ (line : Entry). outcome_read form (Some (reading line.request)) line.response) lines)
+all-told : (form : DueForm) (lines : List Entry) → AllByRecursion HasFitDeed (map (λ (line : Entry). deed_read form (Some (reading line.request)) line.response) lines)
 all-told form [] = tt
 all-told form (line ∷ rest) = (read-told form (Some (reading line.request)) line.response, all-told form rest)
 
-told-fits : (way : Way) (form : DueForm) (lines : List Entry) → AllByRecursion HasFitOutcome (outcomes_of way form lines)
-unfolding outcomes_of
+told-fits : (way : Way) (form : DueForm) (lines : List Entry) → AllByRecursion HasFitDeed (deeds_of way form lines)
+unfolding deeds_of
 told-fits ways.ByRules form lines = tt
 told-fits ways.AsRecorded form lines = all-told form lines
 
@@ -88,7 +88,7 @@ pub plan-fits : (way : Way) (text bytes : List ℕ) (policy : Terms) (base : Ent
 plan-fits way text bytes policy base lines p j few h = record {
   policy = policy-fits text policy p;
   readings = all-fit lines;
-  outcomes = told-fits way policy.due_form lines;
+  deeds = told-fits way policy.due_form lines;
   base = subst (λ (n : ℕ). Coherent policy n base) (begins (first_number lines)) h;
   few = few;
   last = let same : length (readings_of lines) ≡ length lines = as-many lines in
@@ -102,7 +102,7 @@ none-coherent policy n = record { patrons = λ id p e. cc; items = λ id i e. cc
 
 -- so a plan that fits does over no records
 pub bare-fits : (plan : Planned) → FitsPlan plan → FitsPlan (plan_over plan [])
-bare-fits plan fits = record { policy = fits.policy; readings = fits.readings; outcomes = fits.outcomes; base = none-coherent plan.policy plan.first; few = omega arith; last = fits.last }
+bare-fits plan fits = record { policy = fits.policy; readings = fits.readings; deeds = fits.deeds; base = none-coherent plan.policy plan.first; few = omega arith; last = fits.last }
 
 pub read-plans : (base : Entries) → length base ≤ 2 ^ 64 → ReadPlansStayCoherent base
 read-plans base few way text bytes policy lines p j h = replay-keeps (plan_of way policy base lines) (plan-fits way text bytes policy base lines p j few h)

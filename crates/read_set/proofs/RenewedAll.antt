@@ -10,7 +10,7 @@ use Rattle.circ_records.specs.declared.key.Key.TheVariants as keys
 use Rattle.circ_records.specs.declared.record.FeeType.TheVariants as fee_types
 use Rattle.circ_records.specs.declared.record.Item.{Item}
 use Rattle.circ_records.specs.declared.record.Record.TheVariants as records
-use Rattle.sip_answer.specs.Outcomes.{names_item}
+use Rattle.sip_answer.specs.Deeds.{names_item}
 use Rattle.sip_reader.specs.Dates.{is_stamp}
 use Rattle.sip_reader.specs.Texts.{fee_id}
 use Rattle.sip_reader.specs.declared.request.RenewAll.{RenewAll}

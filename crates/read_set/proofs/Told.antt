@@ -2,10 +2,10 @@
 use Rattle.std.proofs.Common.{◌≡◌, ◌≤◌, ◌+◌, ℕ, List, Bool, true, false, cond, Option, Some, None, subst, sym, arith}
 use Rattle.std.specs.Prelude.{IfSome}
 use Rattle.circ_policy.specs.Terms.{Terms}
-use Rattle.sip_answer.specs.Outcomes.{FitsOutcome}
-use Rattle.sip_answer.specs.declared.outcome.Outcome.{Outcome}
-use Rattle.sip_answer.specs.declared.outcome.Outcome.TheVariants as outcomes
-use Rattle.sip_answer.specs.declared.outcome.ToldLoan.{ToldLoan}
+use Rattle.sip_answer.specs.Deeds.{FitsDeed}
+use Rattle.sip_answer.specs.declared.deed.Deed.{Deed}
+use Rattle.sip_answer.specs.declared.deed.Deed.TheVariants as deeds
+use Rattle.sip_answer.specs.declared.deed.ToldLoan.{ToldLoan}
 use Rattle.sip_reader.specs.Dates.{is_stamp}
 use Rattle.sip_reader.specs.declared.request.Act.{Act}
 use Rattle.sip_reader.specs.declared.request.Act.TheVariants as acts
@@ -23,7 +23,7 @@ use Rattle.read_set.proofs.RenewedAll.{renew-all-keeps}
 use Rattle.read_set.proofs.SimpleKinds.{hold-keeps, nothing}
 use Rattle.read_set.proofs.States.{Parts}
 
-told-fits : (a : LoanRequest) (t : ToldLoan) → FitsAsked a → FitsOutcome (outcomes.Lent t) → FitsAsked (as_told a t)
+told-fits : (a : LoanRequest) (t : ToldLoan) → FitsAsked a → FitsDeed (deeds.Lent t) → FitsAsked (as_told a t)
 told-fits a t asked fits = (day t.due fits.0, price t.fee fits.1)
   where
     own : (b : Bool) (o : Option ℕ) → IfSome o IsDay → IfSome (cond b o None) IsDay
@@ -43,7 +43,7 @@ told-fits a t asked fits = (day t.due fits.0, price t.fee fits.1)
     price None f = agreed a.agreed a.price asked.1
 
 module _ (p : Terms) (n : ℕ) (M : Map) (line : Line p n M) (date : List ℕ) (stamp : is_stamp date ≡ true) where
-  loan-told-keeps : (act : Act) (t : ToldLoan) → FitsAct act → FitsOutcome (outcomes.Lent t) → Parts p (n + 1) M (put (over M (loan_told p n date act t)).writes M)
+  loan-told-keeps : (act : Act) (t : ToldLoan) → FitsAct act → FitsDeed (deeds.Lent t) → Parts p (n + 1) M (put (over M (loan_told p n date act t)).writes M)
   unfolding loan_told
   loan-told-keeps (acts.Checkout q) t fits told = checkout-for-keeps p n M line t.renewal (as_told (by_checkout q) t) date stamp (told-fits (by_checkout q) t (fits-checkout q fits) told)
   loan-told-keeps (acts.Renew q) t fits told = checkout-for-keeps p n M line true (as_told (by_renew q) t) date stamp (told-fits (by_renew q) t (fits, tt) told)
@@ -79,16 +79,16 @@ module _ (p : Terms) (n : ℕ) (M : Map) (line : Line p n M) (date : List ℕ) (
   renewals-told-keeps (acts.Renew q) named = nothing p (n + 1) M line.parts
   renewals-told-keeps (acts.FeePaid q) named = nothing p (n + 1) M line.parts
 
-  carried-keeps : (act : Act) (o : Outcome) → FitsAct act → FitsOutcome o → Parts p (n + 1) M (put (over M (carried p n date act o)).writes M)
+  carried-keeps : (act : Act) (o : Deed) → FitsAct act → FitsDeed o → Parts p (n + 1) M (put (over M (carried p n date act o)).writes M)
   unfolding carried
-  carried-keeps act outcomes.NotTaken fits told = nothing p (n + 1) M line.parts
-  carried-keeps act (outcomes.Said true) fits told = done-told-keeps act fits
-  carried-keeps act (outcomes.Said false) fits told = nothing p (n + 1) M line.parts
-  carried-keeps act outcomes.Refused fits told = nothing p (n + 1) M line.parts
-  carried-keeps act (outcomes.Lent t) fits told = loan-told-keeps act t fits told
-  carried-keeps act (outcomes.Renewed named) fits told = renewals-told-keeps act named
+  carried-keeps act deeds.NotTaken fits told = nothing p (n + 1) M line.parts
+  carried-keeps act (deeds.Said true) fits told = done-told-keeps act fits
+  carried-keeps act (deeds.Said false) fits told = nothing p (n + 1) M line.parts
+  carried-keeps act deeds.Refused fits told = nothing p (n + 1) M line.parts
+  carried-keeps act (deeds.Lent t) fits told = loan-told-keeps act t fits told
+  carried-keeps act (deeds.Renewed named) fits told = renewals-told-keeps act named
 
-  pub followed-keeps : (act : Act) (o : Outcome) (ruled : Effect) → FitsAct act → FitsOutcome o → Parts p (n + 1) M (put ruled.writes M)
+  pub followed-keeps : (act : Act) (o : Deed) (ruled : Effect) → FitsAct act → FitsDeed o → Parts p (n + 1) M (put ruled.writes M)
       → Parts p (n + 1) M (put (over M (followed p n date act o ruled)).writes M)
   unfolding followed
   followed-keeps act o ruled fits told kept =

@@ -3,11 +3,11 @@
 -- given then: so what a response says is carried out by the same rules, forced.
 use Rattle.std.specs.Prelude.{ℕ, Bool, true, false, List, Option, Some, None, if◌then◌else◌}
 use Rattle.circ_policy.specs.Terms.{Terms}
-use Rattle.sip_answer.specs.Outcomes.{agrees}
+use Rattle.sip_answer.specs.Deeds.{agrees}
 use Rattle.sip_answer.specs.declared.answer.Answer.{Answer}
-use Rattle.sip_answer.specs.declared.outcome.Outcome.{Outcome}
-use Rattle.sip_answer.specs.declared.outcome.Outcome.TheVariants as outcomes
-use Rattle.sip_answer.specs.declared.outcome.ToldLoan.{ToldLoan}
+use Rattle.sip_answer.specs.declared.deed.Deed.{Deed}
+use Rattle.sip_answer.specs.declared.deed.Deed.TheVariants as deeds
+use Rattle.sip_answer.specs.declared.deed.ToldLoan.{ToldLoan}
 use Rattle.sip_reader.specs.declared.request.Act.{Act}
 use Rattle.sip_reader.specs.declared.request.Act.TheVariants as acts
 use Rattle.read_set.specs.Asks.{Asks, Give, ◌>>=◌}
@@ -52,17 +52,17 @@ unfoldable pub renewals_told : Terms → ℕ → List ℕ → Act → List (List
 renewals_told p n date (acts.RenewAll q) named = renew_all_rule p n (Some named) q date
 renewals_told p n date act named = Give (unwritten None)
 
--- What is carried out where the rule's answer doesn't agree with the outcome: nothing where nothing was done.
-unfoldable pub carried : Terms → ℕ → List ℕ → Act → Outcome → Asks Effect
-carried p n date act outcomes.NotTaken = Give (unwritten None)
-carried p n date act (outcomes.Said false) = Give (unwritten None)
-carried p n date act (outcomes.Said true) = done_told p date act
-carried p n date act outcomes.Refused = Give (unwritten None)
-carried p n date act (outcomes.Lent t) = loan_told p n date act t
-carried p n date act (outcomes.Renewed named) = renewals_told p n date act named
+-- What is carried out where the rule's answer doesn't agree with the deed: nothing where nothing was done.
+unfoldable pub carried : Terms → ℕ → List ℕ → Act → Deed → Asks Effect
+carried p n date act deeds.NotTaken = Give (unwritten None)
+carried p n date act (deeds.Said false) = Give (unwritten None)
+carried p n date act (deeds.Said true) = done_told p date act
+carried p n date act deeds.Refused = Give (unwritten None)
+carried p n date act (deeds.Lent t) = loan_told p n date act t
+carried p n date act (deeds.Renewed named) = renewals_told p n date act named
 
--- whether the rule's answer agrees with an outcome
-abbrev pub agrees_with : Option Answer → Outcome → Bool
+-- whether the rule's answer agrees with a deed
+abbrev pub agrees_with : Option Answer → Deed → Bool
 agrees_with None o = false
 agrees_with (Some answer) o = agrees answer o
 
@@ -70,8 +70,8 @@ agrees_with (Some answer) o = agrees answer o
 abbrev pub answering : Option Answer → Effect → Effect
 answering answer done = record { writes = done.writes; answer = answer }
 
--- where the rule's answer agrees with the outcome, the rule's own writes stand
-unfoldable pub followed : Terms → ℕ → List ℕ → Act → Outcome → Effect → Asks Effect
+-- where the rule's answer agrees with the deed, the rule's own writes stand
+unfoldable pub followed : Terms → ℕ → List ℕ → Act → Deed → Effect → Asks Effect
 followed p n date act o ruled = if agrees_with ruled.answer o then Give ruled else do
   done ← carried p n date act o
   Give (answering ruled.answer done)

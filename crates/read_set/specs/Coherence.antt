@@ -10,8 +10,8 @@ use Rattle.circ_records.specs.Records.{Entries, record_at}
 use Rattle.circ_records.specs.declared.key.Key.TheVariants as keys
 use Rattle.journal_table.specs.Entry.{Entry, first_number}
 use Rattle.journal_table.specs.Journal.{journal_of}
-use Rattle.sip_answer.specs.Outcomes.{FitsOutcome}
-use Rattle.sip_answer.specs.declared.outcome.Outcome.{Outcome}
+use Rattle.sip_answer.specs.Deeds.{FitsDeed}
+use Rattle.sip_answer.specs.declared.deed.Deed.{Deed}
 use Rattle.sip_reader.specs.Dates.{is_stamp}
 use Rattle.sip_reader.specs.Days.{day_at}
 use Rattle.sip_reader.specs.Texts.{is_text, line_number_end, line_number_max}
@@ -42,9 +42,9 @@ abbrev pub FitsReading : Reading → Type 0
 FitsReading (readings.Asked q) = (is_stamp q.date ≡ true) × FitsAct q.act
 FitsReading r = Unit {0}
 
--- what holds of each line's outcome, if it has one
-abbrev pub HasFitOutcome : Option Outcome → Type 0
-HasFitOutcome o = IfSome o FitsOutcome
+-- what holds of each line's deed, if it has one
+abbrev pub HasFitDeed : Option Deed → Type 0
+HasFitDeed o = IfSome o FitsDeed
 
 -- there are at most 2^64 items (a list that names them all has no more), so no line makes more fees than that
 abbrev pub HasFewItems : Map → Type 0
@@ -52,16 +52,16 @@ HasFewItems M = (ids : List (List ℕ)) × (length ids ≤ 2 ^ 64) × ((id : Lis
 
 -- if the records before line n are coherent, those after it are coherent before line n + 1; where all are of their keys' kinds, they stay so
 abbrev pub MeaningKeepsCoherence : Type 0
-MeaningKeepsCoherence = (policy : Terms) (n : ℕ) (r : Reading) (o : Option Outcome) (M : Map) → FitsPolicy policy → FitsReading r → IfSome o FitsOutcome
+MeaningKeepsCoherence = (policy : Terms) (n : ℕ) (r : Reading) (o : Option Deed) (M : Map) → FitsPolicy policy → FitsReading r → IfSome o FitsDeed
     → n ≤ line_number_max → HasFewItems M → IsCoherentMap policy n M
     → IsCoherentMap policy (n + 1) (one policy n r o M).0 × HasFewItems (one policy n r o M).0 × (AreOfKind M → AreOfKind (one policy n r o M).0)
 
--- what a plan's type promises: policy, readings and outcomes fit, the base has at most 2^64 records and is coherent at the number of the first line, and no line has a
+-- what a plan's type promises: policy, readings and deeds fit, the base has at most 2^64 records and is coherent at the number of the first line, and no line has a
 -- number of more than ten digits
 pub record FitsPlan (plan : Planned) : Type 0 where
   pub policy : FitsPolicy plan.policy
   pub readings : AllByRecursion FitsReading plan.readings
-  pub outcomes : AllByRecursion HasFitOutcome plan.outcomes
+  pub deeds : AllByRecursion HasFitDeed plan.deeds
   pub base : Coherent plan.policy plan.first plan.base
   pub few : length plan.base ≤ 2 ^ 64
   pub last : plan.first + length plan.readings ≤ line_number_end

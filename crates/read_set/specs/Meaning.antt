@@ -3,7 +3,7 @@ use Rattle.std.specs.Prelude.{ℕ, true, false, List, Option, Some, None}
 use Rattle.circ_policy.specs.Terms.{Terms}
 use Rattle.sip_answer.specs.declared.answer.Answer.{Answer}
 use Rattle.sip_answer.specs.declared.answer.Answer.TheVariants as answers
-use Rattle.sip_answer.specs.declared.outcome.Outcome.{Outcome}
+use Rattle.sip_answer.specs.declared.deed.Deed.{Deed}
 use Rattle.sip_reader.specs.declared.request.Act.{Act}
 use Rattle.sip_reader.specs.declared.request.Act.TheVariants as acts
 use Rattle.sip_reader.specs.declared.request.Reading.{Reading}
@@ -34,8 +34,8 @@ rule_of p n date (acts.Renew q) = renew_rule p n q date
 rule_of p n date (acts.FeePaid q) = fee_paid_rule p q date
 rule_of p n date (acts.RenewAll q) = renew_all_rule p n None q date
 
--- by the rules, or as an outcome of the line says
-unfoldable pub rule_with : Terms → ℕ → List ℕ → Act → Option Outcome → Asks Effect
+-- by the rules, or as a deed of the line says
+unfoldable pub rule_with : Terms → ℕ → List ℕ → Act → Option Deed → Asks Effect
 rule_with p n date act None = rule_of p n date act
 rule_with p n date act (Some o) = do
   ruled ← rule_of p n date act
@@ -43,15 +43,15 @@ rule_with p n date act (Some o) = do
 
 -- Error Detection (SIP 2.00): a line with a wrong sum changes nothing and asks for the message again.
 -- A passed or unread line changes nothing and has no answer.
-unfoldable pub rule : Terms → ℕ → Reading → Option Outcome → Asks Effect
+unfoldable pub rule : Terms → ℕ → Reading → Option Deed → Asks Effect
 rule p n (readings.Asked q) o = rule_with p n q.date q.act o
 rule p n readings.BadSum o = Give (unwritten (Some answers.Resend))
 rule p n (readings.Passed why) o = Give (unwritten None)
 rule p n (readings.Unread why) o = Give (unwritten None)
 
-abbrev pub effect : Terms → ℕ → Reading → Option Outcome → Map → Effect
+abbrev pub effect : Terms → ℕ → Reading → Option Deed → Map → Effect
 effect p n r o M = over M (rule p n r o)
 
 -- the records after line n, and its answer
-abbrev pub one : Terms → ℕ → Reading → Option Outcome → Map → Map × Option Answer
+abbrev pub one : Terms → ℕ → Reading → Option Deed → Map → Map × Option Answer
 one p n r o M = (put (effect p n r o M).writes M, (effect p n r o M).answer)

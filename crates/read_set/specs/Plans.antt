@@ -6,8 +6,8 @@ use Rattle.circ_policy.specs.declared.due_form.DueForm.TheVariants as due_forms
 use Rattle.circ_records.specs.Records.{Entries}
 use Rattle.journal_table.specs.Entry.{Entry, first_number}
 use Rattle.journal_table.specs.Readings.{NumberedReading, first_read, requests_read, reading_at as reading_in}
-use Rattle.sip_answer.specs.Outcomes.{outcome_in}
-use Rattle.sip_answer.specs.declared.outcome.Outcome.{Outcome}
+use Rattle.sip_answer.specs.Deeds.{deed_in}
+use Rattle.sip_answer.specs.declared.deed.Deed.{Deed}
 use Rattle.sip_reader.specs.Reading.{reading}
 use Rattle.sip_reader.specs.declared.request.Reading.{Reading}
 use Rattle.sip_reader.specs.declared.request.Reading.TheVariants as readings
@@ -20,8 +20,8 @@ pub record Planned : Type 0 where
   pub base : Entries
   pub first : ℕ
   pub readings : List Reading
-  -- by the rules no line has an outcome
-  pub outcomes : List (Option Outcome)
+  -- by the rules no line has a deed
+  pub deeds : List (Option Deed)
 
 -- the number of a journal's first line; one without lines begins after the last number that a line can have
 abbrev pub beginning : List Entry → ℕ
@@ -32,14 +32,14 @@ abbrev pub readings_of : List Entry → List Reading
 readings_of = requests_read
 
 -- what a response says was done, if its request was read
-abbrev pub outcome_read : DueForm → Option Reading → List ℕ → Option Outcome
-outcome_read form (Some (readings.Asked q)) response = outcome_in form q.act response
-outcome_read form r response = None
+abbrev pub deed_read : DueForm → Option Reading → List ℕ → Option Deed
+deed_read form (Some (readings.Asked q)) response = deed_in form q.act response
+deed_read form r response = None
 
--- the outcomes of lines: as recorded what their responses say, by the rules none
-unfoldable pub outcomes_of : Way → DueForm → List Entry → List (Option Outcome)
-outcomes_of ways.ByRules form lines = []
-outcomes_of ways.AsRecorded form lines = map (λ line. outcome_read form (Some (reading line.request)) line.response) lines
+-- the deeds of lines: as recorded what their responses say, by the rules none
+unfoldable pub deeds_of : Way → DueForm → List Entry → List (Option Deed)
+deeds_of ways.ByRules form lines = []
+deeds_of ways.AsRecorded form lines = map (λ line. deed_read form (Some (reading line.request)) line.response) lines
 
 abbrev pub plan_of : Way → Terms → Entries → List Entry → Planned
 plan_of way policy base lines = record {
@@ -47,17 +47,17 @@ plan_of way policy base lines = record {
   base = base;
   first = beginning lines;
   readings = readings_of lines;
-  outcomes = outcomes_of way policy.due_form lines;
+  deeds = deeds_of way policy.due_form lines;
 }
 
--- the plan of numbered readings with these outcomes; of those of a journal it is the journal's
-abbrev pub plan_read : Terms → Entries → List NumberedReading → List (Option Outcome) → Planned
-plan_read policy base read outcomes = record {
+-- the plan of numbered readings with these deeds; of those of a journal it is the journal's
+abbrev pub plan_read : Terms → Entries → List NumberedReading → List (Option Deed) → Planned
+plan_read policy base read deeds = record {
   policy = policy;
   base = base;
   first = unwrap_or (first_read read) line_number_end;
   readings = map reading_in read;
-  outcomes = outcomes;
+  deeds = deeds;
 }
 
 -- the plan of the same lines over other records
@@ -69,8 +69,8 @@ abbrev pub reading_at : Planned → ℕ → Option Reading
 reading_at plan line = if nat_lt line plan.first then None else slice_get plan.readings (line - plan.first)
 
 -- what the response of the line of a number says was done, if that counts
-abbrev pub outcome_at : Planned → ℕ → Option Outcome
-outcome_at plan line = unwrap_or (slice_get plan.outcomes (line - plan.first)) None
+abbrev pub deed_at : Planned → ℕ → Option Deed
+deed_at plan line = unwrap_or (slice_get plan.deeds (line - plan.first)) None
 
 -- an empty plan, for the type that names none; each run names its own
 abbrev pub no_plan : Planned
@@ -79,5 +79,5 @@ no_plan = record {
   base = [];
   first = 0;
   readings = [];
-  outcomes = [];
+  deeds = [];
 }

@@ -4,7 +4,7 @@ use Rattle.circ_policy.specs.Terms.{Terms}
 use Rattle.circ_records.specs.declared.key.Key.TheVariants as keys
 use Rattle.circ_records.specs.declared.record.FeeType.TheVariants as fee_types
 use Rattle.circ_records.specs.declared.record.Record.TheVariants as records
-use Rattle.sip_answer.specs.Outcomes.{names_item}
+use Rattle.sip_answer.specs.Deeds.{names_item}
 use Rattle.sip_answer.specs.declared.answer.Answer.{Answer}
 use Rattle.sip_answer.specs.declared.answer.Answer.TheVariants as answers
 use Rattle.sip_reader.specs.declared.request.RenewAll.{RenewAll}

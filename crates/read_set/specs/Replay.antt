@@ -6,13 +6,13 @@ use Rattle.sip_answer.specs.declared.answer.Answer.{Answer}
 use Rattle.sip_reader.specs.declared.request.Reading.{Reading}
 use Rattle.read_set.specs.Maps.{Map, put}
 use Rattle.read_set.specs.Meaning.{one}
-use Rattle.read_set.specs.Plans.{Planned, outcome_at, reading_at}
+use Rattle.read_set.specs.Plans.{Planned, deed_at, reading_at}
 use Rattle.read_set.specs.declared.effect.Effect.{Effect}
 
 -- the meaning of the line of a number, where the plan has that line; else nothing changes
 abbrev pub one_by : Planned → ℕ → Option Reading → Map → Map × Option Answer
 one_by plan line None M = (M, None)
-one_by plan line (Some r) M = one plan.policy line r (outcome_at plan line) M
+one_by plan line (Some r) M = one plan.policy line r (deed_at plan line) M
 
 abbrev pub one_at : Planned → ℕ → Map → Map × Option Answer
 one_at plan line M = one_by plan line (reading_at plan line) M

@@ -11,7 +11,7 @@ mod laws;
 mod names;
 mod notes;
 mod noting;
-mod outcomes;
+mod deeds;
 mod plan;
 mod progress;
 mod sorted;
@@ -27,7 +27,7 @@ pub use laws::{meaning_keeps_coherence, read_plans_stay_coherent, replay_keeps_c
 pub use names::named_by;
 pub use notes::{Name, Note, Notes};
 pub use noting::{NotesName, NotesSource, RecordReader, RecordingSource};
-pub use outcomes::Outcomes;
+pub use deeds::Deeds;
 pub use plan::{Plan, PlanName};
 pub use progress::{Payments, Renewals};
 pub use sorted::found_in;

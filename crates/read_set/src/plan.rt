@@ -10,15 +10,15 @@ ghost use Rattle.journal_table.specs.Entry.{Entry};
 ghost use Rattle.journal_table.specs.Readings.{first_read, reading_at as reading_in, readings_of as all_read};
 ghost use Rattle.journal_table.specs.declared.TheConstants.{LINE_LIMIT};
 ghost use Rattle.read_set.specs.Coherence.{StaysCoherent};
-ghost use Rattle.read_set.specs.Plans.{outcome_at, outcomes_of, plan_over, plan_of, plan_read, reading_at};
+ghost use Rattle.read_set.specs.Plans.{deed_at, deeds_of, plan_over, plan_of, plan_read, reading_at};
 ghost use Rattle.read_set.specs.declared.way.Way.{Way};
-ghost use Rattle.sip_answer.specs.Outcomes.{FitsOutcome};
+ghost use Rattle.sip_answer.specs.Deeds.{FitsDeed};
 
-use crate::outcomes::Outcomes;
+use crate::deeds::Deeds;
 use circ_policy::Policy;
 use circ_records::{Key, Record, RecordMap, Records};
 use journal_table::Readings;
-use sip_answer::Outcome;
+use sip_answer::Deed;
 use sip_reader::{LINE_NUMBER_END, Reading};
 use std::alloc::{AllocError, Global};
 use std::marker::{Brand, Model};
@@ -30,7 +30,7 @@ pub struct Plan {
     base: Records,
     first: u64,
     readings: Readings,
-    outcomes: Outcomes,
+    deeds: Deeds,
 }
 
 impl Drop for Plan {
@@ -40,7 +40,7 @@ impl Drop for Plan {
             base: _,
             first: _,
             readings: _,
-            outcomes: _,
+            deeds: _,
         } = self;
     }
 }
@@ -55,9 +55,9 @@ impl Model for Plan {
 
     ghost Value = { Planned };
 
-    ghost view = { λ p. record { policy = p.policy; base = p.base; first = p.first; readings = map reading_at p.readings; outcomes = p.outcomes } };
+    ghost view = { λ p. record { policy = p.policy; base = p.base; first = p.first; readings = map reading_at p.readings; deeds = p.deeds } };
 
-    ghost invariant = { λ p. (p.first + length p.readings ≤ line_number_end) × (length p.readings ≤ LINE_LIMIT) × FitsPlan (record { policy = p.policy; base = p.base; first = p.first; readings = map reading_at p.readings; outcomes = p.outcomes }) };
+    ghost invariant = { λ p. (p.first + length p.readings ≤ line_number_end) × (length p.readings ≤ LINE_LIMIT) × FitsPlan (record { policy = p.policy; base = p.base; first = p.first; readings = map reading_at p.readings; deeds = p.deeds }) };
 }
 
 impl Plan {
@@ -67,25 +67,25 @@ impl Plan {
         policy: Policy,
         base: Records,
         readings: Readings,
-        outcomes: Outcomes,
+        deeds: Deeds,
     ) -> Plan
         requires { Coherent policy (number_before (first_read readings)) base }
-        ensures value { result ≡ plan_read policy base readings outcomes }
-        ensures journal { (way : Way) (lines : List Entry) → readings ≡ all_read lines → outcomes ≡ outcomes_of way policy.due_form lines → result ≡ plan_of way policy base lines }
+        ensures value { result ≡ plan_read policy base readings deeds }
+        ensures journal { (way : Way) (lines : List Entry) → readings ≡ all_read lines → deeds ≡ deeds_of way policy.due_form lines → result ≡ plan_of way policy base lines }
     {
         let first = readings.first().unwrap_or(LINE_NUMBER_END);
         // Called for their contracts alone: there are at most `LINE_LIMIT` lines, each read from a message; the policy's terms
-        // are in their ranges; the number of records fits into a count; and days and fees of outcomes are in their ranges.
+        // are in their ranges; the number of records fits into a count; and days and fees of deeds are in their ranges.
         let _lines = readings.len();
         let _currency = policy.currency();
         let _records = base.as_slice();
-        outcomes.keep_their_form();
+        deeds.keep_their_form();
         Plan {
             policy,
             base,
             first,
             readings,
-            outcomes,
+            deeds,
         }
     }
 
@@ -135,11 +135,11 @@ impl Plan {
     }
 
     /// What the response of the line of a number says was done, if that counts.
-    pub fn outcome(&self, line: u64) -> Option<&Outcome>
-        ensures value { option_copied result ≡ outcome_at self.now line }
-        ensures fits { IfSome (option_copied result) FitsOutcome }
+    pub fn deed(&self, line: u64) -> Option<&Deed>
+        ensures value { option_copied result ≡ deed_at self.now line }
+        ensures fits { IfSome (option_copied result) FitsDeed }
     {
-        self.outcomes.get(line.saturating_sub(self.first) as usize)
+        self.deeds.get(line.saturating_sub(self.first) as usize)
     }
 
     /// The keys of the records before the first line, rising, each with its record. These records are coherent before it.

@@ -13,7 +13,7 @@ use Rattle.sip_reader.specs.declared.request.Act.{Act}
 use Rattle.sip_reader.specs.declared.request.Kind.{Kind}
 use Rattle.sip_reader.specs.declared.request.Kind.TheVariants as kinds
 use Rattle.sip_answer.specs.Differ.{Agrees, are_same_items, capped, checkin_words, differ, due_words, fee_paid_words, hold_words, identifier_of, is_same, is_same_fee, item_status_words, loan_words, renew_all_words, word_unless, words_in, words_of}
-use Rattle.sip_answer.specs.Outcomes.{agrees, answers_act, checkin_outcome, is_told_day, is_us, loan_agrees, loan_outcome, outcome_by, outcome_from, outcome_in, renew_all_outcome, told_day}
+use Rattle.sip_answer.specs.Deeds.{agrees, answers_act, checkin_deed, is_told_day, is_us, loan_agrees, loan_deed, deed_by, deed_from, deed_in, renew_all_deed, told_day}
 use Rattle.sip_answer.specs.Responses.{body_with, checkin_in, fee_paid_in, has_id, hold_in, item_status_in, loan_in, renew_all_in, resend_id, response_to, response_with}
 use Rattle.sip_answer.specs.declared.answer.Answer.{Answer}
 use Rattle.sip_answer.specs.declared.answer.Answer.TheVariants as answers
@@ -23,17 +23,17 @@ use Rattle.sip_answer.specs.declared.answer.LoanAnswer.{LoanAnswer}
 use Rattle.sip_answer.specs.declared.answer.RenewAllAnswer.{RenewAllAnswer}
 use Rattle.sip_answer.specs.declared.field.Field.{Field}
 use Rattle.sip_answer.specs.declared.field.Field.TheVariants as words
-use Rattle.sip_answer.specs.declared.outcome.Outcome.{Outcome}
-use Rattle.sip_answer.specs.declared.outcome.Outcome.TheVariants as outcomes
-use Rattle.sip_answer.specs.declared.outcome.ToldLoan.{ToldLoan}
+use Rattle.sip_answer.specs.declared.deed.Deed.{Deed}
+use Rattle.sip_answer.specs.declared.deed.Deed.TheVariants as deeds
+use Rattle.sip_answer.specs.declared.deed.ToldLoan.{ToldLoan}
 use Rattle.sip_answer.specs.declared.response.CheckinResponse.{CheckinResponse}
 use Rattle.sip_answer.specs.declared.response.HoldResponse.{HoldResponse}
 use Rattle.sip_answer.specs.declared.response.LoanResponse.{LoanResponse}
 use Rattle.sip_answer.specs.declared.response.RenewAllResponse.{RenewAllResponse}
 
--- an outcome, if there is one, with which the answer agrees
-abbrev Fits : Answer → Option Outcome → Type 0
-Fits a outcome = IfSome outcome (λ o. agrees a o ≡ true)
+-- a deed, if there is one, with which the answer agrees
+abbrev Fits : Answer → Option Deed → Type 0
+Fits a deed = IfSome deed (λ o. agrees a o ≡ true)
 
 -- no word is no difference
 no_word : (word : Field) (b : Bool) → word_unless word b ≡ [] → b ≡ true
@@ -47,20 +47,20 @@ parts (x ∷ xs) ys none = cc none
 
 -- Checkin response (10), and those that say no more than ok.
 checkin_fits : (a : CheckinAnswer) (r : CheckinResponse) → checkin_words a r ≡ []
-    → Fits (answers.Checkin a) (checkin_outcome r)
-unfolding checkin_words checkin_outcome
+    → Fits (answers.Checkin a) (checkin_deed r)
+unfolding checkin_words checkin_deed
 checkin_fits a r none =
     let ok = word_unless words.Ok (is_same (is_some a.known) r.ok) in
     let alert = word_unless words.Alert (is_same a.alert r.alert) in
     by r.placed (no_word words.Ok (is_same (is_some a.known) r.ok) (parts ok alert none).0)
   where
     by : (placed : Bool) → is_same (is_some a.known) r.ok ≡ true
-        → Fits (answers.Checkin a) (cond placed None (Some (outcomes.Said r.ok)))
+        → Fits (answers.Checkin a) (cond placed None (Some (deeds.Said r.ok)))
     by true same = tt
     by false same = same
 
 hold_fits : (a : HoldAnswer) (r : HoldResponse) → hold_words a r ≡ []
-    → agrees (answers.Hold a) (outcomes.Said r.ok) ≡ true
+    → agrees (answers.Hold a) (deeds.Said r.ok) ≡ true
 unfolding hold_words
 hold_fits a r none =
     let ok = word_unless words.Ok (is_same a.ok r.ok) in
@@ -88,8 +88,8 @@ told_of f r = record {
 }
 
 loan_fits : (f : DueForm) (a : LoanAnswer) (r : LoanResponse) → loan_words a r ≡ []
-    → loan_agrees a (loan_outcome f r) ≡ true
-unfolding loan_words loan_outcome told_day
+    → loan_agrees a (loan_deed f r) ≡ true
+unfolding loan_words loan_deed told_day
 loan_fits f a r none =
     let ok = word_unless words.Ok (is_same (is_some a.due) r.ok) in
     let due = due_words a.due r.ok r.due in
@@ -101,14 +101,14 @@ loan_fits f a r none =
   where
     by : (ok : Bool) → is_same (is_some a.due) ok ≡ true → due_words a.due ok r.due ≡ []
         → is_same_fee a.rental r.fee ≡ true
-        → loan_agrees a (cond ok (outcomes.Lent (told_of f r)) outcomes.Refused) ≡ true
+        → loan_agrees a (cond ok (deeds.Lent (told_of f r)) deeds.Refused) ≡ true
     by true same due fee = rw (day_told a.due r.due (r.slashed && not (is_us f)) same due, fee) refl
     by false same due fee = refused a.due same
 
 -- Renew all response (66).
 renew_all_fits : (a : RenewAllAnswer) (r : RenewAllResponse) → renew_all_words a r ≡ []
-    → Fits (answers.RenewAll a) (renew_all_outcome r)
-unfolding renew_all_words renew_all_outcome
+    → Fits (answers.RenewAll a) (renew_all_deed r)
+unfolding renew_all_words renew_all_deed
 renew_all_fits a r none =
     let ok = word_unless words.Ok (is_same a.ok r.ok) in
     let renewed = word_unless words.Renewed (eqb (capped (length a.renewed)) r.renewed) in
@@ -121,19 +121,19 @@ renew_all_fits a r none =
     (no_word words.RenewedItems (are_same_items a.renewed r.renewed_items) second.1)
   where
     by : (few : Bool) → are_same_items a.renewed r.renewed_items ≡ true
-        → Fits (answers.RenewAll a) (cond few None (Some (outcomes.Renewed r.renewed_items)))
+        → Fits (answers.RenewAll a) (cond few None (Some (deeds.Renewed r.renewed_items)))
     by true same = tt
     by false same = same
 
 -- what can't be read says nothing
-said : {R : Type 0} (a : Answer) (differs : R → List Field) (says : R → Option Outcome)
+said : {R : Type 0} (a : Answer) (differs : R → List Field) (says : R → Option Deed)
     → ((r : R) → differs r ≡ [] → Fits a (says r)) → (read : Option R)
     → unwrap_or (option_map differs read) (words.Unreadable ∷ []) ≡ []
     → Fits a (option_and_then says read)
 said a differs says fits None none = tt
 said a differs says fits (Some r) none = fits r none
 
-always_said : {R : Type 0} (a : Answer) (differs : R → List Field) (says : R → Outcome)
+always_said : {R : Type 0} (a : Answer) (differs : R → List Field) (says : R → Deed)
     → ((r : R) → differs r ≡ [] → agrees a (says r) ≡ true) → (read : Option R)
     → unwrap_or (option_map differs read) (words.Unreadable ∷ []) ≡ []
     → Fits a (option_map says read)
@@ -155,31 +155,31 @@ other_id kinds.RenewAll = refl
 -- each kind
 of_kind : (a : Answer) (k : Kind) (f : DueForm) (m : List ℕ)
     → bytes_eq (identifier_of a) (response_to k) ≡ true
-    → unwrap_or (words_of a m) (words.Unreadable ∷ []) ≡ [] → Fits a (outcome_by f k m)
+    → unwrap_or (words_of a m) (words.Unreadable ∷ []) ≡ [] → Fits a (deed_by f k m)
 unfolding item_status_words fee_paid_words
 of_kind (answers.BlockPatron a) kinds.BlockPatron f m same none = tt
 of_kind (answers.Checkin a) kinds.Checkin f m same none =
-    said (answers.Checkin a) (checkin_words a) checkin_outcome (checkin_fits a) (checkin_in m) none
+    said (answers.Checkin a) (checkin_words a) checkin_deed (checkin_fits a) (checkin_in m) none
 of_kind (answers.Checkout a) kinds.Checkout f m same none =
-    always_said (answers.Checkout a) (loan_words a) (loan_outcome f) (loan_fits f a)
+    always_said (answers.Checkout a) (loan_words a) (loan_deed f) (loan_fits f a)
     (loan_in m) none
 of_kind (answers.Hold a) kinds.Hold f m same none =
-    always_said (answers.Hold a) (hold_words a) (λ (r : HoldResponse). outcomes.Said r.ok)
+    always_said (answers.Hold a) (hold_words a) (λ (r : HoldResponse). deeds.Said r.ok)
     (hold_fits a) (hold_in m) none
 of_kind (answers.ItemStatus a) kinds.ItemStatus f m same none =
-    always_said (answers.ItemStatus a) (item_status_words a) outcomes.Said
+    always_said (answers.ItemStatus a) (item_status_words a) deeds.Said
     (λ stored none. no_word words.Ok (is_same (is_some a.known) stored) none)
     (item_status_in m) none
 of_kind (answers.PatronEnable a) kinds.PatronEnable f m same none = tt
 of_kind (answers.Renew a) kinds.Renew f m same none =
-    always_said (answers.Renew a) (loan_words a) (loan_outcome f) (loan_fits f a)
+    always_said (answers.Renew a) (loan_words a) (loan_deed f) (loan_fits f a)
     (loan_in m) none
 of_kind (answers.FeePaid a) kinds.FeePaid f m same none =
-    always_said (answers.FeePaid a) (fee_paid_words a) outcomes.Said
+    always_said (answers.FeePaid a) (fee_paid_words a) deeds.Said
     (λ accepted none. no_word words.Accepted (is_same a.accepted accepted) none)
     (fee_paid_in m) none
 of_kind (answers.RenewAll a) kinds.RenewAll f m same none =
-    said (answers.RenewAll a) (renew_all_words a) renew_all_outcome (renew_all_fits a)
+    said (answers.RenewAll a) (renew_all_words a) renew_all_deed (renew_all_fits a)
     (renew_all_in m) none
 of_kind answers.Resend k f m same none =
     let id : resend_id ≡ response_to k = (bytes_eq-Decides resend_id (response_to k)).0 same in
@@ -228,13 +228,13 @@ no_resend id recorded others own =
 
 of_response : (a : Answer) (k : Kind) (f : DueForm) (found : Result (List ℕ) Field)
     → bytes_eq (identifier_of a) (response_to k) ≡ true → words_in a found ≡ []
-    → Fits a (outcome_from f k found)
+    → Fits a (deed_from f k found)
 of_response a k f (Ok m) same none = of_kind a k f m same none
 of_response a k f (Err word) same none = tt
 
 pub agreeing : (a : Answer) (act : Act) (f : DueForm) (recorded : List ℕ)
-    → answers_act a act ≡ true → Agrees a recorded → Fits a (outcome_in f act recorded)
-unfolding differ outcome_in
+    → answers_act a act ≡ true → Agrees a recorded → Fits a (deed_in f act recorded)
+unfolding differ deed_in
 agreeing a act f recorded same none =
     let k = kind_of act in
     let own = response_with (response_to k) recorded in

@@ -13,4 +13,4 @@ pub mod OwnText
 pub mod OwnTexts
 pub mod WholeTexts
 pub mod Written
-pub mod OutcomeFits
+pub mod DeedFits

@@ -12,7 +12,7 @@ use Rattle.sip_reader.specs.Texts.{is_barred}
 use Rattle.sip_reader.specs.declared.amount.TheConstants.{AMOUNT_MAX}
 use Rattle.sip_reader.specs.declared.request.Act.{Act}
 use Rattle.sip_answer.specs.Differ.{Agrees}
-use Rattle.sip_answer.specs.Outcomes.{agrees, answers_act, outcome_in}
+use Rattle.sip_answer.specs.Deeds.{agrees, answers_act, deed_in}
 use Rattle.sip_answer.specs.Texts.{answer_text}
 use Rattle.sip_answer.specs.declared.answer.Answer.{Answer}
 use Rattle.sip_answer.specs.declared.answer.Answer.TheVariants as answers
@@ -92,4 +92,4 @@ abbrev pub AgreesAsRecorded : Type 0
 AgreesAsRecorded =
     (a : Answer) (act : Act) (form : DueForm) (recorded : List ℕ)
     → answers_act a act ≡ true → Agrees a recorded
-    → IfSome (outcome_in form act recorded) (λ outcome. agrees a outcome ≡ true)
+    → IfSome (deed_in form act recorded) (λ deed. agrees a deed ≡ true)

@@ -2,7 +2,7 @@ pub mod Devices
 pub mod Differ
 pub mod DueDates
 pub mod Laws
-pub mod Outcomes
+pub mod Deeds
 pub mod Parts
 pub mod Recorded
 pub mod Responses

@@ -1,5 +1,5 @@
 -- What is read of a recorded response of each kind (SIP 2.00), once: words in which it differs and
--- its outcome follow from it.
+-- its deed follow from it.
 use Rattle.std.specs.Prelude.{ℕ, Bool, ◌+◌, ◌&&◌, ◌==◌, not, nat_lt, List, length, drop, slice_index, Option, Some, None, Result, Ok, Err, if◌then◌else◌, codes}
 use Rattle.sip_reader.specs.Bytes as byte
 use Rattle.sip_reader.specs.Reading.{trimmed}

@@ -3,7 +3,7 @@
 ghost use Rattle.std.specs.Prelude.{◌≡◌};
 
 use crate::answer::PatronStatus;
-use crate::item_texts::ItemTexts;
+use crate::named_items::NamedItems;
 use sip_reader::{Amount, Day};
 
 /// Of responses 24 and 26.
@@ -53,9 +53,9 @@ pub struct RenewAllResponse {
     /// How many weren't.
     pub unrenewed: usize,
     /// The items that it names as renewed.
-    pub renewed_items: ItemTexts,
+    pub renewed_items: NamedItems,
     /// The items that it names as not renewed.
-    pub unrenewed_items: ItemTexts,
+    pub unrenewed_items: NamedItems,
 }
 
 impl Drop for RenewAllResponse {
@@ -72,7 +72,7 @@ impl Drop for RenewAllResponse {
 
 impl RenewAllResponse {
     /// The items that it names as renewed.
-    pub fn into_renewed(self) -> ItemTexts
+    pub fn into_renewed(self) -> NamedItems
         ensures { result ≡ self.renewed_items }
     {
         let RenewAllResponse {

@@ -8,14 +8,14 @@ ghost use Rattle.std.specs.Ordering.{nat_cmp};
 ghost use Rattle.std.specs.Str.{bytes_eq};
 ghost use Rattle.sip_answer.specs.Differ.{are_same_items, times_in};
 
-use crate::item_texts::ItemTexts;
+use crate::named_items::NamedItems;
 use sip_reader::Id;
 use std::alloc::{AllocError, Global};
 use std::collections::BTreeMap;
 
 /// Whether the texts are those of the ids, each as often, in whatever order. The error is that
 /// memory ran out.
-pub fn are_items(alloc: Global, ids: &[Id], items: &ItemTexts) -> Result<bool, AllocError>
+pub fn are_items(alloc: Global, ids: &[Id], items: &NamedItems) -> Result<bool, AllocError>
     ensures { IfOk result (λ r. r ≡ are_same_items ids.now items.now) }
 {
     let ids = texts_of(alloc, ids)?;

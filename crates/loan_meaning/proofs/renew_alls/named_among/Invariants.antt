@@ -1,5 +1,5 @@
 use Rattle.std.proofs.Common.{◌≡◌, filter, take}
-use Rattle.sip_answer.specs.Outcomes.{names_item}
+use Rattle.sip_answer.specs.Deeds.{names_item}
 use Rattle.loan_meaning.proofs.renew_alls.named_among.Given as goal
 
 -- those so far that are named

@@ -1,24 +1,24 @@
 ghost use Rattle.std.specs.Prelude.{◌≡◌, ◌++◌, ◌∷◌, [], IfOk, OnOk, OnErr, length, map};
 ghost use Rattle.std.specs.List.{list_any};
 ghost use Rattle.std.specs.Str.{bytes_eq};
-ghost use Rattle.sip_answer.specs.Outcomes.{names_item};
+ghost use Rattle.sip_answer.specs.Deeds.{names_item};
 
 use sip_reader::Id;
 use std::alloc::{AllocError, Global};
 use std::marker::Model;
 
 /// The texts by which a response names items, in order, whatever bytes they have.
-pub struct ItemTexts {
+pub struct NamedItems {
     texts: Vec<Vec<u8>>,
 }
 
-impl Drop for ItemTexts {
+impl Drop for NamedItems {
     fn drop(self) {
-        let ItemTexts { texts: _ } = self;
+        let NamedItems { texts: _ } = self;
     }
 }
 
-impl Model for ItemTexts {
+impl Model for NamedItems {
     ghost use Rattle.std.specs.Prelude.{ℕ, List, map};
 
     ghost Value = { List (List ℕ) };
@@ -26,12 +26,12 @@ impl Model for ItemTexts {
     ghost view = { λ i. map (λ t. t.items) i.texts.items };
 }
 
-impl ItemTexts {
+impl NamedItems {
     /// No texts.
-    pub fn new(alloc: Global) -> ItemTexts
+    pub fn new(alloc: Global) -> NamedItems
         ensures { result ≡ [] }
     {
-        ItemTexts {
+        NamedItems {
             texts: Vec::new(alloc),
         }
     }

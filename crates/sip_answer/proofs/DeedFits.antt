@@ -19,12 +19,12 @@ use Rattle.sip_reader.specs.Words.{kind_of}
 use Rattle.sip_reader.specs.declared.request.Act.{Act}
 use Rattle.sip_reader.specs.declared.request.Kind.{Kind}
 use Rattle.sip_reader.specs.declared.request.Kind.TheVariants as kinds
-use Rattle.sip_answer.specs.Outcomes.{FitsOutcome, IsRealDay, checkin_outcome, is_us, loan_outcome, outcome_by, outcome_from, outcome_in, renew_all_outcome, told_day}
+use Rattle.sip_answer.specs.Deeds.{FitsDeed, IsRealDay, checkin_deed, is_us, loan_deed, deed_by, deed_from, deed_in, renew_all_deed, told_day}
 use Rattle.sip_answer.specs.Recorded.{◌>>=◌, day_in, day_of_digits, due_in, fee_in, fee_of, has_slashes, number_at, ok_of, slashed_in}
 use Rattle.sip_answer.specs.Responses.{checkin_in, fee_paid_in, hold_in, item_status_in, loan_fixed, loan_in, ok_byte, renew_all_in, renewal_byte, resend_id, response_to, response_with}
 use Rattle.sip_answer.specs.declared.field.Field.{Field}
-use Rattle.sip_answer.specs.declared.outcome.Outcome.{Outcome}
-use Rattle.sip_answer.specs.declared.outcome.Outcome.TheVariants as outcomes
+use Rattle.sip_answer.specs.declared.deed.Deed.{Deed}
+use Rattle.sip_answer.specs.declared.deed.Deed.TheVariants as deeds
 use Rattle.sip_answer.specs.declared.response.CheckinResponse.{CheckinResponse}
 use Rattle.sip_answer.specs.declared.response.HoldResponse.{HoldResponse}
 use Rattle.sip_answer.specs.declared.response.LoanResponse.{LoanResponse}
@@ -155,48 +155,48 @@ loan-read m = by (nat_lt (length m) loan_fixed) (ok_of (ok_byte m)) (fee_in (dro
     by false (Some ok) None h = tt
     by false (Some ok) (Some fee) h = (due-real (drop loan_fixed m), h)
 
-loan-fits : (f : DueForm) (r : LoanResponse) → IfSome r.due IsRealDay → IfSome r.fee (λ n. n ≤ 99999999999) → FitsOutcome (loan_outcome f r)
-unfolding loan_outcome told_day
+loan-fits : (f : DueForm) (r : LoanResponse) → IfSome r.due IsRealDay → IfSome r.fee (λ n. n ≤ 99999999999) → FitsDeed (loan_deed f r)
+unfolding loan_deed told_day
 loan-fits f r day fee = by r.ok (r.slashed && not (is_us f)) r.due day
   where
-    by : (ok b : Bool) (due : Option ℕ) → IfSome due IsRealDay → FitsOutcome (cond ok (outcomes.Lent (record { due = cond b None due; fee = r.fee; renewal = r.renewal })) outcomes.Refused)
+    by : (ok b : Bool) (due : Option ℕ) → IfSome due IsRealDay → FitsDeed (cond ok (deeds.Lent (record { due = cond b None due; fee = r.fee; renewal = r.renewal })) deeds.Refused)
     by true true due h = (tt, fee)
     by true false due h = (h, fee)
     by false b due h = tt
 
-loans-fit : (f : DueForm) (o : Option LoanResponse) → IfSome o (λ (r : LoanResponse). IfSome r.due IsRealDay × IfSome r.fee (λ n. n ≤ 99999999999)) → IfSome (option_map (loan_outcome f) o) FitsOutcome
+loans-fit : (f : DueForm) (o : Option LoanResponse) → IfSome o (λ (r : LoanResponse). IfSome r.due IsRealDay × IfSome r.fee (λ n. n ≤ 99999999999)) → IfSome (option_map (loan_deed f) o) FitsDeed
 loans-fit f None h = tt
 loans-fit f (Some r) h = loan-fits f r h.0 h.1
 
 -- ALL KINDS
 
-checkin-fits : (o : Option CheckinResponse) → IfSome (option_and_then checkin_outcome o) FitsOutcome
-unfolding checkin_outcome
+checkin-fits : (o : Option CheckinResponse) → IfSome (option_and_then checkin_deed o) FitsDeed
+unfolding checkin_deed
 checkin-fits None = tt
 checkin-fits (Some r) = by r.placed
   where
-    by : (b : Bool) → IfSome (cond b None (Some (outcomes.Said r.ok))) FitsOutcome
+    by : (b : Bool) → IfSome (cond b None (Some (deeds.Said r.ok))) FitsDeed
     by true = tt
     by false = tt
 
-renew-all-fits : (o : Option RenewAllResponse) → IfSome (option_and_then renew_all_outcome o) FitsOutcome
-unfolding renew_all_outcome
+renew-all-fits : (o : Option RenewAllResponse) → IfSome (option_and_then renew_all_deed o) FitsDeed
+unfolding renew_all_deed
 renew-all-fits None = tt
 renew-all-fits (Some r) = by (r.ok && nat_lt (length r.renewed_items) r.renewed)
   where
-    by : (b : Bool) → IfSome (cond b None (Some (outcomes.Renewed r.renewed_items))) FitsOutcome
+    by : (b : Bool) → IfSome (cond b None (Some (deeds.Renewed r.renewed_items))) FitsDeed
     by true = tt
     by false = tt
 
-hold-fits : (o : Option HoldResponse) → IfSome (option_map (λ (r : HoldResponse). outcomes.Said r.ok) o) FitsOutcome
+hold-fits : (o : Option HoldResponse) → IfSome (option_map (λ (r : HoldResponse). deeds.Said r.ok) o) FitsDeed
 hold-fits None = tt
 hold-fits (Some r) = tt
 
-said-fits : (o : Option Bool) → IfSome (option_map outcomes.Said o) FitsOutcome
+said-fits : (o : Option Bool) → IfSome (option_map deeds.Said o) FitsDeed
 said-fits None = tt
 said-fits (Some told) = tt
 
-kind-fits : (f : DueForm) (k : Kind) (m : List ℕ) → IfSome (outcome_by f k m) FitsOutcome
+kind-fits : (f : DueForm) (k : Kind) (m : List ℕ) → IfSome (deed_by f k m) FitsDeed
 kind-fits f kinds.BlockPatron m = tt
 kind-fits f kinds.Checkin m = checkin-fits (checkin_in m)
 kind-fits f kinds.Checkout m = loans-fit f (loan_in m) (loan-read m)
@@ -207,11 +207,11 @@ kind-fits f kinds.Renew m = loans-fit f (loan_in m) (loan-read m)
 kind-fits f kinds.FeePaid m = said-fits (fee_paid_in m)
 kind-fits f kinds.RenewAll m = renew-all-fits (renew_all_in m)
 
-pub outcome-fits : (form : DueForm) (act : Act) (recorded : List ℕ) → IfSome (outcome_in form act recorded) FitsOutcome
-unfolding outcome_in
-outcome-fits form act recorded = by (is_ok (response_with resend_id recorded)) (response_with (response_to (kind_of act)) recorded)
+pub deed-fits : (form : DueForm) (act : Act) (recorded : List ℕ) → IfSome (deed_in form act recorded) FitsDeed
+unfolding deed_in
+deed-fits form act recorded = by (is_ok (response_with resend_id recorded)) (response_with (response_to (kind_of act)) recorded)
   where
-    by : (b : Bool) (r : Result (List ℕ) Field) → IfSome (cond b (Some outcomes.NotTaken) (outcome_from form (kind_of act) r)) FitsOutcome
+    by : (b : Bool) (r : Result (List ℕ) Field) → IfSome (cond b (Some deeds.NotTaken) (deed_from form (kind_of act) r)) FitsDeed
     by true r = tt
     by false (Ok m) = kind-fits form (kind_of act) m
     by false (Err word) = tt

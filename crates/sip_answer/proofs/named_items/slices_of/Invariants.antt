@@ -1,5 +1,5 @@
 use Rattle.std.proofs.Common.{◌≡◌, map, take}
-use Rattle.sip_answer.proofs.item_texts.slices_of.Given as goal
+use Rattle.sip_answer.proofs.named_items.slices_of.Given as goal
 
 -- the texts so far
 abbrev pub invariant-loop-text : goal.invariant-loop-text

@@ -1,8 +1,8 @@
 use Rattle.std.proofs.Common.{sym}
 use Rattle.std.specs.Str.{bytes_eq}
-use Rattle.sip_answer.specs.Outcomes.{names_item}
+use Rattle.sip_answer.specs.Deeds.{names_item}
 use Rattle.sip_answer.proofs.ItemLists.{list_any-map}
-use Rattle.sip_answer.proofs.item_texts.ItemTexts.has.Goals as goal
+use Rattle.sip_answer.proofs.named_items.NamedItems.has.Goals as goal
 
 pub returns : goal.returns
 unfolding names_item

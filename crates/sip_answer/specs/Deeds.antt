@@ -18,8 +18,8 @@ use Rattle.sip_answer.specs.declared.answer.Answer.{Answer}
 use Rattle.sip_answer.specs.declared.answer.Answer.TheVariants as answers
 use Rattle.sip_answer.specs.declared.answer.LoanAnswer.{LoanAnswer}
 use Rattle.sip_answer.specs.declared.field.Field.{Field}
-use Rattle.sip_answer.specs.declared.outcome.Outcome.{Outcome}
-use Rattle.sip_answer.specs.declared.outcome.Outcome.TheVariants as outcomes
+use Rattle.sip_answer.specs.declared.deed.Deed.{Deed}
+use Rattle.sip_answer.specs.declared.deed.Deed.TheVariants as deeds
 use Rattle.sip_answer.specs.declared.response.CheckinResponse.{CheckinResponse}
 use Rattle.sip_answer.specs.declared.response.HoldResponse.{HoldResponse}
 use Rattle.sip_answer.specs.declared.response.LoanResponse.{LoanResponse}
@@ -27,8 +27,8 @@ use Rattle.sip_answer.specs.declared.response.RenewAllResponse.{RenewAllResponse
 
 -- A checkin that is refused with the item's place named says nothing: the item was looked at, and
 -- isn't lent.
-unfoldable pub checkin_outcome : CheckinResponse → Option Outcome
-checkin_outcome r = if r.placed then None else Some (outcomes.Said r.ok)
+unfoldable pub checkin_deed : CheckinResponse → Option Deed
+checkin_deed r = if r.placed then None else Some (deeds.Said r.ok)
 
 -- the form with slashes
 abbrev pub is_us : DueForm → Bool
@@ -41,51 +41,51 @@ is_us form.Iso = false
 unfoldable pub told_day : DueForm → LoanResponse → Option ℕ
 told_day f r = if r.slashed && not (is_us f) then None else r.due
 
-unfoldable pub loan_outcome : DueForm → LoanResponse → Outcome
-loan_outcome f r =
-    if r.ok then outcomes.Lent (record { due = told_day f r; fee = r.fee; renewal = r.renewal })
-    else outcomes.Refused
+unfoldable pub loan_deed : DueForm → LoanResponse → Deed
+loan_deed f r =
+    if r.ok then deeds.Lent (record { due = told_day f r; fee = r.fee; renewal = r.renewal })
+    else deeds.Refused
 
 -- Renewed are the items that are named, whatever ok is; nothing is said if ok is 1 and fewer are
 -- named than counted.
-unfoldable pub renew_all_outcome : RenewAllResponse → Option Outcome
-renew_all_outcome r =
+unfoldable pub renew_all_deed : RenewAllResponse → Option Deed
+renew_all_deed r =
     if r.ok && nat_lt (length r.renewed_items) r.renewed then None
-    else Some (outcomes.Renewed r.renewed_items)
+    else Some (deeds.Renewed r.renewed_items)
 
 -- what a response to a request of a kind says was done: nothing if it can't be read
-abbrev pub outcome_by : DueForm → Kind → List ℕ → Option Outcome
-outcome_by f kinds.BlockPatron m = None
-outcome_by f kinds.Checkin m = option_and_then checkin_outcome (checkin_in m)
-outcome_by f kinds.Checkout m = option_map (loan_outcome f) (loan_in m)
-outcome_by f kinds.Hold m = option_map (λ (r : HoldResponse). outcomes.Said r.ok) (hold_in m)
-outcome_by f kinds.ItemStatus m = option_map outcomes.Said (item_status_in m)
-outcome_by f kinds.PatronEnable m = None
-outcome_by f kinds.Renew m = option_map (loan_outcome f) (loan_in m)
-outcome_by f kinds.FeePaid m = option_map outcomes.Said (fee_paid_in m)
-outcome_by f kinds.RenewAll m = option_and_then renew_all_outcome (renew_all_in m)
+abbrev pub deed_by : DueForm → Kind → List ℕ → Option Deed
+deed_by f kinds.BlockPatron m = None
+deed_by f kinds.Checkin m = option_and_then checkin_deed (checkin_in m)
+deed_by f kinds.Checkout m = option_map (loan_deed f) (loan_in m)
+deed_by f kinds.Hold m = option_map (λ (r : HoldResponse). deeds.Said r.ok) (hold_in m)
+deed_by f kinds.ItemStatus m = option_map deeds.Said (item_status_in m)
+deed_by f kinds.PatronEnable m = None
+deed_by f kinds.Renew m = option_map (loan_deed f) (loan_in m)
+deed_by f kinds.FeePaid m = option_map deeds.Said (fee_paid_in m)
+deed_by f kinds.RenewAll m = option_and_then renew_all_deed (renew_all_in m)
 
 -- nothing if there is no response of the right kind
-abbrev pub outcome_from : DueForm → Kind → Result (List ℕ) Field → Option Outcome
-outcome_from f kind (Err word) = None
-outcome_from f kind (Ok m) = outcome_by f kind m
+abbrev pub deed_from : DueForm → Kind → Result (List ℕ) Field → Option Deed
+deed_from f kind (Err word) = None
+deed_from f kind (Ok m) = deed_by f kind m
 
 -- What a recorded response says was done (the profile of this project): a server that asks for the
 -- message again has done nothing.
-unfoldable pub outcome_in : DueForm → Act → List ℕ → Option Outcome
-outcome_in f act recorded =
-    if is_ok (response_with resend_id recorded) then Some outcomes.NotTaken
-    else outcome_from f (kind_of act) (response_with (response_to (kind_of act)) recorded)
+unfoldable pub deed_in : DueForm → Act → List ℕ → Option Deed
+deed_in f act recorded =
+    if is_ok (response_with resend_id recorded) then Some deeds.NotTaken
+    else deed_from f (kind_of act) (response_with (response_to (kind_of act)) recorded)
 
--- What the types of an outcome's parts promise: a due day is a real day of the years 1900 to 9999,
+-- What the types of a deed's parts promise: a due day is a real day of the years 1900 to 9999,
 -- and a fee is an amount.
 abbrev pub IsRealDay : ℕ → Type 0
 IsRealDay n = (year : ℕ) × (month : ℕ) × (day : ℕ) × (day_at year month day ≡ Some n)
 
-abbrev pub FitsOutcome : Outcome → Type 0
-FitsOutcome (outcomes.Lent told) =
+abbrev pub FitsDeed : Deed → Type 0
+FitsDeed (deeds.Lent told) =
     IfSome told.due IsRealDay × IfSome told.fee (λ fee. fee ≤ AMOUNT_MAX)
-FitsOutcome _ = Unit {0}
+FitsDeed _ = Unit {0}
 
 -- it has a due day, and that one if one is named
 abbrev pub is_told_day : Option ℕ → Option ℕ → Bool
@@ -94,21 +94,21 @@ is_told_day (Some day) None = true
 is_told_day (Some day) (Some told) = day == told
 
 -- a loan or a renewal is refused, or granted with the day and the rental that are named
-abbrev pub loan_agrees : LoanAnswer → Outcome → Bool
-loan_agrees a outcomes.Refused = not (is_some a.due)
-loan_agrees a (outcomes.Lent told) = is_told_day a.due told.due && is_same_fee a.rental told.fee
+abbrev pub loan_agrees : LoanAnswer → Deed → Bool
+loan_agrees a deeds.Refused = not (is_some a.due)
+loan_agrees a (deeds.Lent told) = is_told_day a.due told.due && is_same_fee a.rental told.fee
 loan_agrees a _ = false
 
--- An answer agrees with an outcome if it has all that the outcome says (the profile of this
+-- An answer agrees with a deed if it has all that the deed says (the profile of this
 -- project).
-abbrev pub agrees : Answer → Outcome → Bool
-agrees (answers.Checkin a) (outcomes.Said told) = is_same (is_some a.known) told
-agrees (answers.Checkout a) outcome = loan_agrees a outcome
-agrees (answers.Hold a) (outcomes.Said told) = is_same a.ok told
-agrees (answers.ItemStatus a) (outcomes.Said told) = is_same (is_some a.known) told
-agrees (answers.Renew a) outcome = loan_agrees a outcome
-agrees (answers.FeePaid a) (outcomes.Said told) = is_same a.accepted told
-agrees (answers.RenewAll a) (outcomes.Renewed items) = are_same_items a.renewed items
+abbrev pub agrees : Answer → Deed → Bool
+agrees (answers.Checkin a) (deeds.Said told) = is_same (is_some a.known) told
+agrees (answers.Checkout a) deed = loan_agrees a deed
+agrees (answers.Hold a) (deeds.Said told) = is_same a.ok told
+agrees (answers.ItemStatus a) (deeds.Said told) = is_same (is_some a.known) told
+agrees (answers.Renew a) deed = loan_agrees a deed
+agrees (answers.FeePaid a) (deeds.Said told) = is_same a.accepted told
+agrees (answers.RenewAll a) (deeds.Renewed items) = are_same_items a.renewed items
 agrees _ _ = false
 
 -- some text has just the id's bytes

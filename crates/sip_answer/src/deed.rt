@@ -1,10 +1,10 @@
 //! What a recorded response says was done.
 
-use crate::item_texts::ItemTexts;
+use crate::named_items::NamedItems;
 use sip_reader::{Amount, Day};
 
 /// What a recorded response says was done, beside what the rules say. A line by the rules alone has none.
-pub enum Outcome {
+pub enum Deed {
     /// Response 96: the message was asked for again, so nothing was done.
     NotTaken,
     /// Responses 10, 16, 20 and 38: whether what was asked for was done.
@@ -14,17 +14,17 @@ pub enum Outcome {
     /// Responses 12 and 30 whose ok is 1.
     Lent(ToldLoan),
     /// Response 66: the items that it names as renewed.
-    Renewed(ItemTexts),
+    Renewed(NamedItems),
 }
 
-impl Drop for Outcome {
+impl Drop for Deed {
     fn drop(self) {
         match self {
-            Outcome::NotTaken => {}
-            Outcome::Said(_) => {}
-            Outcome::Refused => {}
-            Outcome::Lent(_) => {}
-            Outcome::Renewed(_) => {}
+            Deed::NotTaken => {}
+            Deed::Said(_) => {}
+            Deed::Refused => {}
+            Deed::Lent(_) => {}
+            Deed::Renewed(_) => {}
         }
     }
 }

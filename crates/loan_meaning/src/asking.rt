@@ -24,7 +24,11 @@ pub fn ask_checkout(request: &Checkout) -> Result<LoanRequest, AllocError>
         forced: request.no_block || request.cancel,
         given: request.due,
         agreed: request.agreed,
-        price: if request.cancel { Some(nothing()) } else { None },
+        price: if request.cancel {
+            Some(nothing())
+        } else {
+            None
+        },
         checkout: true,
     })
 }

@@ -9,8 +9,8 @@ ghost use Rattle.read_set.specs.Stops.{Follows};
 use circ_policy::Policy;
 use circ_records::{Hold, Holds, Item, Key, QUEUE_MAX, Record, Shared};
 use loan_meaning::{
-    LineContext, has_lent_to, has_loan, has_queue, is_first_another, item_of, patron_of, position, waits,
-    with_pickup, without_hold,
+    LineContext, has_lent_to, has_loan, has_queue, is_first_another, item_of, patron_of, position,
+    waits, with_pickup, without_hold,
 };
 use read_set::{Article, Effect, Member, Source, Stop, Writes};
 use sip_answer::{Answer, HoldAnswer, QueuePosition};

@@ -10,7 +10,7 @@ use crate::holds::hold;
 use crate::lines::follow_rules;
 use loan_meaning::{LineContext, check_out_told, renew_all, renew_item_told};
 use read_set::{Effect, Source, Stop};
-use sip_answer::{Answer, NamedItems, Deed, ToldLoan, agrees};
+use sip_answer::{Answer, Deed, NamedItems, ToldLoan, agrees};
 use sip_reader::Act;
 use std::alloc::{AllocError, Global};
 
@@ -48,11 +48,7 @@ fn follow_up<S: Source>(
     Ok(answering(ruled.answer, done))
 }
 
-fn agrees_with(
-    alloc: Global,
-    answer: &Option<Answer>,
-    deed: &Deed,
-) -> Result<bool, AllocError>
+fn agrees_with(alloc: Global, answer: &Option<Answer>, deed: &Deed) -> Result<bool, AllocError>
     ensures { IfOk result (λ b. b ≡ agrees_with answer.now deed.now) }
 {
     match answer {

@@ -21,7 +21,6 @@ take-next [] i x e = cc e
 take-next (y ∷ ys) zero x e = let same : y ≡ x = cc e in ap (λ z. z ∷ []) (sym same)
 take-next (y ∷ ys) (suc i) x e = ap (λ zs. y ∷ zs) (take-next ys i x e)
 
-
 -- what the response of the line at a position says
 told-at : (form : DueForm) (lines : List Entry) (i : ℕ) (line : Entry) → slice_get lines i ≡ Some line
     → slice_get (map (λ (x : Entry). deed_read form (Some (reading x.request)) x.response) lines) i ≡ Some (deed_read form (slice_get (map reading_at (readings_of lines)) i) line.response)

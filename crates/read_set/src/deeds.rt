@@ -8,9 +8,9 @@ ghost use Rattle.read_set.specs.Plans.{deed_read, deeds_of};
 ghost use Rattle.read_set.specs.declared.way.Way.TheVariants as ways;
 ghost use Rattle.sip_answer.specs.Deeds.{FitsDeed};
 
+use crate::way::Way;
 use circ_policy::DueForm;
 use journal_table::{Journal, Readings};
-use crate::way::Way;
 use sip_answer::{Deed, deed_of};
 use sip_reader::Reading;
 use std::alloc::{AllocError, Global};

@@ -4,6 +4,7 @@
 //! `message_meaning`, which have the rules in code, use it.
 #![tactic(auto)]
 
+mod deeds;
 mod effect;
 mod found;
 mod known;
@@ -11,7 +12,6 @@ mod laws;
 mod names;
 mod notes;
 mod noting;
-mod deeds;
 mod plan;
 mod progress;
 mod sorted;
@@ -20,6 +20,7 @@ mod verdict;
 mod version;
 mod way;
 
+pub use deeds::Deeds;
 pub use effect::{Draft, Effect, Writes};
 pub use found::NotedRecord;
 pub use known::{Article, Member, known_fee, known_item, known_patron};
@@ -27,7 +28,6 @@ pub use laws::{meaning_keeps_coherence, read_plans_stay_coherent, replay_keeps_c
 pub use names::named_by;
 pub use notes::{Name, Note, Notes};
 pub use noting::{NotesName, NotesSource, RecordReader, RecordingSource};
-pub use deeds::Deeds;
 pub use plan::{Plan, PlanName};
 pub use progress::{Payments, Renewals};
 pub use sorted::found_in;

@@ -4,12 +4,12 @@
 
 mod answer;
 mod comparing;
-mod field;
-mod item_ids;
-mod named_items;
-mod laws;
 mod deed;
 mod deeds;
+mod field;
+mod item_ids;
+mod laws;
+mod named_items;
 mod owed;
 mod recorded;
 mod response;
@@ -21,11 +21,11 @@ pub use answer::{
     TitledItem,
 };
 pub use comparing::{differences, is_own_text};
-pub use field::Field;
-pub use item_ids::ItemIds;
-pub use named_items::NamedItems;
-pub use laws::{agrees_as_recorded, own_text_agrees};
 pub use deed::{Deed, ToldLoan};
 pub use deeds::{agrees, deed_of};
+pub use field::Field;
+pub use item_ids::ItemIds;
+pub use laws::{agrees_as_recorded, own_text_agrees};
+pub use named_items::NamedItems;
 pub use owed::Owed;
 pub use writing::{put_answer, write_answer};

@@ -18,13 +18,14 @@ loop-place-preserved c =
     let deed : Option Deed = c.in_ok-deed.deed in
     let after = c.in_ok-push.ensures.items in
     let same : suc place ≡ place + 1 = omega arith in
-    rw (after, ← same)
-    (all-more HasFitDeed before deed c.loop-place.invariant.0 c.in_ok-deed.ensures.fits,
-    rw (← c.lines-lines.ensures.lines)
-    (told-next c.args.form lines c.args.readings.now before place line deed
-    (slice_get-get_or lines place line c.loop-place-test.true ∙ ap (λ x. Some x) (sym c.index-lines-place.is))
-    (c.in_ok-deed.ensures.value ∙ ap (λ o. deed_read c.args.form o c.parts.result.response.now) c.get.ensures ∙ ap (λ r. deed_read c.args.form (slice_get (map reading_at c.args.readings.now) place) r) c.parts.ensures.response)
-    (rw c.lines-lines.ensures.lines c.loop-place.invariant.1)))
+    rw (after, ← same) (
+      all-more HasFitDeed before deed c.loop-place.invariant.0 c.in_ok-deed.ensures.fits,
+      rw (← c.lines-lines.ensures.lines)
+          (told-next c.args.form lines c.args.readings.now before place line deed
+          (slice_get-get_or lines place line c.loop-place-test.true ∙ ap (λ x. Some x) (sym c.index-lines-place.is))
+          (c.in_ok-deed.ensures.value ∙ ap (λ o. deed_read c.args.form o c.parts.result.response.now) c.get.ensures ∙ ap (λ r. deed_read c.args.form (slice_get (map reading_at c.args.readings.now) place) r) c.parts.ensures.response)
+          (rw c.lines-lines.ensures.lines c.loop-place.invariant.1)),
+    )
 
 pub returns : goal.returns
 returns c = λ same.

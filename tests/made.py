@@ -6,6 +6,7 @@ sys.dont_write_bytecode = True
 sys.path.insert(0, os.path.join(os.path.dirname(os.path.abspath(__file__)), 'model'))
 
 import model
+import recorded
 
 POLICY = '''institution = "L1"
 currency = "USD"
@@ -57,10 +58,12 @@ def records_of(rows):
     return model.Records(model.Policy(POLICY), {table: rows.get(table, []) for table in model.TABLES})
 
 
-def write_replayed(journal, **rows):
+def write_replayed(journal, as_recorded=False, **rows):
     """Writes the inputs with these rows of the journal, and what a replay gives."""
     write_inputs(model.text_of('journal', journal), **rows)
-    files, line = model.replay(records_of(rows), journal)
+    if as_recorded:
+        model.write('words', '--as-recorded\n')
+    files, line = model.replay(records_of(rows), journal, recorded.answer_of if as_recorded else model.by_rules)
     os.mkdir('expected')
     for name, text in files.items():
         model.write(f'expected/{name}', text)

@@ -173,15 +173,22 @@ def carry_out(records, line, request, outcome):
     return True
 
 
+def judge(records, line, request, recorded):
+    """The rules' answer to a request, and what is carried out in its place: an outcome that it
+    doesn't agree with, else None. The records stay."""
+    outcome = outcome_of(records.policy, request, recorded)
+    kept = Kept(records, line, request)
+    answer = records.answer(line, request)
+    kept.put_back()
+    return answer, None if outcome is None or agrees(answer, outcome) else outcome
+
+
 def come_of(records, line, request, recorded):
     """Does what the response to a request says was done, else what the rules say. Returns the
     rules' answer, and what came of the line: 'ruled', 'told' or 'not'."""
-    outcome = outcome_of(records.policy, request, recorded)
-    kept = outcome and Kept(records, line, request)
-    answer = records.answer(line, request)
-    if outcome is None or agrees(answer, outcome):
-        return answer, "ruled"
-    kept.put_back()
+    answer, outcome = judge(records, line, request, recorded)
+    if outcome is None:
+        return records.answer(line, request), "ruled"
     return answer, "told" if carry_out(records, line, request, outcome) else "not"
 
 

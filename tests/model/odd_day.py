@@ -30,16 +30,27 @@ class OddDay(day.Day):
         return "P99999" if self.random.random() < 0.04 else self.borrower()
 
     def something(self, patron):
-        """An item on loan to this patron or to another, on its shelf, waited for or unknown."""
+        """An item on loan to this patron or to another, on its shelf, waited for, one that has a
+        rental, or an unknown one."""
         kind = self.random.random()
         loans = self.records.patrons[patron].loans if patron in self.records.patrons else ()
         if kind < 0.05:
             return "I99999"
         if kind < 0.4 and loans:
             return self.random.choice(loans)
-        if kind < 0.55:
+        if kind < 0.5:
             return self.wanted_item(self.flag() == "Y") or self.item(True)
-        return self.item(kind < 0.75)
+        if kind < 0.7:
+            return self.rented()
+        return self.item(kind < 0.8)
+
+    def rented(self):
+        """An item that has a rental, if one is met soon."""
+        for _ in range(20):
+            id = self.random.choice(self.items)
+            if self.policy.media[self.records.items[id].media]["rental"]:
+                break
+        return id
 
     def due(self):
         """What stands for an nb due date: no date, one, or what isn't one."""
@@ -49,15 +60,15 @@ class OddDay(day.Day):
     def lend_oddly(self, _connection):
         for _ in range(self.random.randint(1, 3)):
             patron = self.someone()
-            flags, item = self.flag() + self.flag(0.2), self.something(patron)
-            more = self.said("BO") + (self.said("BI") if self.random.random() < 0.3 else "")
+            flags, item = self.flag() + self.flag(0.3), self.something(patron)
+            more = self.said("BO") + (self.said("BI") if self.random.random() < 0.4 else "")
             yield f"11{flags}{self.date()}{self.due()}AORIVERSIDE|AA{patron}|AB{item}|{more}"
 
     def renew_oddly(self, _connection):
         for _ in range(self.random.randint(1, 3)):
             patron = self.someone()
-            flags, item = self.flag() + self.flag(0.2), self.something(patron)
-            more = self.said("BO") + (self.said("BI") if self.random.random() < 0.2 else "")
+            flags, item = self.flag() + self.flag(0.3), self.something(patron)
+            more = self.said("BO") + (self.said("BI") if self.random.random() < 0.3 else "")
             yield f"29{flags}{self.date()}{self.due()}AORIVERSIDE|AA{patron}|AB{item}|{more}"
 
     def ask_oddly(self, _connection):
@@ -143,15 +154,17 @@ class Teller:
             told.fixed[0] = "Y"
 
     def tell_12(self, told, request):
-        if self.happens(0.45):
+        """One or more of ok, renewal ok, the due day and the rental are told otherwise."""
+        some = [it for it in ("ok", "renewal", "due", "fee") if self.happens(0.35)]
+        if "ok" in some:
             told.flip(0, "10")
-        if self.happens(0.3):
+        if "renewal" in some or not some:
             told.flip(1, "YN")
-        if told.fixed[0] == "1" and self.happens(0.8):
+        if told.fixed[0] == "1" and ("due" in some or "ok" in some and self.happens(0.8)):
             told.put("AH", *self.due(request))
-        if self.happens(0.4):
+        if "fee" in some:
             told.put("BV", *self.random.choice(((), ("",), ("0",), ("1.50",), ("0.5",), ("", "2"))))
-        if self.happens(0.03):
+        if self.happens(0.05):
             told.put("BV", "1,5")
         if self.happens(0.03):
             told.fixed[0] = "Y"

@@ -4,10 +4,16 @@ The requests are those of day.py and some that a desk seldom sends; the response
 rules' answers in each way that a replay as recorded distinguishes, and in some that it must not.
 """
 
+import os
 import random
 
 import day
 import model
+import recorded
+
+EXAMPLE = os.path.join(os.path.dirname(os.path.abspath(__file__)), "../../examples/library-day")
+DAY, PATRONS, ITEMS, LINES = model.day_of("20260307"), 60, 150, 260
+FORMS = ("sip", "us", "iso")
 
 # of the responses: as the rules answer; asked for again; missing, cut short or of another kind
 AS_RULED, AGAIN, UNREAD = 0.6, 0.06, 0.05
@@ -224,3 +230,43 @@ class Teller:
             told.flip(0, "10")
         if self.happens(0.03):
             told.fixed[4] = "x"
+
+
+# ---------------------------------------------------------------- a day as files
+
+
+def way_of(outcome):
+    """What an outcome says, in a word."""
+    if outcome is None:
+        return "none"
+    if isinstance(outcome, recorded.NotTaken):
+        return "again"
+    if isinstance(outcome, recorded.Said):
+        return "yes" if outcome.yes else "no"
+    return "no" if isinstance(outcome, recorded.Refused) else "yes"
+
+
+def made_day(folder, seed, met):
+    """Writes the inputs of a day. Counts in met what responses say of which request, and what comes
+    of it. Returns the policy, the rows of the tables and of the journal."""
+    text = model.read(f"{EXAMPLE}/policy.toml").replace('"sip"', f'"{FORMS[seed % 3]}"')
+    library = day.Library(model.Policy(text), DAY, PATRONS, ITEMS, f"odd {seed}")
+    records, journal = model.Records(library.policy, library.rows), []
+    teller = Teller(records, seed)
+    requests = OddDay(library, records, f"odd {seed}", LINES, LINES).requests()
+    for line, (connection, asked) in enumerate(requests, 1):
+        request, told = model.read_request(asked), ""
+        if isinstance(request, model.Request):
+            told = teller.response(request, recorded.judge(records, line, request, "")[0])
+            outcome = recorded.outcome_of(records.policy, request, told)
+            came = recorded.come_of(records, line, request, told)[1]
+            met[f"{request.kind} {way_of(outcome)} {came}"] += 1
+        elif request[0] == "resend":
+            told = teller.random.choice(("96AZFEF6", "96AZFEF6", "", "121NUY"))
+        journal.append((str(line), connection, asked, told))
+    os.makedirs(f"{folder}/base")
+    model.write(f"{folder}/policy.toml", text)
+    for table, rows in library.rows.items():
+        model.write(f"{folder}/base/{table}.csv", model.text_of(table, rows))
+    model.write(f"{folder}/journal.csv", model.text_of("journal", journal))
+    return library.policy, library.rows, journal

@@ -15,8 +15,10 @@ EXAMPLE = os.path.join(os.path.dirname(os.path.abspath(__file__)), "../../exampl
 DAY, PATRONS, ITEMS, LINES = model.day_of("20260307"), 60, 150, 260
 FORMS = ("sip", "us", "iso")
 
-# of the responses: as the rules answer; asked for again; missing, cut short or of another kind
-AS_RULED, AGAIN, UNREAD = 0.6, 0.06, 0.05
+# of the responses: as the rules answer; asked for again; missing, cut short or of another kind;
+# with a byte or more that is another
+AS_RULED, AGAIN, UNREAD, DAMAGED = 0.55, 0.06, 0.05, 0.06
+BYTES = '|01YN /-.,96ABMQHV"\r\n\x00\xff'
 NOT_A_DATE = "20260231    101500"
 
 
@@ -140,6 +142,8 @@ class Teller:
             return self.random.choice(("96AZFEF6", "96", "96AZ0000\r"))
         if kind < AS_RULED + AGAIN + UNREAD:
             return self.unread(bare)
+        if kind < AS_RULED + AGAIN + UNREAD + DAMAGED:
+            return self.damaged(answer)
         told = Response(bare)
         getattr(self, f"tell_{told.kind}")(told, request)
         text = told.text() + (f"AY{sequence}AZ" if sequence else "")
@@ -148,6 +152,18 @@ class Teller:
     def unread(self, bare):
         other = "12" if bare[:2] != "12" else "30"
         return self.random.choice(("", "\r\n", bare[:2], bare[:12], other + bare[2:], "9", "98YY"))
+
+    def damaged(self, text):
+        """A text in which some bytes are others, are lacking or have come in."""
+        for _ in range(self.random.choice((1, 1, 2, 5))):
+            at = self.random.randrange(self.random.choice((4, len(text))))
+            width = self.random.choice((0, 1, 1, 2))
+            text = (
+                text[:at]
+                + self.random.choice(BYTES) * self.random.randrange(2)
+                + text[at + width :]
+            )
+        return text
 
     # ------------------------------------------------------------ how each kind of response differs
 

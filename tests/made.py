@@ -78,7 +78,8 @@ def write_run(records, journal, as_recorded):
     """Writes what a replay on these records gives, and the words that it takes."""
     if as_recorded:
         model.write('words', '--as-recorded\n')
-    files, line = model.replay(records, journal, recorded.answer_of if as_recorded else model.by_rules)
+    way = recorded.answer_of if as_recorded else model.by_rules
+    files, line = model.replay(records, journal, way)
     os.mkdir('expected')
     for name, text in files.items():
         model.write(f'expected/{name}', text)

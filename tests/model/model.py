@@ -217,7 +217,8 @@ class Fee:
 
 
 class Terms:
-    """How a loan or a renewal is made: whether it is forced, the due day that is given for it, and its price, if that isn't the rental."""
+    """How a loan or a renewal is made: whether it is forced, the due day that is given for it, and
+    its price, if that isn't the rental."""
 
     def __init__(self, forced, given, price=None):
         self.forced, self.given, self.price = forced, given, price
@@ -289,7 +290,7 @@ class Records:
         return self.loan_text('12', request, item, *self.check_out(line, request, terms, again))
 
     def check_out(self, line, request, terms, again):
-        """Whether the loan was made, whether by a renewal, and the rental that was charged or refused."""
+        """Whether the loan was made, whether by a renewal, and the rental charged or refused."""
         patron, item = self.patrons.get(request.patron), self.items.get(request.item)
         if patron is None or item is None:
             return False, False, None
@@ -310,7 +311,8 @@ class Records:
             if hold[0] == request.patron:
                 del item.holds[place]
                 break
-        item.borrower, item.due, item.renewals = request.patron, self.due_day(request, item, terms), 0
+        item.borrower, item.renewals = request.patron, 0
+        item.due = self.due_day(request, item, terms)
         patron.loans.append(request.item)
         return True, False, self.charge_rental(line, request, item, terms, 0)
 
@@ -341,7 +343,8 @@ class Records:
                 return False, None
             if rental > 0 and not request.says('BO'):
                 return False, rental
-        item.due, item.renewals = self.due_day(request, item, terms), min(item.renewals + 1, MAX_RENEWALS)
+        item.due = self.due_day(request, item, terms)
+        item.renewals = min(item.renewals + 1, MAX_RENEWALS)
         return True, self.charge_rental(line, request, item, terms, made)
 
     def do_29(self, line, request):
@@ -398,8 +401,9 @@ class Records:
         places = [place for place, hold in enumerate(queue) if hold[0] == request.patron]
         ok = patron is not None and item is not None and bool(places)
         if mode == '+':
-            ok = (patron is not None and item is not None and not places and (forced or not patron.blocked)
-                  and item.borrower != request.patron and len(queue) < 9999)
+            ok = (patron is not None and item is not None and not places
+                  and (forced or not patron.blocked) and item.borrower != request.patron
+                  and len(queue) < 9999)
             if ok:
                 queue.append([request.patron, request.fields.get('BS', '')])
                 places = [len(queue) - 1]

@@ -1,8 +1,8 @@
-"""A replay as recorded: what a readable recorded response says was done is carried out, in plain Python.
+"""A replay as recorded: what a readable response says was done is carried out, in plain Python.
 
-It was written from the definition of --as-recorded, beside model.py, which has the rules, and shares
-nothing with the proved program. The answers stay those of the rules; each is judged on the records
-that the lines before it left.
+It was written from the definition of --as-recorded, beside model.py, which has the rules, and
+shares nothing with the proved program. The answers stay those of the rules; each is judged on the
+records that the lines before it left.
 """
 
 import copy
@@ -10,7 +10,7 @@ from dataclasses import dataclass
 
 import model
 
-# of each request the response that answers it, if that says what was done; 24 and 26 say nothing of it
+# of each request the response that answers it, if that says what was done; 24 and 26 don't
 RESPONSES = {"09": "10", "11": "12", "15": "16", "19": "20", "29": "30", "37": "38", "65": "66"}
 
 
@@ -128,8 +128,8 @@ class Kept:
 
 
 def price(request, fee):
-    """The price that was told, or None, which is the rental, if the patron agreed to it untold; else
-    nothing is charged."""
+    """The price that was told; if none was, the rental (None) if the patron agreed to it, else
+    nothing."""
     agreed = request.says("BO") and not (request.kind == "11" and request.says("BI"))
     return fee if fee is not None else None if agreed else 0
 

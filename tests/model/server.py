@@ -65,7 +65,7 @@ class Server:
         }
         self.names = {row[0]: row[1] for row in tables["patrons"]}
         self.things = {row[0]: list(row[1:]) for row in tables["items"]}
-        # of each item on loan: its patron, due day, renewals, and whether a renewal of all set the day
+        # of each item on loan: patron, due day, renewals, and whether a renewal of all set the day
         self.loans = {
             row[1]: [row[0], day_at(row[2]), int(row[3]), False] for row in tables["loans"]
         }
@@ -156,8 +156,8 @@ class Server:
     def loan_told(self, asked, is_done, is_renewal, due, cost):
         """The response to a checkout or a renewal; the rental is told, 0 too, or never."""
         kind = {"11": "12", "29": "30"}[asked.kind]
-        text = f"{kind}{'01'[is_done]}{'NY'[is_renewal]}U{'NY'[is_done]}{asked.date}AO|AA{asked.patron}|"
-        text += f"AB{asked.item}|AJ|AH{self.day_told(due) if due else ''}|"
+        text = f"{kind}{'01'[is_done]}{'NY'[is_renewal]}U{'NY'[is_done]}{asked.date}AO|"
+        text += f"AA{asked.patron}|AB{asked.item}|AJ|AH{self.day_told(due) if due else ''}|"
         if cost is not None and self.tells_rentals:
             text += f"BT06|BHUSD|BV{money(cost)}|"
         return text
@@ -299,7 +299,7 @@ class Server:
         return f"20{'N1'[done]}{asked.date}AB{asked.item}|"
 
     def on_37(self, _line, asked):
-        """A payment of the fee that is named, else of the oldest ones; only where something is owed."""
+        """A payment of the fee that is named, else of the oldest ones, if something is owed."""
         fees, left = self.owing.get(asked.patron, []), cents(asked.fields["BV"])
         done = bool(fees) and asked.rest[4:7] == "USD" and left > 0
         named = [fee for fee in fees if fee[0] == asked.fields.get("CG")]
@@ -323,4 +323,5 @@ class Server:
         if there:
             self.cards[asked.patron]["blocked"] = blocked
         mark = "Y" if blocked or not there else " "
-        return f"{kind}{mark}{mark} {mark}{' ' * 10}000{asked.date}AO|AA{asked.patron}|AE|BL{'NY'[there]}|"
+        status = f"{mark}{mark} {mark}{' ' * 10}"
+        return f"{kind}{status}000{asked.date}AO|AA{asked.patron}|AE|BL{'NY'[there]}|"

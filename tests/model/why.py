@@ -1,6 +1,7 @@
 """Why each line is answered as it is, and since when each record that it read was so: reasons and origins once more, in plain Python.
 
-It was written from docs/RULES.md, and says what ./sip_why has to print for a journal; as recorded also what came of each line.
+It was written from docs/RULES.md, and says what ./sip_why has to print for a journal; as recorded
+also what came of each line.
 """
 import model
 import recorded
@@ -12,7 +13,8 @@ class Tracing:
     """Records with the number of the line that wrote each last, and what the line in hand reads and writes."""
 
     def __init__(self, records, as_recorded=False):
-        self.records, self.policy, self.writers, self.as_recorded = records, records.policy, {}, as_recorded
+        self.records, self.policy, self.writers = records, records.policy, {}
+        self.as_recorded = as_recorded
         self.read, self.written = {}, []
 
     def has(self, kind, id):
@@ -88,7 +90,7 @@ class Tracing:
         return self.policy.media[item.media]['rental']
 
     def note_loan(self, line, request, item, word, price):
-        """Of a loan or a renewal that is made the records of both patrons are written, or the item's alone."""
+        """Of a loan the item and both patrons are written, of a renewal the item alone."""
         if word == 'made':
             self.written += [('patron', request.patron), ('item', request.item)]
             if item.borrower not in (None, request.patron):
@@ -216,10 +218,10 @@ class Tracing:
             self.written.append(('item', request.item))
         return 'done'
 
-    # ------------------------------------------------------------ as recorded: what is carried out in place of the rules' answer
+    # ------------------------------------------------------------ as recorded: what is carried out
 
     def carry(self, line, request, outcome):
-        """Notes what an outcome reads beside what the answer read, and what it writes in its place."""
+        """Notes what an outcome reads beside what the answer read, and what it writes instead."""
         self.written = []
         if isinstance(outcome, recorded.Lent):
             self.carry_loan(line, request, outcome)
@@ -351,7 +353,8 @@ def why(records, journal, wanted=None, as_recorded=False):
         if isinstance(request, model.Request):
             told = tracing.rows(int(number), request, response)
         else:
-            told = [(number, 'checksum', '', '', '', '', *('ruled' for _ in last))] if request[0] == 'resend' else []
+            row = (number, 'checksum', '', '', '', '', *('ruled' for _ in last))
+            told = [row] if request[0] == 'resend' else []
         if wanted is None or int(number) in wanted:
             rows += told
     return ''.join(','.join(map(model.quoted, row)) + '\n' for row in [HEADER + last, *rows])

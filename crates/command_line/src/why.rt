@@ -2,7 +2,9 @@
 //! clap's definition doesn't say what words mean: so it isn't proved here, only that the two options of changes go together.
 ghost use Rattle.std.specs.Prelude.{◌≡◌, IfOk, None, is_some};
 
-use crate::parts::{Chosen, flag, free_text, program, read, repeated, text_if_given, text_of, texts_of};
+use crate::parts::{
+    Chosen, flag, free_text, program, read, repeated, text_if_given, text_of, texts_of,
+};
 use crate::refusal::Refusal;
 use clap::{ArgMatches, Command};
 use std::alloc::{AllocError, Global};
@@ -32,7 +34,8 @@ wrote for these files; needed by --changes";
 const TEST_HELP: &str = "A folder that gets a test case for each line of --report
 and --line, in a folder named by the line's number";
 
-const AS_RECORDED_HELP: &str = "Explains a run of sip_replay --as-recorded; the table gets a last column, carried:
+const AS_RECORDED_HELP: &str =
+    "Explains a run of sip_replay --as-recorded; the table gets a last column, carried:
 what came of the line (ruled, told, not)";
 
 const AFTER_HELP: &str = "Example:

@@ -69,7 +69,8 @@ pub fn charge_of(asked: &LoanContext<'_>, media: &Media) -> Amount
     asked.request.price.unwrap_or(media.rental)
 }
 
-/// The loan or the renewal as a response told it: it isn't refused, and has the day and the fee that were told.
+/// The loan or the renewal as a response says it was made: it isn't refused, and has the day and
+/// the fee that the response names.
 pub fn as_told(asked: LoanRequest, told: &ToldLoan) -> LoanRequest
     ensures { result ≡ as_told asked told.now }
 {

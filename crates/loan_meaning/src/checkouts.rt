@@ -251,7 +251,7 @@ pub fn check_out<S: Source>(
     lend_known(&asked, request.renewal, source)
 }
 
-/// A checkout that a response told as done.
+/// A checkout that was made, as a response says.
 #[tactic(auto, using(read_set::proofs::Gaining::gains_none))]
 pub fn check_out_told<S: Source>(
     line: &LineContext<'_>,
@@ -266,7 +266,7 @@ pub fn check_out_told<S: Source>(
     lend_known(&asked, told.renewal, source)
 }
 
-/// A renewal that a response told as done: what can't be renewed is lent.
+/// A renewal that was made, as a response says: what can't be renewed is lent.
 #[tactic(auto, using(read_set::proofs::Gaining::gains_none))]
 pub fn renew_item_told<S: Source>(
     line: &LineContext<'_>,

@@ -1,4 +1,4 @@
--- What was told, where the rule's answer doesn't agree with it.
+-- What is carried out if the rule's answer doesn't agree with it.
 use Rattle.std.proofs.Common.{◌≡◌, ℕ, List, Bool, false, cond, ap}
 use Rattle.circ_policy.specs.Terms.{Terms}
 use Rattle.sip_answer.specs.declared.deed.Deed.{Deed}

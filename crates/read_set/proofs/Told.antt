@@ -1,4 +1,4 @@
--- What is carried out as it was told keeps records coherent.
+-- What is carried out as a response says keeps records coherent.
 use Rattle.std.proofs.Common.{◌≡◌, ◌≤◌, ◌+◌, ℕ, List, Bool, true, false, cond, Option, Some, None, subst, sym, arith}
 use Rattle.std.specs.Prelude.{IfSome}
 use Rattle.circ_policy.specs.Terms.{Terms}

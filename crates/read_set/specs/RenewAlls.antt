@@ -24,8 +24,9 @@ use Rattle.read_set.specs.declared.verdict.LoanRequest.{LoanRequest}
 use Rattle.read_set.specs.declared.verdict.Verdict.{Verdict}
 use Rattle.read_set.specs.declared.verdict.Verdict.TheVariants as verdicts
 
--- Each item is asked for without a third party, by the rules never forced. Where a response named it as renewed it is, and its
--- rental is charged only if the user agreed to it, as such a response tells no fee.
+-- Each item is asked for without a third party, by the rules never forced. It is forced if a response
+-- names it as renewed, and then a rental is charged only if the user agreed to it, as such a response
+-- names no fee.
 abbrev pub by_renew_all : Bool → RenewAll → List ℕ → LoanRequest
 by_renew_all forced q item = record {
   patron = q.patron;

@@ -61,8 +61,8 @@ impl Model for Plan {
 }
 
 impl Plan {
-    /// The plan of what the requests of a journal were read as and its responses say was done, over a base that is coherent before the
-    /// first of them.
+    /// The plan of what the requests of a journal were read as and its responses say was done, over
+    /// a base that is coherent before the first of them.
     pub fn from_readings(policy: Policy, base: Records, readings: Readings, deeds: Deeds) -> Plan
         requires { Coherent policy (number_before (first_read readings)) base }
         ensures value { result ≡ plan_read policy base readings deeds }

@@ -1,12 +1,15 @@
 //! A whole run by one thread, and the output of any run whose outcome is that of one thread.
 
 ghost use Rattle.std.specs.Prelude.{◌≡◌, IfOk};
+ghost use Rattle.circ_records.specs.Coherent.{Coherent, number_before};
+ghost use Rattle.journal_table.specs.Entry.{first_number};
+ghost use Rattle.journal_table.specs.Readings.{readings_of as all_read};
 ghost use Rattle.read_set.specs.Plans.{readings_of};
 ghost use Rattle.read_set.specs.Replay.{last};
 ghost use Rattle.result_report.specs.Report.{answers_behind};
 ghost use Rattle.replay_run.specs.Answers.{answers_of};
 ghost use Rattle.replay_run.specs.Entries.{AreEntries};
-ghost use Rattle.replay_run.specs.Prepared.{IsJudgement};
+ghost use Rattle.replay_run.specs.Prepared.{IsJudgement, accepted_by, accepted_of};
 ghost use Rattle.replay_run.specs.OneThread.{IsOneThread, IsOutput, IsOutputBy, judgement, results_of};
 
 use crate::fault::Fault;
@@ -15,8 +18,8 @@ use crate::judge::{judge, judge_side_by_side};
 use crate::prepared::{Prepared, Sound};
 use crate::replay::replay;
 use crate::replay_end::ReplayEnd;
-use journal_table::{Journal, read_all, read_in_turn};
-use read_set::{Deeds, Plan};
+use journal_table::{Journal, Readings, read_all, read_in_turn};
+use read_set::{Deeds, Plan, Way};
 use record_tables::{Tables, write_records};
 use result_report::{Outcome, ResultTexts, collect, report};
 use std::alloc::{AllocError, Global};
@@ -47,17 +50,9 @@ pub fn judge_inputs(alloc: Global, inputs: &Inputs) -> Result<Prepared<'_>, Faul
     ensures fits { IfOk result (λ j. j.plan.readings ≡ readings_of j.journal) }
 {
     match judge(alloc, inputs) {
-        Ok(
-            Sound {
-                policy,
-                base,
-                journal,
-            },
-        ) => {
-            let readings = read_in_turn(alloc, &journal)?;
-            let deeds = Deeds::of(alloc, inputs.way, policy.due_form(), &journal, &readings)?;
-            let plan = Plan::from_readings(policy, base, readings, deeds);
-            Ok(Prepared { plan, journal })
+        Ok(sound) => {
+            let readings = read_in_turn(alloc, &sound.journal)?;
+            Ok(prepare(alloc, inputs.way, sound, readings)?)
         }
         Err(fault) => Err(fault),
     }
@@ -73,20 +68,33 @@ pub fn judge_parallel<'i, R: Threads + Sync>(
     ensures fits { IfOk result (λ j. j.plan.readings ≡ readings_of j.journal) }
 {
     match judge_side_by_side(rt, alloc, inputs) {
-        Ok(
-            Sound {
-                policy,
-                base,
-                journal,
-            },
-        ) => {
-            let readings = read_all(rt, alloc, &journal)?;
-            let deeds = Deeds::of(alloc, inputs.way, policy.due_form(), &journal, &readings)?;
-            let plan = Plan::from_readings(policy, base, readings, deeds);
-            Ok(Prepared { plan, journal })
+        Ok(sound) => {
+            let readings = read_all(rt, alloc, &sound.journal)?;
+            Ok(prepare(alloc, inputs.way, sound, readings)?)
         }
         Err(fault) => Err(fault),
     }
+}
+
+/// The plan of inputs that no rule refuses, whose requests were read as these.
+fn prepare(
+    alloc: Global,
+    way: Way,
+    sound: Sound<'_>,
+    readings: Readings,
+) -> Result<Prepared<'_>, AllocError>
+    requires read { readings ≡ all_read sound.journal }
+    requires coherent { Coherent sound.policy (number_before (first_number sound.journal)) sound.base }
+    ensures { IfOk result (λ j. accepted_of j ≡ accepted_by way sound) }
+{
+    let Sound {
+        policy,
+        base,
+        journal,
+    } = sound;
+    let deeds = Deeds::of(alloc, way, policy.due_form(), &journal, &readings)?;
+    let plan = Plan::from_readings(policy, base, readings, deeds);
+    Ok(Prepared { plan, journal })
 }
 
 /// The output of one thread over the plan of a journal. The outcome of the replay isn't dropped.

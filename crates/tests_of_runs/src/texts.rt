@@ -48,6 +48,7 @@ fn no_inputs(alloc: Global) -> Inputs {
             holds: Vec::new(alloc),
         },
         journal: Vec::new(alloc),
+        way: Way::ByRules,
     }
 }
 

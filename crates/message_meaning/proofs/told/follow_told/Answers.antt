@@ -8,7 +8,7 @@ use Rattle.message_meaning.proofs.told.follow_told.Goals as goal
 pub returns-in_err-ruled-clause-gives : goal.returns-in_err-ruled-clause-gives
 unfolding rule_with
 returns-in_err-ruled-clause-gives g c =
-    let p = err_from_is_err_and c.from_residual-in_err-ruled.result c.from_residual-in_err-ruled.ensures.1 in
+    let p = err_from_is_err_and c.from_residual.result c.from_residual.ensures.1 in
     let line = c.args.line.now in
     rw (p.1, p.2) (stop_then _ (rule_of line.policy.now line.number line.date c.args.act.now) (followed line.policy.now line.number line.date c.args.act.now c.args.deed.now) _ c.in_err-ruled.ensures.gives)
 

@@ -1,0 +1,2 @@
+mod Ruled
+mod Runs

@@ -1,2 +1,3 @@
+mod OnLoan
 mod Ruled
 mod Runs

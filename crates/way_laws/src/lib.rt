@@ -2,7 +2,7 @@
 //! whose contracts are proved of every value.
 #![tactic(auto)]
 
-ghost use Rattle.way_laws.specs.BothWays.{SameIfNoWordDiffers, SameRunIfNoneDiffers, UndoneChangesNothing};
+ghost use Rattle.way_laws.specs.BothWays.{LentIsOnLoan, SameIfNoWordDiffers, SameRunIfNoneDiffers, UndoneChangesNothing};
 
 /// If a recorded response says that nothing was done, its line writes no record.
 pub fn undone_changes_nothing()
@@ -18,4 +18,10 @@ pub fn same_if_no_word_differs()
 /// same records after each line, and the same answers.
 pub fn same_run_if_none_differs()
     ensures { SameRunIfNoneDiffers }
+{}
+
+/// If a recorded response says that an item was lent or renewed, and patron and item are known, the item
+/// is on loan to the patron then, and due on the day that the response names.
+pub fn lent_is_on_loan()
+    ensures { LentIsOnLoan }
 {}

@@ -3,10 +3,10 @@
 use crate::connection::{Half, Heard};
 use crate::connections::{Client, Connection, Connections, Ends, Talk};
 use crate::headers::TcpSegment;
+use crate::judging::has_sum;
 use crate::reading::JournalReader;
 use capture_streams::StreamPiece;
 use log_pairs::{Direction, Odd, odd_of};
-use sip_reader::{unsummed, without_line_end};
 use std::alloc::{AllocError, Global};
 
 /// The port of a server, where none is named.
@@ -275,8 +275,7 @@ fn is_whole(
     if !piece.is_after_gap() {
         return Ok(true);
     }
-    let has_sum = unsummed(without_line_end(message)).1.is_some();
-    Ok(has_sum && odd_of(alloc, side, message)?.is_none())
+    Ok(has_sum(message) && odd_of(alloc, side, message)?.is_none())
 }
 
 /// Who is the client, by the first message of a connection and the end that sends it.

@@ -14,6 +14,7 @@ mod json_lines;
 mod judging;
 mod logs;
 mod looks;
+mod marked;
 mod numbers;
 mod ordering;
 mod packets;

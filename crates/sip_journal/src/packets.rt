@@ -119,7 +119,8 @@ impl<'l, B: Read + Drop> Packets<'l, B> {
         if !self.fill(20) {
             return false;
         }
-        self.link = Some(self.long(16) % 0x1000_0000);
+        // (what stands above sixteen bits says which checksum the frames end in)
+        self.link = Some(self.long(16) % 0x1_0000);
         true
     }
 

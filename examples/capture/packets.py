@@ -93,14 +93,18 @@ def framed(packets, link, least=0, filler=b'\0'):
     return [frame + filler * (least - len(frame)) for frame in frames]
 
 
-def pcap(packets, link, order='<', magic=0xa1b2c3d4):
-    return pcap_of(framed(packets, link), LINKS[link][0], order, magic)
+# How many bytes of a frame tcpdump captures, where nothing else is said.
+WHOLE = 262144
 
 
-def pcap_of(frames, number, order='<', magic=0xa1b2c3d4):
-    out = struct.pack(order + 'IHHiIII', magic, 2, 4, 0, 0, 262144, number)
+def pcap(packets, link, order='<', magic=0xa1b2c3d4, snap=WHOLE):
+    return pcap_of(framed(packets, link), LINKS[link][0], order, magic, snap)
+
+
+def pcap_of(frames, number, order='<', magic=0xa1b2c3d4, snap=WHOLE):
+    out = struct.pack(order + 'IHHiIII', magic, 2, 4, 0, 0, snap, number)
     for at, packet in enumerate(frames):
-        out += struct.pack(order + 'IIII', 1772874000 + at // 100, at % 100 * 10000, len(packet), len(packet)) + packet
+        out += struct.pack(order + 'IIII', 1772874000 + at // 100, at % 100 * 10000, len(packet[:snap]), len(packet)) + packet[:snap]
     return out
 
 
@@ -113,23 +117,23 @@ def block(order, kind, body):
 OLD, SIMPLE, ENHANCED = 2, 3, 6
 
 
-def packet_block(order, kind, interface, at, packet):
+def packet_block(order, kind, interface, at, packet, snap):
     if kind == SIMPLE:
-        return block(order, kind, struct.pack(order + 'I', len(packet)) + packet)
+        return block(order, kind, struct.pack(order + 'I', len(packet)) + packet[:snap])
     # (an old one has 16 bits for its interface, and counts what was dropped before it)
     head = struct.pack(order + 'HH', interface, 3) if kind == OLD else struct.pack(order + 'I', interface)
-    return block(order, kind, head + struct.pack(order + 'IIII', 0, at, len(packet), len(packet)) + packet)
+    return block(order, kind, head + struct.pack(order + 'IIII', 0, at, len(packet[:snap]), len(packet)) + packet[:snap])
 
 
-def pcapng(packets, links, order='<', kind=ENHANCED, options=b''):
+def pcapng(packets, links, order='<', kind=ENHANCED, options=b'', snap=WHOLE):
     """A section whose interfaces have these links; the packets come on them by turns."""
     links = [links] if isinstance(links, str) else links
     out = block(order, 0x0a0d0d0a, struct.pack(order + 'IHHq', 0x1a2b3c4d, 1, 0, -1) + options)
     for link in links:
-        out += block(order, 1, struct.pack(order + 'HHI', LINKS[link][0], 0, 262144))
+        out += block(order, 1, struct.pack(order + 'HHI', LINKS[link][0], 0, snap))
     for at, packet in enumerate(packets):
         if at % 50 == 7:
             out += block(order, 5, struct.pack(order + 'III', 0, 0, at))
         interface = at % len(links)
-        out += packet_block(order, kind, interface, at, framed([packet], links[interface])[0])
+        out += packet_block(order, kind, interface, at, framed([packet], links[interface])[0], snap)
     return out

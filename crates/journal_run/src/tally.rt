@@ -2,7 +2,7 @@
 
 ghost use Rattle.std.specs.Prelude.{◌≡◌, ◌+◌, ◌++◌, Some, min};
 ghost use Rattle.journal_run.specs.Heard.{top};
-ghost use Rattle.journal_run.specs.Counts.{counts_line, ended_status, head_counts, is_clean, is_complete, is_too_odd, odd_counts, spare_counts, stretch_counts};
+ghost use Rattle.journal_run.specs.Counts.{counts_line, ended_status, head_counts, is_clean, is_complete, is_too_odd, left_counts, odd_counts, spare_counts, stretch_counts};
 
 use std::fmt;
 
@@ -36,6 +36,13 @@ pub struct LogTally {
     /// Gaps in captured streams, and parts that they leave of messages.
     pub gaps: u64,
     pub parts: u64,
+    /// Packets of which a capture cut the end.
+    pub cuts: u64,
+    /// Segments that fit nowhere in their stream, and were left out.
+    pub strays: u64,
+    /// Connections that were left out, as neither end speaks SIP2, and the bytes that were sent on them.
+    pub foreign: u64,
+    pub foreign_bytes: u64,
 }
 
 impl LogTally {
@@ -70,6 +77,8 @@ impl LogTally {
             && self.falls == 0
             && self.gaps == 0
             && self.parts == 0
+            && self.cuts == 0
+            && self.strays == 0
     }
 }
 
@@ -110,7 +119,8 @@ impl fmt::Display for CountsLine {
         let spare = SpareCounts { line: *self };
         let odd = OddCounts { tally: self.tally };
         let stretches = StretchCounts { tally: self.tally };
-        write!(f, "{head}{spare}{odd}{stretches}\n")
+        let left = LeftCounts { tally: self.tally };
+        write!(f, "{head}{spare}{odd}{stretches}{left}\n")
     }
 }
 
@@ -197,6 +207,34 @@ impl fmt::Display for StretchCounts {
         let LogTally { gaps, parts, .. } = self.tally;
         if self.tally.is_of_packets {
             write!(f, " gaps {gaps} parts {parts}")
+        } else {
+            Ok(())
+        }
+    }
+}
+
+/// The counts of what was left out of captures, if they are what was read.
+#[derive(Clone, Copy)]
+struct LeftCounts {
+    tally: LogTally,
+}
+
+impl fmt::Display for LeftCounts {
+    ghost output = { λ c. Some (left_counts c.tally) };
+
+    fn fmt<W: fmt::Write>(&self, f: &mut fmt::Formatter<W>) -> fmt::Result {
+        let LogTally {
+            cuts,
+            strays,
+            foreign,
+            foreign_bytes,
+            ..
+        } = self.tally;
+        if self.tally.is_of_packets {
+            write!(
+                f,
+                " cut {cuts} stray {strays} foreign {foreign} foreign-bytes {foreign_bytes}"
+            )
         } else {
             Ok(())
         }

@@ -3,7 +3,7 @@
 use crate::connection::{Half, Heard};
 use crate::connections::{Client, Connection, Connections, Ends, Talk};
 use crate::headers::TcpSegment;
-use crate::judging::has_sum;
+use crate::judging::{has_sum, is_message};
 use crate::reading::JournalReader;
 use capture_streams::StreamPiece;
 use log_pairs::{Direction, Odd, odd_of};
@@ -11,6 +11,9 @@ use std::alloc::{AllocError, Global};
 
 /// The port of a server, where none is named.
 const PORT: u16 = 6001;
+
+/// How many bytes may come of a message that isn't known to be one, as those before them weren't captured.
+const MESSAGE: usize = 2048;
 
 /// The messages of a capture.
 #[derive(Drop)]
@@ -50,10 +53,11 @@ impl Capturing {
             }
         }
         if let Some(connection) = self.connections.get_mut(&ends) {
+            revive(self.alloc, connection, is_first, segment)?;
             begin_again(connection, is_first, segment, reading)?;
             let was_over = connection.is_over;
             hear(self.alloc, connection, is_first, segment, reading)?;
-            if !was_over {
+            if !was_over || !connection.is_over {
                 self.connections.note(ends)?;
             }
         }
@@ -74,7 +78,7 @@ impl Capturing {
     /// The client of a connection that begins with this segment, as far as it is known; none where the connection has nothing to say,
     /// or another port is wanted.
     fn client_of(&self, segment: &TcpSegment<'_>, ends: Ends) -> Option<Client> {
-        if segment.payload.is_empty() && !segment.begins {
+        if segment.len() == 0 && !segment.begins {
             return None;
         }
         let port = self.port.unwrap_or(PORT);
@@ -90,9 +94,9 @@ impl Capturing {
     /// Nothing more comes of a connection: hands on what waits for its end, and forgets the connection.
     fn finish(&mut self, ends: &Ends, reading: &mut JournalReader<'_>) -> Result<(), AllocError> {
         if let Some(connection) = self.connections.get_mut(ends) {
-            connection.first.close()?;
+            connection.first.finish()?;
             hand_on(self.alloc, connection, true, reading)?;
-            connection.second.close()?;
+            connection.second.finish()?;
             hand_on(self.alloc, connection, false, reading)?;
             if let Some(client) = connection.talk.address() {
                 reading.over(client)?;
@@ -112,6 +116,22 @@ impl Capturing {
         }
         Ok(())
     }
+}
+
+/// If neither end of a connection spoke SIP2, it begins again with a segment that begins a stream, or that is a message.
+fn revive(
+    alloc: Global,
+    connection: &mut Connection,
+    is_first: bool,
+    segment: &TcpSegment<'_>,
+) -> Result<(), AllocError> {
+    if !matches!(connection.talk.client, Client::Nobody) {
+        return Ok(());
+    }
+    if segment.begins || is_message(alloc, segment.payload)? {
+        connection.revive(alloc, is_first);
+    }
+    Ok(())
 }
 
 /// Where a segment begins the stream of one end anew, the connection isn't over; where that is the client's, what it asked before is.
@@ -141,31 +161,39 @@ fn hear(
     reading: &mut JournalReader<'_>,
 ) -> Result<(), AllocError> {
     if matches!(connection.talk.client, Client::Nobody) {
+        reading.count_foreign(segment.len());
         return Ok(());
     }
+    connection.sent = connection.sent.saturating_add(segment.len());
     let is_over = if is_first {
         exchange(&mut connection.first, &mut connection.second, segment)?
     } else {
         exchange(&mut connection.second, &mut connection.first, segment)?
     };
-    connection.is_over = connection.is_over || is_over;
+    let is_anew = connection.first.take_anew() || connection.second.take_anew();
+    connection.is_over = is_over || (connection.is_over && !is_anew);
     hand_on(alloc, connection, !is_first, reading)?;
     hand_on(alloc, connection, is_first, reading)?;
-    look(alloc, connection, is_first)
-}
-
-/// Looks who is the client, as soon as a message has begun. Where neither is, the connection is forgotten.
-fn look(alloc: Global, connection: &mut Connection, is_first: bool) -> Result<(), AllocError> {
-    if matches!(connection.talk.client, Client::Unknown) {
-        let message = without_line_feeds(connection.half(is_first).open());
-        if let Some(identifier) = message.get(..2) {
-            connection.talk.client = client_by(alloc, identifier, is_first)?;
-        }
-    }
-    if matches!(connection.talk.client, Client::Nobody) {
+    if look(alloc, connection, is_first)? {
+        reading.count_foreign(connection.sent);
+        reading.foreign(connection.talk.ends)?;
         connection.leave(alloc);
     }
     Ok(())
+}
+
+/// Looks who is the client, as soon as a message has begun. Gives whether neither end is.
+fn look(alloc: Global, connection: &mut Connection, is_first: bool) -> Result<bool, AllocError> {
+    if matches!(connection.talk.client, Client::Unknown) {
+        let (open, after_gap) = connection.half(is_first).open();
+        let message = without_line_feeds(open);
+        if !after_gap && message.len() >= 2 {
+            connection.talk.client = client_by(alloc, message, is_first)?;
+        } else if message.len() > MESSAGE {
+            connection.talk.client = Client::Nobody;
+        }
+    }
+    Ok(matches!(connection.talk.client, Client::Nobody))
 }
 
 /// Hands on what was heard of one end of a connection.
@@ -179,6 +207,7 @@ fn hand_on(
     for one in &heard {
         let handed = match one {
             Heard::Missing(count) => hand_on_gap(&mut connection.talk, is_first, *count, reading),
+            Heard::Stray => reading.stray(connection.talk.ends),
             Heard::Piece(piece) => {
                 hand_on_piece(alloc, &mut connection.talk, is_first, piece, reading)
             }
@@ -192,7 +221,7 @@ fn hand_on(
 fn hand_on_gap(
     talk: &mut Talk,
     is_first: bool,
-    count: u64,
+    count: Option<u64>,
     reading: &mut JournalReader<'_>,
 ) -> Result<(), AllocError> {
     let Some((side, client)) = talk.speaker(is_first) else {
@@ -216,7 +245,7 @@ fn hand_on_piece(
     if message.is_empty() {
         return Ok(());
     }
-    if matches!(talk.client, Client::Unknown) {
+    if matches!(talk.client, Client::Unknown) && tells_client(alloc, piece, message)? {
         talk.client = client_by(alloc, message, is_first)?;
     }
     let Some((side, client)) = talk.speaker(is_first) else {
@@ -276,6 +305,14 @@ fn is_whole(
         return Ok(true);
     }
     Ok(has_sum(message) && odd_of(alloc, side, message)?.is_none())
+}
+
+/// Whether a piece tells who is the client: a whole one that begins a stream or follows on a message, or else one with a right checksum.
+fn tells_client(alloc: Global, piece: &StreamPiece, message: &[u8]) -> Result<bool, AllocError> {
+    if piece.is_before_gap() {
+        return Ok(false);
+    }
+    Ok(!piece.is_after_gap() || (has_sum(message) && is_message(alloc, message)?))
 }
 
 /// Who is the client, by the first message of a connection and the end that sends it.

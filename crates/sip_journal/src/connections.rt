@@ -33,7 +33,7 @@ pub enum Client {
 /// Who talks over a connection.
 #[derive(Clone, Copy)]
 pub struct Talk {
-    ends: Ends,
+    pub ends: Ends,
     pub client: Client,
     /// Whether bytes of the client are missing since its last whole request: what is answered next may be a request that is missing.
     pub lacks_request: bool,
@@ -67,6 +67,8 @@ pub struct Connection {
     pub second: Half,
     pub talk: Talk,
     pub is_over: bool,
+    /// How many bytes were sent on it.
+    pub sent: u64,
     /// The segment that ended it, where it is over and is remembered; else the one by which it was heard of last.
     heard_at: u64,
 }
@@ -78,6 +80,7 @@ impl Drop for Connection {
             second: _,
             talk: _,
             is_over: _,
+            sent: _,
             heard_at: _,
         } = self;
     }
@@ -99,11 +102,20 @@ impl Connection {
         }
     }
 
-    /// The connection is forgotten, and nothing more comes on it.
+    /// Neither end speaks SIP2: what was heard of it is forgotten, and it is over.
     pub fn leave(&mut self, alloc: Global) {
-        self.first = Half::new(alloc);
-        self.second = Half::new(alloc);
+        self.first = Half::new(alloc, true);
+        self.second = Half::new(alloc, true);
         self.is_over = true;
+    }
+
+    /// Neither end spoke SIP2, but now one may, which begins with a message.
+    pub fn revive(&mut self, alloc: Global, is_first: bool) {
+        self.first = Half::new(alloc, !is_first);
+        self.second = Half::new(alloc, is_first);
+        self.talk.client = Client::Unknown;
+        self.is_over = false;
+        self.sent = 0;
     }
 }
 
@@ -146,14 +158,15 @@ impl Connections {
     /// Begins a connection of which nothing was heard yet.
     pub fn begin(&mut self, alloc: Global, ends: Ends, client: Client) -> Result<(), AllocError> {
         let connection = Connection {
-            first: Half::new(alloc),
-            second: Half::new(alloc),
+            first: Half::new(alloc, true),
+            second: Half::new(alloc, true),
             talk: Talk {
                 ends,
                 client,
                 lacks_request: false,
             },
             is_over: false,
+            sent: 0,
             heard_at: 0,
         };
         self.by_ends.insert(ends, connection)?;

@@ -1,9 +1,8 @@
 //! Reports of lines and messages that are none, or that a log has damaged.
 
-use crate::place::LineHead;
-use journal_run::LogPlace;
+use journal_run::{LineHead, LogPlace};
 use log_pairs::{Direction, Odd, odd_of};
-use sip_reader::{unsummed, without_line_end};
+use sip_reader::{Reading, read_request, unsummed, without_line_end};
 use std::alloc::{AllocError, Global};
 use std::collections::BTreeMap;
 
@@ -244,6 +243,20 @@ impl JournalJudge {
 /// Whether a message ends in a checksum.
 pub fn has_sum(message: &[u8]) -> bool {
     unsummed(without_line_end(message)).1.is_some()
+}
+
+/// Whether bytes are read as a message: one with a right checksum, or a request without one.
+pub fn is_message(alloc: Global, bytes: &[u8]) -> Result<bool, AllocError> {
+    if !has_sum(bytes) {
+        let reading = read_request(alloc, bytes)?;
+        return Ok(matches!(&reading, Reading::Asked(_)));
+    }
+    for side in &[Direction::Request, Direction::Response] {
+        if odd_of(alloc, *side, bytes)?.is_none() {
+            return Ok(true);
+        }
+    }
+    Ok(false)
 }
 
 /// The earlier of two lines, of which the second counts only from a line on.

@@ -18,7 +18,6 @@ mod marked;
 mod numbers;
 mod ordering;
 mod packets;
-mod place;
 mod presets;
 mod progress;
 mod reading;

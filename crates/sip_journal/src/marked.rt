@@ -1,9 +1,7 @@
 //! The first line with a message in it, of a log that no preset fits.
 
-use crate::judging::has_sum;
-use crate::place::LineHead;
-use log_pairs::{Direction, odd_of};
-use sip_reader::{Reading, read_request};
+use crate::judging::{has_sum, is_message};
+use journal_run::LineHead;
 use std::alloc::{AllocError, Global};
 use std::fmt;
 
@@ -53,7 +51,7 @@ fn message_in(alloc: Global, line: &[u8]) -> Result<Option<(usize, usize)>, Allo
     let mut before = b' ';
     for (from, byte) in head.iter().enumerate() {
         let is_begin = byte.is_ascii_digit() && !before.is_ascii_alphanumeric();
-        if is_begin && is_read(alloc, &head[from..])? {
+        if is_begin && is_message(alloc, &head[from..])? {
             return Ok(Some((from, head.len())));
         }
         before = *byte;
@@ -74,18 +72,4 @@ fn head_of(line: &[u8]) -> Option<&[u8]> {
         }
     }
     head
-}
-
-/// Whether bytes are read as a message: one with a right checksum, or a request without one.
-fn is_read(alloc: Global, bytes: &[u8]) -> Result<bool, AllocError> {
-    if !has_sum(bytes) {
-        let reading = read_request(alloc, bytes)?;
-        return Ok(matches!(&reading, Reading::Asked(_)));
-    }
-    for side in &[Direction::Request, Direction::Response] {
-        if odd_of(alloc, *side, bytes)?.is_none() {
-            return Ok(true);
-        }
-    }
-    Ok(false)
 }

@@ -1,11 +1,11 @@
 //! What is read of logs and captures: what is found there, and what is to be reported of it.
 
+use crate::connections::Ends;
 use crate::finder::Finder;
 use crate::judging::JournalJudge;
 use crate::ordering::Order;
-use crate::place::LineHead;
 use crate::source::{LogRecord, LogSource};
-use journal_run::{Finding, LogPlace, LogTally, MakingError};
+use journal_run::{Finding, LineHead, LogPlace, LogTally, MakingError};
 use log_pairs::Direction;
 use std::alloc::{AllocError, Global};
 use std::io::BufRead;
@@ -13,6 +13,12 @@ use std::net::SocketAddr;
 
 const OUT_OF_ORDER: &str =
     "the messages aren't in the order of their times: name the logs in the order in which they were written, or give --merge\n";
+
+/// How many gaps, and how many parts of messages, are reported.
+const TOLD: u64 = 3;
+
+/// More than one packet in this number is cut if the capture is of no use.
+const TOLERATED: u64 = 10;
 
 /// What a journal is made of.
 #[derive(Clone, Copy)]
@@ -34,6 +40,14 @@ pub struct JournalReader<'l> {
     /// Gaps in captured streams, and pieces that they leave of messages.
     gaps: u64,
     broken: u64,
+    /// Packets that lack the end of their segment, and how many bytes the longest of them has.
+    cuts: u64,
+    snap: usize,
+    /// Segments that lay far from their stream and were left out.
+    strays: u64,
+    /// Connections of which neither end speaks SIP2, and the bytes that were sent on them.
+    foreign: u64,
+    foreign_bytes: u64,
 }
 
 impl Drop for JournalReader<'_> {
@@ -47,6 +61,11 @@ impl Drop for JournalReader<'_> {
             found: _,
             gaps: _,
             broken: _,
+            cuts: _,
+            snap: _,
+            strays: _,
+            foreign: _,
+            foreign_bytes: _,
         } = self;
     }
 }
@@ -63,6 +82,11 @@ impl<'l> JournalReader<'l> {
             found: Vec::new(alloc),
             gaps: 0,
             broken: 0,
+            cuts: 0,
+            snap: 0,
+            strays: 0,
+            foreign: 0,
+            foreign_bytes: 0,
         }
     }
 
@@ -142,18 +166,71 @@ impl<'l> JournalReader<'l> {
         }
     }
 
+    /// The packet that was read last lacks the end of its segment; this number of its bytes was captured.
+    pub fn count_cut(&mut self, captured: usize) {
+        self.cuts = self.cuts.saturating_add(1);
+        self.snap = self.snap.max(captured);
+    }
+
+    /// How many bytes of a packet were captured at most, if more than one packet in ten is cut.
+    pub fn snap_length(&self) -> Option<usize> {
+        (self.cuts > self.judge.lines / TOLERATED).then_some(self.snap)
+    }
+
+    /// How many lines or packets were read.
+    pub fn lines(&self) -> u64 {
+        self.judge.lines
+    }
+
     /// Bytes of a captured stream are missing.
     pub fn missing(
         &mut self,
-        count: u64,
+        count: Option<u64>,
         side: Direction,
         client: SocketAddr,
     ) -> Result<(), AllocError> {
         self.gaps = self.gaps.saturating_add(1);
+        if self.gaps > TOLD {
+            return Ok(());
+        }
         let (place, from) = (self.place, speaker(side));
+        self.note(match count {
+            Some(count) => format!(in self.alloc;
+                "{place}: {count} bytes from the {from} are missing, of {client}\n"
+            ),
+            None => format!(in self.alloc;
+                "{place}: an unknown number of bytes from the {from} is missing, of {client}\n"
+            ),
+        })
+    }
+
+    /// A segment between two ends was left out, since it lay far from its stream and nothing followed on it.
+    pub fn stray(&mut self, ends: Ends) -> Result<(), AllocError> {
+        self.strays = self.strays.saturating_add(1);
+        if self.strays > TOLD {
+            return Ok(());
+        }
+        let (place, (one, other)) = (self.place, ends);
         self.note(format!(in self.alloc;
-            "{place}: {count} bytes from the {from} are missing, of {client}\n"
+            "{place}: a segment before this packet fits nowhere and is left out, of {one} and {other}\n"
         ))
+    }
+
+    /// Neither of two ends speaks SIP2: their connection is left out.
+    pub fn foreign(&mut self, ends: Ends) -> Result<(), AllocError> {
+        self.foreign = self.foreign.saturating_add(1);
+        if self.foreign > TOLD {
+            return Ok(());
+        }
+        let (place, (one, other)) = (self.place, ends);
+        self.note(format!(in self.alloc;
+            "{place}: a connection without SIP2 is left out, of {one} and {other}\n"
+        ))
+    }
+
+    /// Counts bytes of a connection that is left out.
+    pub fn count_foreign(&mut self, bytes: u64) {
+        self.foreign_bytes = self.foreign_bytes.saturating_add(bytes);
     }
 
     /// A piece of a captured message is no message: a gap took its beginning or its end.
@@ -164,6 +241,9 @@ impl<'l> JournalReader<'l> {
         piece: &[u8],
     ) -> Result<(), AllocError> {
         self.broken = self.broken.saturating_add(1);
+        if self.broken > TOLD {
+            return Ok(());
+        }
         let (place, from, head) = (self.place, speaker(side), LineHead(piece));
         self.note(format!(in self.alloc;
             "{place}: a part of a message from the {from}, of {client}: {head}\n"
@@ -208,6 +288,10 @@ impl<'l> JournalReader<'l> {
             falls: self.order.falls,
             gaps: self.gaps,
             parts: self.broken,
+            cuts: self.cuts,
+            strays: self.strays,
+            foreign: self.foreign,
+            foreign_bytes: self.foreign_bytes,
         }
     }
 }

@@ -18,10 +18,22 @@ def version_4(source, target, segment, options, is_measured):
     return struct.pack('>BBHHHBBH', 0x45 + len(options) // 4, 0, whole, 7, 0x4000, 64, 6, 0) + bytes(source) + bytes(target) + options + segment
 
 
+# The kinds of two extension headers of IPv6 whose lengths are written otherwise than those of the others.
+FRAGMENT, AUTHENTICATION = 44, 51
+
+
+def extension(kind, after, length):
+    if kind == FRAGMENT:
+        return bytes([after, 0, 0, 6]) + bytes(4)
+    if kind == AUTHENTICATION:
+        return bytes([after, length // 4 - 2]) + bytes(length - 2)
+    return bytes([after, length // 8 - 1, 1, length - 4]) + bytes(length - 4)
+
+
 def version_6(source, target, segment, extensions, is_measured):
     """A packet with extension headers of these kinds and lengths before the segment."""
     kinds = [kind for kind, _ in extensions] + [6]
-    headers = b''.join(bytes([after, length // 8 - 1, 1, length - 4]) + bytes(length - 4) for after, (_, length) in zip(kinds[1:], extensions))
+    headers = b''.join(extension(kind, after, length) for after, (kind, length) in zip(kinds[1:], extensions))
     whole = len(headers) + len(segment) if is_measured else 0
     return (struct.pack('>IHBB', 6 << 28, whole, kinds[0], 64) + bytes(10) + b'\xff\xff' + bytes(source) + bytes(10) + b'\xff\xff' + bytes(target)
             + headers + segment)
@@ -37,6 +49,8 @@ LINKS = {
     'vlan': (1, lambda version: bytes(12) + b'\x81\x00\x00\x07' + ethertype(version)),
     'vlan in vlan': (1, lambda version: bytes(12) + b'\x88\xa8\x00\x07\x81\x00\x00\x08' + ethertype(version)),
     'cooked': (113, lambda version: bytes(14) + ethertype(version)),
+    'cooked, vlan': (113, lambda version: bytes(14) + b'\x81\x00\x00\x07' + ethertype(version)),
+    'cooked-2, vlan': (276, lambda version: b'\x81\x00' + bytes(18) + b'\x00\x07' + ethertype(version)),
     'cooked-2': (276, lambda version: ethertype(version) + bytes(18)),
     'loopback': (0, lambda version: struct.pack('<I', 30 if version == 6 else 2)),
     'bare': (101, lambda version: b''),

@@ -2,7 +2,7 @@
 
 ghost use Rattle.std.specs.Prelude.{◌≡◌, ◌+◌, ◌++◌, Some, min};
 ghost use Rattle.journal_run.specs.Heard.{top};
-ghost use Rattle.journal_run.specs.Counts.{counts_line, ended_status, head_counts, is_clean, is_complete, is_too_odd, left_counts, odd_counts, spare_counts, stretch_counts};
+ghost use Rattle.journal_run.specs.Counts.{counts_line, ended_status, head_counts, is_clean, is_complete, is_too_odd, left_counts, odd_counts, pair_counts, spare_counts, stretch_counts};
 
 use std::fmt;
 
@@ -31,6 +31,10 @@ pub struct LogTally {
     pub wrong: u64,
     /// Requests that lack a checksum.
     pub lacking: u64,
+    /// Requests that were sent again.
+    pub repeated: u64,
+    /// Responses of another kind or sequence number than their request.
+    pub mismatched: u64,
     /// How often times fell back.
     pub falls: u64,
     /// Gaps in captured streams, and parts that they leave of messages.
@@ -40,7 +44,8 @@ pub struct LogTally {
     pub cuts: u64,
     /// Segments that fit nowhere in their stream, and were left out.
     pub strays: u64,
-    /// Connections that were left out, as neither end speaks SIP2, and the bytes that were sent on them.
+    /// Connections that were left out, as neither end speaks SIP2, and the bytes that were sent on
+    /// them.
     pub foreign: u64,
     pub foreign_bytes: u64,
 }
@@ -74,6 +79,8 @@ impl LogTally {
         self.unknown == 0
             && self.wrong == 0
             && self.lacking == 0
+            && self.repeated == 0
+            && self.mismatched == 0
             && self.falls == 0
             && self.gaps == 0
             && self.parts == 0
@@ -118,9 +125,10 @@ impl fmt::Display for CountsLine {
         let head = HeadCounts { line: *self };
         let spare = SpareCounts { line: *self };
         let odd = OddCounts { tally: self.tally };
+        let pairs = PairCounts { tally: self.tally };
         let stretches = StretchCounts { tally: self.tally };
         let left = LeftCounts { tally: self.tally };
-        write!(f, "{head}{spare}{odd}{stretches}{left}\n")
+        write!(f, "{head}{spare}{odd}{pairs}{stretches}{left}\n")
     }
 }
 
@@ -191,6 +199,25 @@ impl fmt::Display for OddCounts {
             f,
             " unknown {unknown} wrong-checksum {wrong} without-checksum {lacking}"
         )
+    }
+}
+
+/// Requests that were sent again, and responses that don't fit theirs.
+#[derive(Clone, Copy)]
+struct PairCounts {
+    tally: LogTally,
+}
+
+impl fmt::Display for PairCounts {
+    ghost output = { λ c. Some (pair_counts c.tally) };
+
+    fn fmt<W: fmt::Write>(&self, f: &mut fmt::Formatter<W>) -> fmt::Result {
+        let LogTally {
+            repeated,
+            mismatched,
+            ..
+        } = self.tally;
+        write!(f, " repeated {repeated} mismatched {mismatched}")
     }
 }
 

@@ -12,7 +12,8 @@ use std::alloc::{AllocError, Global};
 /// The port of a server, where none is named.
 const PORT: u16 = 6001;
 
-/// How many bytes may come of a message that isn't known to be one, as those before them weren't captured.
+/// How many bytes may come of a message that isn't known to be one, as those before them weren't
+/// captured.
 const MESSAGE: usize = 2048;
 
 /// The messages of a capture.
@@ -40,26 +41,55 @@ impl Capturing {
         reading: &mut JournalReader<'_>,
     ) -> Result<(), AllocError> {
         self.settle(reading)?;
-        let is_first = segment.from <= segment.to;
-        let ends = if is_first {
-            (segment.from, segment.to)
-        } else {
-            (segment.to, segment.from)
-        };
+        let (ends, _) = segment.both_ends();
         if self.connections.get_mut(&ends).is_none() {
             match self.client_of(segment, ends) {
                 Some(client) => self.connections.begin(self.alloc, ends, client)?,
                 None => return Ok(()),
             }
         }
-        if let Some(connection) = self.connections.get_mut(&ends) {
-            revive(self.alloc, connection, is_first, segment)?;
-            begin_again(connection, is_first, segment, reading)?;
-            let was_over = connection.is_over;
-            hear(self.alloc, connection, is_first, segment, reading)?;
-            if !was_over || !connection.is_over {
-                self.connections.note(ends)?;
-            }
+        if self.connections.hold(self.alloc, segment)? {
+            return self.release(&ends, false, reading);
+        }
+        if segment.begins || segment.resets {
+            self.release(&ends, true, reading)?;
+        }
+        self.hear(segment, reading)?;
+        self.release(&ends, false, reading)
+    }
+
+    /// Hears a segment of a connection.
+    fn hear(
+        &mut self,
+        segment: &TcpSegment<'_>,
+        reading: &mut JournalReader<'_>,
+    ) -> Result<(), AllocError> {
+        let (ends, is_first) = segment.both_ends();
+        let Some(connection) = self.connections.get_mut(&ends) else {
+            return Ok(());
+        };
+        revive(self.alloc, connection, is_first, segment)?;
+        begin_again(connection, is_first, segment, reading)?;
+        let was_over = connection.is_over;
+        hear(self.alloc, connection, is_first, segment, reading)?;
+        if !was_over || !connection.is_over {
+            self.connections.note(ends)?;
+        }
+        Ok(())
+    }
+
+    /// Hears the segments of a connection that need not wait any longer, or all that wait.
+    fn release(
+        &mut self,
+        ends: &Ends,
+        all: bool,
+        reading: &mut JournalReader<'_>,
+    ) -> Result<(), AllocError> {
+        for _ in 0..u64::MAX {
+            let Some(held) = self.connections.pop_held(ends, all) else {
+                break;
+            };
+            self.hear(&held.segment(), reading)?;
         }
         Ok(())
     }
@@ -68,6 +98,9 @@ impl Capturing {
     fn settle(&mut self, reading: &mut JournalReader<'_>) -> Result<(), AllocError> {
         if let Some(client) = self.connections.settle()? {
             reading.over(client)?;
+        }
+        if let Some(ends) = self.connections.pop_waiting() {
+            self.release(&ends, true, reading)?;
         }
         match self.connections.pop_idle() {
             Some(ends) => self.finish(&ends, reading),
@@ -93,6 +126,7 @@ impl Capturing {
 
     /// Nothing more comes of a connection: hands on what waits for its end, and forgets the connection.
     fn finish(&mut self, ends: &Ends, reading: &mut JournalReader<'_>) -> Result<(), AllocError> {
+        self.release(ends, true, reading)?;
         if let Some(connection) = self.connections.get_mut(ends) {
             connection.first.finish()?;
             hand_on(self.alloc, connection, true, reading)?;
@@ -118,7 +152,8 @@ impl Capturing {
     }
 }
 
-/// If neither end of a connection spoke SIP2, it begins again with a segment that begins a stream, or that is a message.
+/// If neither end of a connection spoke SIP2, it begins again with a segment that begins a stream,
+/// or that is a message.
 fn revive(
     alloc: Global,
     connection: &mut Connection,
@@ -245,7 +280,7 @@ fn hand_on_piece(
     if message.is_empty() {
         return Ok(());
     }
-    if matches!(talk.client, Client::Unknown) && tells_client(alloc, piece, message)? {
+    if matches!(talk.client, Client::Unknown) && shows_client(alloc, piece, message)? {
         talk.client = client_by(alloc, message, is_first)?;
     }
     let Some((side, client)) = talk.speaker(is_first) else {
@@ -307,8 +342,9 @@ fn is_whole(
     Ok(has_sum(message) && odd_of(alloc, side, message)?.is_none())
 }
 
-/// Whether a piece tells who is the client: a whole one that begins a stream or follows on a message, or else one with a right checksum.
-fn tells_client(alloc: Global, piece: &StreamPiece, message: &[u8]) -> Result<bool, AllocError> {
+/// Whether a piece says who is the client: a whole one that begins a stream or follows on a
+/// message, or else one with a right checksum.
+fn shows_client(alloc: Global, piece: &StreamPiece, message: &[u8]) -> Result<bool, AllocError> {
     if piece.is_before_gap() {
         return Ok(false);
     }

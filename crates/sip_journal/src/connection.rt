@@ -5,7 +5,8 @@ use capture_streams::{Cutter, Stream, StreamPiece, position_near};
 use std::alloc::{AllocError, Global};
 use std::mem;
 
-/// A segment or an acknowledgement that lies further away than this many bytes isn't of the stream as far as it is known.
+/// A segment or an acknowledgement that lies further away than this many bytes isn't of the stream
+/// as far as it is known.
 const FAR: u64 = 1024 * 1024;
 
 /// How many segments may wait for one that is missing.
@@ -24,7 +25,8 @@ pub enum Heard {
     Stray,
 }
 
-/// A segment that lies far from its stream. The stream goes on with it if another one follows on it, or the other end acknowledges it.
+/// A segment that lies far from its stream. The stream goes on with it if another one follows on
+/// it, or the other end acknowledges it.
 #[derive(Drop)]
 struct FarSegment {
     number: u32,
@@ -42,6 +44,7 @@ impl FarSegment {
 }
 
 /// What one end of a connection sends.
+#[derive(Drop)]
 pub struct Half {
     alloc: Global,
     /// The number of the begin, where that was captured.
@@ -52,27 +55,13 @@ pub struct Half {
     end: Option<u64>,
     /// The position after the last byte that came.
     last: u64,
+    /// The positions of the bytes that a capture cut last, from the first to the one after them.
+    cut: (u64, u64),
     far: Option<FarSegment>,
     /// Whether it began again far away since this was asked.
     is_anew: bool,
     /// What came on the connection, and wasn't handed on yet.
     pub heard: Vec<Heard>,
-}
-
-impl Drop for Half {
-    fn drop(self) {
-        let Half {
-            alloc: _,
-            begun_at: _,
-            stream: _,
-            cutter: _,
-            end: _,
-            last: _,
-            far: _,
-            is_anew: _,
-            heard: _,
-        } = self;
-    }
 }
 
 impl Half {
@@ -85,6 +74,7 @@ impl Half {
             cutter: Cutter::new(alloc, after_gap),
             end: None,
             last: 0,
+            cut: (0, 0),
             far: None,
             is_anew: false,
             heard: Vec::new(alloc),
@@ -104,6 +94,28 @@ impl Half {
     /// Whether it began again far away since this was asked last.
     pub fn take_anew(&mut self) -> bool {
         mem::replace(&mut self.is_anew, false)
+    }
+
+    /// Whether bytes before this number, for which the other end waits, may yet come: they didn't, and
+    /// no capture cut them.
+    pub fn lacks(&self, number: u32) -> bool {
+        let Some(stream) = &self.stream else {
+            return false;
+        };
+        let Some(at) = self.near(number) else {
+            return !self.follows_far(number);
+        };
+        let (next, (from, to)) = (stream.position(), self.cut);
+        let is_cut = from <= next && next < to;
+        !is_cut && at.min(self.end.unwrap_or(at)) > next
+    }
+
+    /// Whether this number is that of the byte after a segment that lies far from the stream.
+    fn follows_far(&self, number: u32) -> bool {
+        match &self.far {
+            Some(far) => far.after() == number,
+            None => false,
+        }
     }
 
     /// Whether all that was sent was heard.
@@ -134,7 +146,8 @@ impl Half {
         }
     }
 
-    /// The position of a number, if it lies near the byte that comes next, and not after the end, which has a number, too.
+    /// The position of a number, if it lies near the byte that comes next, and not after the end,
+    /// which has a number, too.
     fn near(&self, number: u32) -> Option<u64> {
         let next = self.stream.as_ref()?.position();
         let at = position_near(next, number)?;
@@ -156,6 +169,9 @@ impl Half {
         }
         if ends {
             self.end = Some(after);
+        }
+        if cut > 0 {
+            self.cut = (captured, after);
         }
         self.last = self.last.max(after);
         let full = stream.waiting() > MOST;
@@ -180,7 +196,8 @@ impl Half {
         self.leave_far(Some(far))
     }
 
-    /// Keeps another segment, or none, in place of one that lies far from the stream, which is left out unless it came again.
+    /// Keeps another segment, or none, in place of one that lies far from the stream, which is left
+    /// out unless it came again.
     fn leave_far(&mut self, other: Option<FarSegment>) -> Result<(), AllocError> {
         let kept = self.far.as_ref().map(|far| far.number);
         let number = other.as_ref().map(|far| far.number);
@@ -191,11 +208,10 @@ impl Half {
         Ok(())
     }
 
-    /// If this number, which is far from the stream, follows on the segment that is kept, the stream goes on with that; how many bytes
-    /// are missing before it isn't known.
+    /// If this number, which is far from the stream, follows on the segment that is kept, the
+    /// stream goes on with that; how many bytes are missing before it isn't known.
     fn go_far(&mut self, number: u32) -> Result<(), AllocError> {
-        let follows = self.far.as_ref().is_some_and(|far| far.after() == number);
-        if !follows || self.near(number).is_some() {
+        if !self.follows_far(number) || self.near(number).is_some() {
             return Ok(());
         }
         let Some(far) = self.far.take() else {
@@ -295,7 +311,8 @@ impl Half {
         Ok(())
     }
 
-    /// Nothing more is heard of this end: gives what waits, and leaves out a segment that lies far from the stream.
+    /// Nothing more is heard of this end: gives what waits, and leaves out a segment that lies far
+    /// from the stream.
     pub fn finish(&mut self) -> Result<(), AllocError> {
         self.close()?;
         self.leave_far(None)

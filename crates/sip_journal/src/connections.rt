@@ -1,6 +1,7 @@
 //! The connections of a capture: those that go on, and those that are over and remembered.
 
 use crate::connection::{Half, Heard};
+use crate::headers::{HeldSegment, TcpSegment};
 use log_pairs::Direction;
 use std::alloc::{AllocError, Global};
 use std::collections::{BTreeMap, VecDeque};
@@ -10,8 +11,12 @@ use std::net::SocketAddr;
 /// How many connections may go on at once. Of more, the one that was heard of the longest ago is taken as over.
 const MOST: usize = 16_384;
 
-/// How many segments of a capture may come before the last one of a connection that is over.
+/// How many segments of a capture may come before the last one of a connection that is over, or
+/// before one that others wait for.
 const LATE: u64 = 1024;
+
+/// How many segments of a connection may wait.
+const HELD: usize = 16;
 
 /// How many connections that are over are remembered, for segments that come again.
 const REMEMBERED: usize = 4096;
@@ -62,6 +67,7 @@ impl Talk {
 }
 
 /// What was heard of a connection.
+#[derive(Drop)]
 pub struct Connection {
     pub first: Half,
     pub second: Half,
@@ -69,27 +75,38 @@ pub struct Connection {
     pub is_over: bool,
     /// How many bytes were sent on it.
     pub sent: u64,
+    /// Segments that acknowledge what wasn't captured yet, and those after them; and when the first
+    /// of them came.
+    held: Vec<HeldSegment>,
+    held_at: u64,
     /// The segment that ended it, where it is over and is remembered; else the one by which it was heard of last.
     heard_at: u64,
-}
-
-impl Drop for Connection {
-    fn drop(self) {
-        let Connection {
-            first: _,
-            second: _,
-            talk: _,
-            is_over: _,
-            sent: _,
-            heard_at: _,
-        } = self;
-    }
 }
 
 impl Connection {
     /// What one of its ends sends.
     pub fn half(&self, is_first: bool) -> &Half {
         if is_first { &self.first } else { &self.second }
+    }
+
+    /// Whether a segment acknowledges bytes of which nothing came yet.
+    fn is_early(&self, segment: &TcpSegment<'_>) -> bool {
+        let (_, is_first) = segment.both_ends();
+        match segment.acknowledged {
+            Some(number) => self.half(!is_first).lacks(number),
+            None => false,
+        }
+    }
+
+    /// The place of the first segment that need not wait any longer; or, if that is asked or too many
+    /// wait, of the first of all.
+    fn ready(&self, any: bool) -> Option<usize> {
+        for (at, held) in self.held.iter().enumerate() {
+            if !self.is_early(&held.segment()) {
+                return Some(at);
+            }
+        }
+        (any || self.held.len() > HELD).then_some(0)
     }
 
     /// What was heard of one of its ends, and wasn't handed on yet. (A list that is only cleared would keep its memory.)
@@ -137,6 +154,8 @@ pub struct Connections {
     /// Those that are over, in the order of their ends: those of which segments may come late, and the others.
     late: VecDeque<Ending>,
     over: VecDeque<Ending>,
+    /// Those of which segments wait, in the order in which these came.
+    waiting: VecDeque<Ending>,
 }
 
 impl Connections {
@@ -147,7 +166,49 @@ impl Connections {
             open: BTreeMap::new(alloc),
             late: VecDeque::new(alloc),
             over: VecDeque::new(alloc),
+            waiting: VecDeque::new(alloc),
         }
+    }
+
+    /// Keeps a segment, if it acknowledges bytes of which nothing came yet: packets are captured
+    /// out of order. Gives whether it waits.
+    pub fn hold(&mut self, alloc: Global, segment: &TcpSegment<'_>) -> Result<bool, AllocError> {
+        let (ends, _) = segment.both_ends();
+        let at = self.now;
+        let Some(connection) = self.by_ends.get_mut(&ends) else {
+            return Ok(false);
+        };
+        if segment.begins || segment.resets || !connection.is_early(segment) {
+            return Ok(false);
+        }
+        if connection.held.is_empty() {
+            connection.held_at = at;
+            self.waiting.push_back(Ending { at, ends })?;
+        }
+        connection.held.push(HeldSegment::new(alloc, segment)?)?;
+        Ok(true)
+    }
+
+    /// A segment of a connection that need not wait any longer; or, if that is asked, any.
+    pub fn pop_held(&mut self, ends: &Ends, any: bool) -> Option<HeldSegment> {
+        let connection = self.by_ends.get_mut(ends)?;
+        let at = connection.ready(any)?;
+        if at < connection.held.len() {
+            Some(connection.held.remove(at))
+        } else {
+            None
+        }
+    }
+
+    /// A connection whose first segment waits for too long.
+    pub fn pop_waiting(&mut self) -> Option<Ends> {
+        let first = self.waiting.front().copied()?;
+        if self.now.saturating_sub(first.at) <= LATE {
+            return None;
+        }
+        self.waiting.pop_front();
+        let connection = self.by_ends.get(&first.ends)?;
+        (connection.held_at == first.at).then_some(first.ends)
     }
 
     /// The connection between two ends.
@@ -167,6 +228,8 @@ impl Connections {
             },
             is_over: false,
             sent: 0,
+            held: Vec::new(alloc),
+            held_at: 0,
             heard_at: 0,
         };
         self.by_ends.insert(ends, connection)?;

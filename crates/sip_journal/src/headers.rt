@@ -1,6 +1,7 @@
 //! The TCP segment of a packet: after the header of its link and that of IPv4 or IPv6.
 
 use crate::numbers::ByteOrder;
+use std::alloc::{AllocError, Global};
 use std::net::{IpAddr, Ipv4Addr, Ipv6Addr, SocketAddr};
 
 /// How the numbers of headers are written.
@@ -27,9 +28,59 @@ pub struct TcpSegment<'p> {
 }
 
 impl TcpSegment<'_> {
+    /// Its two ends, the lesser address first, and whether that sends it.
+    pub fn both_ends(&self) -> ((SocketAddr, SocketAddr), bool) {
+        if self.from <= self.to {
+            ((self.from, self.to), true)
+        } else {
+            ((self.to, self.from), false)
+        }
+    }
+
     /// How many bytes it has, captured or not.
     pub fn len(&self) -> u64 {
         (self.payload.len() as u64).saturating_add(self.cut as u64)
+    }
+}
+
+/// A segment that waits for others.
+#[derive(Drop)]
+pub struct HeldSegment {
+    from: SocketAddr,
+    to: SocketAddr,
+    number: u32,
+    acknowledged: Option<u32>,
+    ends: bool,
+    payload: Vec<u8>,
+    cut: usize,
+}
+
+impl HeldSegment {
+    /// A copy of a segment that neither begins a stream nor ends the connection.
+    pub fn new(alloc: Global, segment: &TcpSegment<'_>) -> Result<HeldSegment, AllocError> {
+        Ok(HeldSegment {
+            from: segment.from,
+            to: segment.to,
+            number: segment.number,
+            acknowledged: segment.acknowledged,
+            ends: segment.ends,
+            payload: Vec::from_slice(alloc, segment.payload)?,
+            cut: segment.cut,
+        })
+    }
+
+    pub fn segment(&self) -> TcpSegment<'_> {
+        TcpSegment {
+            from: self.from,
+            to: self.to,
+            number: self.number,
+            acknowledged: self.acknowledged,
+            begins: false,
+            ends: self.ends,
+            resets: false,
+            payload: self.payload.as_slice(),
+            cut: self.cut,
+        }
     }
 }
 
@@ -55,8 +106,8 @@ impl<'p> Captured<'p> {
     }
 }
 
-/// The TCP segment of a packet of a link, of which a capture left out this number of bytes at its end. Nothing if it has none, or a part
-/// of one.
+/// The TCP segment of a packet of a link, of which a capture left out this number of bytes at its
+/// end. Nothing if it has none, or a part of one.
 pub fn segment_of(link: usize, packet: &[u8], cut: usize) -> Option<TcpSegment<'_>> {
     let internet = in_link(link, packet)?;
     match *internet.first()? / 16 {
@@ -70,21 +121,26 @@ pub fn segment_of(link: usize, packet: &[u8], cut: usize) -> Option<TcpSegment<'
 fn in_link(link: usize, packet: &[u8]) -> Option<&[u8]> {
     let header = match link {
         0 | 108 => 4,
-        1 => return in_ethernet(packet),
+        1 => return in_frame(packet, 12, 14),
+        113 => return in_frame(packet, 14, 16),
+        276 => return in_frame(packet, 0, 20),
         12 | 14 | 101 | 228 | 229 => 0,
-        113 => 16,
-        276 => 20,
         _ => return None,
     };
     packet.get(header..)
 }
 
-/// What an Ethernet frame carries, where that is IP; the tags of networks within networks are passed.
-fn in_ethernet(frame: &[u8]) -> Option<&[u8]> {
-    for at in &[12usize, 16, 20] {
-        match NETWORK.short(frame, *at) {
-            0x8100 | 0x88a8 => {}
-            0x0800 | 0x86dd => return frame.get(at.saturating_add(2)..),
+/// What a frame carries, if that is IP: one place has its kind, and it begins at the other.
+/// The tags of networks within networks are passed.
+fn in_frame(frame: &[u8], kind_at: usize, begin: usize) -> Option<&[u8]> {
+    let (mut kind, mut at) = (NETWORK.short(frame, kind_at), begin);
+    for _ in 0..3 {
+        match kind {
+            0x8100 | 0x88a8 => {
+                kind = NETWORK.short(frame, at.saturating_add(2));
+                at = at.saturating_add(4);
+            }
+            0x0800 | 0x86dd => return frame.get(at..),
             _ => return None,
         }
     }
@@ -117,16 +173,21 @@ fn of_version_6(packet: &[u8], cut: usize) -> Option<TcpSegment<'_>> {
     let mut kind = NETWORK.short(packet, 6) / 0x100;
     let mut rest = Captured::new(packet, whole).after(40)?;
     for _ in 0..8 {
-        match kind {
+        // each says what follows it, and how long it is
+        let head = NETWORK.short(rest.bytes, 0);
+        let count = usize::from(head % 0x100);
+        let len = match kind {
             TCP => return of_tcp(from, to, rest),
-            // options for each hop, a route, options for the end: each says how long it is
-            0 | 43 | 60 => {
-                let head = NETWORK.short(rest.bytes, 0);
-                kind = head / 0x100;
-                rest = rest.after(usize::from(head % 0x100) * 8 + 8)?;
-            }
+            // options for each hop, a route, options for the end
+            0 | 43 | 60 => count * 8 + 8,
+            // a fragment that is the whole packet
+            44 if NETWORK.short(rest.bytes, 2) & 0xfff9 == 0 => 8,
+            // authentication
+            51 => count * 4 + 8,
             _ => return None,
-        }
+        };
+        kind = head / 0x100;
+        rest = rest.after(len)?;
     }
     None
 }

@@ -56,7 +56,8 @@ impl Sums {
         }
     }
 
-    /// The requests that lack a checksum: those without one, if at least one in ten of the client's has one.
+    /// The requests that lack a checksum: those without one, if at least one in ten of the client's
+    /// has one.
     fn lacking(&self) -> u64 {
         if self.bare <= self.summed.saturating_mul(SUMMED - 1) {
             self.bare

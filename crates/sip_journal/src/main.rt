@@ -21,6 +21,7 @@ mod packets;
 mod presets;
 mod progress;
 mod reading;
+mod repeats;
 mod run;
 mod source;
 mod times;

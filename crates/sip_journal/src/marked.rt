@@ -8,7 +8,7 @@ use std::fmt;
 /// How many bytes of a line are searched.
 const SEARCHED: usize = 4096;
 
-/// A line with a message in it: its number, the message, and what stands before and after that.
+/// A line with a message in it: its number, the message, and what is before and after that.
 #[derive(Clone, Copy)]
 pub struct MarkedLine<'t> {
     number: usize,
@@ -43,7 +43,8 @@ pub fn first_marked(alloc: Global, text: &[u8]) -> Result<Option<MarkedLine<'_>>
     Ok(None)
 }
 
-/// Where the first message of a line begins and ends. It begins with digits that follow neither a digit nor a letter.
+/// Where the first message of a line begins and ends. It begins with digits that follow neither a
+/// digit nor a letter.
 fn message_in(alloc: Global, line: &[u8]) -> Result<Option<(usize, usize)>, AllocError> {
     let Some(head) = head_of(line) else {
         return Ok(None);

@@ -37,7 +37,8 @@ const PACKET: usize = 6;
 /// What comes next in a capture.
 #[derive(Clone, Copy)]
 pub enum Next {
-    /// A packet of this link; its bytes are `Packets::bytes`, from this position up to the other, and so many more weren't captured.
+    /// A packet of this link; its bytes are `Packets::bytes`, from this position up to the other,
+    /// and this number of bytes more wasn't captured.
     Packet {
         link: usize,
         from: usize,
@@ -50,7 +51,8 @@ pub enum Next {
     Broken,
 }
 
-/// The link of an interface of pcapng, and how many bytes of a packet are captured at most; 0 is no limit.
+/// The link of an interface of pcapng, and how many bytes of a packet are captured at most; 0 is no
+/// limit.
 #[derive(Clone, Copy)]
 struct Interface {
     link: usize,
@@ -131,7 +133,7 @@ impl<'l, B: Read + Drop> Packets<'l, B> {
         if !self.fill(20) {
             return false;
         }
-        // (what stands above sixteen bits says which checksum the frames end in)
+        // (the bits above sixteen say which checksum the frames end in)
         self.link = Some(self.long(16) % 0x1_0000);
         true
     }
@@ -235,7 +237,8 @@ impl<'l, B: Read + Drop> Packets<'l, B> {
         })
     }
 
-    /// How many bytes of its packet a simple block has: it doesn't say that itself, and is filled up after them.
+    /// How many bytes of its packet a simple block has: it doesn't say that itself, and is filled
+    /// up after them.
     fn simple_len(&self, snap: usize) -> usize {
         let held = self.long(0).min(self.bytes.len().saturating_sub(8));
         if snap == 0 { held } else { held.min(snap) }

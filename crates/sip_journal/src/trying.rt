@@ -31,7 +31,8 @@ pub fn try_presets<R: Files + AllocGlobal>(rt: &R, log: &str) -> Result<String, 
     fits_of(rt.alloc(), log, &text)
 }
 
-/// The table of what the presets find in the lines of a log; it is refused if none finds a message that isn't odd.
+/// The table of what the presets find in the lines of a log; it is refused if none finds a message
+/// that isn't odd.
 fn fits_of(alloc: Global, log: &str, text: &[u8]) -> Result<String, MakingError> {
     let mut fits = Vec::new(alloc);
     for (name, form) in &PRESETS {
@@ -89,7 +90,7 @@ fn fit_of(
     let expressions = Expressions::new(alloc, form)?;
     let mut finder = expressions.finder(alloc)?;
     let mut source = LogSource::new(alloc, log, text);
-    let mut reading = JournalReader::new(alloc, InputKind::Lines);
+    let mut reading = JournalReader::new(alloc, InputKind::Lines, false);
     let mut making = Making::new(alloc, 1);
     read(&mut source, &mut finder, &mut reading, &mut making)?;
     let tally = reading.tally();

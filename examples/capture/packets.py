@@ -39,6 +39,17 @@ def version_6(source, target, segment, extensions, is_measured):
             + headers + segment)
 
 
+def fragments(packet):
+    """A packet of IP, cut up on its way into two."""
+    if packet[0] >> 4 == 4:
+        header, body = packet[:20], packet[20:]
+        parts = ((body[:32], 0x2000), (body[32:], 4))
+        return [header[:2] + struct.pack('>HHH', 20 + len(part), 7, field) + header[8:] + part for part, field in parts]
+    header, body = packet[:40], packet[40:]
+    parts = ((body[:32], 1), (body[32:], 32))
+    return [header[:4] + struct.pack('>HB', 8 + len(part), 44) + header[7:] + struct.pack('>BBHI', 6, 0, field, 9) + part for part, field in parts]
+
+
 def ethertype(version):
     return b'\x86\xdd' if version == 6 else b'\x08\x00'
 

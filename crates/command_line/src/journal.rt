@@ -70,7 +70,7 @@ first responses of another kind than their request, and ends with one line, here
   lines <n> exchanges <n> without-response <n> without-request <n> skipped <n> unknown <n>
   wrong-checksum <n> without-checksum <n> repeated <n> mismatched <n>
 For captures it says packets in place of lines, and goes on:
-  gaps <n> parts <n> cut <n> stray <n> foreign <n> foreign-bytes <n>
+  gaps <n> parts <n> cut <n> fragments <n> stray <n> foreign <n> foreign-bytes <n>
 
 Status 0: each request has its response, and nothing is odd. 1: some have none, a response
 has no request or another one, a message is odd or was sent again, times go back by more than

@@ -28,7 +28,7 @@ stretch_counts t = if t.is_of_packets then codes " gaps " ++ decimal t.gaps ++ c
 -- the counts of what was left out of captures
 abbrev pub left_counts : LogTally → List ℕ
 left_counts t = if t.is_of_packets then
-    codes " cut " ++ (decimal t.cuts ++ (codes " stray " ++ (decimal t.strays ++ (codes " foreign " ++ (decimal t.foreign ++ (codes " foreign-bytes " ++ decimal t.foreign_bytes)))))) else []
+    codes " cut " ++ (decimal t.cuts ++ (codes " fragments " ++ (decimal t.fragments ++ (codes " stray " ++ (decimal t.strays ++ (codes " foreign " ++ (decimal t.foreign ++ (codes " foreign-bytes " ++ decimal t.foreign_bytes)))))))) else []
 
 -- the line of counts
 abbrev pub counts_line : LogTally → Sums → List ℕ
@@ -40,7 +40,7 @@ is_too_odd t = nat_lt (t.messages / 10) (t.unknown + t.wrong + t.lacking)
 
 -- nothing is odd
 abbrev pub is_clean : LogTally → Bool
-is_clean t = (t.unknown == 0) && (t.wrong == 0) && (t.lacking == 0) && (t.repeated == 0) && (t.mismatched == 0) && (t.falls == 0) && (t.gaps == 0) && (t.parts == 0) && (t.cuts == 0) && (t.strays == 0)
+is_clean t = (t.unknown == 0) && (t.wrong == 0) && (t.lacking == 0) && (t.repeated == 0) && (t.mismatched == 0) && (t.falls == 0) && (t.gaps == 0) && (t.parts == 0) && (t.cuts == 0) && (t.fragments == 0) && (t.strays == 0)
 
 -- there are pairs, and each request has its response and each response its request
 abbrev pub is_complete : Sums → Bool

@@ -42,6 +42,8 @@ pub struct LogTally {
     pub parts: u64,
     /// Packets of which a capture cut the end.
     pub cuts: u64,
+    /// Packets of TCP that were cut up on their way, and aren't read.
+    pub fragments: u64,
     /// Segments that fit nowhere in their stream, and were left out.
     pub strays: u64,
     /// Connections that were left out, as neither end speaks SIP2, and the bytes that were sent on
@@ -85,6 +87,7 @@ impl LogTally {
             && self.gaps == 0
             && self.parts == 0
             && self.cuts == 0
+            && self.fragments == 0
             && self.strays == 0
     }
 }
@@ -252,6 +255,7 @@ impl fmt::Display for LeftCounts {
     fn fmt<W: fmt::Write>(&self, f: &mut fmt::Formatter<W>) -> fmt::Result {
         let LogTally {
             cuts,
+            fragments,
             strays,
             foreign,
             foreign_bytes,
@@ -260,7 +264,7 @@ impl fmt::Display for LeftCounts {
         if self.tally.is_of_packets {
             write!(
                 f,
-                " cut {cuts} stray {strays} foreign {foreign} foreign-bytes {foreign_bytes}"
+                " cut {cuts} fragments {fragments} stray {strays} foreign {foreign} foreign-bytes {foreign_bytes}"
             )
         } else {
             Ok(())

@@ -2,7 +2,7 @@
 
 use crate::capturing::Capturing;
 use crate::exchanges::ReadsOn;
-use crate::headers::segment_of;
+use crate::headers::{is_fragment, segment_of};
 use crate::packets::{Next, Packets};
 use crate::reading::JournalReader;
 use crate::source::open_file;
@@ -87,6 +87,9 @@ fn read_packet<B: Read + Drop>(
             let packet = packets.bytes().get(from..to).unwrap_or(&[]);
             let segment = segment_of(link, packet, cut);
             reading.count_packet(segment.is_none());
+            if segment.is_none() && is_fragment(link, packet) {
+                reading.fragment()?;
+            }
             if let Some(segment) = &segment {
                 if segment.cut > 0 {
                     reading.count_cut(packet.len());

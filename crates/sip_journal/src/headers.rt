@@ -117,6 +117,19 @@ pub fn segment_of(link: usize, packet: &[u8], cut: usize) -> Option<TcpSegment<'
     }
 }
 
+/// Whether a packet of a link is a part of one that was cut up on its way, with bytes of TCP.
+pub fn is_fragment(link: usize, packet: &[u8]) -> bool {
+    let Some(internet) = in_link(link, packet) else {
+        return false;
+    };
+    let kinds = (NETWORK.short(internet, 6), NETWORK.short(internet, 8));
+    match NETWORK.short(internet, 0) / 0x1000 {
+        4 => kinds.1 % 0x100 == TCP && kinds.0 % 0x4000 != 0,
+        6 => kinds.0 / 0x100 == 44 && NETWORK.short(internet, 40) / 0x100 == TCP,
+        _ => false,
+    }
+}
+
 /// What a packet of a link carries: Ethernet, Linux cooked, loopback, or bare IP.
 fn in_link(link: usize, packet: &[u8]) -> Option<&[u8]> {
     let header = match link {

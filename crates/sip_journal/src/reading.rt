@@ -55,6 +55,8 @@ pub struct JournalReader<'l> {
     /// Packets that lack the end of their segment, and how many bytes the longest of them has.
     cuts: u64,
     snap: usize,
+    /// Packets that are fragments with bytes of TCP.
+    fragments: u64,
     /// Segments that lay far from their stream and were left out.
     strays: u64,
     /// Connections of which neither end speaks SIP2, and the bytes that were sent on them.
@@ -82,6 +84,7 @@ impl<'l> JournalReader<'l> {
             broken: 0,
             cuts: 0,
             snap: 0,
+            fragments: 0,
             strays: 0,
             foreign: 0,
             foreign_bytes: 0,
@@ -166,11 +169,11 @@ impl<'l> JournalReader<'l> {
     /// Counts a response of another kind or number than the request that waits for one.
     fn mismatch(&mut self, response: &[u8]) -> Result<(), AllocError> {
         self.mismatched = self.mismatched.saturating_add(1);
-        if self.mismatched > TOLD {
-            return Ok(());
-        }
         let (place, head) = (self.place, LineHead(response));
-        self.note(format!(in self.alloc; "{place}: a response to another request: {head}\n"))
+        self.note(
+            self.mismatched,
+            format!(in self.alloc; "{place}: a response to another request: {head}\n"),
+        )
     }
 
     /// Counts a request that was sent again, and leaves it out if that is said, with the response
@@ -259,43 +262,53 @@ impl<'l> JournalReader<'l> {
         client: SocketAddr,
     ) -> Result<(), AllocError> {
         self.gaps = self.gaps.saturating_add(1);
-        if self.gaps > TOLD {
-            return Ok(());
-        }
         let (place, from) = (self.place, speaker(side));
-        self.note(match count {
-            Some(count) => format!(in self.alloc;
-                "{place}: {count} bytes from the {from} are missing, of {client}\n"
-            ),
-            None => format!(in self.alloc;
-                "{place}: an unknown number of bytes from the {from} is missing, of {client}\n"
-            ),
-        })
+        self.note(
+            self.gaps,
+            match count {
+                Some(count) => format!(in self.alloc;
+                    "{place}: {count} bytes from the {from} are missing, of {client}\n"
+                ),
+                None => format!(in self.alloc;
+                    "{place}: an unknown number of bytes from the {from} is missing, of {client}\n"
+                ),
+            },
+        )
     }
 
     /// A segment between two ends was left out, since it lay far from its stream and nothing
     /// followed on it.
     pub fn stray(&mut self, ends: Ends) -> Result<(), AllocError> {
         self.strays = self.strays.saturating_add(1);
-        if self.strays > TOLD {
-            return Ok(());
-        }
         let (place, (one, other)) = (self.place, ends);
-        self.note(format!(in self.alloc;
-            "{place}: a segment before this packet fits nowhere and is left out, of {one} and {other}\n"
-        ))
+        self.note(
+            self.strays,
+            format!(in self.alloc;
+                "{place}: a segment before this packet fits nowhere and is left out, of {one} and {other}\n"
+            ),
+        )
     }
 
     /// Neither of two ends speaks SIP2: their connection is left out.
     pub fn foreign(&mut self, ends: Ends) -> Result<(), AllocError> {
         self.foreign = self.foreign.saturating_add(1);
-        if self.foreign > TOLD {
-            return Ok(());
-        }
         let (place, (one, other)) = (self.place, ends);
-        self.note(format!(in self.alloc;
-            "{place}: a connection without SIP2 is left out, of {one} and {other}\n"
-        ))
+        self.note(
+            self.foreign,
+            format!(in self.alloc;
+                "{place}: a connection without SIP2 is left out, of {one} and {other}\n"
+            ),
+        )
+    }
+
+    /// The packet that was read last is a part of one that was cut up on its way.
+    pub fn fragment(&mut self) -> Result<(), AllocError> {
+        self.fragments = self.fragments.saturating_add(1);
+        let place = self.place;
+        self.note(
+            self.fragments,
+            format!(in self.alloc; "{place}: a fragment of a packet isn't read\n"),
+        )
     }
 
     /// Counts bytes of a connection that is left out.
@@ -311,27 +324,31 @@ impl<'l> JournalReader<'l> {
         piece: &[u8],
     ) -> Result<(), AllocError> {
         self.broken = self.broken.saturating_add(1);
-        if self.broken > TOLD {
-            return Ok(());
-        }
         let (place, from, head) = (self.place, speaker(side), LineHead(piece));
-        self.note(format!(in self.alloc;
-            "{place}: a part of a message from the {from}, of {client}: {head}\n"
-        ))
+        self.note(
+            self.broken,
+            format!(in self.alloc;
+                "{place}: a part of a message from the {from}, of {client}: {head}\n"
+            ),
+        )
     }
 
     /// A capture ends within a packet, or goes on with what is none.
     pub fn cut(&mut self) -> Result<(), AllocError> {
         self.broken = self.broken.saturating_add(1);
         let place = self.place;
-        self.note(format!(in self.alloc;
-            "{place}: what follows this packet is none, and isn't read\n"
-        ))
+        self.note(
+            1,
+            format!(in self.alloc; "{place}: what follows this packet is none, and isn't read\n"),
+        )
     }
 
-    /// Has a text reported.
-    fn note(&mut self, text: Result<String, AllocError>) -> Result<(), AllocError> {
-        self.found.push(Finding::Note(text?))?;
+    /// Has a text reported, if it is one of the first of its kind; this is its count.
+    fn note(&mut self, count: u64, text: Result<String, AllocError>) -> Result<(), AllocError> {
+        let note = Finding::Note(text?);
+        if count <= TOLD {
+            self.found.push(note)?;
+        }
         Ok(())
     }
 
@@ -362,6 +379,7 @@ impl<'l> JournalReader<'l> {
             gaps: self.gaps,
             parts: self.broken,
             cuts: self.cuts,
+            fragments: self.fragments,
             strays: self.strays,
             foreign: self.foreign,
             foreign_bytes: self.foreign_bytes,

@@ -103,10 +103,7 @@ fn form_of(alloc: Global, options: &JournalOptions) -> Result<LogForm<'_>, Makin
 }
 
 fn text(option: &Option<String>) -> Option<&str> {
-    match option {
-        Some(text) => Some(text.as_str()),
-        None => None,
-    }
+    option.as_ref().map(|text| text.as_str())
 }
 
 /// What a word names in a table; it is refused with all names of the table if it is none of them.

@@ -9,6 +9,9 @@ use std::mem;
 /// as far as it is known.
 const FAR: u64 = 1024 * 1024;
 
+/// How many bytes of a segment that lies far away are kept; the others count as cut.
+const KEPT: usize = 2048;
+
 /// How many segments may wait for one that is missing.
 const MOST: usize = 1024;
 
@@ -96,8 +99,7 @@ impl Half {
         mem::replace(&mut self.is_anew, false)
     }
 
-    /// Whether bytes before this number, for which the other end waits, may yet come: they didn't, and
-    /// no capture cut them.
+    /// Whether bytes before this number may yet come: they didn't, and no capture cut them.
     pub fn lacks(&self, number: u32) -> bool {
         let Some(stream) = &self.stream else {
             return false;
@@ -187,10 +189,11 @@ impl Half {
         if self.stream.is_none() || segment.len() == 0 {
             return Ok(());
         }
+        let kept = &segment.payload[..segment.payload.len().min(KEPT)];
         let far = FarSegment {
             number,
-            payload: Vec::from_slice(self.alloc, segment.payload)?,
-            cut: segment.cut,
+            payload: Vec::from_slice(self.alloc, kept)?,
+            cut: (segment.len() as usize).saturating_sub(kept.len()),
             ends: segment.ends,
         };
         self.leave_far(Some(far))

@@ -18,13 +18,36 @@ def version_4(source, target, segment, options, is_measured):
     return struct.pack('>BBHHHBBH', 0x45 + len(options) // 4, 0, whole, 7, 0x4000, 64, 6, 0) + bytes(source) + bytes(target) + options + segment
 
 
+# The kinds of two extension headers of IPv6 whose lengths are written otherwise than those of the others.
+FRAGMENT, AUTHENTICATION = 44, 51
+
+
+def extension(kind, after, length):
+    if kind == FRAGMENT:
+        return bytes([after, 0, 0, 6]) + bytes(4)
+    if kind == AUTHENTICATION:
+        return bytes([after, length // 4 - 2]) + bytes(length - 2)
+    return bytes([after, length // 8 - 1, 1, length - 4]) + bytes(length - 4)
+
+
 def version_6(source, target, segment, extensions, is_measured):
     """A packet with extension headers of these kinds and lengths before the segment."""
     kinds = [kind for kind, _ in extensions] + [6]
-    headers = b''.join(bytes([after, length // 8 - 1, 1, length - 4]) + bytes(length - 4) for after, (_, length) in zip(kinds[1:], extensions))
+    headers = b''.join(extension(kind, after, length) for after, (kind, length) in zip(kinds[1:], extensions))
     whole = len(headers) + len(segment) if is_measured else 0
     return (struct.pack('>IHBB', 6 << 28, whole, kinds[0], 64) + bytes(10) + b'\xff\xff' + bytes(source) + bytes(10) + b'\xff\xff' + bytes(target)
             + headers + segment)
+
+
+def fragments(packet):
+    """A packet of IP, cut up on its way into two."""
+    if packet[0] >> 4 == 4:
+        header, body = packet[:20], packet[20:]
+        parts = ((body[:32], 0x2000), (body[32:], 4))
+        return [header[:2] + struct.pack('>HHH', 20 + len(part), 7, field) + header[8:] + part for part, field in parts]
+    header, body = packet[:40], packet[40:]
+    parts = ((body[:32], 1), (body[32:], 32))
+    return [header[:4] + struct.pack('>HB', 8 + len(part), 44) + header[7:] + struct.pack('>BBHI', 6, 0, field, 9) + part for part, field in parts]
 
 
 def ethertype(version):
@@ -37,6 +60,8 @@ LINKS = {
     'vlan': (1, lambda version: bytes(12) + b'\x81\x00\x00\x07' + ethertype(version)),
     'vlan in vlan': (1, lambda version: bytes(12) + b'\x88\xa8\x00\x07\x81\x00\x00\x08' + ethertype(version)),
     'cooked': (113, lambda version: bytes(14) + ethertype(version)),
+    'cooked, vlan': (113, lambda version: bytes(14) + b'\x81\x00\x00\x07' + ethertype(version)),
+    'cooked-2, vlan': (276, lambda version: b'\x81\x00' + bytes(18) + b'\x00\x07' + ethertype(version)),
     'cooked-2': (276, lambda version: ethertype(version) + bytes(18)),
     'loopback': (0, lambda version: struct.pack('<I', 30 if version == 6 else 2)),
     'bare': (101, lambda version: b''),
@@ -93,14 +118,18 @@ def framed(packets, link, least=0, filler=b'\0'):
     return [frame + filler * (least - len(frame)) for frame in frames]
 
 
-def pcap(packets, link, order='<', magic=0xa1b2c3d4):
-    return pcap_of(framed(packets, link), LINKS[link][0], order, magic)
+# How many bytes of a frame tcpdump captures, where nothing else is said.
+WHOLE = 262144
 
 
-def pcap_of(frames, number, order='<', magic=0xa1b2c3d4):
-    out = struct.pack(order + 'IHHiIII', magic, 2, 4, 0, 0, 262144, number)
+def pcap(packets, link, order='<', magic=0xa1b2c3d4, snap=WHOLE):
+    return pcap_of(framed(packets, link), LINKS[link][0], order, magic, snap)
+
+
+def pcap_of(frames, number, order='<', magic=0xa1b2c3d4, snap=WHOLE):
+    out = struct.pack(order + 'IHHiIII', magic, 2, 4, 0, 0, snap, number)
     for at, packet in enumerate(frames):
-        out += struct.pack(order + 'IIII', 1772874000 + at // 100, at % 100 * 10000, len(packet), len(packet)) + packet
+        out += struct.pack(order + 'IIII', 1772874000 + at // 100, at % 100 * 10000, len(packet[:snap]), len(packet)) + packet[:snap]
     return out
 
 
@@ -113,23 +142,23 @@ def block(order, kind, body):
 OLD, SIMPLE, ENHANCED = 2, 3, 6
 
 
-def packet_block(order, kind, interface, at, packet):
+def packet_block(order, kind, interface, at, packet, snap):
     if kind == SIMPLE:
-        return block(order, kind, struct.pack(order + 'I', len(packet)) + packet)
+        return block(order, kind, struct.pack(order + 'I', len(packet)) + packet[:snap])
     # (an old one has 16 bits for its interface, and counts what was dropped before it)
     head = struct.pack(order + 'HH', interface, 3) if kind == OLD else struct.pack(order + 'I', interface)
-    return block(order, kind, head + struct.pack(order + 'IIII', 0, at, len(packet), len(packet)) + packet)
+    return block(order, kind, head + struct.pack(order + 'IIII', 0, at, len(packet[:snap]), len(packet)) + packet[:snap])
 
 
-def pcapng(packets, links, order='<', kind=ENHANCED, options=b''):
+def pcapng(packets, links, order='<', kind=ENHANCED, options=b'', snap=WHOLE):
     """A section whose interfaces have these links; the packets come on them by turns."""
     links = [links] if isinstance(links, str) else links
     out = block(order, 0x0a0d0d0a, struct.pack(order + 'IHHq', 0x1a2b3c4d, 1, 0, -1) + options)
     for link in links:
-        out += block(order, 1, struct.pack(order + 'HHI', LINKS[link][0], 0, 262144))
+        out += block(order, 1, struct.pack(order + 'HHI', LINKS[link][0], 0, snap))
     for at, packet in enumerate(packets):
         if at % 50 == 7:
             out += block(order, 5, struct.pack(order + 'III', 0, 0, at))
         interface = at % len(links)
-        out += packet_block(order, kind, interface, at, framed([packet], links[interface])[0])
+        out += packet_block(order, kind, interface, at, framed([packet], links[interface])[0], snap)
     return out

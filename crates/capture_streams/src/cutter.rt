@@ -106,6 +106,13 @@ impl Cutter {
         self.bytes.as_slice()
     }
 
+    /// Whether bytes are missing before them.
+    pub fn is_after_gap(&self) -> bool
+        ensures { result ≡ self.now.after_gap }
+    {
+        self.after_gap
+    }
+
     /// Takes the next byte. Gives the piece that it ends, if it ends one.
     pub fn take(&mut self, byte: u8) -> Result<Option<StreamPiece>, AllocError>
         ensures whole { IfOk result (λ piece. written piece ++ bytes_alone self.new.bytes ≡ bytes_alone self.old.bytes ++ Byte byte ∷ []) }

@@ -38,6 +38,9 @@ const MERGE_HELP: &str = "Reads the logs side by side, by the times of their lin
 const FORCE_HELP: &str = "Writes the journal even if too much in it is
 odd, and reads files that don't look like a log";
 
+const DROP_HELP: &str = "Leaves out a request that was sent again: with the bytes
+of the one before it, and without a response of its own";
+
 const PRESET_HELP: &str = "A known form of lines: koha-log4perl, koha-syslog, evergreen,
 rsyslog, mediator, journald, two-line, pair, arrows,
 input-output or received-sent; other options replace parts of it";
@@ -60,16 +63,21 @@ const AFTER_HELP: &str = "Example:
 A line that matches --request is a request, else one that matches --response a response;
 all others are skipped. A response belongs to the last request of its connection that
 has none yet; a request that is followed by another one has an empty response. The
-journal goes to standard output. Standard error names each response without a request,
-the first skipped lines and the first odd messages (an unknown identifier, a wrong
-checksum, none where the client sends some), and ends with one line, here in two:
+journal goes to standard output. Standard error names the first responses without a
+request, the first skipped lines, the first odd messages (an unknown identifier, a wrong
+checksum, none where the client sends some), the first requests that were sent again and the
+first responses of another kind than their request, and ends with one line, here in two:
   lines <n> exchanges <n> without-response <n> without-request <n> skipped <n> unknown <n>
-  wrong-checksum <n> without-checksum <n>
+  wrong-checksum <n> without-checksum <n> repeated <n> mismatched <n>
+For captures it says packets in place of lines, and goes on:
+  gaps <n> parts <n> cut <n> fragments <n> stray <n> foreign <n> foreign-bytes <n>
 
 Status 0: each request has its response, and nothing is odd. 1: some have none, a response
-has no request, a message is odd, or times go back by more than a minute. 2: the command
-line, a log or a line is refused, no exchange was found, or more than one message in ten
-is odd; standard error says why. 3: a file cannot be read or written, or memory ran out.";
+has no request or another one, a message is odd or was sent again, times go back by more than
+a minute, or bytes of a capture are missing. 2: the command line, a file or a line is refused,
+no preset fits, no exchange was found, more than one message in ten is odd, or more than one
+packet in ten is cut; standard error says why. 3: a file cannot be read or written, or memory
+ran out.";
 
 /// The logs or captures of a journal, as the words name them, and how they are read.
 pub struct JournalOptions {
@@ -97,6 +105,8 @@ pub struct JournalOptions {
     pub merge: bool,
     /// Whether a journal is written even if too much in it is odd.
     pub force: bool,
+    /// Whether requests that were sent again are left out.
+    pub drop_repeated: bool,
     /// The captures, in the order in which they are read.
     pub captures: Vec<String>,
     /// The logs, in the order in which they are read; `-` is standard input.
@@ -118,6 +128,7 @@ impl Drop for JournalOptions {
             port: _,
             merge: _,
             force: _,
+            drop_repeated: _,
             captures: _,
             logs: _,
         } = self;
@@ -154,6 +165,7 @@ impl JournalOptions {
             port: None,
             merge: false,
             force: false,
+            drop_repeated: false,
             captures: Vec::new(alloc),
             logs: Vec::new(alloc),
         }
@@ -178,6 +190,7 @@ impl JournalOptions {
         self.port = matches.get_one::<u16>("port");
         self.merge = matches.get_flag("merge");
         self.force = matches.get_flag("force");
+        self.drop_repeated = matches.get_flag("drop-repeated");
         self.captures = texts_of(alloc, matches, "capture")?;
         self.logs = texts_of(alloc, matches, "logs")?;
         Ok(())
@@ -201,6 +214,7 @@ fn command<'a>(alloc: Global) -> Result<Command<'a>, AllocError> {
         optional(alloc, "port", "N", PORT_HELP).value_parser(value_parser!(u16)),
         flag(alloc, "merge", MERGE_HELP),
         flag(alloc, "force", FORCE_HELP),
+        flag(alloc, "drop-repeated", DROP_HELP),
         logs,
     ]?;
     program(alloc, "sip_journal", ABOUT, AFTER_HELP, args)

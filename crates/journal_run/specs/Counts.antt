@@ -17,13 +17,22 @@ spare_counts unanswered unasked skipped =
 abbrev pub odd_counts : LogTally → List ℕ
 odd_counts t = codes " unknown " ++ (decimal t.unknown ++ (codes " wrong-checksum " ++ (decimal t.wrong ++ (codes " without-checksum " ++ decimal t.lacking))))
 
+-- requests that were sent again, and responses that don't fit theirs
+abbrev pub pair_counts : LogTally → List ℕ
+pair_counts t = codes " repeated " ++ (decimal t.repeated ++ (codes " mismatched " ++ decimal t.mismatched))
+
 -- the counts of captured streams
 abbrev pub stretch_counts : LogTally → List ℕ
 stretch_counts t = if t.is_of_packets then codes " gaps " ++ decimal t.gaps ++ codes " parts " ++ decimal t.parts else []
 
+-- the counts of what was left out of captures
+abbrev pub left_counts : LogTally → List ℕ
+left_counts t = if t.is_of_packets then
+    codes " cut " ++ (decimal t.cuts ++ (codes " fragments " ++ (decimal t.fragments ++ (codes " stray " ++ (decimal t.strays ++ (codes " foreign " ++ (decimal t.foreign ++ (codes " foreign-bytes " ++ decimal t.foreign_bytes)))))))) else []
+
 -- the line of counts
 abbrev pub counts_line : LogTally → Sums → List ℕ
-counts_line t s = head_counts t s.exchanges ++ (spare_counts s.unanswered s.unasked t.skipped ++ (odd_counts t ++ (stretch_counts t ++ codes "\n")))
+counts_line t s = head_counts t s.exchanges ++ (spare_counts s.unanswered s.unasked t.skipped ++ (odd_counts t ++ (pair_counts t ++ (stretch_counts t ++ (left_counts t ++ codes "\n")))))
 
 -- more than one message in ten is odd
 abbrev pub is_too_odd : LogTally → Bool
@@ -31,7 +40,7 @@ is_too_odd t = nat_lt (t.messages / 10) (t.unknown + t.wrong + t.lacking)
 
 -- nothing is odd
 abbrev pub is_clean : LogTally → Bool
-is_clean t = (t.unknown == 0) && (t.wrong == 0) && (t.lacking == 0) && (t.falls == 0) && (t.gaps == 0) && (t.parts == 0)
+is_clean t = (t.unknown == 0) && (t.wrong == 0) && (t.lacking == 0) && (t.repeated == 0) && (t.mismatched == 0) && (t.falls == 0) && (t.gaps == 0) && (t.parts == 0) && (t.cuts == 0) && (t.fragments == 0) && (t.strays == 0)
 
 -- there are pairs, and each request has its response and each response its request
 abbrev pub is_complete : Sums → Bool

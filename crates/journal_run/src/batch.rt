@@ -6,9 +6,12 @@ ghost use Rattle.journal_run.specs.Making.{StopsTaking, TakesAll, TakesFound};
 
 use crate::finding::Finding;
 use crate::making::{Making, Taken};
-use crate::place::LogPlace;
+use crate::place::{LineHead, LogPlace};
 use crate::stop::MakingError;
 use std::alloc::{AllocError, Global};
+
+/// How many responses without a request are reported.
+const TOLD: u64 = 3;
 
 impl Making {
     /// Takes what is found next. Of a report nothing is taken.
@@ -66,10 +69,23 @@ fn take_one(
     }
     match making.take_found(one)? {
         Taken::Paired => Ok(()),
-        Taken::Unasked => {
-            write!(notes, "{place}: a response without a request\n")?;
-            Ok(())
-        }
+        Taken::Unasked => Ok(tell_unasked(place, one, making.unasked, notes)?),
         Taken::Refused(why) => Err(MakingError::of_line(alloc, place, why)),
+    }
+}
+
+/// Reports a response without a request, if it is one of the first; this is its count.
+fn tell_unasked(
+    place: LogPlace<'_>,
+    one: &Finding,
+    unasked: u64,
+    notes: &mut String,
+) -> Result<(), AllocError> {
+    match one {
+        Finding::Message { message, .. } if unasked <= TOLD => {
+            let head = LineHead(message.as_slice());
+            write!(notes, "{place}: a response without a request: {head}\n")
+        }
+        _ => Ok(()),
     }
 }

@@ -3,6 +3,7 @@
 use log_pairs::Direction;
 
 /// What is found in a log or a capture.
+#[derive(Drop)]
 pub enum Finding {
     /// A message of a connection.
     Message {
@@ -14,18 +15,4 @@ pub enum Finding {
     Over(Vec<u8>),
     /// What is to be reported, with its line end.
     Note(String),
-}
-
-impl Drop for Finding {
-    fn drop(self) {
-        match self {
-            Finding::Message {
-                side: _,
-                connection: _,
-                message: _,
-            } => {}
-            Finding::Over(_) => {}
-            Finding::Note(_) => {}
-        }
-    }
 }

@@ -16,7 +16,7 @@ mod tally;
 pub use ending::{make_journal, print_text, refuse, refuse_words, tell_error};
 pub use finding::Finding;
 pub use making::{Making, Taken};
-pub use place::LogPlace;
+pub use place::{LineHead, LogPlace};
 pub use source::ExchangeSource;
 pub use stop::MakingError;
 pub use tally::LogTally;

@@ -18,6 +18,7 @@ const ROWS: usize = 4096;
 pub const PATIENCE: usize = 16_384;
 
 /// The journal that is made. What isn't printed yet is kept.
+#[derive(Drop)]
 pub struct Making {
     pub(crate) alloc: Global,
     pub(crate) pairing: Pairing,
@@ -33,21 +34,6 @@ pub struct Making {
     pub unanswered: u64,
     /// How many responses had no request.
     pub unasked: u64,
-}
-
-impl Drop for Making {
-    fn drop(self) {
-        let Making {
-            alloc: _,
-            pairing: _,
-            ready: _,
-            number: _,
-            begun: _,
-            exchanges: _,
-            unanswered: _,
-            unasked: _,
-        } = self;
-    }
 }
 
 /// What became of a message.

@@ -2,7 +2,7 @@
 
 ghost use Rattle.std.specs.Prelude.{◌≡◌, ◌+◌, ◌++◌, Some, min};
 ghost use Rattle.journal_run.specs.Heard.{top};
-ghost use Rattle.journal_run.specs.Counts.{counts_line, ended_status, head_counts, is_clean, is_complete, is_too_odd, odd_counts, spare_counts, stretch_counts};
+ghost use Rattle.journal_run.specs.Counts.{counts_line, ended_status, head_counts, is_clean, is_complete, is_too_odd, left_counts, odd_counts, pair_counts, spare_counts, stretch_counts};
 
 use std::fmt;
 
@@ -31,11 +31,25 @@ pub struct LogTally {
     pub wrong: u64,
     /// Requests that lack a checksum.
     pub lacking: u64,
+    /// Requests that were sent again.
+    pub repeated: u64,
+    /// Responses of another kind or sequence number than their request.
+    pub mismatched: u64,
     /// How often times fell back.
     pub falls: u64,
     /// Gaps in captured streams, and parts that they leave of messages.
     pub gaps: u64,
     pub parts: u64,
+    /// Packets of which a capture cut the end.
+    pub cuts: u64,
+    /// Packets of TCP that were cut up on their way, and aren't read.
+    pub fragments: u64,
+    /// Segments that fit nowhere in their stream, and were left out.
+    pub strays: u64,
+    /// Connections that were left out, as neither end speaks SIP2, and the bytes that were sent on
+    /// them.
+    pub foreign: u64,
+    pub foreign_bytes: u64,
 }
 
 impl LogTally {
@@ -67,9 +81,14 @@ impl LogTally {
         self.unknown == 0
             && self.wrong == 0
             && self.lacking == 0
+            && self.repeated == 0
+            && self.mismatched == 0
             && self.falls == 0
             && self.gaps == 0
             && self.parts == 0
+            && self.cuts == 0
+            && self.fragments == 0
+            && self.strays == 0
     }
 }
 
@@ -109,8 +128,10 @@ impl fmt::Display for CountsLine {
         let head = HeadCounts { line: *self };
         let spare = SpareCounts { line: *self };
         let odd = OddCounts { tally: self.tally };
+        let pairs = PairCounts { tally: self.tally };
         let stretches = StretchCounts { tally: self.tally };
-        write!(f, "{head}{spare}{odd}{stretches}\n")
+        let left = LeftCounts { tally: self.tally };
+        write!(f, "{head}{spare}{odd}{pairs}{stretches}{left}\n")
     }
 }
 
@@ -184,6 +205,25 @@ impl fmt::Display for OddCounts {
     }
 }
 
+/// Requests that were sent again, and responses that don't fit theirs.
+#[derive(Clone, Copy)]
+struct PairCounts {
+    tally: LogTally,
+}
+
+impl fmt::Display for PairCounts {
+    ghost output = { λ c. Some (pair_counts c.tally) };
+
+    fn fmt<W: fmt::Write>(&self, f: &mut fmt::Formatter<W>) -> fmt::Result {
+        let LogTally {
+            repeated,
+            mismatched,
+            ..
+        } = self.tally;
+        write!(f, " repeated {repeated} mismatched {mismatched}")
+    }
+}
+
 /// The counts of captured streams, where there are some.
 #[derive(Clone, Copy)]
 struct StretchCounts {
@@ -197,6 +237,35 @@ impl fmt::Display for StretchCounts {
         let LogTally { gaps, parts, .. } = self.tally;
         if self.tally.is_of_packets {
             write!(f, " gaps {gaps} parts {parts}")
+        } else {
+            Ok(())
+        }
+    }
+}
+
+/// The counts of what was left out of captures, if they are what was read.
+#[derive(Clone, Copy)]
+struct LeftCounts {
+    tally: LogTally,
+}
+
+impl fmt::Display for LeftCounts {
+    ghost output = { λ c. Some (left_counts c.tally) };
+
+    fn fmt<W: fmt::Write>(&self, f: &mut fmt::Formatter<W>) -> fmt::Result {
+        let LogTally {
+            cuts,
+            fragments,
+            strays,
+            foreign,
+            foreign_bytes,
+            ..
+        } = self.tally;
+        if self.tally.is_of_packets {
+            write!(
+                f,
+                " cut {cuts} fragments {fragments} stray {strays} foreign {foreign} foreign-bytes {foreign_bytes}"
+            )
         } else {
             Ok(())
         }

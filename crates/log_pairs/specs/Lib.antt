@@ -1,5 +1,6 @@
 pub mod Devices
 pub mod Escapes
+pub mod Fitting
 pub mod Odd
 pub mod Pairs
 pub mod Rows

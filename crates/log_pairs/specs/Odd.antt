@@ -7,8 +7,7 @@ use Rattle.sip_reader.specs.Bytes as byte
 use Rattle.sip_reader.specs.Reading.{reading, trimmed}
 use Rattle.sip_reader.specs.Sum.{has_trailer}
 use Rattle.sip_reader.specs.declared.request.Reading.{Reading}
-use Rattle.sip_reader.specs.declared.request.Reading.TheVariants.{BadSum, Unread}
-use Rattle.sip_reader.specs.declared.request.Why.TheVariants.{UnknownKind}
+use Rattle.sip_reader.specs.declared.request.Reading.TheVariants.{BadSum}
 use Rattle.log_pairs.specs.declared.odd.Odd.{Odd}
 use Rattle.log_pairs.specs.declared.odd.Odd.TheVariants.{UnknownIdentifier, WrongSum, NoSum}
 use Rattle.log_pairs.specs.declared.odd.Direction.{Direction}
@@ -18,9 +17,11 @@ abbrev pub is_bad_sum : Reading → Bool
 is_bad_sum BadSum = true
 is_bad_sum _ = false
 
-abbrev pub is_unknown : Reading → Bool
-is_unknown (Unread UnknownKind) = true
-is_unknown _ = false
+-- the numbers of requests
+abbrev pub is_request : ℕ → Bool
+is_request n =
+    (n == 1) || ((n == 9) || ((n == 11) || ((n == 15) || ((n == 17) || ((n == 19) || ((n == 23) || ((n == 25) || ((n == 29) || ((n == 35) || ((n == 37)
+    || ((n == 63) || ((n == 65) || ((n == 93) || ((n == 97) || (n == 99)))))))))))))))
 
 -- the numbers of responses
 abbrev pub is_response : ℕ → Bool
@@ -28,13 +29,16 @@ is_response n =
     (n == 10) || ((n == 12) || ((n == 16) || ((n == 18) || ((n == 20) || ((n == 24) || ((n == 26) || ((n == 30) || ((n == 36) || ((n == 38)
     || ((n == 64) || ((n == 66) || ((n == 94) || ((n == 96) || (n == 98))))))))))))))
 
-abbrev pub is_response_at : ℕ → ℕ → Bool
-is_response_at a b = (is_ascii_digit a && is_ascii_digit b) && is_response ((a - byte.zero) * 10 + (b - byte.zero))
+abbrev pub is_identifier : Direction → ℕ → Bool
+is_identifier Request n = is_request n
+is_identifier Response n = is_response n
 
--- whether a message begins with an identifier of a request that is read or passed over, or with one of a response
+abbrev pub is_identifier_at : Direction → ℕ → ℕ → Bool
+is_identifier_at side a b = (is_ascii_digit a && is_ascii_digit b) && is_identifier side ((a - byte.zero) * 10 + (b - byte.zero))
+
+-- whether the first two bytes of a message are an identifier of a request, or of a response
 abbrev pub has_identifier : Direction → List ℕ → Bool
-has_identifier Request m = nat_le 2 (length m) && not (is_unknown (reading (take 2 m)))
-has_identifier Response m = nat_le 2 (length m) && is_response_at (slice_index m 0) (slice_index m 1)
+has_identifier side m = nat_le 2 (length m) && is_identifier_at side (slice_index m 0) (slice_index m 1)
 
 -- whether error detection ends before this number of bytes
 abbrev pub has_sum_within : ℕ → List ℕ → Bool

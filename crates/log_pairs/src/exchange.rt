@@ -6,20 +6,11 @@ use std::alloc::{AllocError, Global};
 use std::marker::Model;
 
 /// A request, the connection that it came over, and the response to it, if there was one.
+#[derive(Drop)]
 pub struct Exchange {
     connection: Vec<u8>,
     request: Vec<u8>,
     response: Option<Vec<u8>>,
-}
-
-impl Drop for Exchange {
-    fn drop(self) {
-        let Exchange {
-            connection: _,
-            request: _,
-            response: _,
-        } = self;
-    }
 }
 
 impl Model for Exchange {

@@ -5,12 +5,14 @@
 
 mod escapes;
 mod exchange;
+mod fitting;
 mod odd;
 mod pairing;
 mod rows;
 
 pub use escapes::{Escapes, unescaped};
 pub use exchange::Exchange;
+pub use fitting::fits;
 pub use odd::{Direction, Odd, odd_of};
 pub use pairing::Pairing;
 pub use rows::{head_text, joins, reads_back, rows_text};

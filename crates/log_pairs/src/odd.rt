@@ -3,7 +3,7 @@
 ghost use Rattle.std.specs.Prelude.{◌≡◌, ◌≤◌, IfOk, length};
 ghost use Rattle.log_pairs.specs.Odd as Spec;
 
-use sip_reader::{Reading, Why, read_request, unsummed, without_line_end};
+use sip_reader::{Reading, read_request, unsummed, without_line_end};
 use std::alloc::{AllocError, Global};
 
 /// Whether a message is a request or a response.
@@ -28,7 +28,7 @@ pub enum Odd {
 pub fn odd_of(alloc: Global, side: Direction, message: &[u8]) -> Result<Option<Odd>, AllocError>
     ensures { IfOk result (λ odd. odd ≡ Spec.odd_of side message.now) }
 {
-    if !has_identifier(alloc, side, message)? {
+    if !has_identifier(side, message) {
         return Ok(Some(Odd::UnknownIdentifier));
     }
     let has_bad_sum = is_bad_sum(&read_request(alloc, message)?);
@@ -43,16 +43,10 @@ pub fn odd_of(alloc: Global, side: Direction, message: &[u8]) -> Result<Option<O
 }
 
 /// Whether a message begins with an identifier of a request (or response).
-fn has_identifier(alloc: Global, side: Direction, message: &[u8]) -> Result<bool, AllocError>
-    ensures { IfOk result (λ known. known ≡ Spec.has_identifier side message.now) }
+fn has_identifier(side: Direction, message: &[u8]) -> bool
+    ensures { result ≡ Spec.has_identifier side message.now }
 {
-    if message.len() < 2 {
-        return Ok(false);
-    }
-    match side {
-        Direction::Request => Ok(!is_unknown(&read_request(alloc, &message[..2])?)),
-        Direction::Response => Ok(is_response_at(message[0], message[1])),
-    }
+    message.len() >= 2 && is_identifier_at(side, message[0], message[1])
 }
 
 fn is_bad_sum(reading: &Reading) -> bool
@@ -64,20 +58,29 @@ fn is_bad_sum(reading: &Reading) -> bool
     }
 }
 
-fn is_unknown(reading: &Reading) -> bool
-    ensures { result ≡ Spec.is_unknown reading.now }
+/// Whether two bytes are the identifier of a request (or response).
+fn is_identifier_at(side: Direction, a: u8, b: u8) -> bool
+    ensures { result ≡ Spec.is_identifier_at side a b }
 {
-    match reading {
-        Reading::Unread(Why::UnknownKind) => true,
-        _ => false,
+    a.is_ascii_digit() && b.is_ascii_digit() && is_identifier(side, (a - b'0') * 10 + (b - b'0'))
+}
+
+fn is_identifier(side: Direction, number: u8) -> bool
+    ensures { result ≡ Spec.is_identifier side number }
+{
+    match side {
+        Direction::Request => is_request(number),
+        Direction::Response => is_response(number),
     }
 }
 
-/// Whether two bytes are the identifier of a response.
-fn is_response_at(a: u8, b: u8) -> bool
-    ensures { result ≡ Spec.is_response_at a b }
+fn is_request(number: u8) -> bool
+    ensures { result ≡ Spec.is_request number }
 {
-    a.is_ascii_digit() && b.is_ascii_digit() && is_response((a - b'0') * 10 + (b - b'0'))
+    match number {
+        1 | 9 | 11 | 15 | 17 | 19 | 23 | 25 | 29 | 35 | 37 | 63 | 65 | 93 | 97 | 99 => true,
+        _ => false,
+    }
 }
 
 fn is_response(number: u8) -> bool

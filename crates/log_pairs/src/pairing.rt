@@ -14,20 +14,11 @@ use std::marker::Model;
 
 /// The requests of a log that weren't taken yet, in their order: each waits to be taken. A request is open if it is the
 /// last of its connection, and no response has come. Positions of requests count from 0 over the whole log.
+#[derive(Drop)]
 pub struct Pairing {
     taken: usize,
     waiting: VecDeque<Exchange>,
     open: BTreeMap<Vec<u8>, usize>,
-}
-
-impl Drop for Pairing {
-    fn drop(self) {
-        let Pairing {
-            taken: _,
-            waiting: _,
-            open: _,
-        } = self;
-    }
 }
 
 impl Model for Pairing {

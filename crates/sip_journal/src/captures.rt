@@ -2,14 +2,18 @@
 
 use crate::capturing::Capturing;
 use crate::exchanges::ReadsOn;
-use crate::headers::segment_of;
+use crate::headers::{is_fragment, segment_of};
 use crate::packets::{Next, Packets};
 use crate::reading::JournalReader;
 use crate::source::open_file;
 use command_line::JournalOptions;
 use journal_run::{LogPlace, MakingError};
+use std::alloc::Global;
 use std::io::{BufReader, Read};
 use std::rt::Files;
+
+/// After how many packets it is certain that a capture cuts too many.
+const ENOUGH: u64 = 1000;
 
 /// Captures that are read.
 pub struct CaptureFiles<'a, 'l, R: Files> {
@@ -39,6 +43,9 @@ impl<'l, R: Files + AllocGlobal> ReadsOn<'l> for CaptureFiles<'_, 'l, R> {
             if !read_packet(packets, &mut self.capturing, reading)? {
                 self.packets = None;
             }
+            if !self.options.force && (self.packets.is_none() || reading.lines() >= ENOUGH) {
+                refuse_cut(self.rt.alloc(), reading)?;
+            }
             return Ok(true);
         }
         let Some(path) = self.options.captures.get(self.opened) else {
@@ -53,6 +60,17 @@ impl<'l, R: Files + AllocGlobal> ReadsOn<'l> for CaptureFiles<'_, 'l, R> {
     }
 }
 
+/// Refuses captures that cut more than one packet in ten.
+fn refuse_cut(alloc: Global, reading: &JournalReader<'_>) -> Result<(), MakingError> {
+    let Some(snap) = reading.snap_length() else {
+        return Ok(());
+    };
+    let log = reading.place.log;
+    Err(MakingError::refused_text(format!(in alloc;
+        "{log}: captured with a snap length of {snap} bytes: capture again with -s 0"
+    )))
+}
+
 /// Reads the next packet; false where there is none.
 fn read_packet<B: Read + Drop>(
     packets: &mut Packets<'_, B>,
@@ -60,11 +78,22 @@ fn read_packet<B: Read + Drop>(
     reading: &mut JournalReader<'_>,
 ) -> Result<bool, MakingError> {
     match packets.next()? {
-        Next::Packet { link, from, to } => {
+        Next::Packet {
+            link,
+            from,
+            to,
+            cut,
+        } => {
             let packet = packets.bytes().get(from..to).unwrap_or(&[]);
-            let segment = segment_of(link, packet);
+            let segment = segment_of(link, packet, cut);
             reading.count_packet(segment.is_none());
+            if segment.is_none() && is_fragment(link, packet) {
+                reading.fragment()?;
+            }
             if let Some(segment) = &segment {
+                if segment.cut > 0 {
+                    reading.count_cut(packet.len());
+                }
                 capturing.take(segment, reading)?;
             }
             Ok(true)

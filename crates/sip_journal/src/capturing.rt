@@ -3,14 +3,18 @@
 use crate::connection::{Half, Heard};
 use crate::connections::{Client, Connection, Connections, Ends, Talk};
 use crate::headers::TcpSegment;
+use crate::judging::{has_sum, is_message};
 use crate::reading::JournalReader;
 use capture_streams::StreamPiece;
 use log_pairs::{Direction, Odd, odd_of};
-use sip_reader::{unsummed, without_line_end};
 use std::alloc::{AllocError, Global};
 
 /// The port of a server, where none is named.
 const PORT: u16 = 6001;
+
+/// How many bytes may come of a message that isn't known to be one, as those before them weren't
+/// captured.
+const MESSAGE: usize = 2048;
 
 /// The messages of a capture.
 #[derive(Drop)]
@@ -37,25 +41,55 @@ impl Capturing {
         reading: &mut JournalReader<'_>,
     ) -> Result<(), AllocError> {
         self.settle(reading)?;
-        let is_first = segment.from <= segment.to;
-        let ends = if is_first {
-            (segment.from, segment.to)
-        } else {
-            (segment.to, segment.from)
-        };
+        let (ends, _) = segment.both_ends();
         if self.connections.get_mut(&ends).is_none() {
             match self.client_of(segment, ends) {
                 Some(client) => self.connections.begin(self.alloc, ends, client)?,
                 None => return Ok(()),
             }
         }
-        if let Some(connection) = self.connections.get_mut(&ends) {
-            begin_again(connection, is_first, segment, reading)?;
-            let was_over = connection.is_over;
-            hear(self.alloc, connection, is_first, segment, reading)?;
-            if !was_over {
-                self.connections.note(ends)?;
-            }
+        if self.connections.hold(self.alloc, segment)? {
+            return self.release(&ends, false, reading);
+        }
+        if segment.begins || segment.resets {
+            self.release(&ends, true, reading)?;
+        }
+        self.hear(segment, reading)?;
+        self.release(&ends, false, reading)
+    }
+
+    /// Hears a segment of a connection.
+    fn hear(
+        &mut self,
+        segment: &TcpSegment<'_>,
+        reading: &mut JournalReader<'_>,
+    ) -> Result<(), AllocError> {
+        let (ends, is_first) = segment.both_ends();
+        let Some(connection) = self.connections.get_mut(&ends) else {
+            return Ok(());
+        };
+        revive(self.alloc, connection, is_first, segment)?;
+        begin_again(connection, is_first, segment, reading)?;
+        let was_over = connection.is_over;
+        hear(self.alloc, connection, is_first, segment, reading)?;
+        if !was_over || !connection.is_over {
+            self.connections.note(ends)?;
+        }
+        Ok(())
+    }
+
+    /// Hears the segments of a connection that need not wait any longer, or all that wait.
+    fn release(
+        &mut self,
+        ends: &Ends,
+        all: bool,
+        reading: &mut JournalReader<'_>,
+    ) -> Result<(), AllocError> {
+        for _ in 0..u64::MAX {
+            let Some(held) = self.connections.pop_held(ends, all) else {
+                break;
+            };
+            self.hear(&held.segment(), reading)?;
         }
         Ok(())
     }
@@ -64,6 +98,9 @@ impl Capturing {
     fn settle(&mut self, reading: &mut JournalReader<'_>) -> Result<(), AllocError> {
         if let Some(client) = self.connections.settle()? {
             reading.over(client)?;
+        }
+        if let Some(ends) = self.connections.pop_waiting() {
+            self.release(&ends, true, reading)?;
         }
         match self.connections.pop_idle() {
             Some(ends) => self.finish(&ends, reading),
@@ -74,7 +111,7 @@ impl Capturing {
     /// The client of a connection that begins with this segment, as far as it is known; none where the connection has nothing to say,
     /// or another port is wanted.
     fn client_of(&self, segment: &TcpSegment<'_>, ends: Ends) -> Option<Client> {
-        if segment.payload.is_empty() && !segment.begins {
+        if segment.len() == 0 && !segment.begins {
             return None;
         }
         let port = self.port.unwrap_or(PORT);
@@ -89,10 +126,11 @@ impl Capturing {
 
     /// Nothing more comes of a connection: hands on what waits for its end, and forgets the connection.
     fn finish(&mut self, ends: &Ends, reading: &mut JournalReader<'_>) -> Result<(), AllocError> {
+        self.release(ends, true, reading)?;
         if let Some(connection) = self.connections.get_mut(ends) {
-            connection.first.close()?;
+            connection.first.finish()?;
             hand_on(self.alloc, connection, true, reading)?;
-            connection.second.close()?;
+            connection.second.finish()?;
             hand_on(self.alloc, connection, false, reading)?;
             if let Some(client) = connection.talk.address() {
                 reading.over(client)?;
@@ -112,6 +150,23 @@ impl Capturing {
         }
         Ok(())
     }
+}
+
+/// If neither end of a connection spoke SIP2, it begins again with a segment that begins a stream,
+/// or that is a message.
+fn revive(
+    alloc: Global,
+    connection: &mut Connection,
+    is_first: bool,
+    segment: &TcpSegment<'_>,
+) -> Result<(), AllocError> {
+    if !matches!(connection.talk.client, Client::Nobody) {
+        return Ok(());
+    }
+    if segment.begins || is_message(alloc, segment.payload)? {
+        connection.revive(alloc, is_first);
+    }
+    Ok(())
 }
 
 /// Where a segment begins the stream of one end anew, the connection isn't over; where that is the client's, what it asked before is.
@@ -141,31 +196,39 @@ fn hear(
     reading: &mut JournalReader<'_>,
 ) -> Result<(), AllocError> {
     if matches!(connection.talk.client, Client::Nobody) {
+        reading.count_foreign(segment.len());
         return Ok(());
     }
+    connection.sent = connection.sent.saturating_add(segment.len());
     let is_over = if is_first {
         exchange(&mut connection.first, &mut connection.second, segment)?
     } else {
         exchange(&mut connection.second, &mut connection.first, segment)?
     };
-    connection.is_over = connection.is_over || is_over;
+    let is_anew = connection.first.take_anew() || connection.second.take_anew();
+    connection.is_over = is_over || (connection.is_over && !is_anew);
     hand_on(alloc, connection, !is_first, reading)?;
     hand_on(alloc, connection, is_first, reading)?;
-    look(alloc, connection, is_first)
-}
-
-/// Looks who is the client, as soon as a message has begun. Where neither is, the connection is forgotten.
-fn look(alloc: Global, connection: &mut Connection, is_first: bool) -> Result<(), AllocError> {
-    if matches!(connection.talk.client, Client::Unknown) {
-        let message = without_line_feeds(connection.half(is_first).open());
-        if let Some(identifier) = message.get(..2) {
-            connection.talk.client = client_by(alloc, identifier, is_first)?;
-        }
-    }
-    if matches!(connection.talk.client, Client::Nobody) {
+    if look(alloc, connection, is_first)? {
+        reading.count_foreign(connection.sent);
+        reading.foreign(connection.talk.ends)?;
         connection.leave(alloc);
     }
     Ok(())
+}
+
+/// Looks who is the client, as soon as a message has begun. Gives whether neither end is.
+fn look(alloc: Global, connection: &mut Connection, is_first: bool) -> Result<bool, AllocError> {
+    if matches!(connection.talk.client, Client::Unknown) {
+        let (open, after_gap) = connection.half(is_first).open();
+        let message = without_line_feeds(open);
+        if !after_gap && message.len() >= 2 {
+            connection.talk.client = client_by(alloc, message, is_first)?;
+        } else if message.len() > MESSAGE {
+            connection.talk.client = Client::Nobody;
+        }
+    }
+    Ok(matches!(connection.talk.client, Client::Nobody))
 }
 
 /// Hands on what was heard of one end of a connection.
@@ -179,6 +242,7 @@ fn hand_on(
     for one in &heard {
         let handed = match one {
             Heard::Missing(count) => hand_on_gap(&mut connection.talk, is_first, *count, reading),
+            Heard::Stray => reading.stray(connection.talk.ends),
             Heard::Piece(piece) => {
                 hand_on_piece(alloc, &mut connection.talk, is_first, piece, reading)
             }
@@ -192,7 +256,7 @@ fn hand_on(
 fn hand_on_gap(
     talk: &mut Talk,
     is_first: bool,
-    count: u64,
+    count: Option<u64>,
     reading: &mut JournalReader<'_>,
 ) -> Result<(), AllocError> {
     let Some((side, client)) = talk.speaker(is_first) else {
@@ -216,7 +280,7 @@ fn hand_on_piece(
     if message.is_empty() {
         return Ok(());
     }
-    if matches!(talk.client, Client::Unknown) {
+    if matches!(talk.client, Client::Unknown) && shows_client(alloc, piece, message)? {
         talk.client = client_by(alloc, message, is_first)?;
     }
     let Some((side, client)) = talk.speaker(is_first) else {
@@ -275,8 +339,16 @@ fn is_whole(
     if !piece.is_after_gap() {
         return Ok(true);
     }
-    let has_sum = unsummed(without_line_end(message)).1.is_some();
-    Ok(has_sum && odd_of(alloc, side, message)?.is_none())
+    Ok(has_sum(message) && odd_of(alloc, side, message)?.is_none())
+}
+
+/// Whether a piece says who is the client: a whole one that begins a stream or follows on a
+/// message, or else one with a right checksum.
+fn shows_client(alloc: Global, piece: &StreamPiece, message: &[u8]) -> Result<bool, AllocError> {
+    if piece.is_before_gap() {
+        return Ok(false);
+    }
+    Ok(!piece.is_after_gap() || (has_sum(message) && is_message(alloc, message)?))
 }
 
 /// Who is the client, by the first message of a connection and the end that sends it.

@@ -5,7 +5,7 @@ use command_line::JournalOptions;
 use journal_run::MakingError;
 use log_pairs::Escapes;
 use sip_reader::LINE_NUMBER_MAX;
-use std::alloc::Global;
+use std::alloc::{AllocError, Global};
 
 /// What a run is to do.
 #[derive(Clone, Copy)]
@@ -103,13 +103,10 @@ fn form_of(alloc: Global, options: &JournalOptions) -> Result<LogForm<'_>, Makin
 }
 
 fn text(option: &Option<String>) -> Option<&str> {
-    match option {
-        Some(text) => Some(text.as_str()),
-        None => None,
-    }
+    option.as_ref().map(|text| text.as_str())
 }
 
-/// What a word names in a table; it is refused where it names nothing there.
+/// What a word names in a table; it is refused with all names of the table if it is none of them.
 fn named<T: Copy>(
     alloc: Global,
     table: &[(&'static str, T)],
@@ -121,5 +118,20 @@ fn named<T: Copy>(
             return Ok(*value);
         }
     }
-    Err(MakingError::refused(alloc, what, word))
+    Err(MakingError::refused_text(refusal(alloc, table, what, word)))
+}
+
+/// The text that refuses a word, with all names of a table.
+fn refusal<T: Copy>(
+    alloc: Global,
+    table: &[(&'static str, T)],
+    what: &str,
+    word: &str,
+) -> Result<String, AllocError> {
+    let mut text = format!(in alloc; "{what} {word}; there are")?;
+    for (at, (name, _)) in table.iter().enumerate() {
+        let before = if at == 0 { " " } else { ", " };
+        write!(text, "{before}{name}")?;
+    }
+    Ok(text)
 }

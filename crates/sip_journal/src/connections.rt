@@ -1,6 +1,7 @@
 //! The connections of a capture: those that go on, and those that are over and remembered.
 
 use crate::connection::{Half, Heard};
+use crate::headers::{HeldSegment, TcpSegment};
 use log_pairs::Direction;
 use std::alloc::{AllocError, Global};
 use std::collections::{BTreeMap, VecDeque};
@@ -10,8 +11,12 @@ use std::net::SocketAddr;
 /// How many connections may go on at once. Of more, the one that was heard of the longest ago is taken as over.
 const MOST: usize = 16_384;
 
-/// How many segments of a capture may come before the last one of a connection that is over.
+/// How many segments of a capture may come before the last one of a connection that is over, or
+/// before one that others wait for.
 const LATE: u64 = 1024;
+
+/// How many segments of a connection may wait.
+const HELD: usize = 16;
 
 /// How many connections that are over are remembered, for segments that come again.
 const REMEMBERED: usize = 4096;
@@ -33,7 +38,7 @@ pub enum Client {
 /// Who talks over a connection.
 #[derive(Clone, Copy)]
 pub struct Talk {
-    ends: Ends,
+    pub ends: Ends,
     pub client: Client,
     /// Whether bytes of the client are missing since its last whole request: what is answered next may be a request that is missing.
     pub lacks_request: bool,
@@ -62,31 +67,46 @@ impl Talk {
 }
 
 /// What was heard of a connection.
+#[derive(Drop)]
 pub struct Connection {
     pub first: Half,
     pub second: Half,
     pub talk: Talk,
     pub is_over: bool,
+    /// How many bytes were sent on it.
+    pub sent: u64,
+    /// Segments that acknowledge what wasn't captured yet, and those after them; and when the first
+    /// of them came.
+    held: Vec<HeldSegment>,
+    held_at: u64,
     /// The segment that ended it, where it is over and is remembered; else the one by which it was heard of last.
     heard_at: u64,
-}
-
-impl Drop for Connection {
-    fn drop(self) {
-        let Connection {
-            first: _,
-            second: _,
-            talk: _,
-            is_over: _,
-            heard_at: _,
-        } = self;
-    }
 }
 
 impl Connection {
     /// What one of its ends sends.
     pub fn half(&self, is_first: bool) -> &Half {
         if is_first { &self.first } else { &self.second }
+    }
+
+    /// Whether a segment acknowledges bytes of which nothing came yet.
+    fn is_early(&self, segment: &TcpSegment<'_>) -> bool {
+        let (_, is_first) = segment.both_ends();
+        match segment.acknowledged {
+            Some(number) => self.half(!is_first).lacks(number),
+            None => false,
+        }
+    }
+
+    /// The place of the first segment that need not wait any longer; or, if that is asked or too many
+    /// wait, of the first of all.
+    fn ready(&self, any: bool) -> Option<usize> {
+        for (at, held) in self.held.iter().enumerate() {
+            if !self.is_early(&held.segment()) {
+                return Some(at);
+            }
+        }
+        (any || self.held.len() > HELD).then_some(0)
     }
 
     /// What was heard of one of its ends, and wasn't handed on yet. (A list that is only cleared would keep its memory.)
@@ -99,11 +119,20 @@ impl Connection {
         }
     }
 
-    /// The connection is forgotten, and nothing more comes on it.
+    /// Neither end speaks SIP2: what was heard of it is forgotten, and it is over.
     pub fn leave(&mut self, alloc: Global) {
-        self.first = Half::new(alloc);
-        self.second = Half::new(alloc);
+        self.first = Half::new(alloc, true);
+        self.second = Half::new(alloc, true);
         self.is_over = true;
+    }
+
+    /// Neither end spoke SIP2, but now one may, which begins with a message.
+    pub fn revive(&mut self, alloc: Global, is_first: bool) {
+        self.first = Half::new(alloc, !is_first);
+        self.second = Half::new(alloc, is_first);
+        self.talk.client = Client::Unknown;
+        self.is_over = false;
+        self.sent = 0;
     }
 }
 
@@ -125,6 +154,8 @@ pub struct Connections {
     /// Those that are over, in the order of their ends: those of which segments may come late, and the others.
     late: VecDeque<Ending>,
     over: VecDeque<Ending>,
+    /// Those of which segments wait, in the order in which these came.
+    waiting: VecDeque<Ending>,
 }
 
 impl Connections {
@@ -135,7 +166,49 @@ impl Connections {
             open: BTreeMap::new(alloc),
             late: VecDeque::new(alloc),
             over: VecDeque::new(alloc),
+            waiting: VecDeque::new(alloc),
         }
+    }
+
+    /// Keeps a segment, if it acknowledges bytes of which nothing came yet: packets are captured
+    /// out of order. Gives whether it waits.
+    pub fn hold(&mut self, alloc: Global, segment: &TcpSegment<'_>) -> Result<bool, AllocError> {
+        let (ends, _) = segment.both_ends();
+        let at = self.now;
+        let Some(connection) = self.by_ends.get_mut(&ends) else {
+            return Ok(false);
+        };
+        if segment.begins || segment.resets || !connection.is_early(segment) {
+            return Ok(false);
+        }
+        if connection.held.is_empty() {
+            connection.held_at = at;
+            self.waiting.push_back(Ending { at, ends })?;
+        }
+        connection.held.push(HeldSegment::new(alloc, segment)?)?;
+        Ok(true)
+    }
+
+    /// A segment of a connection that need not wait any longer; or, if that is asked, any.
+    pub fn pop_held(&mut self, ends: &Ends, any: bool) -> Option<HeldSegment> {
+        let connection = self.by_ends.get_mut(ends)?;
+        let at = connection.ready(any)?;
+        if at < connection.held.len() {
+            Some(connection.held.remove(at))
+        } else {
+            None
+        }
+    }
+
+    /// A connection whose first segment waits for too long.
+    pub fn pop_waiting(&mut self) -> Option<Ends> {
+        let first = self.waiting.front().copied()?;
+        if self.now.saturating_sub(first.at) <= LATE {
+            return None;
+        }
+        self.waiting.pop_front();
+        let connection = self.by_ends.get(&first.ends)?;
+        (connection.held_at == first.at).then_some(first.ends)
     }
 
     /// The connection between two ends.
@@ -146,14 +219,17 @@ impl Connections {
     /// Begins a connection of which nothing was heard yet.
     pub fn begin(&mut self, alloc: Global, ends: Ends, client: Client) -> Result<(), AllocError> {
         let connection = Connection {
-            first: Half::new(alloc),
-            second: Half::new(alloc),
+            first: Half::new(alloc, true),
+            second: Half::new(alloc, true),
             talk: Talk {
                 ends,
                 client,
                 lacks_request: false,
             },
             is_over: false,
+            sent: 0,
+            held: Vec::new(alloc),
+            held_at: 0,
             heard_at: 0,
         };
         self.by_ends.insert(ends, connection)?;

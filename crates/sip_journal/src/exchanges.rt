@@ -6,7 +6,6 @@ use crate::progress::ReadProgress;
 use crate::reading::JournalReader;
 use journal_run::{ExchangeSource, Finding, LogPlace, LogTally, MakingError};
 use std::alloc::AllocError;
-use std::mem;
 use std::rt::Clock;
 
 /// What reads logs or captures, a record or a packet at a time.
@@ -44,7 +43,7 @@ impl<'l, R: Clock + Eprint, T: ReadsOn<'l>> ExchangeSource for Exchanges<'_, 'l,
 
     fn next(&mut self, batch: &mut Vec<Finding>) -> Result<bool, MakingError> {
         let more = self.input.read_on(&mut self.reading);
-        mem::swap(&mut self.reading.found, batch);
+        self.reading.hand_on(!matches!(&more, Ok(true)), batch)?;
         self.progress.show(self.reading.judge.lines);
         more
     }

@@ -1,6 +1,7 @@
 //! The TCP segment of a packet: after the header of its link and that of IPv4 or IPv6.
 
 use crate::numbers::ByteOrder;
+use std::alloc::{AllocError, Global};
 use std::net::{IpAddr, Ipv4Addr, Ipv6Addr, SocketAddr};
 
 /// How the numbers of headers are written.
@@ -22,15 +23,110 @@ pub struct TcpSegment<'p> {
     pub ends: bool,
     pub resets: bool,
     pub payload: &'p [u8],
+    /// How many bytes after the payload weren't captured.
+    pub cut: usize,
 }
 
-/// The TCP segment of a packet of a link. Nothing where it has none, or a part of one.
-pub fn segment_of(link: usize, packet: &[u8]) -> Option<TcpSegment<'_>> {
+impl TcpSegment<'_> {
+    /// Its two ends, the lesser address first, and whether that sends it.
+    pub fn both_ends(&self) -> ((SocketAddr, SocketAddr), bool) {
+        if self.from <= self.to {
+            ((self.from, self.to), true)
+        } else {
+            ((self.to, self.from), false)
+        }
+    }
+
+    /// How many bytes it has, captured or not.
+    pub fn len(&self) -> u64 {
+        (self.payload.len() as u64).saturating_add(self.cut as u64)
+    }
+}
+
+/// A segment that waits for others.
+#[derive(Drop)]
+pub struct HeldSegment {
+    from: SocketAddr,
+    to: SocketAddr,
+    number: u32,
+    acknowledged: Option<u32>,
+    ends: bool,
+    payload: Vec<u8>,
+    cut: usize,
+}
+
+impl HeldSegment {
+    /// A copy of a segment that neither begins a stream nor ends the connection.
+    pub fn new(alloc: Global, segment: &TcpSegment<'_>) -> Result<HeldSegment, AllocError> {
+        Ok(HeldSegment {
+            from: segment.from,
+            to: segment.to,
+            number: segment.number,
+            acknowledged: segment.acknowledged,
+            ends: segment.ends,
+            payload: Vec::from_slice(alloc, segment.payload)?,
+            cut: segment.cut,
+        })
+    }
+
+    pub fn segment(&self) -> TcpSegment<'_> {
+        TcpSegment {
+            from: self.from,
+            to: self.to,
+            number: self.number,
+            acknowledged: self.acknowledged,
+            begins: false,
+            ends: self.ends,
+            resets: false,
+            payload: self.payload.as_slice(),
+            cut: self.cut,
+        }
+    }
+}
+
+/// The captured bytes of a packet or a part of it, and how long it is as it says itself.
+#[derive(Clone, Copy)]
+struct Captured<'p> {
+    bytes: &'p [u8],
+    len: usize,
+}
+
+impl<'p> Captured<'p> {
+    /// The captured bytes of what is this long; what was captured after it is filler.
+    fn new(bytes: &'p [u8], len: usize) -> Captured<'p> {
+        let bytes = &bytes[..bytes.len().min(len)];
+        Captured { bytes, len }
+    }
+
+    /// What follows a header of this length, if it is long enough for one.
+    fn after(self, header: usize) -> Option<Captured<'p>> {
+        let len = self.len.checked_sub(header)?;
+        let bytes = self.bytes.get(header..).unwrap_or(&[]);
+        Some(Captured { bytes, len })
+    }
+}
+
+/// The TCP segment of a packet of a link, of which a capture left out this number of bytes at its
+/// end. Nothing if it has none, or a part of one.
+pub fn segment_of(link: usize, packet: &[u8], cut: usize) -> Option<TcpSegment<'_>> {
     let internet = in_link(link, packet)?;
     match *internet.first()? / 16 {
-        4 => of_version_4(internet),
-        6 => of_version_6(internet),
+        4 => of_version_4(internet, cut),
+        6 => of_version_6(internet, cut),
         _ => None,
+    }
+}
+
+/// Whether a packet of a link is a part of one that was cut up on its way, with bytes of TCP.
+pub fn is_fragment(link: usize, packet: &[u8]) -> bool {
+    let Some(internet) = in_link(link, packet) else {
+        return false;
+    };
+    let kinds = (NETWORK.short(internet, 6), NETWORK.short(internet, 8));
+    match NETWORK.short(internet, 0) / 0x1000 {
+        4 => kinds.1 % 0x100 == TCP && kinds.0 % 0x4000 != 0,
+        6 => kinds.0 / 0x100 == 44 && NETWORK.short(internet, 40) / 0x100 == TCP,
+        _ => false,
     }
 }
 
@@ -38,28 +134,33 @@ pub fn segment_of(link: usize, packet: &[u8]) -> Option<TcpSegment<'_>> {
 fn in_link(link: usize, packet: &[u8]) -> Option<&[u8]> {
     let header = match link {
         0 | 108 => 4,
-        1 => return in_ethernet(packet),
+        1 => return in_frame(packet, 12, 14),
+        113 => return in_frame(packet, 14, 16),
+        276 => return in_frame(packet, 0, 20),
         12 | 14 | 101 | 228 | 229 => 0,
-        113 => 16,
-        276 => 20,
         _ => return None,
     };
     packet.get(header..)
 }
 
-/// What an Ethernet frame carries, where that is IP; the tags of networks within networks are passed.
-fn in_ethernet(frame: &[u8]) -> Option<&[u8]> {
-    for at in &[12usize, 16, 20] {
-        match NETWORK.short(frame, *at) {
-            0x8100 | 0x88a8 => {}
-            0x0800 | 0x86dd => return frame.get(at.saturating_add(2)..),
+/// What a frame carries, if that is IP: one place has its kind, and it begins at the other.
+/// The tags of networks within networks are passed.
+fn in_frame(frame: &[u8], kind_at: usize, begin: usize) -> Option<&[u8]> {
+    let (mut kind, mut at) = (NETWORK.short(frame, kind_at), begin);
+    for _ in 0..3 {
+        match kind {
+            0x8100 | 0x88a8 => {
+                kind = NETWORK.short(frame, at.saturating_add(2));
+                at = at.saturating_add(4);
+            }
+            0x0800 | 0x86dd => return frame.get(at..),
             _ => return None,
         }
     }
     None
 }
 
-fn of_version_4(packet: &[u8]) -> Option<TcpSegment<'_>> {
+fn of_version_4(packet: &[u8], cut: usize) -> Option<TcpSegment<'_>> {
     let header = usize::from(*packet.first()? % 16) * 4;
     let fragment = NETWORK.short(packet, 6) % 0x4000;
     if packet.len() < 20 || NETWORK.short(packet, 8) % 0x100 != TCP || fragment != 0 {
@@ -69,31 +170,37 @@ fn of_version_4(packet: &[u8]) -> Option<TcpSegment<'_>> {
     let to = Ipv4Addr::from(NETWORK.long(packet, 16));
     // (a card that cuts long segments itself is handed packets without a length)
     let whole = match usize::from(NETWORK.short(packet, 2)) {
-        0 => packet.len(),
-        len => len.min(packet.len()),
+        0 => packet.len().saturating_add(cut),
+        len => len,
     };
-    of_tcp(IpAddr::V4(from), IpAddr::V4(to), packet.get(header..whole)?)
+    let segment = Captured::new(packet, whole).after(header)?;
+    of_tcp(IpAddr::V4(from), IpAddr::V4(to), segment)
 }
 
-fn of_version_6(packet: &[u8]) -> Option<TcpSegment<'_>> {
+fn of_version_6(packet: &[u8], cut: usize) -> Option<TcpSegment<'_>> {
     let (from, to) = (address_6(packet, 8)?, address_6(packet, 24)?);
     let whole = match usize::from(NETWORK.short(packet, 4)) {
-        0 => packet.len(),
-        len => (len + 40).min(packet.len()),
+        0 => packet.len().saturating_add(cut),
+        len => len + 40,
     };
     let mut kind = NETWORK.short(packet, 6) / 0x100;
-    let mut rest = packet.get(40..whole)?;
+    let mut rest = Captured::new(packet, whole).after(40)?;
     for _ in 0..8 {
-        match kind {
+        // each says what follows it, and how long it is
+        let head = NETWORK.short(rest.bytes, 0);
+        let count = usize::from(head % 0x100);
+        let len = match kind {
             TCP => return of_tcp(from, to, rest),
-            // options for each hop, a route, options for the end: each says how long it is
-            0 | 43 | 60 => {
-                let head = NETWORK.short(rest, 0);
-                kind = head / 0x100;
-                rest = rest.get(usize::from(head % 0x100) * 8 + 8..)?;
-            }
+            // options for each hop, a route, options for the end
+            0 | 43 | 60 => count * 8 + 8,
+            // a fragment that is the whole packet
+            44 if NETWORK.short(rest.bytes, 2) & 0xfff9 == 0 => 8,
+            // authentication
+            51 => count * 4 + 8,
             _ => return None,
-        }
+        };
+        kind = head / 0x100;
+        rest = rest.after(len)?;
     }
     None
 }
@@ -104,23 +211,25 @@ fn address_6(packet: &[u8], at: usize) -> Option<IpAddr> {
     Some(IpAddr::V6(Ipv6Addr::from(*bytes)))
 }
 
-fn of_tcp(from: IpAddr, to: IpAddr, segment: &[u8]) -> Option<TcpSegment<'_>> {
+fn of_tcp(from: IpAddr, to: IpAddr, segment: Captured<'_>) -> Option<TcpSegment<'_>> {
     // how many words of four bytes the header has, and what the segment is to do
-    let head = NETWORK.short(segment, 12);
+    let bytes = segment.bytes;
+    let head = NETWORK.short(bytes, 12);
     let header = usize::from(head / 0x1000) * 4;
     if header < 20 {
         return None;
     }
-    let payload = segment.get(header..)?;
-    let waited_for = NETWORK.long(segment, 8);
+    let payload = segment.after(header)?;
+    let waited_for = NETWORK.long(bytes, 8);
     Some(TcpSegment {
-        from: SocketAddr::new(from, NETWORK.short(segment, 0)),
-        to: SocketAddr::new(to, NETWORK.short(segment, 2)),
-        number: NETWORK.long(segment, 4),
+        from: SocketAddr::new(from, NETWORK.short(bytes, 0)),
+        to: SocketAddr::new(to, NETWORK.short(bytes, 2)),
+        number: NETWORK.long(bytes, 4),
         acknowledged: (head & 16 != 0).then_some(waited_for),
         begins: head & 2 != 0,
         ends: head & 1 != 0,
         resets: head & 4 != 0,
-        payload,
+        payload: payload.bytes,
+        cut: payload.len.saturating_sub(payload.bytes.len()),
     })
 }

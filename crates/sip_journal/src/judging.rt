@@ -1,19 +1,16 @@
 //! Reports of lines and messages that are none, or that a log has damaged.
 
-use crate::place::LineHead;
-use journal_run::LogPlace;
+use journal_run::{LineHead, LogPlace};
 use log_pairs::{Direction, Odd, odd_of};
+use sip_reader::{Reading, read_request, unsummed, without_line_end};
 use std::alloc::{AllocError, Global};
 use std::collections::BTreeMap;
 
 /// How many skipped lines, and how many odd messages, are reported.
 const TOLD: usize = 3;
 
-/// At least one in this number of a client's requests has a checksum where those without one lack it.
+/// At least one in this number of a client's requests has a checksum if those without one lack it.
 const SUMMED: u64 = 10;
-
-/// How many clients are distinguished.
-const CLIENTS: usize = 65_536;
 
 /// A line that is reported, with the number that it has in all logs together.
 #[derive(Drop)]
@@ -59,9 +56,10 @@ impl Sums {
         }
     }
 
-    /// The requests that lack a checksum: those without one, where at least one in ten of the client's has one.
+    /// The requests that lack a checksum: those without one, if at least one in ten of the client's
+    /// has one.
     fn lacking(&self) -> u64 {
-        if self.summed >= self.bare / (SUMMED - 1) && self.summed > 0 {
+        if self.bare <= self.summed.saturating_mul(SUMMED - 1) {
             self.bare
         } else {
             0
@@ -152,8 +150,9 @@ impl JournalJudge {
             None => {}
         }
         match side {
-            Direction::Request => self.count_sum(connection, None),
-            Direction::Response => Ok(()),
+            // (a resend without a checksum counts neither as one with nor as one without)
+            Direction::Request if has_sum(message) => self.count_sum(connection, None),
+            _ => Ok(()),
         }
     }
 
@@ -191,14 +190,8 @@ impl JournalJudge {
 
     /// Counts a request of a client: one with a checksum, or this one without.
     fn count_sum(&mut self, connection: &[u8], bare: Option<Shown>) -> Result<(), AllocError> {
-        // (of more clients than these the last ones count as one)
-        let name = if self.clients.len() < CLIENTS {
-            connection
-        } else {
-            &[]
-        };
-        if !self.clients.contains_key(name) {
-            let key = Vec::from_slice(self.alloc, name)?;
+        if !self.clients.contains_key(connection) {
+            let key = Vec::from_slice(self.alloc, connection)?;
             let sums = Sums {
                 summed: 0,
                 bare: 0,
@@ -206,7 +199,7 @@ impl JournalJudge {
             };
             self.clients.insert(key, sums)?;
         }
-        if let Some(sums) = self.clients.get_mut(name) {
+        if let Some(sums) = self.clients.get_mut(connection) {
             sums.count(bare);
         }
         Ok(())
@@ -246,6 +239,25 @@ impl JournalJudge {
         }
         first
     }
+}
+
+/// Whether a message ends in a checksum.
+pub fn has_sum(message: &[u8]) -> bool {
+    unsummed(without_line_end(message)).1.is_some()
+}
+
+/// Whether bytes are read as a message: one with a right checksum, or a request without one.
+pub fn is_message(alloc: Global, bytes: &[u8]) -> Result<bool, AllocError> {
+    if !has_sum(bytes) {
+        let reading = read_request(alloc, bytes)?;
+        return Ok(matches!(&reading, Reading::Asked(_)));
+    }
+    for side in &[Direction::Request, Direction::Response] {
+        if odd_of(alloc, *side, bytes)?.is_none() {
+            return Ok(true);
+        }
+    }
+    Ok(false)
 }
 
 /// The earlier of two lines, of which the second counts only from a line on.

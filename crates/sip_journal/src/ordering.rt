@@ -1,8 +1,7 @@
 //! Messages whose times fall back.
 
-use crate::place::LineHead;
 use crate::times::{MINUTE, Onward, SECOND, Time};
-use journal_run::LogPlace;
+use journal_run::{LineHead, LogPlace};
 use std::alloc::{AllocError, Global};
 
 /// How many falls are reported.

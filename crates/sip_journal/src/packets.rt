@@ -37,12 +37,26 @@ const PACKET: usize = 6;
 /// What comes next in a capture.
 #[derive(Clone, Copy)]
 pub enum Next {
-    /// A packet of this link; its bytes are `Packets::bytes`, from this position up to the other.
-    Packet { link: usize, from: usize, to: usize },
+    /// A packet of this link; its bytes are `Packets::bytes`, from this position up to the other,
+    /// and this number of bytes more wasn't captured.
+    Packet {
+        link: usize,
+        from: usize,
+        to: usize,
+        cut: usize,
+    },
     /// The capture is at its end.
     End,
     /// The capture ends within a packet, or goes on with what is none.
     Broken,
+}
+
+/// The link of an interface of pcapng, and how many bytes of a packet are captured at most; 0 is no
+/// limit.
+#[derive(Clone, Copy)]
+struct Interface {
+    link: usize,
+    snap: usize,
 }
 
 /// A capture that is read.
@@ -53,8 +67,8 @@ pub struct Packets<'l, B> {
     order: ByteOrder,
     /// The link of all packets of pcap; in pcapng each packet names its interface.
     link: Option<usize>,
-    /// The links of the interfaces of a section of pcapng.
-    links: Vec<usize>,
+    /// The interfaces of a section of pcapng.
+    interfaces: Vec<Interface>,
     bytes: Vec<u8>,
     /// Why no more can be read, where that isn't the end of the file.
     failure: Option<MakingError>,
@@ -68,7 +82,7 @@ impl<B: Drop> Drop for Packets<'_, B> {
             reader: _,
             order: _,
             link: _,
-            links: _,
+            interfaces: _,
             bytes: _,
             failure: _,
         } = self;
@@ -89,7 +103,7 @@ impl<'l, B: Read + Drop> Packets<'l, B> {
             reader,
             order: ByteOrder::LittleFirst,
             link: None,
-            links: Vec::new(alloc),
+            interfaces: Vec::new(alloc),
             bytes: Vec::new(alloc),
             failure: None,
         };
@@ -119,7 +133,8 @@ impl<'l, B: Read + Drop> Packets<'l, B> {
         if !self.fill(20) {
             return false;
         }
-        self.link = Some(self.long(16) % 0x1000_0000);
+        // (the bits above sixteen say which checksum the frames end in)
+        self.link = Some(self.long(16) % 0x1_0000);
         true
     }
 
@@ -144,11 +159,16 @@ impl<'l, B: Read + Drop> Packets<'l, B> {
         if !self.fill(16) {
             return self.end();
         }
-        let to = self.long(8);
+        let (to, whole) = (self.long(8), self.long(12));
         if to > LONGEST || !self.fill(to) {
             return Next::Broken;
         }
-        Next::Packet { link, from: 0, to }
+        Next::Packet {
+            link,
+            from: 0,
+            to,
+            cut: whole.saturating_sub(to),
+        }
     }
 
     /// Reads blocks up to the next one with a packet.
@@ -166,8 +186,11 @@ impl<'l, B: Read + Drop> Packets<'l, B> {
             if !is_whole {
                 break;
             }
-            let link = self.short(0);
-            if kind == INTERFACE && self.links.push(link).is_err() {
+            let interface = Interface {
+                link: self.short(0),
+                snap: self.long(4),
+            };
+            if kind == INTERFACE && self.interfaces.push(interface).is_err() {
                 self.failure = Some(MakingError::Memory);
                 break;
             }
@@ -187,23 +210,38 @@ impl<'l, B: Read + Drop> Packets<'l, B> {
         len >= 12 && len <= LONGEST && self.fill(len - 8)
     }
 
-    /// The packet in a block of this kind, whose body was read; nothing where such a block has none.
+    /// The packet in a block of this kind, whose body was read; nothing if such a block has none.
     fn packet_in(&self, kind: usize) -> Option<Next> {
-        let (interface, from, len) = match kind {
-            OLD_PACKET => (self.short(0), 20, self.long(12)),
-            SIMPLE_PACKET => (0, 4, self.long(0).min(self.bytes.len().saturating_sub(8))),
-            PACKET => (self.long(0), 20, self.long(12)),
+        let (number, from, whole) = match kind {
+            OLD_PACKET => (self.short(0), 20, self.long(16)),
+            SIMPLE_PACKET => (0, 4, self.long(0)),
+            PACKET => (self.long(0), 20, self.long(16)),
             _ => return None,
         };
+        let Some(interface) = self.interfaces.get(number) else {
+            return Some(Next::Broken);
+        };
+        let len = match kind {
+            SIMPLE_PACKET => self.simple_len(interface.snap),
+            _ => self.long(12),
+        };
         let to = len.saturating_add(from);
-        Some(match self.links.get(interface) {
-            Some(link) if to <= self.bytes.len() => Next::Packet {
-                link: *link,
-                from,
-                to,
-            },
-            _ => Next::Broken,
+        if to > self.bytes.len() {
+            return Some(Next::Broken);
+        }
+        Some(Next::Packet {
+            link: interface.link,
+            from,
+            to,
+            cut: whole.saturating_sub(len),
         })
+    }
+
+    /// How many bytes of its packet a simple block has: it doesn't say that itself, and is filled
+    /// up after them.
+    fn simple_len(&self, snap: usize) -> usize {
+        let held = self.long(0).min(self.bytes.len().saturating_sub(8));
+        if snap == 0 { held } else { held.min(snap) }
     }
 
     /// Reads the head of a section after its kind.
@@ -215,7 +253,7 @@ impl<'l, B: Read + Drop> Packets<'l, B> {
             return false;
         };
         self.order = order;
-        self.links.clear();
+        self.interfaces.clear();
         let len = self.long(0);
         len >= 16 && len <= LONGEST && self.fill(len - 12)
     }

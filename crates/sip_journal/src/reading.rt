@@ -1,18 +1,35 @@
 //! What is read of logs and captures: what is found there, and what is to be reported of it.
 
+use crate::connections::Ends;
 use crate::finder::Finder;
 use crate::judging::JournalJudge;
 use crate::ordering::Order;
-use crate::place::LineHead;
+use crate::repeats::{Again, Repeats};
 use crate::source::{LogRecord, LogSource};
-use journal_run::{Finding, LogPlace, LogTally, MakingError};
+use journal_run::{Finding, LineHead, LogPlace, LogTally, MakingError};
 use log_pairs::Direction;
 use std::alloc::{AllocError, Global};
 use std::io::BufRead;
+use std::mem;
 use std::net::SocketAddr;
 
 const OUT_OF_ORDER: &str =
     "the messages aren't in the order of their times: name the logs in the order in which they were written, or give --merge\n";
+
+/// How many of each kind are reported: gaps, parts of messages, and so on.
+const TOLD: u64 = 3;
+
+/// A name stands for several clients if more than one message in this number is of no request.
+const MISFITS: u64 = 100;
+
+/// How many findings wait until it is known whether a request is to be left out.
+const HELD: usize = 16_384;
+
+/// More than one packet in this number is cut if the capture is of no use.
+const TOLERATED: u64 = 10;
+
+const MISMATCHED: &str =
+    "some responses are of another kind or sequence number than their request: the name of a connection seems to stand for several clients\n";
 
 /// What a journal is made of.
 #[derive(Clone, Copy)]
@@ -22,6 +39,7 @@ pub enum InputKind {
 }
 
 /// What is read, up to the line or packet that was read last.
+#[derive(Drop)]
 pub struct JournalReader<'l> {
     alloc: Global,
     pub judge: JournalJudge,
@@ -34,26 +52,27 @@ pub struct JournalReader<'l> {
     /// Gaps in captured streams, and pieces that they leave of messages.
     gaps: u64,
     broken: u64,
-}
-
-impl Drop for JournalReader<'_> {
-    fn drop(self) {
-        let JournalReader {
-            alloc: _,
-            judge: _,
-            order: _,
-            kind: _,
-            place: _,
-            found: _,
-            gaps: _,
-            broken: _,
-        } = self;
-    }
+    /// Packets that lack the end of their segment, and how many bytes the longest of them has.
+    cuts: u64,
+    snap: usize,
+    /// Packets that are fragments with bytes of TCP.
+    fragments: u64,
+    /// Segments that lay far from their stream and were left out.
+    strays: u64,
+    /// Connections of which neither end speaks SIP2, and the bytes that were sent on them.
+    foreign: u64,
+    foreign_bytes: u64,
+    repeats: Repeats<'l>,
+    /// Whether requests that were sent again are left out, and how many there are.
+    drops: bool,
+    repeated: u64,
+    /// Responses of another kind or number than their request.
+    mismatched: u64,
 }
 
 impl<'l> JournalReader<'l> {
-    /// Before the first line or packet.
-    pub fn new(alloc: Global, kind: InputKind) -> JournalReader<'l> {
+    /// Before the first line or packet. Requests that were sent again are left out if that is said.
+    pub fn new(alloc: Global, kind: InputKind, drops: bool) -> JournalReader<'l> {
         JournalReader {
             alloc,
             judge: JournalJudge::new(alloc),
@@ -63,6 +82,16 @@ impl<'l> JournalReader<'l> {
             found: Vec::new(alloc),
             gaps: 0,
             broken: 0,
+            cuts: 0,
+            snap: 0,
+            fragments: 0,
+            strays: 0,
+            foreign: 0,
+            foreign_bytes: 0,
+            repeats: Repeats::new(alloc),
+            drops,
+            repeated: 0,
+            mismatched: 0,
         }
     }
 
@@ -115,13 +144,76 @@ impl<'l> JournalReader<'l> {
         message: &[u8],
     ) -> Result<(), AllocError> {
         self.judge.judge(self.place, connection, side, message)?;
-        let connection = Vec::from_slice(self.alloc, connection)?;
-        let message = Vec::from_slice(self.alloc, message)?;
+        if matches!(side, Direction::Response) && self.repeats.is_misfit(connection, message) {
+            self.mismatch(message)?;
+        }
+        let at = self.found.len();
         self.found.push(Finding::Message {
             side,
-            connection,
-            message,
+            connection: Vec::from_slice(self.alloc, connection)?,
+            message: Vec::from_slice(self.alloc, message)?,
         })?;
+        let (again, response) = match side {
+            Direction::Request => {
+                let again = self.repeats.ask(connection, message, self.place, at)?;
+                (again, None)
+            }
+            Direction::Response => (self.repeats.answer(connection, message)?, Some(at)),
+        };
+        match &again {
+            Some(again) => self.tell_again(again, response),
+            None => Ok(()),
+        }
+    }
+
+    /// Counts a response of another kind or number than the request that waits for one.
+    fn mismatch(&mut self, response: &[u8]) -> Result<(), AllocError> {
+        self.mismatched = self.mismatched.saturating_add(1);
+        let (place, head) = (self.place, LineHead(response));
+        self.note(
+            self.mismatched,
+            format!(in self.alloc; "{place}: a response to another request: {head}\n"),
+        )
+    }
+
+    /// Counts a request that was sent again, and leaves it out if that is said, with the response
+    /// at a position unless the request before it has none.
+    fn tell_again(&mut self, again: &Again<'l>, response: Option<usize>) -> Result<(), AllocError> {
+        self.repeated = self.repeated.saturating_add(1);
+        let mut text = String::new(self.alloc);
+        if self.repeated <= TOLD {
+            let (place, head) = (again.place, LineHead(again.request.as_slice()));
+            write!(text, "{place}: sent again: {head}\n")?;
+        }
+        let note = Finding::Note(text);
+        if !self.drops {
+            self.found.push(note)?;
+            return Ok(());
+        }
+        if let Some(request) = self.found.get_mut(again.at) {
+            *request = note;
+        }
+        let at = response.unwrap_or(usize::MAX);
+        if let (Some(found), Some(_)) = (self.found.get_mut(at), &again.before) {
+            *found = Finding::Note(String::new(self.alloc));
+        }
+        Ok(())
+    }
+
+    /// Hands on what was found; nothing while it isn't known whether some request in it is to be
+    /// left out. None waits for longer than this many findings, or for the end.
+    pub fn hand_on(&mut self, is_end: bool, batch: &mut Vec<Finding>) -> Result<(), AllocError> {
+        if is_end || self.found.len() >= HELD {
+            for _ in 0..u64::MAX {
+                let Some(again) = self.repeats.settle() else {
+                    break;
+                };
+                self.tell_again(&again, None)?;
+            }
+        }
+        if !self.drops || !self.repeats.is_undecided() {
+            mem::swap(&mut self.found, batch);
+        }
         Ok(())
     }
 
@@ -129,6 +221,9 @@ impl<'l> JournalReader<'l> {
     pub fn over(&mut self, client: SocketAddr) -> Result<(), AllocError> {
         let connection = format!(in self.alloc; "{client}")?.into_bytes();
         self.judge.over(&connection)?;
+        if let Some(again) = &self.repeats.over(&connection) {
+            self.tell_again(again, None)?;
+        }
         self.found.push(Finding::Over(connection))?;
         Ok(())
     }
@@ -142,18 +237,83 @@ impl<'l> JournalReader<'l> {
         }
     }
 
+    /// The packet that was read last lacks the end of its segment; this number of its bytes was
+    /// captured.
+    pub fn count_cut(&mut self, captured: usize) {
+        self.cuts = self.cuts.saturating_add(1);
+        self.snap = self.snap.max(captured);
+    }
+
+    /// How many bytes of a packet were captured at most, if more than one packet in ten is cut.
+    pub fn snap_length(&self) -> Option<usize> {
+        (self.cuts > self.judge.lines / TOLERATED).then_some(self.snap)
+    }
+
+    /// How many lines or packets were read.
+    pub fn lines(&self) -> u64 {
+        self.judge.lines
+    }
+
     /// Bytes of a captured stream are missing.
     pub fn missing(
         &mut self,
-        count: u64,
+        count: Option<u64>,
         side: Direction,
         client: SocketAddr,
     ) -> Result<(), AllocError> {
         self.gaps = self.gaps.saturating_add(1);
         let (place, from) = (self.place, speaker(side));
-        self.note(format!(in self.alloc;
-            "{place}: {count} bytes from the {from} are missing, of {client}\n"
-        ))
+        self.note(
+            self.gaps,
+            match count {
+                Some(count) => format!(in self.alloc;
+                    "{place}: {count} bytes from the {from} are missing, of {client}\n"
+                ),
+                None => format!(in self.alloc;
+                    "{place}: an unknown number of bytes from the {from} is missing, of {client}\n"
+                ),
+            },
+        )
+    }
+
+    /// A segment between two ends was left out, since it lay far from its stream and nothing
+    /// followed on it.
+    pub fn stray(&mut self, ends: Ends) -> Result<(), AllocError> {
+        self.strays = self.strays.saturating_add(1);
+        let (place, (one, other)) = (self.place, ends);
+        self.note(
+            self.strays,
+            format!(in self.alloc;
+                "{place}: a segment before this packet fits nowhere and is left out, of {one} and {other}\n"
+            ),
+        )
+    }
+
+    /// Neither of two ends speaks SIP2: their connection is left out.
+    pub fn foreign(&mut self, ends: Ends) -> Result<(), AllocError> {
+        self.foreign = self.foreign.saturating_add(1);
+        let (place, (one, other)) = (self.place, ends);
+        self.note(
+            self.foreign,
+            format!(in self.alloc;
+                "{place}: a connection without SIP2 is left out, of {one} and {other}\n"
+            ),
+        )
+    }
+
+    /// The packet that was read last is a part of one that was cut up on its way.
+    pub fn fragment(&mut self) -> Result<(), AllocError> {
+        self.fragments = self.fragments.saturating_add(1);
+        let place = self.place;
+        self.note(
+            self.fragments,
+            format!(in self.alloc; "{place}: a fragment of a packet isn't read\n"),
+        )
+    }
+
+    /// Counts bytes of a connection that is left out.
+    pub fn count_foreign(&mut self, bytes: u64) {
+        self.foreign_bytes = self.foreign_bytes.saturating_add(bytes);
     }
 
     /// A piece of a captured message is no message: a gap took its beginning or its end.
@@ -165,29 +325,39 @@ impl<'l> JournalReader<'l> {
     ) -> Result<(), AllocError> {
         self.broken = self.broken.saturating_add(1);
         let (place, from, head) = (self.place, speaker(side), LineHead(piece));
-        self.note(format!(in self.alloc;
-            "{place}: a part of a message from the {from}, of {client}: {head}\n"
-        ))
+        self.note(
+            self.broken,
+            format!(in self.alloc;
+                "{place}: a part of a message from the {from}, of {client}: {head}\n"
+            ),
+        )
     }
 
     /// A capture ends within a packet, or goes on with what is none.
     pub fn cut(&mut self) -> Result<(), AllocError> {
         self.broken = self.broken.saturating_add(1);
         let place = self.place;
-        self.note(format!(in self.alloc;
-            "{place}: what follows this packet is none, and isn't read\n"
-        ))
+        self.note(
+            1,
+            format!(in self.alloc; "{place}: what follows this packet is none, and isn't read\n"),
+        )
     }
 
-    /// Has a text reported.
-    fn note(&mut self, text: Result<String, AllocError>) -> Result<(), AllocError> {
-        self.found.push(Finding::Note(text?))?;
+    /// Has a text reported, if it is one of the first of its kind; this is its count.
+    fn note(&mut self, count: u64, text: Result<String, AllocError>) -> Result<(), AllocError> {
+        let note = Finding::Note(text?);
+        if count <= TOLD {
+            self.found.push(note)?;
+        }
         Ok(())
     }
 
     /// Reports what was odd.
     pub fn report(&self, notes: &mut String) -> Result<(), AllocError> {
         self.judge.report(notes)?;
+        if self.mismatched > self.judge.messages / MISFITS {
+            notes.push_str(MISMATCHED)?;
+        }
         if self.order.falls > 0 {
             notes.push_str(OUT_OF_ORDER)?;
         }
@@ -208,6 +378,13 @@ impl<'l> JournalReader<'l> {
             falls: self.order.falls,
             gaps: self.gaps,
             parts: self.broken,
+            cuts: self.cuts,
+            fragments: self.fragments,
+            strays: self.strays,
+            foreign: self.foreign,
+            foreign_bytes: self.foreign_bytes,
+            repeated: self.repeated,
+            mismatched: self.mismatched,
         }
     }
 }

@@ -103,7 +103,7 @@ fn print<'l, O: Outside, R: AllocGlobal + Clock + Eprint, T: ReadsOn<'l> + Drop>
 ) -> u8 {
     let alloc = rt.alloc();
     let mut exchanges = Exchanges {
-        reading: JournalReader::new(alloc, kind),
+        reading: JournalReader::new(alloc, kind, options.drop_repeated),
         progress: ReadProgress::new(rt, outside.is_terminal()),
         input,
     };

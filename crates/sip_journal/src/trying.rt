@@ -2,6 +2,7 @@
 
 use crate::chosen::LogForm;
 use crate::finder::{Expressions, Finder};
+use crate::marked::first_marked;
 use crate::presets::PRESETS;
 use crate::reading::{InputKind, JournalReader};
 use crate::source::{LogSource, open_log};
@@ -30,7 +31,8 @@ pub fn try_presets<R: Files + AllocGlobal>(rt: &R, log: &str) -> Result<String, 
     fits_of(rt.alloc(), log, &text)
 }
 
-/// The table of what the presets find in the lines of a log.
+/// The table of what the presets find in the lines of a log; it is refused if none finds a message
+/// that isn't odd.
 fn fits_of(alloc: Global, log: &str, text: &[u8]) -> Result<String, MakingError> {
     let mut fits = Vec::new(alloc);
     for (name, form) in &PRESETS {
@@ -42,7 +44,24 @@ fn fits_of(alloc: Global, log: &str, text: &[u8]) -> Result<String, MakingError>
             .cmp(&one.good)
             .then(one.skipped.cmp(&other.skipped))
     })?;
-    Ok(table(alloc, &fits)?)
+    match fits.first() {
+        Some(best) if best.good > 0 => Ok(table(alloc, &fits)?),
+        _ => Err(MakingError::refused_text(no_fit(alloc, log, text))),
+    }
+}
+
+/// Why no preset is of use for the lines of a log, with the first line that has a message.
+fn no_fit(alloc: Global, log: &str, text: &[u8]) -> Result<String, AllocError> {
+    match first_marked(alloc, text)? {
+        Some(line) => format!(in alloc;
+            "no preset fits {log}. A message stands here between >>> and <<<:\n  {log}:{line}\n\
+             Write --request and --response so that their group is the message, and --connection so that \
+             it is the client's name: docs/MAKE-A-JOURNAL.md"
+        ),
+        None => format!(in alloc;
+            "no preset fits {log}, and its first {LINES} lines have no message that can be read"
+        ),
+    }
 }
 
 fn table(alloc: Global, fits: &[Fit]) -> Result<String, AllocError> {
@@ -71,7 +90,7 @@ fn fit_of(
     let expressions = Expressions::new(alloc, form)?;
     let mut finder = expressions.finder(alloc)?;
     let mut source = LogSource::new(alloc, log, text);
-    let mut reading = JournalReader::new(alloc, InputKind::Lines);
+    let mut reading = JournalReader::new(alloc, InputKind::Lines, false);
     let mut making = Making::new(alloc, 1);
     read(&mut source, &mut finder, &mut reading, &mut making)?;
     let tally = reading.tally();

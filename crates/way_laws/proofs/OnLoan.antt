@@ -1,11 +1,11 @@
 -- What a response says was lent is on loan.
 use Rattle.std.proofs.Common.{◌≡◌, ◌∙◌, ◌⊎◌, inl, inr, ℕ, List, [], ◌∷◌, Bool, true, false, cond, not, Option, Some, None, refl, subst, sym, ap}
-use Rattle.std.specs.Prelude.{◌&&◌, ◌||◌, ◌==◌, IfSome, is_some, nat_lt}
+use Rattle.std.specs.Prelude.{◌&&◌, ◌||◌, ◌==◌, nat_lt}
+use Rattle.std.proofs.Math.Dec.{T, eqb, eqb_refl}
 use Rattle.std.proofs.lemmas.Bool.{and_parts, eqb-true}
 use Rattle.circ_policy.specs.Terms.{Terms}
 use Rattle.circ_records.proofs.SameTexts.{same-itself}
 use Rattle.circ_records.specs.Records.{Entries}
-use Rattle.circ_records.specs.Texts.{is_same}
 use Rattle.circ_records.specs.declared.key.Key.TheVariants as keys
 use Rattle.circ_records.specs.declared.record.FeeType.{FeeType}
 use Rattle.circ_records.specs.declared.record.FeeType.TheVariants as fee_types
@@ -28,7 +28,6 @@ use Rattle.read_set.specs.Loans.{by_checkout, by_kind, by_renew, charge_for, due
 use Rattle.read_set.specs.Lookups.{item_at, patron_at}
 use Rattle.read_set.specs.Maps.{Map, put}
 use Rattle.read_set.specs.Meaning.{rule_of, rule_with}
-use Rattle.read_set.specs.Owing.{owing_tests}
 use Rattle.read_set.specs.Renewals.{charged, may_renew, renew_rule, renew_rule_known, renewal_by, renewal_made, renewal_rule, renewal_tests, one_more, renewal_writes, renewed, renewed_loan}
 use Rattle.read_set.specs.declared.effect.Effect.{Effect}
 use Rattle.read_set.specs.declared.known.Article.{Article}
@@ -40,7 +39,7 @@ use Rattle.read_set.proofs.Following.{over_all, over_either, over_then}
 use Rattle.read_set.proofs.IdLists.{same-is}
 use Rattle.read_set.proofs.Line.{put-three}
 use Rattle.read_set.proofs.MapParts.{at-item, put_one, puts}
-use Rattle.sip_answer.specs.Deeds.{agrees, is_told_day, loan_agrees}
+use Rattle.sip_answer.specs.Deeds.{agrees, is_told_day}
 use Rattle.sip_answer.specs.Differ.{is_same_fee}
 use Rattle.sip_answer.specs.declared.answer.Answer.{Answer}
 use Rattle.sip_answer.specs.declared.answer.LoanAnswer.{LoanAnswer}
@@ -58,7 +57,11 @@ unless true e = refl
 unless false e = cc e
 
 eqb-same : (n : ℕ) → (n == n) ≡ true
-eqb-same n = (nat_eq-Decides n n).1 refl
+eqb-same n = by (eqb n n) (eqb_refl n)
+  where
+    by : (b : Bool) → T b → b ≡ true
+    by true h = refl
+    by false h = absurd h
 
 -- a first test, and others after it
 either-test : {A B : Type 0} (M : Map) (b : Bool) (x : A) (rest : Asks A) (f : A → Asks B) (P : B → Type 0) → (b ≡ true → P (over M (f x))) → (b ≡ false → (v : A) → P (over M (f v)))
@@ -66,10 +69,22 @@ either-test : {A B : Type 0} (M : Map) (b : Bool) (x : A) (rest : Asks A) (f : A
 either-test M true x rest f P h k = h refl
 either-test M false x rest f P h k = over_all M rest f P (k refl)
 
+-- a test that is passed
+first-test : {A B : Type 0} (M : Map) (c : Bool) (y : A) (rest : Asks A) (f : A → Asks B) (P : B → Type 0) → c ≡ true → P (over M (f y)) → P (over M (cond c (Give y) rest >>= f))
+first-test M true y rest f P e h = h
+first-test M false y rest f P e h = cc e
+
+-- the same after one that isn't
+second-test : {A B : Type 0} (M : Map) (b c : Bool) (x y : A) (rest : Asks A) (f : A → Asks B) (P : B → Type 0) → b ≡ false → c ≡ true → P (over M (f y))
+    → P (over M (cond b (Give x) (cond c (Give y) rest) >>= f))
+second-test M true c x y rest f P d e h = cc d
+second-test M false c x y rest f P d e h = first-test M c y rest f P e h
+
 -- THE ITEM AFTER THE WRITES
 
 -- a fee that is made leaves the items
 fee-skips : (n k : ℕ) (patron : List ℕ) (kind : FeeType) (amount : ℕ) (N : Map) (id : List ℕ) → puts (fee_made n k patron kind amount) N (keys.Item id) ≡ N (keys.Item id)
+unfolding put_one
 fee-skips n k patron kind amount N id = by (nat_lt 0 amount)
   where
     by : (b : Bool) → puts (cond b ((keys.Fee (fee_id n k), records.Fee (record { patron = patron; kind = kind; amount = amount; paid = 0 })) ∷ []) []) N (keys.Item id) ≡ N (keys.Item id)
@@ -153,9 +168,14 @@ module _ (p : Terms) (n : ℕ) (date : List ℕ) (M : Map) (a : LoanRequest) (me
 
   renews : may_renew a article.item.loan ≡ true → Lends a article.item.loan M (renewal_made p n a date member article)
   unfolding renewal_made due
-  renews may = inr (_, due, refl, refl,
-      subst (IsOnLoan (borrower_after a article.item.loan) (Some due)) (sym (renewed-there n a due (charge_for a article.media) member article M))
-      (renewed-on a due article.item article.item.loan refl may))
+  renews may = inr (
+    _,
+    due,
+    refl,
+    refl,
+    subst (IsOnLoan (borrower_after a article.item.loan) (Some due)) (sym (renewed-there n a due (charge_for a article.media) member article M))
+        (renewed-on a due article.item article.item.loan refl may),
+  )
 
   renewal-lends : Lends a article.item.loan M (over M (renewal_rule p n a date member article))
   unfolding renewal_rule renewal_tests
@@ -170,9 +190,14 @@ module _ (p : Terms) (n : ℕ) (date : List ℕ) (M : Map) (a : LoanRequest) (me
 
   lends : borrower_after a article.item.loan ≡ a.patron → (other : Option Member) → Lends a article.item.loan M (lending_made p n a date member article other)
   unfolding lending_made due
-  lends asker other = inr (_, due, refl, refl,
-      subst (IsOnLoan (borrower_after a article.item.loan) (Some due)) (sym (lent-there n a due (charge_for a article.media) member article other M))
-      (lent-on a due article.item (borrower_after a article.item.loan) asker))
+  lends asker other = inr (
+    _,
+    due,
+    refl,
+    refl,
+    subst (IsOnLoan (borrower_after a article.item.loan) (Some due)) (sym (lent-there n a due (charge_for a article.media) member article other M))
+        (lent-on a due article.item (borrower_after a article.item.loan) asker),
+  )
 
   lending-lends : borrower_after a article.item.loan ≡ a.patron → Lends a article.item.loan M (over M (lending_rule p n a date member article))
   unfolding lending_rule lending_of
@@ -198,7 +223,8 @@ module _ (p : Terms) (n : ℕ) (date : List ℕ) (M : Map) (a : LoanRequest) (me
       → IsOnLoan (borrower_after a article.item.loan) (Some due) (put (over M (renewal_rule p n a date member article)).writes M (keys.Item a.item))
   unfolding renewal_rule renewal_tests renewal_made due
   forced-renews forced may =
-      rw (may, forced)
+      second-test M (not (may_renew a article.item.loan)) a.forced verdicts.Refused verdicts.Made _ (λ v. Give (renewal_by p n a date member article v))
+      (λ (e : Effect). IsOnLoan (borrower_after a article.item.loan) (Some due) (put e.writes M (keys.Item a.item))) (ap not may) forced
       (subst (IsOnLoan (borrower_after a article.item.loan) (Some due)) (sym (renewed-there n a due (charge_for a article.media) member article M))
       (renewed-on a due article.item article.item.loan refl may))
 
@@ -206,7 +232,8 @@ module _ (p : Terms) (n : ℕ) (date : List ℕ) (M : Map) (a : LoanRequest) (me
       → IsOnLoan (borrower_after a article.item.loan) (Some due) (put (over M (lending_rule p n a date member article)).writes M (keys.Item a.item))
   unfolding lending_rule lending_tests lending_of lending_made due
   forced-lends forced asker =
-      rw forced
+      first-test M a.forced verdicts.Made _ (lending_rule_by p n a date member article)
+      (λ (e : Effect). IsOnLoan (borrower_after a article.item.loan) (Some due) (put e.writes M (keys.Item a.item))) forced
       (over_all M (other_at p a.patron article.item.loan) (λ other. Give (lending_made p n a date member article other))
       (λ (e : Effect). IsOnLoan (borrower_after a article.item.loan) (Some due) (put e.writes M (keys.Item a.item)))
       (λ other. subst (IsOnLoan (borrower_after a article.item.loan) (Some due)) (sym (lent-there n a due (charge_for a article.media) member article other M))
@@ -285,7 +312,7 @@ either-way p n date act t M a loan ruled done =
 checkout-on : (p : Terms) (n : ℕ) (date : List ℕ) (q : Checkout) (t : ToldLoan) (M : Map) (member : Member) (article : Article)
     → patron_in p M q.patron ≡ Some member → item_in p M q.item ≡ Some article
     → IsOnLoan (borrower_after (by_checkout q) article.item.loan) t.due (put (over M (rule_with p n date (acts.Checkout q) (Some (deeds.Lent t)))).writes M (keys.Item q.item))
-unfolding rule_of carried loan_told
+unfolding rule_of carried loan_told due
 checkout-on p n date q t M member article known there =
     either-way p n date (acts.Checkout q) t M (by_checkout q) article.item.loan
     (checkout-lends p n date M (by_checkout q) member article q.renewal (λ h. cc h) known there)
@@ -298,7 +325,7 @@ checkout-on p n date q t M member article known there =
 renew-on : (p : Terms) (n : ℕ) (date : List ℕ) (q : Renew) (t : ToldLoan) (M : Map) (member : Member) (article : Article)
     → patron_in p M q.patron ≡ Some member → item_in p M q.item ≡ Some article
     → IsOnLoan (borrower_after (by_renew q) article.item.loan) t.due (put (over M (rule_with p n date (acts.Renew q) (Some (deeds.Lent t)))).writes M (keys.Item q.item))
-unfolding rule_of carried loan_told renew_rule patron_at item_at
+unfolding rule_of carried loan_told renew_rule patron_at item_at due
 renew-on p n date q t M member article known there =
     either-way p n date (acts.Renew q) t M (by_renew q) article.item.loan
     (subst (λ (o : Option Member). Lends (by_renew q) article.item.loan M (over M (renew_rule_known p n (by_renew q) date o (item_in p M q.item)))) (sym known)

@@ -1,6 +1,10 @@
 -- What holds of a replay as recorded beside one by the rules.
-use Rattle.std.specs.Prelude.{◌≡◌, ◌+◌, ℕ, List, [], false, slice_get, Some, IfSome}
+use Rattle.std.specs.Prelude.{◌≡◌, ◌+◌, ℕ, List, [], false, slice_get, Some, IfSome, Option, None, true, if◌then◌else◌}
 use Rattle.circ_policy.specs.Terms.{Terms}
+use Rattle.circ_records.specs.declared.record.Record.TheVariants as records
+use Rattle.circ_records.specs.declared.record.Record.{Record}
+use Rattle.circ_records.specs.declared.record.Loan.{Loan}
+use Rattle.circ_records.specs.declared.key.Key.TheVariants as keys
 use Rattle.circ_policy.specs.declared.due_form.DueForm.{DueForm}
 use Rattle.circ_records.specs.Records.{Entries}
 use Rattle.journal_table.specs.Entry.{Entry}
@@ -82,4 +86,4 @@ abbrev pub LentIsOnLoan : Type 0
 LentIsOnLoan = (policy : Terms) (n : ℕ) (date : List ℕ) (act : Act) (told : ToldLoan) (M : Map) (a : LoanRequest) (member : Member) (article : Article)
     → asks_for act ≡ Some a → patron_in policy M a.patron ≡ Some member → item_in policy M a.item ≡ Some article
     → IsOnLoan (borrower_after a article.item.loan) told.due
-      (put (over M (rule_with policy n date act (Some (deeds.Lent told)))).writes M (keys.Item a.item))
+    (put (over M (rule_with policy n date act (Some (deeds.Lent told)))).writes M (keys.Item a.item))

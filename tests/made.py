@@ -1,11 +1,13 @@
 """For cases too long to be kept: a case's `make` writes its inputs, and what tests/model/model.py makes of them."""
 import os
+import shutil
 import sys
 
 sys.dont_write_bytecode = True
 sys.path.insert(0, os.path.join(os.path.dirname(os.path.abspath(__file__)), 'model'))
 
 import model
+import recorded
 
 POLICY = '''institution = "L1"
 currency = "USD"
@@ -57,10 +59,27 @@ def records_of(rows):
     return model.Records(model.Policy(POLICY), {table: rows.get(table, []) for table in model.TABLES})
 
 
-def write_replayed(journal, **rows):
+def write_replayed(journal, as_recorded=False, **rows):
     """Writes the inputs with these rows of the journal, and what a replay gives."""
     write_inputs(model.text_of('journal', journal), **rows)
-    files, line = model.replay(records_of(rows), journal)
+    write_run(records_of(rows), journal, as_recorded)
+
+
+def write_again(folder):
+    """Writes the inputs of another folder, and what a replay of them as recorded gives."""
+    shutil.copytree(f'{folder}/base', 'base')
+    for name in ('policy.toml', 'journal.csv'):
+        shutil.copy(f'{folder}/{name}', name)
+    records = model.Records(model.Policy(model.read('policy.toml')), model.read_tables('base'))
+    write_run(records, model.rows_of(model.read('journal.csv')), as_recorded=True)
+
+
+def write_run(records, journal, as_recorded):
+    """Writes what a replay on these records gives, and the words that it takes."""
+    if as_recorded:
+        model.write('words', '--as-recorded\n')
+    way = recorded.answer_of if as_recorded else model.by_rules
+    files, line = model.replay(records, journal, way)
     os.mkdir('expected')
     for name, text in files.items():
         model.write(f'expected/{name}', text)

@@ -216,6 +216,14 @@ class Fee:
         self.patron, self.kind, self.amount, self.paid = patron, kind, amount, paid
 
 
+class Terms:
+    """How a loan or a renewal is made: whether it is forced, the due day that is given for it, and
+    its price, if that isn't the rental."""
+
+    def __init__(self, forced, given, price=None):
+        self.forced, self.given, self.price = forced, given, price
+
+
 class Records:
     """The records of a library, and what each request does to them."""
 
@@ -276,63 +284,75 @@ class Records:
         return text + f'{sum_of(text):04X}'
 
     def do_11(self, line, request):
-        patron, item = self.patrons.get(request.patron), self.items.get(request.item)
         cancel = request.says('BI')
-        forced = request.fixed[1] == 'Y' or cancel
+        terms = self.terms(request, request.fixed[1] == 'Y' or cancel, 0 if cancel else None)
+        item, again = self.items.get(request.item), request.fixed[0] == 'Y'
+        return self.loan_text('12', request, item, *self.check_out(line, request, terms, again))
+
+    def check_out(self, line, request, terms, again):
+        """Whether the loan was made, whether by a renewal, and the rental charged or refused."""
+        patron, item = self.patrons.get(request.patron), self.items.get(request.item)
         if patron is None or item is None:
-            return self.loan_text('12', request, item, False, False, None)
-        if item.borrower == request.patron and request.fixed[0] == 'Y':
-            ok, rental = self.renew(line, request, request.patron, item, forced, cancel, False, 0)
-            return self.loan_text('12', request, item, ok, ok, rental)
+            return False, False, None
+        if item.borrower == request.patron and again:
+            ok, rental = self.renew(line, request, item, terms, False, 0)
+            return ok, ok, rental
         rental = self.policy.media[item.media]['rental']
-        if not forced:
+        if not terms.forced:
             limits = self.limits(patron)
             if (item.borrower is not None or (item.holds and item.holds[0][0] != request.patron) or patron.blocked
                     or len(patron.loans) >= limits['max_loans'] or self.owed(patron) > limits['max_fees']):
-                return self.loan_text('12', request, item, False, False, None)
+                return False, False, None
             if rental > 0 and not request.says('BO'):
-                return self.loan_text('12', request, item, False, False, rental)
+                return False, False, rental
         if item.borrower is not None:
             self.patrons[item.borrower].loans.remove(request.item)
         for place, hold in enumerate(item.holds):
             if hold[0] == request.patron:
                 del item.holds[place]
                 break
-        item.borrower, item.due, item.renewals = request.patron, self.due_day(request, item, forced), 0
+        item.borrower, item.renewals = request.patron, 0
+        item.due = self.due_day(request, item, terms)
         patron.loans.append(request.item)
-        charged = rental if rental > 0 and not cancel else None
-        if charged:
-            self.charge(request.patron, '06', rental, line, 0)
-        return self.loan_text('12', request, item, True, False, charged)
+        return True, False, self.charge_rental(line, request, item, terms, 0)
 
-    def due_day(self, request, item, forced):
-        given = request.other_day(20) if forced else None
-        return given if given is not None else self.policy.due(request.day, item.media)
+    def terms(self, request, forced, price=None):
+        """The terms that a request asks for itself; its own due day counts only if it is forced."""
+        return Terms(forced, request.other_day(20) if forced else None, price)
 
-    def renew(self, line, request, asker, item, forced, cancel, third, made):
+    def due_day(self, request, item, terms):
+        return terms.given if terms.given is not None else self.policy.due(request.day, item.media)
+
+    def charge_rental(self, line, request, item, terms, made):
+        """Charges the price to the asker, and gives it; None where nothing was charged."""
+        price = self.policy.media[item.media]['rental'] if terms.price is None else terms.price
+        if price > 0:
+            self.charge(request.patron, '06', price, line, made)
+            return price
+        return None
+
+    def renew(self, line, request, item, terms, third, made):
         """Whether the renewal was made, and the rental that was charged or refused."""
-        if item.borrower is None or (item.borrower != asker and not third):
+        if item.borrower is None or (item.borrower != request.patron and not third):
             return False, None
-        patron, rental = self.patrons[asker], self.policy.media[item.media]['rental']
-        if not forced:
+        patron, rental = self.patrons[request.patron], self.policy.media[item.media]['rental']
+        if not terms.forced:
             limits = self.limits(patron)
             if (patron.blocked or item.holds or item.renewals >= limits['max_renewals']
                     or self.owed(patron) > limits['max_fees']):
                 return False, None
             if rental > 0 and not request.says('BO'):
                 return False, rental
-        item.due, item.renewals = self.due_day(request, item, forced), min(item.renewals + 1, MAX_RENEWALS)
-        if rental > 0 and not cancel:
-            self.charge(asker, '06', rental, line, made)
-            return True, rental
-        return True, None
+        item.due = self.due_day(request, item, terms)
+        item.renewals = min(item.renewals + 1, MAX_RENEWALS)
+        return True, self.charge_rental(line, request, item, terms, made)
 
     def do_29(self, line, request):
-        patron, item = self.patrons.get(request.patron), self.items.get(request.item)
-        if patron is None or item is None:
+        item = self.items.get(request.item)
+        if request.patron not in self.patrons or item is None:
             return self.loan_text('30', request, item, False, False, None)
-        third, forced = request.fixed[0] == 'Y', request.fixed[1] == 'Y'
-        ok, rental = self.renew(line, request, request.patron, item, forced, False, third, 0)
+        terms = self.terms(request, request.fixed[1] == 'Y')
+        ok, rental = self.renew(line, request, item, terms, request.fixed[0] == 'Y', 0)
         return self.loan_text('30', request, item, ok, ok, rental)
 
     def loan_text(self, kind, request, item, ok, renewed, rental):
@@ -346,7 +366,7 @@ class Records:
     def do_65(self, line, request):
         patron, renewed, others, made = self.patrons.get(request.patron), [], [], 0
         for id in list(patron.loans) if patron else []:
-            ok, rental = self.renew(line, request, request.patron, self.items[id], False, False, False, made)
+            ok, rental = self.renew(line, request, self.items[id], Terms(False, None), False, made)
             (renewed if ok else others).append(id)
             made += ok and rental is not None
         items = ''.join(f'BM{id}|' for id in renewed) + ''.join(f'BN{id}|' for id in others)
@@ -375,14 +395,15 @@ class Records:
         return (f'20{"01"[item is not None]}{request.date}AB{request.item}|' + (f'AJ{item.title}|' if item else '')
                 + properties_text(item))
 
-    def do_15(self, _line, request):
+    def do_15(self, _line, request, forced=False):
         patron, item, mode = self.patrons.get(request.patron), self.items.get(request.item), request.fixed[0]
         queue = item.holds if item else []
         places = [place for place, hold in enumerate(queue) if hold[0] == request.patron]
         ok = patron is not None and item is not None and bool(places)
         if mode == '+':
-            ok = (patron is not None and item is not None and not places and not patron.blocked
-                  and item.borrower != request.patron and len(queue) < 9999)
+            ok = (patron is not None and item is not None and not places
+                  and (forced or not patron.blocked) and item.borrower != request.patron
+                  and len(queue) < 9999)
             if ok:
                 queue.append([request.patron, request.fields.get('BS', '')])
                 places = [len(queue) - 1]
@@ -555,11 +576,16 @@ def answer_of(records, line, request):
     return ('96AZFEF6', None) if request[0] == 'resend' else (None, request[1])
 
 
-def replay(records, journal):
+def by_rules(records, line, request, _response):
+    """The answer to a line by the rules, which don't look at what was recorded."""
+    return answer_of(records, line, request)
+
+
+def replay(records, journal, answering=by_rules):
     """The files that a replay of the journal's rows gives, by name, and the line that is printed."""
     rows = {'answers': [], 'report': [], 'passed': []}
     for number, connection, request, response in journal:
-        answer, why = answer_of(records, int(number), request)
+        answer, why = answering(records, int(number), request, response)
         if answer is None:
             rows['passed'].append((number, connection, why))
             continue

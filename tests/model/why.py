@@ -1,8 +1,10 @@
 """Why each line is answered as it is, and since when each record that it read was so: reasons and origins once more, in plain Python.
 
-It was written from docs/RULES.md, and says what ./sip_why has to print for a journal.
+It was written from docs/RULES.md, and says what ./sip_why has to print for a journal; as recorded
+also what came of each line.
 """
 import model
+import recorded
 
 HEADER = ('line', 'reason', 'kind', 'id', 'since', 'said')
 
@@ -10,8 +12,9 @@ HEADER = ('line', 'reason', 'kind', 'id', 'since', 'said')
 class Tracing:
     """Records with the number of the line that wrote each last, and what the line in hand reads and writes."""
 
-    def __init__(self, records):
+    def __init__(self, records, as_recorded=False):
         self.records, self.policy, self.writers = records, records.policy, {}
+        self.as_recorded = as_recorded
         self.read, self.written = {}, []
 
     def has(self, kind, id):
@@ -76,12 +79,27 @@ class Tracing:
 
     # ------------------------------------------------------------ the messages: the word, and what is written
 
-    def note_rental(self, line, request, item, made, charged):
+    def note_price(self, line, request, price, made):
         """Of a rental that is charged the patron and its fee are written."""
-        if self.policy.media[item.media]['rental'] > 0 and charged:
+        if price > 0:
             self.written += [('patron', request.patron), ('fee', f'R{line}-{made}')]
             return made + 1
         return made
+
+    def rental(self, item):
+        return self.policy.media[item.media]['rental']
+
+    def note_loan(self, line, request, item, word, price):
+        """Of a loan the item and both patrons are written, of a renewal the item alone."""
+        if word == 'made':
+            self.written += [('patron', request.patron), ('item', request.item)]
+            if item.borrower not in (None, request.patron):
+                self.patron(item.borrower)
+                self.written.append(('patron', item.borrower))
+        if word == 'renewed':
+            self.written.append(('item', request.item))
+        if word in ('made', 'renewed'):
+            self.note_price(line, request, price, 0)
 
     def why_11(self, line, request):
         patron, item = self.patron(request.patron), self.item(request.item)
@@ -93,15 +111,7 @@ class Tracing:
             word = self.renewal(request.patron, patron, item, False, forced, agreed)
         else:
             word = self.lending(request.patron, patron, item, forced, agreed)
-        if word == 'made':
-            self.written += [('patron', request.patron), ('item', request.item)]
-            if item.borrower not in (None, request.patron):
-                self.patron(item.borrower)
-                self.written.append(('patron', item.borrower))
-        if word == 'renewed':
-            self.written.append(('item', request.item))
-        if word in ('made', 'renewed'):
-            self.note_rental(line, request, item, 0, not cancel)
+        self.note_loan(line, request, item, word, 0 if cancel else self.rental(item))
         return word
 
     def why_29(self, line, request):
@@ -109,9 +119,7 @@ class Tracing:
         if patron is None or item is None:
             return 'unknown_patron' if patron is None else 'unknown_item'
         word = self.renewal(request.patron, patron, item, request.fixed[0] == 'Y', request.fixed[1] == 'Y', request.says('BO'))
-        if word == 'renewed':
-            self.written.append(('item', request.item))
-            self.note_rental(line, request, item, 0, True)
+        self.note_loan(line, request, item, word, self.rental(item))
         return word
 
     def why_65(self, line, request):
@@ -134,7 +142,7 @@ class Tracing:
                     word = 'rental'
             if word == 'renewed':
                 self.written.append(('item', id))
-                made, owes = self.note_rental(line, request, item, made, True), owes + rental
+                made, owes = self.note_price(line, request, rental, made), owes + rental
             self.items[id] = word
         return 'done'
 
@@ -210,6 +218,50 @@ class Tracing:
             self.written.append(('item', request.item))
         return 'done'
 
+    # ------------------------------------------------------------ as recorded: what is carried out
+
+    def carry(self, line, request, outcome):
+        """Notes what an outcome reads beside what the answer read, and what it writes instead."""
+        self.written = []
+        if isinstance(outcome, recorded.Lent):
+            self.carry_loan(line, request, outcome)
+        if isinstance(outcome, recorded.Renewed) and self.has('patron', request.patron):
+            self.carry_renewals(line, request, outcome)
+        if isinstance(outcome, recorded.Said) and outcome.yes and request.kind == '15':
+            self.carry_hold(request)
+
+    def price(self, request, item, fee):
+        price = recorded.price(request, fee)
+        return self.rental(item) if price is None else price
+
+    def carry_loan(self, line, request, outcome):
+        patron, item = self.patron(request.patron), self.item(request.item)
+        if patron is None or item is None:
+            return
+        is_own, is_lent = item.borrower == request.patron, item.borrower is not None
+        if request.kind == '29':
+            word = 'renewed' if is_own or is_lent and request.fixed[0] == 'Y' else 'made'
+        else:
+            word = 'renewed' if is_own and outcome.renewal else 'made'
+        self.note_loan(line, request, item, word, self.price(request, item, outcome.fee))
+
+    def carry_renewals(self, line, request, outcome):
+        made = 0
+        for id in self.patron(request.patron).loans:
+            if id in outcome.names:
+                self.written.append(('item', id))
+                price = self.price(request, self.item(id), None)
+                made = self.note_price(line, request, price, made)
+
+    def carry_hold(self, request):
+        """A hold that the rules refuse is written only if nothing but the block is against it."""
+        patron, item = self.patron(request.patron), self.item(request.item)
+        if request.fixed[0] != '+' or patron is None or item is None:
+            return
+        waits = any(hold[0] == request.patron for hold in item.holds)
+        if not waits and item.borrower != request.patron and len(item.holds) < 9999:
+            self.written.append(('item', request.item))
+
     # ------------------------------------------------------------ what of a record mattered
 
     def said(self, request, word, kind, id):
@@ -267,29 +319,42 @@ class Tracing:
 
     # ------------------------------------------------------------ a line
 
-    def rows(self, line, request):
+    def rows(self, line, request, response=''):
         """The rows of a line that is a request, on the records before it; then the line is done."""
         self.read, self.written, self.items = {}, [], {}
         word = getattr(self, 'why_' + request.kind)(line, request)
+        if self.as_recorded:
+            _, outcome = recorded.judge(self.records, line, request, response)
+            if outcome is not None:
+                self.carry(line, request, outcome)
         rows = []
         for kind, id in self.read:
             own = self.items.get(id, word) if kind == 'item' else word
             since = str(self.writers.get((kind, id), 'base')) if self.has(kind, id) else ''
             rows.append((str(line), own, kind, id, since, self.said(request, own, kind, id)))
-        self.records.answer(line, request)
+        carried = self.do(line, request, response)
         self.writers.update(dict.fromkeys(self.written, line))
-        return rows or [(str(line), word, '', '', '', '')]
+        return [row + carried for row in rows or [(str(line), word, '', '', '', '')]]
+
+    def do(self, line, request, response):
+        """Does the line. Returns what its rows have last: as recorded what came of it."""
+        if self.as_recorded:
+            return (recorded.come_of(self.records, line, request, response)[1],)
+        self.records.answer(line, request)
+        return ()
 
 
-def why(records, journal, wanted=None):
+def why(records, journal, wanted=None, as_recorded=False):
     """The text of why.csv for a journal's rows: of the lines that are wanted, else of each answered one."""
-    tracing, rows = Tracing(records), []
-    for number, _, text, _ in journal:
+    tracing, rows = Tracing(records, as_recorded), []
+    last = ('carried',) if as_recorded else ()
+    for number, _, text, response in journal:
         request = model.read_request(text)
         if isinstance(request, model.Request):
-            told = tracing.rows(int(number), request)
+            told = tracing.rows(int(number), request, response)
         else:
-            told = [(number, 'checksum', '', '', '', '')] if request[0] == 'resend' else []
+            row = (number, 'checksum', '', '', '', '', *('ruled' for _ in last))
+            told = [row] if request[0] == 'resend' else []
         if wanted is None or int(number) in wanted:
             rows += told
-    return ''.join(','.join(map(model.quoted, row)) + '\n' for row in [HEADER, *rows])
+    return ''.join(','.join(map(model.quoted, row)) + '\n' for row in [HEADER + last, *rows])

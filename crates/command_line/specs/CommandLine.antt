@@ -45,9 +45,10 @@ versioned = on_top (λ shape. record shape { has_version = true })
 -- the command line of the program
 unfoldable pub sip_replay_line : App
 sip_replay_line =
-    with_rule (with_rule (with_rule (with_rule (with_rule (with_rule (with_rule (versioned (new_app (codes "sip_replay")))
+    with_rule (with_rule (with_rule (with_rule (with_rule (with_rule (with_rule (with_rule (versioned (new_app (codes "sip_replay")))
     (path_rule (codes "policy"))) (path_rule (codes "base"))) (path_rule (codes "journal")))
-    (path_rule (codes "out"))) (number_rule (codes "workers"))) (flag_rule (codes "explain"))) (flag_rule (codes "check"))
+    (path_rule (codes "out"))) (number_rule (codes "workers"))) (flag_rule (codes "explain"))) (flag_rule (codes "check")))
+    (flag_rule (codes "as-recorded"))
 
 -- a number: that of the text that clap reads, and this one where there is none
 abbrev pub Counts : ℕ → Option Text → ℕ → Type 0
@@ -70,6 +71,7 @@ pub record GivesOptions (rows : List Row) (o : Options) : Type 0 where
   pub workers : Counts 4 (one_of (codes "workers") rows) o.workers
   pub explain : Says (one_of (codes "explain") rows) o.explain
   pub check : Says (one_of (codes "check") rows) o.check
+  pub as_recorded : Says (one_of (codes "as-recorded") rows) o.as_recorded
 
 -- The words, of which the first is the program's name, give these options.
 abbrev pub AreAskedBy : List Text → Options → Type 0

@@ -16,6 +16,8 @@ pub struct Options {
     pub explain: bool,
     /// Whether the inputs are only checked.
     pub check: bool,
+    /// Whether the records follow what the recorded responses say was done.
+    pub as_recorded: bool,
 }
 
 impl Drop for Options {
@@ -28,6 +30,7 @@ impl Drop for Options {
             workers: _,
             explain: _,
             check: _,
+            as_recorded: _,
         } = self;
     }
 }

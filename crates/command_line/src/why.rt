@@ -2,7 +2,7 @@
 //! clap's definition doesn't say what words mean: so it isn't proved here, only that the two options of changes go together.
 ghost use Rattle.std.specs.Prelude.{◌≡◌, IfOk, None, is_some};
 
-use crate::parts::{Chosen, free_text, program, read, repeated, text_if_given, text_of, texts_of};
+use crate::parts::{Chosen, flag, free_text, program, read, repeated, text_if_given, text_of, texts_of};
 use crate::refusal::Refusal;
 use clap::{ArgMatches, Command};
 use std::alloc::{AllocError, Global};
@@ -31,6 +31,9 @@ wrote for these files; needed by --changes";
 
 const TEST_HELP: &str = "A folder that gets a test case for each line of --report
 and --line, in a folder named by the line's number";
+
+const AS_RECORDED_HELP: &str = "Explains a run of sip_replay --as-recorded; the table gets a last column, carried:
+what came of the line (ruled, told, not)";
 
 const AFTER_HELP: &str = "Example:
   sip_why --policy policy.toml --base tables --journal journal.csv \\
@@ -65,6 +68,8 @@ pub struct WhyOptions {
     pub out: Option<String>,
     /// The folder that gets a test case of each line that is wanted. It is given only where lines or a report are.
     pub test: Option<String>,
+    /// Whether the records follow what the recorded responses say was done.
+    pub as_recorded: bool,
 }
 
 impl Drop for WhyOptions {
@@ -78,6 +83,7 @@ impl Drop for WhyOptions {
             changes: _,
             out: _,
             test: _,
+            as_recorded: _,
         } = self;
     }
 }
@@ -123,6 +129,7 @@ impl Chosen for WhyOptions {
             changes: text_if_given(alloc, matches, "changes")?,
             out: text_if_given(alloc, matches, "out")?,
             test: text_if_given(alloc, matches, "test")?,
+            as_recorded: matches.get_flag("as-recorded"),
         })
     }
 }
@@ -138,6 +145,7 @@ fn command<'a>(alloc: Global) -> Result<Command<'a>, AllocError> {
         free_text(alloc, "changes", "FILE", CHANGES_HELP),
         free_text(alloc, "out", "DIR", OUT_HELP),
         free_text(alloc, "test", "DIR", TEST_HELP),
+        flag(alloc, "as-recorded", AS_RECORDED_HELP),
     ]?;
     program(alloc, "sip_why", ABOUT, AFTER_HELP, args)
 }

@@ -37,6 +37,9 @@ standard error that says what to do; on a terminal it is always printed";
 const CHECK_HELP: &str = "Only checks the inputs: lists the rows that break
 a rule, the first 100 of them, and writes no file";
 
+const AS_RECORDED_HELP: &str = "Carries out what the recorded responses say was done, so that
+the tables have what happened at the machines; the report judges each response on these records";
+
 const AFTER_HELP: &str = "Example:
   sip_replay --policy policy.toml --base tables --journal journal.csv --out result
 
@@ -77,6 +80,7 @@ impl Chosen for Options {
             workers: number_or(matches, "workers", DEFAULT_WORKERS),
             explain: matches.get_flag("explain"),
             check: matches.get_flag("check"),
+            as_recorded: matches.get_flag("as-recorded"),
         })
     }
 }
@@ -94,6 +98,7 @@ fn command<'a>(alloc: Global) -> Result<Command<'a>, AllocError>
         number(alloc, "workers", WORKERS_HELP),
         flag(alloc, "explain", EXPLAIN_HELP),
         flag(alloc, "check", CHECK_HELP),
+        flag(alloc, "as-recorded", AS_RECORDED_HELP),
     ]?;
     program(alloc, "sip_replay", ABOUT, AFTER_HELP, args)
 }

@@ -1,5 +1,5 @@
 -- A plan: the policy, the records before the first line, what each line is read as, and what its response says was done.
-use Rattle.std.specs.Prelude.{ℕ, ◌-◌, nat_lt, List, [], map, slice_get, unwrap_or, Option, Some, None, if◌then◌else◌}
+use Rattle.std.specs.Prelude.{ℕ, Bool, ◌-◌, nat_lt, List, [], map, slice_get, unwrap_or, Option, Some, None, if◌then◌else◌}
 use Rattle.circ_policy.specs.Terms.{Terms}
 use Rattle.circ_policy.specs.declared.due_form.DueForm.{DueForm}
 use Rattle.circ_policy.specs.declared.due_form.DueForm.TheVariants as due_forms
@@ -30,6 +30,10 @@ beginning lines = unwrap_or (first_number lines) line_number_end
 -- the readings of a journal's requests
 abbrev pub readings_of : List Entry → List Reading
 readings_of = requests_read
+
+-- the way that is asked for
+abbrev pub way_of : Bool → Way
+way_of as_recorded = if as_recorded then ways.AsRecorded else ways.ByRules
 
 -- what a response says was done, if its request was read
 abbrev pub deed_read : DueForm → Option Reading → List ℕ → Option Deed

@@ -12,6 +12,7 @@ use Rattle.journal_table.specs.Journal.{journal_of}
 use Rattle.journal_table.specs.declared.error.JournalError.{JournalError}
 use Rattle.journal_table.specs.declared.error.JournalError.TheVariants as journal
 use Rattle.read_set.specs.Plans.{Planned, plan_of}
+use Rattle.read_set.specs.declared.way.Way.{Way}
 use Rattle.replay_run.specs.declared.fault.Fault.{Fault}
 use Rattle.replay_run.specs.declared.fault.Fault.TheVariants as faults
 
@@ -33,23 +34,23 @@ first_read (Ok lines) = first_number lines
 first_read (Err e) = None
 
 -- last the journal
-abbrev pub with_lines : Terms → Entries → Result (List Entry) JournalError → Result Accepted Refused
-with_lines policy entries (Err e) = Err (bad_journal e)
-with_lines policy entries (Ok lines) = Ok (record { plan = plan_of policy entries lines; lines = lines })
+abbrev pub with_lines : Way → Terms → Entries → Result (List Entry) JournalError → Result Accepted Refused
+with_lines way policy entries (Err e) = Err (bad_journal e)
+with_lines way policy entries (Ok lines) = Ok (record { plan = plan_of way policy entries lines; lines = lines })
 
 -- before it the base
-abbrev pub with_base : Terms → Result (List Entry) JournalError → Result Entries BaseError → Result Accepted Refused
-with_base policy read (Err e) = Err (bad_base e)
-with_base policy read (Ok entries) = with_lines policy entries read
+abbrev pub with_base : Way → Terms → Result (List Entry) JournalError → Result Entries BaseError → Result Accepted Refused
+with_base way policy read (Err e) = Err (bad_base e)
+with_base way policy read (Ok entries) = with_lines way policy entries read
 
 -- and first the policy
-abbrev pub with_policy : Texts → Result (List Entry) JournalError → Result Terms Refusal → Result Accepted Refused
-with_policy tables read (Err e) = Err (bad_policy e)
-with_policy tables read (Ok policy) = with_base policy read (base_of policy tables (first_read read))
+abbrev pub with_policy : Way → Texts → Result (List Entry) JournalError → Result Terms Refusal → Result Accepted Refused
+with_policy way tables read (Err e) = Err (bad_policy e)
+with_policy way tables read (Ok policy) = with_base way policy read (base_of policy tables (first_read read))
 
--- the judgement on a policy, tables and a journal
-unfoldable pub judgement_on : List ℕ → Texts → List ℕ → Result Accepted Refused
-judgement_on policy tables lines = with_policy tables (journal_of lines) (policy_of policy)
+-- the judgement on a policy, tables and a journal, which are replayed in this way
+unfoldable pub judgement_on : Way → List ℕ → Texts → List ℕ → Result Accepted Refused
+judgement_on way policy tables lines = with_policy way tables (journal_of lines) (policy_of policy)
 
 -- a fault is the one that is due, unless memory ran out
 abbrev pub Fails : Fault → Result Accepted Refused → Type 0

@@ -48,7 +48,7 @@ IsOutputOf (Err refused) o = ⊥
 
 -- what inputs are judged as
 abbrev pub judgement : Inputs → Result Accepted Refused
-judgement i = judgement_on i.policy.items (texts_of i.tables) i.journal.items
+judgement i = judgement_on i.way i.policy.items (texts_of i.tables) i.journal.items
 
 abbrev pub IsOneThread : Inputs → Result Output Fault → Type 0
 IsOneThread i (Ok o) = IsOutputOf (judgement i) o

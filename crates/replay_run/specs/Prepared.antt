@@ -8,6 +8,7 @@ use Rattle.record_tables.specs.Tables.{Texts}
 use Rattle.record_tables.specs.declared.fault.BaseError.{BaseError}
 use Rattle.journal_table.specs.Entry.{first_number}
 use Rattle.read_set.specs.Plans.{plan_of}
+use Rattle.read_set.specs.declared.way.Way.{Way}
 use Rattle.replay_run.specs.Judgements.{Accepted, Refused, Fails}
 use Rattle.replay_run.specs.declared.fault.Fault.{Fault}
 use Rattle.replay_run.specs.declared.prepared.Prepared.{Prepared}
@@ -25,9 +26,9 @@ abbrev pub IsBase : Terms → Texts → Option ℕ → Result Entries BaseError 
 IsBase policy tables first base = Gives base (base_of policy tables first) × IfOk base (λ b. Coherent policy (number_before first) b)
 
 -- before the requests are read: what is due is the plan of these lines over a base that is coherent before the first of them
-abbrev pub accepted_by : Sound → Accepted
-accepted_by s = record { plan = plan_of s.policy s.base s.journal; lines = s.journal }
+abbrev pub accepted_by : Way → Sound → Accepted
+accepted_by way s = record { plan = plan_of way s.policy s.base s.journal; lines = s.journal }
 
-abbrev pub IsSound : Result Sound Fault → Result Accepted Refused → Type 0
-IsSound (Ok s) due = (due ≡ Ok (accepted_by s)) × Coherent s.policy (number_before (first_number s.journal)) s.base
-IsSound (Err fault) due = Fails fault due
+abbrev pub IsSound : Way → Result Sound Fault → Result Accepted Refused → Type 0
+IsSound way (Ok s) due = (due ≡ Ok (accepted_by way s)) × Coherent s.policy (number_before (first_number s.journal)) s.base
+IsSound way (Err fault) due = Fails fault due

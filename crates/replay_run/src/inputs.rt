@@ -1,5 +1,6 @@
 //! The inputs and the output of a run.
 
+use read_set::Way;
 use record_tables::Tables;
 use result_report::Sizes;
 
@@ -8,6 +9,8 @@ pub struct Inputs {
     pub policy: Vec<u8>,
     pub tables: Tables,
     pub journal: Vec<u8>,
+    /// Whether the rules or the recorded responses say what was done.
+    pub way: Way,
 }
 
 impl Drop for Inputs {
@@ -16,6 +19,7 @@ impl Drop for Inputs {
             policy: _,
             tables: _,
             journal: _,
+            way: _,
         } = self;
     }
 }

@@ -6,6 +6,7 @@ ghost use Rattle.record_tables.specs.Tables.{Texts, texts_of};
 ghost use Rattle.journal_table.specs.Entry.{Entry};
 ghost use Rattle.journal_table.specs.Journal.{Gives, journal_of};
 ghost use Rattle.journal_table.specs.declared.error.JournalError.{JournalError};
+ghost use Rattle.read_set.specs.declared.way.Way.{Way};
 ghost use Rattle.replay_run.specs.Judgements.{first_read, with_base};
 ghost use Rattle.replay_run.specs.OneThread.{judgement};
 ghost use Rattle.replay_run.specs.Prepared.{IsBase, IsSound};
@@ -23,7 +24,7 @@ use std::thread::{Threads, join};
 /// The policy, the base and the journal that the inputs give, or their first fault.
 #[tactic(auto, unfolding(crate::specs::Judgements::judgement_on))]
 pub fn judge(alloc: Global, inputs: &Inputs) -> Result<Sound<'_>, Fault>
-    ensures { IsSound result (judgement inputs.now) }
+    ensures { IsSound inputs.now.way result (judgement inputs.now) }
 {
     match Policy::read(alloc, inputs.policy.as_slice()) {
         Ok(policy) => {
@@ -43,7 +44,7 @@ pub fn judge_side_by_side<'i, R: Threads + Sync>(
     alloc: Global,
     inputs: &'i Inputs,
 ) -> Result<Sound<'i>, Fault>
-    ensures { IsSound result (judgement inputs.now) }
+    ensures { IsSound inputs.now.way result (judgement inputs.now) }
 {
     match Policy::read(alloc, inputs.policy.as_slice()) {
         Ok(policy) => {
@@ -93,8 +94,8 @@ fn accept<'i>(
     base: Result<Records, BaseError>,
     journal: Result<Journal<'i>, JournalError>,
 ) -> Result<Sound<'i>, Fault>
-    ensures { (tables : Texts) (read : Result (List Entry) JournalError) → Gives journal.entry read → IsBase policy tables (first_read journal.entry) base
-        → IsSound result (with_base policy read (base_of policy tables (first_read read))) }
+    ensures { (way : Way) (tables : Texts) (read : Result (List Entry) JournalError) → Gives journal.entry read → IsBase policy tables (first_read journal.entry) base
+        → IsSound way result (with_base way policy read (base_of policy tables (first_read read))) }
 {
     match journal {
         Ok(journal) => match base {

@@ -16,7 +16,7 @@ use crate::prepared::{Prepared, Sound};
 use crate::replay::replay;
 use crate::replay_end::ReplayEnd;
 use journal_table::{Journal, read_all, read_in_turn};
-use read_set::Plan;
+use read_set::{Deeds, Plan};
 use record_tables::{Tables, write_records};
 use result_report::{Outcome, ResultTexts, collect, report};
 use std::alloc::{AllocError, Global};
@@ -54,7 +54,9 @@ pub fn judge_inputs(alloc: Global, inputs: &Inputs) -> Result<Prepared<'_>, Faul
                 journal,
             },
         ) => {
-            let plan = Plan::from_readings(policy, base, read_in_turn(alloc, &journal)?);
+            let readings = read_in_turn(alloc, &journal)?;
+            let deeds = Deeds::of(alloc, inputs.way, policy.due_form(), &journal, &readings)?;
+            let plan = Plan::from_readings(policy, base, readings, deeds);
             Ok(Prepared { plan, journal })
         }
         Err(fault) => Err(fault),
@@ -79,7 +81,8 @@ pub fn judge_parallel<'i, R: Threads + Sync>(
             },
         ) => {
             let readings = read_all(rt, alloc, &journal)?;
-            let plan = Plan::from_readings(policy, base, readings);
+            let deeds = Deeds::of(alloc, inputs.way, policy.due_form(), &journal, &readings)?;
+            let plan = Plan::from_readings(policy, base, readings, deeds);
             Ok(Prepared { plan, journal })
         }
         Err(fault) => Err(fault),

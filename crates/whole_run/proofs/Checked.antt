@@ -13,6 +13,7 @@ use Rattle.journal_table.specs.Entry.{Entry}
 use Rattle.journal_table.specs.Journal.{journal_of}
 use Rattle.journal_table.specs.declared.error.JournalError.{JournalError}
 use Rattle.replay_run.specs.Faults.{base_fault}
+use Rattle.read_set.specs.declared.way.Way.{Way}
 use Rattle.replay_run.specs.Judgements.{first_read, judgement_on, with_base, with_policy}
 use Rattle.replay_run.specs.declared.fault.Fault.{Fault}
 use Rattle.table_rules.specs.AllBroken.{broken_rules}
@@ -23,20 +24,20 @@ use Rattle.run_stops.specs.Seeing.{IsOf}
 use Rattle.run_stops.specs.Telling.{remedy_of}
 use Rattle.run_stops.specs.declared.stop.RunError.{RunError}
 
-refused-for : (policy : Terms) (read : Result (List Entry) JournalError) (base : Result Entries BaseError) (broken : List BaseError) → slice_get broken 0 ≡ result_err base
-    → IsRefusedFor (with_base policy read base) (slice_get (map base_fault broken ++ faults_of_journal read) 0)
-refused-for policy read (Err e) [] h = cc h
-refused-for policy read (Err e) (x ∷ xs) h = ap (option_map base_fault) h
-refused-for policy (Ok lines) (Ok entries) [] h = refl
-refused-for policy (Err e) (Ok entries) [] h = refl
-refused-for policy read (Ok entries) (x ∷ xs) h = cc h
+refused-for : (way : Way) (policy : Terms) (read : Result (List Entry) JournalError) (base : Result Entries BaseError) (broken : List BaseError) → slice_get broken 0 ≡ result_err base
+    → IsRefusedFor (with_base way policy read base) (slice_get (map base_fault broken ++ faults_of_journal read) 0)
+refused-for way policy read (Err e) [] h = cc h
+refused-for way policy read (Err e) (x ∷ xs) h = ap (option_map base_fault) h
+refused-for way policy (Ok lines) (Ok entries) [] h = refl
+refused-for way policy (Err e) (Ok entries) [] h = refl
+refused-for way policy read (Ok entries) (x ∷ xs) h = cc h
 
 pub first-is-refused : FirstIsRefused
 unfolding judgement_on
-first-is-refused bytes policy texts journal is =
+first-is-refused way bytes policy texts journal is =
     let read = journal_of journal in
-    subst (λ p. IsRefusedFor (with_policy texts read p) (slice_get (faults_of policy texts read) 0)) (sym is)
-    (refused-for policy read (base_of policy texts (first_read read)) (broken_rules policy texts (first_read read)) (first-is-the-fault policy texts (first_read read)))
+    subst (λ p. IsRefusedFor (with_policy way texts read p) (slice_get (faults_of policy texts read) 0)) (sym is)
+    (refused-for way policy read (base_of policy texts (first_read read)) (broken_rules policy texts (first_read read)) (first-is-the-fault policy texts (first_read read)))
 
 -- one line more
 pub lines-more : (o : Options) (faults : List Fault) (fault : Fault) (stop : RunError) (text : List ℕ) → AreLines o faults text → IsOf fault stop

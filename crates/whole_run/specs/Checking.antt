@@ -11,6 +11,7 @@ use Rattle.journal_table.specs.Entry.{Entry}
 use Rattle.journal_table.specs.Journal.{journal_of}
 use Rattle.journal_table.specs.declared.error.JournalError.{JournalError}
 use Rattle.replay_run.specs.Faults.{base_fault, journal_fault, policy_fault}
+use Rattle.read_set.specs.declared.way.Way.{Way}
 use Rattle.replay_run.specs.Judgements.{Accepted, Refused, bad_base, bad_journal, bad_policy, first_read, judgement_on}
 use Rattle.replay_run.specs.declared.fault.Fault.{Fault}
 use Rattle.replay_run.specs.declared.fault.Fault.TheVariants as faults
@@ -43,8 +44,8 @@ IsRefusedFor (Err (bad_base error)) first = first ≡ Some (base_fault error)
 IsRefusedFor (Err (bad_journal error)) first = first ≡ Some (journal_fault error)
 
 abbrev pub FirstIsRefused : Type 0
-FirstIsRefused = (bytes : List ℕ) (policy : Terms) (texts : Texts) (journal : List ℕ) → policy_of bytes ≡ Ok policy
-    → IsRefusedFor (judgement_on bytes texts journal) (slice_get (faults_of policy texts (journal_of journal)) 0)
+FirstIsRefused = (way : Way) (bytes : List ℕ) (policy : Terms) (texts : Texts) (journal : List ℕ) → policy_of bytes ≡ Ok policy
+    → IsRefusedFor (judgement_on way bytes texts journal) (slice_get (faults_of policy texts (journal_of journal)) 0)
 
 -- how many faults are listed at most
 abbrev pub listed : List Fault → List Fault

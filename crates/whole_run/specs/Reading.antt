@@ -6,6 +6,7 @@ use Rattle.outside.specs.declared.failure.Failure.{Failure}
 use Rattle.outside.specs.declared.failure.Failure.TheVariants.{Missing}
 use Rattle.outside.specs.declared.file_id.FileId.{FileId}
 use Rattle.command_line.specs.declared.chosen.Options.{Options}
+use Rattle.read_set.specs.Plans.{way_of}
 use Rattle.replay_run.specs.declared.fault.Fault.TheVariants as faults
 use Rattle.replay_run.specs.declared.inputs.Inputs.{Inputs}
 use Rattle.run_stops.specs.Stops.{MayTell, MayTellFolder}
@@ -18,9 +19,9 @@ use Rattle.run_stops.specs.declared.stop.RunError.TheVariants as stops
 abbrev pub IsAbsent : Result (List ℕ) Failure → List ℕ → Type 0
 IsAbsent answer text = (answer ≡ Ok text) ⊎ ((answer ≡ Err Missing) × (text ≡ []))
 
--- The inputs are what these files answer, read once each, in this order.
+-- The inputs are what these files answer, read once each, in this order, and are replayed in the way that is asked for.
 abbrev pub AreRead : Options → Inputs → List Event → Type 0
-AreRead o i events = (holds : Result (List ℕ) Failure) × IsAbsent holds i.tables.holds.items × (events ≡
+AreRead o i events = (holds : Result (List ℕ) Failure) × IsAbsent holds i.tables.holds.items × (i.way ≡ way_of o.as_recorded) × (events ≡
     Read (string_bytes o.policy) (Ok i.policy.items)
     ∷ Read (in_folder (string_bytes o.base) (codes "patrons.csv")) (Ok i.tables.patrons.items)
     ∷ Read (in_folder (string_bytes o.base) (codes "items.csv")) (Ok i.tables.items.items)

@@ -14,6 +14,7 @@ ghost use Rattle.run_stops.specs.declared.stop.RunError.TheVariants as stops;
 use crate::looking::refuse_loss;
 use command_line::Options;
 use outside::{Failure, Outside, Unwritten, file_in_folder, write_files};
+use read_set::Way;
 use replay_run::{Inputs, Output, Tables};
 use run_stops::RunError;
 use std::alloc::{AllocError, Global};
@@ -61,6 +62,7 @@ fn read_all<O: Outside>(
         policy,
         tables,
         journal,
+        way: Way::of(options.as_recorded),
     })
 }
 

@@ -74,4 +74,4 @@ returns-in_err-journal-clause-stops g c =
     (here _ _ _ _ _ _ _ c.as_str-2.ensures.value c.in_err-journal.ensures.stops))))))))
 
 pub returns-clause-given : goal.returns-clause-given
-returns-clause-given g c = (_, rw (c.in_ok-journal.ensures.given, c.in_ok-holds.ensures.given.2, c.in_ok-closed.ensures.given, c.in_ok-fees.ensures.given, c.in_ok-loans.ensures.given, c.in_ok-items.ensures.given, c.in_ok-patrons.ensures.given, c.in_ok-policy.ensures.given, c.as_str.ensures.value, c.as_str-base.ensures.value, c.as_str-2.ensures.value) refl, (c.in_ok-holds.ensures.given.0, c.in_ok-holds.ensures.given.1, refl))
+returns-clause-given g c = (_, rw (c.in_ok-journal.ensures.given, c.in_ok-holds.ensures.given.2, c.in_ok-closed.ensures.given, c.in_ok-fees.ensures.given, c.in_ok-loans.ensures.given, c.in_ok-items.ensures.given, c.in_ok-patrons.ensures.given, c.in_ok-policy.ensures.given, c.as_str.ensures.value, c.as_str-base.ensures.value, c.as_str-2.ensures.value) refl, (c.in_ok-holds.ensures.given.0, c.in_ok-holds.ensures.given.1, c.of.ensures, refl))

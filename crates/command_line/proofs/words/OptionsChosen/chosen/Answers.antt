@@ -14,4 +14,5 @@ returns c =
       workers = c.number_or.ensures;
       explain = says_rows f (codes "explain") _ c.get_flag.ensures.none c.get_flag.ensures.value c.get_flag.ensures.other;
       check = says_rows f (codes "check") _ c.get_flag-2.ensures.none c.get_flag-2.ensures.value c.get_flag-2.ensures.other;
+      as_recorded = says_rows f (codes "as-recorded") _ c.get_flag-3.ensures.none c.get_flag-3.ensures.value c.get_flag-3.ensures.other;
     }

@@ -11,7 +11,7 @@ use Rattle.read_set.specs.Effects.{unwritten}
 use Rattle.read_set.specs.Maps.{Map}
 use Rattle.read_set.specs.Meaning.{effect}
 use Rattle.read_set.specs.Notes.{note_of, noted}
-use Rattle.read_set.specs.Plans.{Planned, reading_at}
+use Rattle.read_set.specs.Plans.{Planned, deed_at, reading_at}
 use Rattle.read_set.specs.Replay.{after, answer_of, before}
 use Rattle.read_set.specs.declared.effect.Effect.{Effect}
 use Rattle.read_set.specs.declared.notes.Name.{Name}
@@ -25,10 +25,10 @@ use Rattle.line_origins.specs.declared.tracer.LineTrace.{LineTrace}
 
 -- WHO WROTE WHAT
 
--- what a line does, as the replay by one thread has it
+-- what a line does, as the replay by one thread has it: as recorded, what its response says was done
 abbrev pub effect_by : Planned → ℕ → Option Reading → Map → Effect
 effect_by plan line None M = unwritten None
-effect_by plan line (Some r) M = effect plan.policy line r M
+effect_by plan line (Some r) M = effect plan.policy line r (deed_at plan line) M
 
 abbrev pub effect_at : Planned → ℕ → Map → Effect
 effect_at plan line M = effect_by plan line (reading_at plan line) M

@@ -1,5 +1,5 @@
 -- A line has a reason where it has an answer, and the answer says yes where the reason is one that grants.
-use Rattle.std.proofs.Common.{◌≡◌, ℕ, Bool, true, false, cond, not, ◌&&◌, List, [], Option, Some, None, refl, ap, sym, ◌∙◌}
+use Rattle.std.proofs.Common.{◌≡◌, ℕ, Bool, true, false, cond, not, ◌&&◌, ◌||◌, List, [], Option, Some, None, refl, ap, sym, ◌∙◌}
 use Rattle.std.specs.Prelude.{◌==◌, nat_lt, nat_le, length, is_some, option_map}
 use Rattle.circ_policy.specs.Terms.{Terms}
 use Rattle.circ_records.specs.declared.record.Item.{Item}
@@ -9,6 +9,7 @@ use Rattle.circ_records.specs.declared.holds.TheConstants.{QUEUE_MAX}
 use Rattle.sip_answer.specs.declared.answer.Answer.{Answer}
 use Rattle.sip_answer.specs.declared.answer.LoanAnswer.{LoanAnswer}
 use Rattle.sip_answer.specs.declared.answer.PatronAnswer.{PatronAnswer}
+use Rattle.sip_answer.specs.declared.deed.Deed.{Deed}
 use Rattle.sip_reader.specs.declared.request.Act.{Act}
 use Rattle.sip_reader.specs.declared.request.Act.TheVariants as acts
 use Rattle.sip_reader.specs.declared.request.Checkin.{Checkin}
@@ -25,7 +26,7 @@ use Rattle.sip_reader.specs.declared.request.RenewAll.{RenewAll}
 use Rattle.read_set.specs.Asks.{Asks, Give, over, ◌>>=◌}
 use Rattle.read_set.specs.Blocks.{block_answer, block_rule, block_rule_known, blocked_by}
 use Rattle.read_set.specs.Checkins.{checked_in, checkin_rule, lateness, loan_of, returned}
-use Rattle.read_set.specs.Checkouts.{checkout_rule, checkout_rule_known, lending_made, lending_of, lending_rule, lending_rule_by, lending_tests, other_at}
+use Rattle.read_set.specs.Checkouts.{checkout_rule_for, checkout_rule_known, lending_made, lending_of, lending_rule, lending_rule_by, lending_tests, other_at}
 use Rattle.read_set.specs.Effects.{unwritten}
 use Rattle.read_set.specs.Holds.{held, hold_answer, hold_kept, hold_rule, queue_after, refuses_hold}
 use Rattle.read_set.specs.Ids.{same}
@@ -38,10 +39,10 @@ use Rattle.read_set.specs.Meaning.{effect, rule, rule_of}
 use Rattle.read_set.specs.Owing.{owed_at}
 use Rattle.read_set.specs.Fees.{owed}
 use Rattle.read_set.specs.Payments.{all_paid, fee_paid_rule, fee_paid_rule_known, meant_at, pay_rule_each, payment_rule}
-use Rattle.read_set.specs.Plans.{Planned, reading_at}
+use Rattle.read_set.specs.Plans.{Planned, deed_at, reading_at}
 use Rattle.read_set.specs.Queues.{waits}
 use Rattle.read_set.specs.RenewAlls.{all_renewed, none_renewed, renew_all_rule, renew_all_rule_known, turns_rule}
-use Rattle.read_set.specs.Renewals.{renew_rule, renew_rule_known, renewal_by, renewal_made, renewal_rule, renewal_tests}
+use Rattle.read_set.specs.Renewals.{may_renew, renew_rule, renew_rule_known, renewal_by, renewal_made, renewal_rule, renewal_tests}
 use Rattle.read_set.specs.Replay.{one_by}
 use Rattle.read_set.specs.declared.effect.Effect.{Effect}
 use Rattle.read_set.specs.declared.known.Article.{Article}
@@ -57,6 +58,7 @@ use Rattle.line_reasons.specs.Reasons.{checkin_reason_known, checkout_reason_kno
 use Rattle.line_reasons.specs.Verdicts.{grants}
 use Rattle.line_reasons.specs.declared.names.Reason.{Reason}
 use Rattle.line_reasons.specs.declared.names.Reason.TheVariants as reasons
+use Rattle.line_reasons.proofs.Answered.{answer_is_ruled}
 use Rattle.line_reasons.proofs.Deciding.{is_made, Decides, lends, renews}
 
 -- what an answer says
@@ -113,8 +115,18 @@ pub two_ways : {A B : Type 0} (f : A → Option Bool) (g : B → Bool) (b : Bool
 two_ways f g true x y r s h k = h
 two_ways f g false x y r s h k = k
 
+-- no checkout allows a third party to renew
+own_alone : (b : Bool) → (b || false) ≡ b
+own_alone true = refl
+own_alone false = refl
+
+renews_own : (q : Checkout) (loan : Option Loan) → may_renew (by_checkout q) loan ≡ lent_to q.patron loan
+renews_own q None = refl
+renews_own q (Some loan) = own_alone (same loan.patron q.patron)
+
 checkout_goes : (p : Terms) (n : ℕ) (q : Checkout) (date : List ℕ) (M : Map) (member : Option Member) (article : Option Article)
-    → Some (grants (checkout_reason_known q (owed_by M member) member article)) ≡ yes (over M (checkout_rule_known p n q date member article)).answer
+    → Some (grants (checkout_reason_known q (owed_by M member) member article))
+    ≡ yes (over M (checkout_rule_known p n q.renewal (by_checkout q) date member article)).answer
 checkout_goes p n q date M None article = sym (refused_says p (by_checkout q) date article 0)
 checkout_goes p n q date M (Some member) None = sym (refused_says p (by_checkout q) date None 0)
 checkout_goes p n q date M (Some member) (Some article) =
@@ -122,6 +134,8 @@ checkout_goes p n q date M (Some member) (Some article) =
     (renewal_rule p n (by_checkout q) date member article) (lending_rule p n (by_checkout q) date member article)
     (renewal_reason (owed M member.patron.fees) (by_checkout q) member article) (lending_reason (owed M member.patron.fees) (by_checkout q) member article)
     (renewal_goes p n (by_checkout q) date M member article) (lending_goes p n (by_checkout q) date M member article)
+    ∙ ap (λ (b : Bool). yes (over M (cond (q.renewal && b) (renewal_rule p n (by_checkout q) date member article) (lending_rule p n (by_checkout q) date member article))).answer)
+    (sym (renews_own q article.item.loan))
 
 renew_goes : (p : Terms) (n : ℕ) (q : Renew) (date : List ℕ) (M : Map) (member : Option Member) (article : Option Article)
     → Some (grants (renew_reason_known q (owed_by M member) member article)) ≡ yes (over M (renew_rule_known p n (by_renew q) date member article)).answer
@@ -174,7 +188,7 @@ hold_says p q date item true = refl
 hold_says p q date item false = refl
 
 hold_goes : (p : Terms) (q : HoldRequest) (date : List ℕ) (member : Option Member) (article : Option Article)
-    → Some (grants (hold_reason_known q member article)) ≡ yes (held p q date member article).answer
+    → Some (grants (hold_reason_known q member article)) ≡ yes (held p false q date member article).answer
 unfolding held
 hold_goes p q date None article = refl
 hold_goes p q date (Some member) None = refl
@@ -217,11 +231,11 @@ block_goes p blocks id date M (Some member) =
     over_all M (owed_at [] member.patron.fees) (λ owes. Give (blocked_by p blocks id date member owes)) (λ (x : Effect). Some true ≡ yes x.answer) (λ owes. ap Some (sym (block_says blocks _)))
 
 all_goes : (p : Terms) (n : ℕ) (q : RenewAll) (date : List ℕ) (M : Map) (member : Option Member)
-    → Some (grants (done_where (is_some member) reasons.UnknownPatron)) ≡ yes (over M (renew_all_rule_known p n q date member)).answer
+    → Some (grants (done_where (is_some member) reasons.UnknownPatron)) ≡ yes (over M (renew_all_rule_known p n None q date member)).answer
 unfolding all_renewed
 all_goes p n q date M None = refl
 all_goes p n q date M (Some member) =
-    over_all M (turns_rule p n q date member.patron.loans (none_renewed member)) (λ done. Give (all_renewed p q date done)) (λ (x : Effect). Some true ≡ yes x.answer) (λ done. refl)
+    over_all M (turns_rule p n false q date member.patron.loans (none_renewed member)) (λ done. Give (all_renewed p q date done)) (λ (x : Effect). Some true ≡ yes x.answer) (λ done. refl)
 
 relabelled_says : (q : ItemStatus) (date : List ℕ) (item : Item) (given : Option (List ℕ)) → yes (relabelled q date item given).answer ≡ Some true
 relabelled_says q date item None = refl
@@ -236,7 +250,7 @@ status_goes q date (Some article) = sym (relabelled_says q date article.item q.p
 -- EACH LINE
 
 act_goes : (p : Terms) (n : ℕ) (date : List ℕ) (act : Act) (M : Map) → Some (grants (act_reason p date act M)) ≡ yes (over M (rule_of p n date act)).answer
-unfolding act_reason rule_of block_rule checkin_rule checkout_rule hold_rule item_status_rule renew_rule fee_paid_rule renew_all_rule patron_at item_at
+unfolding act_reason rule_of block_rule checkin_rule checkout_rule_for hold_rule item_status_rule renew_rule fee_paid_rule renew_all_rule patron_at item_at
 act_goes p n date (acts.BlockPatron q) M = block_goes p true q.patron date M (patron_in p M q.patron)
 act_goes p n date (acts.Checkin q) M =
     over_all M (borrower_at p (loan_of (item_in p M q.item))) (λ b. Give (checked_in p n q date (item_in p M q.item) b))
@@ -250,16 +264,16 @@ act_goes p n date (acts.Renew q) M = renew_goes p n q date M (patron_in p M q.pa
 act_goes p n date (acts.FeePaid q) M = payment_goes p q date M _ (patron_in p M q.patron)
 act_goes p n date (acts.RenewAll q) M = all_goes p n q date M (patron_in p M q.patron)
 
-reading_goes : (p : Terms) (n : ℕ) (r : Reading) (M : Map) → option_map grants (reason p r M) ≡ yes (effect p n r M).answer
+reading_goes : (p : Terms) (n : ℕ) (r : Reading) (o : Option Deed) (M : Map) → option_map grants (reason p r M) ≡ yes (effect p n r o M).answer
 unfolding rule
-reading_goes p n (readings.Asked q) M = act_goes p n q.date q.act M
-reading_goes p n readings.BadSum M = refl
-reading_goes p n (readings.Passed why) M = refl
-reading_goes p n (readings.Unread why) M = refl
+reading_goes p n (readings.Asked q) o M = act_goes p n q.date q.act M ∙ ap yes (sym (answer_is_ruled p n q.date q.act o M))
+reading_goes p n readings.BadSum o M = refl
+reading_goes p n (readings.Passed why) o M = refl
+reading_goes p n (readings.Unread why) o M = refl
 
 line_goes : (plan : Planned) (line : ℕ) (r : Option Reading) (M : Map) → option_map grants (reason_by plan.policy r M) ≡ yes (one_by plan line r M).1
 line_goes plan line None M = refl
-line_goes plan line (Some r) M = reading_goes plan.policy line r M
+line_goes plan line (Some r) M = reading_goes plan.policy line r (deed_at plan line) M
 
 pub reasons_go : ReasonsGoWithAnswers
 reasons_go plan line M = line_goes plan line (reading_at plan line) M

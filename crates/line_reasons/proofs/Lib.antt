@@ -1,3 +1,4 @@
+pub mod Answered
 pub mod Deciding
 pub mod Found
 pub mod Going

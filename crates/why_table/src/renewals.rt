@@ -49,7 +49,7 @@ fn reasons_of(
     let mut reasons = Vec::new(alloc);
     let mut owes = owed_by(notes, member.patron.get())?.unwrap_or(0);
     for id in member.patron.get().loans.as_slice() {
-        let a = ask_for(asked, id)?;
+        let a = ask_for(false, asked, id)?;
         let found = known_item(policy, found_at(notes, &Key::Item(id.clone()?))?);
         let (reason, charged) = turn_of(owes, &a, member, &found);
         owes = owes.saturating_add(charged);

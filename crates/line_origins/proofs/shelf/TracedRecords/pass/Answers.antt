@@ -5,7 +5,6 @@ use Rattle.std.specs.Option.{option_or}
 use Rattle.circ_records.specs.Keys.{key_cmp}
 use Rattle.circ_records.specs.Records.{Entries, record_at}
 use Rattle.circ_records.specs.declared.key.Key.{Key}
-use Rattle.read_set.specs.Maps.{put}
 use Rattle.read_set.specs.Plans.{Planned}
 use Rattle.read_set.specs.Replay.{after}
 use Rattle.read_set.specs.declared.effect.Effect.{Effect}

@@ -67,6 +67,8 @@ fn case_of(
             policy: Vec::from_slice(alloc, policy)?,
             tables: write_records(alloc, &records)?,
             journal: journal_of_one(alloc, line)?,
+            // the answer is the rule's on the records before the line, in both ways
+            way: Way::ByRules,
         },
     })
 }

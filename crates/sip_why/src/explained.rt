@@ -7,7 +7,7 @@ use crate::refused::refused_by;
 use crate::tables::tables_of;
 use crate::wanted::{numbers_of, wanted_lines};
 use command_line::WhyOptions;
-use read_set::Plan;
+use read_set::{Plan, Way};
 use record_tables::Tables;
 use replay_run::{Inputs, Prepared, judge_inputs};
 use std::alloc::{AllocError, Global};
@@ -38,6 +38,7 @@ impl Explainer for ByRules {
             policy,
             tables: tables_of(base),
             journal,
+            way: Way::of(options.as_recorded),
         };
         let end = out.map(tables_of);
         let numbers = numbers_of(alloc, &options.lines)?;

@@ -9,6 +9,7 @@ use crate::base::case_records;
 use crate::journal::journal_of_one;
 use journal_table::Line;
 use line_origins::{LineTrace, Tracer};
+use read_set::Way;
 use record_tables::write_records;
 use replay_run::{Fault, Inputs, Output, one_thread};
 use std::alloc::{AllocError, Global};

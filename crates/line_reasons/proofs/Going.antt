@@ -175,7 +175,7 @@ entry_goes : (b : Bool) (r : Reason) → grants r ≡ true → grants (cond b r 
 entry_goes true r h = h
 entry_goes false r h = refl
 
-queue_goes : (mode : HoldMode) (patron : List ℕ) (blocked : Bool) (item : Item) → grants (queue_reason mode patron blocked item) ≡ not (refuses_hold mode patron blocked item)
+pub queue_goes : (mode : HoldMode) (patron : List ℕ) (blocked : Bool) (item : Item) → grants (queue_reason mode patron blocked item) ≡ not (refuses_hold mode patron blocked item)
 unfolding refuses_hold place_reason
 queue_goes modes.Add patron blocked item = place_goes blocked (waits patron item.holds) (lent_to patron item.loan) (nat_le QUEUE_MAX (length item.holds))
 queue_goes modes.Delete patron blocked item = entry_goes (waits patron item.holds) reasons.Deleted refl

@@ -1,3 +1,4 @@
+pub mod Carried
 pub mod Found
 pub mod Laws
 pub mod Lines

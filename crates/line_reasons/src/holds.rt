@@ -39,7 +39,8 @@ fn reason_of_entry(patron: &Id, item: &Item, done: Reason) -> Reason
     }
 }
 
-fn reason_of_queue(mode: HoldMode, patron: &Id, blocked: bool, item: &Item) -> Reason
+/// Why an entry of a queue is added, deleted or changed, or not.
+pub fn reason_of_queue(mode: HoldMode, patron: &Id, blocked: bool, item: &Item) -> Reason
     ensures { result ≡ queue_reason mode patron.now blocked item.now }
 {
     match mode {

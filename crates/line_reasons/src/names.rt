@@ -1,6 +1,7 @@
 //! The names of the tests by which the rules decide.
 
 ghost use Rattle.std.specs.Prelude.{◌≡◌};
+ghost use Rattle.line_reasons.specs.Verdicts.{grants};
 ghost use Rattle.line_reasons.specs.Words.{reason_word};
 
 /// Why a line is answered as it is: the first test of its rule that holds (docs/RULES.md).
@@ -69,6 +70,26 @@ pub enum Reason {
 }
 
 impl Reason {
+    /// Whether it goes with a yes.
+    pub fn grants(self) -> bool
+        ensures { result ≡ grants self }
+    {
+        matches!(
+            self,
+            Reason::Made
+                | Reason::Renewed
+                | Reason::WasIn
+                | Reason::Returned
+                | Reason::ReturnedLate
+                | Reason::Added
+                | Reason::Deleted
+                | Reason::Changed
+                | Reason::NothingOwed
+                | Reason::Paid
+                | Reason::Done
+        )
+    }
+
     /// Its word in tables.
     pub fn word(self) -> &'static str
         ensures { result.now ≡ reason_word self }

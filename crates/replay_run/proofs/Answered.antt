@@ -1,5 +1,5 @@
 -- What is asked has an answer, over any records; what is passed over or can't be read has none.
-use Rattle.std.proofs.Common.{◌≡◌, ◌∙◌, ◌<◌, ◌≤◌, ◌-◌, ◌+◌, ℕ, zero, suc, Bool, true, false, cond, List, [], ◌∷◌, ◌++◌, length, map, take, Option, Some, None, refl, sym, ap, arith}
+use Rattle.std.proofs.Common.{◌≡◌, ◌∙◌, ◌<◌, ◌≤◌, ◌-◌, ◌+◌, ℕ, zero, suc, Bool, true, false, cond, List, [], ◌∷◌, ◌++◌, length, map, take, Option, Some, None, refl, subst, sym, ap, arith}
 use Rattle.std.specs.Prelude.{◌==◌, nat_lt, not, slice_get}
 use Rattle.std.specs.Option.{is_some}
 use Rattle.std.proofs.lemmas.Bool.{le-ltb}
@@ -24,16 +24,16 @@ use Rattle.read_set.specs.Holds.{held, hold_kept, hold_known, hold_rule, queue_a
 use Rattle.read_set.specs.ItemStatuses.{item_status_rule, relabelled, updated}
 use Rattle.read_set.specs.Ids.{same}
 use Rattle.read_set.specs.Known.{item_in, patron_in}
-use Rattle.read_set.specs.Checkouts.{checkout_rule, checkout_rule_known, lending_made, lending_of, lending_rule, lending_rule_by, lending_tests, other_at}
+use Rattle.read_set.specs.Checkouts.{checkout_rule_for, checkout_rule_known, lending_made, lending_of, lending_rule, lending_rule_by, lending_tests, other_at}
 use Rattle.read_set.specs.Loans.{by_checkout, by_renew, refused}
 use Rattle.read_set.specs.Renewals.{renew_rule, renew_rule_known, renewal_by, renewal_made, renewal_rule, renewal_tests}
 use Rattle.read_set.specs.Lookups.{borrower_at, item_at, patron_at}
 use Rattle.read_set.specs.Maps.{Map}
-use Rattle.read_set.specs.Meaning.{one, rule, rule_of}
+use Rattle.read_set.specs.Meaning.{one, rule, rule_of, rule_with}
 use Rattle.read_set.specs.Owing.{owed_at}
 use Rattle.read_set.specs.Blocks.{block_rule, block_rule_known, blocked_by}
 use Rattle.read_set.specs.Payments.{all_paid, fee_paid_rule, fee_paid_rule_known, meant_at, pay_rule_each, payment_answer, payment_rule}
-use Rattle.read_set.specs.Plans.{Planned, reading_at}
+use Rattle.read_set.specs.Plans.{deed_at, Planned, reading_at}
 use Rattle.read_set.specs.RenewAlls.{all_renewed, none_renewed, renew_all_rule, renew_all_rule_known, turns_rule}
 use Rattle.read_set.specs.Replay.{after, one_at, one_by}
 use Rattle.read_set.specs.Checkins.{checked_in, checkin_rule, loan_of, returned}
@@ -44,7 +44,9 @@ use Rattle.read_set.specs.declared.progress.Payments.{Payments}
 use Rattle.read_set.specs.declared.verdict.LoanRequest.{LoanRequest}
 use Rattle.read_set.specs.declared.verdict.Verdict.{Verdict}
 use Rattle.read_set.specs.declared.verdict.Verdict.TheVariants as verdicts
-use Rattle.read_set.proofs.Following.{over_all, over_either}
+use Rattle.read_set.specs.AsRecorded.{agrees_with, answering, carried, followed}
+use Rattle.sip_answer.specs.declared.deed.Deed.{Deed}
+use Rattle.read_set.proofs.Following.{over_all, over_either, over_then}
 use Rattle.result_report.specs.Report.{is_answered}
 use Rattle.replay_run.specs.Answers.{answers_of, first_answers}
 
@@ -93,14 +95,14 @@ unfolding lending_rule
 lent-tells p n a date M member article =
     over_all M (lending_tests a member article) (λ v. lending_rule_by p n a date member article v) Tells (lending-tells p n a date M member article)
 
-checkout-tells : (p : Terms) (n : ℕ) (q : Checkout) (date : List ℕ) (M : Map) (member : Option Member) (article : Option Article) → Tells (over M (checkout_rule_known p n q date member article))
+checkout-tells : (p : Terms) (n : ℕ) (renewal : Bool) (a : LoanRequest) (date : List ℕ) (M : Map) (member : Option Member) (article : Option Article) → Tells (over M (checkout_rule_known p n renewal a date member article))
 unfolding refused
-checkout-tells p n q date M (Some member) (Some article) =
-    over_either M _ (renewal_rule p n (by_checkout q) date member article) (lending_rule p n (by_checkout q) date member article) Tells
-    (λ e. renewed-tells p n (by_checkout q) date M member article)
-    (λ e. lent-tells p n (by_checkout q) date M member article)
-checkout-tells p n q date M (Some member) None = refl
-checkout-tells p n q date M None article = refl
+checkout-tells p n renewal a date M (Some member) (Some article) =
+    over_either M _ (renewal_rule p n a date member article) (lending_rule p n a date member article) Tells
+    (λ e. renewed-tells p n a date M member article)
+    (λ e. lent-tells p n a date M member article)
+checkout-tells p n renewal a date M (Some member) None = refl
+checkout-tells p n renewal a date M None article = refl
 
 renew-tells : (p : Terms) (n : ℕ) (a : LoanRequest) (date : List ℕ) (M : Map) (member : Option Member) (article : Option Article) → Tells (over M (renew_rule_known p n a date member article))
 unfolding refused
@@ -112,7 +114,7 @@ hold-known-tells : (p : Terms) (q : HoldRequest) (date : List ℕ) (blocked : Bo
 unfolding hold_kept
 hold-known-tells p q date blocked item = either (refuses_hold q.mode q.patron blocked item) _ (hold_kept p q date item (queue_after q item.holds q.mode)) refl refl
 
-hold-tells : (p : Terms) (q : HoldRequest) (date : List ℕ) (member : Option Member) (article : Option Article) → Tells (held p q date member article)
+hold-tells : (p : Terms) (q : HoldRequest) (date : List ℕ) (member : Option Member) (article : Option Article) → Tells (held p false q date member article)
 unfolding held
 hold-tells p q date (Some member) (Some article) = hold-known-tells p q date member.patron.blocked article.item
 hold-tells p q date (Some member) None = refl
@@ -141,18 +143,18 @@ fee-paid-tells p q date M (Some member) =
     over_either M (not (same q.currency p.currency)) refusal _ Tells (λ e. refl)
     (λ e. over_either M (q.amount == 0) refusal (payment_rule p q date member.patron) Tells (λ d. refl) (λ d. payment-tells p q date M member.patron))
 
-renew-all-tells : (p : Terms) (n : ℕ) (q : RenewAll) (date : List ℕ) (M : Map) (member : Option Member) → Tells (over M (renew_all_rule_known p n q date member))
+renew-all-tells : (p : Terms) (n : ℕ) (q : RenewAll) (date : List ℕ) (M : Map) (member : Option Member) → Tells (over M (renew_all_rule_known p n None q date member))
 unfolding all_renewed
 renew-all-tells p n q date M None = refl
 renew-all-tells p n q date M (Some member) =
-    over_all M (turns_rule p n q date member.patron.loans (none_renewed member)) (λ done. Give (all_renewed p q date done)) Tells (λ done. refl)
+    over_all M (turns_rule p n false q date member.patron.loans (none_renewed member)) (λ done. Give (all_renewed p q date done)) Tells (λ done. refl)
 
 act-tells : (p : Terms) (n : ℕ) (date : List ℕ) (act : Act) (M : Map) → Tells (over M (rule_of p n date act))
-unfolding rule_of block_rule checkin_rule checkout_rule hold_rule item_status_rule renew_rule fee_paid_rule renew_all_rule patron_at item_at
+unfolding rule_of block_rule checkin_rule checkout_rule_for hold_rule item_status_rule renew_rule fee_paid_rule renew_all_rule patron_at item_at
 act-tells p n date (acts.BlockPatron q) M = block-tells p true q.patron date M (patron_in p M q.patron)
 act-tells p n date (acts.Checkin q) M =
     over_all M (borrower_at p (loan_of (item_in p M q.item))) (λ b. Give (checked_in p n q date (item_in p M q.item) b)) Tells (checkin-tells p n q date (item_in p M q.item))
-act-tells p n date (acts.Checkout q) M = checkout-tells p n q date M (patron_in p M q.patron) (item_in p M q.item)
+act-tells p n date (acts.Checkout q) M = checkout-tells p n q.renewal (by_checkout q) date M (patron_in p M q.patron) (item_in p M q.item)
 act-tells p n date (acts.Hold q) M = hold-tells p q date (patron_in p M q.patron) (item_in p M q.item)
 act-tells p n date (acts.ItemStatus q) M = item-status-tells q date (item_in p M q.item)
 act-tells p n date (acts.PatronEnable q) M = block-tells p false q.patron date M (patron_in p M q.patron)
@@ -160,13 +162,26 @@ act-tells p n date (acts.Renew q) M = renew-tells p n (by_renew q) date M (patro
 act-tells p n date (acts.FeePaid q) M = fee-paid-tells p q date M (patron_in p M q.patron)
 act-tells p n date (acts.RenewAll q) M = renew-all-tells p n q date M (patron_in p M q.patron)
 
+-- so it has as recorded
+with-tells : (p : Terms) (n : ℕ) (date : List ℕ) (act : Act) (o : Option Deed) (M : Map) → Tells (over M (rule_with p n date act o))
+unfolding rule_with followed
+with-tells p n date act None M = act-tells p n date act M
+with-tells p n date act (Some o) M =
+    subst Tells (sym (over_then M (rule_of p n date act) (followed p n date act o)))
+    (over_either M (agrees_with ruled.answer o) (Give ruled) (carried p n date act o >>= λ done. Give (answering ruled.answer done)) Tells
+    (λ e. act-tells p n date act M)
+    (λ e. over_all M (carried p n date act o) (λ done. Give (answering ruled.answer done)) Tells (λ done. act-tells p n date act M)))
+  where
+    ruled : Effect
+    ruled = over M (rule_of p n date act)
+
 -- a line has an answer just where its reading is answered
-line-tells : (p : Terms) (n : ℕ) (r : Reading) (M : Map) → is_some (one p n r M).1 ≡ is_answered r
+line-tells : (p : Terms) (n : ℕ) (r : Reading) (o : Option Deed) (M : Map) → is_some (one p n r o M).1 ≡ is_answered r
 unfolding rule
-line-tells p n (readings.Asked q) M = act-tells p n q.date q.act M
-line-tells p n (readings.Passed why) M = refl
-line-tells p n readings.BadSum M = refl
-line-tells p n (readings.Unread why) M = refl
+line-tells p n (readings.Asked q) o M = with-tells p n q.date q.act o M
+line-tells p n (readings.Passed why) o M = refl
+line-tells p n readings.BadSum o M = refl
+line-tells p n (readings.Unread why) o M = refl
 
 taken-next : {X : Type 0} (xs : List X) (n : ℕ) (x : X) → slice_get xs n ≡ Some x → take (suc n) xs ≡ take n xs ++ x ∷ []
 taken-next [] n x e = cc e
@@ -192,7 +207,7 @@ answered-next plan n lt so =
     let at : reading_at plan (plan.first + n) ≡ Some r.0 = read-at plan n ∙ r.1 in
     map-append is_some (first_answers plan n) ((one_at plan (plan.first + n) (after plan n)).1 ∷ [])
     ∙ ap (λ (given : List Bool). given ++ is_some (one_at plan (plan.first + n) (after plan n)).1 ∷ []) so
-    ∙ ap (λ b. map is_answered (take n plan.readings) ++ b ∷ []) (ap (λ found. is_some (one_by plan (plan.first + n) found (after plan n)).1) at ∙ line-tells plan.policy (plan.first + n) r.0 (after plan n))
+    ∙ ap (λ b. map is_answered (take n plan.readings) ++ b ∷ []) (ap (λ found. is_some (one_by plan (plan.first + n) found (after plan n)).1) at ∙ line-tells plan.policy (plan.first + n) r.0 (deed_at plan (plan.first + n)) (after plan n))
     ∙ sym (map-append is_answered (take n plan.readings) (r.0 ∷ []))
     ∙ ap (map is_answered) (sym (taken-next plan.readings n r.0 r.1))
 

@@ -85,7 +85,7 @@ fn prepare(
 ) -> Result<Prepared<'_>, AllocError>
     requires read { readings ≡ all_read sound.journal }
     requires coherent { Coherent sound.policy (number_before (first_number sound.journal)) sound.base }
-    ensures { IfOk result (λ j. accepted_of j ≡ accepted_by way sound) }
+    ensures { IfOk result (λ j. accepted_of j ≡ accepted_by way sound.entry) }
 {
     let Sound {
         policy,

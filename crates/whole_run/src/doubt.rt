@@ -1,7 +1,9 @@
-//! Doubtful results: the warnings after a run that ended without a fault, but whose inputs don't fit each other.
+//! Doubtful results: the warnings after a run that ended without a fault, but whose inputs don't fit
+//! each other.
 
 ghost use Rattle.std.specs.Prelude.{◌≡◌, Some};
-ghost use Rattle.whole_run.specs.Doubting.{are_none, doubt_of_sizes, doubts_text, line_text, lines_text, sizes_text};
+ghost use Rattle.whole_run.specs.Doubting.{are_none, doubt_of_sizes, doubts_text};
+ghost use Rattle.whole_run.specs.Doubting.{line_text, lines_text, sizes_text};
 
 mod judging;
 mod naming;

@@ -98,8 +98,8 @@ fn place_of(journal: &Journal<'_>, number: &[u8]) -> Option<usize> {
     usize::try_from(place).ok()
 }
 
-/// Whether a checkin response says by its type of alert (CV, an extension of SIP 2.00) that the item
-/// is on hold. One without a type, or of type 04, doesn't: 04 sends it to another branch.
+/// Whether a checkin response says by its type of alert (CV, an extension of SIP 2.00) that the
+/// item is on hold. One without a type, or of type 04, doesn't: 04 sends it to another branch.
 fn names_hold(response: &[u8]) -> bool {
     let fields = response.get(CHECKIN_FIXED..).unwrap_or(b"");
     let kind = fields

@@ -10,7 +10,7 @@ use Rattle.replay_run.specs.declared.fault.Fault.TheVariants as faults
 use Rattle.replay_run.specs.declared.inputs.Inputs.{Inputs}
 use Rattle.replay_run.specs.declared.inputs.Output.{Output}
 use Rattle.result_report.specs.declared.texts.Sizes.{Sizes}
-use Rattle.whole_run.specs.Doubting.{TellsDoubt}
+use Rattle.whole_run.specs.Doubting.{TellsDoubts}
 use Rattle.whole_run.specs.Reading.{AreGiven, StopsBefore, TellsIn}
 use Rattle.run_stops.specs.Seeing.{IsOf}
 use Rattle.whole_run.specs.Sources.{places_of}
@@ -70,7 +70,7 @@ IsAsked o (Some told) = told ≡ o
 -- the status of that; nothing else is asked of the outside.
 abbrev pub IsRun : Options → ℕ → List Event → Type 0
 IsRun o status events =
-    ((sizes : Sizes) × (ended : List Event) × (told : List Event) × HasEnded o sizes ended × TellsDoubt o sizes told × (events ≡ ended ++ told)
+    ((sizes : Sizes) × (ended : List Event) × (told : List Event) × HasEnded o sizes ended × TellsDoubts o sizes told × (events ≡ ended ++ told)
     × (status ≡ ended_status sizes.differences))
     ⊎ ((stop : RunError) × (before : List Event) × (asked : Option Options) × (taken : Bool) × HasStopped o stop before × IsAsked o asked
     × (events ≡ before ++ Tell (stop_text stop asked) taken ∷ []) × (status ≡ status_of stop))

@@ -1,208 +1,182 @@
-//! Doubtful results: the warning after a run that ended without a fault, but whose inputs don't fit each other.
+//! Doubtful results: the warnings after a run that ended without a fault, but whose inputs don't fit
+//! each other.
 
-ghost use Rattle.std.specs.Prelude.{◌≡◌, IfSome, Some};
-ghost use Rattle.whole_run.specs.Doubting.{IsDoubt, IsOfNames, doubt_of_sizes, doubt_text};
+ghost use Rattle.std.specs.Prelude.{◌≡◌, Some};
+ghost use Rattle.whole_run.specs.Doubting.{are_none, doubt_of_sizes, doubts_text};
+ghost use Rattle.whole_run.specs.Doubting.{line_text, lines_text, sizes_text};
 
-use circ_policy::Policy;
-use csv::{ByteRecord, ReaderBuilder};
-use journal_table::Journal;
-use memchr::memmem;
-use read_set::named_by;
-use replay_run::{Inputs, Sizes};
-use sip_reader::{Id, Reading, read_request};
-use std::alloc::{AllocError, Global};
-use std::collections::BTreeSet;
+mod judging;
+mod naming;
+mod reported;
+mod responses;
+
+use judging::doubts_of_lines;
+use replay_run::{Inputs, Output, Sizes};
+use std::alloc::Global;
 use std::fmt;
 
-/// A doubt is printed where more than one in this many requests names an unknown patron, or an unknown item.
-const QUARTER: u64 = 4;
-
-/// Why a result is doubtful.
+/// Why a result is doubtful, in the order in which it is printed.
 #[derive(Drop)]
-pub enum Doubt {
+pub struct Doubts {
+    /// What its numbers alone say.
+    of_sizes: Option<SizesDoubt>,
+    /// What the lines say.
+    of_lines: Vec<LinesDoubt>,
+}
+
+/// What the numbers of a result say against it.
+#[derive(Clone, Copy)]
+pub enum SizesDoubt {
     /// The journal has no line.
     NoLine,
     /// No line has an answer.
     NoAnswer { lines: u64 },
+}
+
+/// What the lines of a journal, or of the report, say against a result.
+#[derive(Drop)]
+pub enum LinesDoubt {
     /// No request has the policy's institution.
     Institution { id: String },
     /// How many requests name a patron, and how many of them one that the base lacks.
     Patrons { unknown: u64, named: u64 },
     /// The same of items.
     Items { unknown: u64, named: u64 },
+    /// How many answers differ in ok or due from what is recorded, by the rules.
+    Differing { differing: u64, answered: u64 },
+    /// How many responses lend, and how many of them name no due day that can be read.
+    Undated { undated: u64, lent: u64 },
+    /// How many lines have a wrong checksum or a 96 as their response.
+    Resent { resent: u64, lines: u64 },
+    /// How many alerts differ in a checkin whose response names no hold.
+    Alerts { alerts: u64 },
 }
 
-impl fmt::Display for Doubt {
-    ghost output = { λ doubt. Some (doubt_text doubt) };
+impl Doubts {
+    /// Why the output of a run over these inputs is doubtful. Out of memory, only its sizes are
+    /// judged.
+    pub fn of(alloc: Global, inputs: &Inputs, output: &Output) -> Doubts
+        ensures { result.of_sizes ≡ doubt_of_sizes output.now.sizes }
+    {
+        let of_sizes = doubt_of_sizes(output.sizes);
+        let of_lines = match doubts_of_lines(alloc, inputs, output) {
+            Some(doubts) => doubts,
+            None => Vec::new(alloc),
+        };
+        Doubts { of_sizes, of_lines }
+    }
+
+    /// Whether there is no doubt.
+    pub fn are_none(&self) -> bool
+        ensures { result ≡ are_none self.now }
+    {
+        self.of_sizes.is_none() && self.of_lines.is_empty()
+    }
+}
+
+impl fmt::Display for Doubts {
+    ghost output = { λ doubts. Some (doubts_text doubts) };
 
     fn fmt<W: fmt::Write>(&self, f: &mut fmt::Formatter<W>) -> fmt::Result {
-        match self {
-            Doubt::NoLine => f.write_str("the journal has no line: is it the right file?\n"),
-            Doubt::NoAnswer { lines } => write!(
+        let sizes = SizesPart {
+            doubt: self.of_sizes,
+        };
+        let lines = LinesPart {
+            doubts: self.of_lines.as_slice(),
+        };
+        write!(f, "{sizes}{lines}")
+    }
+}
+
+/// The line of what the numbers say, if they say something.
+#[derive(Clone, Copy)]
+struct SizesPart {
+    doubt: Option<SizesDoubt>,
+}
+
+impl fmt::Display for SizesPart {
+    ghost output = { λ part. Some (sizes_text part.doubt) };
+
+    fn fmt<W: fmt::Write>(&self, f: &mut fmt::Formatter<W>) -> fmt::Result {
+        match self.doubt {
+            Some(SizesDoubt::NoLine) => {
+                f.write_str("the journal has no line: is it the right file?\n")
+            }
+            Some(SizesDoubt::NoAnswer { lines }) => write!(
                 f,
                 "none of {lines} lines has an answer: passed.csv gives the reason for each.\n"
             ),
-            Doubt::Institution { id } => write!(
+            None => f.write_str(""),
+        }
+    }
+}
+
+/// The lines of what lines say.
+#[derive(Clone, Copy)]
+struct LinesPart<'d> {
+    doubts: &'d [LinesDoubt],
+}
+
+impl fmt::Display for LinesPart<'_> {
+    ghost output = { λ part. Some (lines_text part.doubts.now) };
+
+    fn fmt<W: fmt::Write>(&self, f: &mut fmt::Formatter<W>) -> fmt::Result {
+        for doubt in self.doubts {
+            doubt.fmt(f)?;
+        }
+        Ok(())
+    }
+}
+
+impl fmt::Display for LinesDoubt {
+    ghost output = { λ doubt. Some (line_text doubt) };
+
+    fn fmt<W: fmt::Write>(&self, f: &mut fmt::Formatter<W>) -> fmt::Result {
+        match self {
+            LinesDoubt::Institution { id } => write!(
                 f,
                 "no request has the institution of the policy, {id} (AO): is it the policy of this library?\n"
             ),
-            Doubt::Patrons { unknown, named } => write!(
+            LinesDoubt::Patrons { unknown, named } => write!(
                 f,
                 "{unknown} of {named} requests that name a patron name one that patrons.csv lacks: are the ids in another form?\n"
             ),
-            Doubt::Items { unknown, named } => write!(
+            LinesDoubt::Items { unknown, named } => write!(
                 f,
                 "{unknown} of {named} requests that name an item name one that items.csv lacks: are the ids in another form?\n"
+            ),
+            LinesDoubt::Differing {
+                differing,
+                answered,
+            } => write!(
+                f,
+                "{differing} of {answered} answers differ in ok or due: --as-recorded restores what happened at the machines.\n"
+            ),
+            LinesDoubt::Undated { undated, lent } => write!(
+                f,
+                "{undated} of {lent} responses that lend name no due day that can be read: is due_form that of the server?\n"
+            ),
+            LinesDoubt::Resent { resent, lines } => write!(
+                f,
+                "{resent} of {lines} lines have a wrong checksum or were answered by 96: was the journal edited?\n"
+            ),
+            LinesDoubt::Alerts { alerts } => write!(
+                f,
+                "{alerts} alerts differ in a checkin whose response names no hold (CV): are they of transfers?\n"
             ),
         }
     }
 }
 
-/// Why the result of a run over these inputs is doubtful, if it is. Out of memory, only `sizes` is judged.
-pub fn doubt_of(alloc: Global, inputs: &Inputs, sizes: Sizes) -> Option<Doubt>
-    ensures { IsDoubt sizes result }
-{
-    match doubt_of_sizes(sizes) {
-        Some(doubt) => Some(doubt),
-        None => doubt_of_names(alloc, inputs),
-    }
-}
-
 /// What its numbers alone say of a result.
-fn doubt_of_sizes(sizes: Sizes) -> Option<Doubt>
+fn doubt_of_sizes(sizes: Sizes) -> Option<SizesDoubt>
     ensures { result ≡ doubt_of_sizes sizes }
 {
     if sizes.answered > 0 {
         return None;
     }
     Some(match sizes.passed {
-        0 => Doubt::NoLine,
-        lines => Doubt::NoAnswer { lines },
+        0 => SizesDoubt::NoLine,
+        lines => SizesDoubt::NoAnswer { lines },
     })
-}
-
-/// The same, where lines have answers: whether what requests name is known.
-fn doubt_of_names(alloc: Global, inputs: &Inputs) -> Option<Doubt>
-    ensures { IfSome result IsOfNames }
-{
-    let journal = Journal::read(alloc, inputs.journal.as_slice()).ok()?;
-    let institution = institution_of(alloc, inputs.policy.as_slice())?;
-    if !names_institution(alloc, &journal, institution.as_str())? {
-        return Some(Doubt::Institution { id: institution });
-    }
-    let patrons = ids_of(alloc, inputs.tables.patrons.as_slice()).ok()?;
-    let items = ids_of(alloc, inputs.tables.items.as_slice()).ok()?;
-    let named = Named::of(alloc, &journal, &patrons, &items).ok()?;
-    named.doubt()
-}
-
-/// The institution of a policy.
-fn institution_of(alloc: Global, policy: &[u8]) -> Option<String> {
-    let policy = Policy::read(alloc, policy).ok()?;
-    String::from_str(alloc, str::from_utf8(policy.institution().as_bytes()).ok()?).ok()
-}
-
-/// Whether a request has this institution.
-fn names_institution(alloc: Global, journal: &Journal<'_>, institution: &str) -> Option<bool> {
-    let field = format!(in alloc; "AO{institution}|").ok()?;
-    let field = field.as_bytes();
-    Some(
-        journal
-            .lines()
-            .iter()
-            .any(|line| memmem::find(line.parts().request, field).is_some()),
-    )
-}
-
-/// The ids of a table: its first column.
-fn ids_of(alloc: Global, text: &[u8]) -> Result<BTreeSet<Id>, AllocError> {
-    let mut reader = ReaderBuilder::new()
-        .has_headers(true)
-        .from_reader(alloc, text);
-    let mut row = ByteRecord::new(alloc);
-    let mut ids = BTreeSet::new(alloc);
-    for _ in 0..text.len() {
-        match reader.read_byte_record(&mut row) {
-            Ok(true) => {}
-            _ => break,
-        }
-        if let Some(id) = Id::read(alloc, row.get(0).unwrap_or(b""))? {
-            let _ = ids.insert(id)?;
-        }
-    }
-    Ok(ids)
-}
-
-/// How many requests name a patron or an item, and how many of them one that isn't known.
-#[derive(Clone, Copy)]
-struct Named {
-    patrons: u64,
-    unknown_patrons: u64,
-    items: u64,
-    unknown_items: u64,
-}
-
-impl Named {
-    fn of(
-        alloc: Global,
-        journal: &Journal<'_>,
-        patrons: &BTreeSet<Id>,
-        items: &BTreeSet<Id>,
-    ) -> Result<Named, AllocError> {
-        let mut named = Named {
-            patrons: 0,
-            unknown_patrons: 0,
-            items: 0,
-            unknown_items: 0,
-        };
-        for line in journal.lines() {
-            if let Reading::Asked(request) = &read_request(alloc, line.parts().request)? {
-                let (patron, item) = named_by(&request.act);
-                named.count(
-                    patron.map(|id| patrons.contains(id)),
-                    item.map(|id| items.contains(id)),
-                );
-            }
-        }
-        Ok(named)
-    }
-
-    /// Counts a request: whether the patron and the item that it names are known, where it names them.
-    fn count(&mut self, patron: Option<bool>, item: Option<bool>) {
-        if let Some(known) = patron {
-            self.patrons = self.patrons.saturating_add(1);
-            if !known {
-                self.unknown_patrons = self.unknown_patrons.saturating_add(1);
-            }
-        }
-        if let Some(known) = item {
-            self.items = self.items.saturating_add(1);
-            if !known {
-                self.unknown_items = self.unknown_items.saturating_add(1);
-            }
-        }
-    }
-
-    fn doubt(self) -> Option<Doubt>
-        ensures { IfSome result IsOfNames }
-    {
-        if is_many(self.unknown_patrons, self.patrons) {
-            return Some(Doubt::Patrons {
-                unknown: self.unknown_patrons,
-                named: self.patrons,
-            });
-        }
-        if is_many(self.unknown_items, self.items) {
-            return Some(Doubt::Items {
-                unknown: self.unknown_items,
-                named: self.items,
-            });
-        }
-        None
-    }
-}
-
-/// Whether it is more than a quarter.
-fn is_many(unknown: u64, named: u64) -> bool {
-    unknown > named / QUARTER
 }

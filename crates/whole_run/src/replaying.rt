@@ -3,19 +3,19 @@
 ghost use Rattle.std.specs.Prelude.{◌≡◌, ◌++◌, Bool, IfErr, IfOk, List, Ok, Some, map, option_map};
 ghost use Rattle.outside.specs.Events.{Did, Event, after};
 ghost use Rattle.replay_run.specs.declared.inputs.Output.{Output};
-ghost use Rattle.whole_run.specs.Doubting.{IsToldDoubt, doubt_events};
+ghost use Rattle.whole_run.specs.Doubting.{AreToldDoubts, doubts_events, some_events};
 ghost use Rattle.whole_run.specs.Run.{HasEnded, HasStopped, IsAsked, IsReplayed, IsRun, sizes_line, writes_of};
 ghost use Rattle.whole_run.specs.Statuses.{ended_status};
 ghost use Rattle.whole_run.specs.Checking.{IsCheck};
 ghost use Rattle.whole_run.specs.Words.{IsDone, IsSession, TellsRefusal};
 
 use crate::checking::check;
-use crate::doubt::{Doubt, doubt_of};
+use crate::doubt::Doubts;
 use crate::files::{read_inputs, write_output};
 use crate::progress::Progress;
 use command_line::{Options, Refusal, options};
 use outside::Outside;
-use replay_run::{Fault, Inputs, Sizes, rebuild};
+use replay_run::{Fault, Inputs, Output, Sizes, rebuild};
 use run_stops::{FAILED, REFUSED, RunError, stop_of};
 use std::alloc::Global;
 use std::convert::AsStr;
@@ -96,7 +96,7 @@ fn run_with<R: AllocGlobal + Threads + Wait + Sync + Clock + Eprint, O: Outside>
 {
     match replay(rt, outside, options) {
         Ok(ended) => {
-            tell_doubt(outside, &ended.doubt);
+            tell_doubts(outside, &ended.doubts);
             ended.status()
         }
         Err(stop) => stop.tell(asked_of(options, outside.is_terminal()), outside),
@@ -104,11 +104,20 @@ fn run_with<R: AllocGlobal + Threads + Wait + Sync + Clock + Eprint, O: Outside>
 }
 
 /// Prints why the result is doubtful, where it is.
-fn tell_doubt<O: Outside>(outside: &mut O, doubt: &Option<Doubt>)
-    ensures { (taken : Bool) × (O.log outside.new ≡ after (doubt_events doubt.now taken) (O.log outside.old)) }
+fn tell_doubts<O: Outside>(outside: &mut O, doubts: &Option<Doubts>)
+    ensures { (taken : Bool) × (O.log outside.new ≡ after (doubts_events doubts.now taken) (O.log outside.old)) }
 {
-    if let Some(doubt) = doubt {
-        let _taken = outside.tell(doubt);
+    if let Some(doubts) = doubts {
+        tell_some(outside, doubts);
+    }
+}
+
+/// The same, of the doubts that there are.
+fn tell_some<O: Outside>(outside: &mut O, doubts: &Doubts)
+    ensures { (taken : Bool) × (O.log outside.new ≡ after (some_events doubts.now taken) (O.log outside.old)) }
+{
+    if !doubts.are_none() {
+        let _taken = outside.tell(doubts);
     }
 }
 
@@ -142,7 +151,7 @@ fn refuse<O: Outside>(refusal: &Refusal, outside: &mut O) -> u8
 struct RunResult {
     sizes: Sizes,
     /// Why its result is doubtful, where that is to be printed.
-    doubt: Option<Doubt>,
+    doubts: Option<Doubts>,
 }
 
 impl RunResult {
@@ -164,7 +173,7 @@ fn replay<R: AllocGlobal + Threads + Wait + Sync + Clock + Eprint, O: Outside>(
     options: &Options,
 ) -> Result<RunResult, RunError>
     ensures ended { IfOk result (λ e. Did (HasEnded options.now e.sizes) (O.log outside.old) (O.log outside.new)) }
-    ensures doubt { IfOk result (λ e. IsToldDoubt options.now e.sizes e.doubt) }
+    ensures doubts { IfOk result (λ e. AreToldDoubts options.now e.sizes e.doubts) }
     ensures stops { IfErr result (λ stop. Did (HasStopped options.now stop) (O.log outside.old) (O.log outside.new)) }
 {
     let progress = Progress::new(rt, outside.is_terminal());
@@ -185,7 +194,7 @@ fn rewrite<R: AllocGlobal + Threads + Wait + Sync + Clock + Eprint, O: Outside>(
     options: &Options,
     progress: &Progress<'_, R>,
 ) -> Result<RunResult, RunError>
-    ensures doubt { IfOk result (λ e. IsToldDoubt options.now e.sizes e.doubt) }
+    ensures doubts { IfOk result (λ e. AreToldDoubts options.now e.sizes e.doubts) }
     ensures written { IfOk result (λ e. Did (λ events. (output : Output) × (reads : List Event) × IsReplayed options.now (Ok output) reads × (e.sizes ≡ output.sizes)
         × (events ≡ reads ++ writes_of options.now output)) (O.log outside.old) (O.log outside.new)) }
     ensures stops { IfErr result (λ stop. Did (HasStopped options.now stop) (O.log outside.old) (O.log outside.new)) }
@@ -198,22 +207,23 @@ fn rewrite<R: AllocGlobal + Threads + Wait + Sync + Clock + Eprint, O: Outside>(
     };
     write_output(outside, rt.alloc(), options.out.as_str(), &output)?;
     let sizes = output.sizes;
-    let doubt = doubt_where_asked(options, outside.is_terminal(), rt.alloc(), &inputs, sizes);
-    Ok(RunResult { sizes, doubt })
+    let is_terminal = outside.is_terminal();
+    let doubts = doubts_where_asked(rt.alloc(), options, is_terminal, &inputs, &output);
+    Ok(RunResult { sizes, doubts })
 }
 
-/// Why the result can't be meant, where that is to be printed.
-fn doubt_where_asked(
+/// Why the result is doubtful, where that is to be printed.
+fn doubts_where_asked(
+    alloc: Global,
     options: &Options,
     is_terminal: bool,
-    alloc: Global,
     inputs: &Inputs,
-    sizes: Sizes,
-) -> Option<Doubt>
-    ensures { IsToldDoubt options.now sizes result }
+    output: &Output,
+) -> Option<Doubts>
+    ensures { AreToldDoubts options.now output.now.sizes result }
 {
     if options.explain || is_terminal {
-        doubt_of(alloc, inputs, sizes)
+        Some(Doubts::of(alloc, inputs, output))
     } else {
         None
     }

@@ -347,14 +347,14 @@ class Tracing:
 def why(records, journal, wanted=None, as_recorded=False):
     """The text of why.csv for a journal's rows: of the lines that are wanted, else of each answered one."""
     tracing, rows = Tracing(records, as_recorded), []
-    last = ('carried',) if as_recorded else ()
     for number, _, text, response in journal:
         request = model.read_request(text)
         if isinstance(request, model.Request):
             told = tracing.rows(int(number), request, response)
         else:
-            row = (number, 'checksum', '', '', '', '', *('ruled' for _ in last))
+            row = (number, 'checksum', '', '', '', '')
             told = [row] if request[0] == 'resend' else []
         if wanted is None or int(number) in wanted:
-            rows += told
-    return ''.join(','.join(map(model.quoted, row)) + '\n' for row in [HEADER + last, *rows])
+            # sip_why's table doesn't say what came of a line
+            rows += [row[:len(HEADER)] for row in told]
+    return ''.join(','.join(map(model.quoted, row)) + '\n' for row in [HEADER, *rows])

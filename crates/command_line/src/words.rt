@@ -37,8 +37,8 @@ standard error that says what to do; on a terminal it is always printed";
 const CHECK_HELP: &str = "Only checks the inputs: lists the rows that break
 a rule, the first 100 of them, and writes no file";
 
-const AS_RECORDED_HELP: &str = "Carries out what the recorded responses say was done, so that
-the tables have what happened at the machines; the report judges each response on these records";
+const AS_RECORDED_HELP: &str = "Carries out what the recorded responses say was done,
+so that the tables have what happened at the machines";
 
 const AFTER_HELP: &str = "Example:
   sip_replay --policy policy.toml --base tables --journal journal.csv --out result

@@ -344,17 +344,24 @@ class Tracing:
         return ()
 
 
-def why(records, journal, wanted=None, as_recorded=False):
-    """The text of why.csv for a journal's rows: of the lines that are wanted, else of each answered one."""
+def explained(records, journal, wanted=None, as_recorded=False):
+    """The rows for a journal's rows: of the lines that are wanted, else of each answered one. As
+    recorded a row has last what came of its line."""
     tracing, rows = Tracing(records, as_recorded), []
     for number, _, text, response in journal:
         request = model.read_request(text)
         if isinstance(request, model.Request):
             told = tracing.rows(int(number), request, response)
         else:
-            row = (number, 'checksum', '', '', '', '')
-            told = [row] if request[0] == 'resend' else []
+            last = ('ruled',) if as_recorded else ()
+            told = [(number, 'checksum', '', '', '', '', *last)] if request[0] == 'resend' else []
         if wanted is None or int(number) in wanted:
-            # sip_why's table doesn't say what came of a line
-            rows += [row[:len(HEADER)] for row in told]
-    return ''.join(','.join(map(model.quoted, row)) + '\n' for row in [HEADER, *rows])
+            rows += told
+    return rows
+
+
+def why(records, journal, wanted=None, as_recorded=False):
+    """The text of why.csv for a journal's rows, which doesn't say what came of a line."""
+    rows = explained(records, journal, wanted, as_recorded)
+    lines = [HEADER, *(row[: len(HEADER)] for row in rows)]
+    return ''.join(','.join(map(model.quoted, row)) + '\n' for row in lines)

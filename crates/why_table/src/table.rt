@@ -100,6 +100,7 @@ impl WhyTable {
 }
 
 /// A row: of a record that a line read, or of a line that read none.
+#[derive(Drop)]
 struct WhyRow<'r> {
     line: u64,
     reason: Reason,

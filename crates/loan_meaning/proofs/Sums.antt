@@ -199,8 +199,7 @@ new_after true n made fees h k l s c =
 turn_runs : (has : Part) (p : Terms) (n : ℕ) (a : LoanRequest) (date : List ℕ) (article : Article) (done : Renewals) (v : Verdict) (fresh : Bool) (sum more : Option ℕ) → done.made < 2 ^ 64
     → Runs has n fresh done sum → IsMore fresh (charged_by v (charge_for a article.media)) sum more → Runs has n fresh (turn_by p n a date article done v) more
 unfolding turn_by rest_of
-turn_runs has p n a date article done verdicts.Refused fresh sum more s h m = record { known = less_known has fresh done.writes done.member.patron.fees sum more m h.known; new = h.new }
-turn_runs has p n a date article done verdicts.Unpaid fresh sum more s h m = record { known = less_known has fresh done.writes done.member.patron.fees sum more m h.known; new = h.new }
+turn_runs has p n a date article done (verdicts.Refused why) fresh sum more s h m = record { known = less_known has fresh done.writes done.member.patron.fees sum more m h.known; new = h.new }
 turn_runs has p n a date article done verdicts.Made fresh sum more s h m = record {
   known = made_known has (nat_lt 0 (charge_for a article.media)) fresh done.writes a.item (records.Item (renewed (due_for p a date article.media) article.item)) (fee_id n done.made)
       (record { patron = a.patron; kind = fee_types.Rental; amount = (charge_for a article.media); paid = 0 }) done.member.patron.fees sum more (charge_for a article.media) refl (omega arith)

@@ -24,7 +24,7 @@ use circ_records::{FeeType, Ids, Key, Record};
 use read_set::{
     Article, Draft, Effect, LoanRequest, Member, Renewals, Source, Stop, Verdict, known_item,
 };
-use sip_answer::{Answer, ItemIds, NamedItems, RenewAllAnswer};
+use sip_answer::{Answer, ItemIds, NamedItems, Reason, RenewAllAnswer};
 use sip_reader::{Amount, Day, Id, RenewAll};
 use std::alloc::{AllocError, Global};
 
@@ -128,7 +128,7 @@ fn end_turn(
 {
     match verdict {
         Verdict::Made => renew_next(asked, article, done),
-        Verdict::Refused | Verdict::Unpaid => leave(&asked.request.item, done),
+        Verdict::Refused(_) => leave(&asked.request.item, done),
     }
 }
 
@@ -235,16 +235,17 @@ fn take_turns<S: Source>(
 
 fn tell(
     line: &LineContext<'_>,
-    ok: bool,
+    reason: Reason,
     renewed: ItemIds,
     unrenewed: ItemIds,
 ) -> Result<Answer, AllocError>
-    ensures { IfOk result (λ a. a ≡ renew_all_answer line.now.policy.now line.now.date ok renewed unrenewed) }
+    ensures { IfOk result (λ a. a ≡ renew_all_answer line.now.policy.now line.now.date reason renewed unrenewed) }
 {
     Ok(Answer::RenewAll(RenewAllAnswer {
         date: line.date,
         institution: line.policy.institution().clone()?,
-        ok,
+        ok: reason.grants(),
+        reason,
         renewed,
         unrenewed,
     }))
@@ -267,7 +268,7 @@ fn finish(line: &LineContext<'_>, request: &RenewAll, done: Renewals) -> Result<
     }
     Ok(Effect {
         writes: writes.finish(line.alloc)?,
-        answer: Some(tell(line, true, renewed, others)?),
+        answer: Some(tell(line, Reason::Done, renewed, others)?),
     })
 }
 
@@ -335,7 +336,8 @@ fn renew_any<S: Source>(
         Some(member) => renew_each(line, request, named, member, source),
         None => {
             let alloc = line.alloc;
-            let none = tell(line, false, ItemIds::new(alloc), ItemIds::new(alloc))?;
+            let why = Reason::UnknownPatron;
+            let none = tell(line, why, ItemIds::new(alloc), ItemIds::new(alloc))?;
             Ok(Effect::unwritten(alloc, Some(none)))
         }
     }

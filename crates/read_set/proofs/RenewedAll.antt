@@ -155,8 +155,7 @@ module _ (p : Terms) (n : ℕ) (M : Map) (line : Line p n M) (forced : Bool) (q 
     where
       verdict : (article : Article) → item_in p (put done.writes M) id ≡ Some article → (v : Verdict) → Turned p n M q.patron member (most + 1) (turn_by p n (by_renew_all forced q id) date article done v)
       verdict article e verdicts.Made = made-turn id most done article t small e
-      verdict article e verdicts.Refused = left id most done t
-      verdict article e verdicts.Unpaid = left id most done t
+      verdict article e (verdicts.Refused why) = left id most done t
 
       by : (o : Option Article) → item_in p (put done.writes M) id ≡ o → Turned p n M q.patron member (most + 1) (over M (turn_rule_known p n (by_renew_all forced q id) date done o))
       by None e = left id most done t

@@ -1,8 +1,7 @@
-//! The names of the tests by which the rules decide.
+//! Why a request is answered as it is: the tests by which the rules decide, by name.
 
 ghost use Rattle.std.specs.Prelude.{◌≡◌};
-ghost use Rattle.line_reasons.specs.Verdicts.{grants};
-ghost use Rattle.line_reasons.specs.Words.{reason_word};
+ghost use Rattle.sip_answer.specs.Reasons.{grants, reason_word};
 
 /// Why a line is answered as it is: the first test of its rule that holds (docs/RULES.md).
 #[derive(Clone, Copy)]

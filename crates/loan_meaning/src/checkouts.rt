@@ -168,7 +168,14 @@ fn make_loan(
     list_fee(alloc, asked.number, 0, charge, &mut patron.fees)?;
     let writes = write_lending(asked, due, charge, patron, &article, other)?;
     let writes = writes.finish(alloc)?;
-    let answer = tell(asked, Some(&article), Some(due), false, charge, Reason::Made)?;
+    let answer = tell(
+        asked,
+        Some(&article),
+        Some(due),
+        false,
+        charge,
+        Reason::Made,
+    )?;
     Ok(Effect {
         writes,
         answer: Some(answer),

@@ -134,7 +134,14 @@ fn make_renewal(asked: &LoanContext<'_>, member: Member, article: Article) -> Re
     let media = &article.media;
     let due = due_of(asked, media);
     let charge = charge_of(asked, media);
-    let answer = tell(asked, Some(&article), Some(due), true, charge, Reason::Renewed)?;
+    let answer = tell(
+        asked,
+        Some(&article),
+        Some(due),
+        true,
+        charge,
+        Reason::Renewed,
+    )?;
     let mut patron = member.patron.get().clone()?;
     list_fee(asked.alloc, asked.number, 0, charge, &mut patron.fees)?;
     let writes = write_renewal(asked, due, charge, patron, article)?;

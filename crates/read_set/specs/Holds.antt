@@ -26,21 +26,17 @@ use Rattle.read_set.specs.declared.effect.Effect.{Effect}
 use Rattle.read_set.specs.declared.known.Article.{Article}
 use Rattle.read_set.specs.declared.known.Member.{Member}
 
--- Adding is refused at the first of: the patron is blocked, waits already or has the item on loan, or 9,999 wait; deleting and changing where
--- the patron doesn't wait
-abbrev pub hold_tests : HoldMode → List ℕ → Bool → Item → List (Reason × Bool)
-hold_tests modes.Add patron blocked item =
+-- Why a hold is refused, where it is. Adding: at the first of: the patron is blocked, waits already or has the item on loan, or 9,999 wait;
+-- deleting and changing: where the patron doesn't wait
+unfoldable pub hold_refusal : HoldMode → List ℕ → Bool → Item → Option Reason
+hold_refusal modes.Add patron blocked item = first_of (
     (reasons.Blocked, blocked)
     ∷ (reasons.HasEntry, waits patron item.holds)
     ∷ (reasons.OwnLoan, lent_to patron item.loan)
     ∷ (reasons.QueueFull, nat_le QUEUE_MAX (length item.holds))
-    ∷ []
-hold_tests modes.Delete patron blocked item = (reasons.NoEntry, not (waits patron item.holds)) ∷ []
-hold_tests modes.Change patron blocked item = (reasons.NoEntry, not (waits patron item.holds)) ∷ []
-
--- why a hold is refused, where it is
-unfoldable pub hold_refusal : HoldMode → List ℕ → Bool → Item → Option Reason
-hold_refusal mode patron blocked item = first_of (hold_tests mode patron blocked item)
+    ∷ [])
+hold_refusal modes.Delete patron blocked item = first_of ((reasons.NoEntry, not (waits patron item.holds)) ∷ [])
+hold_refusal modes.Change patron blocked item = first_of ((reasons.NoEntry, not (waits patron item.holds)) ∷ [])
 
 -- what is done by a hold that isn't refused
 abbrev pub hold_done : HoldMode → Reason

@@ -3,9 +3,9 @@
 use crate::sayings::owed_by;
 use circ_policy::Policy;
 use circ_records::{Key, Record};
-use line_reasons::{Reason, reason_of_renewal};
-use loan_meaning::ask_for;
-use read_set::{Article, LoanRequest, Member, Notes, Plan, known_item, known_patron};
+use loan_meaning::{ask_for, early_renewal, owing};
+use read_set::{Article, LoanRequest, Member, Notes, Plan, Verdict, known_item, known_patron};
+use sip_answer::Reason;
 use sip_reader::{Act, Id, Reading, RenewAll};
 use std::alloc::{AllocError, Global};
 
@@ -68,9 +68,15 @@ fn turn_of(
     let Some(article) = found else {
         return (Reason::UnknownItem, 0);
     };
-    let reason = reason_of_renewal(owes, a, member, article);
-    match reason {
-        Reason::Renewed => (reason, u128::from(article.media.rental.hundredths())),
-        _ => (reason, 0),
+    let verdict = match early_renewal(a, member, article) {
+        Some(verdict) => verdict,
+        None => owing(owes, a.agreed, member, article),
+    };
+    match verdict {
+        Verdict::Made => {
+            let rental = u128::from(article.media.rental.hundredths());
+            (Reason::Renewed, rental)
+        }
+        Verdict::Refused(why) => (why, 0),
     }
 }

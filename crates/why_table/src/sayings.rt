@@ -2,8 +2,8 @@
 
 use circ_policy::{Media, Policy, late_fee};
 use circ_records::{Fee, Item, Key, Patron, Record};
-use line_reasons::Reason;
 use read_set::Notes;
+use sip_answer::Reason;
 use sip_reader::{Act, Day, Reading, push_amount};
 use std::alloc::{AllocError, Global};
 

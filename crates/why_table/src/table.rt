@@ -8,8 +8,8 @@ use crate::sayings::{AnsweredLine, say};
 use circ_records::Key;
 use csv_table::TableText;
 use line_origins::LineTrace;
-use line_reasons::Reason;
 use read_set::{Name, Note, Notes, Plan, Way};
+use sip_answer::Reason;
 use sip_reader::Id;
 use std::alloc::{AllocError, Global};
 
@@ -55,9 +55,10 @@ impl WhyTable {
         line: u64,
         seen: &LineTrace,
     ) -> Result<bool, AllocError> {
-        let Some(reason) = seen.reason else {
+        let Some(answer) = &seen.answer else {
             return Ok(false);
         };
+        let reason = answer.reason();
         let carried = format!(in alloc; "{}", seen.carried)?;
         let notes = &seen.notes;
         if notes.as_slice().is_empty() {

@@ -86,7 +86,7 @@ owing_denies M w agreed member article =
     (λ owes. last_denies (nat_lt member.class.max_fees owes) (nat_lt 0 article.media.rental && not agreed))
 
 lending_denies : (M : Map) (a : LoanRequest) (member : Member) (article : Article) → Denies (over M (lending_tests a member article))
-unfolding lending_tests
+unfolding lending_tests early_lending
 lending_denies M a member article =
     decided_denies M (early_lending a member article) (owing_tests [] a.agreed member article) (tt, (refl, (refl, (refl, (refl, (refl, tt)))))) (owing_denies M [] a.agreed member article)
 
@@ -95,7 +95,7 @@ not_own_denies None = refl
 not_own_denies (Some loan) = refl
 
 renewal_denies : (M : Map) (a : LoanRequest) (member : Member) (article : Article) → Denies (over M (renewal_tests [] a member article))
-unfolding renewal_tests
+unfolding renewal_tests early_renewal
 renewal_denies M a member article =
     decided_denies M (early_renewal a member article) (owing_tests [] a.agreed member article) (not_own_denies article.item.loan, (tt, (refl, (refl, (refl, tt)))))
     (owing_denies M [] a.agreed member article)

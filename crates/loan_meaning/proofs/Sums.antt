@@ -24,6 +24,7 @@ use Rattle.circ_records.specs.declared.record.FeeType.TheVariants as fee_types
 use Rattle.circ_records.specs.declared.record.Record.{Record}
 use Rattle.circ_records.specs.declared.record.Record.TheVariants as records
 use Rattle.sip_reader.specs.Texts.{fee_id}
+use Rattle.sip_answer.specs.declared.reason.Reason.{Reason}
 use Rattle.read_set.specs.Lookups.{ask_after}
 use Rattle.read_set.specs.Owing.{owed_from, owed_at}
 use Rattle.loan_meaning.specs.Devices.Sums.{IsKnown, AreNew, Runs, fee_front, begins_as_made, none_begins_as_made, with_room, sum_with, charged_by}
@@ -253,8 +254,8 @@ pub run_none : (has : Part) (n : ℕ) (member : Member) (fresh : Bool) → fresh
 run_none has n member fresh h = record { known = tt; new = λ t. new_where n member.patron.fees (sym h ∙ t) }
 
 -- an item that is left
-pub run_left : (has : Part) (n : ℕ) (item : List ℕ) (done : Renewals) (fresh : Bool) (sum : Option ℕ) → Runs has n fresh done sum → Runs has n fresh (one_left item done) sum
-run_left has n item done fresh sum h = record { known = h.known; new = h.new }
+pub run_left : (has : Part) (n : ℕ) (item : List ℕ) (why : Reason) (done : Renewals) (fresh : Bool) (sum : Option ℕ) → Runs has n fresh done sum → Runs has n fresh (one_left item why done) sum
+run_left has n item why done fresh sum h = record { known = h.known; new = h.new }
 
 -- what is known of a sum stays known where more is had
 known_more : (old new : Part) (w : Entries) (fees : List (List ℕ)) (sum : Option ℕ) → Grows old new → IsKnown old w fees sum → IsKnown new w fees sum

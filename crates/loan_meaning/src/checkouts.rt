@@ -30,6 +30,7 @@ use sip_reader::{Amount, Checkout, Day, Id, Renew, Stamp};
 use std::alloc::{AllocError, Global};
 
 /// The tests of a loan before what is owed.
+#[tactic(auto, unfolding(read_set::specs::Checkouts::early_lending))]
 fn early_lending(a: &LoanRequest, member: &Member, article: &Article) -> Option<Verdict>
     ensures { result ≡ first_of (early_lending a.now member.now article.now) }
 {

@@ -144,7 +144,7 @@ pub fn list_fee_of(
 
 /// The last tests of a loan and of a renewal, by what is owed in hundredths.
 #[tactic(auto, unfolding(read_set::specs::Fees::owing_verdict))]
-pub fn owing(owes: u128, agreed: bool, member: &Member, article: &Article) -> Verdict
+fn owing(owes: u128, agreed: bool, member: &Member, article: &Article) -> Verdict
     ensures { result ≡ owing_verdict owes agreed member.now article.now }
 {
     if owes > u128::from(member.class.max_fees.hundredths()) {

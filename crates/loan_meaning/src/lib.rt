@@ -18,10 +18,10 @@ pub use asked::LineContext;
 pub use asking::{has_lent_to, has_loan};
 pub use checkins::check_in;
 pub use checkouts::{check_out, check_out_told, renew_item_told};
-pub use fees::{owed_of, owing};
+pub use fees::owed_of;
 pub use lists::{
     has_id, has_queue, is_first_another, position, waits, with_pickup, without_all, without_hold,
 };
 pub use lookup::{fee_of, item_of, patron_of, read_after};
-pub use renew_alls::{ask_for, renew_all};
-pub use renewals::{early_renewal, renew_item};
+pub use renew_alls::renew_all;
+pub use renewals::renew_item;

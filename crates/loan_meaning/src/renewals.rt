@@ -57,7 +57,8 @@ fn not_own(loan: &Option<Loan>) -> Reason
 }
 
 /// The tests of a renewal before what is owed.
-pub fn early_renewal(a: &LoanRequest, member: &Member, article: &Article) -> Option<Verdict>
+#[tactic(auto, unfolding(read_set::specs::Renewals::early_renewal))]
+fn early_renewal(a: &LoanRequest, member: &Member, article: &Article) -> Option<Verdict>
     ensures { result ≡ first_of (early_renewal a.now member.now article.now) }
 {
     let item = article.item.get();

@@ -205,7 +205,7 @@ held_by near p n a date article done verdicts.Made h =
 
 turn_known_reach : (has : Part) (near : Key → Type 0) (p : Terms) (n : ℕ) (a : LoanRequest) (date : List ℕ) (done : Renewals) (article : Option Article) → Held near done
     → Reaches has near (turn_rule_known p n a date done article) (Held near)
-turn_known_reach has near p n a date done None h = reach_give has near (one_left a.item done) (Held near) h
+turn_known_reach has near p n a date done None h = reach_give has near (one_left a.item reasons.UnknownItem done) (Held near) h
 turn_known_reach has near p n a date done (Some article) h =
     reach_then has near (renewal_tests done.writes a done.member article) (λ v. Give (turn_by p n a date article done v)) Any (Held near)
     (renewal_tests_reach has near done.writes a done.member article h)

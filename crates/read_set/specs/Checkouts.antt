@@ -29,7 +29,7 @@ use Rattle.read_set.specs.declared.verdict.Verdict.{Verdict}
 use Rattle.read_set.specs.declared.verdict.Verdict.TheVariants as verdicts
 
 -- what is decided before what is owed: made where it is forced, else refused at the first of
-abbrev pub early_lending : LoanRequest → Member → Article → List (Verdict × Bool)
+unfoldable pub early_lending : LoanRequest → Member → Article → List (Verdict × Bool)
 early_lending a member article =
     (verdicts.Made, a.forced)
     ∷ (verdicts.Refused reasons.OwnLoan, lent_to a.patron article.item.loan)  -- on loan to the same patron

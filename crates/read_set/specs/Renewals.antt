@@ -43,7 +43,7 @@ not_own None = reasons.NotLent
 not_own (Some loan) = reasons.ThirdParty
 
 -- what is decided before what is owed: refused at the first of; where it is forced, only at the very first
-abbrev pub early_renewal : LoanRequest → Member → Article → List (Verdict × Bool)
+unfoldable pub early_renewal : LoanRequest → Member → Article → List (Verdict × Bool)
 early_renewal a member article =
     (verdicts.Refused (not_own article.item.loan), not (may_renew a article.item.loan))
     ∷ (verdicts.Made, a.forced)

@@ -8,7 +8,7 @@ ghost use Rattle.sip_answer.specs.Reasons.{reason_of};
 
 use crate::item_ids::ItemIds;
 use crate::owed::Owed;
-use crate::reason::Reason;
+use crate::reason::{Reason, Reasons};
 use circ_policy::{DueForm, MediaType};
 use sip_reader::{Amount, Day, Id, Stamp, Text};
 
@@ -311,6 +311,8 @@ pub struct RenewAllAnswer {
     pub renewed: ItemIds,
     /// The items that weren't, in that order.
     pub unrenewed: ItemIds,
+    /// Why each of these wasn't.
+    pub reasons: Reasons,
 }
 
 impl Drop for RenewAllAnswer {
@@ -322,6 +324,7 @@ impl Drop for RenewAllAnswer {
             institution: _,
             renewed: _,
             unrenewed: _,
+            reasons: _,
         } = self;
     }
 }

@@ -29,5 +29,5 @@ pub use item_ids::ItemIds;
 pub use laws::{agrees_as_recorded, own_text_agrees};
 pub use named_items::NamedItems;
 pub use owed::Owed;
-pub use reason::Reason;
+pub use reason::{Reason, Reasons};
 pub use writing::{put_answer, write_answer};

@@ -21,7 +21,7 @@ use Rattle.circ_policy.specs.Due.{due_day}
 use Rattle.read_set.specs.AsRecorded.{agrees_with, answering, as_told, carried, day_told, followed, loan_told}
 use Rattle.read_set.specs.Asks.{Asks, Give, over, ◌>>=◌}
 use Rattle.sip_answer.specs.declared.reason.Reason.{Reason}
-use Rattle.read_set.specs.Checkouts.{checkout_rule_for, checkout_rule_known, lending_made, lending_of, lending_records, lending_rule, lending_rule_by, lending_tests, lending_writes, lent, loan_ended_by, other_at}
+use Rattle.read_set.specs.Checkouts.{checkout_rule_for, checkout_rule_known, early_lending, lending_made, lending_of, lending_records, lending_rule, lending_rule_by, lending_tests, lending_writes, lent, loan_ended_by, other_at}
 use Rattle.read_set.specs.Fees.{fee_made}
 use Rattle.read_set.specs.Ids.{same}
 use Rattle.read_set.specs.Known.{item_in, patron_in}
@@ -29,7 +29,7 @@ use Rattle.read_set.specs.Loans.{by_checkout, by_kind, by_renew, charge_for, due
 use Rattle.read_set.specs.Lookups.{item_at, patron_at}
 use Rattle.read_set.specs.Maps.{Map, put}
 use Rattle.read_set.specs.Meaning.{rule_of, rule_with}
-use Rattle.read_set.specs.Renewals.{charged, may_renew, renew_rule, renew_rule_known, not_own, renewal_by, renewal_made, renewal_rule, renewal_tests, one_more, renewal_writes, renewed, renewed_loan}
+use Rattle.read_set.specs.Renewals.{charged, early_renewal, may_renew, renew_rule, renew_rule_known, not_own, renewal_by, renewal_made, renewal_rule, renewal_tests, one_more, renewal_writes, renewed, renewed_loan}
 use Rattle.read_set.specs.declared.effect.Effect.{Effect}
 use Rattle.read_set.specs.declared.known.Article.{Article}
 use Rattle.read_set.specs.declared.known.Member.{Member}
@@ -181,7 +181,7 @@ module _ (p : Terms) (n : ℕ) (date : List ℕ) (M : Map) (a : LoanRequest) (me
   )
 
   renewal-lends : Lends a article.item.loan M (over M (renewal_rule p n a date member article))
-  unfolding renewal_rule renewal_tests
+  unfolding renewal_rule renewal_tests early_renewal
   renewal-lends =
       either-test M (not (may_renew a article.item.loan)) (verdicts.Refused (not_own article.item.loan)) _ _ (λ v. Give (renewal_by p n a date member article v)) (Lends a article.item.loan M) (λ e. refuses _)
       (λ e. made (unless (may_renew a article.item.loan) e))
@@ -222,7 +222,7 @@ module _ (p : Terms) (n : ℕ) (date : List ℕ) (M : Map) (a : LoanRequest) (me
   -- one that is forced isn't refused
   forced-renews : a.forced ≡ true → may_renew a article.item.loan ≡ true
       → IsOnLoan (borrower_after a article.item.loan) (Some due) (put (over M (renewal_rule p n a date member article)).writes M (keys.Item a.item))
-  unfolding renewal_rule renewal_tests renewal_made due
+  unfolding renewal_rule renewal_tests early_renewal renewal_made due
   forced-renews forced may =
       second-test M (not (may_renew a article.item.loan)) a.forced (verdicts.Refused (not_own article.item.loan)) verdicts.Made _ _ (λ v. Give (renewal_by p n a date member article v))
       (λ (e : Effect). IsOnLoan (borrower_after a article.item.loan) (Some due) (put e.writes M (keys.Item a.item))) (ap not may) forced
@@ -231,7 +231,7 @@ module _ (p : Terms) (n : ℕ) (date : List ℕ) (M : Map) (a : LoanRequest) (me
 
   forced-lends : a.forced ≡ true → borrower_after a article.item.loan ≡ a.patron
       → IsOnLoan (borrower_after a article.item.loan) (Some due) (put (over M (lending_rule p n a date member article)).writes M (keys.Item a.item))
-  unfolding lending_rule lending_tests lending_of lending_made due
+  unfolding lending_rule lending_tests early_lending lending_of lending_made due
   forced-lends forced asker =
       first-test M a.forced verdicts.Made _ _ (lending_rule_by p n a date member article)
       (λ (e : Effect). IsOnLoan (borrower_after a article.item.loan) (Some due) (put e.writes M (keys.Item a.item))) forced

@@ -103,7 +103,7 @@ fn say_patron(
 }
 
 /// What a patron owes in hundredths, where each of its fees was read.
-pub fn owed_by(notes: &Notes, patron: &Patron) -> Result<Option<u128>, AllocError> {
+fn owed_by(notes: &Notes, patron: &Patron) -> Result<Option<u128>, AllocError> {
     let mut owed: u128 = 0;
     for id in patron.fees.as_slice() {
         let Some(note) = notes.get(&Key::Fee(id.clone()?)) else {

@@ -57,7 +57,6 @@ fn case_of(
     ensures { IfOk result (IsOfLine policy.now tracer.now.plan.now line.now) }
 {
     let LineTrace {
-        reason: _,
         carried: _,
         notes,
         answer,

@@ -8,7 +8,6 @@ ghost use Rattle.circ_records.specs.Records.{record_at};
 ghost use Rattle.circ_records.specs.declared.key.Key.{Key};
 ghost use Rattle.line_origins.specs.Origins.{AreSeen, IsEnd, IsSeen, IsShelf};
 ghost use Rattle.line_reasons.specs.Carried.{carried_at};
-ghost use Rattle.line_reasons.specs.Lines.{reason_at};
 ghost use Rattle.message_meaning.specs.Rules.{rule_at};
 ghost use Rattle.read_set.specs.Asks.{follow, Done, IsAsked};
 ghost use Rattle.read_set.specs.Maps.{Map, Agrees};
@@ -19,7 +18,7 @@ ghost use Rattle.read_set.specs.declared.effect.Effect.{Effect};
 use crate::looking::{Looking, ShelfName};
 use crate::shelf::TracedRecords;
 use circ_records::{Key, Record, Records};
-use line_reasons::{Carried, Reason, carried_of, reason};
+use line_reasons::{Carried, carried_of};
 use message_meaning::perform;
 use read_set::{Effect, Notes, Plan};
 use sip_answer::Answer;
@@ -40,8 +39,6 @@ pub struct Tracer<'p> {
 /// What a line read and answered.
 #[derive(Drop)]
 pub struct LineTrace {
-    /// Why it is answered as it is, where it has an answer.
-    pub reason: Option<Reason>,
     /// What came of it.
     pub carried: Carried,
     /// What it read, in the order of reading: each record with the last line below that wrote it, or the base.
@@ -149,11 +146,9 @@ impl<'p> Tracer<'p> {
         ensures { IfOk result (IsSeen self.now.plan.now self.now.next) }
     {
         let looked = look::<Brand>(alloc, self.plan, self.next, &self.shelf)?;
-        let reason = tell::<Brand>(alloc, self.plan, self.next, &self.shelf)?;
         let (notes, answer) = looked;
         let carried = carry::<Brand>(alloc, self.plan, self.next, &answer, &self.shelf)?;
         Ok(LineTrace {
-            reason,
             carried,
             notes,
             answer,
@@ -178,24 +173,6 @@ fn look<N: ShelfName>(
     let mut source: Looking<N> = Looking::new(alloc, shelf);
     match perform(alloc, plan, line, &mut source) {
         Ok(Effect { writes: _, answer }) => Ok((source.into_notes(), answer)),
-        Err(_) => Err(AllocError),
-    }
-}
-
-/// Why a line is answered as it is on a shelf.
-fn tell<N: ShelfName>(
-    alloc: Global,
-    plan: &Plan,
-    line: u64,
-    shelf: &TracedRecords,
-) -> Result<Option<Reason>, AllocError>
-    requires records { shelf.now.live ≡ N.records }
-    requires writers { shelf.now.writers.entries ≡ N.writers }
-    ensures { IfOk result (λ r. (M : Map) → ((k : Key) → record_at N.records k ≡ M k) → r ≡ reason_at plan.now line M) }
-{
-    let mut source: Looking<N> = Looking::new(alloc, shelf);
-    match reason(alloc, plan, line, &mut source) {
-        Ok(why) => Ok(why),
         Err(_) => Err(AllocError),
     }
 }

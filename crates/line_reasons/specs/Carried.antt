@@ -12,7 +12,7 @@ use Rattle.sip_reader.specs.declared.request.HoldRequest.{HoldRequest}
 use Rattle.sip_reader.specs.declared.request.Reading.{Reading}
 use Rattle.sip_reader.specs.declared.request.Reading.TheVariants as readings
 use Rattle.read_set.specs.AsRecorded.{agrees_with}
-use Rattle.read_set.specs.Holds.{refuses_hold}
+use Rattle.read_set.specs.Holds.{hold_refusal}
 use Rattle.read_set.specs.Known.{item_in, patron_in}
 use Rattle.read_set.specs.Maps.{Map}
 use Rattle.read_set.specs.Plans.{Planned, deed_at, reading_at}
@@ -37,7 +37,7 @@ can_lend p act M = false
 -- one that is there, of one's own loan or in a full queue can't be added, and none can't be deleted
 -- or changed
 abbrev pub can_hold : HoldRequest → Option Member → Option Article → Bool
-can_hold q (Some member) (Some article) = not (refuses_hold q.mode q.patron false article.item)
+can_hold q (Some member) (Some article) = not (is_some (hold_refusal q.mode q.patron false article.item))
 can_hold q _ _ = false
 
 -- What was said to be done and the rules refuse can't be, but for a hold: an unknown patron or item, a

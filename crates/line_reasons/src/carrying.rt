@@ -12,8 +12,8 @@ ghost use Rattle.sip_answer.specs.Deeds.{names_item};
 
 use crate::carried::Carried;
 use crate::finding::{find_item, find_patron};
-use crate::holds::reason_of_queue;
 use circ_policy::Policy;
+use message_meaning::hold_refusal;
 use read_set::{Article, Member, Plan, Source, Stop};
 use sip_answer::{Answer, Deed, NamedItems, agrees};
 use sip_reader::{Act, HoldRequest, Id, Reading};
@@ -108,13 +108,12 @@ fn can_hold<S: Source>(
 }
 
 /// Whether the rules would take the hold of a patron who isn't blocked.
-#[tactic(auto, using(crate::proofs::Going::queue_goes))]
 fn can_hold_found(asked: &HoldRequest, member: &Option<Member>, article: &Option<Article>) -> bool
     ensures { result ≡ can_hold asked.now member.now article.now }
 {
     match (member, article) {
         (Some(_), Some(article)) => {
-            reason_of_queue(asked.mode, &asked.patron, false, article.item.get()).grants()
+            hold_refusal(asked.mode, &asked.patron, false, article.item.get()).is_none()
         }
         _ => false,
     }

@@ -24,6 +24,7 @@ use Rattle.circ_records.specs.declared.record.FeeType.TheVariants as fee_types
 use Rattle.circ_records.specs.declared.record.Record.{Record}
 use Rattle.circ_records.specs.declared.record.Record.TheVariants as records
 use Rattle.sip_reader.specs.Texts.{fee_id}
+use Rattle.sip_answer.specs.declared.reason.Reason.{Reason}
 use Rattle.read_set.specs.Lookups.{ask_after}
 use Rattle.read_set.specs.Owing.{owed_from, owed_at}
 use Rattle.loan_meaning.specs.Devices.Sums.{IsKnown, AreNew, Runs, fee_front, begins_as_made, none_begins_as_made, with_room, sum_with, charged_by}
@@ -199,8 +200,7 @@ new_after true n made fees h k l s c =
 turn_runs : (has : Part) (p : Terms) (n : ℕ) (a : LoanRequest) (date : List ℕ) (article : Article) (done : Renewals) (v : Verdict) (fresh : Bool) (sum more : Option ℕ) → done.made < 2 ^ 64
     → Runs has n fresh done sum → IsMore fresh (charged_by v (charge_for a article.media)) sum more → Runs has n fresh (turn_by p n a date article done v) more
 unfolding turn_by rest_of
-turn_runs has p n a date article done verdicts.Refused fresh sum more s h m = record { known = less_known has fresh done.writes done.member.patron.fees sum more m h.known; new = h.new }
-turn_runs has p n a date article done verdicts.Unpaid fresh sum more s h m = record { known = less_known has fresh done.writes done.member.patron.fees sum more m h.known; new = h.new }
+turn_runs has p n a date article done (verdicts.Refused why) fresh sum more s h m = record { known = less_known has fresh done.writes done.member.patron.fees sum more m h.known; new = h.new }
 turn_runs has p n a date article done verdicts.Made fresh sum more s h m = record {
   known = made_known has (nat_lt 0 (charge_for a article.media)) fresh done.writes a.item (records.Item (renewed (due_for p a date article.media) article.item)) (fee_id n done.made)
       (record { patron = a.patron; kind = fee_types.Rental; amount = (charge_for a article.media); paid = 0 }) done.member.patron.fees sum more (charge_for a article.media) refl (omega arith)
@@ -254,8 +254,8 @@ pub run_none : (has : Part) (n : ℕ) (member : Member) (fresh : Bool) → fresh
 run_none has n member fresh h = record { known = tt; new = λ t. new_where n member.patron.fees (sym h ∙ t) }
 
 -- an item that is left
-pub run_left : (has : Part) (n : ℕ) (item : List ℕ) (done : Renewals) (fresh : Bool) (sum : Option ℕ) → Runs has n fresh done sum → Runs has n fresh (one_left item done) sum
-run_left has n item done fresh sum h = record { known = h.known; new = h.new }
+pub run_left : (has : Part) (n : ℕ) (item : List ℕ) (why : Reason) (done : Renewals) (fresh : Bool) (sum : Option ℕ) → Runs has n fresh done sum → Runs has n fresh (one_left item why done) sum
+run_left has n item why done fresh sum h = record { known = h.known; new = h.new }
 
 -- what is known of a sum stays known where more is had
 known_more : (old new : Part) (w : Entries) (fees : List (List ℕ)) (sum : Option ℕ) → Grows old new → IsKnown old w fees sum → IsKnown new w fees sum

@@ -1,12 +1,13 @@
 //! Checkin.
 
 ghost use Rattle.std.specs.Prelude.{◌≡◌, IfOk, OnOk, Some, None};
-ghost use Rattle.read_set.specs.Checkins.{checkin_rule, returned_item, checkin_answer, day_back, lateness, returner, returned_by, returned_writes, returned, checked_in, loan_of, checkin};
+ghost use Rattle.read_set.specs.Checkins.{checkin_rule, return_reason, returned_item, checkin_answer, day_back, lateness, returner, returned_by, returned_writes, returned, checked_in, loan_of, checkin};
 ghost use Rattle.read_set.specs.Lookups.{borrower_at};
 ghost use Rattle.read_set.specs.Asks.{follow, Done, Gains};
 ghost use Rattle.read_set.specs.Effects.{unwritten, written};
 ghost use Rattle.read_set.specs.Maps.{Map, Agrees};
 ghost use Rattle.read_set.specs.Stops.{Follows};
+ghost use Rattle.sip_answer.specs.declared.reason.Reason.TheVariants as reasons;
 
 use crate::asked::LineContext;
 use crate::fees::{Charge, list_fee, make_fee, nothing};
@@ -15,12 +16,12 @@ use crate::lookup::{borrower_of, item_of};
 use circ_policy::{Media, Policy, late_fee};
 use circ_records::{FeeType, Item, Key, Loan, Patron, Record};
 use read_set::{Article, Draft, Effect, Member, Source, Stop};
-use sip_answer::{Answer, CheckinAnswer, ReturnedItem};
+use sip_answer::{Answer, CheckinAnswer, Reason, ReturnedItem};
 use sip_reader::{Amount, Checkin, Day, Id, Stamp};
 use std::alloc::{AllocError, Global};
 
 fn tell_unknown(line: &LineContext<'_>, request: &Checkin) -> Result<Answer, AllocError>
-    ensures { IfOk result (λ a. a ≡ checkin_answer line.now.policy.now request.now line.now.date None None) }
+    ensures { IfOk result (λ a. a ≡ checkin_answer line.now.policy.now request.now line.now.date None None reasons.UnknownItem) }
 {
     Ok(Answer::Checkin(CheckinAnswer {
         date: line.date,
@@ -29,6 +30,7 @@ fn tell_unknown(line: &LineContext<'_>, request: &Checkin) -> Result<Answer, All
         known: None,
         borrower: None,
         alert: false,
+        reason: Reason::UnknownItem,
     }))
 }
 
@@ -50,8 +52,9 @@ fn tell(
     request: &Checkin,
     article: &Article,
     borrower: Option<Id>,
+    reason: Reason,
 ) -> Result<Answer, AllocError>
-    ensures { IfOk result (λ a. a ≡ checkin_answer line.now.policy.now request.now line.now.date (Some article.now.item) borrower) }
+    ensures { IfOk result (λ a. a ≡ checkin_answer line.now.policy.now request.now line.now.date (Some article.now.item) borrower reason) }
 {
     Ok(Answer::Checkin(CheckinAnswer {
         date: line.date,
@@ -60,6 +63,7 @@ fn tell(
         known: Some(show(article.item.get())?),
         borrower,
         alert: has_queue(article.item.get().holds.as_slice()),
+        reason,
     }))
 }
 
@@ -149,6 +153,17 @@ fn write_return(
     Ok(writes)
 }
 
+/// A borrower that counts as unknown isn't charged.
+fn reason_of_return(borrower: &Option<Member>, fee: Amount) -> Reason
+    ensures { result ≡ return_reason borrower.now fee }
+{
+    if borrower.is_some() && fee.hundredths() > 0 {
+        Reason::ReturnedLate
+    } else {
+        Reason::Returned
+    }
+}
+
 fn end_loan(
     line: &LineContext<'_>,
     request: &Checkin,
@@ -159,10 +174,11 @@ fn end_loan(
     ensures { Follows result (Done (returned line.now.policy.now line.now.number request.now line.now.date article.now member (Some loan.now))) }
 {
     let fee = lateness_of(request, line.date, loan, &article.media);
+    let reason = reason_of_return(&member, fee);
     let writes = write_return(line, &request.item, fee, article, member, loan)?;
     let writes = writes.finish(line.alloc)?;
     let borrower = loan.patron.clone()?;
-    let answer = tell(line, request, article, Some(borrower))?;
+    let answer = tell(line, request, article, Some(borrower), reason)?;
     Ok(Effect {
         writes,
         answer: Some(answer),
@@ -173,16 +189,16 @@ fn end_loan(
 /// whether there is one.
 #[inline(never)]
 fn end_unlent(line: &LineContext<'_>, request: &Checkin, article: &Article) -> Result<Effect, Stop>
-    ensures { Follows result (Done (unwritten (Some (checkin_answer line.now.policy.now request.now line.now.date (Some article.now.item) None)))) }
+    ensures { Follows result (Done (unwritten (Some (checkin_answer line.now.policy.now request.now line.now.date (Some article.now.item) None reasons.WasIn)))) }
 {
-    let answer = tell(line, request, article, None)?;
+    let answer = tell(line, request, article, None, Reason::WasIn)?;
     Ok(Effect::unwritten(line.alloc, Some(answer)))
 }
 
 /// An unknown item is refused. It is a function of its own for the same reason.
 #[inline(never)]
 fn end_unknown(line: &LineContext<'_>, request: &Checkin) -> Result<Effect, Stop>
-    ensures { Follows result (Done (unwritten (Some (checkin_answer line.now.policy.now request.now line.now.date None None)))) }
+    ensures { Follows result (Done (unwritten (Some (checkin_answer line.now.policy.now request.now line.now.date None None reasons.UnknownItem)))) }
 {
     let answer = tell_unknown(line, request)?;
     Ok(Effect::unwritten(line.alloc, Some(answer)))

@@ -4,7 +4,7 @@ ghost use Rattle.std.specs.Prelude.{◌≡◌, ◌∷◌, [], IfOk, Some, true};
 ghost use Rattle.circ_records.specs.declared.key.Key.TheVariants as keys;
 ghost use Rattle.circ_records.specs.declared.record.FeeType.TheVariants as fee_types;
 ghost use Rattle.circ_records.specs.declared.record.Record.TheVariants as records;
-ghost use Rattle.read_set.specs.Checkouts.{lending_tests, other_at, lending_rule, checkout_rule_known, checkout_rule, checkout_rule_for, loan_ended_by, lent, lending_made, checkout};
+ghost use Rattle.read_set.specs.Checkouts.{early_lending, lending_tests, other_at, lending_rule, checkout_rule_known, checkout_rule, checkout_rule_for, loan_ended_by, lent, lending_made, checkout};
 ghost use Rattle.read_set.specs.Asks.{follow, Done, Gains};
 ghost use Rattle.read_set.specs.Effects.{◌⊕◌};
 ghost use Rattle.read_set.specs.Fees.{fee_made};
@@ -13,20 +13,49 @@ ghost use Rattle.read_set.specs.AsRecorded.{as_told};
 ghost use Rattle.read_set.specs.Loans.{by_checkout, by_renew};
 ghost use Rattle.read_set.specs.Maps.{Map, Agrees};
 ghost use Rattle.read_set.specs.Stops.{Follows};
+ghost use Rattle.read_set.specs.Tests.{first_of};
 
 use crate::asked::{LineContext, LoanContext};
-use crate::asking::{as_told, ask_checkout, ask_renew, charge_of, due_of, has_lent_to};
+use crate::asking::{as_told, ask_checkout, ask_renew, charge_of, due_of, has_lent_to, has_loan};
 use crate::fees::{Charge, list_fee, make_fee, test_owing};
 use crate::lists::{is_first_another, without, without_hold};
 use crate::lookup::{item_of, patron_of};
 use crate::renewals::{is_renewable, renew_one};
-use crate::telling::{refuse, refuse_for, tell};
+use crate::telling::{refuse, tell};
 use circ_policy::Policy;
 use circ_records::{FeeType, Key, Loan, Patron, Record};
 use read_set::{Article, Draft, Effect, LoanRequest, Member, Source, Stop, Verdict};
-use sip_answer::ToldLoan;
+use sip_answer::{Reason, ToldLoan};
 use sip_reader::{Amount, Checkout, Day, Id, Renew, Stamp};
 use std::alloc::{AllocError, Global};
+
+/// The tests of a loan before what is owed.
+#[tactic(auto, unfolding(read_set::specs::Checkouts::early_lending))]
+fn early_lending(a: &LoanRequest, member: &Member, article: &Article) -> Option<Verdict>
+    ensures { result ≡ first_of (early_lending a.now member.now article.now) }
+{
+    if a.forced {
+        return Some(Verdict::Made);
+    }
+    let item = article.item.get();
+    if has_lent_to(&a.patron, &item.loan) {
+        return Some(Verdict::Refused(Reason::OwnLoan));
+    }
+    if has_loan(&item.loan) {
+        return Some(Verdict::Refused(Reason::Lent));
+    }
+    if is_first_another(item.holds.as_slice(), &a.patron) {
+        return Some(Verdict::Refused(Reason::Queue));
+    }
+    let patron = member.patron.get();
+    if patron.blocked {
+        return Some(Verdict::Refused(Reason::Blocked));
+    }
+    if member.class.max_loans as usize <= patron.loans.len() {
+        return Some(Verdict::Refused(Reason::MaxLoans));
+    }
+    None
+}
 
 #[tactic(auto, unfolding(read_set::specs::Checkouts::lending_tests), using(read_set::proofs::Gaining::gains_none, read_set::proofs::Gaining::gains_first))]
 fn test_lending<S: Source>(
@@ -38,26 +67,8 @@ fn test_lending<S: Source>(
     ensures gives { Follows result (follow (S.has source.new) (lending_tests asked.now.request member.now article.now)) }
     ensures keeps { Gains S.one_by_one (S.has source.old) (S.has source.new) (lending_tests asked.now.request member.now article.now) }
 {
-    let a = &asked.request;
-    if a.forced {
-        return Ok(Verdict::Made);
-    }
-    let item = article.item.get();
-    if has_lent_to(&a.patron, &item.loan) {
-        return Ok(Verdict::Refused);
-    }
-    if item.loan.is_some() {
-        return Ok(Verdict::Refused);
-    }
-    if is_first_another(item.holds.as_slice(), &a.patron) {
-        return Ok(Verdict::Refused);
-    }
-    let patron = member.patron.get();
-    if patron.blocked {
-        return Ok(Verdict::Refused);
-    }
-    if member.class.max_loans as usize <= patron.loans.len() {
-        return Ok(Verdict::Refused);
+    if let Some(verdict) = early_lending(&asked.request, member, article) {
+        return Ok(verdict);
     }
     let writes = Draft::new(asked.alloc);
     test_owing(asked, &writes, member, article, &mut None, source)
@@ -158,7 +169,14 @@ fn make_loan(
     list_fee(alloc, asked.number, 0, charge, &mut patron.fees)?;
     let writes = write_lending(asked, due, charge, patron, &article, other)?;
     let writes = writes.finish(alloc)?;
-    let answer = tell(asked, Some(&article), Some(due), false, charge)?;
+    let answer = tell(
+        asked,
+        Some(&article),
+        Some(due),
+        false,
+        charge,
+        Reason::Made,
+    )?;
     Ok(Effect {
         writes,
         answer: Some(answer),
@@ -177,12 +195,9 @@ fn lend<S: Source>(
     ensures keeps { Gains S.one_by_one (S.has source.old) (S.has source.new) (lending_rule asked.now.policy.now asked.now.number asked.now.request asked.now.date member article) }
 {
     let verdict = test_lending(asked, &member, &article, source)?;
-    let media = &article.media;
-    let rental = media.rental;
-    // each is returned at once: what is done by one of several branches would move once more after them, and is large
+    // returned at once: what is done by one of several branches would move once more after them, and is large
     match verdict {
-        Verdict::Refused => return refuse(asked, Some(article)),
-        Verdict::Unpaid => return refuse_for(asked, Some(article), rental),
+        Verdict::Refused(why) => return refuse(asked, Some(article), why),
         Verdict::Made => {}
     }
     let other = other_of(asked, &article.item.get().loan, source)?;
@@ -201,10 +216,10 @@ fn lend_both<S: Source>(
     ensures keeps { Gains S.one_by_one (S.has source.old) (S.has source.new) (checkout_rule_known asked.now.policy.now asked.now.number renewal asked.now.request asked.now.date member article) }
 {
     let Some(member) = member else {
-        return refuse(asked, article);
+        return refuse(asked, article, Reason::UnknownPatron);
     };
     let Some(article) = article else {
-        return refuse(asked, None);
+        return refuse(asked, None, Reason::UnknownItem);
     };
     if renewal && is_renewable(&asked.request, &article.item.get().loan) {
         return renew_one(asked, member, article, source);

@@ -12,6 +12,7 @@ use crate::asked::LoanContext;
 use crate::lookup::read_after;
 use circ_records::{Fee, FeeType, Ids, Key, Patron, Record, Shared, put_fee};
 use read_set::{Article, Draft, Member, Source, Stop, Verdict, known_fee};
+use sip_answer::Reason;
 use sip_reader::{Amount, Id};
 use std::alloc::{AllocError, Global};
 
@@ -141,14 +142,15 @@ pub fn list_fee_of(
     Ok(())
 }
 
+/// The last tests of a loan and of a renewal, by what is owed in hundredths.
 #[tactic(auto, unfolding(read_set::specs::Fees::owing_verdict))]
 fn owing(owes: u128, agreed: bool, member: &Member, article: &Article) -> Verdict
     ensures { result ≡ owing_verdict owes agreed member.now article.now }
 {
     if owes > u128::from(member.class.max_fees.hundredths()) {
-        Verdict::Refused
+        Verdict::Refused(Reason::MaxFees)
     } else if article.media.rental.hundredths() > 0 && !agreed {
-        Verdict::Unpaid
+        Verdict::Refused(Reason::Rental)
     } else {
         Verdict::Made
     }

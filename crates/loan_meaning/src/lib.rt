@@ -15,14 +15,13 @@ mod running;
 mod telling;
 
 pub use asked::LineContext;
-pub use asking::{ask_checkout, ask_renew, has_lent_to, has_loan};
+pub use asking::{has_lent_to, has_loan};
 pub use checkins::check_in;
 pub use checkouts::{check_out, check_out_told, renew_item_told};
-pub use fees::{owed_of, rest_of};
+pub use fees::owed_of;
 pub use lists::{
-    has_id, has_queue, is_first_another, position, waits, with_pickup, without, without_all,
-    without_hold,
+    has_id, has_queue, is_first_another, position, waits, with_pickup, without_all, without_hold,
 };
-pub use lookup::{borrower_of, fee_of, item_of, patron_of, read_after};
-pub use renew_alls::{ask_for, renew_all};
-pub use renewals::{renew_item, renewals_of};
+pub use lookup::{fee_of, item_of, patron_of, read_after};
+pub use renew_alls::renew_all;
+pub use renewals::renew_item;

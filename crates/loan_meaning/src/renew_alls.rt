@@ -24,12 +24,12 @@ use circ_records::{FeeType, Ids, Key, Record};
 use read_set::{
     Article, Draft, Effect, LoanRequest, Member, Renewals, Source, Stop, Verdict, known_item,
 };
-use sip_answer::{Answer, ItemIds, NamedItems, RenewAllAnswer};
+use sip_answer::{Answer, ItemIds, NamedItems, Reason, Reasons, RenewAllAnswer};
 use sip_reader::{Amount, Day, Id, RenewAll};
 use std::alloc::{AllocError, Global};
 
 /// The renewal of an item for which a renewal of all items asks, by the borrower. It is forced if a response named the item.
-pub fn ask_for(forced: bool, request: &RenewAll, item: &Id) -> Result<LoanRequest, AllocError>
+fn ask_for(forced: bool, request: &RenewAll, item: &Id) -> Result<LoanRequest, AllocError>
     ensures { IfOk result (λ a. a ≡ by_renew_all forced request.now item.now) }
 {
     Ok(LoanRequest {
@@ -106,12 +106,13 @@ fn renew_next(
     Ok(done)
 }
 
-fn leave(item: &Id, done: Renewals) -> Result<Renewals, AllocError>
-    ensures value { IfOk result (λ next. next ≡ one_left item.now done) }
+fn leave(item: &Id, reason: Reason, done: Renewals) -> Result<Renewals, AllocError>
+    ensures value { IfOk result (λ next. next ≡ one_left item.now reason done) }
     ensures few { IfOk result (λ next. next.made ≤ done.made + 1) }
 {
     let mut done = done;
     done.others.push(item.clone()?)?;
+    done.reasons.push(reason)?;
     Ok(done)
 }
 
@@ -128,7 +129,7 @@ fn end_turn(
 {
     match verdict {
         Verdict::Made => renew_next(asked, article, done),
-        Verdict::Refused | Verdict::Unpaid => leave(&asked.request.item, done),
+        Verdict::Refused(why) => leave(&asked.request.item, why, done),
     }
 }
 
@@ -172,7 +173,7 @@ fn turn_any<S: Source>(
 {
     match article {
         Some(article) => turn_known(asked, done, article, fresh, sum, source),
-        None => Ok(leave(&asked.request.item, done)?),
+        None => Ok(leave(&asked.request.item, Reason::UnknownItem, done)?),
     }
 }
 
@@ -207,6 +208,7 @@ fn begin(alloc: Global, member: Member) -> Renewals
         made: 0,
         renewed: ItemIds::new(alloc),
         others: ItemIds::new(alloc),
+        reasons: Reasons::new(alloc),
     }
 }
 
@@ -235,18 +237,21 @@ fn take_turns<S: Source>(
 
 fn tell(
     line: &LineContext<'_>,
-    ok: bool,
+    reason: Reason,
     renewed: ItemIds,
     unrenewed: ItemIds,
+    reasons: Reasons,
 ) -> Result<Answer, AllocError>
-    ensures { IfOk result (λ a. a ≡ renew_all_answer line.now.policy.now line.now.date ok renewed unrenewed) }
+    ensures { IfOk result (λ a. a ≡ renew_all_answer line.now.policy.now line.now.date reason renewed unrenewed reasons) }
 {
     Ok(Answer::RenewAll(RenewAllAnswer {
         date: line.date,
         institution: line.policy.institution().clone()?,
-        ok,
+        ok: reason.grants(),
+        reason,
         renewed,
         unrenewed,
+        reasons,
     }))
 }
 
@@ -260,6 +265,7 @@ fn finish(line: &LineContext<'_>, request: &RenewAll, done: Renewals) -> Result<
         made,
         renewed,
         others,
+        reasons,
     } = done;
     if made > 0 {
         let key = Key::Patron(request.patron.clone()?);
@@ -267,7 +273,7 @@ fn finish(line: &LineContext<'_>, request: &RenewAll, done: Renewals) -> Result<
     }
     Ok(Effect {
         writes: writes.finish(line.alloc)?,
-        answer: Some(tell(line, true, renewed, others)?),
+        answer: Some(tell(line, Reason::Done, renewed, others, reasons)?),
     })
 }
 
@@ -335,7 +341,9 @@ fn renew_any<S: Source>(
         Some(member) => renew_each(line, request, named, member, source),
         None => {
             let alloc = line.alloc;
-            let none = tell(line, false, ItemIds::new(alloc), ItemIds::new(alloc))?;
+            let why = Reason::UnknownPatron;
+            let (none, others) = (ItemIds::new(alloc), ItemIds::new(alloc));
+            let none = tell(line, why, none, others, Reasons::new(alloc))?;
             Ok(Effect::unwritten(alloc, Some(none)))
         }
     }

@@ -4,23 +4,25 @@ ghost use Rattle.std.specs.Prelude.{◌≡◌, ◌∷◌, [], if◌then◌else�
 ghost use Rattle.circ_records.specs.declared.key.Key.TheVariants as keys;
 ghost use Rattle.circ_records.specs.declared.record.FeeType.TheVariants as fee_types;
 ghost use Rattle.circ_records.specs.declared.record.Record.TheVariants as records;
-ghost use Rattle.read_set.specs.Renewals.{renewal_tests, renewal_rule, renew_rule_known, renew_rule, may_renew, renewals_of, one_more, renewed_loan, renewed, renewal_made, renewal_by, renew};
+ghost use Rattle.read_set.specs.Renewals.{early_renewal, not_own, renewal_tests, renewal_rule, renew_rule_known, renew_rule, may_renew, renewals_of, one_more, renewed_loan, renewed, renewal_made, renewal_by, renew};
 ghost use Rattle.loan_meaning.specs.Devices.Sums.{IsKnown};
 ghost use Rattle.read_set.specs.Asks.{follow, Done, Gains};
 ghost use Rattle.read_set.specs.Effects.{◌⊕◌};
 ghost use Rattle.read_set.specs.Fees.{fee_made};
 ghost use Rattle.read_set.specs.Maps.{Map, Agrees};
 ghost use Rattle.read_set.specs.Stops.{Follows};
+ghost use Rattle.read_set.specs.Tests.{first_of};
 
 use crate::asked::LoanContext;
 use crate::asking::{ask_renew, charge_of, due_of};
 use crate::fees::{Charge, list_fee, make_fee, test_owing};
 use crate::lists::has_queue;
 use crate::lookup::{item_of, patron_of};
-use crate::telling::{refuse, refuse_for, tell};
+use crate::telling::{refuse, tell};
 use circ_policy::Policy;
 use circ_records::{FeeType, Item, Key, Loan, Patron, Record};
 use read_set::{Article, Draft, Effect, LoanRequest, Member, Source, Stop, Verdict};
+use sip_answer::Reason;
 use sip_reader::{Amount, Day, Renew, Stamp};
 use std::alloc::{AllocError, Global};
 
@@ -35,13 +37,47 @@ pub fn is_renewable(a: &LoanRequest, loan: &Option<Loan>) -> bool
 }
 
 /// How often a loan was renewed; 0 where there is none.
-pub fn renewals_of(loan: &Option<Loan>) -> u32
+fn renewals_of(loan: &Option<Loan>) -> u32
     ensures { result ≡ renewals_of loan.now }
 {
     match loan {
         Some(loan) => loan.renewals,
         None => 0,
     }
+}
+
+/// Why a loan isn't the patron's to renew: there is none, or it is another's.
+fn not_own(loan: &Option<Loan>) -> Reason
+    ensures { result ≡ not_own loan.now }
+{
+    match loan {
+        Some(_) => Reason::ThirdParty,
+        None => Reason::NotLent,
+    }
+}
+
+/// The tests of a renewal before what is owed.
+#[tactic(auto, unfolding(read_set::specs::Renewals::early_renewal))]
+fn early_renewal(a: &LoanRequest, member: &Member, article: &Article) -> Option<Verdict>
+    ensures { result ≡ first_of (early_renewal a.now member.now article.now) }
+{
+    let item = article.item.get();
+    if !is_renewable(a, &item.loan) {
+        return Some(Verdict::Refused(not_own(&item.loan)));
+    }
+    if a.forced {
+        return Some(Verdict::Made);
+    }
+    if member.patron.get().blocked {
+        return Some(Verdict::Refused(Reason::Blocked));
+    }
+    if has_queue(item.holds.as_slice()) {
+        return Some(Verdict::Refused(Reason::WaitedFor));
+    }
+    if member.class.max_renewals <= renewals_of(&item.loan) {
+        return Some(Verdict::Refused(Reason::MaxRenewals));
+    }
+    None
 }
 
 /// The tests of a renewal, after the writes so far. `sum` is what is known of the sum that is owed.
@@ -59,21 +95,8 @@ pub fn test_renewal<S: Source>(
     ensures keeps { Gains S.one_by_one (S.has source.old) (S.has source.new) (renewal_tests writes.now asked.now.request member.now article.now) }
     ensures known { OnOk result (IsKnown (S.has source.new) writes.now member.now.patron.fees sum.new) }
 {
-    let item = article.item.get();
-    if !is_renewable(&asked.request, &item.loan) {
-        return Ok(Verdict::Refused);
-    }
-    if asked.request.forced {
-        return Ok(Verdict::Made);
-    }
-    if member.patron.get().blocked {
-        return Ok(Verdict::Refused);
-    }
-    if has_queue(item.holds.as_slice()) {
-        return Ok(Verdict::Refused);
-    }
-    if member.class.max_renewals <= renewals_of(&item.loan) {
-        return Ok(Verdict::Refused);
+    if let Some(verdict) = early_renewal(&asked.request, member, article) {
+        return Ok(verdict);
     }
     test_owing(asked, writes, member, article, sum, source)
 }
@@ -112,7 +135,14 @@ fn make_renewal(asked: &LoanContext<'_>, member: Member, article: Article) -> Re
     let media = &article.media;
     let due = due_of(asked, media);
     let charge = charge_of(asked, media);
-    let answer = tell(asked, Some(&article), Some(due), true, charge)?;
+    let answer = tell(
+        asked,
+        Some(&article),
+        Some(due),
+        true,
+        charge,
+        Reason::Renewed,
+    )?;
     let mut patron = member.patron.get().clone()?;
     list_fee(asked.alloc, asked.number, 0, charge, &mut patron.fees)?;
     let writes = write_renewal(asked, due, charge, patron, article)?;
@@ -161,11 +191,8 @@ fn renew_by(
 ) -> Result<Effect, Stop>
     ensures { Follows result (Done (renewal_by asked.now.policy.now asked.now.number asked.now.request asked.now.date member article verdict)) }
 {
-    let media = &article.media;
-    let rental = media.rental;
     match verdict {
-        Verdict::Refused => refuse(asked, Some(article)),
-        Verdict::Unpaid => refuse_for(asked, Some(article), rental),
+        Verdict::Refused(why) => refuse(asked, Some(article), why),
         Verdict::Made => make_renewal(asked, member, article),
     }
 }
@@ -197,10 +224,10 @@ fn renew_both<S: Source>(
     ensures keeps { Gains S.one_by_one (S.has source.old) (S.has source.new) (renew_rule_known asked.now.policy.now asked.now.number asked.now.request asked.now.date member article) }
 {
     let Some(member) = member else {
-        return refuse(asked, article);
+        return refuse(asked, article, Reason::UnknownPatron);
     };
     let Some(article) = article else {
-        return refuse(asked, None);
+        return refuse(asked, None, Reason::UnknownItem);
     };
     renew_one(asked, member, article, source)
 }

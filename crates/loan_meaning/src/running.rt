@@ -31,7 +31,7 @@ pub fn charge_by(verdict: Verdict, rental: Amount) -> Amount
 {
     match verdict {
         Verdict::Made => rental,
-        Verdict::Refused | Verdict::Unpaid => nothing(),
+        Verdict::Refused(_) => nothing(),
     }
 }
 

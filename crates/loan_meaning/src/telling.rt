@@ -2,13 +2,13 @@
 
 ghost use Rattle.std.specs.Prelude.{◌≡◌, IfOk, option_map};
 ghost use Rattle.read_set.specs.Asks.{Done};
-ghost use Rattle.read_set.specs.Loans.{known_item, loan_answer, refused};
+ghost use Rattle.read_set.specs.Loans.{known_item, loan_answer, refused, rental_for};
 ghost use Rattle.read_set.specs.Stops.{Follows};
 
 use crate::asked::LoanContext;
 use crate::fees::nothing;
 use read_set::{Article, Effect, Stop};
-use sip_answer::{Answer, KnownItem, LoanAnswer};
+use sip_answer::{Answer, KnownItem, LoanAnswer, Reason};
 use sip_reader::{Amount, Day};
 use std::alloc::AllocError;
 
@@ -35,8 +35,9 @@ pub fn tell(
     due: Option<Day>,
     renewed: bool,
     rental: Amount,
+    reason: Reason,
 ) -> Result<Answer, AllocError>
-    ensures { IfOk result (λ answer. answer ≡ loan_answer asked.now.policy.now asked.now.request asked.now.date (option_map (λ x. x.now.item) article.entry) due renewed rental) }
+    ensures { IfOk result (λ answer. answer ≡ loan_answer asked.now.policy.now asked.now.request asked.now.date (option_map (λ x. x.now.item) article.entry) due renewed rental reason) }
 {
     let answer = LoanAnswer {
         date: asked.date,
@@ -49,6 +50,7 @@ pub fn tell(
         renewed,
         rental: (rental.hundredths() > 0).then_some(rental),
         currency: asked.policy.currency(),
+        reason,
     };
     if asked.request.checkout {
         Ok(Answer::Checkout(answer))
@@ -57,22 +59,26 @@ pub fn tell(
     }
 }
 
-/// A refusal, with the rental where it is for one.
-#[tactic(auto, unfolding(read_set::specs::Loans::refused))]
-pub fn refuse_for(
-    asked: &LoanContext<'_>,
-    article: Option<Article>,
-    rental: Amount,
-) -> Result<Effect, Stop>
-    ensures { Follows result (Done (refused asked.now.policy.now asked.now.request asked.now.date article rental)) }
+/// The rental for which a request is refused; nothing for another reason.
+fn rental_for(reason: Reason, article: &Option<Article>) -> Amount
+    ensures { result ≡ rental_for reason article.now }
 {
-    let answer = tell(asked, article.as_ref(), None, false, rental)?;
-    Ok(Effect::unwritten(asked.alloc, Some(answer)))
+    match (reason, article) {
+        (Reason::Rental, Some(article)) => article.media.rental,
+        _ => nothing(),
+    }
 }
 
-/// A refusal for something else than a rental.
-pub fn refuse(asked: &LoanContext<'_>, article: Option<Article>) -> Result<Effect, Stop>
-    ensures { Follows result (Done (refused asked.now.policy.now asked.now.request asked.now.date article 0)) }
+/// A refusal, with the rental where it is for one.
+#[tactic(auto, unfolding(read_set::specs::Loans::refused))]
+pub fn refuse(
+    asked: &LoanContext<'_>,
+    article: Option<Article>,
+    reason: Reason,
+) -> Result<Effect, Stop>
+    ensures { Follows result (Done (refused asked.now.policy.now asked.now.request asked.now.date article reason)) }
 {
-    refuse_for(asked, article, nothing())
+    let rental = rental_for(reason, &article);
+    let answer = tell(asked, article.as_ref(), None, false, rental, reason)?;
+    Ok(Effect::unwritten(asked.alloc, Some(answer)))
 }

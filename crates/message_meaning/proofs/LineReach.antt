@@ -140,9 +140,8 @@ payment_reach has near p q date patron h =
 paid_known_reach : (has : Part) (near : Key → Type 0) (p : Terms) (q : FeePaid) (date : List ℕ) (member : Option Member) → ListsAll near member → Reaches has near (fee_paid_rule_known p q date member) Any
 paid_known_reach has near p q date None h = reach_any has near _
 paid_known_reach has near p q date (Some member) h =
-    let no : Effect = unwritten (Some (payment_answer p q date false)) in
-    reach_if has near (not (same q.currency p.currency)) (Give no) (cond (q.amount == 0) (Give no) (payment_rule p q date member.patron)) Any (λ e. reach_any has near no)
-    (λ e. reach_if has near (q.amount == 0) (Give no) (payment_rule p q date member.patron) Any (λ e. reach_any has near no)
+    reach_if has near (not (same q.currency p.currency)) (Give _) _ Any (λ e. reach_any has near _)
+    (λ e. reach_if has near (q.amount == 0) (Give _) (payment_rule p q date member.patron) Any (λ e. reach_any has near _)
     (λ e. payment_reach has near p q date member.patron h.fees))
 
 fee_paid_reach : (has : Part) (near : Key → Type 0) → IsClosed has near → (p : Terms) (q : FeePaid) (date : List ℕ) → near (keys.Patron q.patron) → Reaches has near (fee_paid_rule p q date) Any

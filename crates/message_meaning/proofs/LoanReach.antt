@@ -1,6 +1,6 @@
 -- Which keys checkin, checkout, renewal and renewal of all items want.
-use Rattle.std.proofs.Common.{◌≡◌, inl, inr, ℕ, ◌+◌, Bool, true, false, cond, not, List, [], ◌∷◌, ◌++◌, length, Option, Some, None, refl, ap, subst, sym, ◌∙◌}
-use Rattle.std.specs.Prelude.{◌&&◌, nat_le, nat_lt, Contains, filter, is_some}
+use Rattle.std.proofs.Common.{◌≡◌, inl, inr, ℕ, ◌+◌, Bool, true, false, cond, List, [], ◌∷◌, ◌++◌, Option, Some, None, refl, ap, subst, sym, ◌∙◌}
+use Rattle.std.specs.Prelude.{◌&&◌, nat_lt, Contains, filter, is_some}
 use Rattle.std.proofs.lemmas.List.Elements.{Contains-append_cases, Contains-append_right, Contains-push_cases}
 use Rattle.circ_policy.specs.Terms.{Terms}
 use Rattle.circ_records.specs.Records.{Entries, record_at}
@@ -11,25 +11,26 @@ use Rattle.circ_records.specs.declared.record.Loan.{Loan}
 use Rattle.circ_records.specs.declared.record.Record.{Record}
 use Rattle.circ_records.specs.declared.record.Record.TheVariants as records
 use Rattle.sip_answer.specs.Deeds.{names_item}
+use Rattle.sip_answer.specs.declared.reason.Reason.TheVariants as reasons
 use Rattle.sip_reader.specs.Texts.{fee_id}
 use Rattle.sip_reader.specs.declared.request.Checkin.{Checkin}
 use Rattle.sip_reader.specs.declared.request.Checkout.{Checkout}
 use Rattle.sip_reader.specs.declared.request.Renew.{Renew}
 use Rattle.sip_reader.specs.declared.request.RenewAll.{RenewAll}
-use Rattle.read_set.specs.Checkouts.{lending_tests, other_at, lending_of, lending_rule_by, lending_rule, checkout_rule_known, checkout_rule_for, lending_made}
-use Rattle.read_set.specs.Renewals.{renewal_tests, renewal_rule, renew_rule_known, renew_rule, may_renew, renewals_of, renewed, renewal_by}
+use Rattle.read_set.specs.Checkouts.{early_lending, lending_tests, other_at, lending_of, lending_rule_by, lending_rule, checkout_rule_known, checkout_rule_for, lending_made}
+use Rattle.read_set.specs.Renewals.{early_renewal, renewal_tests, renewal_rule, renew_rule_known, renew_rule, may_renew, renewed, renewal_by}
 use Rattle.read_set.specs.Lookups.{patron_at, item_at, borrower_at, ask_after}
 use Rattle.read_set.specs.Owing.{owed_from, owed_at, owing_tests}
 use Rattle.read_set.specs.RenewAlls.{turn_rule_known, turn_rule, turns_rule, renew_all_rule_known, renew_all_rule, by_renew_all, turns_of, one_left, turn_by, none_renewed, all_renewed}
 use Rattle.read_set.specs.Checkins.{checkin_rule, checked_in, loan_of}
-use Rattle.read_set.specs.Asks.{Give, ◌>>=◌}
+use Rattle.read_set.specs.Asks.{Asks, Give, ◌>>=◌}
 use Rattle.read_set.specs.Effects.{written}
 use Rattle.read_set.specs.Fees.{rest_of, owing_verdict}
 use Rattle.read_set.specs.Ids.{same}
 use Rattle.read_set.specs.Known.{as_article, as_fee}
-use Rattle.read_set.specs.Loans.{by_renew, charge_for, is_lent, lent_to, refused, due_for}
+use Rattle.read_set.specs.Loans.{by_renew, charge_for, refused, due_for}
 use Rattle.read_set.specs.Maps.{Part}
-use Rattle.read_set.specs.Queues.{has_queue, first_is_another}
+use Rattle.read_set.specs.Tests.{decided_or, first_of}
 use Rattle.read_set.specs.declared.known.Article.{Article}
 use Rattle.read_set.specs.declared.known.Member.{Member}
 use Rattle.read_set.specs.declared.progress.Renewals.{Renewals}
@@ -89,17 +90,15 @@ owing_reach has near w agreed member article h =
 
 -- CHECKOUT AND RENEWAL
 
+decided_reach : (has : Part) (near : Key → Type 0) (verdict : Option Verdict) (after : Asks Verdict) → Reaches has near after Any → Reaches has near (decided_or verdict after) Any
+decided_reach has near (Some verdict) after h = reach_any has near verdict
+decided_reach has near None after h = h
+
 lending_tests_reach : (has : Part) (near : Key → Type 0) (a : LoanRequest) (member : Member) (article : Article) → Lists near member.patron
     → Reaches has near (lending_tests a member article) Any
 unfolding lending_tests
 lending_tests_reach has near a member article h =
-    reach_if has near a.forced (Give verdicts.Made) _ Any (λ e. reach_any has near verdicts.Made)
-    (λ e. reach_if has near (lent_to a.patron article.item.loan) (Give verdicts.Refused) _ Any (λ e. reach_any has near verdicts.Refused)
-    (λ e. reach_if has near (is_lent article.item.loan) (Give verdicts.Refused) _ Any (λ e. reach_any has near verdicts.Refused)
-    (λ e. reach_if has near (first_is_another a.patron article.item.holds) (Give verdicts.Refused) _ Any (λ e. reach_any has near verdicts.Refused)
-    (λ e. reach_if has near member.patron.blocked (Give verdicts.Refused) _ Any (λ e. reach_any has near verdicts.Refused)
-    (λ e. reach_if has near (nat_le member.class.max_loans (length member.patron.loans)) (Give verdicts.Refused) (owing_tests [] a.agreed member article) Any (λ e. reach_any has near verdicts.Refused)
-    (λ e. owing_reach has near [] a.agreed member article (λ id c u. h.fees id c)))))))
+    decided_reach has near (first_of (early_lending a member article)) (owing_tests [] a.agreed member article) (owing_reach has near [] a.agreed member article (λ id c u. h.fees id c))
 
 other_reach : (has : Part) (near : Key → Type 0) → IsClosed has near → (p : Terms) (patron : List ℕ) (loan : Option Loan) → Lent near loan
     → Reaches has near (other_at p patron loan) (ListsAll near)
@@ -118,8 +117,7 @@ lending_of_reach has near closed p n a date member article h =
 
 lending_by_reach : (has : Part) (near : Key → Type 0) → IsClosed has near → (p : Terms) (n : ℕ) (a : LoanRequest) (date : List ℕ) (member : Member) (article : Article) (v : Verdict) → Lent near article.item.loan
     → Reaches has near (lending_rule_by p n a date member article v) Any
-lending_by_reach has near closed p n a date member article verdicts.Refused h = reach_any has near (refused p a date (Some article) 0)
-lending_by_reach has near closed p n a date member article verdicts.Unpaid h = reach_any has near (refused p a date (Some article) article.media.rental)
+lending_by_reach has near closed p n a date member article (verdicts.Refused why) h = reach_any has near (refused p a date (Some article) why)
 lending_by_reach has near closed p n a date member article verdicts.Made h = lending_of_reach has near closed p n a date member article h
 
 lending_reach : (has : Part) (near : Key → Type 0) → IsClosed has near → (p : Terms) (n : ℕ) (a : LoanRequest) (date : List ℕ) (member : Member) (article : Article) → Lists near member.patron → Lent near article.item.loan
@@ -134,12 +132,7 @@ renewal_tests_reach : (has : Part) (near : Key → Type 0) (w : Entries) (a : Lo
     → Reaches has near (renewal_tests w a member article) Any
 unfolding renewal_tests
 renewal_tests_reach has near w a member article h =
-    reach_if has near (not (may_renew a article.item.loan)) (Give verdicts.Refused) _ Any (λ e. reach_any has near verdicts.Refused)
-    (λ e. reach_if has near a.forced (Give verdicts.Made) _ Any (λ e. reach_any has near verdicts.Made)
-    (λ e. reach_if has near member.patron.blocked (Give verdicts.Refused) _ Any (λ e. reach_any has near verdicts.Refused)
-    (λ e. reach_if has near (has_queue article.item.holds) (Give verdicts.Refused) _ Any (λ e. reach_any has near verdicts.Refused)
-    (λ e. reach_if has near (nat_le member.class.max_renewals (renewals_of article.item.loan)) (Give verdicts.Refused) (owing_tests w a.agreed member article) Any (λ e. reach_any has near verdicts.Refused)
-    (λ e. owing_reach has near w a.agreed member article h)))))
+    decided_reach has near (first_of (early_renewal a member article)) (owing_tests w a.agreed member article) (owing_reach has near w a.agreed member article h)
 
 renewal_reach : (has : Part) (near : Key → Type 0) (p : Terms) (n : ℕ) (a : LoanRequest) (date : List ℕ) (member : Member) (article : Article) → Lists near member.patron
     → Reaches has near (renewal_rule p n a date member article) Any
@@ -151,8 +144,8 @@ renewal_reach has near p n a date member article h =
 
 renew_known_reach : (has : Part) (near : Key → Type 0) (p : Terms) (n : ℕ) (a : LoanRequest) (date : List ℕ) (member : Option Member) (article : Option Article) → ListsAll near member
     → Reaches has near (renew_rule_known p n a date member article) Any
-renew_known_reach has near p n a date None article h = reach_any has near (refused p a date article 0)
-renew_known_reach has near p n a date (Some member) None h = reach_any has near (refused p a date None 0)
+renew_known_reach has near p n a date None article h = reach_any has near (refused p a date article reasons.UnknownPatron)
+renew_known_reach has near p n a date (Some member) None h = reach_any has near (refused p a date None reasons.UnknownItem)
 renew_known_reach has near p n a date (Some member) (Some article) h = renewal_reach has near p n a date member article h
 
 pub renew_reach : (has : Part) (near : Key → Type 0) → IsClosed has near → (p : Terms) (n : ℕ) (q : Renew) (date : List ℕ) → near (keys.Patron q.patron) → near (keys.Item q.item)
@@ -165,8 +158,8 @@ renew_reach has near closed p n q date a b =
 
 checkout_known_reach : (has : Part) (near : Key → Type 0) → IsClosed has near → (p : Terms) (n : ℕ) (renewal : Bool) (a : LoanRequest) (date : List ℕ) (member : Option Member) (article : Option Article) → ListsAll near member → LentAll near article
     → Reaches has near (checkout_rule_known p n renewal a date member article) Any
-checkout_known_reach has near closed p n renewal a date None article h l = reach_any has near (refused p a date article 0)
-checkout_known_reach has near closed p n renewal a date (Some member) None h l = reach_any has near (refused p a date None 0)
+checkout_known_reach has near closed p n renewal a date None article h l = reach_any has near (refused p a date article reasons.UnknownPatron)
+checkout_known_reach has near closed p n renewal a date (Some member) None h l = reach_any has near (refused p a date None reasons.UnknownItem)
 checkout_known_reach has near closed p n renewal a date (Some member) (Some article) h l =
     reach_if has near (renewal && may_renew a article.item.loan) (renewal_rule p n a date member article) (lending_rule p n a date member article) Any
     (λ e. renewal_reach has near p n a date member article h)
@@ -205,15 +198,14 @@ made_by near true w item id fee fees h j c u =
 
 held_by : (near : Key → Type 0) (p : Terms) (n : ℕ) (a : LoanRequest) (date : List ℕ) (article : Article) (done : Renewals) (v : Verdict) → Held near done → Held near (turn_by p n a date article done v)
 unfolding turn_by
-held_by near p n a date article done verdicts.Refused h = h
-held_by near p n a date article done verdicts.Unpaid h = h
+held_by near p n a date article done (verdicts.Refused why) h = h
 held_by near p n a date article done verdicts.Made h =
     made_by near (nat_lt 0 (charge_for a article.media)) done.writes (keys.Item a.item, records.Item (renewed (due_for p a date article.media) article.item)) (fee_id n done.made)
     (records.Fee (record { patron = a.patron; kind = fee_types.Rental; amount = charge_for a article.media; paid = 0 })) done.member.patron.fees h
 
 turn_known_reach : (has : Part) (near : Key → Type 0) (p : Terms) (n : ℕ) (a : LoanRequest) (date : List ℕ) (done : Renewals) (article : Option Article) → Held near done
     → Reaches has near (turn_rule_known p n a date done article) (Held near)
-turn_known_reach has near p n a date done None h = reach_give has near (one_left a.item done) (Held near) h
+turn_known_reach has near p n a date done None h = reach_give has near (one_left a.item reasons.UnknownItem done) (Held near) h
 turn_known_reach has near p n a date done (Some article) h =
     reach_then has near (renewal_tests done.writes a done.member article) (λ v. Give (turn_by p n a date article done v)) Any (Held near)
     (renewal_tests_reach has near done.writes a done.member article h)

@@ -24,6 +24,8 @@ use Rattle.read_set.specs.Ids as ids
 use Rattle.read_set.specs.Known.{as_fee, fee_in}
 use Rattle.read_set.specs.Lookups.{patron_at}
 use Rattle.read_set.specs.Maps.{Map, put}
+use Rattle.sip_answer.specs.declared.reason.Reason.{Reason}
+use Rattle.sip_answer.specs.declared.reason.Reason.TheVariants as reasons
 use Rattle.read_set.specs.Payments.{all_paid, fee_paid_rule, fee_paid_rule_known, meant, only_known, part_of, pay_one, payment_answer, payment_rule}
 use Rattle.read_set.specs.declared.effect.Effect.{Effect}
 use Rattle.read_set.specs.declared.known.Member.{Member}
@@ -509,11 +511,11 @@ pub payments-pay : PaymentsPayWhatIsMeant
 unfolding fee_paid_rule patron_at
 payments-pay p n q date M member h e c =
     subst (λ (o : Option Member). Pays M q member (over M (fee_paid_rule_known p q date o))) (sym e)
-    (subst (λ (b : Bool). Pays M q member (over M (cond (not b) (Give no) (cond (q.amount == 0) (Give no) (payment_rule p q date member.patron))))) (sym c)
+    (subst (λ (b : Bool). Pays M q member (over M (cond (not b) (Give (no reasons.Currency)) (cond (q.amount == 0) (Give (no reasons.NoAmount)) (payment_rule p q date member.patron))))) (sym c)
     (by (q.amount == 0) refl))
   where
-    no : Effect
-    no = unwritten (Some (payment_answer p q date false))
+    no : Reason → Effect
+    no why = unwritten (Some (payment_answer p q date why))
 
     there : M (keys.Patron q.patron) ≡ Some (records.Patron member.patron)
     there = member-there p M q.patron member e
@@ -521,7 +523,7 @@ payments-pay p n q date M member h e c =
     once : are_distinct member.patron.fees ≡ true
     once = (h.patrons q.patron member.patron (ap coherent.as_patron there)).fees_once
 
-    by : (b : Bool) → (q.amount == 0) ≡ b → Pays M q member (over M (cond b (Give no) (payment_rule p q date member.patron)))
+    by : (b : Bool) → (q.amount == 0) ≡ b → Pays M q member (over M (cond b (Give (no reasons.NoAmount)) (payment_rule p q date member.patron)))
     by true z = unpaid M q.amount q.patron (meant M q.fee member.patron.fees) (eqb-true q.amount 0 z) (within-at p n M h)
     by false z =
         subst (Pays M q member) (sym (paid-over M p q date member.patron))

@@ -10,7 +10,7 @@ use circ_policy::Policy;
 use circ_records::{Key, Patron, Record};
 use loan_meaning::{owed_of, patron_of};
 use read_set::{Draft, Effect, Member, Source, Stop, Writes};
-use sip_answer::{Answer, KnownPatron, Owed, PatronAnswer, PatronStatus};
+use sip_answer::{Answer, KnownPatron, Owed, PatronAnswer, PatronStatus, Reason};
 use sip_reader::{Id, Stamp};
 use std::alloc::{AllocError, Global};
 
@@ -56,8 +56,9 @@ fn answer(
     asked: &BlockAsked<'_>,
     status: PatronStatus,
     known: Option<KnownPatron>,
+    reason: Reason,
 ) -> Result<Answer, AllocError>
-    ensures { IfOk result (λ a. a ≡ block_answer asked.now.blocks (patron_answer asked.now.policy.now asked.now.id.now asked.now.date status known)) }
+    ensures { IfOk result (λ a. a ≡ block_answer asked.now.blocks (patron_answer asked.now.policy.now asked.now.id.now asked.now.date status known reason)) }
 {
     let answer = PatronAnswer {
         date: asked.date,
@@ -66,6 +67,7 @@ fn answer(
         status,
         currency: asked.policy.currency(),
         known,
+        reason,
     };
     if asked.blocks {
         Ok(Answer::BlockPatron(answer))
@@ -96,7 +98,7 @@ fn block_member(asked: &BlockAsked<'_>, member: Member, owes: u128) -> Result<Ef
     let writes = Writes::one(asked.alloc, Key::Patron(asked.id.clone()?), written)?;
     Ok(Effect {
         writes,
-        answer: Some(answer(asked, status, Some(known))?),
+        answer: Some(answer(asked, status, Some(known), Reason::Done)?),
     })
 }
 
@@ -130,7 +132,7 @@ fn block_any<S: Source>(
     match member {
         Some(member) => block_known(asked, member, source),
         None => {
-            let answer = answer(asked, unknown_status(), None)?;
+            let answer = answer(asked, unknown_status(), None, Reason::UnknownPatron)?;
             Ok(Effect::unwritten(asked.alloc, Some(answer)))
         }
     }

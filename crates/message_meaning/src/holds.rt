@@ -1,7 +1,7 @@
 //! Holds (message 15).
 
 ghost use Rattle.std.specs.Prelude.{◌≡◌, ◌++◌, ◌∷◌, [], IfOk, option_map};
-ghost use Rattle.read_set.specs.Holds.{hold_rule, refuses_hold, queue_after, hold_position, is_available, hold_answer, hold_kept, hold_known, held, hold};
+ghost use Rattle.read_set.specs.Holds.{hold_done, hold_refusal, hold_rule, queue_after, hold_position, is_available, hold_answer, hold_kept, hold_known, held, hold};
 ghost use Rattle.read_set.specs.Asks.{follow, Gains};
 ghost use Rattle.read_set.specs.Maps.{Map, Agrees};
 ghost use Rattle.read_set.specs.Stops.{Follows};
@@ -13,7 +13,7 @@ use loan_meaning::{
     waits, with_pickup, without_hold,
 };
 use read_set::{Article, Effect, Member, Source, Stop, Writes};
-use sip_answer::{Answer, HoldAnswer, QueuePosition};
+use sip_answer::{Answer, HoldAnswer, QueuePosition, Reason};
 use sip_reader::{HoldMode, HoldRequest, Id, Stamp, Text};
 use std::alloc::{AllocError, Global};
 
@@ -29,30 +29,43 @@ struct HoldAsked<'p> {
     date: Stamp,
 }
 
-#[tactic(auto, unfolding(read_set::specs::Holds::refuses_hold))]
-fn is_refused(mode: HoldMode, patron: &Id, blocked: bool, item: &Item) -> bool
-    ensures { result ≡ refuses_hold mode patron.now blocked item.now }
+/// Why a hold is refused, where it is; `blocked` says whether a block counts.
+#[tactic(auto, unfolding(read_set::specs::Holds::hold_refusal))]
+pub fn hold_refusal(mode: HoldMode, patron: &Id, blocked: bool, item: &Item) -> Option<Reason>
+    ensures { result ≡ hold_refusal mode patron.now blocked item.now }
 {
     match mode {
-        HoldMode::Add => is_refused_place(patron, blocked, item),
-        HoldMode::Delete | HoldMode::Change => !waits(item.holds.as_slice(), patron),
+        HoldMode::Add => add_refusal(patron, blocked, item),
+        HoldMode::Delete | HoldMode::Change => {
+            (!waits(item.holds.as_slice(), patron)).then_some(Reason::NoEntry)
+        }
     }
 }
 
-#[tactic(auto, unfolding(read_set::specs::Holds::refuses_hold))]
-fn is_refused_place(patron: &Id, blocked: bool, item: &Item) -> bool
-    ensures { result ≡ refuses_hold HoldMode.Add patron.now blocked item.now }
+#[tactic(auto, unfolding(read_set::specs::Holds::hold_refusal))]
+fn add_refusal(patron: &Id, blocked: bool, item: &Item) -> Option<Reason>
+    ensures { result ≡ hold_refusal HoldMode.Add patron.now blocked item.now }
 {
     if blocked {
-        return true;
+        return Some(Reason::Blocked);
     }
     if waits(item.holds.as_slice(), patron) {
-        return true;
+        return Some(Reason::HasEntry);
     }
     if has_lent_to(patron, &item.loan) {
-        return true;
+        return Some(Reason::OwnLoan);
     }
-    QUEUE_MAX <= item.holds.len()
+    (QUEUE_MAX <= item.holds.len()).then_some(Reason::QueueFull)
+}
+
+fn hold_done(mode: HoldMode) -> Reason
+    ensures { result ≡ hold_done mode }
+{
+    match mode {
+        HoldMode::Add => Reason::Added,
+        HoldMode::Delete => Reason::Deleted,
+        HoldMode::Change => Reason::Changed,
+    }
 }
 
 fn with_hold(alloc: Global, holds: &Holds, patron: &Id, pickup: &Text) -> Result<Holds, AllocError>
@@ -110,18 +123,19 @@ fn is_available_to(request: &HoldRequest, item: &Item, holds: &Holds) -> bool
 fn tell(
     asked: &HoldAsked<'_>,
     title: Option<Text>,
-    ok: bool,
+    reason: Reason,
     available: bool,
     position: Option<QueuePosition>,
 ) -> Result<Answer, AllocError>
-    ensures { IfOk result (λ a. a ≡ hold_answer asked.now.policy.now asked.now.request.now asked.now.date title ok available position) }
+    ensures { IfOk result (λ a. a ≡ hold_answer asked.now.policy.now asked.now.request.now asked.now.date title reason available position) }
 {
     Ok(Answer::Hold(HoldAnswer {
         date: asked.date,
         institution: asked.policy.institution().clone()?,
         patron: asked.request.patron.clone()?,
         item: asked.request.item.clone()?,
-        ok,
+        ok: reason.grants(),
+        reason,
         available,
         position,
         title,
@@ -136,7 +150,8 @@ fn with_queue(asked: &HoldAsked<'_>, item: Shared<Item>, holds: Holds) -> Result
     let available = is_available_to(asked.request, item.get(), &holds);
     let position = position_in(asked.request, &holds)?;
     let title = item.get().title.clone()?;
-    let answer = tell(asked, Some(title), true, available, position)?;
+    let reason = hold_done(asked.request.mode);
+    let answer = tell(asked, Some(title), reason, available, position)?;
     let mut item = Item::of(alloc, item)?;
     item.holds = holds;
     let written = Record::item(alloc, item)?;
@@ -151,9 +166,9 @@ fn hold_item(asked: &HoldAsked<'_>, blocked: bool, item: Shared<Item>) -> Result
     ensures { IfOk result (λ e. e ≡ hold_known asked.now.policy.now asked.now.request.now asked.now.date blocked item) }
 {
     let request = asked.request;
-    if is_refused(request.mode, &request.patron, blocked, item.get()) {
+    if let Some(why) = hold_refusal(request.mode, &request.patron, blocked, item.get()) {
         let title = item.get().title.clone()?;
-        let answer = tell(asked, Some(title), false, false, None)?;
+        let answer = tell(asked, Some(title), why, false, None)?;
         return Ok(Effect::unwritten(asked.alloc, Some(answer)));
     }
     let holds = change_queue(asked.alloc, request, &item.get().holds)?;
@@ -179,11 +194,11 @@ fn hold_both(
 {
     let Some(member) = member else {
         let title = title_of(article)?;
-        let answer = tell(asked, title, false, false, None)?;
+        let answer = tell(asked, title, Reason::UnknownPatron, false, None)?;
         return Ok(Effect::unwritten(asked.alloc, Some(answer)));
     };
     let Some(article) = article else {
-        let answer = tell(asked, None, false, false, None)?;
+        let answer = tell(asked, None, Reason::UnknownItem, false, None)?;
         return Ok(Effect::unwritten(asked.alloc, Some(answer)));
     };
     let item = article.into_item();

@@ -8,7 +8,7 @@ use circ_policy::Policy;
 use circ_records::{Item, Key, Record};
 use loan_meaning::item_of;
 use read_set::{Article, Effect, Source, Stop, Writes};
-use sip_answer::{Answer, ItemStatusAnswer, TitledItem};
+use sip_answer::{Answer, ItemStatusAnswer, Reason, TitledItem};
 use sip_reader::{ItemStatus, Stamp};
 use std::alloc::{AllocError, Global};
 
@@ -40,12 +40,12 @@ fn update_found(
     ensures { IfOk result (λ e. e ≡ updated request.now date found) }
 {
     let Some(article) = found else {
-        let answer = answer(request, date, None)?;
+        let answer = answer(request, date, None, Reason::UnknownItem)?;
         return Ok(Effect::unwritten(alloc, Some(answer)));
     };
     let Some(given) = &request.properties else {
         let known = show(article.item.get())?;
-        let answer = answer(request, date, known)?;
+        let answer = answer(request, date, known, Reason::Done)?;
         return Ok(Effect::unwritten(alloc, Some(answer)));
     };
     let mut item = Item::of(alloc, article.into_item())?;
@@ -55,7 +55,7 @@ fn update_found(
     let writes = Writes::one(alloc, Key::Item(request.item.clone()?), written)?;
     Ok(Effect {
         writes,
-        answer: Some(answer(request, date, known)?),
+        answer: Some(answer(request, date, known, Reason::Done)?),
     })
 }
 
@@ -72,12 +72,14 @@ fn answer(
     request: &ItemStatus,
     date: Stamp,
     known: Option<TitledItem>,
+    reason: Reason,
 ) -> Result<Answer, AllocError>
-    ensures { IfOk result (λ a. a ≡ status_answer request.now date known) }
+    ensures { IfOk result (λ a. a ≡ status_answer request.now date known reason) }
 {
     Ok(Answer::ItemStatus(ItemStatusAnswer {
         date,
         item: request.item.clone()?,
         known,
+        reason,
     }))
 }

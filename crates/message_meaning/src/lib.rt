@@ -11,6 +11,7 @@ mod needs;
 mod payments;
 mod told;
 
+pub use holds::hold_refusal;
 pub use laws::payments_pay_what_is_meant;
 pub use lines::perform;
 pub use needs::need;

@@ -1,7 +1,7 @@
 //! Payments (message 37).
 
 ghost use Rattle.std.specs.Prelude.{◌≡◌, ◌≤◌, ◌<◌, ◌-◌, ◌+◌, [], not, IfOk, Some, true, false};
-ghost use Rattle.read_set.specs.Payments.{pay_rule_each, named, meant_at, payment_rule, fee_paid_rule_known, fee_paid_rule, part_of, part_paid, pay_one, only_known, payment_answer, all_paid, fee_paid};
+ghost use Rattle.read_set.specs.Payments.{pay_rule_each, named, meant_at, payment_rule, fee_paid_rule_known, fee_paid_rule, paid_reason, part_of, part_paid, pay_one, only_known, payment_answer, all_paid, fee_paid};
 ghost use Rattle.read_set.specs.Asks.{follow, Gains};
 ghost use Rattle.read_set.specs.Effects.{unwritten};
 ghost use Rattle.read_set.specs.Ids.{same, is_any, without_all};
@@ -12,7 +12,7 @@ use circ_policy::Policy;
 use circ_records::{Fee, Ids, Key, Patron, Record, Shared};
 use loan_meaning::{fee_of, has_id, patron_of, read_after, without_all};
 use read_set::{Draft, Effect, Member, Payments, Source, Stop, known_fee};
-use sip_answer::{Answer, FeePaidAnswer};
+use sip_answer::{Answer, FeePaidAnswer, Reason};
 use sip_reader::{Amount, FeePaid, Id, Stamp};
 use std::alloc::{AllocError, Global};
 
@@ -168,15 +168,16 @@ fn tell(
     policy: &Policy,
     request: &FeePaid,
     date: Stamp,
-    accepted: bool,
+    reason: Reason,
 ) -> Result<Answer, AllocError>
-    ensures { IfOk result (λ a. a ≡ payment_answer policy.now request.now date accepted) }
+    ensures { IfOk result (λ a. a ≡ payment_answer policy.now request.now date reason) }
 {
     Ok(Answer::FeePaid(FeePaidAnswer {
         date,
         institution: policy.institution().clone()?,
         patron: request.patron.clone()?,
-        accepted,
+        accepted: reason.grants(),
+        reason,
     }))
 }
 
@@ -185,10 +186,11 @@ fn refuse(
     policy: &Policy,
     request: &FeePaid,
     date: Stamp,
+    reason: Reason,
 ) -> Result<Effect, AllocError>
-    ensures { IfOk result (λ e. e ≡ unwritten (Some (payment_answer policy.now request.now date false))) }
+    ensures { IfOk result (λ e. e ≡ unwritten (Some (payment_answer policy.now request.now date reason))) }
 {
-    let answer = tell(policy, request, date, false)?;
+    let answer = tell(policy, request, date, reason)?;
     Ok(Effect::unwritten(alloc, Some(answer)))
 }
 
@@ -206,6 +208,17 @@ fn is_some_id(ids: &[Id]) -> bool
     !ids.is_empty()
 }
 
+/// Whether any of the money was taken, by what is left of it.
+fn reason_of_payment(request: &FeePaid, left: u64) -> Reason
+    ensures { result ≡ paid_reason request.now left }
+{
+    if left == request.amount.hundredths() {
+        Reason::NothingOwed
+    } else {
+        Reason::Paid
+    }
+}
+
 #[tactic(auto, unfolding(read_set::specs::Payments::all_paid))]
 fn finish(
     alloc: Global,
@@ -217,6 +230,7 @@ fn finish(
 ) -> Result<Effect, AllocError>
     ensures { IfOk result (λ e. e ≡ all_paid policy.now request.now date member.patron done) }
 {
+    let reason = reason_of_payment(request, done.left);
     let Payments {
         left: _,
         mut writes,
@@ -229,7 +243,7 @@ fn finish(
     }
     Ok(Effect {
         writes: writes.finish(alloc)?,
-        answer: Some(tell(policy, request, date, true)?),
+        answer: Some(tell(policy, request, date, reason)?),
     })
 }
 
@@ -269,13 +283,16 @@ fn pay_known<S: Source>(
     ensures keeps { Gains S.one_by_one (S.has source.old) (S.has source.new) (fee_paid_rule_known policy.now request.now date member) }
 {
     let Some(member) = member else {
-        return Ok(refuse(alloc, policy, request, date)?);
+        let why = Reason::UnknownPatron;
+        return Ok(refuse(alloc, policy, request, date, why)?);
     };
     if is_other_currency(request.currency, policy.currency()) {
-        return Ok(refuse(alloc, policy, request, date)?);
+        let why = Reason::Currency;
+        return Ok(refuse(alloc, policy, request, date, why)?);
     }
     if request.amount.hundredths() == 0 {
-        return Ok(refuse(alloc, policy, request, date)?);
+        let why = Reason::NoAmount;
+        return Ok(refuse(alloc, policy, request, date, why)?);
     }
     pay_fees(alloc, policy, request, date, member, source)
 }

@@ -153,8 +153,7 @@ lending-keeps p n M line a date member article stamp fits e f =
     over_all M (lending_tests a member article) (λ v. lending_rule_by p n a date member article v) (λ (x : Effect). Parts p (n + 1) M (put x.writes M)) by
   where
     by : (v : Verdict) → Parts p (n + 1) M (put (over M (lending_rule_by p n a date member article v)).writes M)
-    by verdicts.Refused = nothing p (n + 1) M line.parts
-    by verdicts.Unpaid = nothing p (n + 1) M line.parts
+    by (verdicts.Refused why) = nothing p (n + 1) M line.parts
     by verdicts.Made =
         let there = article-there p M a.item article f in
         let terms : FitsMedia article.media = line.policy article.item.media article.media there.1 in

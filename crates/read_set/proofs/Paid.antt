@@ -11,6 +11,8 @@ use Rattle.circ_records.specs.declared.key.Key.TheVariants as keys
 use Rattle.circ_records.specs.declared.record.Fee.{Fee}
 use Rattle.circ_records.specs.declared.record.Patron.{Patron}
 use Rattle.circ_records.specs.declared.record.Record.TheVariants as records
+use Rattle.sip_answer.specs.Reasons.{grants}
+use Rattle.sip_answer.specs.declared.reason.Reason.TheVariants as reasons
 use Rattle.sip_reader.specs.declared.request.FeePaid.{FeePaid}
 use Rattle.read_set.specs.Asks.{over}
 use Rattle.read_set.specs.Effects.{written}
@@ -33,6 +35,11 @@ use Rattle.read_set.proofs.OneRecord.{same-loans, same-patron}
 use Rattle.read_set.proofs.Overs.{paid-over, pay_each}
 use Rattle.read_set.proofs.SimpleKinds.{nothing}
 use Rattle.read_set.proofs.States.{Parts, State, ends, fees-at, put-fee, put-patron, start}
+
+-- a payment is accepted whatever is owed
+pub paid-grants : (b : Bool) → grants (cond b reasons.NothingOwed reasons.Paid) ≡ true
+paid-grants true = refl
+paid-grants false = refl
 
 -- how far it came: only closed fees have nobody who owes them, and they were the patron's
 record Paying (p : Terms) (n : ℕ) (M : Map) (id : List ℕ) (done : Payments) : Type 0 where

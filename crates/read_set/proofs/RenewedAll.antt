@@ -24,6 +24,8 @@ use Rattle.read_set.specs.Lookups.{ask_after, patron_at}
 use Rattle.read_set.specs.Maps.{Map, put}
 use Rattle.read_set.specs.Renewals.{renewal_tests, renewed}
 use Rattle.read_set.specs.RenewAlls.{all_renewed, by_renew_all, none_renewed, one_left, one_renewed, renew_all, renew_all_rule, renew_all_rule_known, turn_by, turn_rule, turn_rule_known, turns_of, turns_rule}
+use Rattle.sip_answer.specs.declared.reason.Reason.{Reason}
+use Rattle.sip_answer.specs.declared.reason.Reason.TheVariants as reasons
 use Rattle.read_set.specs.declared.effect.Effect.{Effect}
 use Rattle.read_set.specs.declared.known.Article.{Article}
 use Rattle.read_set.specs.declared.known.Member.{Member}
@@ -95,8 +97,8 @@ fits-price forced q = by (forced && not q.agreed)
     by false = tt
 
 module _ (p : Terms) (n : ℕ) (M : Map) (line : Line p n M) (forced : Bool) (q : RenewAll) (date : List ℕ) (stamp : is_stamp date ≡ true) (member : Member) (there : M (keys.Patron q.patron) ≡ Some (records.Patron member.patron)) where
-  left : (id : List ℕ) (most : ℕ) (done : Renewals) → Turned p n M q.patron member most done → Turned p n M q.patron member (most + 1) (one_left id done)
-  left id most done t = record {
+  left : (id : List ℕ) (why : Reason) (most : ℕ) (done : Renewals) → Turned p n M q.patron member most done → Turned p n M q.patron member (most + 1) (one_left id why done)
+  left id why most done t = record {
     owners = t.owners;
     state = t.state;
     listed = t.listed;
@@ -155,11 +157,10 @@ module _ (p : Terms) (n : ℕ) (M : Map) (line : Line p n M) (forced : Bool) (q 
     where
       verdict : (article : Article) → item_in p (put done.writes M) id ≡ Some article → (v : Verdict) → Turned p n M q.patron member (most + 1) (turn_by p n (by_renew_all forced q id) date article done v)
       verdict article e verdicts.Made = made-turn id most done article t small e
-      verdict article e verdicts.Refused = left id most done t
-      verdict article e verdicts.Unpaid = left id most done t
+      verdict article e (verdicts.Refused why) = left id why most done t
 
       by : (o : Option Article) → item_in p (put done.writes M) id ≡ o → Turned p n M q.patron member (most + 1) (over M (turn_rule_known p n (by_renew_all forced q id) date done o))
-      by None e = left id most done t
+      by None e = left id reasons.UnknownItem most done t
       by (Some article) e =
           over_all M (renewal_tests done.writes (by_renew_all forced q id) done.member article) (λ v. Give (turn_by p n (by_renew_all forced q id) date article done v)) (Turned p n M q.patron member (most + 1))
           (verdict article e)

@@ -12,13 +12,16 @@ use Rattle.circ_records.specs.declared.key.Key.TheVariants as keys
 use Rattle.circ_records.specs.declared.record.Item.{Item}
 use Rattle.circ_records.specs.declared.record.Loan.{Loan}
 use Rattle.circ_records.specs.declared.record.Record.TheVariants as records
+use Rattle.sip_answer.specs.Reasons.{grants}
+use Rattle.sip_answer.specs.declared.reason.Reason.{Reason}
+use Rattle.sip_answer.specs.declared.reason.Reason.TheVariants as reasons
 use Rattle.sip_reader.specs.Texts.{is_text}
 use Rattle.sip_reader.specs.declared.request.HoldMode.{HoldMode}
 use Rattle.sip_reader.specs.declared.request.HoldMode.TheVariants as modes
 use Rattle.sip_reader.specs.declared.request.HoldRequest.{HoldRequest}
 use Rattle.sip_reader.specs.declared.request.ItemStatus.{ItemStatus}
 use Rattle.read_set.specs.Asks.{Give, over}
-use Rattle.read_set.specs.Holds.{held, hold, hold_kept, hold_rule, queue_after, refuses_hold}
+use Rattle.read_set.specs.Holds.{held, hold, hold_by, hold_done, hold_kept, hold_refusal, hold_rule, queue_after}
 use Rattle.read_set.specs.ItemStatuses.{item_status, item_status_rule, relabelled, updated}
 use Rattle.read_set.specs.Known.{item_in, patron_in}
 use Rattle.read_set.specs.Loans.{lent_to}
@@ -27,6 +30,7 @@ use Rattle.read_set.specs.Maps.{Map, put}
 use Rattle.read_set.specs.Blocks.{block, block_rule, block_rule_known, blocked_by}
 use Rattle.read_set.specs.Owing.{owed_at}
 use Rattle.read_set.specs.Queues.{waits, with_pickup, without_hold}
+use Rattle.read_set.specs.Tests.{first_of}
 use Rattle.read_set.specs.declared.effect.Effect.{Effect}
 use Rattle.read_set.specs.declared.known.Article.{Article}
 use Rattle.read_set.specs.declared.known.Member.{Member}
@@ -104,11 +108,13 @@ queued p M id i holds h apart all once few = record {
   few = few;
 }
 
-refusals : (a b c d : Bool) → cond a true (cond b true (cond c true d)) ≡ false → (b ≡ false) × (c ≡ false) × (d ≡ false)
-refusals true b c d e = cc e
-refusals false true c d e = cc e
-refusals false false true d e = cc e
-refusals false false false d e = (refl, refl, e)
+-- none of four tests holds
+refusals : {A : Type 0} (x y z w : A) (a b c d : Bool) → first_of ((x, a) ∷ (y, b) ∷ (z, c) ∷ (w, d) ∷ []) ≡ None → (b ≡ false) × (c ≡ false) × (d ≡ false)
+refusals x y z w true b c d e = cc e
+refusals x y z w false true c d e = cc e
+refusals x y z w false false true d e = cc e
+refusals x y z w false false false true e = cc e
+refusals x y z w false false false false e = (refl, refl, refl)
 
 added : (p : Terms) (M : Map) (q : HoldRequest) (i : Item) (h : Hold) → h.patron ≡ q.patron → IsCoherentItem p M q.item i → is_known M q.patron ≡ true → is_text h.pickup ≡ true
     → waits q.patron i.holds ≡ false → lent_to q.patron i.loan ≡ false → nat_le QUEUE_MAX (length i.holds) ≡ false → IsCoherentItem p M q.item (record i { holds = i.holds ++ h ∷ [] })
@@ -121,10 +127,10 @@ added p M q i h own right known text free home few =
     (let less : length i.holds < QUEUE_MAX = leb-false QUEUE_MAX (length i.holds) few in let more : length (i.holds ++ h ∷ []) ≡ length i.holds + 1 = longer i.holds h in omega arith)
 
 queue-right : (p : Terms) (M : Map) (q : HoldRequest) (i : Item) (mode : HoldMode) (blocked : Bool) → IsCoherentItem p M q.item i → is_known M q.patron ≡ true → is_text q.pickup ≡ true
-    → refuses_hold mode q.patron blocked i ≡ false → IsCoherentItem p M q.item (record i { holds = queue_after q i.holds mode })
-unfolding refuses_hold queue_after
+    → hold_refusal mode q.patron blocked i ≡ None → IsCoherentItem p M q.item (record i { holds = queue_after q i.holds mode })
+unfolding hold_refusal queue_after
 queue-right p M q i modes.Add blocked right known text made =
-    let f = refusals blocked (waits q.patron i.holds) (lent_to q.patron i.loan) (nat_le QUEUE_MAX (length i.holds)) made in
+    let f = refusals reasons.Blocked reasons.HasEntry reasons.OwnLoan reasons.QueueFull blocked (waits q.patron i.holds) (lent_to q.patron i.loan) (nat_le QUEUE_MAX (length i.holds)) made in
     added p M q i (record { patron = q.patron; pickup = q.pickup }) refl right known text f.0 f.1 f.2
 queue-right p M q i modes.Delete blocked right known text made =
     queued p M q.item i (without_hold q.patron i.holds) right
@@ -139,16 +145,16 @@ queue-right p M q i modes.Change blocked right known text made =
     (ap are_distinct (patrons-pickup q.patron q.pickup i.holds) ∙ right.holds_once)
     (let few : length i.holds ≤ QUEUE_MAX = right.few in let same : length (with_pickup q.patron q.pickup i.holds) ≡ length i.holds = length-pickup q.patron q.pickup i.holds in omega arith)
 
--- either of two effects, by a test
-pub either-keeps : (p : Terms) (n : ℕ) (M : Map) (b : Bool) (x y : Effect) → (b ≡ true → Parts p n M (put x.writes M)) → (b ≡ false → Parts p n M (put y.writes M)) → Parts p n M (put (cond b x y).writes M)
-either-keeps p n M true x y h k = h refl
-either-keeps p n M false x y h k = k refl
+pub done-grants : (mode : HoldMode) → grants (hold_done mode) ≡ true
+done-grants modes.Add = refl
+done-grants modes.Delete = refl
+done-grants modes.Change = refl
 
 pub hold-keeps : (p : Terms) (n : ℕ) (forced : Bool) (q : HoldRequest) (date : List ℕ) (M : Map) → Parts p n M M → is_text q.pickup ≡ true → Parts p n M (put (hold p forced q date M).writes M)
 unfolding held hold_kept hold_rule patron_at item_at
 hold-keeps p n forced q date M h text = by (patron_in p M q.patron) refl (item_in p M q.item) refl
   where
-    kept : (member : Member) (article : Article) → patron_in p M q.patron ≡ Some member → item_in p M q.item ≡ Some article → refuses_hold q.mode q.patron (not forced && member.patron.blocked) article.item ≡ false
+    kept : (member : Member) (article : Article) → patron_in p M q.patron ≡ Some member → item_in p M q.item ≡ Some article → hold_refusal q.mode q.patron (not forced && member.patron.blocked) article.item ≡ None
         → Parts p n M (put (hold_kept p q date article.item (queue_after q article.item.holds q.mode)).writes M)
     kept member article e f made =
         let there = (article-there p M q.item article f).0 in
@@ -158,10 +164,13 @@ hold-keeps p n forced q date M h text = by (patron_in p M q.patron) refl (item_i
         (queue-right p M q article.item q.mode (not forced && member.patron.blocked) (h.sound.at (keys.Item q.item) (records.Item article.item) there)
         (member-known M q.patron member.patron (member-there p M q.patron member e)) text made) refl)
 
+    ends : (member : Member) (article : Article) → patron_in p M q.patron ≡ Some member → item_in p M q.item ≡ Some article → (why : Option Reason)
+        → hold_refusal q.mode q.patron (not forced && member.patron.blocked) article.item ≡ why → Parts p n M (put (hold_by p q date article.item why).writes M)
+    ends member article e f (Some why) made = nothing p n M h
+    ends member article e f None made = kept member article e f made
+
     by : (o : Option Member) → patron_in p M q.patron ≡ o → (a : Option Article) → item_in p M q.item ≡ a → Parts p n M (put (held p forced q date o a).writes M)
     by None e None f = nothing p n M h
     by None e (Some article) f = nothing p n M h
     by (Some member) e None f = nothing p n M h
-    by (Some member) e (Some article) f =
-        either-keeps p n M (refuses_hold q.mode q.patron (not forced && member.patron.blocked) article.item) _ (hold_kept p q date article.item (queue_after q article.item.holds q.mode))
-        (λ r. nothing p n M h) (kept member article e f)
+    by (Some member) e (Some article) f = ends member article e f (hold_refusal q.mode q.patron (not forced && member.patron.blocked) article.item) refl

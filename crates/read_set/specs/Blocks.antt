@@ -8,6 +8,8 @@ use Rattle.sip_answer.specs.declared.answer.Answer.TheVariants as answers
 use Rattle.sip_answer.specs.declared.answer.KnownPatron.{KnownPatron}
 use Rattle.sip_answer.specs.declared.answer.PatronAnswer.{PatronAnswer}
 use Rattle.sip_answer.specs.declared.answer.PatronStatus.{PatronStatus}
+use Rattle.sip_answer.specs.declared.reason.Reason.{Reason}
+use Rattle.sip_answer.specs.declared.reason.Reason.TheVariants as reasons
 use Rattle.read_set.specs.Asks.{Asks, Give, over, ◌>>=◌}
 use Rattle.read_set.specs.Effects.{unwritten, writing}
 use Rattle.read_set.specs.Lookups.{patron_at}
@@ -34,8 +36,8 @@ member_status blocked member owes = status_of blocked (nat_le member.class.max_l
 abbrev pub no_status : PatronStatus
 no_status = record { charge_denied = true; renewal_denied = true; hold_denied = true; too_many_items = false; excessive_fees = false }
 
-abbrev pub patron_answer : Terms → List ℕ → List ℕ → PatronStatus → Option KnownPatron → PatronAnswer
-patron_answer p id date status known = record { date = date; institution = p.institution; patron = id; status = status; currency = p.currency; known = known }
+abbrev pub patron_answer : Terms → List ℕ → List ℕ → PatronStatus → Option KnownPatron → Reason → PatronAnswer
+patron_answer p id date status known why = record { date = date; institution = p.institution; patron = id; status = status; currency = p.currency; known = known; reason = why }
 
 -- the answer to a block, and to an enable
 abbrev pub block_answer : Bool → PatronAnswer → Answer
@@ -47,10 +49,10 @@ block_answer false a = answers.PatronEnable a
 unfoldable pub blocked_by : Terms → Bool → List ℕ → List ℕ → Member → ℕ → Effect
 blocked_by p blocks id date member owes = writing
     ((keys.Patron id, records.Patron (record member.patron { blocked = blocks })) ∷ [])
-    (block_answer blocks (patron_answer p id date (member_status blocks member owes) (Some (record { name = member.patron.name; owed = owes }))))
+    (block_answer blocks (patron_answer p id date (member_status blocks member owes) (Some (record { name = member.patron.name; owed = owes })) reasons.Done))
 
 abbrev pub block_rule_known : Terms → Bool → List ℕ → List ℕ → Option Member → Asks Effect
-block_rule_known p blocks id date None = Give (unwritten (Some (block_answer blocks (patron_answer p id date no_status None))))
+block_rule_known p blocks id date None = Give (unwritten (Some (block_answer blocks (patron_answer p id date no_status None reasons.UnknownPatron))))
 block_rule_known p blocks id date (Some member) = do
   owes ← owed_at [] member.patron.fees
   Give (blocked_by p blocks id date member owes)

@@ -1,5 +1,5 @@
 -- Checkin (SIP 2.00, message 09), by the circulation rules: checkin. The no block flag changes nothing; a rental isn't refunded.
-use Rattle.std.specs.Prelude.{ℕ, false, List, [], ◌∷◌, ◌++◌, Option, Some, None, option_map, unwrap_or, if◌then◌else◌}
+use Rattle.std.specs.Prelude.{ℕ, false, ◌&&◌, nat_lt, is_some, List, [], ◌∷◌, ◌++◌, Option, Some, None, option_map, unwrap_or, if◌then◌else◌}
 use Rattle.std.specs.Option.{option_map_or}
 use Rattle.circ_policy.specs.Fees.{late_fee}
 use Rattle.circ_policy.specs.Terms.{Terms}
@@ -14,6 +14,8 @@ use Rattle.circ_records.specs.declared.record.Record.TheVariants as records
 use Rattle.sip_answer.specs.declared.answer.Answer.{Answer}
 use Rattle.sip_answer.specs.declared.answer.Answer.TheVariants as answers
 use Rattle.sip_answer.specs.declared.answer.ReturnedItem.{ReturnedItem}
+use Rattle.sip_answer.specs.declared.reason.Reason.{Reason}
+use Rattle.sip_answer.specs.declared.reason.Reason.TheVariants as reasons
 use Rattle.sip_reader.specs.Dates.{day_of}
 use Rattle.sip_reader.specs.declared.request.Checkin.{Checkin}
 use Rattle.read_set.specs.Asks.{Asks, Give, over, ◌>>=◌}
@@ -31,14 +33,15 @@ abbrev pub returned_item : Item → ReturnedItem
 returned_item item = record { location = item.location; title = item.title; media = item.media; properties = item.properties }
 
 -- the alert says that somebody waits for the item, also where it wasn't on loan
-abbrev pub checkin_answer : Terms → Checkin → List ℕ → Option Item → Option (List ℕ) → Answer
-checkin_answer p q date known borrower = answers.Checkin (record {
+abbrev pub checkin_answer : Terms → Checkin → List ℕ → Option Item → Option (List ℕ) → Reason → Answer
+checkin_answer p q date known borrower why = answers.Checkin (record {
   date = date;
   institution = p.institution;
   item = q.item;
   known = option_map returned_item known;
   borrower = borrower;
   alert = option_map_or (λ item. has_queue item.holds) known false;
+  reason = why;
 })
 
 -- the day back: the return date where it is a date, else the transaction date
@@ -63,16 +66,20 @@ abbrev pub returned_writes : ℕ → List ℕ → ℕ → Article → Option Mem
 returned_writes n item fee article borrower loan =
     [] ⊕ returned_by n item loan.patron fee borrower ⊕ ((keys.Item item, records.Item (record article.item { loan = None })) ∷ [])
 
+-- a borrower that counts as unknown isn't charged
+abbrev pub return_reason : Option Member → ℕ → Reason
+return_reason borrower fee = if is_some borrower && nat_lt 0 fee then reasons.ReturnedLate else reasons.Returned
+
 -- an item that isn't on loan stays as it is; else its loan ends
 abbrev pub returned : Terms → ℕ → Checkin → List ℕ → Article → Option Member → Option Loan → Effect
-returned p n q date article borrower None = unwritten (Some (checkin_answer p q date (Some article.item) None))
+returned p n q date article borrower None = unwritten (Some (checkin_answer p q date (Some article.item) None reasons.WasIn))
 returned p n q date article borrower (Some loan) = writing
     (returned_writes n q.item (lateness q date loan article.media) article borrower loan)
-    (checkin_answer p q date (Some article.item) (Some loan.patron))
+    (checkin_answer p q date (Some article.item) (Some loan.patron) (return_reason borrower (lateness q date loan article.media)))
 
 -- an unknown item is refused
 unfoldable pub checked_in : Terms → ℕ → Checkin → List ℕ → Option Article → Option Member → Effect
-checked_in p n q date None borrower = unwritten (Some (checkin_answer p q date None None))
+checked_in p n q date None borrower = unwritten (Some (checkin_answer p q date None None reasons.UnknownItem))
 checked_in p n q date (Some article) borrower = returned p n q date article borrower article.item.loan
 
 abbrev pub loan_of : Option Article → Option Loan

@@ -8,6 +8,7 @@ use Rattle.circ_records.specs.declared.record.Item.{Item}
 use Rattle.circ_records.specs.declared.record.Loan.{Loan}
 use Rattle.circ_records.specs.declared.record.Patron.{Patron}
 use Rattle.circ_records.specs.declared.record.Record.TheVariants as records
+use Rattle.sip_answer.specs.declared.reason.Reason.TheVariants as reasons
 use Rattle.sip_reader.specs.declared.request.Checkout.{Checkout}
 use Rattle.read_set.specs.Asks.{Asks, Give, over, ◌>>=◌}
 use Rattle.read_set.specs.Effects.{writing, ◌⊕◌}
@@ -19,6 +20,7 @@ use Rattle.read_set.specs.Maps.{Map}
 use Rattle.read_set.specs.Owing.{owing_tests}
 use Rattle.read_set.specs.Queues.{first_is_another, without_hold}
 use Rattle.read_set.specs.Renewals.{may_renew, renewal_rule}
+use Rattle.read_set.specs.Tests.{decided_or, first_of}
 use Rattle.read_set.specs.declared.effect.Effect.{Effect}
 use Rattle.read_set.specs.declared.known.Article.{Article}
 use Rattle.read_set.specs.declared.known.Member.{Member}
@@ -26,16 +28,20 @@ use Rattle.read_set.specs.declared.verdict.LoanRequest.{LoanRequest}
 use Rattle.read_set.specs.declared.verdict.Verdict.{Verdict}
 use Rattle.read_set.specs.declared.verdict.Verdict.TheVariants as verdicts
 
--- refused, where it isn't forced, at the first of
+-- what is decided before what is owed: made where it is forced, else refused at the first of
+unfoldable pub early_lending : LoanRequest → Member → Article → List (Verdict × Bool)
+early_lending a member article =
+    (verdicts.Made, a.forced)
+    ∷ (verdicts.Refused reasons.OwnLoan, lent_to a.patron article.item.loan)  -- on loan to the same patron
+    ∷ (verdicts.Refused reasons.Lent, is_lent article.item.loan)  -- on loan to another
+    ∷ (verdicts.Refused reasons.Queue, first_is_another a.patron article.item.holds)  -- the queue's first entry is another's
+    ∷ (verdicts.Refused reasons.Blocked, member.patron.blocked)
+    ∷ (verdicts.Refused reasons.MaxLoans, nat_le member.class.max_loans (length member.patron.loans))  -- loans at least max_loans
+    ∷ []
+
+-- then owed above max_fees; a rental
 unfoldable pub lending_tests : LoanRequest → Member → Article → Asks Verdict
-lending_tests a member article =
-    if a.forced then Give verdicts.Made
-    else if lent_to a.patron article.item.loan then Give verdicts.Refused  -- on loan to the same patron
-    else if is_lent article.item.loan then Give verdicts.Refused  -- on loan to another
-    else if first_is_another a.patron article.item.holds then Give verdicts.Refused  -- the queue's first entry is another's
-    else if member.patron.blocked then Give verdicts.Refused  -- blocked
-    else if nat_le member.class.max_loans (length member.patron.loans) then Give verdicts.Refused  -- loans at least max_loans
-    else owing_tests [] a.agreed member article  -- owed above max_fees; a rental
+lending_tests a member article = decided_or (first_of (early_lending a member article)) (owing_tests [] a.agreed member article)
 
 -- the other patron whose loan ends
 abbrev pub other_at : Terms → List ℕ → Option Loan → Asks (Option Member)
@@ -76,7 +82,7 @@ lending_writes n a due charge member article other =
 unfoldable pub lending_made : Terms → ℕ → LoanRequest → List ℕ → Member → Article → Option Member → Effect
 lending_made p n a date member article other = writing
     (lending_writes n a (due_for p a date article.media) (charge_for a article.media) member article other)
-    (loan_answer p a date (Some article.item) (Some (due_for p a date article.media)) false (charge_for a article.media))
+    (loan_answer p a date (Some article.item) (Some (due_for p a date article.media)) false (charge_for a article.media) reasons.Made)
 
 unfoldable pub lending_of : Terms → ℕ → LoanRequest → List ℕ → Member → Article → Asks Effect
 lending_of p n a date member article = do
@@ -84,8 +90,7 @@ lending_of p n a date member article = do
   Give (lending_made p n a date member article other)
 
 abbrev pub lending_rule_by : Terms → ℕ → LoanRequest → List ℕ → Member → Article → Verdict → Asks Effect
-lending_rule_by p n a date member article verdicts.Refused = Give (refused p a date (Some article) 0)
-lending_rule_by p n a date member article verdicts.Unpaid = Give (refused p a date (Some article) article.media.rental)
+lending_rule_by p n a date member article (verdicts.Refused why) = Give (refused p a date (Some article) why)
 lending_rule_by p n a date member article verdicts.Made = lending_of p n a date member article
 
 unfoldable pub lending_rule : Terms → ℕ → LoanRequest → List ℕ → Member → Article → Asks Effect
@@ -99,7 +104,8 @@ abbrev pub checkout_rule_known : Terms → ℕ → Bool → LoanRequest → List
 checkout_rule_known p n renewal a date (Some member) (Some article) =
     if renewal && may_renew a article.item.loan then renewal_rule p n a date member article
     else lending_rule p n a date member article
-checkout_rule_known p n renewal a date _ article = Give (refused p a date article 0)
+checkout_rule_known p n renewal a date (Some member) None = Give (refused p a date None reasons.UnknownItem)
+checkout_rule_known p n renewal a date None article = Give (refused p a date article reasons.UnknownPatron)
 
 -- asks for the patron, then for the item, then for the fees where they matter, then for the other patron whose loan ends
 unfoldable pub checkout_rule_for : Terms → ℕ → Bool → LoanRequest → List ℕ → Asks Effect

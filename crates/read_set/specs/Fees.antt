@@ -6,6 +6,7 @@ use Rattle.circ_records.specs.declared.key.Key.TheVariants as keys
 use Rattle.circ_records.specs.declared.record.Record.TheVariants as records
 use Rattle.circ_records.specs.declared.record.Fee.{Fee}
 use Rattle.circ_records.specs.declared.record.FeeType.{FeeType}
+use Rattle.sip_answer.specs.declared.reason.Reason.TheVariants as reasons
 use Rattle.sip_reader.specs.Texts.{fee_id}
 use Rattle.read_set.specs.Known.{fee_in}
 use Rattle.read_set.specs.Maps.{Map}
@@ -32,9 +33,9 @@ abbrev pub with_fee : ℕ → ℕ → ℕ → List (List ℕ) → List (List ℕ
 with_fee n k amount fees = if nat_lt 0 amount then fees ++ fee_id n k ∷ [] else fees
 
 -- the last tests of a loan and of a renewal: refused where the patron owes more than the class allows; then where there
--- is a rental to which the user didn't agree, and then the refusal names the rental
+-- is a rental to which the user didn't agree
 unfoldable pub owing_verdict : ℕ → Bool → Member → Article → Verdict
 owing_verdict owes agreed member article =
-    if nat_lt member.class.max_fees owes then verdicts.Refused
-    else if nat_lt 0 article.media.rental && not agreed then verdicts.Unpaid
+    if nat_lt member.class.max_fees owes then verdicts.Refused reasons.MaxFees
+    else if nat_lt 0 article.media.rental && not agreed then verdicts.Refused reasons.Rental
     else verdicts.Made

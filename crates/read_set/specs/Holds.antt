@@ -9,6 +9,9 @@ use Rattle.circ_records.specs.declared.record.Record.TheVariants as records
 use Rattle.sip_answer.specs.declared.answer.Answer.{Answer}
 use Rattle.sip_answer.specs.declared.answer.Answer.TheVariants as answers
 use Rattle.sip_answer.specs.declared.answer.QueuePosition.{QueuePosition}
+use Rattle.sip_answer.specs.Reasons.{grants}
+use Rattle.sip_answer.specs.declared.reason.Reason.{Reason}
+use Rattle.sip_answer.specs.declared.reason.Reason.TheVariants as reasons
 use Rattle.sip_reader.specs.declared.request.HoldMode.{HoldMode}
 use Rattle.sip_reader.specs.declared.request.HoldMode.TheVariants as modes
 use Rattle.sip_reader.specs.declared.request.HoldRequest.{HoldRequest}
@@ -18,20 +21,28 @@ use Rattle.read_set.specs.Loans.{is_lent, lent_to}
 use Rattle.read_set.specs.Lookups.{item_at, patron_at}
 use Rattle.read_set.specs.Maps.{Map}
 use Rattle.read_set.specs.Queues.{waits, position_from, first_is_another, has_queue, without_hold, with_pickup}
+use Rattle.read_set.specs.Tests.{first_of}
 use Rattle.read_set.specs.declared.effect.Effect.{Effect}
 use Rattle.read_set.specs.declared.known.Article.{Article}
 use Rattle.read_set.specs.declared.known.Member.{Member}
 
--- whether a hold is refused. Adding: where the patron is blocked, waits already or has the item on loan, or where 9,999
--- wait; deleting and changing: where the patron doesn't wait
-unfoldable pub refuses_hold : HoldMode → List ℕ → Bool → Item → Bool
-refuses_hold modes.Add patron blocked item =
-    if blocked then true
-    else if waits patron item.holds then true
-    else if lent_to patron item.loan then true
-    else nat_le QUEUE_MAX (length item.holds)
-refuses_hold modes.Delete patron blocked item = not (waits patron item.holds)
-refuses_hold modes.Change patron blocked item = not (waits patron item.holds)
+-- Why a hold is refused, where it is. Adding: at the first of: the patron is blocked, waits already or has the item on loan, or 9,999 wait;
+-- deleting and changing: where the patron doesn't wait
+unfoldable pub hold_refusal : HoldMode → List ℕ → Bool → Item → Option Reason
+hold_refusal modes.Add patron blocked item = first_of (
+    (reasons.Blocked, blocked)
+    ∷ (reasons.HasEntry, waits patron item.holds)
+    ∷ (reasons.OwnLoan, lent_to patron item.loan)
+    ∷ (reasons.QueueFull, nat_le QUEUE_MAX (length item.holds))
+    ∷ [])
+hold_refusal modes.Delete patron blocked item = first_of ((reasons.NoEntry, not (waits patron item.holds)) ∷ [])
+hold_refusal modes.Change patron blocked item = first_of ((reasons.NoEntry, not (waits patron item.holds)) ∷ [])
+
+-- what is done by a hold that isn't refused
+abbrev pub hold_done : HoldMode → Reason
+hold_done modes.Add = reasons.Added
+hold_done modes.Delete = reasons.Deleted
+hold_done modes.Change = reasons.Changed
 
 -- the queue after the change: an added hold goes last, a deleted one leaves, a changed one keeps its position
 unfoldable pub queue_after : HoldRequest → List Hold → HoldMode → List Hold
@@ -49,13 +60,14 @@ unfoldable pub is_available : List ℕ → Item → List Hold → HoldMode → B
 is_available patron item holds modes.Delete = false
 is_available patron item holds _ = not (is_lent item.loan) && (has_queue holds && not (first_is_another patron holds))
 
-abbrev pub hold_answer : Terms → HoldRequest → List ℕ → Option (List ℕ) → Bool → Bool → Option QueuePosition → Answer
-hold_answer p q date title ok available position = answers.Hold (record {
+abbrev pub hold_answer : Terms → HoldRequest → List ℕ → Option (List ℕ) → Reason → Bool → Option QueuePosition → Answer
+hold_answer p q date title why available position = answers.Hold (record {
   date = date;
   institution = p.institution;
   patron = q.patron;
   item = q.item;
-  ok = ok;
+  ok = grants why;
+  reason = why;
   available = available;
   position = position;
   title = title;
@@ -64,17 +76,20 @@ hold_answer p q date title ok available position = answers.Hold (record {
 unfoldable pub hold_kept : Terms → HoldRequest → List ℕ → Item → List Hold → Effect
 hold_kept p q date item holds = writing
     ((keys.Item q.item, records.Item (record item { holds = holds })) ∷ [])
-    (hold_answer p q date (Some item.title) true (is_available q.patron item holds q.mode) (hold_position q holds q.mode))
+    (hold_answer p q date (Some item.title) (hold_done q.mode) (is_available q.patron item holds q.mode) (hold_position q holds q.mode))
+
+abbrev pub hold_by : Terms → HoldRequest → List ℕ → Item → Option Reason → Effect
+hold_by p q date item (Some why) = unwritten (Some (hold_answer p q date (Some item.title) why false None))
+hold_by p q date item None = hold_kept p q date item (queue_after q item.holds q.mode)
 
 abbrev pub hold_known : Terms → HoldRequest → List ℕ → Bool → Item → Effect
-hold_known p q date blocked item =
-    if refuses_hold q.mode q.patron blocked item then unwritten (Some (hold_answer p q date (Some item.title) false false None))
-    else hold_kept p q date item (queue_after q item.holds q.mode)
+hold_known p q date blocked item = hold_by p q date item (hold_refusal q.mode q.patron blocked item)
 
 -- An unknown patron or item is refused. By the rules no hold is forced; that the patron is blocked doesn't count for one that is.
 unfoldable pub held : Terms → Bool → HoldRequest → List ℕ → Option Member → Option Article → Effect
 held p forced q date (Some member) (Some article) = hold_known p q date (not forced && member.patron.blocked) article.item
-held p forced q date _ article = unwritten (Some (hold_answer p q date (option_map (λ a. a.item.title) article) false false None))
+held p forced q date (Some member) None = unwritten (Some (hold_answer p q date None reasons.UnknownItem false None))
+held p forced q date None article = unwritten (Some (hold_answer p q date (option_map (λ a. a.item.title) article) reasons.UnknownPatron false None))
 
 -- asks for the patron, then for the item
 unfoldable pub hold_rule : Terms → Bool → HoldRequest → List ℕ → Asks Effect

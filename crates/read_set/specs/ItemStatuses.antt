@@ -8,6 +8,8 @@ use Rattle.circ_records.specs.declared.record.Item.{Item}
 use Rattle.sip_answer.specs.declared.answer.Answer.{Answer}
 use Rattle.sip_answer.specs.declared.answer.Answer.TheVariants as answers
 use Rattle.sip_answer.specs.declared.answer.TitledItem.{TitledItem}
+use Rattle.sip_answer.specs.declared.reason.Reason.{Reason}
+use Rattle.sip_answer.specs.declared.reason.Reason.TheVariants as reasons
 use Rattle.sip_reader.specs.declared.request.ItemStatus.{ItemStatus}
 use Rattle.read_set.specs.Asks.{Asks, Give, over, ◌>>=◌}
 use Rattle.read_set.specs.Effects.{unwritten, writing}
@@ -17,21 +19,21 @@ use Rattle.read_set.specs.declared.effect.Effect.{Effect}
 use Rattle.read_set.specs.declared.known.Article.{Article}
 
 -- the answer, by the title and the properties where the item is known
-abbrev pub status_answer : ItemStatus → List ℕ → Option TitledItem → Answer
-status_answer q date known = answers.ItemStatus (record { date = date; item = q.item; known = known })
+abbrev pub status_answer : ItemStatus → List ℕ → Option TitledItem → Reason → Answer
+status_answer q date known why = answers.ItemStatus (record { date = date; item = q.item; known = known; reason = why })
 
 abbrev pub titled : List ℕ → List ℕ → Option TitledItem
 titled title properties = Some (record { title = title; properties = properties })
 
 -- of a known item, by the properties of the request
 abbrev pub relabelled : ItemStatus → List ℕ → Item → Option (List ℕ) → Effect
-relabelled q date item None = unwritten (Some (status_answer q date (titled item.title item.properties)))
+relabelled q date item None = unwritten (Some (status_answer q date (titled item.title item.properties) reasons.Done))
 relabelled q date item (Some given) = writing
     ((keys.Item q.item, records.Item (record item { properties = given })) ∷ [])
-    (status_answer q date (titled item.title given))
+    (status_answer q date (titled item.title given) reasons.Done)
 
 unfoldable pub updated : ItemStatus → List ℕ → Option Article → Effect
-updated q date None = unwritten (Some (status_answer q date None))
+updated q date None = unwritten (Some (status_answer q date None reasons.UnknownItem))
 updated q date (Some article) = relabelled q date article.item q.properties
 
 -- asks for the item alone

@@ -25,4 +25,5 @@ pub mod Renewals
 pub mod Replay
 pub mod Settling
 pub mod Stops
+pub mod Tests
 pub mod Wanted

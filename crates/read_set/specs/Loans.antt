@@ -9,6 +9,8 @@ use Rattle.sip_answer.specs.declared.answer.Answer.{Answer}
 use Rattle.sip_answer.specs.declared.answer.Answer.TheVariants as answers
 use Rattle.sip_answer.specs.declared.answer.KnownItem.{KnownItem}
 use Rattle.sip_answer.specs.declared.answer.LoanAnswer.{LoanAnswer}
+use Rattle.sip_answer.specs.declared.reason.Reason.{Reason}
+use Rattle.sip_answer.specs.declared.reason.Reason.TheVariants as reasons
 use Rattle.sip_reader.specs.Dates.{day_of}
 use Rattle.sip_reader.specs.declared.request.Checkout.{Checkout}
 use Rattle.sip_reader.specs.declared.request.Renew.{Renew}
@@ -63,8 +65,8 @@ abbrev pub by_kind : Bool → LoanAnswer → Answer
 by_kind true a = answers.Checkout a
 by_kind false a = answers.Renew a
 
-abbrev pub loan_answer_of : Terms → LoanRequest → List ℕ → Option KnownItem → Option ℕ → Bool → ℕ → LoanAnswer
-loan_answer_of p a date known due renewed rental = record {
+abbrev pub loan_answer_of : Terms → LoanRequest → List ℕ → Option KnownItem → Option ℕ → Bool → ℕ → Reason → LoanAnswer
+loan_answer_of p a date known due renewed rental why = record {
   date = date;
   institution = p.institution;
   patron = a.patron;
@@ -74,12 +76,18 @@ loan_answer_of p a date known due renewed rental = record {
   due_form = p.due_form;
   renewed = renewed;
   rental = rental_in_answer rental;
+  reason = why;
   currency = p.currency;
 }
 
-abbrev pub loan_answer : Terms → LoanRequest → List ℕ → Option Item → Option ℕ → Bool → ℕ → Answer
-loan_answer p a date item due renewed rental = by_kind a.checkout (loan_answer_of p a date (option_map known_item item) due renewed rental)
+abbrev pub loan_answer : Terms → LoanRequest → List ℕ → Option Item → Option ℕ → Bool → ℕ → Reason → Answer
+loan_answer p a date item due renewed rental why = by_kind a.checkout (loan_answer_of p a date (option_map known_item item) due renewed rental why)
 
--- nothing is written; a rental for which the request is refused is named
-unfoldable pub refused : Terms → LoanRequest → List ℕ → Option Article → ℕ → Effect
-refused p a date article rental = unwritten (Some (loan_answer p a date (option_map (λ x. x.item) article) None false rental))
+-- a rental for which the request is refused is named
+abbrev pub rental_for : Reason → Option Article → ℕ
+rental_for reasons.Rental (Some article) = article.media.rental
+rental_for _ article = 0
+
+-- nothing is written
+unfoldable pub refused : Terms → LoanRequest → List ℕ → Option Article → Reason → Effect
+refused p a date article why = unwritten (Some (loan_answer p a date (option_map (λ x. x.item) article) None false (rental_for why article) why))

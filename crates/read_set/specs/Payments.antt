@@ -7,6 +7,9 @@ use Rattle.circ_records.specs.declared.record.Patron.{Patron}
 use Rattle.circ_records.specs.declared.record.Record.TheVariants as records
 use Rattle.sip_answer.specs.declared.answer.Answer.{Answer}
 use Rattle.sip_answer.specs.declared.answer.Answer.TheVariants as answers
+use Rattle.sip_answer.specs.Reasons.{grants}
+use Rattle.sip_answer.specs.declared.reason.Reason.{Reason}
+use Rattle.sip_answer.specs.declared.reason.Reason.TheVariants as reasons
 use Rattle.sip_reader.specs.declared.request.FeePaid.{FeePaid}
 use Rattle.read_set.specs.Asks.{Asks, Give, over, ◌>>=◌}
 use Rattle.read_set.specs.Effects.{unwritten, ◌⊕◌}
@@ -65,14 +68,18 @@ abbrev pub meant : Map → Option (List ℕ) → List (List ℕ) → List (List 
 meant M None fees = fees
 meant M (Some id) fees = if has_id id fees then only_known id fees (fee_in M id) else fees
 
-abbrev pub payment_answer : Terms → FeePaid → List ℕ → Bool → Answer
-payment_answer p q date accepted = answers.FeePaid (record { date = date; institution = p.institution; patron = q.patron; accepted = accepted })
+abbrev pub payment_answer : Terms → FeePaid → List ℕ → Reason → Answer
+payment_answer p q date why = answers.FeePaid (record { date = date; institution = p.institution; patron = q.patron; accepted = grants why; reason = why })
+
+-- whether any of the money was taken
+abbrev pub paid_reason : FeePaid → ℕ → Reason
+paid_reason q left = if left == q.amount then reasons.NothingOwed else reasons.Paid
 
 -- money that is left over isn't stored. Closed fees leave the list, their records stay; the patron is written only where one left
 unfoldable pub all_paid : Terms → FeePaid → List ℕ → Patron → Payments → Effect
 all_paid p q date patron done = record {
   writes = if is_any done.closed then done.writes ⊕ ((keys.Patron q.patron, records.Patron (record patron { fees = without_all done.closed patron.fees })) ∷ []) else done.writes;
-  answer = Some (payment_answer p q date true);
+  answer = Some (payment_answer p q date (paid_reason q done.left));
 }
 
 unfoldable pub payment_rule : Terms → FeePaid → List ℕ → Patron → Asks Effect
@@ -83,10 +90,10 @@ payment_rule p q date patron = do
 
 -- refused at the first of: an unknown patron, a currency other than the policy's, amount 0
 abbrev pub fee_paid_rule_known : Terms → FeePaid → List ℕ → Option Member → Asks Effect
-fee_paid_rule_known p q date None = Give (unwritten (Some (payment_answer p q date false)))
+fee_paid_rule_known p q date None = Give (unwritten (Some (payment_answer p q date reasons.UnknownPatron)))
 fee_paid_rule_known p q date (Some member) =
-    if not (same q.currency p.currency) then Give (unwritten (Some (payment_answer p q date false)))
-    else if q.amount == 0 then Give (unwritten (Some (payment_answer p q date false)))
+    if not (same q.currency p.currency) then Give (unwritten (Some (payment_answer p q date reasons.Currency)))
+    else if q.amount == 0 then Give (unwritten (Some (payment_answer p q date reasons.NoAmount)))
     else payment_rule p q date member.patron
 
 -- asks for the patron, then for the named fee, then for the fees until nothing is left of the money

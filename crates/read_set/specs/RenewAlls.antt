@@ -7,6 +7,9 @@ use Rattle.circ_records.specs.declared.record.Record.TheVariants as records
 use Rattle.sip_answer.specs.Deeds.{names_item}
 use Rattle.sip_answer.specs.declared.answer.Answer.{Answer}
 use Rattle.sip_answer.specs.declared.answer.Answer.TheVariants as answers
+use Rattle.sip_answer.specs.Reasons.{grants}
+use Rattle.sip_answer.specs.declared.reason.Reason.{Reason}
+use Rattle.sip_answer.specs.declared.reason.Reason.TheVariants as reasons
 use Rattle.sip_reader.specs.declared.request.RenewAll.{RenewAll}
 use Rattle.read_set.specs.Asks.{Asks, Give, over, ◌>>=◌}
 use Rattle.read_set.specs.Effects.{unwritten, ◌⊕◌}
@@ -49,15 +52,16 @@ one_renewed p n a date article done = record done {
   renewed = done.renewed ++ a.item ∷ [];
 }
 
-abbrev pub one_left : List ℕ → Renewals → Renewals
-one_left item done = record done { others = done.others ++ item ∷ [] }
+-- or it isn't, for a reason
+abbrev pub one_left : List ℕ → Reason → Renewals → Renewals
+one_left item why done = record done { others = done.others ++ item ∷ []; reasons = done.reasons ++ why ∷ [] }
 
 unfoldable pub turn_by : Terms → ℕ → LoanRequest → List ℕ → Article → Renewals → Verdict → Renewals
 turn_by p n a date article done verdicts.Made = one_renewed p n a date article done
-turn_by p n a date article done _ = one_left a.item done
+turn_by p n a date article done (verdicts.Refused why) = one_left a.item why done
 
 abbrev pub turn_rule_known : Terms → ℕ → LoanRequest → List ℕ → Renewals → Option Article → Asks Renewals
-turn_rule_known p n a date done None = Give (one_left a.item done)
+turn_rule_known p n a date done None = Give (one_left a.item reasons.UnknownItem done)
 turn_rule_known p n a date done (Some article) = do
   verdict ← renewal_tests done.writes a done.member article
   Give (turn_by p n a date article done verdict)
@@ -75,16 +79,17 @@ turns_rule p n forced q date (id ∷ more) done = do
   turns_rule p n forced q date more next
 
 abbrev pub none_renewed : Member → Renewals
-none_renewed member = record { writes = []; member = member; made = 0; renewed = []; others = [] }
+none_renewed member = record { writes = []; member = member; made = 0; renewed = []; others = []; reasons = [] }
 
-abbrev pub renew_all_answer : Terms → List ℕ → Bool → List (List ℕ) → List (List ℕ) → Answer
-renew_all_answer p date ok renewed others = answers.RenewAll (record { date = date; institution = p.institution; ok = ok; renewed = renewed; unrenewed = others })
+abbrev pub renew_all_answer : Terms → List ℕ → Reason → List (List ℕ) → List (List ℕ) → List Reason → Answer
+renew_all_answer p date why renewed others whys =
+    answers.RenewAll (record { date = date; institution = p.institution; ok = grants why; reason = why; renewed = renewed; unrenewed = others; reasons = whys })
 
 -- the patron is written only where a rental was charged
 unfoldable pub all_renewed : Terms → RenewAll → List ℕ → Renewals → Effect
 all_renewed p q date done = record {
   writes = if nat_lt 0 done.made then done.writes ⊕ ((keys.Patron q.patron, records.Patron done.member.patron) ∷ []) else done.writes;
-  answer = Some (renew_all_answer p date true done.renewed done.others);
+  answer = Some (renew_all_answer p date reasons.Done done.renewed done.others done.reasons);
 }
 
 -- whose turn comes: by the rules each item of the patron's list; of the texts of a response, those that these name
@@ -94,7 +99,7 @@ turns_of (Some named) loans = filter (names_item named) loans
 
 -- ok is 1 where the patron is known; then each item of the patron's list, as it was at entry
 abbrev pub renew_all_rule_known : Terms → ℕ → Option (List (List ℕ)) → RenewAll → List ℕ → Option Member → Asks Effect
-renew_all_rule_known p n named q date None = Give (unwritten (Some (renew_all_answer p date false [] [])))
+renew_all_rule_known p n named q date None = Give (unwritten (Some (renew_all_answer p date reasons.UnknownPatron [] [] [])))
 renew_all_rule_known p n named q date (Some member) = do
   done ← turns_rule p n (is_some named) q date (turns_of named member.patron.loans) (none_renewed member)
   Give (all_renewed p q date done)

@@ -9,6 +9,8 @@ use Rattle.circ_records.specs.declared.record.Item.{Item}
 use Rattle.circ_records.specs.declared.record.Loan.{Loan}
 use Rattle.circ_records.specs.declared.record.Patron.{Patron}
 use Rattle.circ_records.specs.declared.record.Record.TheVariants as records
+use Rattle.sip_answer.specs.declared.reason.Reason.{Reason}
+use Rattle.sip_answer.specs.declared.reason.Reason.TheVariants as reasons
 use Rattle.sip_reader.specs.declared.request.Renew.{Renew}
 use Rattle.read_set.specs.Asks.{Asks, Give, over, ◌>>=◌}
 use Rattle.read_set.specs.Effects.{writing, ◌⊕◌}
@@ -19,6 +21,7 @@ use Rattle.read_set.specs.Lookups.{item_at, patron_at}
 use Rattle.read_set.specs.Maps.{Map}
 use Rattle.read_set.specs.Owing.{owing_tests}
 use Rattle.read_set.specs.Queues.{has_queue}
+use Rattle.read_set.specs.Tests.{decided_or, first_of}
 use Rattle.read_set.specs.declared.effect.Effect.{Effect}
 use Rattle.read_set.specs.declared.known.Article.{Article}
 use Rattle.read_set.specs.declared.known.Member.{Member}
@@ -34,15 +37,24 @@ may_renew a (Some loan) = same loan.patron a.patron || a.third_party
 abbrev pub renewals_of : Option Loan → ℕ
 renewals_of loan = option_map_or (λ l. l.renewals) loan 0
 
--- refused at the first of, after the writes so far; where it is forced, only at the first
+-- why a loan isn't the patron's to renew: there is none, or it is another's
+abbrev pub not_own : Option Loan → Reason
+not_own None = reasons.NotLent
+not_own (Some loan) = reasons.ThirdParty
+
+-- what is decided before what is owed: refused at the first of; where it is forced, only at the very first
+unfoldable pub early_renewal : LoanRequest → Member → Article → List (Verdict × Bool)
+early_renewal a member article =
+    (verdicts.Refused (not_own article.item.loan), not (may_renew a article.item.loan))
+    ∷ (verdicts.Made, a.forced)
+    ∷ (verdicts.Refused reasons.Blocked, member.patron.blocked)
+    ∷ (verdicts.Refused reasons.WaitedFor, has_queue article.item.holds)  -- somebody waits
+    ∷ (verdicts.Refused reasons.MaxRenewals, nat_le member.class.max_renewals (renewals_of article.item.loan))  -- renewals at least max_renewals
+    ∷ []
+
+-- then, after the writes so far, owed above max_fees; a rental
 unfoldable pub renewal_tests : Entries → LoanRequest → Member → Article → Asks Verdict
-renewal_tests w a member article =
-    if not (may_renew a article.item.loan) then Give verdicts.Refused  -- no loan, or another's
-    else if a.forced then Give verdicts.Made
-    else if member.patron.blocked then Give verdicts.Refused  -- blocked
-    else if has_queue article.item.holds then Give verdicts.Refused  -- somebody waits
-    else if nat_le member.class.max_renewals (renewals_of article.item.loan) then Give verdicts.Refused  -- renewals at least max_renewals
-    else owing_tests w a.agreed member article  -- owed above max_fees; a rental
+renewal_tests w a member article = decided_or (first_of (early_renewal a member article)) (owing_tests w a.agreed member article)
 
 -- renewals plus one; they stay at their greatest number
 abbrev pub one_more : ℕ → ℕ
@@ -67,11 +79,10 @@ renewal_writes n a due charge member article =
 unfoldable pub renewal_made : Terms → ℕ → LoanRequest → List ℕ → Member → Article → Effect
 renewal_made p n a date member article = writing
     (renewal_writes n a (due_for p a date article.media) (charge_for a article.media) member article)
-    (loan_answer p a date (Some article.item) (Some (due_for p a date article.media)) true (charge_for a article.media))
+    (loan_answer p a date (Some article.item) (Some (due_for p a date article.media)) true (charge_for a article.media) reasons.Renewed)
 
 abbrev pub renewal_by : Terms → ℕ → LoanRequest → List ℕ → Member → Article → Verdict → Effect
-renewal_by p n a date member article verdicts.Refused = refused p a date (Some article) 0
-renewal_by p n a date member article verdicts.Unpaid = refused p a date (Some article) article.media.rental
+renewal_by p n a date member article (verdicts.Refused why) = refused p a date (Some article) why
 renewal_by p n a date member article verdicts.Made = renewal_made p n a date member article
 
 unfoldable pub renewal_rule : Terms → ℕ → LoanRequest → List ℕ → Member → Article → Asks Effect
@@ -82,7 +93,8 @@ renewal_rule p n a date member article = do
 -- an unknown patron or item is refused
 abbrev pub renew_rule_known : Terms → ℕ → LoanRequest → List ℕ → Option Member → Option Article → Asks Effect
 renew_rule_known p n a date (Some member) (Some article) = renewal_rule p n a date member article
-renew_rule_known p n a date _ article = Give (refused p a date article 0)
+renew_rule_known p n a date (Some member) None = Give (refused p a date None reasons.UnknownItem)
+renew_rule_known p n a date None article = Give (refused p a date article reasons.UnknownPatron)
 
 -- asks for the patron, then for the item, then for the fees where they matter
 unfoldable pub renew_rule : Terms → ℕ → Renew → List ℕ → Asks Effect

@@ -3,7 +3,7 @@
 use crate::effect::Draft;
 use crate::known::Member;
 use circ_records::Ids;
-use sip_answer::ItemIds;
+use sip_answer::{ItemIds, Reasons};
 
 /// How far a renewal of all items has got.
 #[derive(Drop)]
@@ -15,6 +15,8 @@ pub struct Renewals {
     pub made: u64,
     pub renewed: ItemIds,
     pub others: ItemIds,
+    /// Why each of these isn't renewed.
+    pub reasons: Reasons,
 }
 
 /// How far a payment has got.

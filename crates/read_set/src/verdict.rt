@@ -1,5 +1,6 @@
 //! A loan or a renewal that is asked for, and how its tests end.
 
+use sip_answer::Reason;
 use sip_reader::{Amount, Day, Id};
 
 /// A loan or a renewal that is asked for.
@@ -24,8 +25,7 @@ pub struct LoanRequest {
 /// How the tests of a loan or a renewal end.
 #[derive(Clone, Copy)]
 pub enum Verdict {
-    Refused,
-    /// Refused: the user didn't agree to the rental.
-    Unpaid,
     Made,
+    /// Refused, for this reason.
+    Refused(Reason),
 }

@@ -20,7 +20,7 @@ use Rattle.sip_reader.specs.declared.request.Reading.TheVariants as readings
 use Rattle.sip_reader.specs.declared.request.RenewAll.{RenewAll}
 use Rattle.read_set.specs.Asks.{Asks, Give, over, ◌>>=◌}
 use Rattle.read_set.specs.Effects.{unwritten}
-use Rattle.read_set.specs.Holds.{held, hold_kept, hold_known, hold_rule, queue_after, refuses_hold}
+use Rattle.read_set.specs.Holds.{held, hold_by, hold_kept, hold_refusal, hold_rule}
 use Rattle.read_set.specs.ItemStatuses.{item_status_rule, relabelled, updated}
 use Rattle.read_set.specs.Ids.{same}
 use Rattle.read_set.specs.Known.{item_in, patron_in}
@@ -32,7 +32,7 @@ use Rattle.read_set.specs.Maps.{Map}
 use Rattle.read_set.specs.Meaning.{one, rule, rule_of, rule_with}
 use Rattle.read_set.specs.Owing.{owed_at}
 use Rattle.read_set.specs.Blocks.{block_rule, block_rule_known, blocked_by}
-use Rattle.read_set.specs.Payments.{all_paid, fee_paid_rule, fee_paid_rule_known, meant_at, pay_rule_each, payment_answer, payment_rule}
+use Rattle.read_set.specs.Payments.{all_paid, fee_paid_rule, fee_paid_rule_known, meant_at, pay_rule_each, payment_rule}
 use Rattle.read_set.specs.Plans.{deed_at, Planned, reading_at}
 use Rattle.read_set.specs.RenewAlls.{all_renewed, none_renewed, renew_all_rule, renew_all_rule_known, turns_rule}
 use Rattle.read_set.specs.Replay.{after, one_at, one_by}
@@ -46,6 +46,7 @@ use Rattle.read_set.specs.declared.verdict.Verdict.{Verdict}
 use Rattle.read_set.specs.declared.verdict.Verdict.TheVariants as verdicts
 use Rattle.read_set.specs.AsRecorded.{agrees_with, answering, carried, followed}
 use Rattle.sip_answer.specs.declared.deed.Deed.{Deed}
+use Rattle.sip_answer.specs.declared.reason.Reason.{Reason}
 use Rattle.read_set.proofs.Following.{over_all, over_either, over_then}
 use Rattle.result_report.specs.Report.{is_answered}
 use Rattle.replay_run.specs.Answers.{answers_of, first_answers}
@@ -53,10 +54,6 @@ use Rattle.replay_run.specs.Answers.{answers_of, first_answers}
 -- an effect has an answer
 abbrev Tells : Effect → Type 0
 Tells e = is_some e.answer ≡ true
-
-either : (b : Bool) (x y : Effect) → Tells x → Tells y → Tells (cond b x y)
-either true x y f g = f
-either false x y f g = g
 
 block-tells : (p : Terms) (blocks : Bool) (id date : List ℕ) (M : Map) (member : Option Member) → Tells (over M (block_rule_known p blocks id date member))
 unfolding blocked_by
@@ -74,15 +71,13 @@ checkin-tells p n q date (Some article) borrower = returned-tells p n q date art
 
 lending-tells : (p : Terms) (n : ℕ) (a : LoanRequest) (date : List ℕ) (M : Map) (member : Member) (article : Article) (v : Verdict) → Tells (over M (lending_rule_by p n a date member article v))
 unfolding refused lending_made lending_of
-lending-tells p n a date M member article verdicts.Refused = refl
-lending-tells p n a date M member article verdicts.Unpaid = refl
+lending-tells p n a date M member article (verdicts.Refused why) = refl
 lending-tells p n a date M member article verdicts.Made =
     over_all M (other_at p a.patron article.item.loan) (λ other. Give (lending_made p n a date member article other)) Tells (λ other. refl)
 
 renewal-tells : (p : Terms) (n : ℕ) (a : LoanRequest) (date : List ℕ) (member : Member) (article : Article) (v : Verdict) → Tells (renewal_by p n a date member article v)
 unfolding refused renewal_made
-renewal-tells p n a date member article verdicts.Refused = refl
-renewal-tells p n a date member article verdicts.Unpaid = refl
+renewal-tells p n a date member article (verdicts.Refused why) = refl
 renewal-tells p n a date member article verdicts.Made = refl
 
 renewed-tells : (p : Terms) (n : ℕ) (a : LoanRequest) (date : List ℕ) (M : Map) (member : Member) (article : Article) → Tells (over M (renewal_rule p n a date member article))
@@ -110,13 +105,14 @@ renew-tells p n a date M (Some member) (Some article) = renewed-tells p n a date
 renew-tells p n a date M (Some member) None = refl
 renew-tells p n a date M None article = refl
 
-hold-known-tells : (p : Terms) (q : HoldRequest) (date : List ℕ) (blocked : Bool) (item : Item) → Tells (hold_known p q date blocked item)
+hold-known-tells : (p : Terms) (q : HoldRequest) (date : List ℕ) (item : Item) (why : Option Reason) → Tells (hold_by p q date item why)
 unfolding hold_kept
-hold-known-tells p q date blocked item = either (refuses_hold q.mode q.patron blocked item) _ (hold_kept p q date item (queue_after q item.holds q.mode)) refl refl
+hold-known-tells p q date item (Some why) = refl
+hold-known-tells p q date item None = refl
 
 hold-tells : (p : Terms) (q : HoldRequest) (date : List ℕ) (member : Option Member) (article : Option Article) → Tells (held p false q date member article)
 unfolding held
-hold-tells p q date (Some member) (Some article) = hold-known-tells p q date member.patron.blocked article.item
+hold-tells p q date (Some member) (Some article) = hold-known-tells p q date article.item (hold_refusal q.mode q.patron member.patron.blocked article.item)
 hold-tells p q date (Some member) None = refl
 hold-tells p q date None article = refl
 
@@ -139,9 +135,8 @@ payment-tells p q date M patron =
 fee-paid-tells : (p : Terms) (q : FeePaid) (date : List ℕ) (M : Map) (member : Option Member) → Tells (over M (fee_paid_rule_known p q date member))
 fee-paid-tells p q date M None = refl
 fee-paid-tells p q date M (Some member) =
-    let refusal : Asks Effect = Give (unwritten (Some (payment_answer p q date false))) in
-    over_either M (not (same q.currency p.currency)) refusal _ Tells (λ e. refl)
-    (λ e. over_either M (q.amount == 0) refusal (payment_rule p q date member.patron) Tells (λ d. refl) (λ d. payment-tells p q date M member.patron))
+    over_either M (not (same q.currency p.currency)) _ _ Tells (λ e. refl)
+    (λ e. over_either M (q.amount == 0) _ (payment_rule p q date member.patron) Tells (λ d. refl) (λ d. payment-tells p q date M member.patron))
 
 renew-all-tells : (p : Terms) (n : ℕ) (q : RenewAll) (date : List ℕ) (M : Map) (member : Option Member) → Tells (over M (renew_all_rule_known p n None q date member))
 unfolding all_renewed

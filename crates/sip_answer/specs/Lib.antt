@@ -4,6 +4,7 @@ pub mod DueDates
 pub mod Laws
 pub mod Deeds
 pub mod Parts
+pub mod Reasons
 pub mod Recorded
 pub mod Responses
 pub mod Texts

@@ -3,8 +3,12 @@
 //! Fields are in memory in their order here, and the answer of each line is stored to the end of a run: so the small ones come
 //! first, together, where none leaves a gap before the next.
 
+ghost use Rattle.std.specs.Prelude.{◌≡◌};
+ghost use Rattle.sip_answer.specs.Reasons.{reason_of};
+
 use crate::item_ids::ItemIds;
 use crate::owed::Owed;
+use crate::reason::{Reason, Reasons};
 use circ_policy::{DueForm, MediaType};
 use sip_reader::{Amount, Day, Id, Stamp, Text};
 
@@ -49,12 +53,34 @@ impl Drop for Answer {
     }
 }
 
+impl Answer {
+    /// Why it is answered so: the first test of the rule that holds.
+    pub fn reason(&self) -> Reason
+        ensures { result ≡ reason_of self.now }
+    {
+        match self {
+            Answer::BlockPatron(a) => a.reason,
+            Answer::Checkin(a) => a.reason,
+            Answer::Checkout(a) => a.reason,
+            Answer::Hold(a) => a.reason,
+            Answer::ItemStatus(a) => a.reason,
+            Answer::PatronEnable(a) => a.reason,
+            Answer::Renew(a) => a.reason,
+            Answer::FeePaid(a) => a.reason,
+            Answer::RenewAll(a) => a.reason,
+            Answer::Resend => Reason::Checksum,
+        }
+    }
+}
+
 /// The answer to a block patron or a patron enable.
 pub struct PatronAnswer {
     /// The request's transaction date.
     pub date: Stamp,
     /// The status after the change.
     pub status: PatronStatus,
+    /// Why it is answered so.
+    pub reason: Reason,
     /// The currency of what is owed, three letters.
     pub currency: [u8; 3],
     pub institution: Id,
@@ -68,6 +94,7 @@ impl Drop for PatronAnswer {
         let PatronAnswer {
             date: _,
             status: _,
+            reason: _,
             currency: _,
             institution: _,
             patron: _,
@@ -110,6 +137,8 @@ pub struct CheckinAnswer {
     pub date: Stamp,
     /// Whether somebody waits for the item.
     pub alert: bool,
+    /// Why it is answered so.
+    pub reason: Reason,
     pub institution: Id,
     pub item: Id,
     /// Where the item is known.
@@ -123,6 +152,7 @@ impl Drop for CheckinAnswer {
         let CheckinAnswer {
             date: _,
             alert: _,
+            reason: _,
             institution: _,
             item: _,
             known: _,
@@ -156,6 +186,8 @@ pub struct LoanAnswer {
     pub date: Stamp,
     /// Whether a renewal was made.
     pub renewed: bool,
+    /// Why it is answered so.
+    pub reason: Reason,
     /// How the due day is written.
     pub due_form: DueForm,
     /// The due day, where a loan or a renewal was made.
@@ -176,6 +208,7 @@ impl Drop for LoanAnswer {
         let LoanAnswer {
             date: _,
             renewed: _,
+            reason: _,
             due_form: _,
             due: _,
             currency: _,
@@ -209,6 +242,8 @@ impl Drop for KnownItem {
 pub struct ItemStatusAnswer {
     /// The request's transaction date.
     pub date: Stamp,
+    /// Why it is answered so.
+    pub reason: Reason,
     pub item: Id,
     /// Where the item is known.
     pub known: Option<TitledItem>,
@@ -218,6 +253,7 @@ impl Drop for ItemStatusAnswer {
     fn drop(self) {
         let ItemStatusAnswer {
             date: _,
+            reason: _,
             item: _,
             known: _,
         } = self;
@@ -245,6 +281,8 @@ pub struct FeePaidAnswer {
     /// The request's transaction date.
     pub date: Stamp,
     pub accepted: bool,
+    /// Why it is answered so.
+    pub reason: Reason,
     pub institution: Id,
     pub patron: Id,
 }
@@ -254,6 +292,7 @@ impl Drop for FeePaidAnswer {
         let FeePaidAnswer {
             date: _,
             accepted: _,
+            reason: _,
             institution: _,
             patron: _,
         } = self;
@@ -265,11 +304,15 @@ pub struct RenewAllAnswer {
     /// The request's transaction date.
     pub date: Stamp,
     pub ok: bool,
+    /// Why it is answered so.
+    pub reason: Reason,
     pub institution: Id,
     /// The items that were renewed, in the order of the patron's list.
     pub renewed: ItemIds,
     /// The items that weren't, in that order.
     pub unrenewed: ItemIds,
+    /// Why each of these wasn't.
+    pub reasons: Reasons,
 }
 
 impl Drop for RenewAllAnswer {
@@ -277,9 +320,11 @@ impl Drop for RenewAllAnswer {
         let RenewAllAnswer {
             date: _,
             ok: _,
+            reason: _,
             institution: _,
             renewed: _,
             unrenewed: _,
+            reasons: _,
         } = self;
     }
 }
@@ -291,6 +336,8 @@ pub struct HoldAnswer {
     pub ok: bool,
     /// Whether the item waits for this patron.
     pub available: bool,
+    /// Why it is answered so.
+    pub reason: Reason,
     pub institution: Id,
     pub patron: Id,
     pub item: Id,
@@ -306,6 +353,7 @@ impl Drop for HoldAnswer {
             date: _,
             ok: _,
             available: _,
+            reason: _,
             institution: _,
             patron: _,
             item: _,

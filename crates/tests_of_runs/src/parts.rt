@@ -2,7 +2,7 @@
 
 use csv::ByteRecord;
 use csv_table::{RowReader, TableError};
-use sip_answer::{Answer, FeePaidAnswer, is_own_text, write_answer};
+use sip_answer::{Answer, FeePaidAnswer, Reason, is_own_text, write_answer};
 use sip_reader::{Id, Stamp};
 use std::alloc::{AllocError, AllocGlobal, Global};
 use std::process::Abort;
@@ -32,6 +32,7 @@ fn payment(alloc: Global) -> Result<Option<Answer>, AllocError> {
         (Some(institution), Some(patron), Some(date)) => Ok(Some(Answer::FeePaid(FeePaidAnswer {
             date,
             accepted: true,
+            reason: Reason::Paid,
             institution,
             patron,
         }))),

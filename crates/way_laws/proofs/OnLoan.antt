@@ -20,7 +20,8 @@ use Rattle.circ_records.specs.declared.record.Record.TheVariants as records
 use Rattle.circ_policy.specs.Due.{due_day}
 use Rattle.read_set.specs.AsRecorded.{agrees_with, answering, as_told, carried, day_told, followed, loan_told}
 use Rattle.read_set.specs.Asks.{Asks, Give, over, ◌>>=◌}
-use Rattle.read_set.specs.Checkouts.{checkout_rule_for, checkout_rule_known, lending_made, lending_of, lending_records, lending_rule, lending_rule_by, lending_tests, lending_writes, lent, loan_ended_by, other_at}
+use Rattle.sip_answer.specs.declared.reason.Reason.{Reason}
+use Rattle.read_set.specs.Checkouts.{checkout_rule_for, checkout_rule_known, early_lending, lending_made, lending_of, lending_records, lending_rule, lending_rule_by, lending_tests, lending_writes, lent, loan_ended_by, other_at}
 use Rattle.read_set.specs.Fees.{fee_made}
 use Rattle.read_set.specs.Ids.{same}
 use Rattle.read_set.specs.Known.{item_in, patron_in}
@@ -28,13 +29,14 @@ use Rattle.read_set.specs.Loans.{by_checkout, by_kind, by_renew, charge_for, due
 use Rattle.read_set.specs.Lookups.{item_at, patron_at}
 use Rattle.read_set.specs.Maps.{Map, put}
 use Rattle.read_set.specs.Meaning.{rule_of, rule_with}
-use Rattle.read_set.specs.Renewals.{charged, may_renew, renew_rule, renew_rule_known, renewal_by, renewal_made, renewal_rule, renewal_tests, one_more, renewal_writes, renewed, renewed_loan}
+use Rattle.read_set.specs.Renewals.{charged, early_renewal, may_renew, renew_rule, renew_rule_known, not_own, renewal_by, renewal_made, renewal_rule, renewal_tests, one_more, renewal_writes, renewed, renewed_loan}
 use Rattle.read_set.specs.declared.effect.Effect.{Effect}
 use Rattle.read_set.specs.declared.known.Article.{Article}
 use Rattle.read_set.specs.declared.known.Member.{Member}
 use Rattle.read_set.specs.declared.verdict.LoanRequest.{LoanRequest}
 use Rattle.read_set.specs.declared.verdict.Verdict.{Verdict}
 use Rattle.read_set.specs.declared.verdict.Verdict.TheVariants as verdicts
+use Rattle.read_set.specs.Tests.{decided_or, first_of}
 use Rattle.read_set.proofs.Following.{over_all, over_either, over_then}
 use Rattle.read_set.proofs.IdLists.{same-is}
 use Rattle.read_set.proofs.Line.{put-three}
@@ -64,21 +66,22 @@ eqb-same n = by (eqb n n) (eqb_refl n)
     by false h = absurd h
 
 -- a first test, and others after it
-either-test : {A B : Type 0} (M : Map) (b : Bool) (x : A) (rest : Asks A) (f : A → Asks B) (P : B → Type 0) → (b ≡ true → P (over M (f x))) → (b ≡ false → (v : A) → P (over M (f v)))
-    → P (over M (cond b (Give x) rest >>= f))
-either-test M true x rest f P h k = h refl
-either-test M false x rest f P h k = over_all M rest f P (k refl)
+either-test : {B : Type 0} (M : Map) (b : Bool) (x : Verdict) (tests : List (Verdict × Bool)) (rest : Asks Verdict) (f : Verdict → Asks B) (P : B → Type 0)
+    → (b ≡ true → P (over M (f x))) → (b ≡ false → (v : Verdict) → P (over M (f v))) → P (over M (decided_or (first_of ((x, b) ∷ tests)) rest >>= f))
+either-test M true x tests rest f P h k = h refl
+either-test M false x tests rest f P h k = over_all M (decided_or (first_of tests) rest) f P (k refl)
 
 -- a test that is passed
-first-test : {A B : Type 0} (M : Map) (c : Bool) (y : A) (rest : Asks A) (f : A → Asks B) (P : B → Type 0) → c ≡ true → P (over M (f y)) → P (over M (cond c (Give y) rest >>= f))
-first-test M true y rest f P e h = h
-first-test M false y rest f P e h = cc e
+first-test : {B : Type 0} (M : Map) (c : Bool) (y : Verdict) (tests : List (Verdict × Bool)) (rest : Asks Verdict) (f : Verdict → Asks B) (P : B → Type 0)
+    → c ≡ true → P (over M (f y)) → P (over M (decided_or (first_of ((y, c) ∷ tests)) rest >>= f))
+first-test M true y tests rest f P e h = h
+first-test M false y tests rest f P e h = cc e
 
 -- the same after one that isn't
-second-test : {A B : Type 0} (M : Map) (b c : Bool) (x y : A) (rest : Asks A) (f : A → Asks B) (P : B → Type 0) → b ≡ false → c ≡ true → P (over M (f y))
-    → P (over M (cond b (Give x) (cond c (Give y) rest) >>= f))
-second-test M true c x y rest f P d e h = cc d
-second-test M false c x y rest f P d e h = first-test M c y rest f P e h
+second-test : {B : Type 0} (M : Map) (b c : Bool) (x y : Verdict) (tests : List (Verdict × Bool)) (rest : Asks Verdict) (f : Verdict → Asks B) (P : B → Type 0)
+    → b ≡ false → c ≡ true → P (over M (f y)) → P (over M (decided_or (first_of ((x, b) ∷ (y, c) ∷ tests)) rest >>= f))
+second-test M true c x y tests rest f P d e h = cc d
+second-test M false c x y tests rest f P d e h = first-test M c y tests rest f P e h
 
 -- THE ITEM AFTER THE WRITES
 
@@ -162,9 +165,9 @@ module _ (p : Terms) (n : ℕ) (date : List ℕ) (M : Map) (a : LoanRequest) (me
   due : ℕ
   due = due_for p a date article.media
 
-  refuses : (rental : ℕ) → Lends a article.item.loan M (refused p a date (Some article) rental)
+  refuses : (why : Reason) → Lends a article.item.loan M (refused p a date (Some article) why)
   unfolding refused
-  refuses rental = inl (_, refl, refl)
+  refuses why = inl (_, refl, refl)
 
   renews : may_renew a article.item.loan ≡ true → Lends a article.item.loan M (renewal_made p n a date member article)
   unfolding renewal_made due
@@ -178,14 +181,13 @@ module _ (p : Terms) (n : ℕ) (date : List ℕ) (M : Map) (a : LoanRequest) (me
   )
 
   renewal-lends : Lends a article.item.loan M (over M (renewal_rule p n a date member article))
-  unfolding renewal_rule renewal_tests
+  unfolding renewal_rule renewal_tests early_renewal
   renewal-lends =
-      either-test M (not (may_renew a article.item.loan)) verdicts.Refused _ (λ v. Give (renewal_by p n a date member article v)) (Lends a article.item.loan M) (λ e. refuses 0)
+      either-test M (not (may_renew a article.item.loan)) (verdicts.Refused (not_own article.item.loan)) _ _ (λ v. Give (renewal_by p n a date member article v)) (Lends a article.item.loan M) (λ e. refuses _)
       (λ e. made (unless (may_renew a article.item.loan) e))
     where
       made : may_renew a article.item.loan ≡ true → (v : Verdict) → Lends a article.item.loan M (renewal_by p n a date member article v)
-      made may verdicts.Refused = refuses 0
-      made may verdicts.Unpaid = refuses article.media.rental
+      made may (verdicts.Refused why) = refuses why
       made may verdicts.Made = renews may
 
   lends : borrower_after a article.item.loan ≡ a.patron → (other : Option Member) → Lends a article.item.loan M (lending_made p n a date member article other)
@@ -204,8 +206,7 @@ module _ (p : Terms) (n : ℕ) (date : List ℕ) (M : Map) (a : LoanRequest) (me
   lending-lends asker = over_all M (lending_tests a member article) (lending_rule_by p n a date member article) (Lends a article.item.loan M) made
     where
       made : (v : Verdict) → Lends a article.item.loan M (over M (lending_rule_by p n a date member article v))
-      made verdicts.Refused = refuses 0
-      made verdicts.Unpaid = refuses article.media.rental
+      made (verdicts.Refused why) = refuses why
       made verdicts.Made =
           over_all M (other_at p a.patron article.item.loan) (λ other. Give (lending_made p n a date member article other)) (Lends a article.item.loan M) (lends asker)
 
@@ -221,18 +222,18 @@ module _ (p : Terms) (n : ℕ) (date : List ℕ) (M : Map) (a : LoanRequest) (me
   -- one that is forced isn't refused
   forced-renews : a.forced ≡ true → may_renew a article.item.loan ≡ true
       → IsOnLoan (borrower_after a article.item.loan) (Some due) (put (over M (renewal_rule p n a date member article)).writes M (keys.Item a.item))
-  unfolding renewal_rule renewal_tests renewal_made due
+  unfolding renewal_rule renewal_tests early_renewal renewal_made due
   forced-renews forced may =
-      second-test M (not (may_renew a article.item.loan)) a.forced verdicts.Refused verdicts.Made _ (λ v. Give (renewal_by p n a date member article v))
+      second-test M (not (may_renew a article.item.loan)) a.forced (verdicts.Refused (not_own article.item.loan)) verdicts.Made _ _ (λ v. Give (renewal_by p n a date member article v))
       (λ (e : Effect). IsOnLoan (borrower_after a article.item.loan) (Some due) (put e.writes M (keys.Item a.item))) (ap not may) forced
       (subst (IsOnLoan (borrower_after a article.item.loan) (Some due)) (sym (renewed-there n a due (charge_for a article.media) member article M))
       (renewed-on a due article.item article.item.loan refl may))
 
   forced-lends : a.forced ≡ true → borrower_after a article.item.loan ≡ a.patron
       → IsOnLoan (borrower_after a article.item.loan) (Some due) (put (over M (lending_rule p n a date member article)).writes M (keys.Item a.item))
-  unfolding lending_rule lending_tests lending_of lending_made due
+  unfolding lending_rule lending_tests early_lending lending_of lending_made due
   forced-lends forced asker =
-      first-test M a.forced verdicts.Made _ (lending_rule_by p n a date member article)
+      first-test M a.forced verdicts.Made _ _ (lending_rule_by p n a date member article)
       (λ (e : Effect). IsOnLoan (borrower_after a article.item.loan) (Some due) (put e.writes M (keys.Item a.item))) forced
       (over_all M (other_at p a.patron article.item.loan) (λ other. Give (lending_made p n a date member article other))
       (λ (e : Effect). IsOnLoan (borrower_after a article.item.loan) (Some due) (put e.writes M (keys.Item a.item)))

@@ -11,8 +11,8 @@ use Rattle.read_set.specs.Asks.{Give, over, ◌>>=◌}
 use Rattle.read_set.specs.Blocks.{block_rule, block_rule_known, blocked_by}
 use Rattle.read_set.specs.Checkins.{checked_in, checkin_rule, loan_of, returned}
 use Rattle.read_set.specs.Checkouts.{checkout_rule_for, checkout_rule_known, lending_made, lending_of, lending_rule, lending_rule_by, lending_tests, other_at}
-use Rattle.read_set.specs.Effects.{unwritten, writing}
-use Rattle.read_set.specs.Holds.{held, hold_kept, hold_rule, refuses_hold}
+use Rattle.read_set.specs.Effects.{unwritten}
+use Rattle.read_set.specs.Holds.{held, hold_by, hold_kept, hold_refusal, hold_rule}
 use Rattle.read_set.specs.Ids.{same}
 use Rattle.read_set.specs.ItemStatuses.{item_status_rule, relabelled, updated}
 use Rattle.read_set.specs.Known.{item_in, patron_in}
@@ -30,6 +30,8 @@ use Rattle.read_set.specs.declared.known.Member.{Member}
 use Rattle.read_set.specs.declared.verdict.LoanRequest.{LoanRequest}
 use Rattle.read_set.specs.declared.verdict.Verdict.{Verdict}
 use Rattle.read_set.specs.declared.verdict.Verdict.TheVariants as verdicts
+use Rattle.read_set.proofs.Paid.{paid-grants}
+use Rattle.read_set.proofs.SimpleKinds.{done-grants}
 use Rattle.read_set.proofs.Following.{over_all, over_either, over_then}
 use Rattle.sip_answer.specs.Deeds.{agrees, answers_act, deed_in, loan_agrees}
 use Rattle.sip_answer.specs.Differ.{Agrees, is_same}
@@ -45,6 +47,8 @@ use Rattle.sip_answer.specs.declared.answer.PatronAnswer.{PatronAnswer}
 use Rattle.sip_answer.specs.declared.answer.RenewAllAnswer.{RenewAllAnswer}
 use Rattle.sip_answer.specs.declared.deed.Deed.{Deed}
 use Rattle.sip_answer.specs.declared.deed.Deed.TheVariants as deeds
+use Rattle.sip_answer.specs.declared.reason.Reason.{Reason}
+use Rattle.sip_answer.specs.declared.reason.Reason.TheVariants as reasons
 use Rattle.sip_reader.specs.declared.request.Act.{Act}
 use Rattle.sip_reader.specs.declared.request.Act.TheVariants as acts
 use Rattle.sip_reader.specs.declared.request.BlockPatron.{BlockPatron}
@@ -177,9 +181,9 @@ payment-made q w a accepted = grants (acts.FeePaid q) w (answers.FeePaid a) refl
 
 module _ (p : Terms) (n : ℕ) (date : List ℕ) (M : Map) where
   -- of a loan that is asked for, by a checkout or a renewal
-  refuses-loan : (act : Act) (a : LoanRequest) (article : Option Article) (rental : ℕ) → ((l : LoanAnswer) → answers_act (by_kind a.checkout l) act ≡ true) → Ruled act (refused p a date article rental)
+  refuses-loan : (act : Act) (a : LoanRequest) (article : Option Article) (why : Reason) → ((l : LoanAnswer) → answers_act (by_kind a.checkout l) act ≡ true) → Ruled act (refused p a date article why)
   unfolding refused
-  refuses-loan act a article rental kind = refuses act _ (kind _)
+  refuses-loan act a article why kind = refuses act _ (kind _)
 
   renewal-ruled : (act : Act) (a : LoanRequest) (member : Member) (article : Article) → ((l : LoanAnswer) → answers_act (by_kind a.checkout l) act ≡ true)
       → ((l : LoanAnswer) (d : ℕ) → l.due ≡ Some d → Grants (by_kind a.checkout l)) → Ruled act (over M (renewal_rule p n a date member article))
@@ -188,8 +192,7 @@ module _ (p : Terms) (n : ℕ) (date : List ℕ) (M : Map) where
       over_all M (renewal_tests [] a member article) (λ v. Give (renewal_by p n a date member article v)) (Ruled act) by
     where
       by : (v : Verdict) → Ruled act (renewal_by p n a date member article v)
-      by verdicts.Refused = refuses-loan act a (Some article) 0 kind
-      by verdicts.Unpaid = refuses-loan act a (Some article) article.media.rental kind
+      by (verdicts.Refused why) = refuses-loan act a (Some article) why kind
       by verdicts.Made = grants act _ _ (kind _) (grant _ _ refl)
 
   lending-ruled : (act : Act) (a : LoanRequest) (member : Member) (article : Article) → ((l : LoanAnswer) → answers_act (by_kind a.checkout l) act ≡ true)
@@ -199,8 +202,7 @@ module _ (p : Terms) (n : ℕ) (date : List ℕ) (M : Map) where
       over_all M (lending_tests a member article) (lending_rule_by p n a date member article) (Ruled act) by
     where
       by : (v : Verdict) → Ruled act (over M (lending_rule_by p n a date member article v))
-      by verdicts.Refused = refuses-loan act a (Some article) 0 kind
-      by verdicts.Unpaid = refuses-loan act a (Some article) article.media.rental kind
+      by (verdicts.Refused why) = refuses-loan act a (Some article) why kind
       by verdicts.Made =
           over_all M (other_at p a.patron article.item.loan) (λ other. Give (lending_made p n a date member article other)) (Ruled act)
           (λ other. grants act _ _ (kind _) (grant _ _ refl))
@@ -210,8 +212,8 @@ module _ (p : Terms) (n : ℕ) (date : List ℕ) (M : Map) where
   checkout-ruled q = by (patron_in p M q.patron) (item_in p M q.item)
     where
       by : (o : Option Member) (x : Option Article) → Ruled (acts.Checkout q) (over M (checkout_rule_known p n q.renewal (by_checkout q) date o x))
-      by None x = refuses-loan (acts.Checkout q) (by_checkout q) x 0 (λ l. refl)
-      by (Some member) None = refuses-loan (acts.Checkout q) (by_checkout q) None 0 (λ l. refl)
+      by None x = refuses-loan (acts.Checkout q) (by_checkout q) x reasons.UnknownPatron (λ l. refl)
+      by (Some member) None = refuses-loan (acts.Checkout q) (by_checkout q) None reasons.UnknownItem (λ l. refl)
       by (Some member) (Some article) =
           over_either M (q.renewal && may_renew (by_checkout q) article.item.loan) (renewal_rule p n (by_checkout q) date member article) (lending_rule p n (by_checkout q) date member article) (Ruled (acts.Checkout q))
           (λ t. renewal-ruled (acts.Checkout q) (by_checkout q) member article (λ l. refl) checks-out)
@@ -222,8 +224,8 @@ module _ (p : Terms) (n : ℕ) (date : List ℕ) (M : Map) where
   renew-ruled q = by (patron_in p M q.patron) (item_in p M q.item)
     where
       by : (o : Option Member) (x : Option Article) → Ruled (acts.Renew q) (over M (renew_rule_known p n (by_renew q) date o x))
-      by None x = refuses-loan (acts.Renew q) (by_renew q) x 0 (λ l. refl)
-      by (Some member) None = refuses-loan (acts.Renew q) (by_renew q) None 0 (λ l. refl)
+      by None x = refuses-loan (acts.Renew q) (by_renew q) x reasons.UnknownPatron (λ l. refl)
+      by (Some member) None = refuses-loan (acts.Renew q) (by_renew q) None reasons.UnknownItem (λ l. refl)
       by (Some member) (Some article) = renewal-ruled (acts.Renew q) (by_renew q) member article (λ l. refl) renews
 
   checkin-ruled : (q : Checkin) → Ruled (acts.Checkin q) (over M (checkin_rule p n q date))
@@ -245,14 +247,14 @@ module _ (p : Terms) (n : ℕ) (date : List ℕ) (M : Map) where
   unfolding hold_rule held hold_kept patron_at item_at
   hold-ruled q = by (patron_in p M q.patron) (item_in p M q.item)
     where
-      known : (b : Bool) (w : Entries) (denied some : HoldAnswer) → some.ok ≡ true → Ruled (acts.Hold q) (cond b (unwritten (Some (answers.Hold denied))) (writing w (answers.Hold some)))
-      known true w denied some ok = refuses (acts.Hold q) (answers.Hold denied) refl
-      known false w denied some ok = grants (acts.Hold q) w (answers.Hold some) refl (holds some ok)
+      known : (item : Item) (why : Option Reason) → Ruled (acts.Hold q) (hold_by p q date item why)
+      known item (Some why) = refuses (acts.Hold q) _ refl
+      known item None = grants (acts.Hold q) _ _ refl (holds _ (done-grants q.mode))
 
       by : (o : Option Member) (x : Option Article) → Ruled (acts.Hold q) (held p false q date o x)
       by None x = refuses (acts.Hold q) _ refl
       by (Some member) None = refuses (acts.Hold q) _ refl
-      by (Some member) (Some article) = known (refuses_hold q.mode q.patron member.patron.blocked article.item) _ _ _ refl
+      by (Some member) (Some article) = known article.item (hold_refusal q.mode q.patron member.patron.blocked article.item)
 
   status-ruled : (q : ItemStatus) → Ruled (acts.ItemStatus q) (over M (item_status_rule p q date))
   unfolding item_status_rule item_at updated
@@ -294,7 +296,7 @@ module _ (p : Terms) (n : ℕ) (date : List ℕ) (M : Map) where
       pays patron =
           over_all M (meant_at q.fee patron.fees) (λ ids. pay_rule_each ids (record { left = q.amount; writes = []; closed = [] }) >>= λ done. Give (all_paid p q date patron done)) (Ruled (acts.FeePaid q))
           (λ ids. over_all M (pay_rule_each ids (record { left = q.amount; writes = []; closed = [] })) (λ done. Give (all_paid p q date patron done)) (Ruled (acts.FeePaid q))
-          (λ done. payment-made q _ _ refl))
+          (λ done. payment-made q _ _ (paid-grants (done.left == q.amount))))
 
       by : (o : Option Member) → Ruled (acts.FeePaid q) (over M (fee_paid_rule_known p q date o))
       by None = refuses (acts.FeePaid q) _ refl

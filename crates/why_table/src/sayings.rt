@@ -2,8 +2,8 @@
 
 use circ_policy::{Media, Policy, late_fee};
 use circ_records::{Fee, Item, Key, Patron, Record};
-use line_reasons::Reason;
 use read_set::Notes;
+use sip_answer::Reason;
 use sip_reader::{Act, Day, Reading, push_amount};
 use std::alloc::{AllocError, Global};
 
@@ -103,7 +103,7 @@ fn say_patron(
 }
 
 /// What a patron owes in hundredths, where each of its fees was read.
-pub fn owed_by(notes: &Notes, patron: &Patron) -> Result<Option<u128>, AllocError> {
+fn owed_by(notes: &Notes, patron: &Patron) -> Result<Option<u128>, AllocError> {
     let mut owed: u128 = 0;
     for id in patron.fees.as_slice() {
         let Some(note) = notes.get(&Key::Fee(id.clone()?)) else {

@@ -3,13 +3,12 @@
 ghost use Rattle.std.proofs.Props.{props};
 ghost use Rattle.std.specs.Prelude.{◌≡◌, ◌≤◌, IfSome};
 
-use crate::renewals::item_reasons;
 use crate::sayings::{AnsweredLine, say};
 use circ_records::Key;
 use csv_table::TableText;
 use line_origins::LineTrace;
-use line_reasons::Reason;
 use read_set::{Name, Note, Notes, Plan, Way};
+use sip_answer::{Answer, Reason, RenewAllAnswer};
 use sip_reader::Id;
 use std::alloc::{AllocError, Global};
 
@@ -55,21 +54,21 @@ impl WhyTable {
         line: u64,
         seen: &LineTrace,
     ) -> Result<bool, AllocError> {
-        let Some(reason) = seen.reason else {
+        let Some(answer) = &seen.answer else {
             return Ok(false);
         };
+        let reason = answer.reason();
         let carried = format!(in alloc; "{}", seen.carried)?;
         let notes = &seen.notes;
         if notes.as_slice().is_empty() {
             self.row(&WhyRow::bare(alloc, line, reason, carried.as_str()))?;
             return Ok(true);
         }
-        let items = item_reasons(alloc, plan, line, notes)?;
         for note in notes.as_slice() {
             let asked = AnsweredLine {
                 policy: plan.policy(),
                 reading: plan.reading(line),
-                reason: reason_of(&items, reason, note),
+                reason: reason_of(answer, note),
             };
             let row = WhyRow::bare(alloc, line, asked.reason, carried.as_str());
             self.row(&row.of_record(alloc, &asked, notes, note)?)?;
@@ -145,15 +144,24 @@ impl<'r> WhyRow<'r> {
 }
 
 /// The reason of a row: in a renewal of all items that of the item, else that of the line.
-fn reason_of(items: &[(Id, Reason)], reason: Reason, note: &Note) -> Reason {
-    if let Key::Item(id) = &note.key {
-        for item in items {
-            if item.0 == *id {
-                return item.1;
-            }
+fn reason_of(answer: &Answer, note: &Note) -> Reason {
+    match (answer, &note.key) {
+        (Answer::RenewAll(all), Key::Item(id)) => reason_of_item(all, id),
+        _ => answer.reason(),
+    }
+}
+
+/// Why an item is renewed or not, at its first turn: what is renewed once can be refused later, but not the other way round.
+fn reason_of_item(all: &RenewAllAnswer, item: &Id) -> Reason {
+    if all.renewed.as_slice().iter().any(|id| id == item) {
+        return Reason::Renewed;
+    }
+    for (id, reason) in all.unrenewed.as_slice().iter().zip(all.reasons.as_slice()) {
+        if id == item {
+            return *reason;
         }
     }
-    reason
+    all.reason
 }
 
 fn kind_of(key: &Key) -> &'static str {

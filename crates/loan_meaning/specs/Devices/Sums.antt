@@ -49,4 +49,4 @@ sum_with fresh amount (Some sum) = if amount == 0 then Some sum else if fresh th
 -- what a turn charges
 abbrev pub charged_by : Verdict → ℕ → ℕ
 charged_by verdicts.Made rental = rental
-charged_by _ rental = 0
+charged_by (verdicts.Refused why) rental = 0

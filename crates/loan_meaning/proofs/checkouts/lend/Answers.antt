@@ -23,17 +23,6 @@ unfolding lending_rule
 returns-in-Refused-clause-keeps g c =
     gains_first _ _ (lending_tests c.args.asked.now.request c.args.member c.args.article) (λ verdict. lending_rule_by c.args.asked.now.policy.now c.args.asked.now.number c.args.asked.now.request c.args.asked.now.date c.args.member c.args.article verdict) c.in_ok-verdict.ensures.keeps
 
-pub returns-in-Unpaid-clause-gives : goal.returns-in-Unpaid-clause-gives
-unfolding lending_rule
-returns-in-Unpaid-clause-gives g c =
-    goes_on _ _ (lending_tests c.args.asked.now.request c.args.member c.args.article) (λ verdict. lending_rule_by c.args.asked.now.policy.now c.args.asked.now.number c.args.asked.now.request c.args.asked.now.date c.args.member c.args.article verdict) c.in_ok-verdict.verdict _
-    (λ k r e. e) c.in_ok-verdict.ensures.gives (rw c.in-Unpaid.is c.refuse_for.ensures)
-
-pub returns-in-Unpaid-clause-keeps : goal.returns-in-Unpaid-clause-keeps
-unfolding lending_rule
-returns-in-Unpaid-clause-keeps g c =
-    gains_first _ _ (lending_tests c.args.asked.now.request c.args.member c.args.article) (λ verdict. lending_rule_by c.args.asked.now.policy.now c.args.asked.now.number c.args.asked.now.request c.args.asked.now.date c.args.member c.args.article verdict) c.in_ok-verdict.ensures.keeps
-
 pub returns-in_err-other-clause-gives : goal.returns-in_err-other-clause-gives
 unfolding lending_rule lending_of
 returns-in_err-other-clause-gives g c =

@@ -1,8 +1,10 @@
-//! The names of the tests by which the rules decide.
+//! Why a request is answered as it is: the tests by which the rules decide, by name.
 
-ghost use Rattle.std.specs.Prelude.{◌≡◌};
-ghost use Rattle.line_reasons.specs.Verdicts.{grants};
-ghost use Rattle.line_reasons.specs.Words.{reason_word};
+ghost use Rattle.std.specs.Prelude.{◌≡◌, ◌++◌, ◌∷◌, [], OnOk, OnErr};
+ghost use Rattle.sip_answer.specs.Reasons.{grants, reason_word};
+
+use std::alloc::{AllocError, Global};
+use std::marker::Model;
 
 /// Why a line is answered as it is: the first test of its rule that holds (docs/RULES.md).
 #[derive(Clone, Copy)]
@@ -125,5 +127,52 @@ impl Reason {
             Reason::Done => "done",
             Reason::Checksum => "checksum",
         }
+    }
+}
+
+/// Reasons, in order.
+pub struct Reasons {
+    reasons: Vec<Reason>,
+}
+
+impl Drop for Reasons {
+    fn drop(self) {
+        let Reasons { reasons: _ } = self;
+    }
+}
+
+impl Model for Reasons {
+    ghost use Rattle.std.specs.Prelude.{List};
+    ghost use Rattle.sip_answer.specs.declared.reason.Reason.{Reason};
+
+    ghost Value = { List Reason };
+
+    ghost view = { λ r. r.reasons.items };
+}
+
+impl Reasons {
+    /// No reasons.
+    pub fn new(alloc: Global) -> Reasons
+        ensures { result ≡ [] }
+    {
+        Reasons {
+            reasons: Vec::new(alloc),
+        }
+    }
+
+    /// Adds a reason at the end. Out of memory, nothing changes.
+    pub fn push(&mut self, reason: Reason) -> Result<(), AllocError>
+        ensures ok { OnOk result (self.new ≡ self.old ++ reason ∷ []) }
+        ensures err { OnErr result (self.new ≡ self.old) }
+    {
+        self.reasons.push(reason)?;
+        Ok(())
+    }
+
+    /// The reasons.
+    pub fn as_slice(&self) -> &[Reason]
+        ensures { result.now ≡ self.now }
+    {
+        self.reasons.as_slice()
     }
 }

@@ -18,7 +18,7 @@ use Rattle.read_set.specs.declared.notes.Name.{Name}
 use Rattle.read_set.specs.declared.notes.Name.TheVariants as names
 use Rattle.read_set.specs.declared.notes.Note.{Note}
 use Rattle.message_meaning.specs.Rules.{rule_at}
-use Rattle.line_reasons.specs.Carried.{carried_at}
+use Rattle.line_origins.specs.Carried.{carried_at}
 use Rattle.line_origins.specs.declared.shelf.TracedRecords.{TracedRecords}
 use Rattle.line_origins.specs.declared.tracer.TraceEnd.{TraceEnd}
 use Rattle.line_origins.specs.declared.tracer.LineTrace.{LineTrace}

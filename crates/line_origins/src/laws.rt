@@ -1,8 +1,14 @@
-//! A law of the definitions: a function without code, whose contract is proved of every value.
+//! Laws of the definitions: functions without code, whose contracts are proved of every value.
 
+ghost use Rattle.line_origins.specs.Laws.{ReasonsGoWithAnswers};
 ghost use Rattle.line_origins.specs.Origins.{LastWritersAreGreatest};
 
 /// The line that is named as the last writer of a record wrote it, and no later line below the one in hand did.
 pub fn last_writers_are_greatest()
     ensures { LastWritersAreGreatest }
+{}
+
+/// An answer says yes just where its reason is one that grants.
+pub fn reasons_go_with_answers()
+    ensures { ReasonsGoWithAnswers }
 {}

@@ -1,11 +1,16 @@
-//! What a line of a plan read, and which line wrote each of these records last: a replay by one thread that stops before wanted lines.
-//! `message_meaning` does each line; `line_cases` and the program `sip_why` use this crate.
+//! What a line of a plan read, which line wrote each of these records last, and, as recorded, what came of the line: a replay
+//! by one thread that stops before wanted lines. `message_meaning` does each line; `why_lines` and the program `sip_why` use
+//! this crate.
 #![tactic(auto)]
 
+mod carried;
+mod carrying;
+mod finding;
 mod laws;
 mod looking;
 mod shelf;
 mod tracer;
 
-pub use laws::last_writers_are_greatest;
+pub use carried::Carried;
+pub use laws::{last_writers_are_greatest, reasons_go_with_answers};
 pub use tracer::{LineTrace, TraceEnd, Tracer};

@@ -9,8 +9,7 @@ ghost use Rattle.circ_records.specs.declared.key.Key.{Key};
 ghost use Rattle.line_origins.specs.Origins.{IsShelf, line_of, written_by};
 
 use circ_records::{Key, Record};
-use live_records::Live;
-use message_meaning::perform;
+use message_meaning::{Live, perform};
 use read_set::{Effect, Name, Plan, Stop};
 use std::alloc::{AllocError, Global};
 use std::collections::BTreeMap;

@@ -14,7 +14,7 @@ use crate::replay::effect_of;
 use crate::run::put_together;
 use circ_records::LikelyPositions;
 use journal_table::Journal;
-use live_records::Live;
+use message_meaning::Live;
 use read_set::{Effect, Plan, PlanName};
 use record_tables::write_records_parallel;
 use result_report::Telling;

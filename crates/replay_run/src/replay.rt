@@ -9,8 +9,7 @@ ghost use Rattle.replay_run.specs.ReplayEnd.{IsReplay};
 
 use crate::written::WrittenKeys;
 use circ_records::Records;
-use live_records::Live;
-use message_meaning::perform;
+use message_meaning::{Live, perform};
 use read_set::{Effect, Plan, Stop};
 use sip_answer::Answer;
 use std::alloc::{AllocError, Global};

@@ -4,7 +4,7 @@ use crate::lines::reach;
 use crate::tables::texts_of;
 use crate::wanted::line_of;
 use journal_table::Line;
-use line_cases::{LineCase, line_case};
+use why_lines::{LineCase, line_case};
 use line_origins::Tracer;
 use replay_run::{Inputs, Prepared};
 use std::alloc::{AllocError, Global};

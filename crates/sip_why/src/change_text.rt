@@ -1,7 +1,7 @@
 //! A change as one JSON object.
 
 use circ_records::{Fee, Hold, Item, Key, Loan, Patron, Record};
-use record_changes::Change;
+use why_lines::Change;
 use serde_json::{Map, Value};
 use sip_reader::{Amount, Day, Id, push_amount};
 use std::alloc::{AllocError, Global};

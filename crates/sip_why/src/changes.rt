@@ -4,7 +4,7 @@ use crate::change_text::change_text;
 use crate::refused::refused;
 use line_origins::{TraceEnd, Tracer};
 use read_set::Plan;
-use record_changes::changes;
+use why_lines::changes;
 use record_tables::{Tables, write_records};
 use std::alloc::{AllocError, Global};
 use why_run::NotExplained;

@@ -12,7 +12,7 @@ use record_tables::Tables;
 use replay_run::{Inputs, Prepared, judge_inputs};
 use std::alloc::{AllocError, Global};
 use why_run::{CaseTexts, Explained, Explainer, NotExplained, Remark, WhyTexts};
-use why_table::WhyTable;
+use why_lines::WhyTable;
 
 /// Explains lines by the rules.
 #[derive(Clone, Copy)]

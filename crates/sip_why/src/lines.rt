@@ -4,7 +4,7 @@ use line_origins::Tracer;
 use read_set::Plan;
 use std::alloc::{AllocError, Global};
 use why_run::Remark;
-use why_table::WhyTable;
+use why_lines::WhyTable;
 
 /// Adds each answered line to the table.
 pub fn add_all(alloc: Global, plan: &Plan, table: &mut WhyTable) -> Result<(), AllocError> {

@@ -1,6 +1,0 @@
-mod Adding
-mod Giving
-mod Knowing
-mod Reading
-mod Replaying
-mod Running

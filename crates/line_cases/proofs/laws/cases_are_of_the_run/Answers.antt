@@ -1,5 +1,0 @@
-use Rattle.line_cases.proofs.Running.{of_the_run}
-use Rattle.line_cases.proofs.laws.cases_are_of_the_run.Goals as goal
-
-pub returns : goal.returns
-returns c = of_the_run

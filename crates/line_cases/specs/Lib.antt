@@ -1,4 +1,0 @@
-pub mod Cases
-pub mod Devices
-pub mod InRun
-pub mod Refers

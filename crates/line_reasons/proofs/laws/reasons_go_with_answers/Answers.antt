@@ -1,5 +1,0 @@
-use Rattle.line_reasons.proofs.Going.{reasons_go}
-use Rattle.line_reasons.proofs.laws.reasons_go_with_answers.Goals as goal
-
-pub returns : goal.returns
-returns c = reasons_go

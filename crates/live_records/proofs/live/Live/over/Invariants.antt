@@ -1,7 +1,0 @@
-use Rattle.std.proofs.Common.{drop}
-use Rattle.circ_records.specs.declared.key.Key.{Key}
-use Rattle.live_records.proofs.Copying.{IsCopied}
-use Rattle.live_records.proofs.live.Live.over.Given as goal
-
-abbrev pub invariant-loop-entry : goal.invariant-loop-entry
-invariant-loop-entry l = (k : Key) → IsCopied l.keys (drop l.entry-index l.keys) l.records k

@@ -1,2 +1,0 @@
--- For proofs alone: how far a walk has come. No promise needs it.
-pub mod Told

@@ -1,0 +1,5 @@
+pub mod Cases
+pub mod Changes
+pub mod Devices
+pub mod InRun
+pub mod Refers

@@ -1,0 +1,28 @@
+//! The journal of a case.
+
+ghost use Rattle.std.specs.Prelude.{◌≡◌, IfOk};
+ghost use Rattle.why_lines.specs.Cases.{journal_of_one};
+
+use csv_table::TableText;
+use itoa::Buffer;
+use journal_table::Line;
+use std::alloc::{AllocError, Global};
+
+const HEADER: [&str; 4] = ["line", "connection", "request", "response"];
+
+/// A journal of one line, with its number and its recorded response.
+pub(crate) fn journal_of_one(alloc: Global, line: &Line) -> Result<Vec<u8>, AllocError>
+    ensures { IfOk result (λ text. text.items ≡ journal_of_one line.now) }
+{
+    let line = line.parts();
+    let mut digits = Buffer::new();
+    let number = digits.format(line.number);
+    let mut table = TableText::under(alloc, &HEADER)?;
+    table.row(&[
+        number.as_bytes(),
+        line.connection,
+        line.request,
+        line.response,
+    ])?;
+    table.finish()
+}

@@ -1,0 +1,19 @@
+//! What `sip_why` tells of lines: why each was answered as it was, test cases of single lines, and what changed in the records.
+//! A case is the line with its recorded response, the records that it read, and the answer that it has in the whole run; it is
+//! returned only after a replay of its own files gave that answer.
+#![tactic(auto)]
+
+mod answers;
+mod base;
+mod change;
+mod journal;
+mod laws;
+mod making;
+mod patrons;
+mod sayings;
+mod table;
+
+pub use change::{Change, changes};
+pub use laws::cases_are_of_the_run;
+pub use making::{LineCase, certified, line_case};
+pub use table::WhyTable;

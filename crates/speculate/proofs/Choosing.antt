@@ -12,7 +12,7 @@ use Rattle.board_steps.specs.Reached.{Reached}
 use Rattle.speculate.specs.declared.ready.Mark.{Mark}
 use Rattle.speculate.specs.declared.ready.Ready.{Ready}
 use Rattle.speculate.specs.Marks.{Fits, IsStill, HasTurned, IsMarked, IsReady, waits, is_unchecked, is_checked, has_position}
-use Rattle.line_set.specs.Trees.{IsLeastFrom}
+use Rattle.speculate.specs.Trees.{IsLeastFrom}
 use Rattle.speculate.proofs.Flags.{position_within}
 use Rattle.speculate.proofs.Calling.{line_done}
 

@@ -1,6 +1,8 @@
+pub mod Apart
 mod BoardEnds
 pub mod Calling
 pub mod Choosing
+pub mod Clear
 pub mod ComingOn
 pub mod Determined
 pub mod Drives
@@ -11,3 +13,4 @@ pub mod Marking
 pub mod Phases
 pub mod Plays
 pub mod Readying
+pub mod Trees

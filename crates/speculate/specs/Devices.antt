@@ -1,2 +1,4 @@
 -- For proofs alone: how things are stored or counted. No promise needs it.
+pub mod Apart
 pub mod Phases
+pub mod Rows

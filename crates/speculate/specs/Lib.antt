@@ -8,3 +8,4 @@ pub mod Finishing
 pub mod Marks
 pub mod Needed
 pub mod Playing
+pub mod Trees

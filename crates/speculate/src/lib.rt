@@ -12,6 +12,7 @@ mod end;
 mod ending;
 mod finished;
 mod laws;
+mod line_set;
 mod playing;
 mod ready;
 mod steps;

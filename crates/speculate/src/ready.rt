@@ -5,7 +5,7 @@ ghost use Rattle.journal_table.specs.declared.TheConstants.{LINE_LIMIT};
 ghost use Rattle.speculate.specs.Marks.{Follows, GoesOver, IsPosition, Loses, Puts, SendsBack, all_waiting, ended, has_position};
 
 use board_lines::Reply;
-use line_set::LineSet;
+use crate::line_set::LineSet;
 use read_set::PlanName;
 use std::alloc::{AllocError, Global};
 

@@ -1,1 +1,7 @@
+mod Adding
+mod Giving
+mod Knowing
+mod Reading
+mod Replaying
+mod Running
 pub mod Telling

@@ -3,7 +3,7 @@ use Rattle.read_set.specs.Plans.{Planned}
 use Rattle.board_steps.specs.Board.{Board}
 use Rattle.board_steps.specs.Choice.{IsChoice}
 use Rattle.board_steps.specs.Choice.Choice.{ToCommit, ToCheck, ToTake, ToWait}
-use Rattle.line_set.specs.Trees.{IsLeastFrom}
+use Rattle.speculate.specs.Trees.{IsLeastFrom}
 use Rattle.speculate.specs.Marks.{has_position}
 use Rattle.speculate.proofs.Choosing.{commits, checks, takes, waits_for_others}
 use Rattle.speculate.proofs.board.Board.choose.Goals as goal

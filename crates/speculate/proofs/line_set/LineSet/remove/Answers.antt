@@ -1,8 +1,8 @@
 use Rattle.std.proofs.Common.{◌≡◌, ◌+◌, ◌*◌, ◌≤◌, ◌||◌, Bool, false, length-set, rules, sym, ap₂, ◌∙◌, arith}
-use Rattle.line_set.specs.Trees.{joined, node_at}
-use Rattle.line_set.proofs.Apart.{taken_apart, taken_beside}
-use Rattle.line_set.proofs.Trees.{lowered, set_still}
-use Rattle.line_set.proofs.line_set.LineSet.remove.Goals as goal
+use Rattle.speculate.specs.Trees.{joined, node_at}
+use Rattle.speculate.proofs.Apart.{taken_apart, taken_beside}
+use Rattle.speculate.proofs.Trees.{lowered, set_still}
+use Rattle.speculate.proofs.line_set.LineSet.remove.Goals as goal
 
 pub returns-then-eq : goal.returns-then-eq
 returns-then-eq c = rw (← c.self.view_is) (taken_apart c.self.inside.flags.items c.self.inside.apart c.args.position (sym c.eq.ensures ∙ c.if-eq.true) c.self.invariant.1)

@@ -1,6 +1,6 @@
 -- For proofs alone: a node and the flags below it, counted through all rows of the tree, the flags' row being the last.
 use Rattle.std.specs.Prelude.{◌≡◌, ℕ, zero, suc, ◌+◌, ◌*◌, ◌<◌, ◌≤◌, Bool, true, false, List, length, slice_index_or}
-use Rattle.line_set.specs.Trees.{node_at, IsPower}
+use Rattle.speculate.specs.Trees.{node_at, IsPower}
 
 -- the first number below a node, a number of rows down
 abbrev pub below : ℕ → ℕ → ℕ

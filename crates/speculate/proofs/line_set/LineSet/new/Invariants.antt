@@ -1,6 +1,6 @@
 use Rattle.std.proofs.Common.{◌≡◌, ℕ, ◌≤◌, ◌<◌, length, get_or, false, replicate}
-use Rattle.line_set.specs.Trees.{joined}
-use Rattle.line_set.proofs.line_set.LineSet.new.Given as goal
+use Rattle.speculate.specs.Trees.{joined}
+use Rattle.speculate.proofs.line_set.LineSet.new.Given as goal
 
 -- the nodes from this one on are what those below them make of them
 abbrev pub invariant-loop-node : goal.invariant-loop-node

@@ -1,7 +1,7 @@
 use Rattle.std.proofs.Common.{◌≡◌, ◌<◌, length}
-use Rattle.line_set.specs.Devices.Rows.{IsSet}
-use Rattle.line_set.specs.Trees.{AllBut}
-use Rattle.line_set.proofs.line_set.LineSet.remove.Given as goal
+use Rattle.speculate.specs.Devices.Rows.{IsSet}
+use Rattle.speculate.specs.Trees.{AllBut}
+use Rattle.speculate.proofs.line_set.LineSet.remove.Given as goal
 
 -- each node but the next is what those below it make of it, and the next is set
 abbrev pub invariant-loop-node : goal.invariant-loop-node

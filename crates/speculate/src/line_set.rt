@@ -1,8 +1,8 @@
 //! A set of lines by their positions, as a tree over flags.
 
 ghost use Rattle.std.specs.Prelude.{◌≡◌, ℕ, ◌+◌, ◌*◌, ◌/◌, ◌<◌, ◌≤◌, length, replicate, slice_set, slice_index_or, true, false, IfOk, Some};
-ghost use Rattle.line_set.specs.Devices.Rows.{IsNext};
-ghost use Rattle.line_set.specs.Trees.{IsLeastFrom, IsTree, node_at};
+ghost use Rattle.speculate.specs.Devices.Rows.{IsNext};
+ghost use Rattle.speculate.specs.Trees.{IsLeastFrom, IsTree, node_at};
 
 use std::alloc::{AllocError, Global};
 use std::marker::Model;
@@ -33,8 +33,8 @@ impl Drop for LineSet {
 
 impl Model for LineSet {
     ghost use Rattle.std.specs.Prelude.{List, Bool};
-    ghost use Rattle.line_set.specs.Devices.Apart.{IsApart, with_apart};
-    ghost use Rattle.line_set.specs.Trees.{IsTree};
+    ghost use Rattle.speculate.specs.Devices.Apart.{IsApart, with_apart};
+    ghost use Rattle.speculate.specs.Trees.{IsTree};
 
     ghost Value = { List Bool };
 

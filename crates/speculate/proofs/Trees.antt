@@ -2,8 +2,8 @@
 use Rattle.std.proofs.Common.{◌≡◌, ◌≢◌, ℕ, zero, suc, ◌+◌, ◌-◌, ◌*◌, ◌/◌, ◌%◌, ◌^◌, ◌<◌, ◌≤◌, Bool, true, false, ◌||◌, List, length, set, get_or, refl, sym, ap, subst, ◌∙◌, inl, inr, ap₂, arith, length-set, get_or-set_same, get_or-set_other, true≢false, Some}
 use Rattle.std.proofs.lemmas.Bool.{cases_eq, cases_lt, lt-ltb, le-ltb}
 use Rattle.std.proofs.lemmas.List.{get_or_past}
-use Rattle.line_set.specs.Trees.{node_at, joined, AllBut, IsPower, IsTree, IsLeastFrom}
-use Rattle.line_set.specs.Devices.Rows.{below, IsAbove, IsInRow, IsSet, NoneSet, IsNext}
+use Rattle.speculate.specs.Trees.{node_at, joined, AllBut, IsPower, IsTree, IsLeastFrom}
+use Rattle.speculate.specs.Devices.Rows.{below, IsAbove, IsInRow, IsSet, NoneSet, IsNext}
 
 -- ---- numbers below a node
 pub below_le : (i j k : ℕ) → i ≤ j → below i k ≤ below j k

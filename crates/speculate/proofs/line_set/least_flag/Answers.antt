@@ -1,7 +1,7 @@
 use Rattle.std.proofs.Common.{◌≡◌, ◌+◌, false, length, sym, ◌∙◌, arith}
-use Rattle.line_set.specs.Trees.{node_at}
-use Rattle.line_set.proofs.Trees.{next_first, next_within, next_none, next_in_row, next_up, none_at_all, none_past, wide_some, below_past}
-use Rattle.line_set.proofs.line_set.least_flag.Goals as goal
+use Rattle.speculate.specs.Trees.{node_at}
+use Rattle.speculate.proofs.Trees.{next_first, next_within, next_none, next_in_row, next_up, none_at_all, none_past, wide_some, below_past}
+use Rattle.speculate.proofs.line_set.least_flag.Goals as goal
 
 pub returns-then-not-is_set : goal.returns-then-not-is_set
 returns-then-not-is_set c p from =

@@ -1,8 +1,8 @@
 use Rattle.std.proofs.Common.{◌≡◌, ◌+◌, ◌*◌, true, false, length, sym, subst, ◌∙◌, arith}
-use Rattle.line_set.specs.Trees.{node_at}
-use Rattle.line_set.specs.Devices.Rows.{IsNext}
-use Rattle.line_set.proofs.Trees.{go_left, go_right, flag_found, power_some, one_of}
-use Rattle.line_set.proofs.line_set.least_below.Goals as goal
+use Rattle.speculate.specs.Trees.{node_at}
+use Rattle.speculate.specs.Devices.Rows.{IsNext}
+use Rattle.speculate.proofs.Trees.{go_left, go_right, flag_found, power_some, one_of}
+use Rattle.speculate.proofs.line_set.least_below.Goals as goal
 
 pub loop-node-preserved-then-not-is_set : goal.loop-node-preserved-then-not-is_set
 loop-node-preserved-then-not-is_set c =

@@ -1,7 +1,7 @@
 use Rattle.std.proofs.Common.{◌∙◌, arith, length-set, true}
-use Rattle.line_set.proofs.Apart.{put_beside}
-use Rattle.line_set.proofs.Trees.{raised, raised_below}
-use Rattle.line_set.proofs.line_set.LineSet.insert.Goals as goal
+use Rattle.speculate.proofs.Apart.{put_beside}
+use Rattle.speculate.proofs.Trees.{raised, raised_below}
+use Rattle.speculate.proofs.line_set.LineSet.insert.Goals as goal
 
 pub loop-node-preserved : goal.loop-node-preserved
 loop-node-preserved c =

@@ -1,6 +1,6 @@
 use Rattle.std.proofs.Common.{◌+◌, ◌*◌, ◌-◌, ◌≤◌, length}
-use Rattle.line_set.specs.Devices.Rows.{IsInRow, NoneSet}
-use Rattle.line_set.proofs.line_set.least_flag.Given as goal
+use Rattle.speculate.specs.Devices.Rows.{IsInRow, NoneSet}
+use Rattle.speculate.proofs.line_set.least_flag.Given as goal
 
 -- no flag is set before those below the node
 abbrev pub invariant-loop-node : goal.invariant-loop-node

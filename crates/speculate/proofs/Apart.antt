@@ -4,7 +4,7 @@ use Rattle.std.specs.Option.{option_eq}
 use Rattle.std.specs.Prelude.{nat_eq}
 use Rattle.std.proofs.lemmas.Bool.{cases_eq, eqb-true, eqb-false}
 use Rattle.std.proofs.lemmas.List.{set_comm, set-get_or, set-set}
-use Rattle.line_set.specs.Devices.Apart.{with_apart, IsApart}
+use Rattle.speculate.specs.Devices.Apart.{with_apart, IsApart}
 
 -- another position is put into the tree
 pub put_beside : (flags : List Bool) (apart : Option ℕ) (n : ℕ) → with_apart (set flags n true) apart ≡ set (with_apart flags apart) n true

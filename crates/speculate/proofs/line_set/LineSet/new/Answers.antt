@@ -1,10 +1,10 @@
 use Rattle.std.proofs.Common.{◌≡◌, ℕ, ◌+◌, ◌-◌, ◌*◌, ◌<◌, ◌≤◌, ◌||◌, false, length, get_or, set, replicate, rules, sym, subst, ◌∙◌, ap, arith, length-set}
 use Rattle.std.proofs.lemmas.List.{length-replicate}
-use Rattle.line_set.specs.Trees.{joined, node_at}
-use Rattle.line_set.proofs.Clear.{clear_joined}
-use Rattle.line_set.proofs.Trees.{made_from, power_some}
-use Rattle.line_set.proofs.line_set.LineSet.new.Goals.{then-all, else-all, then-is_set, else-is_set}
-use Rattle.line_set.proofs.line_set.LineSet.new.Goals as goal
+use Rattle.speculate.specs.Trees.{joined, node_at}
+use Rattle.speculate.proofs.Clear.{clear_joined}
+use Rattle.speculate.proofs.Trees.{made_from, power_some}
+use Rattle.speculate.proofs.line_set.LineSet.new.Goals.{then-all, else-all, then-is_set, else-is_set}
+use Rattle.speculate.proofs.line_set.LineSet.new.Goals as goal
 
 pub loop-node-init : goal.loop-node-init
 loop-node-init c =

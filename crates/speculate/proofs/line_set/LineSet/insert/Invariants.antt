@@ -1,6 +1,6 @@
 use Rattle.std.proofs.Common.{◌≡◌, ◌<◌, ◌≤◌, length, true}
-use Rattle.line_set.specs.Trees.{AllBut, joined}
-use Rattle.line_set.proofs.line_set.LineSet.insert.Given as goal
+use Rattle.speculate.specs.Trees.{AllBut, joined}
+use Rattle.speculate.proofs.line_set.LineSet.insert.Given as goal
 
 -- each node but the next is what those below it make of it, and below the next there is a set flag
 abbrev pub invariant-loop-node : goal.invariant-loop-node

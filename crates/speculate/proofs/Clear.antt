@@ -3,7 +3,7 @@ use Rattle.std.proofs.Common.{◌≡◌, ℕ, ◌+◌, ◌-◌, ◌*◌, Bool, t
 use Rattle.std.specs.Prelude.{if◌then◌else◌, nat_lt}
 use Rattle.std.proofs.lemmas.Bool.{cases_lt}
 use Rattle.std.proofs.lemmas.List.{get_or-replicate, get_or_past, length-replicate}
-use Rattle.line_set.specs.Trees.{node_at, joined}
+use Rattle.speculate.specs.Trees.{node_at, joined}
 
 clear : (n i : ℕ) → get_or (replicate n false) i false ≡ false
 clear n i = elim (cases_lt i n) [

@@ -1,6 +1,6 @@
 use Rattle.std.proofs.Common.{◌-◌, length}
-use Rattle.line_set.specs.Devices.Rows.{IsNext}
-use Rattle.line_set.proofs.line_set.least_below.Given as goal
+use Rattle.speculate.specs.Devices.Rows.{IsNext}
+use Rattle.speculate.proofs.line_set.least_below.Given as goal
 
 abbrev pub invariant-loop-node : goal.invariant-loop-node
 invariant-loop-node l = IsNext l.flags l.nodes l.from l.node

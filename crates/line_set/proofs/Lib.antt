@@ -1,3 +1,0 @@
-pub mod Apart
-pub mod Clear
-pub mod Trees

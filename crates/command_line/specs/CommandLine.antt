@@ -11,16 +11,16 @@ use Rattle.clap.specs.declared.builder.arg.Arg.{Arg}
 use Rattle.clap.specs.declared.builder.command.Command.{Command}
 use Rattle.clap.specs.declared.builder.command.Command.TheViews.{out-Command as fields_of}
 use Rattle.clap.specs.declared.parser.matches.Found.{Found}
-use Rattle.clap.specs.declared.builder.value_parser.ValueParser.TheVariants.{Signed}
+use Rattle.clap.specs.declared.builder.value_parser.ValueParser.TheVariants.{NonEmptyString, Signed}
 use Rattle.command_line.specs.declared.chosen.Options.{Options}
 
 -- a value that may be left out, and that has no name before it
 abbrev pub bare_rule : Text → Rule
 bare_rule name = record (new_rule name) { value_names = 1 }
 
--- an argument that must be given and takes a path
+-- an argument that must be given and takes a path, which has a byte at least
 abbrev pub path_rule : Text → Rule
-path_rule name = record (new_rule name) { long = Some name; value_names = 1; required = true; action = Some Set }
+path_rule name = record (new_rule name) { long = Some name; value_names = 1; required = true; action = Some Set; parser = Some NonEmptyString }
 
 -- an option that takes a value and may be left out
 abbrev pub optional_rule : Text → Rule

@@ -9,6 +9,7 @@ ghost use Rattle.command_line.specs.CommandLine.{bare_rule, flag_rule, number_ru
 ghost use Rattle.command_line.specs.declared.refusal.Refusal.TheVariants.{Memory};
 
 use crate::refusal::Refusal;
+use clap::builder::ValueParser;
 use clap::{Arg, ArgAction, ArgMatches, Command, value_parser};
 use std::alloc::{AllocError, Global};
 use std::convert::AsStr;
@@ -78,7 +79,7 @@ pub(crate) fn optional<'a>(alloc: Global, name: &'a str, value: &'a str, help: &
     bare(alloc, name, value, help).long(name)
 }
 
-/// An option that must be given and takes a path.
+/// An option that must be given and takes a path, which has a byte at least.
 pub(crate) fn path<'a>(alloc: Global, name: &'a str, value: &'a str, help: &'a str) -> Arg<'a>
     ensures rule { rule_of result ≡ path_rule name.entry.now }
     ensures own { IsOwnArg name.entry.now result }
@@ -87,6 +88,7 @@ pub(crate) fn path<'a>(alloc: Global, name: &'a str, value: &'a str, help: &'a s
     optional(alloc, name, value, help)
         .action(ArgAction::Set)
         .required(true)
+        .value_parser(ValueParser::NonEmptyString)
 }
 
 /// An option that may be given several times.
@@ -113,6 +115,16 @@ pub(crate) fn free_text<'a>(
     help: &'a str,
 ) -> Arg<'a> {
     optional(alloc, name, value, help).allow_hyphen_values(true)
+}
+
+/// An option that takes a path, which has a byte at least and may begin with a hyphen.
+pub(crate) fn free_path<'a>(
+    alloc: Global,
+    name: &'a str,
+    value: &'a str,
+    help: &'a str,
+) -> Arg<'a> {
+    free_text(alloc, name, value, help).value_parser(ValueParser::NonEmptyString)
 }
 
 /// An option that is given or not.

@@ -3,7 +3,7 @@
 ghost use Rattle.std.specs.Prelude.{◌≡◌, IfOk, None, is_some};
 
 use crate::parts::{
-    Chosen, flag, free_text, program, read, repeated, text_if_given, text_of, texts_of,
+    Chosen, flag, free_path, program, read, repeated, text_if_given, text_of, texts_of,
 };
 use crate::refusal::Refusal;
 use clap::{ArgMatches, Command};
@@ -139,14 +139,14 @@ impl Chosen for WhyOptions {
 /// The command line of the program.
 fn command<'a>(alloc: Global) -> Result<Command<'a>, AllocError> {
     let args = vec![in alloc;
-        free_text(alloc, "policy", "FILE", POLICY_HELP).required(true),
-        free_text(alloc, "base", "DIR", BASE_HELP).required(true),
-        free_text(alloc, "journal", "FILE", JOURNAL_HELP).required(true),
-        free_text(alloc, "report", "FILE", REPORT_HELP),
+        free_path(alloc, "policy", "FILE", POLICY_HELP).required(true),
+        free_path(alloc, "base", "DIR", BASE_HELP).required(true),
+        free_path(alloc, "journal", "FILE", JOURNAL_HELP).required(true),
+        free_path(alloc, "report", "FILE", REPORT_HELP),
         repeated(alloc, "line", "N", LINE_HELP),
-        free_text(alloc, "changes", "FILE", CHANGES_HELP),
-        free_text(alloc, "out", "DIR", OUT_HELP),
-        free_text(alloc, "test", "DIR", TEST_HELP),
+        free_path(alloc, "changes", "FILE", CHANGES_HELP),
+        free_path(alloc, "out", "DIR", OUT_HELP),
+        free_path(alloc, "test", "DIR", TEST_HELP),
         flag(alloc, "as-recorded", AS_RECORDED_HELP),
     ]?;
     program(alloc, "sip_why", ABOUT, AFTER_HELP, args)

@@ -3,7 +3,8 @@
 ghost use Rattle.std.specs.Prelude.{◌≡◌, ◌<◌, ◌∷◌, List, [], Some, IfOk, true, false, option_map};
 ghost use Rattle.csv.specs.Records.{fields_of};
 ghost use Rattle.csv_table.specs.Rows.{rows_under};
-ghost use Rattle.one_run.specs.OneRun.{Row, Taken, answers_header, are_of, is_answered, is_one_run, is_passed, is_wrong, journal_header, passed_header, report_header};
+ghost use Rattle.one_run.specs.OneRun.{Row, Taken, are_of, is_answered, is_one_run, is_passed, is_wrong};
+ghost use Rattle.schema.specs.Names.{answers_header, journal_header, passed_header, report_header};
 
 use crate::ahead::{Ahead, Says};
 use crate::fate::{Fate, fate_of};

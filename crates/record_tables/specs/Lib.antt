@@ -6,6 +6,5 @@ pub mod Rules
 pub mod Tables
 pub mod Told
 pub mod Values
-pub mod Words
 pub mod Writing
 pub mod Written

@@ -8,7 +8,7 @@ ghost use Rattle.record_tables.specs.Rules as Rules;
 ghost use Rattle.record_tables.specs.Tables.{Row, Rows, field};
 ghost use Rattle.record_tables.specs.Told.{item_told};
 ghost use Rattle.circ_records.specs.declared.record.Record.TheVariants as record_of;
-ghost use Rattle.record_tables.specs.declared.tables.TableName.TheVariants as table;
+ghost use Rattle.schema.specs.declared.table_name.TableName.TheVariants as table;
 
 use circ_policy::{MediaType, Policy};
 use circ_records::{BaseRule, Holds, Item, Key, KeyRef, Record, RecordMap};

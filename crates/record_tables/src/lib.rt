@@ -22,7 +22,6 @@ mod queues;
 mod row_texts;
 mod rows;
 mod table_texts;
-mod tables;
 mod values;
 mod written;
 
@@ -32,7 +31,6 @@ pub use items::{item_id, media_of};
 pub use laws::{entries_are_told, written_is_told, written_reads_back};
 pub use made_fees::is_taken;
 pub use patrons::{class_of, patron_id};
-pub use rows::check_table;
-pub use tables::{TableName, Tables};
+pub use rows::{check_table, table_text};
 pub use values::{due_of, flag_of, renewals_of};
 pub use written::{write_records, write_records_parallel};

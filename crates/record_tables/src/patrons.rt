@@ -9,7 +9,7 @@ ghost use Rattle.record_tables.specs.Tables.{Row, Rows, field};
 ghost use Rattle.record_tables.specs.Told.{patron_told};
 ghost use Rattle.record_tables.specs.Values.{flag_of};
 ghost use Rattle.circ_records.specs.declared.record.Record.TheVariants as record_of;
-ghost use Rattle.record_tables.specs.declared.tables.TableName.TheVariants as table;
+ghost use Rattle.schema.specs.declared.table_name.TableName.TheVariants as table;
 
 use crate::values::flag_of;
 use circ_policy::Policy;

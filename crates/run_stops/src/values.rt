@@ -9,7 +9,7 @@ use crate::seen::FaultDetail;
 use circ_records::BaseRule;
 use csv::ByteRecord;
 use journal_table::JournalRule;
-use record_tables::TableName;
+use schema::TableName;
 use sip_reader::{Amount, is_id, is_text};
 use std::alloc::Global;
 use std::fmt;

@@ -9,11 +9,13 @@ use Rattle.csv_table.specs.Rows.{rows_under}
 use Rattle.circ_policy.specs.Terms.{Terms}
 use Rattle.record_tables.specs.Base.{holds_rows_of, rows_of}
 use Rattle.record_tables.specs.Read.{AreTables, rows_in, some_rows}
-use Rattle.record_tables.specs.Tables.{Row, Rows, Texts, closed_header, fees_header, items_header, loans_header, patrons_header, texts_of}
+use Rattle.record_tables.specs.Tables.{Row, Rows}
+use Rattle.schema.specs.Texts.{Texts, texts_of}
+use Rattle.schema.specs.Names.{closed_header, fees_header, items_header, loans_header, patrons_header}
 use Rattle.record_tables.specs.declared.fault.BaseError.{BaseError}
-use Rattle.record_tables.specs.declared.tables.TableName.{TableName}
-use Rattle.record_tables.specs.declared.tables.TableName.TheVariants as table
-use Rattle.record_tables.specs.declared.tables.Tables.{Tables}
+use Rattle.schema.specs.declared.table_name.TableName.{TableName}
+use Rattle.schema.specs.declared.table_name.TableName.TheVariants as table
+use Rattle.schema.specs.declared.tables.Tables.{Tables}
 use Rattle.record_tables.proofs.Stopped.{tables-read}
 use Rattle.table_rules.specs.AllBroken.{all_broken_rows, broken_in, broken_rules, no_tables, text_fault}
 use Rattle.table_rules.specs.Sizes.{AreSizes, sizes_of}

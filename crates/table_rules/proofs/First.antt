@@ -9,13 +9,15 @@ use Rattle.circ_policy.specs.Terms.{Terms}
 use Rattle.record_tables.specs.Base.{base_of, first_broken, holds_rows_of, rows_of, table_rows, unless_broken, ◌>>=◌}
 use Rattle.circ_records.specs.Records.{Entries}
 use Rattle.record_tables.specs.Rules.{broken, broken_from, closed_rule, fee_rule, hold_rule, item_rule, loan_rule, patron_rule}
-use Rattle.record_tables.specs.Tables.{Row, Rows, Texts, closed_header, fees_header, items_header, loans_header, patrons_header}
+use Rattle.record_tables.specs.Tables.{Row, Rows}
+use Rattle.schema.specs.Texts.{Texts}
+use Rattle.schema.specs.Names.{closed_header, fees_header, items_header, loans_header, patrons_header}
 use Rattle.record_tables.specs.Told.{entries_told}
 use Rattle.record_tables.specs.declared.fault.BaseError.{BaseError}
 use Rattle.record_tables.specs.declared.fault.BaseError.TheVariants as error
 use Rattle.circ_records.specs.declared.rule.BaseRule.{BaseRule}
-use Rattle.record_tables.specs.declared.tables.TableName.{TableName}
-use Rattle.record_tables.specs.declared.tables.TableName.TheVariants as table
+use Rattle.schema.specs.declared.table_name.TableName.{TableName}
+use Rattle.schema.specs.declared.table_name.TableName.TheVariants as table
 use Rattle.table_rules.specs.AllBroken.{all_broken_rows, broken_in, broken_rows, broken_rows_from, broken_rules, no_tables, row_fault, text_fault}
 use Rattle.table_rules.specs.Laws.{FirstIsTheFault}
 

@@ -5,7 +5,7 @@ use Rattle.std.proofs.lemmas.List.{append_assoc, append-nil, length-append}
 use Rattle.record_tables.specs.Tables.{Row}
 use Rattle.record_tables.specs.declared.fault.BaseError.{BaseError}
 use Rattle.circ_records.specs.declared.rule.BaseRule.{BaseRule}
-use Rattle.record_tables.specs.declared.tables.TableName.{TableName}
+use Rattle.schema.specs.declared.table_name.TableName.{TableName}
 use Rattle.table_rules.specs.AllBroken.{broken_rows, broken_rows_from, row_fault}
 
 -- Within a table: some rows were judged, by this rule, and the others are left. What is listed, with what these add, is all that is due.

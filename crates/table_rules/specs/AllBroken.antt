@@ -4,12 +4,14 @@ use Rattle.csv_table.specs.Rows.{rows_under}
 use Rattle.circ_policy.specs.Terms.{Terms}
 use Rattle.record_tables.specs.Base.{holds_rows_of, rows_of}
 use Rattle.record_tables.specs.Rules.{closed_rule, fee_rule, hold_rule, item_rule, loan_rule, patron_rule}
-use Rattle.record_tables.specs.Tables.{Row, Rows, Texts, closed_header, fees_header, items_header, loans_header, patrons_header}
+use Rattle.record_tables.specs.Tables.{Row, Rows}
+use Rattle.schema.specs.Texts.{Texts}
+use Rattle.schema.specs.Names.{closed_header, fees_header, items_header, loans_header, patrons_header}
 use Rattle.record_tables.specs.declared.fault.BaseError.{BaseError}
 use Rattle.record_tables.specs.declared.fault.BaseError.TheVariants as error
 use Rattle.circ_records.specs.declared.rule.BaseRule.{BaseRule}
-use Rattle.record_tables.specs.declared.tables.TableName.{TableName}
-use Rattle.record_tables.specs.declared.tables.TableName.TheVariants as table
+use Rattle.schema.specs.declared.table_name.TableName.{TableName}
+use Rattle.schema.specs.declared.table_name.TableName.TheVariants as table
 
 -- row n of a table, with the first rule that it breaks, if it breaks one
 abbrev pub row_fault : TableName → ℕ → Option BaseRule → List BaseError

@@ -4,7 +4,7 @@ use Rattle.std.specs.List.{slice_get}
 use Rattle.std.specs.Result.{result_err}
 use Rattle.circ_policy.specs.Terms.{Terms}
 use Rattle.record_tables.specs.Base.{base_of}
-use Rattle.record_tables.specs.Tables.{Texts}
+use Rattle.schema.specs.Texts.{Texts}
 use Rattle.table_rules.specs.AllBroken.{broken_rules}
 
 -- The first of the list is the fault of the base that a run is given, and where the list is empty the base has none.

@@ -1,7 +1,8 @@
 -- How many rows the tables have.
 use Rattle.std.specs.Prelude.{◌≡◌, length, Ok}
 use Rattle.record_tables.specs.Base.{rows_of}
-use Rattle.record_tables.specs.Tables.{Rows, Texts}
+use Rattle.record_tables.specs.Tables.{Rows}
+use Rattle.schema.specs.Texts.{Texts}
 use Rattle.table_rules.specs.declared.sizes.TableSizes.{TableSizes}
 
 abbrev pub sizes_of : Rows → TableSizes

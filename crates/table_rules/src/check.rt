@@ -2,7 +2,7 @@
 
 ghost use Rattle.std.specs.Prelude.{◌≡◌, IfOk};
 ghost use Rattle.record_tables.specs.Read.{AreTables, rows_in};
-ghost use Rattle.record_tables.specs.Tables.{texts_of};
+ghost use Rattle.schema.specs.Texts.{texts_of};
 ghost use Rattle.table_rules.specs.AllBroken.{all_broken_rows, broken_rules};
 ghost use Rattle.table_rules.specs.Sizes.{AreSizes, sizes_of};
 
@@ -14,7 +14,8 @@ use crate::patrons::judge_patrons;
 use crate::sizes::TableSizes;
 use crate::texts::no_tables;
 use circ_policy::Policy;
-use record_tables::{BaseError, Tables};
+use record_tables::BaseError;
+use schema::Tables;
 use std::alloc::{AllocError, Global};
 
 /// What a check finds in the tables of a base.

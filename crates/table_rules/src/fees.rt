@@ -4,10 +4,11 @@ ghost use Rattle.std.specs.Prelude.{◌++◌, ◌≡◌, is_some, length, IfOk, 
 ghost use Rattle.csv.specs.Records.{fields_of};
 ghost use Rattle.csv_table.specs.Rows.{rows_under};
 ghost use Rattle.record_tables.specs.Rules as Rules;
-ghost use Rattle.record_tables.specs.Tables.{Row, field, closed_header, fees_header};
+ghost use Rattle.record_tables.specs.Tables.{Row, field};
+ghost use Rattle.schema.specs.Names.{closed_header, fees_header};
 ghost use Rattle.record_tables.specs.Values.{hundredths};
 ghost use Rattle.circ_records.specs.declared.rule.BaseRule.{BaseRule};
-ghost use Rattle.record_tables.specs.declared.tables.TableName.TheVariants as table;
+ghost use Rattle.schema.specs.declared.table_name.TableName.TheVariants as table;
 ghost use Rattle.table_rules.specs.AllBroken.{broken_rows};
 ghost use Rattle.table_rules.specs.Devices.RowsBefore.{HasIds};
 
@@ -16,7 +17,8 @@ use crate::seen_ids::{TableIds, add_id, has_id};
 use circ_records::{BaseRule, FeeType};
 use csv::ByteRecord;
 use csv_table::column;
-use record_tables::{BaseError, TableName, Tables, is_taken};
+use record_tables::{BaseError, is_taken};
+use schema::{TableName, Tables};
 use sip_reader::{Amount, Id};
 use std::alloc::{AllocError, Global};
 use std::collections::BTreeSet;

@@ -9,7 +9,7 @@ ghost use Rattle.record_tables.specs.Base.{holds_rows_of};
 ghost use Rattle.sip_reader.specs.Texts.{is_id};
 ghost use Rattle.record_tables.specs.Rules as Rules;
 ghost use Rattle.record_tables.specs.Tables.{Row, field};
-ghost use Rattle.record_tables.specs.declared.tables.TableName.TheVariants as table;
+ghost use Rattle.schema.specs.declared.table_name.TableName.TheVariants as table;
 ghost use Rattle.table_rules.specs.AllBroken.{broken_rows};
 ghost use Rattle.table_rules.specs.Devices.RowsBefore.{HasHolds, HasIds, HasLoans, HasQueues};
 
@@ -18,7 +18,8 @@ use crate::seen_ids::has_id;
 use circ_records::{BaseRule, QUEUE_MAX};
 use csv::ByteRecord;
 use csv_table::column;
-use record_tables::{BaseError, TableName, Tables};
+use record_tables::BaseError;
+use schema::{TableName, Tables};
 use sip_reader::{Id, is_text};
 use std::alloc::{AllocError, Global};
 use std::collections::{BTreeMap, BTreeSet};

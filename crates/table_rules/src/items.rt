@@ -4,8 +4,9 @@ ghost use Rattle.std.specs.Prelude.{◌++◌, ◌≡◌, length, IfOk, IsSome, L
 ghost use Rattle.csv.specs.Records.{fields_of};
 ghost use Rattle.csv_table.specs.Rows.{rows_under};
 ghost use Rattle.record_tables.specs.Rules as Rules;
-ghost use Rattle.record_tables.specs.Tables.{Row, items_header};
-ghost use Rattle.record_tables.specs.declared.tables.TableName.TheVariants as table;
+ghost use Rattle.record_tables.specs.Tables.{Row};
+ghost use Rattle.schema.specs.Names.{items_header};
+ghost use Rattle.schema.specs.declared.table_name.TableName.TheVariants as table;
 ghost use Rattle.table_rules.specs.AllBroken.{broken_rows};
 ghost use Rattle.table_rules.specs.Devices.RowsBefore.{HasIds};
 
@@ -15,7 +16,8 @@ use circ_policy::Policy;
 use circ_records::BaseRule;
 use csv::ByteRecord;
 use csv_table::column;
-use record_tables::{BaseError, TableName, Tables, item_id, media_of};
+use record_tables::{BaseError, item_id, media_of};
+use schema::{TableName, Tables};
 use sip_reader::Id;
 use std::alloc::{AllocError, Global};
 use std::collections::BTreeSet;

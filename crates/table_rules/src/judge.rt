@@ -10,7 +10,8 @@ ghost use Rattle.table_rules.specs.AllBroken.{broken_rows, row_fault};
 use circ_records::BaseRule;
 use csv::ByteRecord;
 use csv_table::RowReader;
-use record_tables::{BaseError, TableName, Tables};
+use record_tables::{BaseError, table_text};
+use schema::{TableName, Tables};
 use std::alloc::{AllocError, Global};
 
 /// The rule of a table, and what it needs of the rows that came before.
@@ -40,7 +41,7 @@ pub(crate) fn judge_rows<J: Judge>(
     ensures count { IfOk result (λ count. (rule : List Row → Row → Option BaseRule) (rows : List Row) → J.judges judge.old rule [] → text_rows table tables.now ≡ Some rows
         → count ≡ length rows) }
 {
-    let Ok(mut rows) = RowReader::under(alloc, table.header(), tables.text(table)) else {
+    let Ok(mut rows) = RowReader::under(alloc, table.header(), table_text(tables, table)) else {
         return Err(AllocError);
     };
     let mut row = ByteRecord::new(alloc);

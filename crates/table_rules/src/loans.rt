@@ -4,8 +4,9 @@ ghost use Rattle.std.specs.Prelude.{◌++◌, ◌∷◌, ◌≡◌, [], length, 
 ghost use Rattle.csv.specs.Records.{fields_of};
 ghost use Rattle.csv_table.specs.Rows.{rows_under};
 ghost use Rattle.record_tables.specs.Rules as Rules;
-ghost use Rattle.record_tables.specs.Tables.{Row, loans_header};
-ghost use Rattle.record_tables.specs.declared.tables.TableName.TheVariants as table;
+ghost use Rattle.record_tables.specs.Tables.{Row};
+ghost use Rattle.schema.specs.Names.{loans_header};
+ghost use Rattle.schema.specs.declared.table_name.TableName.TheVariants as table;
 ghost use Rattle.table_rules.specs.AllBroken.{broken_rows};
 ghost use Rattle.table_rules.specs.Devices.RowsBefore.{HasIds, HasLoans};
 
@@ -15,7 +16,8 @@ use crate::values::{is_due, is_renewals};
 use circ_records::BaseRule;
 use csv::ByteRecord;
 use csv_table::column;
-use record_tables::{BaseError, TableName, Tables};
+use record_tables::BaseError;
+use schema::{TableName, Tables};
 use sip_reader::Id;
 use std::alloc::{AllocError, Global};
 use std::collections::{BTreeMap, BTreeSet};

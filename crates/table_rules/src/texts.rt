@@ -2,10 +2,11 @@
 
 ghost use Rattle.std.specs.Prelude.{◌≡◌, ◌++◌, IfOk, OnOk};
 ghost use Rattle.record_tables.specs.Read.{text_rows};
-ghost use Rattle.record_tables.specs.Tables.{texts_of};
+ghost use Rattle.schema.specs.Texts.{texts_of};
 ghost use Rattle.table_rules.specs.AllBroken.{no_tables, text_fault};
 
-use record_tables::{BaseError, TableName, Tables, check_table};
+use record_tables::{BaseError, check_table};
+use schema::{TableName, Tables};
 use std::alloc::{AllocError, Global};
 
 /// Each text that is no table under its header, by the table's name.

@@ -6,7 +6,7 @@ use Rattle.command_line.specs.declared.chosen.Options.{Options}
 use Rattle.circ_policy.specs.Reading.{Fails, policy_of}
 use Rattle.circ_policy.specs.Terms.{Terms}
 use Rattle.circ_policy.specs.declared.error.PolicyError.{PolicyError}
-use Rattle.record_tables.specs.Tables.{Texts, texts_of}
+use Rattle.schema.specs.Texts.{Texts, texts_of}
 use Rattle.journal_table.specs.Entry.{Entry}
 use Rattle.journal_table.specs.Journal.{journal_of}
 use Rattle.journal_table.specs.declared.error.JournalError.{JournalError}

@@ -4,7 +4,7 @@ ghost use Rattle.std.specs.Prelude.{◌≡◌, ◌++◌, ◌∷◌, [], ℕ, Lis
 ghost use Rattle.outside.specs.Events.{Did};
 ghost use Rattle.circ_policy.specs.Reading.{policy_of};
 ghost use Rattle.circ_policy.specs.Terms.{Terms};
-ghost use Rattle.record_tables.specs.Tables.{texts_of};
+ghost use Rattle.schema.specs.Texts.{texts_of};
 ghost use Rattle.record_tables.specs.declared.fault.BaseError.{BaseError};
 ghost use Rattle.journal_table.specs.Journal.{journal_of};
 ghost use Rattle.replay_run.specs.Faults.{base_fault};

@@ -15,8 +15,9 @@ use crate::looking::refuse_loss;
 use command_line::Options;
 use outside::{Failure, Outside, Unwritten, file_in_folder, write_files};
 use read_set::Way;
-use replay_run::{Inputs, Output, Tables};
+use replay_run::{Inputs, Output};
 use run_stops::RunError;
+use schema::{LineTable, TableName, Tables};
 use std::alloc::{AllocError, Global};
 
 /// Reads all inputs, after it has seen that no file of the output is one of them.

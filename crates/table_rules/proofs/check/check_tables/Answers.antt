@@ -3,7 +3,7 @@ use Rattle.std.specs.Prelude.{◌==◌}
 use Rattle.std.specs.Vec.{vec_len}
 use Rattle.table_rules.specs.AllBroken.{no_tables}
 use Rattle.std.proofs.lemmas.Result.{IfOk-weaker}
-use Rattle.record_tables.specs.Tables.{texts_of}
+use Rattle.schema.specs.Texts.{texts_of}
 use Rattle.table_rules.proofs.Checked.{broken-in-rows, broken-in-texts, no-faults, sizes-of-none, sizes-of-rows, some-faults, tables-of}
 use Rattle.table_rules.proofs.check.check_tables.Goals as goal
 

@@ -1,8 +1,12 @@
+pub mod AllBroken
 pub mod Base
 pub mod Laws
 pub mod Read
 pub mod RowTexts
+pub mod RowsBefore
+pub mod RowsSeen
 pub mod Rules
+pub mod Sizes
 pub mod Tables
 pub mod Told
 pub mod Values

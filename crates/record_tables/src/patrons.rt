@@ -53,7 +53,7 @@ pub(crate) fn put_patron(
 
 /// The id of a row's patron, where all texts of the row are valid.
 #[tactic(auto, unfolding(crate::specs::Rules::has_patron_texts))]
-pub fn patron_id(alloc: Global, row: &ByteRecord) -> Result<Option<Id>, AllocError>
+pub(crate) fn patron_id(alloc: Global, row: &ByteRecord) -> Result<Option<Id>, AllocError>
     ensures texts { IfOk result (λ id. is_some id ≡ Rules.has_patron_texts (fields_of row.now)) }
     ensures id { IfOk result (λ id. IfSome id (λ it. it ≡ field 0 (fields_of row.now))) }
 {
@@ -66,7 +66,7 @@ pub fn patron_id(alloc: Global, row: &ByteRecord) -> Result<Option<Id>, AllocErr
 
 /// The class of this name, where the policy has one.
 #[tactic(auto, unfolding(circ_records::specs::Classes::has_class))]
-pub fn class_of(alloc: Global, policy: &Policy, name: &[u8]) -> Result<Option<Id>, AllocError>
+pub(crate) fn class_of(alloc: Global, policy: &Policy, name: &[u8]) -> Result<Option<Id>, AllocError>
     ensures value { IfOk result (λ class. is_some class ≡ Classes.has_class policy.now name.now) }
     ensures name { IfOk result (λ class. IfSome class (λ it. it ≡ name.now)) }
 {

@@ -88,6 +88,13 @@ impl<'t> TableRows<'t> {
         }
     }
 
+    /// How many rows were read.
+    pub(crate) fn count(&self) -> usize
+        ensures { result ≡ self.now.count }
+    {
+        self.count
+    }
+
     /// That the row which was read last breaks a rule.
     pub(crate) fn broken(&self, rule: BaseRule) -> BaseError
         ensures { result ≡ error.Rule self.now.table self.now.count rule }
@@ -101,7 +108,7 @@ impl<'t> TableRows<'t> {
 }
 
 /// The text of a table with its header: a table of holds may be left out, and has no bytes then.
-pub fn table_text(tables: &Tables, table: TableName) -> &[u8]
+pub(crate) fn table_text(tables: &Tables, table: TableName) -> &[u8]
     ensures { rows_under (header_of table) result.now ≡ text_rows table tables.now }
 {
     match table {
@@ -142,7 +149,7 @@ pub(crate) fn check_tables(alloc: Global, tables: &Tables) -> Result<(), BaseErr
 }
 
 /// Returns a fault where a text is no table under its header.
-pub fn check_table(alloc: Global, table: TableName, tables: &Tables) -> Result<(), BaseError>
+pub(crate) fn check_table(alloc: Global, table: TableName, tables: &Tables) -> Result<(), BaseError>
     ensures ok { OnOk result (IsSome (text_rows table tables.now)) }
     ensures err { IfErr result (λ e. Fails e (table_rows table (text_rows table tables.now))) }
 {

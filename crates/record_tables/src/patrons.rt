@@ -66,7 +66,11 @@ pub(crate) fn patron_id(alloc: Global, row: &ByteRecord) -> Result<Option<Id>, A
 
 /// The class of this name, where the policy has one.
 #[tactic(auto, unfolding(circ_records::specs::Classes::has_class))]
-pub(crate) fn class_of(alloc: Global, policy: &Policy, name: &[u8]) -> Result<Option<Id>, AllocError>
+pub(crate) fn class_of(
+    alloc: Global,
+    policy: &Policy,
+    name: &[u8],
+) -> Result<Option<Id>, AllocError>
     ensures value { IfOk result (λ class. is_some class ≡ Classes.has_class policy.now name.now) }
     ensures name { IfOk result (λ class. IfSome class (λ it. it ≡ name.now)) }
 {

@@ -30,6 +30,20 @@ impl TableName {
         TableName::Holds,
     ];
 
+    /// The word for it in messages and options.
+    pub fn word(self) -> &'static str
+        ensures { result.now ≡ table_word self }
+    {
+        match self {
+            TableName::Patrons => "patrons",
+            TableName::Items => "items",
+            TableName::Loans => "loans",
+            TableName::Fees => "fees",
+            TableName::Closed => "closed",
+            TableName::Holds => "holds",
+        }
+    }
+
     /// The name of its file in a folder of tables.
     pub fn file(self) -> &'static str
         ensures { result.now ≡ file_of self }
@@ -63,13 +77,6 @@ impl fmt::Display for TableName {
     ghost output = { λ t. Some (table_word t) };
 
     fn fmt<W: fmt::Write>(&self, f: &mut fmt::Formatter<W>) -> fmt::Result {
-        f.write_str(match self {
-            TableName::Patrons => "patrons",
-            TableName::Items => "items",
-            TableName::Loans => "loans",
-            TableName::Fees => "fees",
-            TableName::Closed => "closed",
-            TableName::Holds => "holds",
-        })
+        f.write_str(self.word())
     }
 }

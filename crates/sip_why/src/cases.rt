@@ -1,7 +1,6 @@
 //! The test cases of lines.
 
 use crate::lines::reach;
-use crate::tables::texts_of;
 use crate::wanted::line_of;
 use journal_table::Line;
 use line_cases::{LineCase, line_case};

@@ -5,7 +5,8 @@ use crate::refused::refused;
 use line_origins::{TraceEnd, Tracer};
 use read_set::Plan;
 use record_changes::{Change, changes};
-use record_tables::{Tables, write_records};
+use record_tables::write_records;
+use schema::Tables;
 use std::alloc::{AllocError, Global};
 use why_run::NotExplained;
 

@@ -1,8 +1,8 @@
 //! The rules of the tables: which is the first that a row breaks, after all rows before it.
 
-ghost use Rattle.std.specs.Prelude.{◌≡◌, ◌<◌, ◌+◌, ◌++◌, ◌∷◌, [], List, Some, IsSome, true, false, length, option_map, if◌then◌else◌, IfOk, OnOk};
+ghost use Rattle.std.specs.Prelude.{◌≡◌, ◌<◌, ◌+◌, ◌++◌, ◌∷◌, [], List, Some, IsSome, true, false, length, option_map, IfOk, OnOk};
 ghost use Rattle.csv.specs.Records.{fields_of};
-ghost use Rattle.record_tables.specs.AllBroken.{all_broken_in};
+ghost use Rattle.record_tables.specs.AllBroken.{all_broken_in, row_fault};
 ghost use Rattle.record_tables.specs.Base.{own_rows, rule_of};
 ghost use Rattle.record_tables.specs.Read.{no_rows, rows_in, text_rows, up_to};
 ghost use Rattle.record_tables.specs.RowsSeen.{HasSeen};
@@ -111,27 +111,30 @@ impl BaseSource<'_> {
         };
         let mut row = ByteRecord::new(alloc);
         while next_row(&mut rows, &mut row)? {
-            if let Some(rule) = self.judge_row(alloc, table, seen, &row)? {
-                broken.push(rows.broken(rule))?;
-            }
+            self.judge_row(alloc, &rows, seen, &row, broken)?;
         }
         Ok(rows.count())
     }
 
-    /// The first rule that a row of a table breaks. From then on it is one of those that were seen.
+    /// Lists the row that was read last where it breaks a rule. From then on it is one of those that were seen.
     fn judge_row(
         &self,
         alloc: Global,
-        table: TableName,
+        rows: &TableRows<'_>,
         seen: &mut SeenRows,
         row: &ByteRecord,
-    ) -> Result<Option<BaseRule>, AllocError>
-        ensures rule { IfOk result (λ broken. (r : Rows) (before : List Row) → HasSeen (up_to table r before) seen.old → broken ≡ rule_of self.now.policy.now self.now.first table r before (fields_of row.now)) }
-        ensures seen { OnOk result ((r : Rows) (before : List Row) → HasSeen (up_to table r before) seen.old → HasSeen (up_to table r (before ++ fields_of row.now ∷ [])) seen.new) }
+        broken: &mut Vec<BaseError>,
+    ) -> Result<(), AllocError>
+        ensures broken { OnOk result ((r : Rows) (before : List Row) → HasSeen (up_to rows.now.table r before) seen.old
+            → broken.new.items ≡ broken.old.items ++ row_fault rows.now.table rows.now.count (rule_of self.now.policy.now self.now.first rows.now.table r before (fields_of row.now))) }
+        ensures seen { OnOk result ((r : Rows) (before : List Row) → HasSeen (up_to rows.now.table r before) seen.old → HasSeen (up_to rows.now.table r (before ++ fields_of row.now ∷ [])) seen.new) }
     {
-        let broken = self.rule(alloc, table, seen, row)?;
-        seen.note(alloc, table, row)?;
-        Ok(broken)
+        let first = self.rule(alloc, rows.table(), seen, row)?;
+        seen.note(alloc, rows.table(), row)?;
+        if let Some(rule) = first {
+            broken.push(rows.broken(rule))?;
+        }
+        Ok(())
     }
 
     /// The first rule that a row of a table breaks.
@@ -159,7 +162,7 @@ impl BaseSource<'_> {
 fn next_row(rows: &mut TableRows<'_>, row: &mut ByteRecord) -> Result<bool, AllocError>
     ensures table { rows.new.table ≡ rows.old.table }
     ensures row { IfOk result (λ found. found ≡ true → rows.old.rows ≡ option_map (λ rest. fields_of row.new ∷ rest) rows.new.rows) }
-    ensures count { IfOk result (λ found. rows.new.count ≡ (if found then rows.old.count + 1 else rows.old.count)) }
+    ensures count { IfOk result (λ found. found ≡ true → rows.new.count ≡ rows.old.count + 1) }
     ensures shorter { IfOk result (λ found. found ≡ true → rows.new.size < rows.old.size) }
     ensures end { IfOk result (λ found. found ≡ false → rows.old.rows ≡ Some []) }
 {

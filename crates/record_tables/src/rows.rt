@@ -88,6 +88,13 @@ impl<'t> TableRows<'t> {
         }
     }
 
+    /// The table that is read.
+    pub(crate) fn table(&self) -> TableName
+        ensures { result ≡ self.now.table }
+    {
+        self.table
+    }
+
     /// How many rows were read.
     pub(crate) fn count(&self) -> usize
         ensures { result ≡ self.now.count }
